@@ -1,0 +1,4 @@
+pub mod FieldMatch
+pub mod FieldMatchRows
+pub mod Layout
+pub mod LayoutRows
