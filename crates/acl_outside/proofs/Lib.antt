@@ -1,0 +1,4 @@
+pub mod ToldLaws
+pub mod ReadingLaws
+pub mod WritingLaws
+pub mod FileLaws

@@ -1,0 +1,98 @@
+-- Laws of the relations between a desk's contents.
+use Rattle.std.proofs.Common.{◌≡◌, ℕ, ◌+◌, ◌≤◌, List, [], ◌++◌, length, take, drop, Option, Some, None, sym, ◌∙◌, ap, refl, subst, append_assoc, add-zero, append-nil, arith, length-append, length-take}
+use Rattle.std.proofs.Math.Seq.{take-append-add}
+use Rattle.std.proofs.lemmas.List.{length-take-le, take-append-le, take-take, take_at, drop_at, take_all, drop_all}
+use Rattle.acl_outside.specs.Told.{Steps}
+use Rattle.acl_outside.specs.Desk.{Content, Opens, Gives, bytes_of}
+use Rattle.acl_outside.specs.Reading.{GivesUpTo, LosesFront}
+use Rattle.acl_outside.proofs.ToldLaws.{Steps-join, Steps-told}
+
+-- no bytes are given by what changes nothing
+pub Gives-none : (content : Content) → Gives [] content content
+Gives-none content = record { files = refl; opened = refl; left = refl }
+
+-- the bytes of two reads, one after the other
+pub Gives-append : (first second : List ℕ) (old mid new : Content) → Gives first old mid → Gives second mid new → Gives (first ++ second) old new
+Gives-append first second old mid new a b = record {
+  files = b.files ∙ a.files;
+  opened = b.opened ∙ a.opened;
+  left = a.left ∙ ap (λ xs. first ++ xs) b.left ∙ sym (append_assoc first second new.left);
+}
+
+-- bytes that were given are lost
+pub Gives-loses : (bytes : List ℕ) (old new : Content) → Gives bytes old new → LosesFront old new
+Gives-loses bytes old new given = record { files = given.files; opened = given.opened; left = (bytes, given.left) }
+
+-- as many bytes as the cap allows
+pub Gives-capped : (cap : ℕ) (bytes : List ℕ) → length bytes ≡ cap → (old new : Content) → Gives bytes old new → GivesUpTo cap bytes old new
+Gives-capped cap bytes full old new given = record {
+  files = given.files;
+  opened = given.opened;
+  given = sym (ap (take cap) given.left ∙ take_at bytes new.left cap full);
+  left = sym (ap (drop cap) given.left ∙ drop_at bytes new.left cap full);
+}
+
+-- all bytes that were left, of which the cap allows as many
+pub Gives-whole : (cap : ℕ) (bytes : List ℕ) → length bytes ≤ cap → (old new : Content) → new.left ≡ [] → Gives bytes old new → GivesUpTo cap bytes old new
+Gives-whole cap bytes few old new ended given =
+    let whole : old.left ≡ bytes = given.left ∙ ap (λ xs. bytes ++ xs) ended ∙ append-nil bytes in
+    record {
+      files = given.files;
+      opened = given.opened;
+      given = sym (ap (take cap) whole ∙ take_all cap bytes few);
+      left = ended ∙ sym (ap (drop cap) whole ∙ drop_all cap bytes few);
+    }
+
+-- Bytes were given, and then no more: nothing was left.
+pub Steps-to_end : (cap : ℕ) (bytes : List ℕ) → length bytes ≤ cap → (old mid new : Option Content) →
+    Steps (Gives bytes) old mid → ((content : Content) → mid ≡ Some content → content.left ≡ []) → Steps (Gives []) mid new →
+    Steps (GivesUpTo cap bytes) old new
+Steps-to_end cap bytes few None None None given ended last = tt
+Steps-to_end cap bytes few (Some old) (Some mid) (Some new) given ended last =
+    Gives-whole cap bytes few old new (sym last.left ∙ ended mid refl)
+    record { files = last.files ∙ given.files; opened = last.opened ∙ given.opened; left = given.left ∙ ap (λ xs. bytes ++ xs) last.left }
+Steps-to_end cap bytes few None (Some mid) new given ended last = absurd given
+Steps-to_end cap bytes few (Some old) None new given ended last = absurd given
+Steps-to_end cap bytes few None None (Some new) given ended last = absurd last
+Steps-to_end cap bytes few (Some old) (Some mid) None given ended last = absurd last
+
+-- A file that was opened and then read up to a cap: its first bytes, and the files stay.
+pub Steps-opened_and_given : (name : List ℕ) (cap : ℕ) (bytes : List ℕ) (old mid new : Option Content) →
+    Steps (Opens name) old mid → Steps (GivesUpTo cap bytes) mid new → (content : Content) → old ≡ Some content →
+    (now : Content) × (file : List ℕ) × (new ≡ Some now) × (now.files ≡ content.files) × (bytes_of content.files name ≡ Some file) × (bytes ≡ take cap file)
+Steps-opened_and_given name cap bytes old mid new opens gives content told =
+    let opened = Steps-told (Opens name) content old mid told opens in
+    let given = Steps-told (GivesUpTo cap bytes) opened.0 mid new opened.1 gives in
+    (given.0, opened.0.left, given.1, given.2.files ∙ opened.2.files, opened.2.left, given.2.given)
+
+-- what was read behind the first len bytes of a list stands behind them
+take-read_behind : (n len count : ℕ) (xs read rest behind : List ℕ) → len ≤ length xs → count ≤ length read → len + count ≤ n →
+    take (len + count) (take n ((take len xs ++ (read ++ rest)) ++ behind)) ≡ take len xs ++ take count read
+take-read_behind n len count xs read rest behind in_list in_read in_all =
+    let all : List ℕ = take len xs ++ (read ++ rest) in
+    let front : length (take len xs) ≡ len = length-take-le len xs in_list in
+    let long : len + count ≤ length all = omega (arith, length-append (take len xs) (read ++ rest), length-append read rest) in
+    take-take (len + count) n (all ++ behind) in_all ∙ take-append-le (len + count) all behind long ∙
+    subst (λ k. take (k + count) all ≡ take len xs ++ take count (read ++ rest)) front (take-append-add (take len xs) (read ++ rest) count) ∙
+    ap (λ ys. take len xs ++ ys) (take-append-le count read rest in_read)
+
+-- The first len bytes were given, and then as many as were read behind them.
+pub Steps-read_behind : (n len count : ℕ) (xs read rest behind before : List ℕ) → len ≤ length xs → count ≤ length read → len + count ≤ n →
+    take len xs ≡ take len before → (old mid new : Option Content) →
+    Steps (Gives (take len before)) old mid → Steps (Gives (take count read)) mid new →
+    Steps (Gives (take (len + count) (take n ((take len xs ++ (read ++ rest)) ++ behind)))) old new
+Steps-read_behind n len count xs read rest behind before in_list in_read in_all kept old mid new first second =
+    rw (take-read_behind n len count xs read rest behind in_list in_read in_all, kept)
+    (Steps-join _ _ _ (Gives-append (take len before) (take count read)) old mid new first second)
+
+-- The first len bytes were given, and then no more, as nothing was left behind them.
+pub Steps-read_end : (cap n len : ℕ) (xs read rest behind before : List ℕ) → len ≤ length xs → len ≤ n → len ≤ cap →
+    take len xs ≡ take len before → (old mid new : Option Content) →
+    Steps (Gives (take len before)) old mid → ((content : Content) → mid ≡ Some content → content.left ≡ []) → Steps (Gives []) mid new →
+    Steps (GivesUpTo cap (take len (take n ((take len xs ++ (read ++ rest)) ++ behind)))) old new
+Steps-read_end cap n len xs read rest behind before in_list in_all few kept old mid new first ended last =
+    let same : take len (take n ((take len xs ++ (read ++ rest)) ++ behind)) ≡ take len before =
+    ap (λ k. take k (take n ((take len xs ++ (read ++ rest)) ++ behind))) (sym (add-zero len)) ∙
+    take-read_behind n len 0 xs read rest behind in_list (omega arith) (omega arith) ∙ append-nil (take len xs) ∙ kept in
+    let short : length (take len before) ≤ cap = omega (arith, length-take len before) in
+    rw same (Steps-to_end cap (take len before) short old mid new first ended last)

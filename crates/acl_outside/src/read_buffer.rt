@@ -1,0 +1,94 @@
+//! The buffer through which files of the system are read.
+
+ghost use Rattle.std.specs.Prelude.{◌≡◌, ◌↔◌, ◌≤◌, [], length, take, drop, min, IsTrue, IfOk, OnOk, OnErr};
+ghost use Rattle.std.specs.Io.KnownBytes.{Consumes, IsAtEnd, Keeps, ReadConsumes};
+
+use crate::desk::Failed;
+use std::io::{ErrorKind, Read};
+use std::marker::Model;
+
+/// How many bytes the buffer holds at most: one call of the system reads as many.
+pub(crate) const BUFFER_SIZE: usize = 64 * 1024;
+
+/// Bytes that were read of a file and not given yet: those of `bytes` from `start` to `end`.
+#[derive(Drop)]
+pub(crate) struct ReadBuffer {
+    bytes: [u8; BUFFER_SIZE],
+    start: usize,
+    end: usize,
+}
+
+impl Model for ReadBuffer {
+    ghost use Rattle.std.specs.Prelude.{ℕ, ◌-◌, ◌≤◌, List, take, drop};
+
+    ghost Value = { List ℕ };
+
+    ghost view = { λ buffer. take (buffer.end - buffer.start) (drop buffer.start buffer.bytes) };
+
+    ghost invariant = { λ buffer. (buffer.start ≤ buffer.end) × (buffer.end ≤ 65536) };
+}
+
+impl ReadBuffer {
+    pub(crate) fn new() -> ReadBuffer
+        ensures { result ≡ [] }
+    {
+        ReadBuffer {
+            bytes: [0; BUFFER_SIZE],
+            start: 0,
+            end: 0,
+        }
+    }
+
+    pub(crate) fn is_empty(&self) -> bool
+        ensures { IsTrue result ↔ (self.now ≡ []) }
+    {
+        self.start == self.end
+    }
+
+    pub(crate) fn clear(&mut self)
+        ensures { self.new ≡ [] }
+    {
+        self.start = 0;
+        self.end = 0;
+    }
+
+    /// Reads once of the file, in place of what was held.
+    pub(crate) fn refill<F: Read>(&mut self, file: &mut F) -> Result<(), Failed>
+        ensures read { OnOk result (Consumes (F.remaining file.old) (F.remaining file.new) self.new) }
+        ensures end { OnOk result (self.new ≡ [] → IsAtEnd (F.remaining file.new)) }
+        ensures lost_nothing { OnErr result ((self.new ≡ []) × Keeps (F.remaining file.old) (F.remaining file.new)) }
+    {
+        self.start = 0;
+        self.end = 0;
+        self.end = read_once(file, &mut self.bytes)?;
+        Ok(())
+    }
+
+    /// Moves the first bytes into the front of the slice, and says how many they are.
+    pub(crate) fn give(&mut self, into: &mut [u8]) -> usize
+        ensures moved { result ≡ min (length self.old) (length into.old) }
+        ensures given { take result into.new ≡ take result self.old }
+        ensures left { self.new ≡ drop result self.old }
+    {
+        let held = &self.bytes[self.start..self.end];
+        let count = held.len().min(into.len());
+        into[..count].copy_from_slice(&held[..count]);
+        self.start += count;
+        count
+    }
+}
+
+/// Reads once of the file into the front of the slice, and says how many bytes. A read that is interrupted is made again.
+pub(crate) fn read_once<F: Read>(file: &mut F, into: &mut [u8]) -> Result<usize, Failed>
+    ensures within { IfOk result (λ count. count ≤ length into.old) }
+    ensures bytes { ReadConsumes (F.remaining file.old) (F.remaining file.new) result into.new }
+{
+    for _ in 0..u64::MAX {
+        match file.read(into) {
+            Ok(count) => return Ok(count),
+            Err(error) if error.kind() == ErrorKind::Interrupted => {}
+            Err(_) => return Err(Failed),
+        }
+    }
+    Err(Failed)
+}

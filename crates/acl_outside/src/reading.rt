@@ -1,0 +1,73 @@
+//! Reading an opened file to its end.
+
+ghost use Rattle.std.specs.Prelude.{◌≡◌, ◌<◌, ◌≤◌, length, take, vec_len, IsTrue, IfOk, IfErr, OnOk, OnErr};
+ghost use Rattle.acl_outside.specs.Fault.{Rose};
+ghost use Rattle.acl_outside.specs.Told.{Steps};
+ghost use Rattle.acl_outside.specs.Desk.{KeepsCounts};
+ghost use Rattle.acl_outside.specs.Reading.{GivesUpTo, LosesFront};
+
+use crate::desk::{Desk, Failed};
+use std::alloc::{AllocError, Global};
+
+/// Why a file wasn't read.
+#[derive(Clone, Copy, Debug, PartialEq, Eq)]
+pub enum ReadAll {
+    /// The desk's count of read faults rose.
+    ReadFault,
+    /// Memory ran out.
+    OutOfMemory,
+}
+
+/// The first and smallest part that is made for the bytes of a file.
+const FIRST_PART: usize = 64 * 1024;
+
+/// The bytes of the opened file from where it is read on: up to its end, or `cap` of them where it has more.
+///
+/// An `Err` has lost some first part of what was left. It takes memory for 64 KiB first, and then for as much again
+/// as was read, and reads straight into it.
+pub fn read_up_to<D: Desk>(alloc: Global, desk: &mut D, cap: usize) -> Result<Vec<u8>, ReadAll>
+    requires { IsTrue (D.view desk.old).reading }
+
+    ensures within { IfOk result (λ bytes. length bytes.items ≤ cap) }
+    ensures bytes { IfOk result (λ bytes. Steps (GivesUpTo cap bytes.items) (D.view desk.old).content (D.view desk.new).content) }
+    ensures lost { OnErr result (Steps LosesFront (D.view desk.old).content (D.view desk.new).content) }
+    ensures reading { (D.view desk.new).reading ≡ (D.view desk.old).reading }
+
+    ensures read_fault { result ≡ Err ReadAll.ReadFault → Rose (D.view desk.old).read_faults (D.view desk.new).read_faults }
+    ensures absent { (D.view desk.new).absent ≡ (D.view desk.old).absent }
+    ensures counts { KeepsCounts (D.view desk.old) (D.view desk.new) }
+{
+    let mut bytes = Vec::new(alloc);
+    let mut len = 0usize;
+    'parts: while len < cap {
+        make_room(&mut bytes, len, cap)?;
+        match desk.read(&mut bytes[len..]) {
+            Ok(0) => break,
+            Ok(count) => len += count,
+            Err(Failed) => return Err(ReadAll::ReadFault),
+        }
+    }
+    bytes.truncate(len);
+    Ok(bytes)
+}
+
+/// Makes room for bytes behind the first `len`, where there is none: as much again, up to the cap.
+fn make_room(bytes: &mut Vec<u8>, len: usize, cap: usize) -> Result<(), ReadAll>
+    requires in_bytes { len ≤ vec_len bytes.old }
+    requires in_cap { vec_len bytes.old ≤ cap }
+    requires below_cap { len < cap }
+
+    ensures room { OnOk result (len < vec_len bytes.new) }
+    ensures within { vec_len bytes.new ≤ cap }
+    ensures kept { OnOk result (take len bytes.new.items ≡ take len bytes.old.items) }
+    ensures out_of_memory { IfErr result (λ fault. fault ≡ ReadAll.OutOfMemory) }
+{
+    if len < bytes.len() {
+        return Ok(());
+    }
+    let part = len.max(FIRST_PART).min(cap - len);
+    match bytes.resize(len + part, 0) {
+        Ok(()) => Ok(()),
+        Err(AllocError) => Err(ReadAll::OutOfMemory),
+    }
+}
