@@ -1,0 +1,21 @@
+-- Rule sets stay rule sets.
+use Rattle.std.proofs.Common.{◌≡◌, ◌<◌, List, [], ◌∷◌, ◌++◌, length, true, None, Result, refl, arith, length-append}
+use Rattle.std.specs.Result.{is_ok, result_err}
+use Rattle.std.specs.Prelude.{Ok, Err}
+use Rattle.std.proofs.lemmas.List.Elements.{All-push}
+use Rattle.field_defs.specs.declared.field.FieldDef.{FieldDef}
+use Rattle.rule_set.specs.Fault.{rule_fault}
+use Rattle.rule_set.specs.Rule.{RuleView}
+use Rattle.rule_set.specs.RuleSet.{IsRuleSet}
+
+-- a result that is Ok has no error
+pub no_error : {T E : Type 0} (r : Result T E) → is_ok r ≡ true → result_err r ≡ None
+no_error (Ok x) h = refl
+no_error (Err e) h = absurd (cc)
+
+-- one more lawful rule
+pub IsRuleSet-push : (layout : List FieldDef) (rules : List RuleView) (rule : RuleView) → IsRuleSet record { layout = layout; rules = rules } → rule_fault layout rule.tag rule.fields ≡ None → length rules < 262144 → IsRuleSet record { layout = layout; rules = rules ++ rule ∷ [] }
+IsRuleSet-push layout rules rule held passes room = record {
+  lawful = All-push (λ (other : RuleView). rule_fault layout other.tag other.fields ≡ None) rules rule held.lawful passes;
+  few = omega (arith, length-append rules (rule ∷ []));
+}

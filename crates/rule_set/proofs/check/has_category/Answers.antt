@@ -1,0 +1,5 @@
+use Rattle.rule_set.proofs.Categories.{some_category}
+use Rattle.rule_set.proofs.check.has_category.Goals as goal
+
+pub returns : goal.returns
+returns c = some_category c.args.tag.now

@@ -1,0 +1,84 @@
+//! What a rule is, and how it is stored.
+
+ghost use Rattle.std.specs.Prelude.{◌≡◌, ◌≤◌, length, IsOk, IfOk};
+
+use field_defs::FieldValue;
+use smallvec::SmallVec;
+use std::alloc::{AllocError, Global};
+use std::marker::Model;
+
+/// How many values of a rule are stored without an allocation.
+const INLINE_FIELDS: usize = 8;
+
+/// What a rule is for, apart from the packets that it matches.
+#[derive(Clone, Copy, Debug, PartialEq, Eq)]
+pub struct RuleTag {
+    /// Bit c of the low 16 is set where the rule takes part in category c. Higher bits take no part.
+    pub category_mask: u32,
+    /// Of the matching rules the one of greatest priority wins. A lawful priority is from 0 to 536,870,911.
+    pub priority: i32,
+    /// The answer for packets that the rule wins. A lawful rule's isn't 0.
+    pub userdata: u32,
+}
+
+/// A rule: its tag and its values for the fields of a layout, in their order. Contracts see the two.
+#[derive(Debug, Drop)]
+pub struct StoredRule {
+    tag: RuleTag,
+    fields: SmallVec<FieldValue, INLINE_FIELDS, Global>,
+}
+
+impl Model for StoredRule {
+    ghost use Rattle.rule_set.specs.Rule.{RuleView};
+
+    ghost Value = { RuleView };
+
+    ghost view = { λ rule. record { tag = rule.tag; fields = rule.fields.items } };
+}
+
+impl StoredRule {
+    /// The rule of the tag and the values, of which there may be any number.
+    ///
+    /// With at most eight values it takes no memory and succeeds. It doesn't ask whether the rule is lawful.
+    pub fn new(alloc: Global, tag: RuleTag, fields: &[FieldValue]) -> Result<Self, AllocError>
+        ensures ok { IfOk result (λ rule. rule ≡ record { tag = tag; fields = fields.now }) }
+        ensures inline { length fields.now ≤ 8 → IsOk result }
+    {
+        let fields = SmallVec::from_slice(alloc, fields)?;
+        Ok(StoredRule { tag, fields })
+    }
+
+    /// The rule's categories, priority and userdata.
+    pub fn tag(&self) -> RuleTag
+        ensures { result ≡ self.now.tag }
+    {
+        self.tag
+    }
+
+    /// The rule's values, in the order of the fields.
+    pub fn fields(&self) -> &[FieldValue]
+        ensures { result.now ≡ self.now.fields }
+    {
+        self.fields.as_slice()
+    }
+}
+
+#[cfg(test)]
+mod tests {
+    use super::*;
+    use std::test::Fail;
+
+    #[test]
+    fn a_rule_of_nine_values_is_stored(rt: HostRuntime) -> Result<(), Fail> {
+        let tag = RuleTag {
+            category_mask: 1,
+            priority: 2,
+            userdata: 3,
+        };
+        let values = [FieldValue::Range { low: 4, high: 5 }; 9];
+        let rule = StoredRule::new(rt.alloc(), tag, &values)?;
+        assert_eq!(rt; rule.fields(), values.as_slice());
+        assert_eq!(rt; rule.tag(), tag);
+        Ok(())
+    }
+}

@@ -1,0 +1,113 @@
+//! Lawful rules of one layout, in the order in which they were added.
+
+ghost use Rattle.std.specs.Prelude.{◌≡◌, ◌==◌, ◌<◌, ◌↔◌, [], ◌∷◌, ◌++◌, length, slice_get, Some, OnOk, OnErr};
+ghost use Rattle.rule_set.specs.declared.check.RuleFault.{RuleFault};
+ghost use Rattle.rule_set.specs.Fault.{rule_fault};
+
+use crate::check::{RuleFault, check_rule};
+use crate::rule::StoredRule;
+use field_defs::Layout;
+use std::alloc::Global;
+use std::marker::Model;
+use thiserror::Error;
+
+/// How many rules a set holds at most.
+pub const MAX_RULES: usize = 262_144;
+
+/// Why a rule isn't added.
+#[derive(Clone, Copy, Debug, PartialEq, Eq, Error)]
+pub enum PushFault {
+    /// The rule isn't lawful for the layout.
+    #[error(transparent)]
+    Rule(RuleFault),
+    /// There is no memory for one more rule.
+    #[error("out of memory")]
+    OutOfMemory,
+}
+
+/// Rules that are lawful for one layout, in the order in which they were added, at most 262,144.
+///
+/// Contracts see the layout and the list of the rules. No call but `push` takes memory.
+#[derive(Debug, Drop)]
+pub struct RuleSet {
+    layout: Layout,
+    rules: Vec<StoredRule>,
+}
+
+impl Model for RuleSet {
+    ghost use Rattle.rule_set.specs.Rule.{RuleSetView};
+    ghost use Rattle.rule_set.specs.RuleSet.{IsRuleSet};
+
+    ghost Value = { RuleSetView };
+
+    ghost view = { λ set. record { layout = set.layout; rules = set.rules.items } };
+
+    ghost invariant = { λ set. IsRuleSet record { layout = set.layout; rules = set.rules.items } };
+}
+
+impl RuleSet {
+    ghost use Rattle.rule_set.specs.RuleSet.{IsRuleSet};
+
+    /// The empty set. It takes no memory.
+    pub fn new(alloc: Global, layout: Layout) -> Self
+        ensures { result ≡ record { layout = layout; rules = [] } }
+    {
+        RuleSet {
+            layout,
+            rules: Vec::new(alloc),
+        }
+    }
+
+    /// Adds the rule behind the others, if it is lawful for the layout.
+    ///
+    /// The set holds fewer than [`MAX_RULES`] rules. It takes the memory for one more. `Rule` comes exactly where [`check_rule`] refuses the rule, with
+    /// its fault, and `OutOfMemory` only for a lawful rule. A refusal leaves the set as it was.
+    pub fn push(&mut self, rule: StoredRule) -> Result<(), PushFault>
+        requires { length self.old.rules < MAX_RULES }
+        ensures ok { OnOk result (self.new ≡ record self.old { rules = self.old.rules ++ rule ∷ [] }) }
+        ensures refused { (fault : RuleFault) → (result ≡ Err (PushFault.Rule fault))
+            ↔ (rule_fault self.old.layout rule.tag rule.fields ≡ Some fault) }
+        ensures err { OnErr result (self.new ≡ self.old) }
+    {
+        check_rule(&self.layout, &rule.tag(), rule.fields()).map_err(PushFault::Rule)?;
+        self.rules.push(rule).map_err(|_| PushFault::OutOfMemory)
+    }
+
+    /// How many rules the set holds.
+    pub fn len(&self) -> usize
+        ensures { result ≡ length self.now.rules }
+    {
+        self.rules.len()
+    }
+
+    /// Whether the set holds no rule.
+    pub fn is_empty(&self) -> bool
+        ensures { result ≡ (length self.now.rules == 0) }
+    {
+        self.rules.is_empty()
+    }
+
+    /// The rule at the place `i`, from 0 and below [`RuleSet::len`]. It is lawful for the layout.
+    pub fn at(&self, i: usize) -> &StoredRule
+        requires { i < length self.now.rules }
+        ensures rule { slice_get self.now.rules i ≡ Some result.now }
+        ensures lawful { rule_fault self.now.layout result.now.tag result.now.fields ≡ None }
+    {
+        &self.rules[i]
+    }
+
+    /// All rules, in order. Each is lawful for the layout, and there are at most 262,144.
+    pub fn all(&self) -> &[StoredRule]
+        ensures rules { result.now ≡ self.now.rules }
+        ensures lawful { IsRuleSet self.now }
+    {
+        self.rules.as_slice()
+    }
+
+    /// The layout that the rules are for.
+    pub fn layout(&self) -> &Layout
+        ensures { result.now ≡ self.now.layout }
+    {
+        &self.layout
+    }
+}
