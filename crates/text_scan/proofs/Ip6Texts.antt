@@ -1,0 +1,137 @@
+-- The text of an IPv6 address, read part by part.
+use Rattle.std.proofs.Common.{◌≡◌, ℕ, zero, suc, ◌+◌, ◌-◌, ◌*◌, ◌^◌, ◌<◌, ◌≤◌, Bool, true, false, ◌&&◌, cond, eqb, nat_le, List, [], ◌∷◌, ◌++◌, length, take, get_or, Some, None, refl, sym, ap, ◌∙◌, arith, inl, inr, add-one, zero-add, length-append}
+use Rattle.std.proofs.Math.Nat.{pow-suc, pow-le-pow_right}
+use Rattle.std.proofs.lemmas.Bool.{and_left, and_right, and_from, and_parts, cond-true, cond-false, cases_Bool, cond_both, or_left, and_cases, lt-leb, leb-false, le-leb}
+use Rattle.std.proofs.lemmas.Grind.{flat_map-append}
+use Rattle.std.proofs.lemmas.List.{take_more, length_push, take_at, append-nil}
+use Rattle.std.proofs.lemmas.List.Folds.{list_all-append}
+use Rattle.std.proofs.lemmas.List.Sums.{fold-append}
+use Rattle.std.specs.Bool.{then_some}
+use Rattle.std.specs.List.{list_all}
+use Rattle.text_scan.specs.declared.numbers.Numbers.{Numbers}
+use Rattle.text_scan.specs.Digits.{place_value, parts_of}
+use Rattle.text_scan.specs.Ip4.{is_ip4}
+use Rattle.text_scan.specs.Ip6.{is_ip6_group, is_ip6_end, numbers_of, groups_of, are_groups, are_last_groups, numbers_of_all, joined, has_gap, groups_before, groups_behind, is_shortened, is_full, filled_numbers, ip6_of}
+use Rattle.text_scan.specs.Numbers.{with_numbers, numbers_from}
+use Rattle.text_scan.proofs.Powers.{joined-filled}
+use Rattle.text_scan.proofs.Parts.{Lacks-digits, parts_of_one}
+
+-- a group is no IPv4 address: it has no dot
+pub group_no_ip4 : (part : List ℕ) → is_ip6_group part ≡ true → is_ip4 part ≡ false
+group_no_ip4 part group =
+    let lacks = Lacks-digits 16 46 part refl (and_parts (nat_le 1 (length part) && nat_le (length part) 4) _ group).1 in
+    and_left (eqb (length (parts_of 46 part)) 4) _ (ap (λ ps. eqb (length ps) 4) (parts_of_one 46 part lacks))
+
+-- so it stands for one number
+pub numbers_of_group : (part : List ℕ) → is_ip6_group part ≡ true → numbers_of part ≡ place_value 16 part ∷ []
+numbers_of_group part group = cond-false _ _ _ (group_no_ip4 part group)
+
+-- each part stands for a number at least
+some_number : (part : List ℕ) → 0 < length (numbers_of part)
+some_number part = cond_both (is_ip4 part) _ _ (λ ns. 0 < length ns) (λ e. omega arith) (λ e. omega arith)
+
+-- the numbers of one part more
+pub numbers_of_all_next : (parts : List (List ℕ)) (n : ℕ) (part : List ℕ) → (n < length parts) × (part ≡ get_or parts n part) → numbers_of_all (take (n + 1) parts) ≡ numbers_of_all (take n parts) ++ numbers_of part
+numbers_of_all_next parts n part at =
+    ap numbers_of_all (take_more parts n part at.0)
+    ∙ flat_map-append numbers_of (take n parts) (get_or parts n part ∷ [])
+    ∙ ap (λ ns. numbers_of_all (take n parts) ++ ns) (append-nil (numbers_of (get_or parts n part)) ∙ ap numbers_of (sym at.1))
+
+-- parts that are left have numbers that are left
+pub more_numbers : (parts : List (List ℕ)) (n : ℕ) → n < length parts → length (numbers_of_all (take n parts)) < length (numbers_of_all parts)
+more_numbers [] n inside = absurd (omega arith)
+more_numbers (part ∷ parts) zero inside = omega (arith, some_number part, length-append (numbers_of part) (numbers_of_all parts))
+more_numbers (part ∷ parts) (suc n) inside =
+    omega (arith, more_numbers parts n (omega arith), length-append (numbers_of part) (numbers_of_all parts), length-append (numbers_of part) (numbers_of_all (take n parts)))
+
+-- numbers behind numbers
+pub with_numbers-append : (before : Numbers) (xs ys : List ℕ) → with_numbers (with_numbers before xs) ys ≡ with_numbers before (xs ++ ys)
+with_numbers-append before xs ys =
+    let count : before.count + length xs + length ys ≡ before.count + length (xs ++ ys) = omega (arith, length-append xs ys) in
+    let value = sym (fold-append (λ n x. n * 65536 + x) before.value xs ys) in
+    λ i. record { count = count i; value = value i }
+
+-- a number behind fewer than eight still fits 128 bits
+pub number_fits : (value count number : ℕ) → value < 65536 ^ count → number < 65536 → value * 65536 + number < 65536 ^ (count + 1)
+number_fits value count number before small = rw (add-one count, pow-suc 65536 count) (omega arith)
+
+-- fewer than eight numbers spell one of 112 bits
+pub seven_numbers : (value count : ℕ) → value < 65536 ^ count → count < 8 → value < 2 ^ 112
+seven_numbers value count before few = omega (arith, pow-le-pow_right {n = 65536} (omega arith) {i = count} {j = 7} (omega arith))
+
+-- the number of a group behind those of the groups before it
+pub numbers_next : (parts : List (List ℕ)) (n number : ℕ) (part : List ℕ) (numbers : Numbers) → (n < length parts) × (part ≡ get_or parts n part) → is_ip6_group part ≡ true → number ≡ place_value 16 part → numbers ≡ numbers_from (numbers_of_all (take n parts)) → with_numbers numbers (number ∷ []) ≡ numbers_from (numbers_of_all (take (n + 1) parts))
+numbers_next parts n number part numbers at group is before =
+    ap (λ m. with_numbers numbers (m ∷ [])) is
+    ∙ ap (λ ms. with_numbers numbers ms) (sym (numbers_of_group part group))
+    ∙ ap (λ start. with_numbers start (numbers_of part)) before
+    ∙ with_numbers-append (record { count = 0; value = 0 }) (numbers_of_all (take n parts)) (numbers_of part)
+    ∙ ap numbers_from (sym (numbers_of_all_next parts n part at))
+
+-- groups may stand last
+pub groups_are_ends : (groups : List (List ℕ)) → are_groups groups ≡ true → list_all is_ip6_end groups ≡ true
+groups_are_ends [] all = refl
+groups_are_ends (group ∷ groups) all =
+    let parts = and_parts (is_ip6_group group) (are_groups groups) all in
+    and_from (is_ip6_end group) _ (or_left (is_ip6_group group) (is_ip4 group) parts.0) (groups_are_ends groups parts.1)
+
+and_true : (test : Bool) → (test && true) ≡ test
+and_true true = refl
+and_true false = refl
+
+-- groups and a last part that may be an IPv4 address
+pub are_last_groups_push : (front : List (List ℕ)) (last : List ℕ) → are_last_groups (front ++ last ∷ []) ≡ (are_groups front && is_ip6_end last)
+are_last_groups_push front last =
+    let before : take (length (front ++ last ∷ []) - 1) (front ++ last ∷ []) ≡ front = take_at front (last ∷ []) (length (front ++ last ∷ []) - 1) (omega (arith, length_push front last)) in
+    ap (λ groups. are_groups groups && list_all is_ip6_end (front ++ last ∷ [])) before
+    ∙ elim (cases_Bool (are_groups front)) [
+      | inl all ↦ rw (all, list_all-append is_ip6_end front (last ∷ []), groups_are_ends front all) (and_true (is_ip6_end last))
+      | inr other ↦ rw other refl
+    ]
+
+-- the numbers of groups and of a last part
+numbers_of_all_push : (front : List (List ℕ)) (last : List ℕ) → numbers_of_all (front ++ last ∷ []) ≡ numbers_of_all front ++ numbers_of last
+numbers_of_all_push front last =
+    flat_map-append numbers_of front (last ∷ []) ∙ ap (λ ns. numbers_of_all front ++ ns) (append-nil (numbers_of last))
+
+-- reading the last part after groups reads them all
+pub read_last : (front : List (List ℕ)) (last : List ℕ) (numbers : Numbers) → are_groups front ≡ true → numbers ≡ numbers_from (numbers_of_all front) → cond (is_ip6_end last && nat_le (numbers.count + length (numbers_of last)) 8) (Some (with_numbers numbers (numbers_of last))) None ≡ cond (are_last_groups (front ++ last ∷ []) && nat_le (length (numbers_of_all (front ++ last ∷ []))) 8) (Some (numbers_from (numbers_of_all (front ++ last ∷ [])))) None
+read_last front last numbers all is =
+    let whole = numbers_of_all_push front last in
+    let tests : is_ip6_end last ≡ are_last_groups (front ++ last ∷ []) = sym (are_last_groups_push front last ∙ ap (λ t. t && is_ip6_end last) all) in
+    let counts : numbers.count + length (numbers_of last) ≡ length (numbers_of_all (front ++ last ∷ [])) = omega (arith, ap (λ ns. ns.count) is, ap length whole, length-append (numbers_of_all front) (numbers_of last)) in
+    let values : with_numbers numbers (numbers_of last) ≡ numbers_from (numbers_of_all (front ++ last ∷ [])) = ap (λ start. with_numbers start (numbers_of last)) is ∙ with_numbers-append (record { count = 0; value = 0 }) (numbers_of_all front) (numbers_of last) ∙ ap numbers_from (sym whole) in
+    λ i. cond (tests i && nat_le (counts i) 8) (Some (values i)) None
+
+-- groups that are refused refuse a text with a last part behind them too
+pub refused_before_last : (front : List (List ℕ)) (last : List ℕ) → (are_groups front && nat_le (length (numbers_of_all front)) 8) ≡ false → (are_last_groups (front ++ last ∷ []) && nat_le (length (numbers_of_all (front ++ last ∷ []))) 8) ≡ false
+refused_before_last front last refused =
+    elim (and_cases (are_groups front) _ refused) [
+      | inl other ↦ and_left (are_last_groups (front ++ last ∷ [])) _ (are_last_groups_push front last ∙ and_left (are_groups front) _ other)
+      | inr many ↦ and_right (are_last_groups (front ++ last ∷ [])) _ (lt-leb _ 8 (omega (arith, leb-false (length (numbers_of_all front)) 8 many, ap length (numbers_of_all_push front last), length-append (numbers_of_all front) (numbers_of last))))
+    ]
+
+-- an address without `::`
+pub ip6_of_full : (text : List ℕ) (numbers : Numbers) → has_gap text ≡ false → are_last_groups (groups_of text) ≡ true → numbers ≡ numbers_from (numbers_of_all (groups_of text)) → then_some (eqb numbers.count 8) numbers.value ≡ ip6_of text
+ip6_of_full text numbers none all is =
+    let xs = numbers_of_all (groups_of text) in
+    let count : numbers.count ≡ length xs = ap (λ ns. ns.count) is ∙ zero-add (length xs) in
+    elim (cases_Bool (eqb numbers.count 8)) [
+      | inl eight ↦
+          let full : is_full text ≡ true = and_from (are_last_groups (groups_of text)) _ all (ap (λ n. eqb n 8) (sym count) ∙ eight) in
+          rw eight (ap (λ ns. Some ns.value) is ∙ sym (cond-false (has_gap text) _ _ none ∙ cond-true (is_full text) _ _ full))
+      | inr other ↦
+          let short : is_full text ≡ false = and_right (are_last_groups (groups_of text)) _ (ap (λ n. eqb n 8) (sym count) ∙ other) in
+          rw other (sym (cond-false (has_gap text) _ _ none ∙ cond-false (is_full text) _ _ short))
+    ]
+
+-- an address with `::`
+pub ip6_of_shortened : (text : List ℕ) (before behind : Numbers) (value : ℕ) → has_gap text ≡ true → are_groups (groups_before text) ≡ true → before ≡ numbers_from (numbers_of_all (groups_before text)) → are_last_groups (groups_behind text) ≡ true → behind ≡ numbers_from (numbers_of_all (groups_behind text)) → before.count + behind.count ≤ 7 → value ≡ before.value * 65536 ^ (8 - before.count) + behind.value → Some value ≡ ip6_of text
+ip6_of_shortened text before behind value gap first before_is last behind_is few is =
+    let xs = numbers_of_all (groups_before text) in
+    let ys = numbers_of_all (groups_behind text) in
+    let counts : length xs + length ys ≤ 7 = omega (arith, ap (λ ns. ns.count) before_is, ap (λ ns. ns.count) behind_is) in
+    let shortened : is_shortened text ≡ true = and_from (are_groups (groups_before text) && are_last_groups (groups_behind text)) _ (and_from (are_groups (groups_before text)) _ first last) (le-leb (length xs + length ys) 7 counts) in
+    let power : before.value * 65536 ^ (8 - before.count) ≡ joined xs * 65536 ^ (8 - length xs) = ap (λ ns. ns.value * 65536 ^ (8 - ns.count)) before_is ∙ ap (λ n. joined xs * 65536 ^ (8 - n)) (zero-add (length xs)) in
+    let sum : value ≡ joined (filled_numbers xs ys) = omega (arith, is, power, ap (λ ns. ns.value) behind_is, joined-filled xs ys counts) in
+    ap (λ n. Some n) sum ∙ sym (cond-true (has_gap text) _ _ gap ∙ cond-true (is_shortened text) _ _ shortened)

@@ -1,0 +1,13 @@
+pub mod PlaceValues
+pub mod DigitTexts
+pub mod Forms
+pub mod Gaps
+pub mod Guards
+pub mod Ip4Texts
+pub mod Ip6Texts
+pub mod Joins
+pub mod Parts
+pub mod Powers
+pub mod ReadBack
+pub mod Spellings
+pub mod Writes
