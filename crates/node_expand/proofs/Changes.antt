@@ -1,0 +1,180 @@
+-- Where an answer changes from one byte to the next.
+use Rattle.std.proofs.Common.{◌≡◌, ◌≢◌, ℕ, ◌+◌, ◌-◌, ◌<◌, ◌≤◌, Bool, true, false, ◌&&◌, ◌||◌, not, cond, eqb, ltb, Option, Some, None, refl, sym, ◌∙◌, ap, inl, inr, arith}
+use Rattle.std.specs.Prelude.{bit_and}
+use mathlib.Core.Bool.{beq}
+use Rattle.std.proofs.lemmas.Bool.{cases_lt, cases_order, cases_eq, lt-leb, le-leb, and_right, cond-false, lt-ltb, le-ltb, eq-eqb, ne_eqb, not-false, not_from_true}
+use Rattle.std.proofs.lemmas.Bool.Decides.{nat_tests}
+use Rattle.node_expand.specs.declared.edge.Edge.{Edge}
+use Rattle.node_expand.specs.declared.edge.Edge.TheVariants.{Free, Low, High, Both}
+use Rattle.node_expand.specs.declared.allowed.Allowed.TheVariants.{Between, Agreeing}
+use Rattle.node_expand.specs.Allowed.{answer_of}
+use Rattle.node_expand.specs.Edges.{edge_with, same_edge, same_answer, is_change, is_cut}
+use Rattle.node_expand.specs.Laws.{CutsAreChanges}
+
+-- an edge is itself
+same_edge-refl : (edge : Edge) → same_edge edge edge ≡ true
+same_edge-refl Free = refl
+same_edge-refl Low = refl
+same_edge-refl High = refl
+same_edge-refl Both = refl
+
+-- edges that pass as one are one
+one_edge : (one other : Edge) → same_edge one other ≡ true → one ≡ other
+one_edge Free Free is = refl
+one_edge Low Low is = refl
+one_edge High High is = refl
+one_edge Both Both is = refl
+one_edge _ _ is = cc
+
+-- an answer is itself
+same_answer-refl : (answer : Option Edge) → same_answer answer answer ≡ true
+same_answer-refl None = refl
+same_answer-refl (Some edge) = same_edge-refl edge
+
+-- answers that pass as one are one
+one_answer : (one other : Option Edge) → same_answer one other ≡ true → one ≡ other
+one_answer None None is = refl
+one_answer None (Some other) is = cc
+one_answer (Some one) None is = cc
+one_answer (Some one) (Some other) is = ap Some (one_edge one other is)
+
+pub cuts_are_changes : CutsAreChanges
+unfolding is_cut is_change
+cuts_are_changes value size place edge byte above =
+    rw (lt-ltb 0 byte above) (
+      λ no. one_answer _ _ (not-false _ no),
+      λ same. not_from_true _ (rw same (same_answer-refl _)),
+    )
+
+-- a bitmask's answer changes where the byte agrees and the byte before it doesn't, or the other way round
+pub turns : (value mask byte : ℕ) → 0 < byte → not (beq (eqb (bit_and byte mask) value) (eqb (bit_and (byte - 1) mask) value)) ≡ is_change (answer_of (Agreeing value mask)) byte
+unfolding is_change answer_of
+turns value mask byte above = rw (lt-ltb 0 byte above) (agreeing (eqb (bit_and byte mask) value) (eqb (bit_and (byte - 1) mask) value))
+  where
+    agreeing : (one other : Bool) → not (beq one other) ≡ not (same_answer (cond one (Some Free) None) (cond other (Some Free) None))
+    agreeing true true = refl
+    agreeing true false = refl
+    agreeing false true = refl
+    agreeing false false = refl
+
+-- the bytes below the next one are marked, where those below this one are and this one is
+pub marked_more : (change : ℕ → Bool) (byte place : ℕ) (old : Bool) → ((eqb place byte && change byte) || ((ltb place byte && change place) || old)) ≡ ((ltb place (byte + 1) && change place) || old)
+marked_more change byte place old =
+    elim (cases_order place byte) [
+      | inl here ↦ rw (eq-eqb place byte here, le-ltb place byte (omega arith), lt-ltb place (byte + 1) (omega arith), here) refl
+      | inr other ↦ elim other [
+        | inl before ↦ rw (ne_eqb place byte (λ e. omega arith), lt-ltb place byte before, lt-ltb place (byte + 1) (omega arith)) refl
+        | inr behind ↦ rw (ne_eqb place byte (λ e. omega arith), le-ltb place byte (omega arith), le-ltb place (byte + 1) (omega arith)) refl
+      ]
+    ]
+
+-- before the first byte none is marked
+pub marked_none : (answer : ℕ → Option Edge) (place : ℕ) (old : Bool) → old ≡ ((ltb place 1 && is_change answer place) || old)
+unfolding is_change
+marked_none answer place old =
+    elim (cases_lt place 1) [
+      | inl first ↦ let is : place ≡ 0 = omega arith in rw is refl
+      | inr behind ↦ rw (le-ltb place 1 behind) refl
+    ]
+
+-- what the bytes between two ends answer
+module _ (low high : ℕ) (low_inner high_inner : Bool) where
+  answer_below : (byte : ℕ) → byte < low → answer_of (Between low high low_inner high_inner) byte ≡ None
+  unfolding answer_of
+  answer_below byte below = rw (lt-leb low byte below) refl
+
+  answer_above : (byte : ℕ) → high < byte → answer_of (Between low high low_inner high_inner) byte ≡ None
+  unfolding answer_of
+  answer_above byte above = cond-false _ _ _ (and_right _ _ (lt-leb byte high above))
+
+  answer_within : (byte : ℕ) → low ≤ byte → byte ≤ high → answer_of (Between low high low_inner high_inner) byte ≡ Some (edge_with (eqb byte low && low_inner) (eqb byte high && high_inner))
+  unfolding answer_of
+  answer_within byte above below = rw (le-leb low byte above, le-leb byte high below) refl
+
+-- behind the first byte only the two answers count
+is_change_behind : (answer : ℕ → Option Edge) (byte : ℕ) → 0 < byte → is_change answer byte ≡ not (same_answer (answer byte) (answer (byte - 1)))
+unfolding is_change
+is_change_behind answer byte behind = rw (lt-ltb 0 byte behind) refl
+
+-- an edge with one end inner is another than one with the other end inner
+edges_differ : (low high : Bool) → not (same_edge (edge_with false high) (edge_with low false)) ≡ (high || low)
+edges_differ false false = refl
+edges_differ true false = refl
+edges_differ false true = refl
+edges_differ true true = refl
+
+-- the first byte is no change
+is_change_first : (answer : ℕ → Option Edge) (byte : ℕ) → byte ≡ 0 → is_change answer byte ≡ false
+unfolding is_change
+is_change_first answer byte first = rw first refl
+
+-- the marks of the bytes between two ends: at the lower end and behind the upper one, and next to an inner end within
+abbrev pub is_marked : ℕ → ℕ → Bool → Bool → ℕ → Bool
+is_marked low high low_inner high_inner byte =
+    (eqb byte (high + 1) && ltb high 255)
+    || ((eqb byte high && (ltb low high && high_inner)) || ((eqb byte (low + 1) && (ltb low high && low_inner)) || (eqb byte low && ltb 0 low)))
+
+module _ (low high byte : ℕ) (low_inner high_inner : Bool) (filled : low ≤ high) where
+  unmarked_first : byte ≡ 0 → is_marked low high low_inner high_inner byte ≡ false
+  unmarked_first first = grind (arith, nat_tests)
+
+  unmarked_apart : byte ≢ high + 1 → byte ≢ high → byte ≢ low + 1 → byte ≢ low → is_marked low high low_inner high_inner byte ≡ false
+  unmarked_apart a b c d = grind (arith, nat_tests)
+
+  marked_low : 0 < byte → byte ≡ low → is_marked low high low_inner high_inner byte ≡ true
+  marked_low behind is = grind (arith, nat_tests)
+
+  marked_behind : byte < 256 → byte ≡ high + 1 → is_marked low high low_inner high_inner byte ≡ true
+  marked_behind below is = grind (arith, nat_tests)
+
+  marked_within : low < byte → byte ≤ high → is_marked low high low_inner high_inner byte ≡ ((eqb byte high && high_inner) || (eqb (byte - 1) low && low_inner))
+  marked_within above within = grind (arith, nat_tests)
+
+-- the answer changes at the marks
+between_changes : (low high byte : ℕ) (low_inner high_inner : Bool) → low ≤ high → byte < 256 →
+    is_change (answer_of (Between low high low_inner high_inner)) byte ≡ is_marked low high low_inner high_inner byte
+between_changes low high byte low_inner high_inner filled below =
+    let answer : ℕ → Option Edge = answer_of (Between low high low_inner high_inner) in
+    let is_below = answer_below low high low_inner high_inner in
+    let is_above = answer_above low high low_inner high_inner in
+    let is_within = answer_within low high low_inner high_inner in
+    elim (cases_eq byte 0) [
+      | inl first ↦ is_change_first answer byte first ∙ sym (unmarked_first low high byte low_inner high_inner filled first)
+      | inr behind ↦ is_change_behind answer byte (omega arith) ∙ elim (cases_order byte low) [
+        | inl start ↦ rw (is_below (byte - 1) (omega arith), is_within byte (omega arith) (omega arith)) (sym (marked_low low high byte low_inner high_inner filled (omega arith) start))
+        | inr other ↦ elim other [
+          | inl before ↦ rw (is_below byte before, is_below (byte - 1) (omega arith))
+              (sym (unmarked_apart low high byte low_inner high_inner filled (λ e. omega arith) (λ e. omega arith) (λ e. omega arith) (λ e. omega arith)))
+          | inr after ↦ elim (cases_order byte (high + 1)) [
+            | inl end ↦ rw (is_above byte (omega arith), is_within (byte - 1) (omega arith) (omega arith)) (sym (marked_behind low high byte low_inner high_inner filled below end))
+            | inr apart ↦ elim apart [
+              | inl inside ↦
+                  let edges : not (same_answer (answer byte) (answer (byte - 1))) ≡ ((eqb byte high && high_inner) || (eqb (byte - 1) low && low_inner)) =
+                  rw (is_within byte (omega arith) (omega arith), is_within (byte - 1) (omega arith) (omega arith), ne_eqb byte low (λ e. omega arith), ne_eqb (byte - 1) high (λ e. omega arith))
+                  (edges_differ (eqb (byte - 1) low && low_inner) (eqb byte high && high_inner)) in
+                  edges ∙ sym (marked_within low high byte low_inner high_inner filled after (omega arith))
+              | inr beyond ↦ rw (is_above byte (omega arith), is_above (byte - 1) (omega arith))
+                  (sym (unmarked_apart low high byte low_inner high_inner filled (λ e. omega arith) (λ e. omega arith) (λ e. omega arith) (λ e. omega arith)))
+            ]
+          ]
+        ]
+      ]
+    ]
+
+-- one mark after the other
+marks_in_turn : (first second third fourth old : Bool) → (first || (second || (third || (fourth || old)))) ≡ ((first || (second || (third || fourth))) || old)
+marks_in_turn true second third fourth old = refl
+marks_in_turn false true third fourth old = refl
+marks_in_turn false false true fourth old = refl
+marks_in_turn false false false fourth old = refl
+
+-- marks set one after the other are the changes, over the marks that were set before
+pub between_marks : (low high byte : ℕ) (low_inner high_inner old : Bool) → low ≤ high → byte < 256 →
+    ((eqb byte (high + 1) && ltb high 255) || ((eqb byte high && (ltb low high && high_inner)) || ((eqb byte (low + 1) && (ltb low high && low_inner)) || ((eqb byte low && ltb 0 low) || old))))
+    ≡ (is_change (answer_of (Between low high low_inner high_inner)) byte || old)
+between_marks low high byte low_inner high_inner old filled below = rw (between_changes low high byte low_inner high_inner filled below) (marks_in_turn (eqb byte (high + 1) && ltb high 255) (eqb byte high && (ltb low high && high_inner)) (eqb byte (low + 1) && (ltb low high && low_inner)) (eqb byte low && ltb 0 low) old)
+
+-- two answers that are one at a byte and at the one before it change alike
+pub change_alike : (answer other : ℕ → Option Edge) (byte : ℕ) → answer byte ≡ other byte → answer (byte - 1) ≡ other (byte - 1) → is_change answer byte ≡ is_change other byte
+unfolding is_change
+change_alike answer other byte here before = rw (here, before) refl

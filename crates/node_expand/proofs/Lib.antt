@@ -1,0 +1,10 @@
+pub mod Parts
+pub mod Ranges
+pub mod Bits
+pub mod Steps
+pub mod EdgeRests
+pub mod Completions
+pub mod Changes
+pub mod Masks
+pub mod Bytes
+pub mod Standing

@@ -1,0 +1,5 @@
+use Rattle.node_expand.proofs.Completions.{rests_hold_completions}
+use Rattle.node_expand.proofs.laws.rests_law.Goals as goal
+
+pub returns : goal.returns
+returns c = rests_hold_completions

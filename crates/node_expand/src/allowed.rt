@@ -1,0 +1,179 @@
+//! Which bytes a value allows at one place of a field, and what each of them leaves.
+
+ghost use Rattle.std.specs.Prelude.{◌≡◌, ℕ, ◌-◌, ◌*◌, ◌/◌, ◌%◌, ◌^◌, ◌<◌, ◌≤◌, ◌==◌, ◌&&◌, ◌||◌, true, false, slice_index_or};
+ghost use Rattle.node_expand.specs.Rest.{mask_low, mask_high};
+ghost use Rattle.node_expand.specs.Edges.{is_change};
+ghost use Rattle.node_expand.specs.Allowed.{answer_of};
+
+use crate::edge::Edge;
+use field_defs::FieldValue;
+
+/// The bytes that a value allows at a place.
+#[derive(Clone, Copy)]
+pub(crate) enum Allowed {
+    /// The bytes from `low` to `high`. The lower end stays inner after `low` alone, and there only where `low_inner` says
+    /// so; the upper end goes likewise.
+    Between {
+        low: u8,
+        high: u8,
+        low_inner: bool,
+        high_inner: bool,
+    },
+    /// The bytes whose bits of the mask are those of the value, which has no others.
+    Agreeing {
+        value: u8,
+        mask: u8,
+    },
+}
+
+impl Allowed {
+    ghost use Rattle.std.specs.Prelude.{◌≡◌, ℕ, ◌-◌, ◌^◌, ◌<◌, ◌≤◌, ◌||◌, false, slice_index_or, if◌then◌else◌};
+    ghost use Rattle.field_defs.specs.FieldMatch.{CanMatch};
+    ghost use Rattle.node_expand.specs.Edges.{has_low, has_high, is_change, edge_step, StandsBefore};
+    ghost use Rattle.node_expand.specs.Allowed.{answer_of, between, IsFilled};
+
+    /// The bytes that the value allows at the place, which counts from 0 at the most significant byte.
+    pub(crate) fn new(value: &FieldValue, size: u8, place: u8, edge: Edge) -> Self
+        requires value { CanMatch value.now size }
+        requires place { place < size }
+        requires edge { StandsBefore value.now size place edge }
+        ensures answer { (byte : ℕ) → byte < 256 → answer_of result byte ≡ edge_step value.now size place edge byte }
+        ensures filled { IsFilled result }
+    {
+        let shift = 8 * u32::from(size - 1 - place);
+        match *value {
+            FieldValue::Mask { value, bits } => {
+                let (low, high) = mask_ends(value, bits, size);
+                Allowed::between(low, high, shift, edge)
+            }
+            FieldValue::Range { low, high } => Allowed::between(low, high, shift, edge),
+            FieldValue::Bitmask { value, mask } => {
+                let mask = byte_at(mask, shift);
+                Allowed::Agreeing {
+                    value: byte_at(value, shift) & mask,
+                    mask,
+                }
+            }
+        }
+    }
+
+    /// The bytes that the numbers from `low` to `high` have at the place with `shift` bits behind it, at the edge.
+    pub(crate) fn between(low: u64, high: u64, shift: u32, edge: Edge) -> Self
+        requires { shift ≤ 56 }
+        ensures { result ≡ between (if has_low edge then low else 0) (if has_high edge then high else 2 ^ 64 - 1) (2 ^ shift) }
+    {
+        let low = edge.low_end(low);
+        let high = edge.high_end(high);
+        let tail = ones(shift);
+        Allowed::Between {
+            low: byte_at(low, shift),
+            high: byte_at(high, shift),
+            low_inner: low & tail != 0,
+            high_inner: high & tail != tail,
+        }
+    }
+
+    /// The edge after the byte, or none where it isn't allowed.
+    #[tactic(auto, unfolding(crate::specs::Allowed::answer_of))]
+    pub(crate) fn edge_at(self, byte: u8) -> Option<Edge>
+        ensures { result ≡ answer_of self byte }
+    {
+        match self {
+            Allowed::Between {
+                low,
+                high,
+                low_inner,
+                high_inner,
+            } => (low <= byte && byte <= high).then_some(Edge::new(
+                byte == low && low_inner,
+                byte == high && high_inner,
+            )),
+            Allowed::Agreeing { value, mask } => (byte & mask == value).then_some(Edge::Free),
+        }
+    }
+
+    /// Sets the marks of the bytes at which the answer changes.
+    pub(crate) fn mark_cuts(self, marks: &mut [bool; 256])
+        requires { IsFilled self }
+        ensures { (byte : ℕ) → byte < 256 →
+            slice_index_or marks.new byte false ≡ (is_change (answer_of self) byte || slice_index_or marks.old byte false) }
+    {
+        match self {
+            Allowed::Between {
+                low,
+                high,
+                low_inner,
+                high_inner,
+            } => mark_between(marks, low.into(), high.into(), low_inner, high_inner),
+            Allowed::Agreeing { value, mask } => mark_agreeing(marks, value.into(), mask.into()),
+        }
+    }
+}
+
+/// The lowest and the greatest number that a mask of so many bits lets through.
+pub(crate) fn mask_ends(value: u64, bits: u8, size: u8) -> (u64, u64)
+    requires size { size ≤ 8 }
+    requires bits { bits ≤ 8 * size }
+    ensures low { result.0 ≡ mask_low value bits size }
+    ensures high { result.1 ≡ mask_high value bits size }
+{
+    let free = ones(8 * u32::from(size) - u32::from(bits));
+    (value & !free, value | free)
+}
+
+/// The number whose lowest `count` bits are set, and no others.
+pub(crate) fn ones(count: u32) -> u64
+    requires { count ≤ 64 }
+    ensures { result ≡ 2 ^ count - 1 }
+{
+    // A shift by all 64 bits isn't defined.
+    if count == 0 {
+        0
+    } else {
+        u64::MAX >> (64 - count)
+    }
+}
+
+/// The byte of the number with `shift` bits behind it.
+pub(crate) fn byte_at(number: u64, shift: u32) -> u8
+    requires { shift ≤ 56 }
+    ensures { result ≡ number / 2 ^ shift % 256 }
+{
+    (number >> shift & 0xff) as u8
+}
+
+/// Sets the mark at the place where the test passes.
+fn mark_where(marks: &mut [bool; 256], place: usize, passes: bool)
+    requires { passes ≡ true → place < 256 }
+    ensures { (byte : ℕ) → byte < 256 →
+        slice_index_or marks.new byte false ≡ ((byte == place && passes) || slice_index_or marks.old byte false) }
+{
+    if passes {
+        marks[place] = true;
+    }
+}
+
+/// Sets the marks of the bytes from 1 on at which the answers between two ends change.
+fn mark_between(marks: &mut [bool; 256], low: usize, high: usize, low_inner: bool, high_inner: bool)
+    requires filled { low ≤ high }
+    requires byte { high < 256 }
+    ensures { (byte : ℕ) → byte < 256 →
+        slice_index_or marks.new byte false
+        ≡ (is_change (answer_of (Allowed.Between low high low_inner high_inner)) byte || slice_index_or marks.old byte false) }
+{
+    mark_where(marks, low, low > 0);
+    mark_where(marks, low + 1, low < high && low_inner);
+    mark_where(marks, high, low < high && high_inner);
+    mark_where(marks, high + 1, high < 255);
+}
+
+/// Sets the marks of the bytes from 1 on that agree where the byte before doesn't, and the other way round.
+fn mark_agreeing(marks: &mut [bool; 256], value: usize, mask: usize)
+    ensures { (byte : ℕ) → byte < 256 →
+        slice_index_or marks.new byte false ≡ (is_change (answer_of (Allowed.Agreeing value mask)) byte || slice_index_or marks.old byte false) }
+{
+    for byte in 1..256 {
+        let turns = (byte & mask == value) != ((byte - 1) & mask == value);
+        mark_where(marks, byte, turns);
+    }
+}
