@@ -1,0 +1,14 @@
+mod ColumnLemmas
+mod Endings
+mod Fronts
+mod Inputs
+mod KeyParts
+mod LawfulLemmas
+mod NumberLemmas
+mod NumberReads
+mod OutputLaws
+mod Printing
+mod RecordLaws
+mod Reports
+mod RuleFileLemmas
+mod SplitLemmas

@@ -1,0 +1,100 @@
+//! The line on standard error that tells how a command ended.
+
+ghost use Rattle.std.specs.Prelude.{◌≡◌, ◌≤◌, ◌+◌, ◌++◌, [], ◌∷◌, length, take};
+ghost use Rattle.acl_tool.specs.Message.{message, numbered, usage_text, line_text, capture_text, record_of_fault};
+
+use crate::line::{LINE_ROOM, append, append_number};
+use crate::status::{CaptureFault, LineKind, Status, UsageKind};
+
+/// Writes the line of a status to the front of `into`, and gives its length with the LF that ends it. `Done` has no line.
+///
+/// It takes no memory.
+pub fn message_line(status: &Status, into: &mut [u8; LINE_ROOM]) -> usize
+    ensures within { result ≤ LINE_ROOM }
+    ensures line { take result into.new ≡ message status.now }
+{
+    match status {
+        Status::Done => 0,
+        Status::Usage(fault) => numbered_line(
+            b"usage: word ",
+            u64::from(fault.word),
+            usage_kind(fault.kind),
+            into,
+        ),
+        Status::RulesRefused(fault) => {
+            numbered_line(
+                b"rules: line ",
+                u64::from(fault.line),
+                line_kind(fault.kind),
+                into,
+            )
+        }
+        Status::CaptureRefused(fault) => {
+            numbered_line(
+                b"capture: record ",
+                fault_record(*fault),
+                capture_kind(*fault),
+                into,
+            )
+        }
+        Status::ReadFault => append(into, 0, b"aclc: read fault\n"),
+        Status::WriteFault => append(into, 0, b"aclc: write fault\n"),
+        Status::OutOfMemory => append(into, 0, b"aclc: out of memory\n"),
+    }
+}
+
+/// A line that names a number and what is wrong there.
+fn numbered_line(subject: &[u8], number: u64, kind: &[u8], into: &mut [u8; LINE_ROOM]) -> usize
+    requires subject { length subject.now ≤ 40 }
+    requires kind { length kind.now ≤ 40 }
+    ensures within { result ≤ LINE_ROOM }
+    ensures line { take result into.new ≡ numbered subject.now number kind.now }
+{
+    let at = append(into, 0, b"aclc: ");
+    let at = append(into, at, subject);
+    let at = append_number(into, at, number);
+    let at = append(into, at, b": ");
+    let at = append(into, at, kind);
+    append(into, at, b"\n")
+}
+
+fn usage_kind(kind: UsageKind) -> &'static [u8]
+    ensures text { result.now ≡ usage_text kind }
+    ensures short { length result.now ≤ 40 }
+{
+    match kind {
+        UsageKind::UnknownCommand => b"unknown command",
+    }
+}
+
+fn line_kind(kind: LineKind) -> &'static [u8]
+    ensures text { result.now ≡ line_text kind }
+    ensures short { length result.now ≤ 40 }
+{
+    match kind {
+        LineKind::FileTooLong => b"file too long",
+        LineKind::BadStart => b"bad start",
+    }
+}
+
+fn capture_kind(fault: CaptureFault) -> &'static [u8]
+    ensures text { result.now ≡ capture_text fault }
+    ensures short { length result.now ≤ 40 }
+{
+    match fault {
+        CaptureFault::Magic => b"magic",
+        CaptureFault::RecordCut(_) => b"cut",
+        CaptureFault::TooManyRecords => b"too many",
+    }
+}
+
+/// The number of the record that a fault names, and 0 for the file header.
+fn fault_record(fault: CaptureFault) -> u64
+    ensures { result ≡ record_of_fault fault }
+{
+    match fault {
+        CaptureFault::Magic => 0,
+        CaptureFault::RecordCut(number) => number,
+        CaptureFault::TooManyRecords => 1_000_000_001,
+    }
+}
