@@ -28,7 +28,7 @@ const ETHERNET: u32 = 1;
 /// How many bytes a record header has.
 const RECORD_HEADER: usize = 16;
 /// How many captured bytes a record may have.
-pub const MAX_CAPTURED: usize = 262_144;
+const MAX_RECORD_LEN: usize = 262_144;
 
 /// What stands next in a capture.
 #[derive(Clone, Copy, Debug, PartialEq, Eq)]
@@ -111,7 +111,7 @@ pub fn next_record(left: &[u8]) -> Next<'_>
     }
     let captured_len = u32_at(left, 8) as usize;
     let behind_header = &left[RECORD_HEADER..];
-    if captured_len > MAX_CAPTURED || captured_len > behind_header.len() {
+    if captured_len > MAX_RECORD_LEN || captured_len > behind_header.len() {
         return Next::Cut;
     }
     let (captured, behind) = behind_header.split_at(captured_len);

@@ -23,7 +23,7 @@ pub const MAX_RULE_FILE: usize = 1_048_576;
 const ALL_CATEGORIES: u32 = 0xFFFF;
 
 /// The greatest priority of a rule. That of the rule of line n is n below it.
-const GREATEST_PRIORITY: u32 = 536_870_911;
+const MAX_PRIORITY: u32 = 536_870_911;
 
 /// Why a rule file is refused.
 #[derive(Clone, Copy, Debug, PartialEq, Eq)]
@@ -75,7 +75,7 @@ fn add_rule(
     requires lawful { AreLawful ip4_fields values.now }
     requires room { length rules.old.rules < MAX_RULES }
     requires first { 0 < number }
-    requires last { number ≤ GREATEST_PRIORITY }
+    requires last { number ≤ MAX_PRIORITY }
     ensures ok { OnOk result
         (rules.new ≡ record rules.old { rules = rules.old.rules ++ rule_of number values.now ∷ [] }) }
     ensures err { IfErr result (λ fault. fault ≡ RulesFault.OutOfMemory) }
@@ -89,12 +89,12 @@ fn add_rule(
 
 /// The rule of a line: in all categories, with a priority that falls from line to line, and the number as userdata.
 fn rule_of_line(alloc: Global, number: u32, values: &[FieldValue; 5]) -> StoredRule
-    requires { number ≤ GREATEST_PRIORITY }
+    requires { number ≤ MAX_PRIORITY }
     ensures { result ≡ rule_of number values.now }
 {
     let tag = RuleTag {
         category_mask: ALL_CATEGORIES,
-        priority: (GREATEST_PRIORITY - number) as i32,
+        priority: (MAX_PRIORITY - number) as i32,
         userdata: number,
     };
     // Five values need no memory.
