@@ -3,13 +3,9 @@ use Rattle.std.proofs.Common.{◌≡◌, ℕ, ◌+◌, ◌≤◌, List, [], ◌+
 use Rattle.std.proofs.Math.Seq.{take-append-add}
 use Rattle.std.proofs.lemmas.List.{length-take-le, take-append-le, take-take, take_at, drop_at, take_all, drop_all}
 use Rattle.acl_outside.specs.Told.{Steps}
-use Rattle.acl_outside.specs.Desk.{Content, Opens, Gives, bytes_of}
-use Rattle.acl_outside.specs.Reading.{GivesUpTo, LosesFront}
-use Rattle.acl_outside.proofs.ToldLaws.{Steps-join, Steps-told}
-
--- no bytes are given by what changes nothing
-pub Gives-none : (content : Content) → Gives [] content content
-Gives-none content = record { files = refl; opened = refl; left = refl }
+use Rattle.acl_outside.specs.Desk.{Content, Gives}
+use Rattle.acl_outside.specs.Reading.{GivesUpTo}
+use Rattle.acl_outside.proofs.ToldLaws.{Steps-join}
 
 -- the bytes of two reads, one after the other
 pub Gives-append : (first second : List ℕ) (old mid new : Content) → Gives first old mid → Gives second mid new → Gives (first ++ second) old new
@@ -18,10 +14,6 @@ Gives-append first second old mid new a b = record {
   opened = b.opened ∙ a.opened;
   left = a.left ∙ ap (λ xs. first ++ xs) b.left ∙ sym (append_assoc first second new.left);
 }
-
--- bytes that were given are lost
-pub Gives-loses : (bytes : List ℕ) (old new : Content) → Gives bytes old new → LosesFront old new
-Gives-loses bytes old new given = record { files = given.files; opened = given.opened; left = (bytes, given.left) }
 
 -- as many bytes as the cap allows
 pub Gives-capped : (cap : ℕ) (bytes : List ℕ) → length bytes ≡ cap → (old new : Content) → Gives bytes old new → GivesUpTo cap bytes old new
@@ -55,15 +47,6 @@ Steps-to_end cap bytes few None (Some mid) new given ended last = absurd given
 Steps-to_end cap bytes few (Some old) None new given ended last = absurd given
 Steps-to_end cap bytes few None None (Some new) given ended last = absurd last
 Steps-to_end cap bytes few (Some old) (Some mid) None given ended last = absurd last
-
--- A file that was opened and then read up to a cap: its first bytes, and the files stay.
-pub Steps-opened_and_given : (name : List ℕ) (cap : ℕ) (bytes : List ℕ) (old mid new : Option Content) →
-    Steps (Opens name) old mid → Steps (GivesUpTo cap bytes) mid new → (content : Content) → old ≡ Some content →
-    (now : Content) × (file : List ℕ) × (new ≡ Some now) × (now.files ≡ content.files) × (bytes_of content.files name ≡ Some file) × (bytes ≡ take cap file)
-Steps-opened_and_given name cap bytes old mid new opens gives content told =
-    let opened = Steps-told (Opens name) content old mid told opens in
-    let given = Steps-told (GivesUpTo cap bytes) opened.0 mid new opened.1 gives in
-    (given.0, opened.0.left, given.1, given.2.files ∙ opened.2.files, opened.2.left, given.2.given)
 
 -- what was read behind the first len bytes of a list stands behind them
 take-read_behind : (n len count : ℕ) (xs read rest behind : List ℕ) → len ≤ length xs → count ≤ length read → len + count ≤ n →

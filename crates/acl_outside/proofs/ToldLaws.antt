@@ -2,11 +2,6 @@
 use Rattle.std.proofs.Common.{◌≡◌, Option, Some, None, refl}
 use Rattle.acl_outside.specs.Told.{Steps}
 
--- what changes nothing is a step of each relation that allows it
-pub Steps-same : {A : Type 0} (P : A → A → Type 0) → ((a : A) → P a a) → (old : Option A) → Steps P old old
-Steps-same P stays None = tt
-Steps-same P stays (Some old) = stays old
-
 -- two steps, one after the other
 pub Steps-join : {A : Type 0} (P Q R : A → A → Type 0) → ((a b c : A) → P a b → Q b c → R a c) →
     (old mid new : Option A) → Steps P old mid → Steps Q mid new → Steps R old new
@@ -30,8 +25,3 @@ pub Steps-told : {A : Type 0} (P : A → A → Type 0) (old : A) (told new : Opt
     (now : A) × (new ≡ Some now) × P old now
 Steps-told P old told None at_old step = absurd (rw at_old at step)
 Steps-told P old told (Some now) at_old step = (now, refl, rw at_old at step)
-
--- what wasn't told before the step isn't told after it
-pub Steps-untold : {A : Type 0} (P : A → A → Type 0) (told new : Option A) → told ≡ None → Steps P told new → new ≡ None
-Steps-untold P told None untold step = refl
-Steps-untold P told (Some now) untold step = absurd (rw untold at step)

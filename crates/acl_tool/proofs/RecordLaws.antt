@@ -1,10 +1,10 @@
 -- How the records of a capture follow one another.
-use Rattle.std.proofs.Common.{◌≡◌, ℕ, zero, suc, ◌+◌, ◌≤◌, List, [], ◌∷◌, length, take, drop, true, false, None, Some, Ok, Err, inl, inr, ◌<◌, refl, sym, ap, ◌∙◌, arith}
+use Rattle.std.proofs.Common.{◌≡◌, ℕ, zero, suc, ◌+◌, ◌≤◌, List, [], ◌∷◌, length, take, drop, true, false, Ok, Err, inl, inr, ◌<◌, refl, sym, ap, ◌∙◌, arith}
 use Rattle.std.proofs.lemmas.List.{drop-drop, length-drop, length-take, length-take-le, take_all}
 use Rattle.std.proofs.lemmas.Bool.{or_parts, ltb-false, lt-ltb, le-ltb, or_from, cases_Bool, cases_lt}
 use Rattle.acl_tool.specs.Capture.{captured_len, is_cut, has_file_header, onto_records, records_of, records_within, capture_of}
-use Rattle.acl_tool.specs.Record.{HasRecord, HasCutRecord}
-use Rattle.acl_tool.specs.declared.status.CaptureFault.TheVariants.{RecordCut, TooManyRecords}
+use Rattle.acl_tool.specs.Record.{HasRecord}
+use Rattle.acl_tool.specs.declared.status.CaptureFault.TheVariants.{TooManyRecords}
 
 -- a whole record has its header of 16 bytes, a lawful length, and as many bytes behind the header
 whole_record : (left : List ℕ) → is_cut left ≡ false → (captured_len left ≤ 262144) × (16 + captured_len left ≤ length left)
@@ -34,16 +34,6 @@ capture_of-long bytes long = rw (lt-ltb 16777216 (length bytes) long) refl
 -- a capture with the file header has the records behind it
 pub capture_of-records : (bytes : List ℕ) → length bytes ≤ 16777216 → has_file_header bytes ≡ true → capture_of bytes ≡ Ok (records_of 1 (drop 24 bytes))
 capture_of-records bytes short header = rw (le-ltb 16777216 (length bytes) short, header) refl
-
--- no record and no fault at the end
-pub records_within-end : (turns number : ℕ) → records_within turns number [] ≡ record { records = []; fault = None }
-records_within-end turns number = refl
-
--- a cut record is the fault, and none is behind it
-pub records_within-cut : (turns number : ℕ) (left : List ℕ) → HasCutRecord left → records_within turns number left ≡ record { records = []; fault = Some (RecordCut number) }
-records_within-cut turns number [] h = absurd (h.some refl)
-records_within-cut zero number (b ∷ bs) h = refl
-records_within-cut (suc turns) number (b ∷ bs) h = let cut = h.cut in rw cut refl
 
 -- any number of turns that is enough gives the same records
 pub records_within-turns : (turns more number : ℕ) (left : List ℕ) → length left ≤ turns → length left ≤ more → records_within turns number left ≡ records_within more number left

@@ -2,8 +2,15 @@
 //! exit code out.
 #![tactic(auto)]
 
-use acl_outside::{StdDesk, StdSink};
+ghost use Rattle.std.specs.Prelude.{◌≡◌, map, string_bytes};
+ghost use Rattle.acl_tool.specs.declared.status.Status.{Status};
+ghost use Rattle.acl_tool.specs.Command.{command};
+ghost use Rattle.acl_tool.specs.Message.{code_of, message};
+ghost use Rattle.acl_tool.specs.Run.{Ends, Tells};
+
+use acl_outside::{Desk, Sink, StdDesk, StdSink};
 use acl_tool::run;
+use std::alloc::Global;
 use std::env;
 use std::process::ExitCode;
 
@@ -17,7 +24,23 @@ fn main(rt: HostRuntime) -> ExitCode {
     let mut desk = StdDesk::new(&rt);
     let mut out = StdSink::new(rt.stdout());
     let mut err = StdSink::new(rt.stderr());
-    ExitCode::from(run(rt.alloc(), &words, &mut desk, &mut out, &mut err).code())
+    ExitCode::from(exit_code(rt.alloc(), &words, &mut desk, &mut out, &mut err))
+}
+
+/// Runs the command that the words are, over any files and streams, and gives the exit code of its status.
+fn exit_code<D: Desk, O: Sink, E: Sink>(
+    alloc: Global,
+    words: &[String],
+    desk: &mut D,
+    out: &mut O,
+    err: &mut E,
+) -> u8
+    // The code is that of a status with which the command may end on what it was lent.
+    ensures { (status : Status) × (result ≡ code_of status)
+        × Ends (command (map string_bytes words.now)) (D.view desk.old) (D.view desk.new) (O.view out.old) (O.view out.new) status
+        × Tells (message status) (E.view err.old) (E.view err.new) }
+{
+    run(alloc, words, desk, out, err).code()
 }
 
 /// The words behind the program's name.

@@ -1,9 +1,9 @@
 -- The first `::` of a text.
-use Rattle.std.proofs.Common.{◌≡◌, ℕ, zero, suc, ◌+◌, ◌<◌, ◌≤◌, true, false, List, [], ◌∷◌, length, drop, refl, sym, ap, ◌∙◌, arith, nat_eq, codes, inl, inr, ◌++◌, ◌≢◌, get_or, append_assoc, length-append}
-use Rattle.std.proofs.lemmas.Bool.{cond-true, cond-false, cases_Bool, lt-ltb, ltb-true, false≢true, and_parts, and_left, ne_eqb, eqb-false}
+use Rattle.std.proofs.Common.{◌≡◌, ℕ, zero, suc, ◌+◌, ◌<◌, ◌≤◌, true, false, List, [], ◌∷◌, length, drop, refl, sym, ap, ◌∙◌, arith, nat_eq, codes, ◌++◌, ◌≢◌, get_or, append_assoc, length-append}
+use Rattle.std.proofs.lemmas.Bool.{cond-true, cond-false, false≢true, and_parts, and_left, ne_eqb, eqb-false}
 use Rattle.std.specs.List.{starts_with, join_with_byte, AllByRecursion}
 use Rattle.text_scan.proofs.Parts.{Lacks}
-use Rattle.text_scan.specs.Ip6.{gap_place, has_gap}
+use Rattle.text_scan.specs.Ip6.{gap_place}
 
 -- where the rest of a text begins with `::`, that is the first one of the rest
 pub gap_place-at : (text : List ℕ) (place : ℕ) → starts_with nat_eq (drop place text) (codes "::") ≡ true → gap_place (drop place text) ≡ 0
@@ -23,18 +23,6 @@ two_bytes : (text : List ℕ) → starts_with nat_eq text (codes "::") ≡ true 
 two_bytes [] here = absurd (false≢true here)
 two_bytes (c ∷ []) here = absurd (false≢true (and_parts (nat_eq 58 c) false here).1)
 two_bytes (c ∷ d ∷ cs) here = omega arith
-
--- both of its bytes stand in the text
-pub gap_within : (text : List ℕ) → has_gap text ≡ true → gap_place text + 2 ≤ length text
-gap_within [] gap = omega (arith, ltb-true 0 0 gap)
-gap_within (c ∷ cs) gap =
-    elim (cases_Bool (starts_with nat_eq (c ∷ cs) (codes "::"))) [
-      | inl here ↦ omega (arith, gap_place-at (c ∷ cs) 0 here, two_bytes (c ∷ cs) here)
-      | inr other ↦
-          let past : gap_place (c ∷ cs) ≡ suc (gap_place cs) = gap_place-past (c ∷ cs) 0 (omega arith) other in
-          let below = ltb-true (gap_place (c ∷ cs)) (length (c ∷ cs)) gap in
-          omega (arith, past, gap_within cs (lt-ltb (gap_place cs) (length cs) (omega (arith, past, below))))
-    ]
 
 -- a text without `:` moves the first `::` of what is behind it
 gap_place-append : (xs ys : List ℕ) → Lacks 58 xs → gap_place (xs ++ ys) ≡ length xs + gap_place ys

@@ -1,17 +1,16 @@
 -- The text of an IPv6 address, read part by part.
-use Rattle.std.proofs.Common.{◌≡◌, ℕ, zero, suc, ◌+◌, ◌-◌, ◌*◌, ◌^◌, ◌<◌, ◌≤◌, Bool, true, false, ◌&&◌, cond, eqb, nat_le, List, [], ◌∷◌, ◌++◌, length, take, get_or, Some, None, refl, sym, ap, ◌∙◌, arith, inl, inr, add-one, zero-add, length-append}
-use Rattle.std.proofs.Math.Nat.{pow-suc, pow-le-pow_right}
+use Rattle.std.proofs.Common.{◌≡◌, ℕ, zero, suc, ◌+◌, ◌-◌, ◌*◌, ◌^◌, ◌<◌, ◌≤◌, Bool, true, false, ◌&&◌, cond, eqb, nat_le, List, [], ◌∷◌, ◌++◌, length, take, get_or, Some, None, refl, sym, ap, ◌∙◌, arith, inl, inr, zero-add, length-append}
+use Rattle.std.proofs.Math.Nat.{pow-le-pow_right}
 use Rattle.std.proofs.lemmas.Bool.{and_left, and_right, and_from, and_parts, cond-true, cond-false, cases_Bool, cond_both, or_left, and_cases, lt-leb, leb-false, le-leb}
 use Rattle.std.proofs.lemmas.Grind.{flat_map-append}
 use Rattle.std.proofs.lemmas.List.{take_more, length_push, take_at, append-nil}
 use Rattle.std.proofs.lemmas.List.Folds.{list_all-append}
 use Rattle.std.proofs.lemmas.List.Sums.{fold-append}
-use Rattle.std.specs.Bool.{then_some}
 use Rattle.std.specs.List.{list_all}
 use Rattle.text_scan.specs.declared.numbers.Numbers.{Numbers}
 use Rattle.text_scan.specs.Digits.{place_value, parts_of}
 use Rattle.text_scan.specs.Ip4.{is_ip4}
-use Rattle.text_scan.specs.Ip6.{is_ip6_group, is_ip6_end, numbers_of, groups_of, are_groups, are_last_groups, numbers_of_all, joined, has_gap, groups_before, groups_behind, is_shortened, is_full, filled_numbers, ip6_of}
+use Rattle.text_scan.specs.Ip6.{is_ip6_group, is_ip6_end, numbers_of, are_groups, are_last_groups, numbers_of_all, joined, has_gap, groups_before, groups_behind, is_shortened, filled_numbers, ip6_of}
 use Rattle.text_scan.specs.Numbers.{with_numbers, numbers_from}
 use Rattle.text_scan.proofs.Powers.{joined-filled}
 use Rattle.text_scan.proofs.Parts.{Lacks-digits, parts_of_one}
@@ -50,10 +49,6 @@ with_numbers-append before xs ys =
     let count : before.count + length xs + length ys ≡ before.count + length (xs ++ ys) = omega (arith, length-append xs ys) in
     let value = sym (fold-append (λ n x. n * 65536 + x) before.value xs ys) in
     λ i. record { count = count i; value = value i }
-
--- a number behind fewer than eight still fits 128 bits
-pub number_fits : (value count number : ℕ) → value < 65536 ^ count → number < 65536 → value * 65536 + number < 65536 ^ (count + 1)
-number_fits value count number before small = rw (add-one count, pow-suc 65536 count) (omega arith)
 
 -- fewer than eight numbers spell one of 112 bits
 pub seven_numbers : (value count : ℕ) → value < 65536 ^ count → count < 8 → value < 2 ^ 112
@@ -109,20 +104,6 @@ refused_before_last front last refused =
     elim (and_cases (are_groups front) _ refused) [
       | inl other ↦ and_left (are_last_groups (front ++ last ∷ [])) _ (are_last_groups_push front last ∙ and_left (are_groups front) _ other)
       | inr many ↦ and_right (are_last_groups (front ++ last ∷ [])) _ (lt-leb _ 8 (omega (arith, leb-false (length (numbers_of_all front)) 8 many, ap length (numbers_of_all_push front last), length-append (numbers_of_all front) (numbers_of last))))
-    ]
-
--- an address without `::`
-pub ip6_of_full : (text : List ℕ) (numbers : Numbers) → has_gap text ≡ false → are_last_groups (groups_of text) ≡ true → numbers ≡ numbers_from (numbers_of_all (groups_of text)) → then_some (eqb numbers.count 8) numbers.value ≡ ip6_of text
-ip6_of_full text numbers none all is =
-    let xs = numbers_of_all (groups_of text) in
-    let count : numbers.count ≡ length xs = ap (λ ns. ns.count) is ∙ zero-add (length xs) in
-    elim (cases_Bool (eqb numbers.count 8)) [
-      | inl eight ↦
-          let full : is_full text ≡ true = and_from (are_last_groups (groups_of text)) _ all (ap (λ n. eqb n 8) (sym count) ∙ eight) in
-          rw eight (ap (λ ns. Some ns.value) is ∙ sym (cond-false (has_gap text) _ _ none ∙ cond-true (is_full text) _ _ full))
-      | inr other ↦
-          let short : is_full text ≡ false = and_right (are_last_groups (groups_of text)) _ (ap (λ n. eqb n 8) (sym count) ∙ other) in
-          rw other (sym (cond-false (has_gap text) _ _ none ∙ cond-false (is_full text) _ _ short))
     ]
 
 -- an address with `::`
