@@ -11,7 +11,7 @@ use Rattle.acl_tool.specs.declared.status.CaptureFault.{CaptureFault}
 use Rattle.acl_tool.specs.Command.{Request}
 use Rattle.acl_tool.specs.Capture.{Capture, capture_of}
 use Rattle.acl_tool.specs.Outcome.{Outcome, is_decided, front_of_file, rules_of_file, bytes_of_file, status_of_fault, report_of_capture, report, outcome_of_rules, outcome_of_request}
-use Rattle.acl_tool.specs.Run.{files_of, opened_of, KeepsFiles, Prints, Ends}
+use Rattle.acl_tool.specs.Effects.{files_of, opened_of, KeepsFiles, Prints, Ends}
 use Rattle.acl_tool.proofs.Fronts.{report_of_front}
 
 decided_fault : (fault : Option CaptureFault) → is_decided (status_of_fault fault) ≡ true

@@ -5,7 +5,7 @@ use Rattle.acl_outside.specs.Fault.{Rose}
 use Rattle.acl_outside.specs.Desk.{File, Content, DeskView, bytes_of}
 use Rattle.acl_tool.specs.declared.status.Status.TheVariants.{ReadFault}
 use Rattle.acl_tool.specs.Outcome.{front_of_file}
-use Rattle.acl_tool.specs.Run.{CannotRead}
+use Rattle.acl_tool.specs.Effects.{CannotRead}
 
 -- what `open_file` says of a file that is there, where the content is told
 abbrev IsKnown : Option Content → List ℕ → DeskView → DeskView → Type 0

@@ -11,8 +11,8 @@ use Rattle.acl_tool.specs.declared.frame.Class.TheVariants as classes
 use Rattle.acl_tool.specs.Class.{FrameClass, Ip4, Other, Short, class_of, is_ip4, is_other, is_short}
 use Rattle.acl_tool.specs.Capture.{records_of, onto_records}
 use Rattle.acl_tool.specs.Record.{HasRecord}
-use Rattle.acl_tool.specs.Report.{counts_of, counted, kind_of, packet_line, packet_lines}
-use Rattle.acl_tool.proofs.RecordLaws.{HasRecord-len, records_within-record, records_within-turns}
+use Rattle.acl_tool.specs.Report.{counts_of, counted, kind_of, line_of_record, lines_of_records}
+use Rattle.acl_tool.proofs.RecordLaws.{HasRecord-len, records_within-record, records_within-fuel}
 use Rattle.acl_tool.specs.Output.{Gains}
 use Rattle.acl_tool.proofs.OutputLaws.{Gains-line, AppendsPrefix-failed}
 
@@ -29,7 +29,7 @@ pub record IsUnderWay (packet_rules : List RuleView) (records left : List ℕ) (
   pub classes : counts.ip4 + counts.other + counts.short ≡ counts.packets
   pub fault : (records_of (counts.packets + 1) left).fault ≡ (records_of 1 records).fault
   pub counted : AddUp counts (counts_of (records_of (counts.packets + 1) left).records) (counts_of (records_of 1 records).records)
-  pub text : Steps (Gains waiting_then (waiting ++ packet_lines packet_rules (counts.packets + 1) (records_of (counts.packets + 1) left).records) (packet_lines packet_rules 1 (records_of 1 records).records)) old new
+  pub text : Steps (Gains waiting_then (waiting ++ lines_of_records packet_rules (counts.packets + 1) (records_of (counts.packets + 1) left).records) (lines_of_records packet_rules 1 (records_of 1 records).records)) old new
 
 -- a whole record is the first of the records of what is left
 pub records_of-record : (number : ℕ) (left captured behind : List ℕ) → HasRecord left captured behind →
@@ -37,7 +37,7 @@ pub records_of-record : (number : ℕ) (left captured behind : List ℕ) → Has
 records_of-record number left captured behind h =
     let shorter = HasRecord-len h in
     records_within-record (length left) number h (omega arith)
-    ∙ ap (onto_records captured) (records_within-turns (length left) (length behind) (number + 1) behind (omega arith) (omega arith))
+    ∙ ap (onto_records captured) (records_within-fuel (length left) (length behind) (number + 1) behind (omega arith) (omega arith))
 
 -- What the counts of the records are with one more of the class in front.
 pub record IsOneMore (class : FrameClass) (rest next : Counts) : Type 0 where
@@ -74,7 +74,7 @@ counted-classes classes.Short counts h = omega arith
 -- The next record is printed and counted.
 pub IsUnderWay-record : (packet_rules : List RuleView) (records left captured behind : List ℕ) (counts counts_now : Counts) (waiting_then waiting waiting_now line : List ℕ) (old mid new : Option (List ℕ)) →
     IsUnderWay packet_rules records left counts waiting_then waiting old mid → HasRecord left captured behind →
-    counts_now ≡ counted (kind_of (class_of captured)) counts → line ≡ packet_line packet_rules (counts.packets + 1) captured → Steps (Gains waiting waiting_now line) mid new →
+    counts_now ≡ counted (kind_of (class_of captured)) counts → line ≡ line_of_record packet_rules (counts.packets + 1) captured → Steps (Gains waiting waiting_now line) mid new →
     IsUnderWay packet_rules records behind counts_now waiting_then waiting_now old new
 IsUnderWay-record packet_rules records left captured behind counts counts_now waiting_then waiting waiting_now line old mid new h at_record is_counted is_line step =
     let n = counts.packets + 1 in
@@ -83,7 +83,7 @@ IsUnderWay-record packet_rules records left captured behind counts counts_now wa
     let next : records_of n left ≡ onto_records captured rest = records_of-record n left captured behind at_record in
     let number : counts_now.packets ≡ n = rw is_counted (counted-packets (kind_of (class_of captured)) counts) in
     let shorter = HasRecord-len at_record in
-    let lines : Steps (Gains waiting_then (waiting ++ (packet_line packet_rules n captured ++ packet_lines packet_rules (n + 1) rest.records)) (packet_lines packet_rules 1 (records_of 1 records).records)) old mid = rw next at h.text in
+    let lines : Steps (Gains waiting_then (waiting ++ (line_of_record packet_rules n captured ++ lines_of_records packet_rules (n + 1) rest.records)) (lines_of_records packet_rules 1 (records_of 1 records).records)) old mid = rw next at h.text in
     record {
       few = omega arith;
       classes = rw is_counted (counted-classes (kind_of (class_of captured)) counts h.classes);
@@ -92,20 +92,20 @@ IsUnderWay-record packet_rules records left captured behind counts counts_now wa
           (subst (λ (c : Counts). AddUp c (counts_of rest.records) all) (sym is_counted)
           (AddUp-class (class_of captured) counts (counts_of rest.records) (counts_of (captured ∷ rest.records)) all (counts_of-record captured rest.records) (rw next at h.counted)));
       text = rw number (Steps-join
-          (Gains waiting_then (waiting ++ (packet_line packet_rules n captured ++ packet_lines packet_rules (n + 1) rest.records)) (packet_lines packet_rules 1 (records_of 1 records).records))
+          (Gains waiting_then (waiting ++ (line_of_record packet_rules n captured ++ lines_of_records packet_rules (n + 1) rest.records)) (lines_of_records packet_rules 1 (records_of 1 records).records))
           (Gains waiting waiting_now line)
-          (Gains waiting_then (waiting_now ++ packet_lines packet_rules (n + 1) rest.records) (packet_lines packet_rules 1 (records_of 1 records).records))
-          (λ a b c first second. Gains-line waiting_then waiting waiting_now (packet_line packet_rules n captured) (packet_lines packet_rules (n + 1) rest.records) (packet_lines packet_rules 1 (records_of 1 records).records) a b c first (rw (← is_line) second))
+          (Gains waiting_then (waiting_now ++ lines_of_records packet_rules (n + 1) rest.records) (lines_of_records packet_rules 1 (records_of 1 records).records))
+          (λ a b c first second. Gains-line waiting_then waiting waiting_now (line_of_record packet_rules n captured) (lines_of_records packet_rules (n + 1) rest.records) (lines_of_records packet_rules 1 (records_of 1 records).records) a b c first (rw (← is_line) second))
           old mid new lines step);
     }
 
 -- Where the sink fails under way, a first part of all the lines was put.
 pub IsUnderWay-failed : (packet_rules : List RuleView) (records left : List ℕ) (counts : Counts) (waiting_then waiting : List ℕ) (old mid new : Option (List ℕ)) →
     IsUnderWay packet_rules records left counts waiting_then waiting old mid → Steps (AppendsPrefix waiting) mid new →
-    Steps (AppendsPrefix (waiting_then ++ packet_lines packet_rules 1 (records_of 1 records).records)) old new
+    Steps (AppendsPrefix (waiting_then ++ lines_of_records packet_rules 1 (records_of 1 records).records)) old new
 IsUnderWay-failed packet_rules records left counts waiting_then waiting old mid new h failed =
-    let rest = packet_lines packet_rules (counts.packets + 1) (records_of (counts.packets + 1) left).records in
-    let all = packet_lines packet_rules 1 (records_of 1 records).records in
+    let rest = lines_of_records packet_rules (counts.packets + 1) (records_of (counts.packets + 1) left).records in
+    let all = lines_of_records packet_rules 1 (records_of 1 records).records in
     Steps-join (Gains waiting_then (waiting ++ rest) all) (AppendsPrefix waiting) (AppendsPrefix (waiting_then ++ all))
     (λ a b c first second. AppendsPrefix-failed waiting_then waiting rest all a b c first second)
     old mid new h.text failed

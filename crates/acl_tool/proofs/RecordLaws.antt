@@ -2,12 +2,12 @@
 use Rattle.std.proofs.Common.{◌≡◌, ℕ, zero, suc, ◌+◌, ◌≤◌, List, [], ◌∷◌, length, take, drop, true, false, Ok, Err, inl, inr, ◌<◌, refl, sym, ap, ◌∙◌, arith}
 use Rattle.std.proofs.lemmas.List.{drop-drop, length-drop, length-take, length-take-le, take_all}
 use Rattle.std.proofs.lemmas.Bool.{or_parts, ltb-false, lt-ltb, le-ltb, or_from, cases_Bool, cases_lt}
-use Rattle.acl_tool.specs.Capture.{captured_len, is_cut, has_file_header, onto_records, records_of, records_within, capture_of}
+use Rattle.acl_tool.specs.Capture.{captured_len, is_record_cut, has_file_header, onto_records, records_of, records_within, capture_of}
 use Rattle.acl_tool.specs.Record.{HasRecord}
 use Rattle.acl_tool.specs.declared.status.CaptureFault.TheVariants.{TooManyRecords}
 
 -- a whole record has its header of 16 bytes, a lawful length, and as many bytes behind the header
-whole_record : (left : List ℕ) → is_cut left ≡ false → (captured_len left ≤ 262144) × (16 + captured_len left ≤ length left)
+whole_record : (left : List ℕ) → is_record_cut left ≡ false → (captured_len left ≤ 262144) × (16 + captured_len left ≤ length left)
 whole_record left e =
     let parts = or_parts _ _ e in
     let first = or_parts _ _ parts.0 in
@@ -22,7 +22,7 @@ HasRecord-from left captured behind len is_len lawful there front back = record 
 }
 
 -- a record takes its header and its captured bytes away
-length-behind_record : (left : List ℕ) → is_cut left ≡ false → length (drop (16 + captured_len left) left) + 16 + captured_len left ≡ length left
+length-behind_record : (left : List ℕ) → is_record_cut left ≡ false → length (drop (16 + captured_len left) left) + 16 + captured_len left ≡ length left
 length-behind_record left e =
     let whole = whole_record left e in
     omega (arith, length-drop (16 + captured_len left) left)
@@ -35,37 +35,37 @@ capture_of-long bytes long = rw (lt-ltb 16777216 (length bytes) long) refl
 pub capture_of-records : (bytes : List ℕ) → length bytes ≤ 16777216 → has_file_header bytes ≡ true → capture_of bytes ≡ Ok (records_of 1 (drop 24 bytes))
 capture_of-records bytes short header = rw (le-ltb 16777216 (length bytes) short, header) refl
 
--- any number of turns that is enough gives the same records
-pub records_within-turns : (turns more number : ℕ) (left : List ℕ) → length left ≤ turns → length left ≤ more → records_within turns number left ≡ records_within more number left
-records_within-turns turns more number [] enough also = refl
-records_within-turns zero more number (b ∷ bs) enough also = absurd (omega arith)
-records_within-turns (suc turns) zero number (b ∷ bs) enough also = absurd (omega arith)
-records_within-turns (suc turns) (suc more) number (b ∷ bs) enough also =
+-- any fuel that is enough gives the same records
+pub records_within-fuel : (fuel more number : ℕ) (left : List ℕ) → length left ≤ fuel → length left ≤ more → records_within fuel number left ≡ records_within more number left
+records_within-fuel fuel more number [] enough also = refl
+records_within-fuel zero more number (b ∷ bs) enough also = absurd (omega arith)
+records_within-fuel (suc fuel) zero number (b ∷ bs) enough also = absurd (omega arith)
+records_within-fuel (suc fuel) (suc more) number (b ∷ bs) enough also =
     let left : List ℕ = b ∷ bs in
-    elim (cases_Bool (is_cut left)) [
+    elim (cases_Bool (is_record_cut left)) [
       | inl cut ↦ rw cut refl
       | inr whole ↦
           let shorter = length-behind_record left whole in
-          let same = records_within-turns turns more (number + 1) (drop (16 + captured_len left) left) (omega arith) (omega arith) in
+          let same = records_within-fuel fuel more (number + 1) (drop (16 + captured_len left) left) (omega arith) (omega arith) in
           rw whole (ap (onto_records (take (captured_len left) (drop 16 left))) same)
     ]
 
--- one step, where as many turns as there are bytes stay enough
-step : (turns number : ℕ) (left : List ℕ) → is_cut left ≡ false → length left ≤ turns → records_within turns number left ≡ onto_records (take (captured_len left) (drop 16 left)) (records_within turns (number + 1) (drop (16 + captured_len left) left))
-step turns number [] whole enough = absurd (omega (arith, length-behind_record [] whole))
+-- one step, where as much fuel as there are bytes stays enough
+step : (fuel number : ℕ) (left : List ℕ) → is_record_cut left ≡ false → length left ≤ fuel → records_within fuel number left ≡ onto_records (take (captured_len left) (drop 16 left)) (records_within fuel (number + 1) (drop (16 + captured_len left) left))
+step fuel number [] whole enough = absurd (omega (arith, length-behind_record [] whole))
 step zero number (b ∷ bs) whole enough = absurd (omega arith)
-step (suc turns) number (b ∷ bs) whole enough =
+step (suc fuel) number (b ∷ bs) whole enough =
     let left : List ℕ = b ∷ bs in
     let shorter = length-behind_record left whole in
-    let same = records_within-turns turns (suc turns) (number + 1) (drop (16 + captured_len left) left) (omega arith) (omega arith) in
+    let same = records_within-fuel fuel (suc fuel) (number + 1) (drop (16 + captured_len left) left) (omega arith) (omega arith) in
     rw whole (ap (onto_records (take (captured_len left) (drop 16 left))) same)
 
--- a whole record stands in front of those behind it, where there are turns enough
-pub records_within-record : (turns number : ℕ) {left captured behind : List ℕ} → HasRecord left captured behind → length left ≤ turns → records_within turns number left ≡ onto_records captured (records_within turns (number + 1) behind)
-records_within-record turns number {left} {captured} {behind} h enough =
-    step turns number left h.whole enough
-    ∙ ap (λ (c : List ℕ). onto_records c (records_within turns (number + 1) (drop (16 + captured_len left) left))) (sym h.captured_bytes)
-    ∙ ap (λ (b : List ℕ). onto_records captured (records_within turns (number + 1) b)) (sym h.rest)
+-- a whole record stands in front of those behind it, where there is fuel enough
+pub records_within-record : (fuel number : ℕ) {left captured behind : List ℕ} → HasRecord left captured behind → length left ≤ fuel → records_within fuel number left ≡ onto_records captured (records_within fuel (number + 1) behind)
+records_within-record fuel number {left} {captured} {behind} h enough =
+    step fuel number left h.whole enough
+    ∙ ap (λ (c : List ℕ). onto_records c (records_within fuel (number + 1) (drop (16 + captured_len left) left))) (sym h.captured_bytes)
+    ∙ ap (λ (b : List ℕ). onto_records captured (records_within fuel (number + 1) b)) (sym h.rest)
 
 -- a record takes its header and its captured bytes away
 pub HasRecord-len : {left captured behind : List ℕ} → HasRecord left captured behind → length behind + length captured + 16 ≡ length left

@@ -5,14 +5,14 @@ use Rattle.acl_outside.specs.Told.{Steps}
 use Rattle.acl_outside.specs.Sink.{AppendsPrefix}
 use Rattle.acl_tool.specs.declared.status.CaptureFault.{CaptureFault}
 use Rattle.acl_tool.specs.Capture.{Capture}
-use Rattle.acl_tool.specs.Report.{packet_lines, packets_line}
+use Rattle.acl_tool.specs.Report.{lines_of_records, packets_line}
 use Rattle.acl_tool.specs.Outcome.{text_of_records, text_of_capture}
 use Rattle.acl_tool.proofs.OutputLaws.{Steps-front}
 
 -- a first part of the lines of the records is one of the report
 pub front_of_lines : (packet_rules : List RuleView) (records : List (List ℕ)) (fault : Option CaptureFault) (old new : Option (List ℕ)) →
-    Steps (AppendsPrefix (packet_lines packet_rules 1 records)) old new → Steps (AppendsPrefix (text_of_records packet_rules records fault)) old new
-front_of_lines packet_rules records None old new h = Steps-front (packet_lines packet_rules 1 records) (packets_line records) old new h
+    Steps (AppendsPrefix (lines_of_records packet_rules 1 records)) old new → Steps (AppendsPrefix (text_of_records packet_rules records fault)) old new
+front_of_lines packet_rules records None old new h = Steps-front (lines_of_records packet_rules 1 records) (packets_line records) old new h
 front_of_lines packet_rules records (Some fault) old new h = h
 
 -- the text of a report is that of the fault that ends the capture

@@ -20,21 +20,21 @@ abbrev pub captured_len : List ℕ → ℕ
 captured_len left = mirrored_number_at left 8 4
 
 -- the next record isn't whole, or has more than 262,144 bytes
-abbrev pub is_cut : List ℕ → Bool
-is_cut left = nat_lt (length left) 16 || nat_lt 262144 (captured_len left) || nat_lt (length left) (16 + captured_len left)
+abbrev pub is_record_cut : List ℕ → Bool
+is_record_cut left = nat_lt (length left) 16 || nat_lt 262144 (captured_len left) || nat_lt (length left) (16 + captured_len left)
 
 -- a record in front of those behind it
 abbrev pub onto_records : List ℕ → Capture → Capture
 onto_records record_bytes behind = record { records = record_bytes ∷ behind.records; fault = behind.fault }
 
--- The records of the bytes that are left, of which the first has the number. A record takes bytes away, so that as many
--- turns as there are bytes are enough.
+-- The records of the bytes that are left, of which the first has the number. A record takes bytes away, so that as much
+-- fuel as there are bytes is enough.
 abbrev pub records_within : ℕ → ℕ → List ℕ → Capture
-records_within turns number [] = record { records = []; fault = None }
+records_within fuel number [] = record { records = []; fault = None }
 records_within zero number (b ∷ bs) = record { records = []; fault = Some (RecordCut number) }
-records_within (suc turns) number (b ∷ bs) =
-    if is_cut (b ∷ bs) then record { records = []; fault = Some (RecordCut number) }
-    else onto_records (take (captured_len (b ∷ bs)) (drop 16 (b ∷ bs))) (records_within turns (number + 1) (drop (16 + captured_len (b ∷ bs)) (b ∷ bs)))
+records_within (suc fuel) number (b ∷ bs) =
+    if is_record_cut (b ∷ bs) then record { records = []; fault = Some (RecordCut number) }
+    else onto_records (take (captured_len (b ∷ bs)) (drop 16 (b ∷ bs))) (records_within fuel (number + 1) (drop (16 + captured_len (b ∷ bs)) (b ∷ bs)))
 
 -- the records of the bytes that are left, of which the first has the number
 abbrev pub records_of : ℕ → List ℕ → Capture

@@ -10,7 +10,7 @@ use Rattle.acl_tool.specs.declared.status.CaptureFault.{CaptureFault}
 use Rattle.acl_tool.specs.Command.{Request, command}
 use Rattle.acl_tool.specs.RuleFile.{rule_file}
 use Rattle.acl_tool.specs.Capture.{Capture, capture_of}
-use Rattle.acl_tool.specs.Report.{packet_lines, packets_line}
+use Rattle.acl_tool.specs.Report.{lines_of_records, packets_line}
 
 -- a status, and the text that is printed
 pub record Outcome : Type 0 where
@@ -42,8 +42,8 @@ front_of_file cap (Some bytes) = Ok (take cap bytes)
 
 -- A whole capture gives its lines and the line of the counts. One that ends in a fault gives the lines before the fault.
 abbrev pub text_of_records : List RuleView → List (List ℕ) → Option CaptureFault → List ℕ
-text_of_records rules records None = packet_lines rules 1 records ++ packets_line records
-text_of_records rules records (Some fault) = packet_lines rules 1 records
+text_of_records rules records None = lines_of_records rules 1 records ++ packets_line records
+text_of_records rules records (Some fault) = lines_of_records rules 1 records
 
 abbrev pub text_of_capture : List RuleView → Capture → List ℕ
 text_of_capture rules capture = text_of_records rules capture.records capture.fault

@@ -20,14 +20,14 @@ class_text rules (Ip4 key) = codes " ip4 " ++ decimal (verdict ip4_fields rules 
 class_text rules Other = codes " other -"
 class_text rules Short = codes " short -"
 
--- the line of a packet: the record's number, its class and its verdict
-abbrev pub packet_line : List RuleView → ℕ → List ℕ → List ℕ
-packet_line rules number frame = decimal number ++ class_text rules (class_of frame) ++ 10 ∷ []
+-- the line of a record: the record's number, its class and its verdict
+abbrev pub line_of_record : List RuleView → ℕ → List ℕ → List ℕ
+line_of_record rules number frame = decimal number ++ class_text rules (class_of frame) ++ 10 ∷ []
 
 -- a line for each record, of which the first has the number
-abbrev pub packet_lines : List RuleView → ℕ → List (List ℕ) → List ℕ
-packet_lines rules number [] = []
-packet_lines rules number (frame ∷ frames) = packet_line rules number frame ++ packet_lines rules (number + 1) frames
+abbrev pub lines_of_records : List RuleView → ℕ → List (List ℕ) → List ℕ
+lines_of_records rules number [] = []
+lines_of_records rules number (frame ∷ frames) = line_of_record rules number frame ++ lines_of_records rules (number + 1) frames
 
 -- the counts leave room for one more record
 pub record CountsFit (counts : Counts) : Type 0 where

@@ -5,7 +5,7 @@ ghost use Rattle.field_defs.specs.Layout.{ip4_fields};
 ghost use Rattle.acl_outside.specs.Desk.{bytes_of};
 ghost use Rattle.acl_tool.specs.RuleFile.{rule_file};
 ghost use Rattle.acl_tool.specs.Outcome.{front_of_file, is_decided, is_reported, rules_of_bytes, rules_of_file};
-ghost use Rattle.acl_tool.specs.Run.{Takes};
+ghost use Rattle.acl_tool.specs.Effects.{Takes};
 
 use crate::rule_file::{MAX_RULE_FILE, RulesFault, read_rules};
 use crate::status::Status;

@@ -4,6 +4,7 @@
 //! a line for each packet to a sink.
 #![tactic(auto)]
 
+mod command_line;
 mod frame;
 mod input;
 mod line;
@@ -18,7 +19,6 @@ mod status;
 #[cfg(test)]
 mod tests;
 mod tool;
-mod words;
 
 pub use status::{CaptureFault, LineFault, LineKind, Status, UsageFault, UsageKind};
 pub use tool::run;

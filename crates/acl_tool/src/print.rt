@@ -8,10 +8,10 @@ ghost use Rattle.field_defs.specs.Layout.{ip4_fields};
 ghost use Rattle.acl_tool.specs.declared.line.TheConstants.{LINE_ROOM};
 ghost use Rattle.acl_tool.specs.Class.{class_of};
 ghost use Rattle.acl_tool.specs.Capture.{records_of};
-ghost use Rattle.acl_tool.specs.Report.{CountsFit, counted, counts_of, counts_text, kind_of, packet_line, packet_lines};
+ghost use Rattle.acl_tool.specs.Report.{CountsFit, counted, counts_of, counts_text, kind_of, line_of_record, lines_of_records};
 ghost use Rattle.acl_tool.specs.Outcome.{text_of_capture, report};
 ghost use Rattle.acl_tool.specs.Output.{Gains};
-ghost use Rattle.acl_tool.specs.Run.{Prints};
+ghost use Rattle.acl_tool.specs.Effects.{Prints};
 
 use crate::frame::{Class, extract};
 use crate::line::LINE_ROOM;
@@ -102,9 +102,9 @@ fn print_records<O: Sink>(
     requires layout { rules.now.layout ≡ ip4_fields }
     ensures fault { IfOk result (λ printed. printed.fault ≡ (records_of 1 records.now).fault) }
     ensures counts { IfOk result (λ printed. printed.counts ≡ counts_of (records_of 1 records.now).records) }
-    ensures gains { OnOk result (Steps (Gains output.old output.new (packet_lines rules.now.rules 1 (records_of 1 records.now).records))
+    ensures gains { OnOk result (Steps (Gains output.old output.new (lines_of_records rules.now.rules 1 (records_of 1 records.now).records))
         (O.view out.old).written (O.view out.new).written) }
-    ensures front { OnErr result (Steps (AppendsPrefix (output.old ++ packet_lines rules.now.rules 1 (records_of 1 records.now).records))
+    ensures front { OnErr result (Steps (AppendsPrefix (output.old ++ lines_of_records rules.now.rules 1 (records_of 1 records.now).records))
         (O.view out.old).written (O.view out.new).written) }
     ensures cause { OnErr result (Rose (O.view out.old).faults (O.view out.new).faults) }
     ensures count { (O.view out.old).faults ≤ (O.view out.new).faults }
@@ -143,7 +143,7 @@ fn record_line(
     requires layout { rules.now.layout ≡ ip4_fields }
     requires fit { CountsFit counts.old }
     ensures within { result ≤ LINE_ROOM }
-    ensures line { take result line.new ≡ packet_line rules.now.rules (counts.old.packets + 1) frame.now }
+    ensures line { take result line.new ≡ line_of_record rules.now.rules (counts.old.packets + 1) frame.now }
     ensures counts { counts.new ≡ counted (kind_of (class_of frame.now)) counts.old }
 {
     let mut key = [0u8; 13];

@@ -5,8 +5,9 @@ ghost use Rattle.acl_outside.specs.Desk.{File};
 ghost use Rattle.acl_tool.specs.Command.{command};
 ghost use Rattle.acl_tool.specs.Message.{message};
 ghost use Rattle.acl_tool.specs.Outcome.{outcome};
-ghost use Rattle.acl_tool.specs.Run.{Ends, HasNoFault, Tells, files_of};
+ghost use Rattle.acl_tool.specs.Effects.{Ends, HasNoFault, PutsLine, files_of};
 
+use crate::command_line::{Request, read_words};
 use crate::input::{read_file, read_rule_file};
 use crate::line::LINE_ROOM;
 use crate::message::message_line;
@@ -14,7 +15,6 @@ use crate::output::Output;
 use crate::print::print_report;
 use crate::record::MAX_CAPTURE;
 use crate::status::Status;
-use crate::words::{Request, read_words};
 use acl_outside::{Desk, Sink, put_all};
 use std::alloc::Global;
 
@@ -42,10 +42,10 @@ pub fn run<D: Desk, O: Sink, E: Sink>(
         (files : List File) → files_of (D.view desk.old) ≡ Some files →
         (result ≡ (outcome (map string_bytes words.now) files).status) ⊎ (result ≡ Status.OutOfMemory) }
 
-    ensures message { Tells (message result) (E.view err.old) (E.view err.new) }
+    ensures message { PutsLine (message result) (E.view err.old) (E.view err.new) }
 {
     let status = answer(alloc, words, desk, out);
-    tell(&status, err);
+    put_message(&status, err);
     status
 }
 
@@ -87,8 +87,8 @@ fn classify<D: Desk, O: Sink>(
 }
 
 /// Puts the line of a status to standard error. A failure there leaves the status as it is.
-fn tell<E: Sink>(status: &Status, err: &mut E)
-    ensures { Tells (message status.now) (E.view err.old) (E.view err.new) }
+fn put_message<E: Sink>(status: &Status, err: &mut E)
+    ensures { PutsLine (message status.now) (E.view err.old) (E.view err.new) }
 {
     let mut line = [0u8; LINE_ROOM];
     let len = message_line(status, &mut line);

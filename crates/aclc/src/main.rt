@@ -6,7 +6,7 @@ ghost use Rattle.std.specs.Prelude.{◌≡◌, map, string_bytes};
 ghost use Rattle.acl_tool.specs.declared.status.Status.{Status};
 ghost use Rattle.acl_tool.specs.Command.{command};
 ghost use Rattle.acl_tool.specs.Message.{code_of, message};
-ghost use Rattle.acl_tool.specs.Run.{Ends, Tells};
+ghost use Rattle.acl_tool.specs.Effects.{Ends, PutsLine};
 
 use acl_outside::{Desk, Sink, StdDesk, StdSink};
 use acl_tool::run;
@@ -38,7 +38,7 @@ fn exit_code<D: Desk, O: Sink, E: Sink>(
     // The code is that of a status with which the command may end on what it was lent.
     ensures { (status : Status) × (result ≡ code_of status)
         × Ends (command (map string_bytes words.now)) (D.view desk.old) (D.view desk.new) (O.view out.old) (O.view out.new) status
-        × Tells (message status) (E.view err.old) (E.view err.new) }
+        × PutsLine (message status) (E.view err.old) (E.view err.new) }
 {
     run(alloc, words, desk, out, err).code()
 }

@@ -1,7 +1,7 @@
 use Rattle.std.proofs.Common.{Result, sym, subst}
 use Rattle.acl_tool.specs.declared.status.UsageFault.{UsageFault}
 use Rattle.acl_tool.specs.Command.{Request}
-use Rattle.acl_tool.specs.Run.{Ends}
+use Rattle.acl_tool.specs.Effects.{Ends}
 use Rattle.acl_tool.proofs.tool.answer.Goals as goal
 
 pub returns-in-Ok-clause-ends : goal.returns-in-Ok-clause-ends

@@ -76,7 +76,7 @@ pub record Ends (request : Result Request UsageFault) (old new : DeskView) (out_
   pub count : out_old.faults ≤ out_new.faults
 
 -- A line was put to a sink, or a first part of it where the sink failed.
-pub record Tells (line : List ℕ) (old new : SinkView) : Type 0 where
+pub record PutsLine (line : List ℕ) (old new : SinkView) : Type 0 where
   pub told : Steps (Appends line) old.written new.written
       ⊎ (Rose old.faults new.faults × Steps (AppendsPrefix line) old.written new.written)
   pub count : old.faults ≤ new.faults

@@ -1,4 +1,4 @@
--- Rows of the class of a frame, each checked by evaluation.
+-- Examples of the class of a frame, each checked by evaluation.
 use Rattle.std.specs.Prelude.{◌≡◌, ℕ, List, [], ◌∷◌, ◌++◌, take, drop, replicate, refl}
 use Rattle.acl_tool.specs.Class.{Ip4, Other, Short, class_of}
 

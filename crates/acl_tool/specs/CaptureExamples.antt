@@ -1,4 +1,4 @@
--- Rows of captures, each checked by evaluation.
+-- Examples of captures, each checked by evaluation.
 use Rattle.std.specs.Prelude.{◌≡◌, ℕ, List, [], ◌∷◌, ◌++◌, Some, None, Ok, Err, take, replicate, refl}
 use Rattle.acl_tool.specs.declared.status.CaptureFault.TheVariants.{Magic, RecordCut}
 use Rattle.acl_tool.specs.Capture.{capture_of}

@@ -1,4 +1,4 @@
--- Rows of the outcome of a command, each checked by evaluation.
+-- Examples of the outcome of a command, each checked by evaluation.
 use Rattle.std.specs.Prelude.{◌≡◌, ℕ, List, [], ◌∷◌, ◌++◌, replicate, codes, refl}
 use Rattle.std.specs.Fmt.{digits}
 use Rattle.acl_outside.specs.Desk.{File}
@@ -8,8 +8,8 @@ use Rattle.acl_tool.specs.declared.status.CaptureFault.TheVariants.{Magic, Recor
 use Rattle.acl_tool.specs.Command.{unknown_command}
 use Rattle.acl_tool.specs.Outcome.{outcome, silent}
 use Rattle.acl_tool.specs.Message.{message}
-use Rattle.acl_tool.specs.RuleFileRows.{guide_line}
-use Rattle.acl_tool.specs.CaptureRows.{file_header}
+use Rattle.acl_tool.specs.RuleFileExamples.{guide_line}
+use Rattle.acl_tool.specs.CaptureExamples.{file_header}
 
 -- the words of a `classify` of the files r and c
 abbrev classify : List (List ℕ)

@@ -1,4 +1,4 @@
--- Rows of lawful values, each checked by evaluation.
+-- Examples of lawful values, each checked by evaluation.
 use Rattle.std.specs.Prelude.{◌≡◌, [], ◌∷◌, true, false, map, refl}
 use Rattle.field_defs.specs.declared.field.FieldKind.TheVariants as kinds
 use Rattle.field_defs.specs.declared.field.FieldValue.TheVariants.{Mask, Range, Bitmask}

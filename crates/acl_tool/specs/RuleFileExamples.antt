@@ -1,4 +1,4 @@
--- Rows of rule files, each checked by evaluation.
+-- Examples of rule files, each checked by evaluation.
 use Rattle.std.specs.Prelude.{◌≡◌, ℕ, List, [], ◌∷◌, ◌++◌, Some, None, Result, Ok, Err, pos, codes, map, refl}
 use Rattle.field_defs.specs.declared.field.FieldValue.TheVariants.{Mask, Range, Bitmask}
 use Rattle.rule_set.specs.Rule.{RuleView}
