@@ -1,4 +1,4 @@
 pub mod FieldMatch
-pub mod FieldMatchRows
+pub mod FieldMatchExamples
 pub mod Layout
-pub mod LayoutRows
+pub mod LayoutExamples

@@ -2,5 +2,5 @@ pub mod Rest
 pub mod Edges
 pub mod Allowed
 pub mod Laws
-pub mod RestRows
-pub mod EdgesRows
+pub mod RestExamples
+pub mod EdgesExamples

@@ -1,6 +1,6 @@
 pub mod Fault
-pub mod FaultRows
+pub mod FaultExamples
 pub mod Rule
 pub mod RuleSet
 pub mod Winner
-pub mod WinnerRows
+pub mod WinnerExamples

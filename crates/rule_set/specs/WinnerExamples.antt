@@ -1,4 +1,4 @@
--- Rows of the winner and its verdict, each checked by evaluation, over one field of one byte.
+-- Examples of the winner and its verdict, each checked by evaluation, over one field of one byte.
 use Rattle.std.specs.Prelude.{◌≡◌, ℕ, ℤ, pos, List, [], ◌∷◌, ◌++◌, Option, Some, None, map, refl}
 use Rattle.field_defs.specs.declared.field.FieldKind.TheVariants as kinds
 use Rattle.field_defs.specs.declared.field.FieldDef.{FieldDef}

@@ -1,4 +1,4 @@
--- Rows of the edges, their steps and their cuts, each checked by evaluation.
+-- Examples of the edges, their steps and their cuts, each checked by evaluation.
 use Rattle.std.proofs.Common.{zero, suc}
 use Rattle.std.specs.Prelude.{◌≡◌, ℕ, List, [], ◌∷◌, ◌++◌, drop, Option, Some, None, map, filter, refl}
 use Rattle.field_defs.specs.declared.field.FieldValue.{FieldValue}

@@ -1,4 +1,4 @@
--- Rows of layouts and keys, each checked by evaluation.
+-- Examples of layouts and keys, each checked by evaluation.
 use Rattle.std.specs.Prelude.{◌≡◌, List, [], ◌∷◌, refl}
 use Rattle.std.specs.List.{range_with_len}
 use Rattle.field_defs.specs.declared.field.FieldKind.TheVariants.{Range, Bitmask}

@@ -1,4 +1,4 @@
--- Rows of the rest, each checked by evaluation.
+-- Examples of the rest, each checked by evaluation.
 use Rattle.std.specs.Prelude.{◌≡◌, ℕ, List, [], ◌∷◌, Option, Some, None, map, refl}
 use Rattle.field_defs.specs.declared.field.FieldValue.{FieldValue}
 use Rattle.field_defs.specs.declared.field.FieldValue.TheVariants.{Mask, Range, Bitmask}

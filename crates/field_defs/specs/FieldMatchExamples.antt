@@ -1,4 +1,4 @@
--- Rows of the field match, each checked by evaluation.
+-- Examples of the field match, each checked by evaluation.
 use Rattle.std.specs.Prelude.{◌≡◌, ℕ, List, [], ◌∷◌, Bool, true, false, map, refl}
 use Rattle.field_defs.specs.declared.field.FieldKind.TheVariants as kinds
 use Rattle.field_defs.specs.declared.field.FieldValue.{FieldValue}

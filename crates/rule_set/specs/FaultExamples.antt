@@ -1,4 +1,4 @@
--- Rows of the faults of rules, each checked by evaluation.
+-- Examples of the faults of rules, each checked by evaluation.
 use Rattle.std.specs.Prelude.{◌≡◌, ℕ, ℤ, pos, negsuc, List, [], ◌∷◌, Option, Some, None, refl}
 use Rattle.field_defs.specs.declared.field.FieldKind.TheVariants as kinds
 use Rattle.field_defs.specs.declared.field.FieldDef.{FieldDef}
