@@ -1,5 +1,5 @@
 -- A rule of lawful values and a lawful tag has no fault.
-use Rattle.std.proofs.Common.{◌≡◌, ℕ, suc, ◌<◌, ◌≤◌, Bool, true, not, List, [], ◌∷◌, length, None, pos, ◌-ℤ◌, refl, ap, arith, zip, le-ltb, ne_eqb, eq-eqb, IsTrue}
+use Rattle.std.proofs.Common.{◌≡◌, ℕ, suc, ◌<◌, ◌≤◌, Bool, true, not, List, [], ◌∷◌, length, None, pos, ◌-ℤ◌, refl, ap, arith, zip, le-ltb, eq-eqb, IsTrue}
 use Rattle.std.specs.Int.Signed.{le_z}
 use Rattle.std.proofs.lemmas.Int.{ints}
 use Rattle.std.specs.List.{prefix_len}
@@ -40,9 +40,8 @@ rule_fault-rule_of ordinal values first last lawful =
     let counted = eq-eqb (length values) 5 (length-AreLawful ip4_fields values lawful) in
     let not_below : le_z (pos 0) (pos 536870911 -ℤ pos ordinal) ≡ true = grind (arith, ints) in
     let not_above : le_z (pos 536870911 -ℤ pos ordinal) (pos 536870911) ≡ true = grind (arith, ints) in
-    let not_zero = ne_eqb ordinal 0 (λ zero. omega arith) in
     let kinds = failing_place-none is_of_kind (λ def value lawful. (and_parts _ _ (and_parts _ _ (and_parts _ _ lawful).0).0).0) ip4_fields values lawful in
     let widths = failing_place-none is_narrow (λ def value lawful. (and_parts _ _ (and_parts _ _ (and_parts _ _ lawful).0).0).1) ip4_fields values lawful in
     let masks = failing_place-none is_mask_short (λ def value lawful. (and_parts _ _ (and_parts _ _ lawful).0).1) ip4_fields values lawful in
     let ranges = failing_place-none is_filled (λ def value lawful. (and_parts _ _ lawful).1) ip4_fields values lawful in
-    rw (counted, kinds, not_below, not_above, not_zero, widths, masks, ranges) refl
+    rw (counted, kinds, not_below, not_above, widths, masks, ranges) refl

@@ -34,9 +34,9 @@ no_place fault None h = refl
 no_place fault (Some place) h = absurd (cc)
 
 -- where no place fails, each field and its value pass
-passes_at : (passes : FieldDef → FieldValue → Bool) (layout : List FieldDef) (values : List FieldValue) (i : ℕ) (d : FieldDef) (v : FieldValue) → failing_place passes layout values ≡ None → i < length layout → i < length values → passes (get_or layout i d) (get_or values i v) ≡ true
-passes_at passes layout values i d v none h k =
-    let fails : FieldDef × FieldValue → Bool = λ pair. not (passes pair.0 pair.1) in
+passes_at : (holds : FieldDef → FieldValue → Bool) (layout : List FieldDef) (values : List FieldValue) (i : ℕ) (d : FieldDef) (v : FieldValue) → failing_place holds layout values ≡ None → i < length layout → i < length values → holds (get_or layout i d) (get_or values i v) ≡ true
+passes_at holds layout values i d v none h k =
+    let fails : FieldDef × FieldValue → Bool = λ pair. not (holds pair.0 pair.1) in
     let pairs = zip layout values in
     let past : length pairs ≤ position_or_len fails pairs = elim (cases_Bool (nat_lt (position_or_len fails pairs) (length pairs))) [
       | inl e ↦ absurd (let found = rw e at none in cc)
@@ -56,13 +56,13 @@ all_zip_from_places R (def ∷ defs) (value ∷ values) d v same each =
 -- each value of a rule that isn't refused can be asked about the numbers of its field's size
 can_match_from_check : (layout : List FieldDef) (tag : RuleTag) (values : List FieldValue) → IsLayout layout → rule_fault layout tag values ≡ None → CanMatchAll layout values
 unfolding rule_fault
-can_match_from_check layout tag values lawful passes =
+can_match_from_check layout tag values lawful none_there =
     let d : FieldDef = record { kind = kinds.Mask; size = 1; field_index = 0; input_index = 0; offset = 0 } in
     let v : FieldValue = Mask 0 0 in
     let none = none_at (faults layout tag values) in
-    let count : fault_unless (length values == length layout) FieldCount ≡ None = none 0 passes in
-    let width : option_map FieldTooWide (failing_place is_narrow layout values) ≡ None = none 5 passes in
-    let mask : option_map MaskTooLong (failing_place is_mask_short layout values) ≡ None = none 6 passes in
+    let count : fault_unless (length values == length layout) FieldCount ≡ None = none 0 none_there in
+    let width : option_map FieldTooWide (failing_place is_narrow layout values) ≡ None = none 4 none_there in
+    let mask : option_map MaskTooLong (failing_place is_mask_short layout values) ≡ None = none 5 none_there in
     let same : length values ≡ length layout = eqb-true _ _ (passes_test _ _ count) in
     all_zip_from_places (λ (def : FieldDef) value. CanMatch value def.size) layout values d v same
     (λ i h. record {

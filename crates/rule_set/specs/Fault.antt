@@ -1,6 +1,7 @@
 -- Why a rule is refused (DPDK Programmer's Guide, "Packet Classification and Access Control", and `rte_acl.h`: a rule has
--- a value for each field, some category, a priority from 0 to 536,870,911, and userdata that isn't 0). DPDK answers one
--- number for each of these; here each kind of check has a fault of its own, and the kinds have an order.
+-- a value for each field, some category, and a priority from 0 to 536,870,911; DPDK refuses userdata 0 too, and here it is
+-- lawful). DPDK answers one number for all of these; here each kind of check has a fault of its own, and the kinds have an
+-- order.
 use Rattle.std.specs.Prelude.{ℕ, pos, ◌==◌, List, [], ◌∷◌, length, position, Bool, true, false, not, ◌&&◌, Option, Some, None}
 use Rattle.std.specs.List.{list_any, range_with_len, zip}
 use Rattle.std.specs.Option.{option_map}
@@ -9,8 +10,11 @@ use Rattle.field_defs.specs.declared.field.FieldDef.{FieldDef}
 use Rattle.field_defs.specs.declared.field.FieldValue.{FieldValue}
 use Rattle.field_defs.specs.FieldMatch.{kind_of, same_kind, is_within_size, is_mask_within, is_range_filled}
 use Rattle.rule_set.specs.declared.rule.RuleTag.{RuleTag}
+use Rattle.rule_set.specs.declared.check.ValueCheck.{ValueCheck}
+use Rattle.rule_set.specs.declared.check.ValueCheck.TheVariants.{Kind, Width, MaskLength, RangeEnds}
 use Rattle.rule_set.specs.declared.check.RuleFault.{RuleFault}
-use Rattle.rule_set.specs.declared.check.RuleFault.TheVariants.{FieldCount, FieldKind, NoCategory, PriorityRange, ZeroUserdata, FieldTooWide, MaskTooLong, EmptyRange}
+use Rattle.rule_set.specs.declared.check.RuleFault.TheVariants.{FieldCount, FieldKind, NoCategory, PriorityRange, FieldTooWide, MaskTooLong, EmptyRange}
+use Rattle.rule_set.specs.Limits.{max_priority}
 use Rattle.rule_set.specs.Winner.{is_in_category}
 
 -- the sixteen categories
@@ -33,9 +37,16 @@ is_mask_short def value = is_mask_within value def.size
 abbrev pub is_filled : FieldDef → FieldValue → Bool
 is_filled def value = is_range_filled value
 
+-- what each check of values asks
+abbrev pub passes : ValueCheck → FieldDef → FieldValue → Bool
+passes Kind = is_of_kind
+passes Width = is_narrow
+passes MaskLength = is_mask_short
+passes RangeEnds = is_filled
+
 -- the least place at which a field and its value fail the test
 abbrev pub failing_place : (FieldDef → FieldValue → Bool) → List FieldDef → List FieldValue → Option ℕ
-failing_place passes layout values = position (λ pair. not (passes pair.0 pair.1)) (zip layout values)
+failing_place holds layout values = position (λ pair. not (holds pair.0 pair.1)) (zip layout values)
 
 -- the fault where the test fails
 abbrev pub fault_unless : Bool → RuleFault → Option RuleFault
@@ -48,14 +59,13 @@ first_of [] = None
 first_of (None ∷ faults) = first_of faults
 first_of (Some fault ∷ faults) = Some fault
 
--- the eight kinds of checks in their order, each with its fault if it fails
+-- the seven kinds of checks in their order, each with its fault if it fails
 abbrev pub faults : List FieldDef → RuleTag → List FieldValue → List (Option RuleFault)
 faults layout tag values =
     fault_unless (length values == length layout) FieldCount
     ∷ option_map FieldKind (failing_place is_of_kind layout values)
     ∷ fault_unless (list_any (is_in_category tag) categories) NoCategory
-    ∷ fault_unless (le_z (pos 0) tag.priority && le_z tag.priority (pos 536870911)) PriorityRange
-    ∷ fault_unless (not (tag.userdata == 0)) ZeroUserdata
+    ∷ fault_unless (le_z (pos 0) tag.priority && le_z tag.priority (pos max_priority)) PriorityRange
     ∷ option_map FieldTooWide (failing_place is_narrow layout values)
     ∷ option_map MaskTooLong (failing_place is_mask_short layout values)
     ∷ option_map EmptyRange (failing_place is_filled layout values)

@@ -6,7 +6,7 @@ use Rattle.field_defs.specs.declared.field.FieldValue.{FieldValue}
 use Rattle.field_defs.specs.declared.field.FieldValue.TheVariants.{Mask, Range, Bitmask}
 use Rattle.rule_set.specs.declared.rule.RuleTag.{RuleTag}
 use Rattle.rule_set.specs.declared.check.RuleFault.{RuleFault}
-use Rattle.rule_set.specs.declared.check.RuleFault.TheVariants.{FieldCount, FieldKind, NoCategory, PriorityRange, ZeroUserdata, FieldTooWide, MaskTooLong, EmptyRange}
+use Rattle.rule_set.specs.declared.check.RuleFault.TheVariants.{FieldCount, FieldKind, NoCategory, PriorityRange, FieldTooWide, MaskTooLong, EmptyRange}
 use Rattle.rule_set.specs.Fault.{categories, rule_fault}
 
 -- a layout of a bitmask of one byte, a mask of four and a range of two
@@ -79,9 +79,9 @@ great_priority : tag_fault 1 (pos 536870912) 1 ≡ Some PriorityRange
 unfolding rule_fault categories
 great_priority = refl
 
-no_userdata : tag_fault 1 (pos 1) 0 ≡ Some ZeroUserdata
+userdata_0_is_lawful : tag_fault 1 (pos 1) 0 ≡ None
 unfolding rule_fault categories
-no_userdata = refl
+userdata_0_is_lawful = refl
 
 wide_value : value_fault (Bitmask 17 255) (Mask 0x100000000 16) (Range 0 65535) ≡ Some (FieldTooWide 1)
 unfolding rule_fault categories
@@ -150,13 +150,9 @@ category_before_priority : tag_fault 0 (negsuc 4) 1 ≡ Some NoCategory
 unfolding rule_fault categories
 category_before_priority = refl
 
-priority_before_userdata : tag_fault 1 (negsuc 4) 0 ≡ Some PriorityRange
+priority_before_width : fault (tagged 1 (negsuc 4) 0) (Bitmask 256 0 ∷ Mask 0 0 ∷ Range 0 0 ∷ []) ≡ Some PriorityRange
 unfolding rule_fault categories
-priority_before_userdata = refl
-
-userdata_before_width : fault (tagged 1 (pos 1) 0) (Bitmask 256 0 ∷ Mask 0 0 ∷ Range 0 0 ∷ []) ≡ Some ZeroUserdata
-unfolding rule_fault categories
-userdata_before_width = refl
+priority_before_width = refl
 
 width_before_mask : value_fault (Bitmask 0 0) (Mask 0 33) (Range 0 65536) ≡ Some (FieldTooWide 2)
 unfolding rule_fault categories

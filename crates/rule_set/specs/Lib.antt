@@ -1,5 +1,6 @@
 pub mod Fault
 pub mod FaultExamples
+pub mod Limits
 pub mod Rule
 pub mod RuleSet
 pub mod Winner

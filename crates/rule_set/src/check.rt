@@ -4,15 +4,16 @@ ghost use Rattle.std.specs.Prelude.{◌≡◌, ◌<◌, ◌&&◌, pos, length, I
 ghost use Rattle.std.specs.List.{list_any};
 ghost use Rattle.std.specs.Result.{result_err};
 ghost use Rattle.std.specs.Int.Signed.{le_z};
-ghost use Rattle.rule_set.specs.Fault.{rule_fault, categories, failing_place, is_of_kind, is_narrow, is_mask_short, is_filled};
+ghost use Rattle.rule_set.specs.Limits.{max_priority};
+ghost use Rattle.rule_set.specs.Fault.{rule_fault, categories, failing_place, passes};
 ghost use Rattle.rule_set.specs.Winner.{is_in_category};
 
 use crate::rule::RuleTag;
 use field_defs::{FieldDef, FieldValue, Layout};
 use thiserror::Error;
 
-/// The greatest priority of a rule.
-const MAX_PRIORITY: i32 = 536_870_911;
+/// The greatest priority of a rule. The least is 0.
+pub const MAX_PRIORITY: i32 = 536_870_911;
 
 /// The bits of a category mask that stand for categories.
 const CATEGORY_BITS: u32 = 0xFFFF;
@@ -29,12 +30,9 @@ pub enum RuleFault {
     /// None of the low 16 bits of the category mask is set.
     #[error("the rule has no category")]
     NoCategory,
-    /// The priority is below 0 or above 536,870,911.
+    /// The priority is below 0 or above [`MAX_PRIORITY`].
     #[error("the priority is out of range")]
     PriorityRange,
-    /// The userdata is 0.
-    #[error("the userdata is 0")]
-    ZeroUserdata,
     /// A number of the value is at least 256 to the power of the field's size.
     #[error("field {0}: the value is wider than the field")]
     FieldTooWide(u8),
@@ -58,7 +56,7 @@ pub fn check_rule(layout: &Layout, tag: &RuleTag, fields: &[FieldValue]) -> Resu
     if fields.len() != defs.len() {
         return Err(RuleFault::FieldCount);
     }
-    if let Some(place) = first_of_other_kind(defs, fields) {
+    if let Some(place) = ValueCheck::Kind.first_failing(defs, fields) {
         return Err(RuleFault::FieldKind(place as u8));
     }
     if !has_category(tag) {
@@ -67,16 +65,13 @@ pub fn check_rule(layout: &Layout, tag: &RuleTag, fields: &[FieldValue]) -> Resu
     if !has_lawful_priority(tag) {
         return Err(RuleFault::PriorityRange);
     }
-    if tag.userdata == 0 {
-        return Err(RuleFault::ZeroUserdata);
-    }
-    if let Some(place) = first_too_wide(defs, fields) {
+    if let Some(place) = ValueCheck::Width.first_failing(defs, fields) {
         return Err(RuleFault::FieldTooWide(place as u8));
     }
-    if let Some(place) = first_mask_too_long(defs, fields) {
+    if let Some(place) = ValueCheck::MaskLength.first_failing(defs, fields) {
         return Err(RuleFault::MaskTooLong(place as u8));
     }
-    if let Some(place) = first_empty_range(defs, fields) {
+    if let Some(place) = ValueCheck::RangeEnds.first_failing(defs, fields) {
         return Err(RuleFault::EmptyRange(place as u8));
     }
     Ok(())
@@ -91,47 +86,46 @@ fn has_category(tag: &RuleTag) -> bool
 
 /// Whether the priority is one that a rule may have.
 fn has_lawful_priority(tag: &RuleTag) -> bool
-    ensures { result ≡ (le_z (pos 0) tag.now.priority && le_z tag.now.priority (pos 536870911)) }
+    ensures { result ≡ (le_z (pos 0) tag.now.priority && le_z tag.now.priority (pos max_priority)) }
 {
     (0..=MAX_PRIORITY).contains(&tag.priority)
 }
 
-/// The place of the first value that is of another kind than its field.
-fn first_of_other_kind(defs: &[FieldDef], fields: &[FieldValue]) -> Option<usize>
-    ensures place { result ≡ failing_place is_of_kind defs.now fields.now }
-    ensures bound { IfSome result (λ place. place < length defs.now) }
-{
-    defs.iter()
-        .zip(fields)
-        .position(|(def, value)| value.kind() != def.kind)
+/// What each value of a rule is checked for.
+#[derive(Clone, Copy)]
+enum ValueCheck {
+    /// The value is of its field's kind.
+    Kind,
+    /// The numbers of the value are numbers of its field's size.
+    Width,
+    /// The value, if it is a mask, has no more bits than its field.
+    MaskLength,
+    /// The value, if it is a range, has a number in it.
+    RangeEnds,
 }
 
-/// The place of the first value with a number that isn't a number of its field's size.
-fn first_too_wide(defs: &[FieldDef], fields: &[FieldValue]) -> Option<usize>
-    ensures place { result ≡ failing_place is_narrow defs.now fields.now }
-    ensures bound { IfSome result (λ place. place < length defs.now) }
-{
-    defs.iter()
-        .zip(fields)
-        .position(|(def, value)| !value.is_within_size(def.size))
-}
+impl ValueCheck {
+    ghost use Rattle.rule_set.specs.Fault.{passes};
 
-/// The place of the first mask that has more bits than its field.
-fn first_mask_too_long(defs: &[FieldDef], fields: &[FieldValue]) -> Option<usize>
-    ensures place { result ≡ failing_place is_mask_short defs.now fields.now }
-    ensures bound { IfSome result (λ place. place < length defs.now) }
-{
-    defs.iter()
-        .zip(fields)
-        .position(|(def, value)| !value.is_mask_within(def.size))
-}
+    /// Whether the field's value passes the check.
+    fn passes(self, def: &FieldDef, value: &FieldValue) -> bool
+        ensures { result ≡ passes self def.now value.now }
+    {
+        match self {
+            ValueCheck::Kind => value.kind() == def.kind,
+            ValueCheck::Width => value.is_within_size(def.size),
+            ValueCheck::MaskLength => value.is_mask_within(def.size),
+            ValueCheck::RangeEnds => value.is_range_filled(),
+        }
+    }
 
-/// The place of the first range that has no number in it.
-fn first_empty_range(defs: &[FieldDef], fields: &[FieldValue]) -> Option<usize>
-    ensures place { result ≡ failing_place is_filled defs.now fields.now }
-    ensures bound { IfSome result (λ place. place < length defs.now) }
-{
-    defs.iter()
-        .zip(fields)
-        .position(|(_, value)| !value.is_range_filled())
+    /// The place of the first field whose value fails the check.
+    fn first_failing(self, defs: &[FieldDef], values: &[FieldValue]) -> Option<usize>
+        ensures place { result ≡ failing_place (passes self) defs.now values.now }
+        ensures bound { IfSome result (λ place. place < length defs.now) }
+    {
+        defs.iter()
+            .zip(values)
+            .position(|(def, value)| !self.passes(def, value))
+    }
 }

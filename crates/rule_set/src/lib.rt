@@ -10,7 +10,7 @@ mod plain;
 mod rule;
 mod set;
 
-pub use check::{RuleFault, check_rule};
+pub use check::{MAX_PRIORITY, RuleFault, check_rule};
 pub use plain::plain_verdict;
 pub use rule::{RuleTag, StoredRule};
 pub use set::{MAX_RULES, PushFault, RuleSet};

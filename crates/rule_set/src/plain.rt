@@ -89,7 +89,6 @@ fn network_number(bytes: &[u8]) -> u64
 mod tests {
     use super::*;
     use crate::rule::StoredRule;
-    use crate::set::MAX_RULES;
     use field_defs::ip4_layout;
     use std::alloc::Global;
     use std::process::Abort;
@@ -140,14 +139,14 @@ mod tests {
             priority: 2,
             userdata: 2,
         };
-        assert!(rt; rules.len() < MAX_RULES);
+        assert!(rt; !rules.is_full());
         rules.push(rule(alloc, tag, ANY, narrow)?)?;
         let tag = RuleTag {
             category_mask: 2,
             priority: 3,
             userdata: 3,
         };
-        assert!(rt; rules.len() < MAX_RULES);
+        assert!(rt; !rules.is_full());
         rules.push(rule(alloc, tag, host, ANY)?)?;
         Ok(rules)
     }
@@ -180,6 +179,28 @@ mod tests {
         for (key, expected) in cases.iter() {
             assert_eq!(rt; verdicts(&rt, &rules, key), *expected);
         }
+        Ok(())
+    }
+
+    #[test]
+    fn the_last_of_three_hundred_rules_is_found(rt: HostRuntime) -> Result<(), Fail> {
+        let mut rules = guide_rules(&rt, rt.alloc())?;
+        for number in 4..=300 {
+            let host = FieldValue::Mask {
+                value: u64::from(number),
+                bits: 32,
+            };
+            let tag = RuleTag {
+                category_mask: 1,
+                priority: 4,
+                userdata: number,
+            };
+            assert!(rt; !rules.is_full());
+            rules.push(rule(rt.alloc(), tag, host, ANY)?)?;
+        }
+        // 300 is the address 0.0.1.44.
+        let key = [17, 0, 0, 1, 44, 201, 212, 111, 12, 0, 1, 0, 2];
+        assert_eq!(rt; verdicts(&rt, &rules, &key), [300, 0, 0, 0]);
         Ok(())
     }
 }

@@ -15,9 +15,10 @@ const INLINE_FIELDS: usize = 8;
 pub struct RuleTag {
     /// Bit c of the low 16 is set where the rule takes part in category c. Higher bits take no part.
     pub category_mask: u32,
-    /// Of the matching rules the one of greatest priority wins. A lawful priority is from 0 to 536,870,911.
+    /// Of the matching rules the one of greatest priority wins. A lawful priority is from 0 to
+    /// 536,870,911.
     pub priority: i32,
-    /// The answer for packets that the rule wins. A lawful rule's isn't 0.
+    /// The answer for packets that the rule wins. Any number is lawful, 0 too.
     pub userdata: u32,
 }
 

@@ -1,7 +1,8 @@
 //! Lawful rules of one layout, in the order in which they were added.
 
-ghost use Rattle.std.specs.Prelude.{◌≡◌, ◌==◌, ◌<◌, ◌↔◌, [], ◌∷◌, ◌++◌, length, slice_get, Some, OnOk, OnErr};
+ghost use Rattle.std.specs.Prelude.{◌≡◌, ◌==◌, ◌<◌, ◌↔◌, nat_le, [], ◌∷◌, ◌++◌, length, slice_get, Some, OnOk, OnErr};
 ghost use Rattle.rule_set.specs.declared.check.RuleFault.{RuleFault};
+ghost use Rattle.rule_set.specs.Limits.{max_rules};
 ghost use Rattle.rule_set.specs.Fault.{rule_fault};
 
 use crate::check::{RuleFault, check_rule};
@@ -60,10 +61,11 @@ impl RuleSet {
 
     /// Adds the rule behind the others, if it is lawful for the layout.
     ///
-    /// The set holds fewer than [`MAX_RULES`] rules. It takes the memory for one more. `Rule` comes exactly where [`check_rule`] refuses the rule, with
-    /// its fault, and `OutOfMemory` only for a lawful rule. A refusal leaves the set as it was.
+    /// The set isn't full ([`RuleSet::is_full`]). It takes the memory for one more. `Rule` comes exactly where
+    /// [`check_rule`] refuses the rule, with its fault, and `OutOfMemory` only for a lawful rule. A refusal leaves
+    /// the set as it was.
     pub fn push(&mut self, rule: StoredRule) -> Result<(), PushFault>
-        requires { length self.old.rules < MAX_RULES }
+        requires { length self.old.rules < max_rules }
         ensures ok { OnOk result (self.new ≡ record self.old { rules = self.old.rules ++ rule ∷ [] }) }
         ensures refused { (fault : RuleFault) → (result ≡ Err (PushFault.Rule fault))
             ↔ (rule_fault self.old.layout rule.tag rule.fields ≡ Some fault) }
@@ -85,6 +87,13 @@ impl RuleSet {
         ensures { result ≡ (length self.now.rules == 0) }
     {
         self.rules.is_empty()
+    }
+
+    /// Whether the set holds as many rules as it may, [`MAX_RULES`].
+    pub fn is_full(&self) -> bool
+        ensures { result ≡ nat_le max_rules (length self.now.rules) }
+    {
+        self.rules.len() >= MAX_RULES
     }
 
     /// The rule at the place `i`, from 0 and below [`RuleSet::len`]. It is lawful for the layout.

@@ -1,6 +1,7 @@
 use Rattle.std.proofs.Common.{◌≡◌, ◌<◌, length, None, sym, ap, ◌∙◌, arith}
 use Rattle.std.specs.Result.{is_ok}
 use Rattle.std.proofs.lemmas.Bool.{cond_both}
+use Rattle.rule_set.specs.Limits.{max_rules}
 use Rattle.rule_set.specs.Fault.{rule_fault}
 use Rattle.rule_set.specs.RuleSet.{IsRuleSet}
 use Rattle.rule_set.proofs.Held.{no_error, IsRuleSet-push}
@@ -13,7 +14,7 @@ invariant_of-self c =
     let passes : rule_fault layout c.args.rule.tag c.args.rule.fields ≡ None =
     sym (rw (c.tag.ensures, c.fields.ensures) at c.check_rule.ensures)
     ∙ no_error c.check_rule.result (sym c.map_err.ensures.variant ∙ ap is_ok c.in_ok-map_err.was) in
-    let room : length rules < 262144 = omega (arith, ap (λ set. length set.rules) c.self.view_is) in
+    let room : length rules < max_rules = omega (arith, ap (λ set. length set.rules) c.self.view_is) in
     rw c.push.ensures.items
     (cond_both (is_ok c.push.result) _ _ (λ rules. IsRuleSet record { layout = layout; rules = rules })
     (λ _. IsRuleSet-push layout rules c.args.rule c.self.invariant passes room) (λ _. c.self.invariant))
