@@ -1,12 +1,13 @@
 -- When a value lets every number of a size through.
-use Rattle.std.proofs.Common.{◌≡◌, ◌≢◌, ◌↔◌, ℕ, ◌-◌, ◌*◌, ◌/◌, ◌^◌, ◌<◌, ◌≤◌, ◌==◌, IsTrue, sym, ◌∙◌, inl, inr, arith}
+use Rattle.std.proofs.Common.{◌≡◌, ◌≢◌, ◌↔◌, ℕ, ◌-◌, ◌*◌, ◌/◌, ◌^◌, ◌<◌, ◌≤◌, ◌+◌, ◌==◌, ◌&&◌, nat_le, true, IsTrue, sym, ◌∙◌, inl, inr, arith}
 use Rattle.std.specs.Prelude.{bit_and}
 use Rattle.std.specs.Int.Bits.{and_self, and_zero_l, and_zero_r}
-use Rattle.std.proofs.Math.Nat.{sub-zero, div-eq_of_lt, div_self, zero-div}
+use Rattle.std.proofs.Math.Nat.{sub-zero, div-eq_of_lt, div_self, zero-div, one-le-pow}
 use Rattle.std.proofs.lemmas.Nat.{pow_pos, pow_below}
-use Rattle.std.proofs.lemmas.Bool.{eqb-true, eq-eqb, leb-true, ltb-true, and_parts, cases_eq}
-use Rattle.field_defs.specs.declared.field.FieldValue.TheVariants.{Mask, Bitmask}
-use Rattle.field_defs.specs.FieldMatch.{CanMatch, IsWild}
+use Rattle.std.proofs.lemmas.Bool.{eqb-true, eq-eqb, leb-true, le-leb, ltb-true, and_parts, and_from, cases_eq}
+use Rattle.field_defs.specs.declared.field.FieldValue.{FieldValue}
+use Rattle.field_defs.specs.declared.field.FieldValue.TheVariants.{Mask, Range, Bitmask}
+use Rattle.field_defs.specs.FieldMatch.{CanMatch, IsWild, is_wild}
 use Rattle.field_defs.proofs.Sizes.{bytes_as_bits}
 
 -- a mask of no bits compares two zeros
@@ -26,7 +27,7 @@ no_wild_bits value bits size some within wild =
     omega (arith, at_zero, at_last, zero-div last, div_self (pow_pos (8 * size - bits)))
 
 -- a mask lets every number through exactly where it has no bits
-pub mask_is_wild : (value bits size : ℕ) → CanMatch (Mask value bits) size → IsTrue (bits == 0) ↔ IsWild (Mask value bits) size
+mask_is_wild : (value bits size : ℕ) → CanMatch (Mask value bits) size → IsTrue (bits == 0) ↔ IsWild (Mask value bits) size
 mask_is_wild value bits size can = (
   λ none. rw (eqb-true bits 0 none, sub-zero (8 * size))
       (λ x h. eq-eqb _ _ (same_leading_no_bits value size x (ltb-true _ _ can.within_size) h)),
@@ -44,8 +45,29 @@ no_wild_bit value mask size fits wild =
     sym (and_self mask) ∙ at_mask ∙ sym at_zero ∙ and_zero_l mask
 
 -- a bitmask lets every number through exactly where it has no bit
-pub bitmask_is_wild : (value mask size : ℕ) → CanMatch (Bitmask value mask) size → IsTrue (mask == 0) ↔ IsWild (Bitmask value mask) size
+bitmask_is_wild : (value mask size : ℕ) → CanMatch (Bitmask value mask) size → IsTrue (mask == 0) ↔ IsWild (Bitmask value mask) size
 bitmask_is_wild value mask size can = (
   λ none. rw (eqb-true mask 0 none) (λ x h. eq-eqb _ _ (and_zero_r x ∙ sym (and_zero_r value))),
   λ wild. eq-eqb _ _ (no_wild_bit value mask size (ltb-true _ _ (and_parts _ _ can.within_size).1) wild),
 )
+
+-- a range lets every number through exactly where it goes from 0 to the greatest number
+range_is_wild : (low high size : ℕ) → IsTrue (low == 0 && nat_le (256 ^ size) (high + 1)) ↔ IsWild (Range low high) size
+range_is_wild low high size = (
+  λ whole x below.
+      let ends = and_parts (low == 0) _ whole in
+      let first : low ≡ 0 = eqb-true low 0 ends.0 in
+      let last : 256 ^ size ≤ high + 1 = leb-true _ _ ends.1 in
+      and_from _ _ (le-leb low x (omega arith)) (le-leb x high (omega arith)),
+  λ wild.
+      let some : 0 < 256 ^ size = one-le-pow size 256 (omega arith) in
+      let first : nat_le low 0 ≡ true = (and_parts _ _ (wild 0 some)).0 in
+      let last : nat_le (256 ^ size - 1) high ≡ true = (and_parts _ _ (wild (256 ^ size - 1) (omega arith))).1 in
+      and_from _ _ (eq-eqb low 0 (omega (arith, leb-true low 0 first))) (le-leb (256 ^ size) (high + 1) (omega (arith, leb-true (256 ^ size - 1) high last))),
+)
+
+-- each kind of value is wild by its numbers exactly where every number matches
+pub wild_is_every : (value : FieldValue) (size : ℕ) → CanMatch value size → (IsTrue (is_wild value size) ↔ IsWild value size)
+wild_is_every (Mask value bits) size can = mask_is_wild value bits size can
+wild_is_every (Range low high) size can = range_is_wild low high size
+wild_is_every (Bitmask value mask) size can = bitmask_is_wild value mask size can

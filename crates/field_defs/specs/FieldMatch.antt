@@ -1,5 +1,5 @@
 -- Which numbers a rule's value for a field lets through (DPDK Programmer's Guide, ACL field types: mask, range, bitmask).
-use Rattle.std.specs.Prelude.{◌≡◌, ℕ, ◌-◌, ◌*◌, ◌/◌, ◌^◌, ◌<◌, ◌==◌, Bool, true, false, ◌&&◌, ◌||◌, nat_le, nat_lt, bit_and, IsTrue}
+use Rattle.std.specs.Prelude.{◌≡◌, ℕ, ◌+◌, ◌-◌, ◌*◌, ◌/◌, ◌^◌, ◌<◌, ◌==◌, Bool, true, false, ◌&&◌, ◌||◌, nat_le, nat_lt, bit_and, IsTrue}
 use Rattle.field_defs.specs.declared.field.FieldKind.{FieldKind}
 use Rattle.field_defs.specs.declared.field.FieldKind.TheVariants as kinds
 use Rattle.field_defs.specs.declared.field.FieldValue.{FieldValue}
@@ -18,6 +18,12 @@ field_match (Bitmask value mask) size x = bit_and x mask == bit_and value mask
 -- Every number of the size matches.
 abbrev pub IsWild : FieldValue → ℕ → Type 0
 IsWild value size = (x : ℕ) → x < 256 ^ size → field_match value size x ≡ true
+
+-- The same by the value's numbers: a mask or bitmask of no bits, or a range from 0 to the greatest number of the size.
+abbrev pub is_wild : FieldValue → ℕ → Bool
+is_wild (Mask value bits) size = bits == 0
+is_wild (Range low high) size = low == 0 && nat_le (256 ^ size) (high + 1)
+is_wild (Bitmask value mask) size = mask == 0
 
 -- the kind of field that the value is for
 abbrev pub kind_of : FieldValue → FieldKind

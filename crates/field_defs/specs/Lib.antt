@@ -2,3 +2,4 @@ pub mod FieldMatch
 pub mod FieldMatchExamples
 pub mod Layout
 pub mod LayoutExamples
+pub mod Laws

@@ -6,6 +6,7 @@
 #![tactic(auto)]
 
 mod field;
+pub mod laws;
 mod layout;
 mod matching;
 

@@ -1,7 +1,7 @@
 //! Whether a number matches the value of a rule for a field.
 
 ghost use Rattle.std.specs.Prelude.{◌≡◌, ◌+◌, ◌^◌, ◌<◌, ◌↔◌, IsTrue};
-ghost use Rattle.field_defs.specs.FieldMatch.{field_match, is_size, CanMatch, IsWild};
+ghost use Rattle.field_defs.specs.FieldMatch.{field_match, is_size, CanMatch, IsWild, is_wild};
 
 use crate::field::FieldValue;
 
@@ -33,7 +33,8 @@ pub fn field_matches(value: &FieldValue, size: u8, x: u64) -> bool
 /// Source: DPDK Programmer's Guide, ACL field types.
 pub fn is_wild(value: &FieldValue, size: u8) -> bool
     requires { CanMatch value.now size }
-    ensures { IsTrue result ↔ IsWild value.now size }
+    ensures test { result ≡ is_wild value.now size }
+    ensures every { IsTrue result ↔ IsWild value.now size }
 {
     match *value {
         FieldValue::Mask { bits, .. } => bits == 0,
