@@ -6,7 +6,7 @@ use Rattle.std.proofs.lemmas.List.{reverse-append, length-drop, take_rest}
 use Rattle.std.proofs.lemmas.List.Sums.{fold-append}
 use Rattle.byteorder.specs.Endian.{big_number, little_number}
 use Rattle.byteorder.specs.Numbers.{big_from-cons, little_from-cons}
-use Rattle.shared_defs.specs.Number.{number_of, number_at, mirrored_number_of, mirrored_number_at}
+use Rattle.byte_numbers.specs.Number.{number_of, number_at, mirrored_number_of, mirrored_number_at}
 
 -- the first bytes, read behind a number
 fold-take : (acc n : ℕ) (bytes : List ℕ) → n ≤ length bytes → fold (λ n b. n * 256 + b) acc (take n bytes) ≡ acc * 256 ^ n + big_number n bytes

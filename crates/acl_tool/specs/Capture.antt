@@ -1,6 +1,6 @@
 -- Captures in the one form that is read: the libpcap savefile format 2.4, little-endian, in microseconds, of Ethernet frames.
 use Rattle.std.specs.Prelude.{ℕ, ◌+◌, ◌%◌, ◌==◌, List, [], ◌∷◌, length, take, drop, Bool, ◌&&◌, ◌||◌, nat_le, nat_lt, Option, Some, None, Result, Ok, Err, zero, suc, if◌then◌else◌}
-use Rattle.shared_defs.specs.Number.{mirrored_number_at}
+use Rattle.byte_numbers.specs.Number.{mirrored_number_at}
 use Rattle.acl_tool.specs.declared.status.CaptureFault.{CaptureFault}
 use Rattle.acl_tool.specs.declared.status.CaptureFault.TheVariants.{Magic, RecordCut, TooManyRecords}
 

@@ -1,7 +1,7 @@
 -- What a captured Ethernet frame is, and the key of an IPv4 packet in it (IEEE 802.3 for the frame's type, RFC 791, 3.1 for
 -- the IPv4 header, RFC 9293, RFC 768 and RFC 9260 for the ports of TCP, UDP and SCTP).
 use Rattle.std.specs.Prelude.{ℕ, ◌+◌, ◌*◌, ◌/◌, ◌%◌, ◌==◌, List, [], ◌∷◌, ◌++◌, length, take, drop, slice_index, Bool, true, false, ◌&&◌, ◌||◌, nat_lt, if◌then◌else◌}
-use Rattle.shared_defs.specs.Number.{number_at}
+use Rattle.byte_numbers.specs.Number.{number_at}
 
 -- a frame has an IPv4 packet with these key bytes, or is something else, or is too short to tell
 pub data FrameClass : Type 0 where

@@ -3,7 +3,7 @@
 use Rattle.std.specs.Prelude.{ℕ, ◌+◌, ◌-◌, ◌*◌, ◌==◌, List, [], ◌∷◌, length, fold, Bool, true, false, not, ◌&&◌, nat_le, nat_lt, Option, Some, None, option_and_then, Result, Ok, Err, pos, ◌-ℤ◌, if◌then◌else◌}
 use Rattle.std.specs.List.{list_all}
 use Rattle.std.specs.Str.{bytes_eq}
-use Rattle.shared_defs.specs.Number.{number_of}
+use Rattle.byte_numbers.specs.Number.{number_of}
 use Rattle.field_defs.specs.declared.field.FieldValue.{FieldValue}
 use Rattle.field_defs.specs.declared.field.FieldValue.TheVariants.{Mask, Range, Bitmask}
 use Rattle.rule_set.specs.Rule.{RuleView}

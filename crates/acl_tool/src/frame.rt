@@ -6,7 +6,7 @@
 //! RFC 791, 3.1 (the IPv4 header), RFC 9293, 3.1, RFC 768 and RFC 9260, 3.1 (the ports of TCP, UDP and SCTP).
 
 ghost use Rattle.std.specs.Prelude.{◌≡◌, ◌+◌, ◌≤◌, length};
-ghost use Rattle.shared_defs.specs.Number.{number_at};
+ghost use Rattle.byte_numbers.specs.Number.{number_at};
 ghost use Rattle.acl_tool.specs.Class.{class_of, has_ports, header_len, ip4_behind_header, ip4_class, ip4_key, is_first_fragment};
 ghost use Rattle.acl_tool.specs.Extract.{Extracts};
 

@@ -6,7 +6,7 @@
 //! The file header stands once, and then a record header in front of the captured bytes of each record.
 
 ghost use Rattle.std.specs.Prelude.{◌≡◌, ◌+◌, ◌≤◌, length, drop, IfOk, IfErr, Ok, Err};
-ghost use Rattle.shared_defs.specs.Number.{mirrored_number_at};
+ghost use Rattle.byte_numbers.specs.Number.{mirrored_number_at};
 ghost use Rattle.acl_tool.specs.Capture.{capture_of, has_file_header, records_of};
 ghost use Rattle.acl_tool.specs.Record.{IsNext};
 

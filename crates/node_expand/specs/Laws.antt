@@ -1,7 +1,7 @@
 -- Laws of rests and edges, over the definitions alone.
 use Rattle.std.specs.Prelude.{◌≡◌, ℕ, ◌+◌, ◌-◌, ◌*◌, ◌<◌, ◌≤◌, ◌↔◌, List, length, All, false, true, Some, IsSome}
 use Rattle.std.specs.Option.{option_and_then}
-use Rattle.shared_defs.specs.Number.{number_of}
+use Rattle.byte_numbers.specs.Number.{number_of}
 use Rattle.field_defs.specs.declared.field.FieldValue.{FieldValue}
 use Rattle.field_defs.specs.FieldMatch.{field_match}
 use Rattle.node_expand.specs.declared.edge.Edge.{Edge}

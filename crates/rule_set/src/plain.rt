@@ -2,7 +2,7 @@
 
 ghost use Rattle.std.specs.Prelude.{◌≡◌, ◌<◌, ◌≤◌, ◌^◌, length, not, MatchOption, IsTrue};
 ghost use Rattle.std.specs.Int.Signed.{le_z};
-ghost use Rattle.shared_defs.specs.Number.{number_of};
+ghost use Rattle.byte_numbers.specs.Number.{number_of};
 ghost use Rattle.field_defs.specs.Layout.{key_len_of};
 ghost use Rattle.rule_set.specs.Rule.{CanMatchAll};
 ghost use Rattle.rule_set.specs.Winner.{rule_match, is_in_category, verdict};

@@ -7,7 +7,7 @@ use Rattle.std.proofs.lemmas.List.Folds.{list_all_at, list_all_more}
 use Rattle.std.proofs.lemmas.List.Sums.{fold_push}
 use Rattle.std.specs.Bool.{then_some}
 use Rattle.std.specs.List.{list_all}
-use Rattle.shared_defs.specs.Number.{number_of}
+use Rattle.byte_numbers.specs.Number.{number_of}
 use Rattle.text_scan.specs.Digits.{place_value, parts_of, is_group}
 use Rattle.text_scan.specs.Ip4.{is_ip4_group, is_ip4, ip4_of}
 

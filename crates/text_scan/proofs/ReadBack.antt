@@ -9,7 +9,7 @@ use Rattle.std.specs.Char.{is_digit, digit_value}
 use Rattle.std.specs.Fmt.{digits, decimal}
 use Rattle.std.specs.List.{list_all, fold, join_with_byte, AllByRecursion}
 use Rattle.std.specs.Str.Parse.{AllDigits, digits_value_after}
-use Rattle.shared_defs.specs.Number.{number_of}
+use Rattle.byte_numbers.specs.Number.{number_of}
 use Rattle.text_scan.specs.Digits.{place_value, are_digits, is_group, parts_of}
 use Rattle.text_scan.specs.Ip4.{is_ip4_group, is_ip4, ip4_of, ip4_bytes, ip4_spelling}
 use Rattle.text_scan.specs.Ip6.{is_ip6_group, are_groups, are_last_groups, groups_of, numbers_of, numbers_of_all, gap_place, has_gap, is_full, joined, ip6_of, ip6_numbers, ip6_spelling}

@@ -4,7 +4,7 @@
 use Rattle.std.specs.Prelude.{ℕ, ◌/◌, ◌%◌, ◌==◌, Bool, ◌&&◌, nat_le, if◌then◌else◌, List, [], ◌∷◌, map, length, Option, Some, None}
 use Rattle.std.specs.Fmt.{decimal}
 use Rattle.std.specs.List.{list_all, join_with_byte}
-use Rattle.shared_defs.specs.Number.{number_of}
+use Rattle.byte_numbers.specs.Number.{number_of}
 use Rattle.text_scan.specs.Digits.{place_value, is_group, dot, parts_of}
 
 -- one to three decimal digits, at most 255

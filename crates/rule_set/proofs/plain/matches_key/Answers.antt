@@ -3,7 +3,7 @@ use Rattle.std.proofs.lemmas.Bool.{and_left}
 use Rattle.std.proofs.lemmas.List.{length_push}
 use Rattle.std.proofs.lemmas.List.Sums.{sum_by-drop_more}
 use Rattle.std.proofs.lemmas.Slice.Zip.{zip_turn, zip_end}
-use Rattle.shared_defs.specs.Number.{number_of}
+use Rattle.byte_numbers.specs.Number.{number_of}
 use Rattle.field_defs.specs.declared.field.FieldDef.{FieldDef}
 use Rattle.field_defs.specs.FieldMatch.{field_match, CanMatch}
 use Rattle.rule_set.specs.Winner.{rule_match}

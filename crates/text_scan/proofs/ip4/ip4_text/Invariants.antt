@@ -1,6 +1,6 @@
 use Rattle.std.proofs.Common.{◌≡◌, ◌≤◌, ◌<◌, ◌^◌, true, length, take, map}
 use Rattle.std.specs.List.{list_all}
-use Rattle.shared_defs.specs.Number.{number_of}
+use Rattle.byte_numbers.specs.Number.{number_of}
 use Rattle.text_scan.specs.Digits.{place_value, parts_of}
 use Rattle.text_scan.specs.Ip4.{is_ip4_group}
 use Rattle.text_scan.proofs.ip4.ip4_text.Given as goal

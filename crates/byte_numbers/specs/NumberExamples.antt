@@ -1,6 +1,6 @@
--- Rows of the numbers that bytes spell, each checked by evaluation.
+-- Examples of the numbers that bytes spell, each checked by evaluation.
 use Rattle.std.specs.Prelude.{◌≡◌, ℕ, ◌*◌, ◌+◌, List, [], ◌∷◌, refl}
-use Rattle.shared_defs.specs.Number.{number_of, number_at, mirrored_number_of, mirrored_number_at}
+use Rattle.byte_numbers.specs.Number.{number_of, number_at, mirrored_number_of, mirrored_number_at}
 
 no_bytes : number_of [] ≡ 0
 no_bytes = refl
