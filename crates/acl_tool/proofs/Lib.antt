@@ -5,7 +5,6 @@ mod Inputs
 mod KeyParts
 mod LawfulLemmas
 mod NumberLemmas
-mod NumberReads
 mod OutputLaws
 mod Printing
 mod RecordLaws

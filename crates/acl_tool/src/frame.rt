@@ -5,12 +5,11 @@
 //! All numbers stand in network order. Sources: IEEE 802.3, 3.2.6 (the type of a frame), RFC 894 (IPv4 over Ethernet),
 //! RFC 791, 3.1 (the IPv4 header), RFC 9293, 3.1, RFC 768 and RFC 9260, 3.1 (the ports of TCP, UDP and SCTP).
 
-ghost use Rattle.std.specs.Prelude.{◌≡◌, ◌+◌, ◌≤◌, length};
-ghost use Rattle.byte_numbers.specs.Number.{number_at};
+ghost use Rattle.std.specs.Prelude.{◌≡◌, ◌≤◌, length};
 ghost use Rattle.acl_tool.specs.Class.{class_of, has_ports, header_len, ip4_behind_header, ip4_class, ip4_key, is_first_fragment};
 ghost use Rattle.acl_tool.specs.Extract.{Extracts};
 
-use byteorder::{BigEndian, ByteOrder};
+use byte_numbers::network_u16_at;
 
 /// How many bytes the header of an Ethernet frame has.
 const ETHERNET_HEADER: usize = 14;
@@ -64,7 +63,7 @@ pub fn extract(frame: &[u8], key: &mut [u8; 13]) -> Class
     if frame.len() < ETHERNET_HEADER {
         return Class::Short;
     }
-    if u16_at(frame, ETHERNET_TYPE) != ETHERTYPE_IP4 {
+    if network_u16_at(frame, ETHERNET_TYPE) != ETHERTYPE_IP4 {
         return Class::Other;
     }
     extract_ip4(&frame[ETHERNET_HEADER..], key)
@@ -119,7 +118,7 @@ fn is_first_fragment(packet: &[u8]) -> bool
     requires { 20 ≤ length packet.now }
     ensures { result ≡ is_first_fragment packet.now }
 {
-    u16_at(packet, IP4_FRAGMENT) & IP4_FRAGMENT_OFFSET == 0
+    network_u16_at(packet, IP4_FRAGMENT) & IP4_FRAGMENT_OFFSET == 0
 }
 
 /// Writes the key of an IPv4 packet with these four bytes of ports.
@@ -132,14 +131,6 @@ fn write_key(packet: &[u8], ports: &[u8], key: &mut [u8; 13])
     key[1..5].copy_from_slice(&packet[12..16]);
     key[5..9].copy_from_slice(&packet[16..20]);
     key[9..].copy_from_slice(ports);
-}
-
-/// The number of two bytes at a place, in network order.
-fn u16_at(bytes: &[u8], at: usize) -> u16
-    requires { at + 2 ≤ length bytes.now }
-    ensures { result ≡ number_at bytes.now at 2 }
-{
-    BigEndian::read_u16(&bytes[at..])
 }
 
 #[cfg(test)]

@@ -5,13 +5,12 @@
 //!
 //! The file header stands once, and then a record header in front of the captured bytes of each record.
 
-ghost use Rattle.std.specs.Prelude.{◌≡◌, ◌+◌, ◌≤◌, length, drop, IfOk, IfErr, Ok, Err};
-ghost use Rattle.byte_numbers.specs.Number.{mirrored_number_at};
+ghost use Rattle.std.specs.Prelude.{◌≡◌, ◌+◌, length, drop, IfOk, IfErr, Ok, Err};
 ghost use Rattle.acl_tool.specs.Capture.{capture_of, has_file_header, records_of};
 ghost use Rattle.acl_tool.specs.Record.{IsNext};
 
 use crate::status::CaptureFault;
-use byteorder::{ByteOrder, LittleEndian};
+use byte_numbers::{mirrored_u16_at, mirrored_u32_at};
 
 /// How many bytes a capture may have.
 pub const MAX_CAPTURE: usize = 16_777_216;
@@ -72,26 +71,10 @@ fn begins_with_file_header(capture: &[u8]) -> bool
     ensures { result ≡ has_file_header capture.now }
 {
     capture.len() >= FILE_HEADER
-        && u32_at(capture, 0) == MAGIC
-        && u16_at(capture, 4) == MAJOR_VERSION
-        && u16_at(capture, 6) == MINOR_VERSION
-        && u32_at(capture, 20) & 0xFFFF == ETHERNET
-}
-
-/// The little-endian number of two bytes at a place.
-fn u16_at(bytes: &[u8], at: usize) -> u16
-    requires { at + 2 ≤ length bytes.now }
-    ensures { result ≡ mirrored_number_at bytes.now at 2 }
-{
-    LittleEndian::read_u16(&bytes[at..])
-}
-
-/// The little-endian number of four bytes at a place.
-fn u32_at(bytes: &[u8], at: usize) -> u32
-    requires { at + 4 ≤ length bytes.now }
-    ensures { result ≡ mirrored_number_at bytes.now at 4 }
-{
-    LittleEndian::read_u32(&bytes[at..])
+        && mirrored_u32_at(capture, 0) == MAGIC
+        && mirrored_u16_at(capture, 4) == MAJOR_VERSION
+        && mirrored_u16_at(capture, 6) == MINOR_VERSION
+        && mirrored_u32_at(capture, 20) & 0xFFFF == ETHERNET
 }
 
 /// What stands next where some bytes of a capture are left.
@@ -109,7 +92,7 @@ pub fn next_record(left: &[u8]) -> Next<'_>
     if left.len() < RECORD_HEADER {
         return Next::Cut;
     }
-    let captured_len = u32_at(left, 8) as usize;
+    let captured_len = mirrored_u32_at(left, 8) as usize;
     let behind_header = &left[RECORD_HEADER..];
     if captured_len > MAX_RECORD_LEN || captured_len > behind_header.len() {
         return Next::Cut;

@@ -1,13 +1,9 @@
 -- Which numbers are numbers of a size.
-use Rattle.std.proofs.Common.{◌≡◌, ℕ, zero, suc, ◌*◌, ◌/◌, ◌^◌, ◌<◌, ◌≤◌, ◌==◌, true, nat_lt, refl, sym, ◌∙◌, inl, inr, arith}
-use Rattle.std.proofs.Math.Nat.{mul-suc, pow-suc, pow-le-pow_right, div-eq_of_lt}
-use Rattle.std.proofs.lemmas.Nat.{pow-add, pow_pos, le-div}
+use Rattle.std.proofs.Common.{◌≡◌, ℕ, ◌*◌, ◌/◌, ◌^◌, ◌<◌, ◌≤◌, ◌==◌, true, nat_lt, sym, ◌∙◌, inl, inr, arith}
+use Rattle.std.proofs.Math.Nat.{pow-le-pow_right, div-eq_of_lt}
+use Rattle.std.proofs.lemmas.Nat.{pow_pos, le-div}
 use Rattle.std.proofs.lemmas.Bool.{cases_lt, lt-ltb, le-ltb, eq-eqb, ne_eqb}
-
--- the numbers of a size are those of eight bits for each byte
-pub bytes_as_bits : (size : ℕ) → 2 ^ (8 * size) ≡ 256 ^ size
-bytes_as_bits zero = refl
-bytes_as_bits (suc n) = rw (mul-suc 8 n, pow-add 2 (8 * n) 8, pow-suc 256 n, bytes_as_bits n)
+use Rattle.byte_numbers.proofs.Powers.{bytes_as_bits}
 
 -- a number of 64 bits is a number of eight bytes and of more
 pub number_of_eight_bytes : (number size : ℕ) → number < 2 ^ 64 → 8 ≤ size → nat_lt number (256 ^ size) ≡ true

@@ -8,7 +8,7 @@ use Rattle.std.proofs.lemmas.Bool.{eqb-true, eq-eqb, leb-true, le-leb, ltb-true,
 use Rattle.field_defs.specs.declared.field.FieldValue.{FieldValue}
 use Rattle.field_defs.specs.declared.field.FieldValue.TheVariants.{Mask, Range, Bitmask}
 use Rattle.field_defs.specs.FieldMatch.{CanMatch, IsWild, is_wild}
-use Rattle.field_defs.proofs.Sizes.{bytes_as_bits}
+use Rattle.byte_numbers.proofs.Powers.{bytes_as_bits}
 
 -- a mask of no bits compares two zeros
 same_leading_no_bits : (value size x : ℕ) → value < 256 ^ size → x < 256 ^ size → x / 2 ^ (8 * size) ≡ value / 2 ^ (8 * size)

@@ -1,14 +1,14 @@
 //! The verdict of a rule set, by one pass over the list of its rules.
 
-ghost use Rattle.std.specs.Prelude.{◌≡◌, ◌<◌, ◌≤◌, ◌^◌, length, not, MatchOption, IsTrue};
+ghost use Rattle.std.specs.Prelude.{◌≡◌, ◌<◌, length, not, MatchOption, IsTrue};
 ghost use Rattle.std.specs.Int.Signed.{le_z};
-ghost use Rattle.byte_numbers.specs.Number.{number_of};
 ghost use Rattle.field_defs.specs.Layout.{key_len_of};
 ghost use Rattle.rule_set.specs.Rule.{CanMatchAll};
 ghost use Rattle.rule_set.specs.Winner.{rule_match, is_in_category, verdict};
 
 use crate::rule::RuleTag;
 use crate::set::RuleSet;
+use byte_numbers::network_number;
 use field_defs::{FieldDef, FieldValue, field_matches};
 
 /// The userdata of the first matching rule of greatest priority in the category, and 0 where no rule matches.
@@ -70,19 +70,6 @@ fn matches_key(defs: &[FieldDef], values: &[FieldValue], key: &[u8]) -> bool
         rest = behind;
     }
     true
-}
-
-/// The number that at most eight bytes spell in network order.
-fn network_number(bytes: &[u8]) -> u64
-    requires { length bytes.now ≤ 8 }
-    ensures number { result ≡ number_of bytes.now }
-    ensures bound { result < 256 ^ length bytes.now }
-{
-    let mut number = 0;
-    for byte in bytes {
-        number = number * 256 + u64::from(*byte);
-    }
-    number
 }
 
 #[cfg(test)]
