@@ -1,5 +1,5 @@
 pub mod Best
-pub mod Categories
+pub mod CategoryBits
 pub mod Fields
 pub mod Find
 pub mod Held

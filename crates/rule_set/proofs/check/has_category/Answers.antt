@@ -1,4 +1,4 @@
-use Rattle.rule_set.proofs.Categories.{some_category}
+use Rattle.rule_set.proofs.CategoryBits.{some_category}
 use Rattle.rule_set.proofs.check.has_category.Goals as goal
 
 pub returns : goal.returns
