@@ -1,3 +1,5 @@
+pub mod Categories
+pub mod CategoriesExamples
 pub mod Fault
 pub mod FaultExamples
 pub mod Limits

@@ -5,11 +5,13 @@
 //! After the DPDK Programmer's Guide, "Packet Classification and Access Control".
 #![tactic(auto)]
 
+mod categories;
 mod check;
 mod plain;
 mod rule;
 mod set;
 
+pub use categories::Categories;
 pub use check::{MAX_PRIORITY, RuleFault, check_rule};
 pub use plain::plain_verdict;
 pub use rule::{RuleTag, StoredRule};
