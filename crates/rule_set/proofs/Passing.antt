@@ -19,22 +19,22 @@ use Rattle.rule_set.specs.RuleSet.{IsRuleSet}
 use Rattle.rule_set.specs.Fault.{rule_fault, faults, first_of, fault_unless, failing_place, is_narrow, is_mask_short}
 
 -- where there is no first fault, no fault is there
-none_at : (options : List (Option RuleFault)) (i : ℕ) → first_of options ≡ None → get_or options i None ≡ None
+pub none_at : (options : List (Option RuleFault)) (i : ℕ) → first_of options ≡ None → get_or options i None ≡ None
 none_at [] i h = refl
 none_at (None ∷ options) zero h = refl
 none_at (None ∷ options) (suc i) h = none_at options i h
 none_at (Some fault ∷ options) i h = absurd (cc)
 
-passes_test : (test : Bool) (fault : RuleFault) → fault_unless test fault ≡ None → test ≡ true
+pub passes_test : (test : Bool) (fault : RuleFault) → fault_unless test fault ≡ None → test ≡ true
 passes_test true fault h = refl
 passes_test false fault h = absurd (cc)
 
-no_place : (fault : ℕ → RuleFault) (place : Option ℕ) → option_map fault place ≡ None → place ≡ None
+pub no_place : (fault : ℕ → RuleFault) (place : Option ℕ) → option_map fault place ≡ None → place ≡ None
 no_place fault None h = refl
 no_place fault (Some place) h = absurd (cc)
 
 -- where no place fails, each field and its value pass
-passes_at : (holds : FieldDef → FieldValue → Bool) (layout : List FieldDef) (values : List FieldValue) (i : ℕ) (d : FieldDef) (v : FieldValue) → failing_place holds layout values ≡ None → i < length layout → i < length values → holds (get_or layout i d) (get_or values i v) ≡ true
+pub passes_at : (holds : FieldDef → FieldValue → Bool) (layout : List FieldDef) (values : List FieldValue) (i : ℕ) (d : FieldDef) (v : FieldValue) → failing_place holds layout values ≡ None → i < length layout → i < length values → holds (get_or layout i d) (get_or values i v) ≡ true
 passes_at holds layout values i d v none h k =
     let fails : FieldDef × FieldValue → Bool = λ pair. not (holds pair.0 pair.1) in
     let pairs = zip layout values in
@@ -46,32 +46,9 @@ passes_at holds layout values i d v none h k =
     not-false _ (rw (get_or-zip layout values i (d, v) h k) at here)
 
 -- a relation at each place of two lists of one length
-all_zip_from_places : (R : FieldDef → FieldValue → Type 0) (layout : List FieldDef) (values : List FieldValue) (d : FieldDef) (v : FieldValue) → length values ≡ length layout → ((i : ℕ) → i < length layout → R (get_or layout i d) (get_or values i v)) → AllZip R layout values
+pub all_zip_from_places : (R : FieldDef → FieldValue → Type 0) (layout : List FieldDef) (values : List FieldValue) (d : FieldDef) (v : FieldValue) → length values ≡ length layout → ((i : ℕ) → i < length layout → R (get_or layout i d) (get_or values i v)) → AllZip R layout values
 all_zip_from_places R [] [] d v same each = tt
 all_zip_from_places R [] (value ∷ values) d v same each = absurd (omega (arith, same))
 all_zip_from_places R (def ∷ defs) [] d v same each = absurd (omega (arith, same))
 all_zip_from_places R (def ∷ defs) (value ∷ values) d v same each =
     (each 0 (omega arith), all_zip_from_places R defs values d v (omega (arith, same)) (λ i h. each (suc i) (omega arith)))
-
--- each value of a rule that isn't refused can be asked about the numbers of its field's size
-can_match_from_check : (layout : List FieldDef) (tag : RuleTag) (values : List FieldValue) → IsLayout layout → rule_fault layout tag values ≡ None → CanMatchAll layout values
-unfolding rule_fault
-can_match_from_check layout tag values lawful none_there =
-    let d : FieldDef = record { kind = kinds.Mask; size = 1; field_index = 0; input_index = 0; offset = 0 } in
-    let v : FieldValue = Mask 0 0 in
-    let none = none_at (faults layout tag values) in
-    let count : fault_unless (length values == length layout) FieldCount ≡ None = none 0 none_there in
-    let width : option_map FieldTooWide (failing_place is_narrow layout values) ≡ None = none 4 none_there in
-    let mask : option_map MaskTooLong (failing_place is_mask_short layout values) ≡ None = none 5 none_there in
-    let same : length values ≡ length layout = eqb-true _ _ (passes_test _ _ count) in
-    all_zip_from_places (λ (def : FieldDef) value. CanMatch value def.size) layout values d v same
-    (λ i h. record {
-      lawful_size = AllPass-from_list_all (λ (def : FieldDef). is_size def.size) layout lawful.sizes i d h;
-      within_size = passes_at is_narrow layout values i d v (no_place FieldTooWide _ width) h (omega (arith, same));
-      mask_within = passes_at is_mask_short layout values i d v (no_place MaskTooLong _ mask) h (omega (arith, same));
-    })
-
--- the same of each rule that a set holds
-pub can_match_held : (set : RuleSetView) (i : ℕ) (rule : RuleView) → IsRuleSet set → IsLayout set.layout → i < length set.rules → rule ≡ get_or set.rules i rule → CanMatchAll set.layout rule.fields
-can_match_held set i rule held layout h rule_is =
-    can_match_from_check set.layout rule.tag rule.fields layout (rw (← rule_is) at (held.lawful i rule h))

@@ -1,7 +1,10 @@
+pub mod Among
 pub mod Categories
 pub mod CategoriesExamples
 pub mod Fault
 pub mod FaultExamples
+pub mod Lawful
+pub mod Laws
 pub mod Limits
 pub mod Rule
 pub mod RuleSet

@@ -7,6 +7,7 @@
 
 mod categories;
 mod check;
+pub mod laws;
 mod plain;
 mod rule;
 mod set;

@@ -6,7 +6,7 @@ use Rattle.std.specs.Option.{option_map_or}
 use Rattle.rule_set.specs.declared.rule.RuleTag.{RuleTag}
 use Rattle.rule_set.specs.Winner.{applies, is_in_category, verdict}
 use Rattle.rule_set.proofs.Best.{IsBest-skip, IsBest-above, IsBest-not_above, verdict_of_best}
-use Rattle.rule_set.proofs.Passing.{can_match_held}
+use Rattle.rule_set.proofs.Lawful.{can_match_held}
 use Rattle.rule_set.proofs.plain.plain_verdict.Goals as goal
 use Rattle.rule_set.proofs.plain.plain_verdict.Goals.{then-is_in_category+then-is_above+then-matches_key, else-is_in_category, else-is_in_category-via-then-is_in_category+then-is_above+else-matches_key, else-is_in_category-via-then-is_in_category+else-is_above, else-is_in_category-via-else-is_in_category}
 
