@@ -1,15 +1,16 @@
 -- Where an answer changes from one byte to the next.
-use Rattle.std.proofs.Common.{◌≡◌, ◌≢◌, ℕ, ◌+◌, ◌-◌, ◌<◌, ◌≤◌, Bool, true, false, ◌&&◌, ◌||◌, not, cond, eqb, ltb, Option, Some, None, refl, sym, ◌∙◌, ap, inl, inr, arith}
+use Rattle.std.proofs.Common.{◌≡◌, ◌≢◌, ℕ, zero, suc, ◌+◌, ◌-◌, ◌<◌, ◌≤◌, Bool, true, false, ◌&&◌, ◌||◌, not, cond, eqb, ltb, Option, Some, None, refl, sym, ◌∙◌, ap, inl, inr, arith}
 use Rattle.std.specs.Prelude.{bit_and}
 use mathlib.Core.Bool.{beq}
 use Rattle.std.proofs.lemmas.Bool.{cases_lt, cases_order, cases_eq, lt-leb, le-leb, and_right, cond-false, lt-ltb, le-ltb, eq-eqb, ne_eqb, not-false, not_from_true}
 use Rattle.std.proofs.lemmas.Bool.Decides.{nat_tests}
+use Rattle.field_defs.specs.declared.field.FieldValue.{FieldValue}
 use Rattle.node_expand.specs.declared.edge.Edge.{Edge}
 use Rattle.node_expand.specs.declared.edge.Edge.TheVariants.{Free, Low, High, Both}
 use Rattle.node_expand.specs.declared.allowed.Allowed.TheVariants.{Between, Agreeing}
 use Rattle.node_expand.specs.Allowed.{answer_of}
-use Rattle.node_expand.specs.Edges.{edge_with, same_edge, same_answer, is_change, is_cut}
-use Rattle.node_expand.specs.Laws.{CutsAreChanges}
+use Rattle.node_expand.specs.Edges.{edge_with, same_edge, same_answer, is_change, is_cut, edge_step}
+use Rattle.node_expand.specs.Laws.{CutsAreChanges, UncutBytesAnswerAlike}
 
 -- an edge is itself
 same_edge-refl : (edge : Edge) → same_edge edge edge ≡ true
@@ -178,3 +179,18 @@ between_marks low high byte low_inner high_inner old filled below = rw (between_
 pub change_alike : (answer other : ℕ → Option Edge) (byte : ℕ) → answer byte ≡ other byte → answer (byte - 1) ≡ other (byte - 1) → is_change answer byte ≡ is_change other byte
 unfolding is_change
 change_alike answer other byte here before = rw (here, before) refl
+
+-- bytes with no cut between them have one answer
+uncut_from : (value : FieldValue) (size place : ℕ) (edge : Edge) (first more : ℕ) →
+    ((byte : ℕ) → first < byte → byte ≤ first + more → is_cut value size place edge byte ≡ false) →
+    edge_step value size place edge first ≡ edge_step value size place edge (first + more)
+uncut_from value size place edge first zero uncut = let here : first + 0 ≡ first = omega arith in rw here refl
+uncut_from value size place edge first (suc more) uncut =
+    let before : first + suc more - 1 ≡ first + more = omega arith in
+    let same = (cuts_are_changes value size place edge (first + suc more) (omega arith)).0 (uncut (first + suc more) (omega arith) (omega arith)) in
+    uncut_from value size place edge first more (λ byte above below. uncut byte above (omega arith)) ∙ sym (rw before at same)
+
+pub uncut_alike : UncutBytesAnswerAlike
+uncut_alike value size place edge first last ordered uncut =
+    let end : first + (last - first) ≡ last = omega arith in
+    rw end at (uncut_from value size place edge first (last - first) (λ byte above below. uncut byte above (omega arith)))

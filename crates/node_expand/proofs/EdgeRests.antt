@@ -8,7 +8,7 @@ use Rattle.field_defs.specs.declared.field.FieldValue.TheVariants.{Mask, Range, 
 use Rattle.node_expand.specs.declared.edge.Edge.{Edge}
 use Rattle.node_expand.specs.Rest.{Rest, Interval, Live, part, mask_low, mask_high, live_where, open_rest, rest_after}
 use Rattle.node_expand.specs.Edges.{edge_with, edge_of, has_low, has_high, edge_after, StandsBefore, interval_at, open_rest_of, rest_of}
-use Rattle.node_expand.specs.Laws.{EdgesSayRests}
+use Rattle.node_expand.specs.Laws.{EdgesSayRests, EdgesAreOneWhereRestsAre}
 use Rattle.node_expand.proofs.Parts.{part_none, part_some}
 use Rattle.node_expand.proofs.Ranges.{rest_whole, rest_open, count_pos}
 
@@ -120,3 +120,12 @@ edges_say value size place prefix within = back (rest_after value size place pre
     back : (found : Option Rest) → rest_after value size place prefix ≡ found → option_map (rest_of value size place) (option_map (edge_of (256 ^ (size - place))) found) ≡ found
     back None is = refl
     back (Some before) is = ap Some (rest_says value size place prefix before within is)
+
+-- two edges that stand before a place are one where their rests are
+pub edges_are_one : EdgesAreOneWhereRestsAre
+edges_are_one value size place one other within stands other_stands = (
+  ap (rest_of value size place),
+  λ same. sym (rest_says_edge value size place one within stands)
+      ∙ ap (edge_of (256 ^ (size - place))) same
+      ∙ rest_says_edge value size place other within other_stands,
+)

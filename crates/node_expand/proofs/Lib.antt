@@ -8,3 +8,6 @@ pub mod Changes
 pub mod Masks
 pub mod Bytes
 pub mod Standing
+pub mod Compared
+pub mod AsRange
+pub mod Free

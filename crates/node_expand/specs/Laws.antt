@@ -1,11 +1,13 @@
 -- Laws of rests and edges, over the definitions alone.
-use Rattle.std.specs.Prelude.{◌≡◌, ℕ, ◌+◌, ◌-◌, ◌*◌, ◌<◌, ◌≤◌, ◌↔◌, List, length, All, false, true, Some, IsSome}
+use Rattle.std.specs.Prelude.{◌≡◌, ℕ, ◌+◌, ◌-◌, ◌*◌, ◌^◌, ◌<◌, ◌≤◌, ◌↔◌, List, length, All, false, true, Some, IsSome}
 use Rattle.std.specs.Option.{option_and_then}
 use Rattle.byte_numbers.specs.Number.{number_of}
 use Rattle.field_defs.specs.declared.field.FieldValue.{FieldValue}
-use Rattle.field_defs.specs.FieldMatch.{field_match}
+use Rattle.field_defs.specs.declared.field.FieldValue.TheVariants.{Mask, Range}
+use Rattle.field_defs.specs.FieldMatch.{field_match, CanMatch, is_wild}
 use Rattle.node_expand.specs.declared.edge.Edge.{Edge}
-use Rattle.node_expand.specs.Rest.{Interval, live_where, count_of, rest_after, rest_step, rest_through}
+use Rattle.node_expand.specs.declared.edge.Edge.TheVariants.{Free}
+use Rattle.node_expand.specs.Rest.{Rest, Interval, live_where, count_of, as_range, same_rest, rest_after, rest_step, rest_through}
 use Rattle.node_expand.specs.Edges.{edge_of, rest_of, edge_after, edge_step, StandsBefore, is_cut}
 
 -- The number that the prefix and the number of the bytes behind it make matches.
@@ -45,3 +47,47 @@ pub record EdgesSayRests : Type 0 where
 abbrev pub CutsAreChanges : Type 0
 CutsAreChanges = (value : FieldValue) (size place : ℕ) (edge : Edge) (byte : ℕ) → 0 < byte →
     ((is_cut value size place edge byte ≡ false) ↔ (edge_step value size place edge byte ≡ edge_step value size place edge (byte - 1)))
+
+-- Two edges that stand before a place are one exactly where the rests that they stand for are.
+abbrev pub EdgesAreOneWhereRestsAre : Type 0
+EdgesAreOneWhereRestsAre =
+    (value : FieldValue) (size place : ℕ) (one other : Edge) → place ≤ size →
+    StandsBefore value size place one → StandsBefore value size place other →
+    (one ≡ other ↔ rest_of value size place one ≡ rest_of value size place other)
+
+-- Two rests are one exactly where the comparison says so.
+abbrev pub RestsAreCompared : Type 0
+RestsAreCompared = (one other : Rest) → (same_rest one other ≡ true ↔ one ≡ other)
+
+-- Bytes with no cut between them have one answer.
+abbrev pub UncutBytesAnswerAlike : Type 0
+UncutBytesAnswerAlike =
+    (value : FieldValue) (size place : ℕ) (edge : Edge) (first last : ℕ) → first ≤ last →
+    ((byte : ℕ) → first < byte → byte ≤ last → is_cut value size place edge byte ≡ false) →
+    edge_step value size place edge first ≡ edge_step value size place edge last
+
+-- A wild value leaves all numbers after any bytes, so its edge is free there and after one more.
+pub record WildValuesStayFree : Type 0 where
+  pub edge : (value : FieldValue) (size place prefix : ℕ) → CanMatch value size → is_wild value size ≡ true →
+      place ≤ size → prefix < 256 ^ place → edge_after value size place prefix ≡ Some Free
+  pub step : (value : FieldValue) (size place byte : ℕ) → CanMatch value size → is_wild value size ≡ true →
+      place < size → byte < 256 → edge_step value size place Free byte ≡ Some Free
+
+-- Where a mask or a range leaves all numbers, it leaves all of one byte less after every byte.
+pub record FreeEdgesStayFree : Type 0 where
+  pub mask : (value bits size place byte : ℕ) → place < size → byte < 256 →
+      edge_step (Mask value bits) size place Free byte ≡ Some Free
+  pub range : (low high size place byte : ℕ) → place < size → byte < 256 →
+      edge_step (Range low high) size place Free byte ≡ Some Free
+
+-- A mask is the range of the numbers that it lets through, in all that is said of values here.
+pub record IsAsItsRange (value : FieldValue) (size : ℕ) : Type 0 where
+  pub matches : (number : ℕ) → field_match (as_range value size) size number ≡ field_match value size number
+  pub rest : (place prefix : ℕ) → rest_after (as_range value size) size place prefix ≡ rest_after value size place prefix
+  pub edge : (place prefix : ℕ) → edge_after (as_range value size) size place prefix ≡ edge_after value size place prefix
+  pub stands : (place : ℕ) (edge : Edge) → (StandsBefore (as_range value size) size place edge ↔ StandsBefore value size place edge)
+  pub step : (place byte : ℕ) (edge : Edge) → edge_step (as_range value size) size place edge byte ≡ edge_step value size place edge byte
+  pub cut : (place byte : ℕ) (edge : Edge) → is_cut (as_range value size) size place edge byte ≡ is_cut value size place edge byte
+
+abbrev pub ValuesAreTheirRanges : Type 0
+ValuesAreTheirRanges = (value : FieldValue) (size : ℕ) → IsAsItsRange value size

@@ -1,7 +1,7 @@
 -- What a rule still allows of a field of which the leading bytes are read. A key is read byte by byte in network order
 -- (RFC 791, appendix B), so the bytes of a field that are read spell a prefix of its number, and the bytes that are not
 -- read spell the rest of it. Kinds of fields: DPDK Programmer's Guide, ACL field types (mask, range, bitmask).
-use Rattle.std.specs.Prelude.{ℕ, ◌+◌, ◌-◌, ◌*◌, ◌/◌, ◌%◌, ◌^◌, ◌==◌, min, max, List, [], ◌∷◌, Bool, nat_le, bit_and, Option, Some, None, if◌then◌else◌}
+use Rattle.std.specs.Prelude.{ℕ, ◌+◌, ◌-◌, ◌*◌, ◌/◌, ◌%◌, ◌^◌, ◌==◌, min, max, List, [], ◌∷◌, Bool, true, false, ◌&&◌, nat_le, bit_and, Option, Some, None, if◌then◌else◌}
 use Rattle.std.specs.Option.{option_and_then}
 use Rattle.field_defs.specs.declared.field.FieldValue.{FieldValue}
 use Rattle.field_defs.specs.declared.field.FieldValue.TheVariants.{Mask, Range, Bitmask}
@@ -31,6 +31,19 @@ mask_low value bits size = value / 2 ^ (8 * size - bits) * 2 ^ (8 * size - bits)
 -- the greatest number that has them
 unfoldable pub mask_high : ℕ → ℕ → ℕ → ℕ
 mask_high value bits size = value / 2 ^ (8 * size - bits) * 2 ^ (8 * size - bits) + (2 ^ (8 * size - bits) - 1)
+
+-- the value as a range: that of a mask has the numbers that the mask lets through
+abbrev pub as_range : FieldValue → ℕ → FieldValue
+as_range (Mask value bits) size = Range (mask_low value bits size) (mask_high value bits size)
+as_range (Range low high) size = Range low high
+as_range (Bitmask value mask) size = Bitmask value mask
+
+-- two rests are one
+abbrev pub same_rest : Rest → Rest → Bool
+same_rest (Interval low high) (Interval other_low other_high) = low == other_low && high == other_high
+same_rest Live Live = true
+same_rest (Interval low high) Live = false
+same_rest Live (Interval low high) = false
 
 -- live where the test passes
 abbrev pub live_where : Bool → Option Rest

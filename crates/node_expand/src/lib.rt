@@ -10,10 +10,9 @@
 mod allowed;
 mod edge;
 mod expand;
-mod laws;
+pub mod laws;
 #[cfg(test)]
 mod tests;
 
 pub use edge::Edge;
 pub use expand::{cuts, start_edge, step_edge};
-pub use laws::{cuts_law, edges_law, rests_law, steps_law};
