@@ -5,7 +5,7 @@ use Rattle.std.specs.Option.{option_and_then}
 use Rattle.std.proofs.Math.Nat.{pow-suc, div-one, mul_comm, div-div-eq-div-mul}
 use Rattle.std.proofs.Math.Arith.{mod-mul}
 use Rattle.std.proofs.lemmas.Nat.{pow_pos, pow-add, div-add-mod', mod_below, and_block, same_from_place, and_le_l, div-mul-add}
-use Rattle.std.proofs.lemmas.Bool.{cases_eq, cases_Bool, eq-eqb, ne_eqb}
+use Rattle.std.proofs.lemmas.Bool.{cases_eq, cases_Bool, eq-eqb, ne_eqb, lt-ltb}
 use Rattle.field_defs.specs.declared.field.FieldValue.TheVariants.{Bitmask}
 use Rattle.node_expand.specs.Rest.{live_where, rest_after, rest_step}
 use Rattle.node_expand.proofs.Ranges.{rest_whole, rest_open, count_pos}
@@ -94,6 +94,6 @@ bitmask_step value mask size place prefix byte begun below =
       agree_in_two value mask count prefix byte (count_pos left) below,
     )
     (elim (cases_Bool (agrees value mask (256 * count) prefix)) [
-      | inl agree ↦ rw (agree, behind, block) (sym (bitmask_rest _ _ (suc left) 1 byte left (omega arith)))
+      | inl agree ↦ rw (agree, lt-ltb place size begun, behind, block) (sym (bitmask_rest _ _ (suc left) 1 byte left (omega arith)))
       | inr differ ↦ rw differ refl
     ])

@@ -6,7 +6,7 @@ use Rattle.std.proofs.Math.Nat.{pow-suc, mul_comm, zero-mod, le_trans, div-mul-l
 use Rattle.std.proofs.Math.Arith.{mod-mul}
 use Rattle.std.proofs.Math.Pow.{ones_split}
 use Rattle.std.proofs.lemmas.Nat.{pow_pos, div-add-mod', mod_below, mod-mul-add, le-div}
-use Rattle.std.proofs.lemmas.Bool.{cases_lt, cases_eq, le-leb, lt-leb, le-ltb, eq-eqb, ne_eqb}
+use Rattle.std.proofs.lemmas.Bool.{cases_lt, cases_eq, le-leb, lt-leb, lt-ltb, le-ltb, eq-eqb, ne_eqb}
 use Rattle.std.proofs.lemmas.Bool.Decides.{nat_tests}
 use Rattle.field_defs.specs.declared.field.FieldValue.{FieldValue}
 use Rattle.field_defs.specs.declared.field.FieldValue.TheVariants.{Mask, Range, Bitmask}
@@ -216,7 +216,7 @@ agreeing_answer value mask size place byte edge begun =
     let numbers : 256 ^ (size - place) ≡ 256 * count = rw behind block in
     let value_byte = byte_of_end value count (count_pos left) in
     let mask_byte = byte_of_end mask count (count_pos left) in
-    rw (rest_of_open (Bitmask value mask) size place edge begun, bitmask_rest (value % 256 ^ (size - place)) (mask % 256 ^ (size - place)) (size - place) 1 byte left (omega arith), numbers)
+    rw (rest_of_open (Bitmask value mask) size place edge begun, lt-ltb place size begun, bitmask_rest (value % 256 ^ (size - place)) (mask % 256 ^ (size - place)) (size - place) 1 byte left (omega arith), numbers)
     (sym (edge_of_live count _ ∙ rw (value_byte, mask_byte) refl))
 
 -- the sizes of a field

@@ -1,5 +1,5 @@
 -- Where an answer changes from one byte to the next.
-use Rattle.std.proofs.Common.{◌≡◌, ◌≢◌, ℕ, zero, suc, ◌+◌, ◌-◌, ◌<◌, ◌≤◌, Bool, true, false, ◌&&◌, ◌||◌, not, cond, eqb, ltb, Option, Some, None, refl, sym, ◌∙◌, ap, inl, inr, arith}
+use Rattle.std.proofs.Common.{◌≡◌, ◌≢◌, ℕ, zero, suc, ◌+◌, ◌-◌, ◌<◌, ◌≤◌, max, Bool, true, false, ◌&&◌, ◌||◌, not, cond, eqb, ltb, Option, Some, None, IsSome, refl, sym, ◌∙◌, ap, inl, inr, arith}
 use Rattle.std.specs.Prelude.{bit_and}
 use mathlib.Core.Bool.{beq}
 use Rattle.std.proofs.lemmas.Bool.{cases_lt, cases_order, cases_eq, lt-leb, le-leb, and_right, cond-false, lt-ltb, le-ltb, eq-eqb, ne_eqb, not-false, not_from_true}
@@ -8,8 +8,8 @@ use Rattle.field_defs.specs.declared.field.FieldValue.{FieldValue}
 use Rattle.node_expand.specs.declared.edge.Edge.{Edge}
 use Rattle.node_expand.specs.declared.edge.Edge.TheVariants.{Free, Low, High, Both}
 use Rattle.node_expand.specs.declared.allowed.Allowed.TheVariants.{Between, Agreeing}
-use Rattle.node_expand.specs.Allowed.{answer_of}
-use Rattle.node_expand.specs.Edges.{edge_with, same_edge, same_answer, is_change, is_cut, edge_step}
+use Rattle.node_expand.specs.Allowed.{answer_of, between, IsBetween}
+use Rattle.node_expand.specs.Edges.{edge_with, same_edge, same_answer, is_change, is_cut, edge_step, AreEnds, AnswersWithin}
 use Rattle.node_expand.specs.Laws.{CutsAreChanges, UncutBytesAnswerAlike}
 
 -- an edge is itself
@@ -20,7 +20,7 @@ same_edge-refl High = refl
 same_edge-refl Both = refl
 
 -- edges that pass as one are one
-one_edge : (one other : Edge) → same_edge one other ≡ true → one ≡ other
+pub one_edge : (one other : Edge) → same_edge one other ≡ true → one ≡ other
 one_edge Free Free is = refl
 one_edge Low Low is = refl
 one_edge High High is = refl
@@ -69,13 +69,51 @@ marked_more change byte place old =
       ]
     ]
 
--- before the first byte none is marked
-pub marked_none : (answer : ℕ → Option Edge) (place : ℕ) (old : Bool) → old ≡ ((ltb place 1 && is_change answer place) || old)
+-- nothing that isn't there is found
+none_from : (found : Option Edge) → (IsSome found → ⊥) → found ≡ None
+none_from None never = refl
+none_from (Some edge) never = absurd (never refl)
+
+-- two bytes without an answer are no change
+no_change : (answer : ℕ → Option Edge) (byte : ℕ) → answer byte ≡ None → answer (byte - 1) ≡ None → is_change answer byte ≡ false
 unfolding is_change
-marked_none answer place old =
-    elim (cases_lt place 1) [
-      | inl first ↦ let is : place ≡ 0 = omega arith in rw is refl
-      | inr behind ↦ rw (le-ltb place 1 behind) refl
+no_change answer byte here before = rw (here, before) (and_right (ltb 0 byte) false refl)
+
+-- the first byte is no change
+is_change_first : (answer : ℕ → Option Edge) (byte : ℕ) → byte ≡ 0 → is_change answer byte ≡ false
+unfolding is_change
+is_change_first answer byte first = rw first refl
+
+-- nothing changes before the first answer
+pub unchanged_before : (answer : ℕ → Option Edge) (first last byte : ℕ) → AreEnds answer first last → byte < 256 → byte < max first 1 → is_change answer byte ≡ false
+unchanged_before answer first last byte ends below before =
+    elim (cases_eq byte 0) [
+      | inl start ↦ is_change_first answer byte start
+      | inr behind ↦ no_change answer byte
+          (none_from (answer byte) (λ some. omega (arith, (ends.none_outside byte below some).0)))
+          (none_from (answer (byte - 1)) (λ some. omega (arith, (ends.none_outside (byte - 1) (omega arith) some).0)))
+    ]
+
+-- nor behind the byte after the last one
+pub unchanged_behind : (answer : ℕ → Option Edge) (first last byte : ℕ) → AreEnds answer first last → byte < 256 → last + 2 ≤ byte → is_change answer byte ≡ false
+unchanged_behind answer first last byte ends below behind = no_change answer byte
+    (none_from (answer byte) (λ some. omega (arith, (ends.none_outside byte below some).1)))
+    (none_from (answer (byte - 1)) (λ some. omega (arith, (ends.none_outside (byte - 1) (omega arith) some).1)))
+
+-- where nothing changes below a byte none is marked
+pub marked_none : (change : ℕ → Bool) (byte place : ℕ) (old : Bool) → (place < byte → change place ≡ false) → old ≡ ((ltb place byte && change place) || old)
+marked_none change byte place old none =
+    elim (cases_lt place byte) [
+      | inl before ↦ rw (none before, and_right (ltb place byte) false refl) refl
+      | inr behind ↦ rw (le-ltb place byte behind) refl
+    ]
+
+-- and where nothing changes from a byte on, all are marked
+pub marked_all : (change : ℕ → Bool) (byte place : ℕ) (old : Bool) → (byte ≤ place → change place ≡ false) → ((ltb place byte && change place) || old) ≡ (change place || old)
+marked_all change byte place old none =
+    elim (cases_lt place byte) [
+      | inl before ↦ rw (lt-ltb place byte before) refl
+      | inr behind ↦ rw (none behind, and_right (ltb place byte) false refl) refl
     ]
 
 -- what the bytes between two ends answer
@@ -92,6 +130,41 @@ module _ (low high : ℕ) (low_inner high_inner : Bool) where
   unfolding answer_of
   answer_within byte above below = rw (le-leb low byte above, le-leb byte high below) refl
 
+-- the ends are the first and the last byte with an answer
+pub between_ends : (low high : ℕ) (low_inner high_inner : Bool) → low ≤ high → AreEnds (answer_of (Between low high low_inner high_inner)) low high
+between_ends low high low_inner high_inner filled = record {
+  first_answers = rw (answer_within low high low_inner high_inner low (omega arith) filled) refl;
+  last_answers = rw (answer_within low high low_inner high_inner high filled (omega arith)) refl;
+  ordered = filled;
+  none_outside = λ byte below some. elim (cases_lt byte low) [
+    | inl before ↦ absurd (let none = rw (answer_below low high low_inner high_inner byte before) at some in cc)
+    | inr reached ↦ elim (cases_lt high byte) [
+      | inl behind ↦ absurd (let none = rw (answer_above low high low_inner high_inner byte behind) at some in cc)
+      | inr within ↦ (reached, within)
+    ]
+  ];
+}
+
+pub between_within : (low high : ℕ) (low_inner high_inner : Bool) → AnswersWithin (answer_of (Between low high low_inner high_inner)) low high
+between_within low high low_inner high_inner byte above below = rw (answer_within low high low_inner high_inner byte above below) refl
+
+-- what the ends of some numbers allow lies between two bytes
+pub ends_between : (low high unit : ℕ) → IsBetween (between low high unit)
+unfolding between
+ends_between low high unit = tt
+
+-- what answers alike has the same ends
+pub ends_alike : (answer other : ℕ → Option Edge) (first last : ℕ) → ((byte : ℕ) → byte < 256 → answer byte ≡ other byte) → last < 256 → AreEnds answer first last → AreEnds other first last
+ends_alike answer other first last alike below ends = record {
+  first_answers = rw (← alike first (omega (arith, ends.ordered))) ends.first_answers;
+  last_answers = rw (← alike last below) ends.last_answers;
+  ordered = ends.ordered;
+  none_outside = λ byte within some. ends.none_outside byte within (rw (alike byte within) some);
+}
+
+pub within_alike : (answer other : ℕ → Option Edge) (first last : ℕ) → ((byte : ℕ) → byte < 256 → answer byte ≡ other byte) → last < 256 → AnswersWithin answer first last → AnswersWithin other first last
+within_alike answer other first last alike below within byte above at_most = rw (← alike byte (omega arith)) (within byte above at_most)
+
 -- behind the first byte only the two answers count
 is_change_behind : (answer : ℕ → Option Edge) (byte : ℕ) → 0 < byte → is_change answer byte ≡ not (same_answer (answer byte) (answer (byte - 1)))
 unfolding is_change
@@ -103,11 +176,6 @@ edges_differ false false = refl
 edges_differ true false = refl
 edges_differ false true = refl
 edges_differ true true = refl
-
--- the first byte is no change
-is_change_first : (answer : ℕ → Option Edge) (byte : ℕ) → byte ≡ 0 → is_change answer byte ≡ false
-unfolding is_change
-is_change_first answer byte first = rw first refl
 
 -- the marks of the bytes between two ends: at the lower end and behind the upper one, and next to an inner end within
 abbrev pub is_marked : ℕ → ℕ → Bool → Bool → ℕ → Bool

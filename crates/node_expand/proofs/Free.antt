@@ -1,23 +1,25 @@
 -- Where a value leaves all numbers it leaves all of them after more bytes.
-use Rattle.std.proofs.Common.{◌≡◌, ℕ, zero, suc, ◌+◌, ◌-◌, ◌*◌, ◌/◌, ◌^◌, ◌<◌, ◌≤◌, min, max, ◌==◌, ◌&&◌, true, nat_le, Option, Some, None, refl, sym, ◌∙◌, ap, arith}
+use Rattle.std.proofs.Common.{◌≡◌, ℕ, zero, suc, ◌+◌, ◌-◌, ◌*◌, ◌/◌, ◌^◌, ◌<◌, ◌≤◌, min, max, ◌==◌, ◌&&◌, not, true, false, ltb, nat_le, Option, Some, None, refl, sym, ◌∙◌, ap, arith}
 use Rattle.std.specs.Prelude.{bit_and}
 use Rattle.std.specs.Option.{option_map}
 use Rattle.std.specs.Int.Bits.{and_zero_r}
 use Rattle.std.proofs.Math.Nat.{pow-suc, sub-zero, div-eq_of_lt, zero-div, mul-le-mul_right, one-le-pow}
 use Rattle.std.proofs.Math.Numerals.{add-one}
 use Rattle.std.proofs.lemmas.Nat.{pow-add, pow_pos}
-use Rattle.std.proofs.lemmas.Bool.{and_parts, eqb-true, leb-true, ltb-true, le-ltb}
+use Rattle.std.proofs.lemmas.Bool.{and_parts, and_right, eqb-true, leb-true, ltb-true, le-ltb, false≢true}
 use Rattle.field_defs.specs.declared.field.FieldValue.{FieldValue}
 use Rattle.field_defs.specs.declared.field.FieldValue.TheVariants.{Mask, Range, Bitmask}
 use Rattle.field_defs.specs.FieldMatch.{CanMatch, is_wild}
+use Rattle.node_expand.specs.declared.edge.Edge.{Edge}
 use Rattle.node_expand.specs.declared.edge.Edge.TheVariants.{Free}
 use Rattle.node_expand.specs.Rest.{Rest, Interval, Live, part, mask_low, mask_high, rest_after, rest_step}
-use Rattle.node_expand.specs.Edges.{edge_with, edge_of, rest_of, edge_after, edge_step}
+use Rattle.node_expand.specs.Edges.{edge_with, edge_of, rest_of, edge_after, edge_step, same_edge, is_change, is_cut, is_bitmask, AreEnds, AnswersWithin}
 use Rattle.node_expand.specs.Laws.{WildValuesStayFree, FreeEdgesStayFree}
 use Rattle.node_expand.proofs.Parts.{part_some}
 use Rattle.node_expand.proofs.Ranges.{closing, count_pos, range_rest, rest_as_range}
 use Rattle.node_expand.proofs.Bits.{count_as_bits, bitmask_rest}
 use Rattle.node_expand.proofs.EdgeRests.{rest_of_open}
+use Rattle.node_expand.proofs.Changes.{one_edge}
 use Rattle.node_expand.proofs.AsRange.{as_its_range}
 use Rattle.node_expand.proofs.Standing.{step_form}
 
@@ -100,3 +102,35 @@ free_stays_free = record {
       sym ((as_its_range (Mask value bits) size).step place byte Free) ∙ free_step _ _ size place byte begun below;
   range = free_step;
 }
+
+-- where an interval is left of which neither end is inner, each byte leaves one again
+pub all_left_step : (value : FieldValue) (size place byte : ℕ) (edge : Edge) → (same_edge edge Free && not (is_bitmask value)) ≡ true →
+    place < size → byte < 256 → edge_step value size place edge byte ≡ Some Free
+all_left_step (Mask value bits) size place byte edge all begun below =
+    rw (one_edge edge Free (and_parts (same_edge edge Free) true all).0) (free_stays_free.mask value bits size place byte begun below)
+all_left_step (Range low high) size place byte edge all begun below =
+    rw (one_edge edge Free (and_parts (same_edge edge Free) true all).0) (free_step low high size place byte begun below)
+all_left_step (Bitmask value mask) size place byte edge all begun below = absurd (false≢true (and_parts (same_edge edge Free) false all).1)
+
+-- so there is no cut
+pub all_left_uncut : (value : FieldValue) (size place byte : ℕ) (edge : Edge) → (same_edge edge Free && not (is_bitmask value)) ≡ true →
+    place < size → byte < 256 → is_cut value size place edge byte ≡ false
+unfolding is_cut is_change
+all_left_uncut value size place byte edge all begun below =
+    rw (all_left_step value size place byte edge all begun below, all_left_step value size place (byte - 1) edge all begun (omega arith))
+    (and_right (ltb 0 byte) false refl)
+
+-- and the ends are the outermost bytes
+pub all_left_ends : (value : FieldValue) (size place : ℕ) (edge : Edge) → (same_edge edge Free && not (is_bitmask value)) ≡ true →
+    place < size → AreEnds (edge_step value size place edge) 0 255
+all_left_ends value size place edge all begun = record {
+  first_answers = rw (all_left_step value size place 0 edge all begun (omega arith)) refl;
+  last_answers = rw (all_left_step value size place 255 edge all begun (omega arith)) refl;
+  ordered = omega arith;
+  none_outside = λ byte below some. (omega arith, omega arith);
+}
+
+pub all_left_within : (value : FieldValue) (size place : ℕ) (edge : Edge) → (same_edge edge Free && not (is_bitmask value)) ≡ true →
+    place < size → AnswersWithin (edge_step value size place edge) 0 255
+all_left_within value size place edge all begun byte above below =
+    rw (all_left_step value size place byte edge all begun (omega arith)) refl

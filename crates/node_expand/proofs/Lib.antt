@@ -11,3 +11,4 @@ pub mod Standing
 pub mod Compared
 pub mod AsRange
 pub mod Free
+pub mod Agreeing

@@ -26,7 +26,7 @@ range_start low high size lawful filled within =
     rw (rest_open (Range low high) size 0 0 lawful, all, part_some low high (256 ^ size) 0 (omega arith), first, last) refl
 
 -- the numbers of a mask are numbers of its field
-mask_within : (value bits size : ℕ) → bits ≤ 8 * size → value < 256 ^ size → mask_high value bits size < 256 ^ size
+pub mask_within : (value bits size : ℕ) → bits ≤ 8 * size → value < 256 ^ size → mask_high value bits size < 256 ^ size
 unfolding mask_high
 mask_within value bits size within fits =
     let parts : bits + (8 * size - bits) ≡ 8 * size = omega arith in
@@ -36,7 +36,7 @@ mask_within value bits size within fits =
     rw (count_as_bits size) (omega (arith, whole, mul-le-mul_right (2 ^ (8 * size - bits)) quotient, pow_pos (8 * size - bits)))
 
 -- a mask lets some number through
-mask_filled : (value bits size : ℕ) → mask_low value bits size ≤ mask_high value bits size
+pub mask_filled : (value bits size : ℕ) → mask_low value bits size ≤ mask_high value bits size
 unfolding mask_low mask_high
 mask_filled value bits size = omega arith
 

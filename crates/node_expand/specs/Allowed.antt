@@ -1,5 +1,5 @@
 -- What the bytes allowed at one place answer.
-use Rattle.std.specs.Prelude.{ℕ, ◌-◌, ◌≤◌, ◌/◌, ◌%◌, ◌==◌, ◌&&◌, nat_lt, nat_le, bit_and, Option, Some, None, if◌then◌else◌}
+use Rattle.std.specs.Prelude.{◌≡◌, ℕ, ◌-◌, ◌≤◌, ◌/◌, ◌%◌, ◌==◌, ◌&&◌, nat_lt, nat_le, bit_and, Option, Some, None, if◌then◌else◌}
 use Rattle.node_expand.specs.declared.allowed.Allowed.{Allowed}
 use Rattle.node_expand.specs.declared.allowed.Allowed.TheVariants.{Between, Agreeing}
 use Rattle.node_expand.specs.declared.edge.Edge.{Edge}
@@ -15,7 +15,12 @@ answer_of (Agreeing value mask) byte = if bit_and byte mask == value then Some F
 -- some byte is allowed
 abbrev pub IsFilled : Allowed → Type 0
 IsFilled (Between low high low_inner high_inner) = low ≤ high
-IsFilled (Agreeing value mask) = Unit {0}
+IsFilled (Agreeing value mask) = bit_and value mask ≡ value
+
+-- the bytes are those between two ends
+abbrev pub IsBetween : Allowed → Type 0
+IsBetween (Between low high low_inner high_inner) = Unit {0}
+IsBetween (Agreeing value mask) = ⊥
 
 -- the bytes that the numbers from low to high have before their last `unit`th part, of which each end keeps its own
 unfoldable pub between : ℕ → ℕ → ℕ → Allowed

@@ -1,6 +1,6 @@
 -- What an edge says of a rest, and the rest that it stands for. A rule's value fixes the inner ends of its rests: the
 -- lower end, where it is inner, is what the lowest matching number ends with, and the upper end goes likewise.
-use Rattle.std.specs.Prelude.{◌≡◌, ℕ, ◌+◌, ◌-◌, ◌%◌, ◌^◌, ◌<◌, ◌==◌, Bool, true, false, ◌&&◌, not, nat_lt, Option, Some, None, if◌then◌else◌}
+use Rattle.std.specs.Prelude.{◌≡◌, ℕ, ◌+◌, ◌-◌, ◌%◌, ◌^◌, ◌<◌, ◌≤◌, ◌==◌, Bool, true, false, ◌&&◌, not, nat_lt, Option, Some, None, IsSome, if◌then◌else◌}
 use Rattle.std.specs.Option.{option_map}
 use Rattle.field_defs.specs.declared.field.FieldValue.{FieldValue}
 use Rattle.field_defs.specs.declared.field.FieldValue.TheVariants.{Mask, Range, Bitmask}
@@ -87,3 +87,20 @@ is_change answer byte = nat_lt 0 byte && not (same_answer (answer byte) (answer 
 -- the step at the byte answers otherwise than at the byte before it
 unfoldable pub is_cut : FieldValue → ℕ → ℕ → Edge → ℕ → Bool
 is_cut value size place edge byte = is_change (edge_step value size place edge) byte
+
+-- The first and the last byte at which there is an answer.
+pub record AreEnds (answer : ℕ → Option Edge) (first last : ℕ) : Type 0 where
+  pub first_answers : IsSome (answer first)
+  pub last_answers : IsSome (answer last)
+  pub ordered : first ≤ last
+  pub none_outside : (byte : ℕ) → byte < 256 → IsSome (answer byte) → (first ≤ byte) × (byte ≤ last)
+
+-- there is an answer at each byte from the one to the other
+abbrev pub AnswersWithin : (ℕ → Option Edge) → ℕ → ℕ → Type 0
+AnswersWithin answer first last = (byte : ℕ) → first ≤ byte → byte ≤ last → IsSome (answer byte)
+
+-- the value is a bitmask, which leaves no interval
+abbrev pub is_bitmask : FieldValue → Bool
+is_bitmask (Mask value bits) = false
+is_bitmask (Range low high) = false
+is_bitmask (Bitmask value mask) = true

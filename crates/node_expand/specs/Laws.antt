@@ -4,7 +4,7 @@ use Rattle.std.specs.Option.{option_and_then}
 use Rattle.byte_numbers.specs.Number.{number_of}
 use Rattle.field_defs.specs.declared.field.FieldValue.{FieldValue}
 use Rattle.field_defs.specs.declared.field.FieldValue.TheVariants.{Mask, Range}
-use Rattle.field_defs.specs.FieldMatch.{field_match, CanMatch, is_wild}
+use Rattle.field_defs.specs.FieldMatch.{field_match, CanMatch, is_range_filled, is_wild}
 use Rattle.node_expand.specs.declared.edge.Edge.{Edge}
 use Rattle.node_expand.specs.declared.edge.Edge.TheVariants.{Free}
 use Rattle.node_expand.specs.Rest.{Rest, Interval, live_where, count_of, as_range, same_rest, rest_after, rest_step, rest_through}
@@ -82,6 +82,9 @@ pub record FreeEdgesStayFree : Type 0 where
 
 -- A mask is the range of the numbers that it lets through, in all that is said of values here.
 pub record IsAsItsRange (value : FieldValue) (size : ℕ) : Type 0 where
+  pub lawful : CanMatch value size → CanMatch (as_range value size) size
+  pub filled : is_range_filled value ≡ true → is_range_filled (as_range value size) ≡ true
+  pub wild : CanMatch value size → is_wild (as_range value size) size ≡ is_wild value size
   pub matches : (number : ℕ) → field_match (as_range value size) size number ≡ field_match value size number
   pub rest : (place prefix : ℕ) → rest_after (as_range value size) size place prefix ≡ rest_after value size place prefix
   pub edge : (place prefix : ℕ) → edge_after (as_range value size) size place prefix ≡ edge_after value size place prefix

@@ -1,7 +1,7 @@
 -- What a rule still allows of a field of which the leading bytes are read. A key is read byte by byte in network order
 -- (RFC 791, appendix B), so the bytes of a field that are read spell a prefix of its number, and the bytes that are not
 -- read spell the rest of it. Kinds of fields: DPDK Programmer's Guide, ACL field types (mask, range, bitmask).
-use Rattle.std.specs.Prelude.{ℕ, ◌+◌, ◌-◌, ◌*◌, ◌/◌, ◌%◌, ◌^◌, ◌==◌, min, max, List, [], ◌∷◌, Bool, true, false, ◌&&◌, nat_le, bit_and, Option, Some, None, if◌then◌else◌}
+use Rattle.std.specs.Prelude.{ℕ, ◌+◌, ◌-◌, ◌*◌, ◌/◌, ◌%◌, ◌^◌, ◌==◌, min, max, List, [], ◌∷◌, Bool, true, false, ◌&&◌, nat_le, nat_lt, bit_and, Option, Some, None, if◌then◌else◌}
 use Rattle.std.specs.Option.{option_and_then}
 use Rattle.field_defs.specs.declared.field.FieldValue.{FieldValue}
 use Rattle.field_defs.specs.declared.field.FieldValue.TheVariants.{Mask, Range, Bitmask}
@@ -64,11 +64,13 @@ rest_after value size place prefix =
     if place == size then live_where (field_match value size prefix) else open_rest value size (count_of (size - place)) prefix
 
 -- The rest after one more byte of a field whose first `place` bytes are read: what an interval leaves of a field of the
--- bytes that were left, and what the bitmask's last bytes leave of it. A whole field has no further byte.
+-- bytes that were left, and what the bitmask's last bytes leave of it. A whole field has no further byte, so it has no
+-- rest after one.
 unfoldable pub rest_step : FieldValue → ℕ → ℕ → Rest → ℕ → Option Rest
 rest_step value size place (Interval low high) byte = rest_after (Range low high) (size - place) 1 byte
 rest_step (Bitmask value mask) size place Live byte =
-    rest_after (Bitmask (value % count_of (size - place)) (mask % count_of (size - place))) (size - place) 1 byte
+    let left = size - place in
+    if nat_lt place size then rest_after (Bitmask (value % count_of left) (mask % count_of left)) left 1 byte else None
 rest_step (Mask value bits) size place Live byte = None
 rest_step (Range low high) size place Live byte = None
 

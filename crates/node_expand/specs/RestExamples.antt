@@ -109,3 +109,9 @@ steps_of_a_bitmask : steps (Bitmask 0x0103 0x0182) 2 0 Live (0 ∷ 1 ∷ []) ∷
     ≡ (None ∷ Some Live ∷ []) ∷ (None ∷ Some Live ∷ []) ∷ []
 unfolding rest_after rest_step
 steps_of_a_bitmask = refl
+
+-- a whole field has no further byte
+steps_of_whole_fields : steps (Range 80 80) 2 2 Live (0 ∷ []) ∷ steps (Bitmask 17 255) 1 1 Live (0 ∷ 17 ∷ []) ∷ []
+    ≡ (None ∷ []) ∷ (None ∷ None ∷ []) ∷ []
+unfolding rest_after rest_step
+steps_of_whole_fields = refl

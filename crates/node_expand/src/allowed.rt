@@ -2,7 +2,7 @@
 
 ghost use Rattle.std.specs.Prelude.{◌≡◌, ℕ, ◌-◌, ◌*◌, ◌/◌, ◌%◌, ◌^◌, ◌<◌, ◌≤◌, ◌==◌, ◌&&◌, ◌||◌, true, false, slice_index_or};
 ghost use Rattle.node_expand.specs.Rest.{mask_low, mask_high};
-ghost use Rattle.node_expand.specs.Edges.{is_change};
+ghost use Rattle.node_expand.specs.Edges.{is_change, AreEnds, AnswersWithin};
 ghost use Rattle.node_expand.specs.Allowed.{answer_of};
 
 use crate::edge::Edge;
@@ -29,16 +29,18 @@ pub(crate) enum Allowed {
 impl Allowed {
     ghost use Rattle.std.specs.Prelude.{◌≡◌, ℕ, ◌-◌, ◌^◌, ◌<◌, ◌≤◌, ◌||◌, false, slice_index_or, if◌then◌else◌};
     ghost use Rattle.field_defs.specs.FieldMatch.{CanMatch};
-    ghost use Rattle.node_expand.specs.Edges.{has_low, has_high, is_change, edge_step, StandsBefore};
-    ghost use Rattle.node_expand.specs.Allowed.{answer_of, between, IsFilled};
+    ghost use Rattle.node_expand.specs.Edges.{has_low, has_high, is_change, is_bitmask, edge_step, StandsBefore, AreEnds, AnswersWithin};
+    ghost use Rattle.node_expand.specs.Allowed.{answer_of, between, IsFilled, IsBetween};
 
     /// The bytes that the value allows at the place, which counts from 0 at the most significant byte.
+    #[inline]
     pub(crate) fn new(value: &FieldValue, size: u8, place: u8, edge: Edge) -> Self
         requires value { CanMatch value.now size }
         requires place { place < size }
         requires edge { StandsBefore value.now size place edge }
         ensures answer { (byte : ℕ) → byte < 256 → answer_of result byte ≡ edge_step value.now size place edge byte }
         ensures filled { IsFilled result }
+        ensures between { is_bitmask value.now ≡ false → IsBetween result }
     {
         let shift = 8 * u32::from(size - 1 - place);
         match *value {
@@ -58,6 +60,7 @@ impl Allowed {
     }
 
     /// The bytes that the numbers from `low` to `high` have at the place with `shift` bits behind it, at the edge.
+    #[inline]
     pub(crate) fn between(low: u64, high: u64, shift: u32, edge: Edge) -> Self
         requires { shift ≤ 56 }
         ensures { result ≡ between (if has_low edge then low else 0) (if has_high edge then high else 2 ^ 64 - 1) (2 ^ shift) }
@@ -75,6 +78,7 @@ impl Allowed {
 
     /// The edge after the byte, or none where it isn't allowed.
     #[tactic(auto, unfolding(crate::specs::Allowed::answer_of))]
+    #[inline]
     pub(crate) fn edge_at(self, byte: u8) -> Option<Edge>
         ensures { result ≡ answer_of self byte }
     {
@@ -93,6 +97,7 @@ impl Allowed {
     }
 
     /// Sets the marks of the bytes at which the answer changes.
+    #[inline]
     pub(crate) fn mark_cuts(self, marks: &mut [bool; 256])
         requires { IsFilled self }
         ensures { (byte : ℕ) → byte < 256 →
@@ -105,12 +110,29 @@ impl Allowed {
                 low_inner,
                 high_inner,
             } => mark_between(marks, low.into(), high.into(), low_inner, high_inner),
-            Allowed::Agreeing { value, mask } => mark_agreeing(marks, value.into(), mask.into()),
+            Allowed::Agreeing { value, mask } => {
+                let (first, last) = self.ends();
+                mark_agreeing(marks, value.into(), mask.into(), first.into(), last.into());
+            }
+        }
+    }
+
+    /// The first and the last of the bytes.
+    #[inline]
+    pub(crate) fn ends(self) -> (u8, u8)
+        requires { IsFilled self }
+        ensures ends { AreEnds (answer_of self) result.0 result.1 }
+        ensures within { IsBetween self → AnswersWithin (answer_of self) result.0 result.1 }
+    {
+        match self {
+            Allowed::Between { low, high, .. } => (low, high),
+            Allowed::Agreeing { value, mask } => (value, value | !mask),
         }
     }
 }
 
 /// The lowest and the greatest number that a mask of so many bits lets through.
+#[inline]
 pub(crate) fn mask_ends(value: u64, bits: u8, size: u8) -> (u64, u64)
     requires size { size ≤ 8 }
     requires bits { bits ≤ 8 * size }
@@ -122,6 +144,7 @@ pub(crate) fn mask_ends(value: u64, bits: u8, size: u8) -> (u64, u64)
 }
 
 /// The number whose lowest `count` bits are set, and no others.
+#[inline]
 pub(crate) fn ones(count: u32) -> u64
     requires { count ≤ 64 }
     ensures { result ≡ 2 ^ count - 1 }
@@ -135,6 +158,7 @@ pub(crate) fn ones(count: u32) -> u64
 }
 
 /// The byte of the number with `shift` bits behind it.
+#[inline]
 pub(crate) fn byte_at(number: u64, shift: u32) -> u8
     requires { shift ≤ 56 }
     ensures { result ≡ number / 2 ^ shift % 256 }
@@ -143,6 +167,7 @@ pub(crate) fn byte_at(number: u64, shift: u32) -> u8
 }
 
 /// Sets the mark at the place where the test passes.
+#[inline]
 fn mark_where(marks: &mut [bool; 256], place: usize, passes: bool)
     requires { passes ≡ true → place < 256 }
     ensures { (byte : ℕ) → byte < 256 →
@@ -154,6 +179,7 @@ fn mark_where(marks: &mut [bool; 256], place: usize, passes: bool)
 }
 
 /// Sets the marks of the bytes from 1 on at which the answers between two ends change.
+#[inline]
 fn mark_between(marks: &mut [bool; 256], low: usize, high: usize, low_inner: bool, high_inner: bool)
     requires filled { low ≤ high }
     requires byte { high < 256 }
@@ -168,11 +194,15 @@ fn mark_between(marks: &mut [bool; 256], low: usize, high: usize, low_inner: boo
 }
 
 /// Sets the marks of the bytes from 1 on that agree where the byte before doesn't, and the other way round.
-fn mark_agreeing(marks: &mut [bool; 256], value: usize, mask: usize)
+fn mark_agreeing(marks: &mut [bool; 256], value: usize, mask: usize, first: usize, last: usize)
+    requires ends { AreEnds (answer_of (Allowed.Agreeing value mask)) first last }
+    requires byte { last < 256 }
     ensures { (byte : ℕ) → byte < 256 →
-        slice_index_or marks.new byte false ≡ (is_change (answer_of (Allowed.Agreeing value mask)) byte || slice_index_or marks.old byte false) }
+        slice_index_or marks.new byte false
+        ≡ (is_change (answer_of (Allowed.Agreeing value mask)) byte || slice_index_or marks.old byte false) }
 {
-    for byte in 1..256 {
+    // No byte before the first or behind the last agrees.
+    for byte in first.max(1)..(last + 2).min(256) {
         let turns = (byte & mask == value) != ((byte - 1) & mask == value);
         mark_where(marks, byte, turns);
     }

@@ -21,6 +21,7 @@ impl Edge {
     ghost use Rattle.node_expand.specs.Edges.{edge_with, has_low, has_high};
 
     /// The edge with these ends inner.
+    #[inline]
     pub(crate) fn new(low: bool, high: bool) -> Self
         ensures { result ≡ edge_with low high }
     {
@@ -33,6 +34,7 @@ impl Edge {
     }
 
     /// `low` where the lower end is inner, and else 0.
+    #[inline]
     pub(crate) fn low_end(self, low: u64) -> u64
         ensures { result ≡ (if has_low self then low else 0) }
     {
@@ -43,6 +45,7 @@ impl Edge {
     }
 
     /// `high` where the upper end is inner, and else the greatest number of all.
+    #[inline]
     pub(crate) fn high_end(self, high: u64) -> u64
         ensures { result ≡ (if has_high self then high else 2 ^ 64 - 1) }
     {

@@ -15,4 +15,4 @@ pub mod laws;
 mod tests;
 
 pub use edge::Edge;
-pub use expand::{cuts, start_edge, step_edge};
+pub use expand::{as_range, cuts, first_and_last, start_edge, step_edge};

@@ -3,7 +3,7 @@
 ghost use Rattle.std.specs.Prelude.{◌≡◌, ◌<◌, length, IsTrue};
 ghost use Rattle.field_defs.specs.FieldMatch.{CanMatch, is_range_filled};
 
-use crate::{Edge, cuts, start_edge, step_edge};
+use crate::{Edge, as_range, cuts, first_and_last, start_edge, step_edge};
 use field_defs::FieldValue;
 use std::process::Abort;
 
@@ -135,4 +135,25 @@ fn masks_are_ranges_and_bitmasks_are_free(rt: HostRuntime) {
     shows(&rt, udp, 1, &[], FREE, &answers, &[17, 18]);
     let any = bitmask(17, 0);
     shows(&rt, any, 1, &[], FREE, &[(0, FREE), (255, FREE)], &[]);
+}
+
+/// The first and the last byte that a field may begin with.
+fn first_bytes(value: FieldValue, size: u8) -> (u8, u8)
+    requires value { CanMatch value size }
+    requires filled { IsTrue (is_range_filled value) }
+{
+    first_and_last(&value, size, 0, start_edge(&value, size))
+}
+
+#[test]
+fn a_mask_is_its_range_and_begins_with_its_first_bytes(rt: HostRuntime) {
+    let pair = mask(0xC0A8021F, 31);
+    assert_eq!(rt; as_range(&pair, 4), range(0xC0A8021E, 0xC0A8021F));
+    assert_eq!(rt; first_bytes(pair, 4), (0xC0, 0xC0));
+    assert_eq!(rt; first_bytes(mask(7, 0), 8), (0, 255));
+    assert_eq!(rt; first_bytes(range(33746, 33846), 2), (131, 132));
+
+    let odd = bitmask(0x0100, 0x0180);
+    assert_eq!(rt; as_range(&odd, 2), odd);
+    assert_eq!(rt; first_bytes(odd, 2), (1, 255));
 }

@@ -1,13 +1,15 @@
-use Rattle.std.proofs.Common.{◌<◌, false, arith, get_or, ◌∙◌}
-use Rattle.std.proofs.lemmas.Bool.{lt-ltb}
+use Rattle.std.proofs.Common.{◌≡◌, ◌+◌, ◌<◌, ◌≤◌, min, false, arith, get_or, ◌∙◌}
 use Rattle.node_expand.specs.declared.allowed.Allowed.TheVariants.{Agreeing}
 use Rattle.node_expand.specs.Edges.{is_change}
 use Rattle.node_expand.specs.Allowed.{answer_of}
-use Rattle.node_expand.proofs.Changes.{turns, marked_none, marked_more}
+use Rattle.node_expand.proofs.Changes.{turns, marked_none, marked_more, marked_all, unchanged_before, unchanged_behind}
 use Rattle.node_expand.proofs.allowed.mark_agreeing.Goals as goal
 
 pub loop-byte-init : goal.loop-byte-init
-loop-byte-init c = λ place within. marked_none (answer_of (Agreeing c.args.value c.args.mask)) place (get_or c.args.marks.now place false)
+loop-byte-init c = λ place within.
+    let answer = answer_of (Agreeing c.args.value c.args.mask) in
+    marked_none (is_change answer) c.max-byte.result place (get_or c.args.marks.now place false)
+    (λ before. unchanged_before answer c.args.first c.args.last place c.requires.ends within (omega arith))
 
 pub loop-byte-preserved : goal.loop-byte-preserved
 loop-byte-preserved c = λ place within.
@@ -18,5 +20,7 @@ loop-byte-preserved c = λ place within.
 
 pub returns : goal.returns
 returns c = λ place within.
-    let passed : place < c.loop-byte.byte = omega arith in
-    c.loop-byte.invariant place within ∙ rw (lt-ltb place c.loop-byte.byte passed)
+    let answer = answer_of (Agreeing c.args.value c.args.mask) in
+    c.loop-byte.invariant place within
+    ∙ marked_all (is_change answer) c.loop-byte.byte place (get_or c.args.marks.now place false)
+    (λ behind. unchanged_behind answer c.args.first c.args.last place c.requires.ends within (omega arith))
