@@ -1,11 +1,10 @@
 -- Laws of the relations between a desk's contents.
-use Rattle.std.proofs.Common.{◌≡◌, ℕ, ◌+◌, ◌≤◌, List, [], ◌++◌, length, take, drop, Option, Some, None, sym, ◌∙◌, ap, refl, subst, append_assoc, add-zero, append-nil, arith, length-append, length-take}
+use Rattle.std.proofs.Common.{◌≡◌, ℕ, ◌+◌, ◌≤◌, List, [], ◌++◌, length, take, drop, Option, Some, None, sym, ◌∙◌, ap, refl, subst, append_assoc, add-zero, append-nil, arith, length-append}
 use Rattle.std.proofs.Math.Seq.{take-append-add}
 use Rattle.std.proofs.lemmas.List.{length-take-le, take-append-le, take-take, take_at, drop_at, take_all, drop_all}
 use Rattle.acl_outside.specs.Told.{Steps}
 use Rattle.acl_outside.specs.Desk.{Content, Gives}
 use Rattle.acl_outside.specs.Reading.{GivesUpTo}
-use Rattle.acl_outside.proofs.ToldLaws.{Steps-join}
 
 -- the bytes of two reads, one after the other
 pub Gives-append : (first second : List ℕ) (old mid new : Content) → Gives first old mid → Gives second mid new → Gives (first ++ second) old new
@@ -49,7 +48,7 @@ Steps-to_end cap bytes few None None (Some new) given ended last = absurd last
 Steps-to_end cap bytes few (Some old) (Some mid) None given ended last = absurd last
 
 -- what was read behind the first len bytes of a list stands behind them
-take-read_behind : (n len count : ℕ) (xs read rest behind : List ℕ) → len ≤ length xs → count ≤ length read → len + count ≤ n →
+pub take-read_behind : (n len count : ℕ) (xs read rest behind : List ℕ) → len ≤ length xs → count ≤ length read → len + count ≤ n →
     take (len + count) (take n ((take len xs ++ (read ++ rest)) ++ behind)) ≡ take len xs ++ take count read
 take-read_behind n len count xs read rest behind in_list in_read in_all =
     let all : List ℕ = take len xs ++ (read ++ rest) in
@@ -59,23 +58,9 @@ take-read_behind n len count xs read rest behind in_list in_read in_all =
     subst (λ k. take (k + count) all ≡ take len xs ++ take count (read ++ rest)) front (take-append-add (take len xs) (read ++ rest) count) ∙
     ap (λ ys. take len xs ++ ys) (take-append-le count read rest in_read)
 
--- The first len bytes were given, and then as many as were read behind them.
-pub Steps-read_behind : (n len count : ℕ) (xs read rest behind before : List ℕ) → len ≤ length xs → count ≤ length read → len + count ≤ n →
-    take len xs ≡ take len before → (old mid new : Option Content) →
-    Steps (Gives (take len before)) old mid → Steps (Gives (take count read)) mid new →
-    Steps (Gives (take (len + count) (take n ((take len xs ++ (read ++ rest)) ++ behind)))) old new
-Steps-read_behind n len count xs read rest behind before in_list in_read in_all kept old mid new first second =
-    rw (take-read_behind n len count xs read rest behind in_list in_read in_all, kept)
-    (Steps-join _ _ _ (Gives-append (take len before) (take count read)) old mid new first second)
-
--- The first len bytes were given, and then no more, as nothing was left behind them.
-pub Steps-read_end : (cap n len : ℕ) (xs read rest behind before : List ℕ) → len ≤ length xs → len ≤ n → len ≤ cap →
-    take len xs ≡ take len before → (old mid new : Option Content) →
-    Steps (Gives (take len before)) old mid → ((content : Content) → mid ≡ Some content → content.left ≡ []) → Steps (Gives []) mid new →
-    Steps (GivesUpTo cap (take len (take n ((take len xs ++ (read ++ rest)) ++ behind)))) old new
-Steps-read_end cap n len xs read rest behind before in_list in_all few kept old mid new first ended last =
-    let same : take len (take n ((take len xs ++ (read ++ rest)) ++ behind)) ≡ take len before =
+-- and where nothing was read behind them, the first len bytes are what they were
+pub take-read_end : (n len : ℕ) (xs read rest behind before : List ℕ) → len ≤ length xs → len ≤ n → take len xs ≡ take len before →
+    take len (take n ((take len xs ++ (read ++ rest)) ++ behind)) ≡ take len before
+take-read_end n len xs read rest behind before in_list in_all kept =
     ap (λ k. take k (take n ((take len xs ++ (read ++ rest)) ++ behind))) (sym (add-zero len)) ∙
-    take-read_behind n len 0 xs read rest behind in_list (omega arith) (omega arith) ∙ append-nil (take len xs) ∙ kept in
-    let short : length (take len before) ≤ cap = omega (arith, length-take len before) in
-    rw same (Steps-to_end cap (take len before) short old mid new first ended last)
+    take-read_behind n len 0 xs read rest behind in_list (omega arith) (omega arith) ∙ append-nil (take len xs) ∙ kept

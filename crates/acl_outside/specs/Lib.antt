@@ -1,8 +1,13 @@
+pub mod Note
 pub mod Fault
 pub mod Told
 pub mod Desk
 pub mod Sink
+pub mod Answers
+pub mod Heard
+pub mod HeardExamples
 pub mod Reading
+pub mod System
 pub mod Memory
 pub mod MemFile
-pub mod MemoryRows
+pub mod MemoryExamples

@@ -2,7 +2,7 @@
 use Rattle.std.specs.Prelude.{◌≡◌, ℕ, ◌-◌, List, [], ◌∷◌, length, Bool, true, not, ◌&&◌, ◌||◌, ◌==◌, nat_lt, min, Some, is_some}
 use Rattle.std.specs.List.{list_any}
 use Rattle.acl_outside.specs.Fault.{next_count}
-use Rattle.acl_outside.specs.Desk.{File, Content, DeskView, bytes_of}
+use Rattle.acl_outside.specs.Desk.{File, Content, Answer, DeskView, bytes_of}
 use Rattle.acl_outside.specs.Sink.{SinkView}
 
 -- no two files have one name
@@ -14,10 +14,11 @@ distinct_names (file ∷ files) = not (is_some (bytes_of files file.name)) && di
 abbrev pub is_listed : List ℕ → ℕ → Bool
 is_listed failing number = list_any (λ listed. listed == number) failing
 
--- A desk over memory: its content and counts, how many bytes it moves at most in a call,
+-- A desk over memory: its content, its answers so far and its counts, how many bytes it moves at most in a call,
 -- the numbers of the calls that fail, and how many calls were made.
 pub record MemDeskView : Type 0 where
   pub content : Content
+  pub answers : List Answer
   pub piece : ℕ
   pub failing : List ℕ
   pub calls : ℕ
@@ -26,7 +27,13 @@ pub record MemDeskView : Type 0 where
 
 -- what it shows as a desk
 abbrev pub shown_desk : MemDeskView → DeskView
-shown_desk desk = record { content = Some desk.content; reading = is_some desk.content.opened; read_faults = desk.read_faults; absent = desk.absent }
+shown_desk desk = record {
+  content = Some desk.content;
+  answers = desk.answers;
+  reading = is_some desk.content.opened;
+  read_faults = desk.read_faults;
+  absent = desk.absent;
+}
 
 -- its next call is one of those that fail
 abbrev pub next_fails : MemDeskView → Bool
@@ -58,7 +65,7 @@ pub record MemSinkView : Type 0 where
 
 -- what it shows as a sink
 abbrev pub shown_sink : MemSinkView → SinkView
-shown_sink sink = record { written = Some sink.written; faults = sink.faults }
+shown_sink sink = record { taken = sink.written; written = Some sink.written; faults = sink.faults }
 
 -- a put of a piece of this length fails: it isn't empty, and no room is left or its number is one of those that fail
 abbrev pub put_fails : MemSinkView → ℕ → Bool

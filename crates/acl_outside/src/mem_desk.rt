@@ -5,6 +5,7 @@ ghost use Rattle.acl_outside.specs.MemFile.{IsReadAt, StandsAt, file_at, rest_of
 
 use crate::desk::{Desk, Failed};
 use crate::listed::is_listed;
+use crate::transcript::Transcript;
 use std::marker::Model;
 
 /// A file in memory.
@@ -35,10 +36,12 @@ pub struct MemDesk {
     calls: u64,
     read_faults: u64,
     absent: u64,
+    transcript: Transcript,
 }
 
 impl Model for MemDesk {
     ghost use Rattle.std.specs.Prelude.{◌<◌, IsTrue};
+    ghost use Rattle.acl_outside.specs.Answers.{answers_of};
     ghost use Rattle.acl_outside.specs.Memory.{MemDeskView, distinct_names};
     ghost use Rattle.acl_outside.specs.MemFile.{files_of, content_at, IsReadAt};
 
@@ -46,6 +49,7 @@ impl Model for MemDesk {
 
     ghost view = { λ desk. record {
       content = content_at desk.files.items desk.opened desk.at;
+      answers = answers_of desk.transcript.notes;
       piece = desk.piece;
       failing = desk.failing.items;
       calls = desk.calls;
@@ -84,6 +88,7 @@ impl MemDesk {
 
         ensures { result ≡ record {
           content = record { files = files_of files.items; opened = None; left = [] };
+          answers = [];
           piece = piece;
           failing = failing_reads.items;
           calls = 0;
@@ -100,6 +105,7 @@ impl MemDesk {
             calls: 0,
             read_faults: 0,
             absent: 0,
+            transcript: Transcript::new(),
         }
     }
 
@@ -151,9 +157,9 @@ fn left_of(files: &[MemFile], opened: Option<usize>, at: usize) -> &[u8]
 }
 
 /// Copies the first bytes into the front of the slice, and says how many they are: at most `piece`.
-fn move_front(bytes: &[u8], into: &mut [u8], piece: usize) -> usize
+fn move_prefix(bytes: &[u8], into: &mut [u8], piece: usize) -> usize
     ensures moved { result ≡ min piece (min (length into.old) (length bytes.now)) }
-    ensures front { take result into.new ≡ take result bytes.now }
+    ensures prefix { take result into.new ≡ take result bytes.now }
 {
     let count = piece.min(into.len().min(bytes.len()));
     into[..count].copy_from_slice(&bytes[..count]);
@@ -161,24 +167,15 @@ fn move_front(bytes: &[u8], into: &mut [u8], piece: usize) -> usize
 }
 
 impl Desk for MemDesk {
-    ghost use Rattle.std.specs.Prelude.{◌≡◌, ◌≤◌, ◌⊎◌, [], Some, Ok, length, take, min, not, nat_lt, ◌&&◌, is_ok, is_err, is_some, IsTrue, IsSome, IfOk, OnOk, OnErr, if◌then◌else◌};
-    ghost use Rattle.acl_outside.specs.Fault.{Rose, next_count};
-    ghost use Rattle.acl_outside.specs.Told.{Steps};
-    ghost use Rattle.acl_outside.specs.Desk.{Content, Opens, GivesUp, Gives, KeepsCounts, bytes_of};
+    ghost use Rattle.std.specs.Prelude.{◌≡◌, length, not, nat_lt, ◌&&◌, is_ok, is_err, IsTrue, IfOk, if◌then◌else◌};
+    ghost use Rattle.acl_outside.specs.Fault.{next_count};
+    ghost use Rattle.acl_outside.specs.Desk.{OpensFile, ReadsInto};
     ghost use Rattle.acl_outside.specs.Memory.{CountsCall, shown_desk, next_fails, has_file, read_len};
 
     ghost view = { shown_desk };
 
     fn open_file(&mut self, name: &str) -> Result<(), Failed>
-        ensures opened { OnOk result (Steps (Opens name.now) (shown_desk self.old).content (shown_desk self.new).content) }
-        ensures given_up { OnErr result (Steps GivesUp (shown_desk self.old).content (shown_desk self.new).content) }
-        ensures reading { (shown_desk self.new).reading ≡ is_ok result }
-
-        ensures cause { OnErr result (Rose self.old.read_faults self.new.read_faults ⊎ Rose self.old.absent self.new.absent) }
-        ensures there { (content : Content) → (shown_desk self.old).content ≡ Some content → IsSome (bytes_of content.files name.now) →
-            (self.new.absent ≡ self.old.absent) × OnErr result (Rose self.old.read_faults self.new.read_faults) }
-        ensures counts { KeepsCounts (shown_desk self.old) (shown_desk self.new) }
-
+        ensures opens { OpensFile name.now (shown_desk self.old) (shown_desk self.new) result }
         // Exactly where it succeeds, and which count rises where it doesn't.
         ensures succeeds { is_ok result ≡ (has_file self.old name.now && not (next_fails self.old)) }
         ensures read_faults { self.new.read_faults ≡ (if has_file self.old name.now && next_fails self.old
@@ -191,30 +188,23 @@ impl Desk for MemDesk {
         self.at = 0;
         let Some(place) = place_of(&self.files, name) else {
             self.absent = self.absent.saturating_add(1);
+            self.transcript.note_not_opened(name);
             return Err(Failed);
         };
         if is_listed(&self.failing, self.calls) {
             self.read_faults = self.read_faults.saturating_add(1);
+            self.transcript.note_not_opened(name);
             return Err(Failed);
         }
         self.opened = Some(place);
+        self.transcript.note_opened(name);
         Ok(())
     }
 
     fn read(&mut self, into: &mut [u8]) -> Result<usize, Failed>
         requires { IsTrue (shown_desk self.old).reading }
 
-        ensures within { IfOk result (λ count. count ≤ length into.old) }
-        ensures given { IfOk result (λ count. Steps (Gives (take count into.new)) (shown_desk self.old).content (shown_desk self.new).content) }
-        ensures end { result ≡ Ok 0 → (into.old ≡ []) ⊎ ((content : Content) → (shown_desk self.old).content ≡ Some content → content.left ≡ []) }
-        ensures empty { into.old ≡ [] → result ≡ Ok 0 }
-        ensures lost_nothing { OnErr result ((shown_desk self.new).content ≡ (shown_desk self.old).content) }
-        ensures reading { (shown_desk self.new).reading ≡ (shown_desk self.old).reading }
-
-        ensures cause { OnErr result (Rose self.old.read_faults self.new.read_faults) }
-        ensures absent { self.new.absent ≡ self.old.absent }
-        ensures counts { KeepsCounts (shown_desk self.old) (shown_desk self.new) }
-
+        ensures reads { ReadsInto into.old into.new (shown_desk self.old) (shown_desk self.new) result }
         // Exactly where it fails, and how many bytes it gives where it doesn't.
         ensures fails { is_err result ≡ (nat_lt 0 (length into.old) && next_fails self.old) }
         ensures moved { IfOk result (λ count. count ≡ read_len self.old (length into.old)) }
@@ -224,11 +214,13 @@ impl Desk for MemDesk {
         self.calls = self.calls.saturating_add(1);
         if !into.is_empty() && is_listed(&self.failing, self.calls) {
             self.read_faults = self.read_faults.saturating_add(1);
+            self.transcript.note_failed(into.len());
             return Err(Failed);
         }
         let left = left_of(&self.files, self.opened, self.at);
-        let count = move_front(left, into, self.piece);
+        let count = move_prefix(left, into, self.piece);
         self.at += count;
+        self.transcript.note_given(into.len(), &into[..count]);
         Ok(count)
     }
 }

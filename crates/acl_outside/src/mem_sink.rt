@@ -88,24 +88,15 @@ impl MemSink {
 }
 
 impl Sink for MemSink {
-    ghost use Rattle.std.specs.Prelude.{◌≡◌, ◌<◌, ◌≤◌, [], Ok, length, take, nat_lt, is_ok, is_err, IfOk, OnErr, if◌then◌else◌};
-    ghost use Rattle.acl_outside.specs.Fault.{Rose, next_count};
-    ghost use Rattle.acl_outside.specs.Told.{Steps};
-    ghost use Rattle.acl_outside.specs.Sink.{Appends};
+    ghost use Rattle.std.specs.Prelude.{◌≡◌, length, nat_lt, is_ok, is_err, IfOk, if◌then◌else◌};
+    ghost use Rattle.acl_outside.specs.Fault.{next_count};
+    ghost use Rattle.acl_outside.specs.Sink.{PutsPrefix};
     ghost use Rattle.acl_outside.specs.Memory.{KeepsRules, shown_sink, put_fails, put_len};
 
     ghost view = { shown_sink };
 
     fn put(&mut self, piece: &[u8]) -> Result<usize, Failed>
-        ensures within { IfOk result (λ count. count ≤ length piece.now) }
-        ensures written { IfOk result (λ count. Steps (Appends (take count piece.now)) (shown_sink self.old).written (shown_sink self.new).written) }
-        ensures progress { IfOk result (λ count. 0 < length piece.now → 0 < count) }
-        ensures empty { piece.now ≡ [] → result ≡ Ok 0 }
-        ensures wrote_nothing { OnErr result ((shown_sink self.new).written ≡ (shown_sink self.old).written) }
-
-        ensures cause { OnErr result (Rose self.old.faults self.new.faults) }
-        ensures count { self.old.faults ≤ self.new.faults }
-
+        ensures puts_prefix { PutsPrefix piece.now (shown_sink self.old) (shown_sink self.new) result }
         // Exactly where it fails, and how many bytes it takes where it doesn't.
         ensures fails { is_err result ≡ put_fails self.old (length piece.now) }
         ensures moved { IfOk result (λ count. count ≡ put_len self.old (length piece.now)) }

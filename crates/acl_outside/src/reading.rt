@@ -1,10 +1,7 @@
 //! Reading an opened file to its end.
 
-ghost use Rattle.std.specs.Prelude.{◌≡◌, ◌<◌, ◌≤◌, length, take, vec_len, IsTrue, IfOk, IfErr, OnOk, OnErr};
-ghost use Rattle.acl_outside.specs.Fault.{Rose};
-ghost use Rattle.acl_outside.specs.Told.{Steps};
-ghost use Rattle.acl_outside.specs.Desk.{KeepsCounts};
-ghost use Rattle.acl_outside.specs.Reading.{GivesUpTo, LosesFront};
+ghost use Rattle.std.specs.Prelude.{◌≡◌, ◌<◌, ◌≤◌, take, vec_len, IsTrue, IfErr, OnOk};
+ghost use Rattle.acl_outside.specs.Reading.{ReadsUpTo};
 
 use crate::desk::{Desk, Failed};
 use std::alloc::{AllocError, Global};
@@ -23,19 +20,12 @@ const FIRST_PART: usize = 64 * 1024;
 
 /// The bytes of the opened file from where it is read on: up to its end, or `cap` of them where it has more.
 ///
-/// An `Err` has lost some first part of what was left. It takes memory for 64 KiB first, and then for as much again
+/// An `Err` has lost some prefix of what was left. It takes memory for 64 KiB first, and then for as much again
 /// as was read, and reads straight into it.
 pub fn read_up_to<D: Desk>(alloc: Global, desk: &mut D, cap: usize) -> Result<Vec<u8>, ReadAll>
     requires { IsTrue (D.view desk.old).reading }
 
-    ensures within { IfOk result (λ bytes. length bytes.items ≤ cap) }
-    ensures bytes { IfOk result (λ bytes. Steps (GivesUpTo cap bytes.items) (D.view desk.old).content (D.view desk.new).content) }
-    ensures lost { OnErr result (Steps LosesFront (D.view desk.old).content (D.view desk.new).content) }
-    ensures reading { (D.view desk.new).reading ≡ (D.view desk.old).reading }
-
-    ensures read_fault { result ≡ Err ReadAll.ReadFault → Rose (D.view desk.old).read_faults (D.view desk.new).read_faults }
-    ensures absent { (D.view desk.new).absent ≡ (D.view desk.old).absent }
-    ensures counts { KeepsCounts (D.view desk.old) (D.view desk.new) }
+    ensures { ReadsUpTo cap (D.view desk.old) (D.view desk.new) result }
 {
     let mut bytes = Vec::new(alloc);
     let mut len = 0usize;

@@ -5,6 +5,7 @@ ghost use Rattle.std.specs.Io.KnownBytes.{Consumes, IsAtEnd, Keeps, prepend_know
 
 use crate::desk::{Desk, Failed};
 use crate::read_buffer::{BUFFER_SIZE, ReadBuffer, read_once};
+use crate::transcript::Transcript;
 use std::fs;
 use std::io::Read;
 use std::marker::Model;
@@ -24,90 +25,97 @@ pub struct StdDesk<'a, R: Files> {
     /// What was read of the opened file, and not given yet.
     buffer: ReadBuffer,
     read_faults: u64,
+    transcript: Transcript,
 }
 
 impl<'a, R: Files> Model for StdDesk<'a, R> {
-    ghost use Rattle.std.specs.Prelude.{None, is_some};
-    ghost use Rattle.acl_outside.specs.Desk.{DeskView};
+    ghost use Rattle.std.specs.Prelude.{is_some, option_and_then};
+    ghost use Rattle.std.specs.Io.KnownBytes.{prepend_known};
+    ghost use Rattle.acl_outside.specs.Answers.{answers_of};
+    ghost use Rattle.acl_outside.specs.System.{StdDeskView};
 
-    ghost Value = { DeskView };
+    ghost Value = { StdDeskView };
 
-    ghost view = { λ desk. record { content = None; reading = is_some desk.opened; read_faults = desk.read_faults; absent = 0 } };
+    ghost view = { λ desk. record {
+      held = desk.buffer;
+      remaining = option_and_then (λ file. prepend_known desk.buffer (R.File.remaining file)) desk.opened;
+      answers = answers_of desk.transcript.notes;
+      reading = is_some desk.opened;
+      read_faults = desk.read_faults;
+    } };
 }
 
 impl<'a, R: Files> StdDesk<'a, R> {
-    ghost use Rattle.std.specs.Prelude.{◌≡◌, None, false};
+    ghost use Rattle.std.specs.Prelude.{◌≡◌, [], None, false};
 
     /// A desk over the files that the runtime opens. It takes no memory.
     pub fn new(rt: &'a R) -> StdDesk<'a, R>
-        ensures { result ≡ record { content = None; reading = false; read_faults = 0; absent = 0 } }
+        ensures { result ≡ record { held = []; remaining = None; answers = []; reading = false; read_faults = 0 } }
     {
         StdDesk {
             rt,
             opened: None,
             buffer: ReadBuffer::new(),
             read_faults: 0,
+            transcript: Transcript::new(),
         }
     }
 }
 
 impl<'a, R: Files> Desk for StdDesk<'a, R> {
-    ghost use Rattle.std.specs.Prelude.{◌≡◌, ◌≤◌, ◌⊎◌, [], Some, None, Ok, length, take, is_ok, IsTrue, IsSome, IfOk, OnOk, OnErr, if◌then◌else◌};
-    ghost use Rattle.acl_outside.specs.Fault.{Rose, next_count};
-    ghost use Rattle.acl_outside.specs.Told.{Steps};
-    ghost use Rattle.acl_outside.specs.Desk.{Content, Opens, GivesUp, Gives, KeepsCounts, bytes_of};
+    ghost use Rattle.std.specs.Prelude.{◌≡◌, ◌⊎◌, [], Ok, is_ok, take, IsTrue, IfOk, OnErr, if◌then◌else◌};
+    ghost use Rattle.std.specs.Io.KnownBytes.{Consumes, IsAtEnd, Keeps};
+    ghost use Rattle.acl_outside.specs.Fault.{next_count};
+    ghost use Rattle.acl_outside.specs.Desk.{OpensFile, ReadsInto};
+    ghost use Rattle.acl_outside.specs.System.{shown_std_desk};
 
-    ghost view = { λ desk. desk };
+    ghost view = { shown_std_desk };
 
     fn open_file(&mut self, name: &str) -> Result<(), Failed>
-        ensures opened { OnOk result (Steps (Opens name.now) self.old.content self.new.content) }
-        ensures given_up { OnErr result (Steps GivesUp self.old.content self.new.content) }
-        ensures reading { self.new.reading ≡ is_ok result }
+        ensures opens { OpensFile name.now (shown_std_desk self.old) (shown_std_desk self.new) result }
 
-        ensures cause { OnErr result (Rose self.old.read_faults self.new.read_faults ⊎ Rose self.old.absent self.new.absent) }
-        ensures there { (content : Content) → self.old.content ≡ Some content → IsSome (bytes_of content.files name.now) →
-            (self.new.absent ≡ self.old.absent) × OnErr result (Rose self.old.read_faults self.new.read_faults) }
-        ensures counts { KeepsCounts self.old self.new }
-
-        // Each failure is a read fault, and nothing else is. No content is told, and no file is told to be absent.
+        // No byte of the file before is given for one of this file.
+        ensures nothing_held { self.new.held ≡ [] }
+        // Each failure is a read fault, and nothing else is.
         ensures read_faults { self.new.read_faults ≡ (if is_ok result then self.old.read_faults else next_count self.old.read_faults) }
-        ensures untold { (self.new.content ≡ None) × (self.new.absent ≡ 0) }
     {
         self.buffer.clear();
         self.opened = fs::open(self.rt, name).ok();
         if self.opened.is_none() {
             self.read_faults = self.read_faults.saturating_add(1);
+            self.transcript.note_not_opened(name);
             return Err(Failed);
         }
+        self.transcript.note_opened(name);
         Ok(())
     }
 
     fn read(&mut self, into: &mut [u8]) -> Result<usize, Failed>
         requires { IsTrue self.old.reading }
 
-        ensures within { IfOk result (λ count. count ≤ length into.old) }
-        ensures given { IfOk result (λ count. Steps (Gives (take count into.new)) self.old.content self.new.content) }
-        ensures end { result ≡ Ok 0 → (into.old ≡ []) ⊎ ((content : Content) → self.old.content ≡ Some content → content.left ≡ []) }
-        ensures empty { into.old ≡ [] → result ≡ Ok 0 }
-        ensures lost_nothing { OnErr result (self.new.content ≡ self.old.content) }
-        ensures reading { self.new.reading ≡ self.old.reading }
+        ensures reads { ReadsInto into.old into.new (shown_std_desk self.old) (shown_std_desk self.new) result }
 
-        ensures cause { OnErr result (Rose self.old.read_faults self.new.read_faults) }
-        ensures absent { self.new.absent ≡ self.old.absent }
-        ensures counts { KeepsCounts self.old self.new }
-
-        // Each failure is a read fault, and nothing else is. No content is told, and no file is told to be absent.
+        // The bytes given are the next of the file, also across the buffer, and no byte of it is lost.
+        ensures next { IfOk result (λ count. Consumes self.old.remaining self.new.remaining (take count into.new)) }
+        ensures at_end { result ≡ Ok 0 → (into.old ≡ []) ⊎ IsAtEnd self.new.remaining }
+        ensures kept { OnErr result (Keeps self.old.remaining self.new.remaining) }
+        // Each failure is a read fault, and nothing else is.
         ensures read_faults { self.new.read_faults ≡ (if is_ok result then self.old.read_faults else next_count self.old.read_faults) }
-        ensures untold { (self.new.content ≡ None) × (self.new.absent ≡ 0) }
     {
         let Some(file) = &mut self.opened else {
             unreachable!()
         };
-        let read = read_buffered(file, &mut self.buffer, into);
-        if read.is_err() {
-            self.read_faults = self.read_faults.saturating_add(1);
+        match read_buffered(file, &mut self.buffer, into) {
+            Ok(count) => {
+                self.transcript.note_given(into.len(), &into[..count]);
+                Ok(count)
+            }
+            Err(Failed) => {
+                self.read_faults = self.read_faults.saturating_add(1);
+                self.transcript.note_failed(into.len());
+                Err(Failed)
+            }
         }
-        read
     }
 }
 

@@ -5,6 +5,7 @@ ghost use Rattle.std.specs.Io.KnownBytes.{WriteAppends};
 
 use crate::desk::Failed;
 use crate::sink::Sink;
+use crate::transcript::Transcript;
 use std::io::{ErrorKind, Write};
 use std::marker::Model;
 
@@ -17,61 +18,71 @@ use std::marker::Model;
 pub struct StdSink<W: Write + Drop> {
     writer: W,
     faults: u64,
+    transcript: Transcript,
 }
 
 impl<W: Write + Drop> Model for StdSink<W> {
-    ghost use Rattle.std.specs.Prelude.{None};
-    ghost use Rattle.acl_outside.specs.Sink.{SinkView};
+    ghost use Rattle.acl_outside.specs.Answers.{taken_of};
+    ghost use Rattle.acl_outside.specs.System.{StdSinkView};
 
-    ghost Value = { SinkView };
+    ghost Value = { StdSinkView };
 
-    ghost view = { λ sink. record { written = None; faults = sink.faults } };
+    ghost view = { λ sink. record {
+      contents = W.contents sink.writer;
+      taken = taken_of sink.transcript.notes;
+      faults = sink.faults;
+    } };
 }
 
 impl<W: Write + Drop> StdSink<W> {
-    ghost use Rattle.std.specs.Prelude.{◌≡◌, None};
+    ghost use Rattle.std.specs.Prelude.{◌≡◌, []};
 
     /// A sink over this writer. It takes no memory.
     pub fn new(writer: W) -> StdSink<W>
-        ensures { result ≡ record { written = None; faults = 0 } }
+        ensures { result ≡ record { contents = W.contents writer; taken = []; faults = 0 } }
     {
-        StdSink { writer, faults: 0 }
+        StdSink {
+            writer,
+            faults: 0,
+            transcript: Transcript::new(),
+        }
     }
 }
 
 impl<W: Write + Drop> Sink for StdSink<W> {
-    ghost use Rattle.std.specs.Prelude.{◌≡◌, ◌<◌, ◌≤◌, [], Ok, length, take, is_ok, IfOk, OnErr, if◌then◌else◌};
-    ghost use Rattle.acl_outside.specs.Fault.{Rose, next_count};
-    ghost use Rattle.acl_outside.specs.Told.{Steps};
-    ghost use Rattle.acl_outside.specs.Sink.{Appends};
+    ghost use Rattle.std.specs.Prelude.{◌≡◌, is_ok, if◌then◌else◌};
+    ghost use Rattle.std.specs.Io.KnownBytes.{WriteAppends};
+    ghost use Rattle.acl_outside.specs.Fault.{next_count};
+    ghost use Rattle.acl_outside.specs.Sink.{PutsPrefix};
+    ghost use Rattle.acl_outside.specs.System.{shown_std_sink};
 
-    ghost view = { λ sink. sink };
+    ghost view = { shown_std_sink };
 
     fn put(&mut self, piece: &[u8]) -> Result<usize, Failed>
-        ensures within { IfOk result (λ count. count ≤ length piece.now) }
-        ensures written { IfOk result (λ count. Steps (Appends (take count piece.now)) self.old.written self.new.written) }
-        ensures progress { IfOk result (λ count. 0 < length piece.now → 0 < count) }
-        ensures empty { piece.now ≡ [] → result ≡ Ok 0 }
-        ensures wrote_nothing { OnErr result (self.new.written ≡ self.old.written) }
+        ensures puts_prefix { PutsPrefix piece.now (shown_std_sink self.old) (shown_std_sink self.new) result }
 
-        ensures cause { OnErr result (Rose self.old.faults self.new.faults) }
-        ensures count { self.old.faults ≤ self.new.faults }
-
+        // The writer gained the bytes that were taken, and nothing else.
+        ensures contents { WriteAppends self.old.contents self.new.contents result piece.now }
         // Each failure is counted, and nothing else is.
         ensures faults { self.new.faults ≡ (if is_ok result then self.old.faults else next_count self.old.faults) }
     {
         if piece.is_empty() {
             return Ok(0);
         }
-        let put = write_once(&mut self.writer, piece);
-        if put.is_err() {
-            self.faults = self.faults.saturating_add(1);
+        match write_once(&mut self.writer, piece) {
+            Ok(count) => {
+                self.transcript.note_taken(&piece[..count]);
+                Ok(count)
+            }
+            Err(Failed) => {
+                self.faults = self.faults.saturating_add(1);
+                Err(Failed)
+            }
         }
-        put
     }
 }
 
-/// Writes a first part of the piece, which isn't empty, and says how many bytes it has. A write that is interrupted
+/// Writes a prefix of the piece, which isn't empty, and says how many bytes it has. A write that is interrupted
 /// is made again, and one that takes nothing has failed.
 fn write_once<W: Write>(writer: &mut W, piece: &[u8]) -> Result<usize, Failed>
     ensures within { IfOk result (λ count. (0 < count) × (count ≤ length piece.now)) }

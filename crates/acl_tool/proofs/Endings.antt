@@ -2,9 +2,8 @@
 use Rattle.std.proofs.Common.{◌≡◌, ◌≢◌, ℕ, List, true, false, Option, Some, None, Result, Ok, Err, sym, ap, subst, ◌∙◌, refl, arith}
 use Rattle.std.proofs.lemmas.Bool.{false≢true}
 use Rattle.rule_set.specs.Rule.{RuleView}
-use Rattle.acl_outside.specs.Told.{Steps}
 use Rattle.acl_outside.specs.Desk.{File, DeskView, bytes_of}
-use Rattle.acl_outside.specs.Sink.{SinkView, Appends, AppendsPrefix}
+use Rattle.acl_outside.specs.Sink.{SinkView, Gains, GainsPrefix}
 use Rattle.acl_tool.specs.declared.status.Status.{Status}
 use Rattle.acl_tool.specs.declared.status.Status.TheVariants.{WriteFault}
 use Rattle.acl_tool.specs.declared.status.CaptureFault.{CaptureFault}
@@ -56,11 +55,11 @@ Ends-printed request old mid new out_old out_new status packet_rules bytes read 
     let unwritten : is_decided status ≡ false → status ≢ WriteFault → ⊥ = λ isnt w. undecided status packet_rules read isnt ((printed.decided w).0) in
     record {
       decided = λ files told d. (printed.decided (written d)).0 ∙ ap (λ o. o.status) (expected files told);
-      text = λ files told d. subst (λ (o : Outcome). Steps (Appends o.text) out_old.written out_new.written) (expected files told) (printed.decided (written d)).1;
+      text = λ files told d. subst (λ (o : Outcome). Gains o.text out_old out_new) (expected files told) (printed.decided (written d)).1;
       read_fault = λ e. absurd (unwritten (ap is_decided e) (λ w. cc));
       read_fault_is_silent = λ e. absurd (unwritten (ap is_decided e) (λ w. cc));
       write_fault = λ e. (printed.write_fault e).0;
-      front = λ files told e. subst (λ (o : Outcome). Steps (AppendsPrefix o.text) out_old.written out_new.written) (expected files told) (printed.write_fault e).1;
+      prefix = λ files told e. subst (λ (o : Outcome). GainsPrefix o.text out_old out_new) (expected files told) (printed.write_fault e).1;
       out_of_memory_is_silent = λ e. absurd (unwritten (ap is_decided e) (λ w. cc));
       absent = λ files told isnt. absent_second files (kept_first.files ∙ told) ∙ absent_first files told;
       opened = λ files told reported. opened_capture files (kept_first.files ∙ told);

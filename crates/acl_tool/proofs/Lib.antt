@@ -8,6 +8,5 @@ mod NumberLemmas
 mod OutputLaws
 mod Printing
 mod RecordLaws
-mod Reports
 mod RuleFileLemmas
 mod SplitLemmas

@@ -1,76 +1,105 @@
 -- What waits on its way to a sink and what was put, call by call.
-use Rattle.std.proofs.Common.{ℕ, List, ◌++◌, Option, Result, Ok, Err, OnErr, sym, ap, ◌∙◌, append_assoc}
-use Rattle.acl_outside.specs.Told.{Steps}
-use Rattle.acl_outside.specs.Sink.{Appends, AppendsPrefix}
-use Rattle.acl_outside.proofs.ToldLaws.{Steps-join, Steps-weaker}
-use Rattle.acl_tool.specs.Output.{Gains}
+use Rattle.std.proofs.Common.{◌≡◌, ℕ, ◌≤◌, List, [], ◌++◌, Result, Ok, Err, OnErr, sym, ap, ◌∙◌, append_assoc, arith}
+use Rattle.acl_outside.specs.Sink.{SinkView, GainsPrefix, Puts}
+use Rattle.acl_outside.proofs.WritingLaws.{Gains-then, GainsPrefix-then, GainsPrefix-more}
+use Rattle.acl_tool.specs.Output.{Passes, HandsOn}
+
+-- a text after another
+pub Passes-then : (waiting_then waiting waiting_now first second : List ℕ) (old mid new : SinkView) →
+    Passes waiting_then waiting first old mid → Passes waiting waiting_now second mid new →
+    Passes waiting_then waiting_now (first ++ second) old new
+Passes-then waiting_then waiting waiting_now first second old mid new a b = record {
+  put = a.put ++ b.put;
+  gains = Gains-then a.put b.put old mid new a.gains b.gains;
+  together =
+      append_assoc a.put b.put waiting_now ∙ ap (λ bytes. a.put ++ bytes) b.together ∙ sym (append_assoc a.put waiting second)
+      ∙ ap (λ bytes. bytes ++ second) a.together ∙ append_assoc waiting_then first second;
+}
 
 -- a line that was first of what is to come is put behind what waits
-pub Gains-line : (waiting_then waiting waiting_now line rest text old mid new : List ℕ) → Gains waiting_then (waiting ++ (line ++ rest)) text old mid →
-    Gains waiting waiting_now line mid new → Gains waiting_then (waiting_now ++ rest) text old new
-Gains-line waiting_then waiting waiting_now line rest text old mid new first second = record {
-  front = first.front ++ second.front;
-  written = second.written ∙ ap (λ bytes. bytes ++ second.front) first.written ∙ append_assoc old first.front second.front;
+pub Passes-line : (waiting_then waiting waiting_now line rest text : List ℕ) (old mid new : SinkView) →
+    Passes waiting_then (waiting ++ (line ++ rest)) text old mid → Passes waiting waiting_now line mid new →
+    Passes waiting_then (waiting_now ++ rest) text old new
+Passes-line waiting_then waiting waiting_now line rest text old mid new a b = record {
+  put = a.put ++ b.put;
+  gains = Gains-then a.put b.put old mid new a.gains b.gains;
   together =
-      append_assoc first.front second.front (waiting_now ++ rest)
-      ∙ ap (λ bytes. first.front ++ bytes) (sym (append_assoc second.front waiting_now rest) ∙ ap (λ bytes. bytes ++ rest) second.together ∙ append_assoc waiting line rest)
-      ∙ first.together;
+      append_assoc a.put b.put (waiting_now ++ rest)
+      ∙ ap (λ bytes. a.put ++ bytes)
+      (sym (append_assoc b.put waiting_now rest) ∙ ap (λ bytes. bytes ++ rest) b.together ∙ append_assoc waiting line rest)
+      ∙ a.together;
 }
 
--- where a sink failed at what waits, a first part of all was put
-pub AppendsPrefix-failed : (waiting_then waiting rest text old mid new : List ℕ) → Gains waiting_then (waiting ++ rest) text old mid →
-    AppendsPrefix waiting mid new → AppendsPrefix (waiting_then ++ text) old new
-AppendsPrefix-failed waiting_then waiting rest text old mid new first failed = (
-  first.front ++ failed.0,
-  failed.1 ++ rest,
-  sym first.together ∙ ap (λ bytes. first.front ++ (bytes ++ rest)) failed.2 ∙ ap (λ bytes. first.front ++ bytes) (append_assoc failed.0 failed.1 rest) ∙ sym (append_assoc first.front failed.0 (failed.1 ++ rest)),
-  failed.3 ∙ ap (λ bytes. bytes ++ failed.0) first.written ∙ append_assoc old first.front failed.0,
-)
+-- where a sink failed at the first of what waits, a prefix of all was put
+pub Passes-failed : (waiting_then first rest text : List ℕ) (old mid new : SinkView) → Passes waiting_then (first ++ rest) text old mid →
+    GainsPrefix first mid new → GainsPrefix (waiting_then ++ text) old new
+Passes-failed waiting_then first rest text old mid new a failed =
+    rw (← a.together) (GainsPrefix-then a.put (first ++ rest) old mid new a.gains (GainsPrefix-more first rest mid new failed))
 
 -- the same where nothing is to come
-pub Gains-failed : (waiting_then waiting text old mid new : List ℕ) → Gains waiting_then waiting text old mid → AppendsPrefix waiting mid new → AppendsPrefix (waiting_then ++ text) old new
-Gains-failed waiting_then waiting text old mid new first failed = (
-  first.front ++ failed.0,
-  failed.1,
-  sym first.together ∙ ap (λ bytes. first.front ++ bytes) failed.2 ∙ sym (append_assoc first.front failed.0 failed.1),
-  failed.3 ∙ ap (λ bytes. bytes ++ failed.0) first.written ∙ append_assoc old first.front failed.0,
-)
+pub Passes-failed_last : (waiting_then waiting text : List ℕ) (old mid new : SinkView) → Passes waiting_then waiting text old mid →
+    GainsPrefix waiting mid new → GainsPrefix (waiting_then ++ text) old new
+Passes-failed_last waiting_then waiting text old mid new a failed =
+    rw (← a.together) (GainsPrefix-then a.put waiting old mid new a.gains failed)
 
--- what was gained is appended once all that waits is put
-pub Gains-put : (waiting_then waiting text old mid new : List ℕ) → Gains waiting_then waiting text old mid → Appends waiting mid new → Appends (waiting_then ++ text) old new
-Gains-put waiting_then waiting text old mid new first put =
-    put ∙ ap (λ bytes. bytes ++ waiting) first.written ∙ append_assoc old first.front waiting ∙ ap (λ bytes. old ++ bytes) first.together
-
--- what waits and the text go on together
-pub Gains-more : (waiting_then waiting text more old new : List ℕ) → Gains waiting_then waiting text old new → Gains waiting_then (waiting ++ more) (text ++ more) old new
-Gains-more waiting_then waiting text more old new h = record {
-  front = h.front;
-  written = h.written;
-  together = sym (append_assoc h.front waiting more) ∙ ap (λ bytes. bytes ++ more) h.together ∙ append_assoc waiting_then text more;
+-- a text was handed on, and then another, or a prefix of it
+pub HandsOn-then : {T E : Type 0} (waiting_then waiting waiting_now first second : List ℕ) (old mid new : SinkView) (result : Result T E) →
+    Passes waiting_then waiting first old mid → old.faults ≤ mid.faults → HandsOn waiting waiting_now second mid new result →
+    HandsOn waiting_then waiting_now (first ++ second) old new result
+HandsOn-then waiting_then waiting waiting_now first second old mid new (Ok x) a count b = record {
+  passes = Passes-then waiting_then waiting waiting_now first second old mid new a b.passes;
+  prefix = tt;
+  cause = tt;
+  count = omega (arith, count, b.count);
+}
+HandsOn-then waiting_then waiting waiting_now first second old mid new (Err e) a count b = record {
+  passes = tt;
+  prefix =
+      rw (← append_assoc waiting_then first second, ← a.together, append_assoc a.put waiting second)
+      (GainsPrefix-then a.put (waiting ++ second) old mid new a.gains b.prefix);
+  cause = omega (arith, count, b.cause);
+  count = omega (arith, count, b.count);
 }
 
--- a first part of a text is a first part of a longer one
-pub AppendsPrefix-more : (text more old new : List ℕ) → AppendsPrefix text old new → AppendsPrefix (text ++ more) old new
-AppendsPrefix-more text more old new h = (h.0, h.1 ++ more, ap (λ bytes. bytes ++ more) h.2 ∙ append_assoc h.0 h.1 more, h.3)
+-- a text was handed on, and then all that waits was put, or a prefix of it
+pub Puts-then : {T E : Type 0} (waiting_then waiting text : List ℕ) (old mid new : SinkView) (result : Result T E) →
+    Passes waiting_then waiting text old mid → old.faults ≤ mid.faults → Puts waiting mid new result → Puts (waiting_then ++ text) old new result
+Puts-then waiting_then waiting text old mid new (Ok x) a count b = record {
+  whole = rw (← a.together) (Gains-then a.put waiting old mid new a.gains b.whole);
+  prefix = tt;
+  cause = tt;
+  count = omega (arith, count, b.count);
+}
+Puts-then waiting_then waiting text old mid new (Err e) a count b = record {
+  whole = tt;
+  prefix = Passes-failed_last waiting_then waiting text old mid new a b.prefix;
+  cause = omega (arith, count, b.cause);
+  count = omega (arith, count, b.count);
+}
 
--- the same of what may be told
-pub Steps-put : (waiting_then waiting text : List ℕ) (old mid new : Option (List ℕ)) → Steps (Gains waiting_then waiting text) old mid →
-    Steps (Appends waiting) mid new → Steps (Appends (waiting_then ++ text)) old new
-Steps-put waiting_then waiting text old mid new first second =
-    Steps-join (Gains waiting_then waiting text) (Appends waiting) (Appends (waiting_then ++ text)) (λ a b c f s. Gains-put waiting_then waiting text a b c f s) old mid new first second
+-- a text that was put is one whatever else the answer holds
+pub Puts-as_ok : {T T' E : Type 0} (text : List ℕ) (old new : SinkView) (x : T) (y : T') →
+    Puts {E = E} text old new (Ok x) → Puts {E = E} text old new (Ok y)
+Puts-as_ok text old new x y h = record { whole = h.whole; prefix = tt; cause = tt; count = h.count }
 
-pub Steps-failed : (waiting_then waiting text : List ℕ) (old mid new : Option (List ℕ)) → Steps (Gains waiting_then waiting text) old mid →
-    Steps (AppendsPrefix waiting) mid new → Steps (AppendsPrefix (waiting_then ++ text)) old new
-Steps-failed waiting_then waiting text old mid new first second =
-    Steps-join (Gains waiting_then waiting text) (AppendsPrefix waiting) (AppendsPrefix (waiting_then ++ text)) (λ a b c f s. Gains-failed waiting_then waiting text a b c f s) old mid new first second
+pub Puts-as_err : {T T' E : Type 0} (text : List ℕ) (old new : SinkView) (e : E) →
+    Puts {T = T} text old new (Err e) → Puts {T = T'} text old new (Err e)
+Puts-as_err text old new e h = record { whole = tt; prefix = h.prefix; cause = h.cause; count = h.count }
 
-pub Steps-more : (waiting_then waiting text more : List ℕ) (old new : Option (List ℕ)) → Steps (Gains waiting_then waiting text) old new →
-    Steps (Gains waiting_then (waiting ++ more) (text ++ more)) old new
-Steps-more waiting_then waiting text more old new h =
-    Steps-weaker (Gains waiting_then waiting text) (Gains waiting_then (waiting ++ more) (text ++ more)) (λ a b f. Gains-more waiting_then waiting text more a b f) old new h
+-- where a text couldn't be handed on, and nothing waited before, a prefix of it was put
+pub HandsOn-failed : {T T' E : Type 0} (waiting_now text : List ℕ) (old new : SinkView) (e : E) →
+    HandsOn {T = T} [] waiting_now text old new (Err e) → Puts {T = T'} text old new (Err e)
+HandsOn-failed waiting_now text old new e h = record { whole = tt; prefix = h.prefix; cause = h.cause; count = h.count }
 
-pub Steps-front : (text more : List ℕ) (old new : Option (List ℕ)) → Steps (AppendsPrefix text) old new → Steps (AppendsPrefix (text ++ more)) old new
-Steps-front text more old new h = Steps-weaker (AppendsPrefix text) (AppendsPrefix (text ++ more)) (λ a b f. AppendsPrefix-more text more a b f) old new h
+-- where a text couldn't be handed on, and nothing waited before, a prefix of it and of what was to come was put
+pub HandsOn-broken : {T T' E : Type 0} (waiting_now text more : List ℕ) (old new : SinkView) (e : E) →
+    HandsOn {T = T} [] waiting_now text old new (Err e) → Puts {T = T'} (text ++ more) old new (Err e)
+HandsOn-broken waiting_now text more old new e h = record {
+  whole = tt;
+  prefix = GainsPrefix-more text more old new h.prefix;
+  cause = h.cause;
+  count = h.count;
+}
 
 -- a fact that holds anyway holds at an error
 pub OnErr-always : {T E P : Type 0} (r : Result T E) → P → OnErr r P

@@ -1,10 +1,8 @@
 -- A report that is under way: some records are printed, and the rest is still left.
-use Rattle.std.proofs.Common.{◌≡◌, ℕ, ◌+◌, ◌≤◌, List, ◌∷◌, ◌++◌, Option, length, cond, refl, sym, ap, subst, ◌∙◌, arith}
+use Rattle.std.proofs.Common.{◌≡◌, ℕ, ◌+◌, ◌≤◌, List, ◌∷◌, ◌++◌, Option, length, cond, refl, sym, ap, subst, ◌∙◌, append_assoc, arith}
 use Rattle.std.proofs.lemmas.List.Sums.{sum_by-cons}
 use Rattle.rule_set.specs.Rule.{RuleView}
-use Rattle.acl_outside.specs.Told.{Steps}
-use Rattle.acl_outside.specs.Sink.{AppendsPrefix}
-use Rattle.acl_outside.proofs.ToldLaws.{Steps-join}
+use Rattle.acl_outside.specs.Sink.{SinkView, GainsPrefix}
 use Rattle.acl_tool.specs.declared.report.Counts.{Counts}
 use Rattle.acl_tool.specs.declared.frame.Class.{Class}
 use Rattle.acl_tool.specs.declared.frame.Class.TheVariants as classes
@@ -13,8 +11,8 @@ use Rattle.acl_tool.specs.Capture.{records_of, onto_records}
 use Rattle.acl_tool.specs.Record.{HasRecord}
 use Rattle.acl_tool.specs.Report.{counts_of, counted, kind_of, line_of_record, lines_of_records}
 use Rattle.acl_tool.proofs.RecordLaws.{HasRecord-len, records_within-record, records_within-fuel}
-use Rattle.acl_tool.specs.Output.{Gains}
-use Rattle.acl_tool.proofs.OutputLaws.{Gains-line, AppendsPrefix-failed}
+use Rattle.acl_tool.specs.Output.{Passes}
+use Rattle.acl_tool.proofs.OutputLaws.{Passes-line, Passes-failed}
 
 -- the counts so far and those of the rest are those of all
 pub record AddUp (so_far rest all : Counts) : Type 0 where
@@ -24,12 +22,14 @@ pub record AddUp (so_far rest all : Counts) : Type 0 where
   pub short : so_far.short + rest.short ≡ all.short
 
 -- some records are printed and counted, and the rest of them is what is left
-pub record IsUnderWay (packet_rules : List RuleView) (records left : List ℕ) (counts : Counts) (waiting_then waiting : List ℕ) (old new : Option (List ℕ)) : Type 0 where
+pub record IsUnderWay (packet_rules : List RuleView) (records left : List ℕ) (counts : Counts) (waiting_then waiting : List ℕ) (old new : SinkView) :
+    Type 0 where
   pub few : counts.packets + length left ≤ length records
   pub classes : counts.ip4 + counts.other + counts.short ≡ counts.packets
   pub fault : (records_of (counts.packets + 1) left).fault ≡ (records_of 1 records).fault
   pub counted : AddUp counts (counts_of (records_of (counts.packets + 1) left).records) (counts_of (records_of 1 records).records)
-  pub text : Steps (Gains waiting_then (waiting ++ lines_of_records packet_rules (counts.packets + 1) (records_of (counts.packets + 1) left).records) (lines_of_records packet_rules 1 (records_of 1 records).records)) old new
+  pub text : Passes waiting_then (waiting ++ lines_of_records packet_rules (counts.packets + 1) (records_of (counts.packets + 1) left).records)
+      (lines_of_records packet_rules 1 (records_of 1 records).records) old new
 
 -- a whole record is the first of the records of what is left
 pub records_of-record : (number : ℕ) (left captured behind : List ℕ) → HasRecord left captured behind →
@@ -72,18 +72,22 @@ counted-classes classes.Other counts h = omega arith
 counted-classes classes.Short counts h = omega arith
 
 -- The next record is printed and counted.
-pub IsUnderWay-record : (packet_rules : List RuleView) (records left captured behind : List ℕ) (counts counts_now : Counts) (waiting_then waiting waiting_now line : List ℕ) (old mid new : Option (List ℕ)) →
+pub IsUnderWay-record : (packet_rules : List RuleView) (records left captured behind : List ℕ) (counts counts_now : Counts)
+    (waiting_then waiting waiting_now line : List ℕ) (old mid new : SinkView) →
     IsUnderWay packet_rules records left counts waiting_then waiting old mid → HasRecord left captured behind →
-    counts_now ≡ counted (kind_of (class_of captured)) counts → line ≡ line_of_record packet_rules (counts.packets + 1) captured → Steps (Gains waiting waiting_now line) mid new →
+    counts_now ≡ counted (kind_of (class_of captured)) counts → line ≡ line_of_record packet_rules (counts.packets + 1) captured →
+    Passes waiting waiting_now line mid new →
     IsUnderWay packet_rules records behind counts_now waiting_then waiting_now old new
 IsUnderWay-record packet_rules records left captured behind counts counts_now waiting_then waiting waiting_now line old mid new h at_record is_counted is_line step =
     let n = counts.packets + 1 in
     let rest = records_of (n + 1) behind in
+    let rest_lines = lines_of_records packet_rules (n + 1) rest.records in
+    let all_lines = lines_of_records packet_rules 1 (records_of 1 records).records in
     let all = counts_of (records_of 1 records).records in
     let next : records_of n left ≡ onto_records captured rest = records_of-record n left captured behind at_record in
     let number : counts_now.packets ≡ n = rw is_counted (counted-packets (kind_of (class_of captured)) counts) in
     let shorter = HasRecord-len at_record in
-    let lines : Steps (Gains waiting_then (waiting ++ (line_of_record packet_rules n captured ++ lines_of_records packet_rules (n + 1) rest.records)) (lines_of_records packet_rules 1 (records_of 1 records).records)) old mid = rw next at h.text in
+    let lines : Passes waiting_then (waiting ++ (line_of_record packet_rules n captured ++ rest_lines)) all_lines old mid = rw next at h.text in
     record {
       few = omega arith;
       classes = rw is_counted (counted-classes (kind_of (class_of captured)) counts h.classes);
@@ -91,21 +95,21 @@ IsUnderWay-record packet_rules records left captured behind counts counts_now wa
       counted = subst (λ (m : ℕ). AddUp counts_now (counts_of (records_of (m + 1) behind).records) all) (sym number)
           (subst (λ (c : Counts). AddUp c (counts_of rest.records) all) (sym is_counted)
           (AddUp-class (class_of captured) counts (counts_of rest.records) (counts_of (captured ∷ rest.records)) all (counts_of-record captured rest.records) (rw next at h.counted)));
-      text = rw number (Steps-join
-          (Gains waiting_then (waiting ++ (line_of_record packet_rules n captured ++ lines_of_records packet_rules (n + 1) rest.records)) (lines_of_records packet_rules 1 (records_of 1 records).records))
-          (Gains waiting waiting_now line)
-          (Gains waiting_then (waiting_now ++ lines_of_records packet_rules (n + 1) rest.records) (lines_of_records packet_rules 1 (records_of 1 records).records))
-          (λ a b c first second. Gains-line waiting_then waiting waiting_now (line_of_record packet_rules n captured) (lines_of_records packet_rules (n + 1) rest.records) (lines_of_records packet_rules 1 (records_of 1 records).records) a b c first (rw (← is_line) second))
-          old mid new lines step);
+      text = rw number
+          (Passes-line waiting_then waiting waiting_now (line_of_record packet_rules n captured) rest_lines all_lines old mid new lines (rw (← is_line) step));
     }
 
--- Where the sink fails under way, a first part of all the lines was put.
-pub IsUnderWay-failed : (packet_rules : List RuleView) (records left : List ℕ) (counts : Counts) (waiting_then waiting : List ℕ) (old mid new : Option (List ℕ)) →
-    IsUnderWay packet_rules records left counts waiting_then waiting old mid → Steps (AppendsPrefix waiting) mid new →
-    Steps (AppendsPrefix (waiting_then ++ lines_of_records packet_rules 1 (records_of 1 records).records)) old new
-IsUnderWay-failed packet_rules records left counts waiting_then waiting old mid new h failed =
-    let rest = lines_of_records packet_rules (counts.packets + 1) (records_of (counts.packets + 1) left).records in
-    let all = lines_of_records packet_rules 1 (records_of 1 records).records in
-    Steps-join (Gains waiting_then (waiting ++ rest) all) (AppendsPrefix waiting) (AppendsPrefix (waiting_then ++ all))
-    (λ a b c first second. AppendsPrefix-failed waiting_then waiting rest all a b c first second)
-    old mid new h.text failed
+-- Where the sink fails at the line of the next record, a prefix of all the lines was put.
+pub IsUnderWay-failed : (packet_rules : List RuleView) (records left captured behind : List ℕ) (counts : Counts)
+    (waiting_then waiting line : List ℕ) (old mid new : SinkView) →
+    IsUnderWay packet_rules records left counts waiting_then waiting old mid → HasRecord left captured behind →
+    line ≡ line_of_record packet_rules (counts.packets + 1) captured → GainsPrefix (waiting ++ line) mid new →
+    GainsPrefix (waiting_then ++ lines_of_records packet_rules 1 (records_of 1 records).records) old new
+IsUnderWay-failed packet_rules records left captured behind counts waiting_then waiting line old mid new h at_record is_line failed =
+    let n = counts.packets + 1 in
+    let rest_lines = lines_of_records packet_rules (n + 1) (records_of (n + 1) behind).records in
+    let all_lines = lines_of_records packet_rules 1 (records_of 1 records).records in
+    let this_line = line_of_record packet_rules n captured in
+    let lines : Passes waiting_then (waiting ++ (this_line ++ rest_lines)) all_lines old mid = rw (records_of-record n left captured behind at_record) at h.text in
+    Passes-failed waiting_then (waiting ++ this_line) rest_lines all_lines old mid new
+    (rw (append_assoc waiting this_line rest_lines) lines) (rw (← is_line) failed)

@@ -2,9 +2,8 @@
 use Rattle.std.specs.Prelude.{◌≡◌, ◌≢◌, ◌≤◌, ◌⊎◌, ℕ, List, false, true, Option, Some, Result, Ok, Err, IfOk, IfErr}
 use Rattle.std.specs.Option.{option_map}
 use Rattle.acl_outside.specs.Fault.{Rose}
-use Rattle.acl_outside.specs.Told.{Steps}
 use Rattle.acl_outside.specs.Desk.{File, DeskView, KeepsCounts}
-use Rattle.acl_outside.specs.Sink.{SinkView, Appends, AppendsPrefix}
+use Rattle.acl_outside.specs.Sink.{SinkView, Gains, GainsPrefix}
 use Rattle.acl_tool.specs.declared.status.Status.{Status}
 use Rattle.acl_tool.specs.declared.status.Status.TheVariants.{ReadFault, WriteFault, OutOfMemory}
 use Rattle.acl_tool.specs.declared.status.UsageFault.{UsageFault}
@@ -46,11 +45,11 @@ pub record Takes {X Y : Type 0} (name : List ℕ) (seen : X → Y) (expected : L
   pub absent : AsksForNothingAbsent old new (result ≡ Err ReadFault)
   pub kept : KeepsFiles old new
 
--- A text was put to a sink: all of it with the status that goes with it, or a first part of it where the sink failed.
+-- A text was put to a sink: all of it with the status that goes with it, or a prefix of it where the sink failed.
 pub record Prints (expected : Outcome) (old new : SinkView) (status : Status) : Type 0 where
-  pub decided : status ≢ WriteFault → (status ≡ expected.status) × Steps (Appends expected.text) old.written new.written
+  pub decided : status ≢ WriteFault → (status ≡ expected.status) × Gains expected.text old new
   pub write_fault : status ≡ WriteFault →
-      Rose old.faults new.faults × Steps (AppendsPrefix expected.text) old.written new.written
+      Rose old.faults new.faults × GainsPrefix expected.text old new
   pub count : old.faults ≤ new.faults
 
 -- A command, a request or a usage fault, ended as its outcome says, or with a status that has its cause.
@@ -59,15 +58,15 @@ pub record Ends (request : Result Request UsageFault) (old new : DeskView) (out_
   pub decided : (files : List File) → files_of old ≡ Some files → is_decided status ≡ true →
       status ≡ (outcome_of_command request files).status
   pub text : (files : List File) → files_of old ≡ Some files → is_decided status ≡ true →
-      Steps (Appends (outcome_of_command request files).text) out_old.written out_new.written
+      Gains (outcome_of_command request files).text out_old out_new
   -- a read fault and want of memory leave the output untouched
   pub read_fault : status ≡ ReadFault → CannotRead old new (λ files. (outcome_of_command request files).status ≡ ReadFault)
   pub read_fault_is_silent : status ≡ ReadFault → out_new ≡ out_old
   pub out_of_memory_is_silent : status ≡ OutOfMemory → out_new ≡ out_old
-  -- a write fault leaves a first part of the text
+  -- a write fault leaves a prefix of the text
   pub write_fault : status ≡ WriteFault → Rose out_old.faults out_new.faults
-  pub front : (files : List File) → files_of old ≡ Some files → status ≡ WriteFault →
-      Steps (AppendsPrefix (outcome_of_command request files).text) out_old.written out_new.written
+  pub prefix : (files : List File) → files_of old ≡ Some files → status ≡ WriteFault →
+      GainsPrefix (outcome_of_command request files).text out_old out_new
   -- in every case
   pub absent : AsksForNothingAbsent old new (status ≡ ReadFault)
   pub opened : (files : List File) → files_of old ≡ Some files → is_reported status ≡ true →
@@ -75,10 +74,10 @@ pub record Ends (request : Result Request UsageFault) (old new : DeskView) (out_
   pub kept : KeepsFiles old new
   pub count : out_old.faults ≤ out_new.faults
 
--- A line was put to a sink, or a first part of it where the sink failed.
+-- A line was put to a sink, or a prefix of it where the sink failed.
 pub record PutsLine (line : List ℕ) (old new : SinkView) : Type 0 where
-  pub told : Steps (Appends line) old.written new.written
-      ⊎ (Rose old.faults new.faults × Steps (AppendsPrefix line) old.written new.written)
+  pub told : Gains line old new
+      ⊎ (Rose old.faults new.faults × GainsPrefix line old new)
   pub count : old.faults ≤ new.faults
 
 -- No count of the desk or of the sink rose.

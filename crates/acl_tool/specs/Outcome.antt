@@ -10,7 +10,8 @@ use Rattle.acl_tool.specs.declared.status.CaptureFault.{CaptureFault}
 use Rattle.acl_tool.specs.Command.{Request, command}
 use Rattle.acl_tool.specs.RuleFile.{rule_file}
 use Rattle.acl_tool.specs.Capture.{Capture, capture_of}
-use Rattle.acl_tool.specs.Report.{lines_of_records, packets_line}
+use Rattle.acl_tool.specs.declared.report.Counts.{Counts}
+use Rattle.acl_tool.specs.Report.{counts_of, counts_text, lines_of_records}
 
 -- a status, and the text that is printed
 pub record Outcome : Type 0 where
@@ -40,10 +41,14 @@ abbrev pub front_of_file : ℕ → Option (List ℕ) → Result (List ℕ) Statu
 front_of_file cap None = Err ReadFault
 front_of_file cap (Some bytes) = Ok (take cap bytes)
 
--- A whole capture gives its lines and the line of the counts. One that ends in a fault gives the lines before the fault.
+-- the last line: that of the counts of a whole capture, and none where a fault ends it
+abbrev pub last_line : Counts → Option CaptureFault → List ℕ
+last_line counts None = counts_text counts
+last_line counts (Some fault) = []
+
+-- the lines of the records, and the last line
 abbrev pub text_of_records : List RuleView → List (List ℕ) → Option CaptureFault → List ℕ
-text_of_records rules records None = lines_of_records rules 1 records ++ packets_line records
-text_of_records rules records (Some fault) = lines_of_records rules 1 records
+text_of_records rules records fault = lines_of_records rules 1 records ++ last_line (counts_of records) fault
 
 abbrev pub text_of_capture : List RuleView → Capture → List ℕ
 text_of_capture rules capture = text_of_records rules capture.records capture.fault

@@ -60,7 +60,3 @@ counts_of frames = record {
   other = count_by (λ frame. is_other (class_of frame)) frames;
   short = count_by (λ frame. is_short (class_of frame)) frames;
 }
-
--- the last line: how many records there were, and how many of each class
-abbrev pub packets_line : List (List ℕ) → List ℕ
-packets_line frames = counts_text (counts_of frames)

@@ -1,10 +1,8 @@
 //! Lines on their way to a sink, which is given many at a time.
 
-ghost use Rattle.std.specs.Prelude.{◌≡◌, ◌≤◌, ◌+◌, ◌++◌, [], length, vec_len, vec_capacity, IfOk, OnOk, OnErr};
-ghost use Rattle.acl_outside.specs.Fault.{Rose};
-ghost use Rattle.acl_outside.specs.Told.{Steps};
-ghost use Rattle.acl_outside.specs.Sink.{Appends, AppendsPrefix};
-ghost use Rattle.acl_tool.specs.Output.{Gains};
+ghost use Rattle.std.specs.Prelude.{◌≡◌, ◌≤◌, ◌+◌, ◌++◌, [], length, vec_len, vec_capacity, IfOk, OnOk};
+ghost use Rattle.acl_outside.specs.Sink.{Puts};
+ghost use Rattle.acl_tool.specs.Output.{HandsOn};
 ghost use Rattle.acl_tool.specs.declared.line.TheConstants.{LINE_ROOM};
 
 use crate::line::LINE_ROOM;
@@ -46,13 +44,10 @@ impl Output {
     /// Puts a line of at most [`LINE_ROOM`] bytes behind the lines that wait, and these to the sink where there is no
     /// room for it. It takes no memory.
     ///
-    /// `Failed`: the sink's count rose, and a first part of what waited was put.
+    /// `Failed`: the sink's count rose, and a prefix of what waited was put.
     pub fn put_line<O: Sink>(&mut self, line: &[u8], out: &mut O) -> Result<(), Failed>
         requires { length line.now ≤ LINE_ROOM }
-        ensures gains { OnOk result (Steps (Gains self.old self.new line.now) (O.view out.old).written (O.view out.new).written) }
-        ensures front { OnErr result (Steps (AppendsPrefix self.old) (O.view out.old).written (O.view out.new).written) }
-        ensures cause { OnErr result (Rose (O.view out.old).faults (O.view out.new).faults) }
-        ensures count { (O.view out.old).faults ≤ (O.view out.new).faults }
+        ensures { HandsOn self.old self.new line.now (O.view out.old) (O.view out.new) result }
     {
         if ROOM - self.waiting.len() < line.len() {
             self.flush(out)?;
@@ -63,13 +58,10 @@ impl Output {
 
     /// Puts all that waits to the sink. It takes no memory.
     ///
-    /// `Failed`: the sink's count rose, and a first part of what waited was put.
+    /// `Failed`: the sink's count rose, and a prefix of what waited was put.
     pub fn flush<O: Sink>(&mut self, out: &mut O) -> Result<(), Failed>
-        ensures written { OnOk result (Steps (Appends self.old) (O.view out.old).written (O.view out.new).written) }
+        ensures puts { Puts self.old (O.view out.old) (O.view out.new) result }
         ensures empty { OnOk result (self.new ≡ []) }
-        ensures front { OnErr result (Steps (AppendsPrefix self.old) (O.view out.old).written (O.view out.new).written) }
-        ensures cause { OnErr result (Rose (O.view out.old).faults (O.view out.new).faults) }
-        ensures count { (O.view out.old).faults ≤ (O.view out.new).faults }
     {
         put_all(out, &self.waiting)?;
         self.waiting.clear();

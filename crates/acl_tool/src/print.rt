@@ -1,16 +1,14 @@
 //! The report of a capture, line by line.
 
-ghost use Rattle.std.specs.Prelude.{◌≡◌, ◌+◌, ◌^◌, ◌<◌, ◌≤◌, [], ◌++◌, length, take, IfOk, OnOk, OnErr};
-ghost use Rattle.acl_outside.specs.Fault.{Rose};
-ghost use Rattle.acl_outside.specs.Told.{Steps};
-ghost use Rattle.acl_outside.specs.Sink.{Appends, AppendsPrefix};
+ghost use Rattle.std.specs.Prelude.{◌≡◌, ◌+◌, ◌≤◌, [], take, IfOk};
+ghost use Rattle.acl_outside.specs.Sink.{Puts};
 ghost use Rattle.field_defs.specs.Layout.{ip4_fields};
 ghost use Rattle.acl_tool.specs.declared.line.TheConstants.{LINE_ROOM};
 ghost use Rattle.acl_tool.specs.Class.{class_of};
 ghost use Rattle.acl_tool.specs.Capture.{records_of};
-ghost use Rattle.acl_tool.specs.Report.{CountsFit, counted, counts_of, counts_text, kind_of, line_of_record, lines_of_records};
-ghost use Rattle.acl_tool.specs.Outcome.{text_of_capture, report};
-ghost use Rattle.acl_tool.specs.Output.{Gains};
+ghost use Rattle.acl_tool.specs.Report.{CountsFit, counted, counts_of, kind_of, line_of_record, lines_of_records};
+ghost use Rattle.acl_tool.specs.Outcome.{last_line, report, text_of_capture};
+ghost use Rattle.acl_tool.specs.Output.{HandsOn};
 ghost use Rattle.acl_tool.specs.Effects.{Prints};
 
 use crate::frame::{Class, extract};
@@ -57,32 +55,24 @@ fn print_whole<O: Sink>(
     requires layout { rules.now.layout ≡ ip4_fields }
     requires empty { output.old ≡ [] }
     ensures fault { IfOk result (λ fault. fault ≡ (records_of 1 records.now).fault) }
-    ensures text { OnOk result (Steps (Appends (text_of_capture rules.now.rules (records_of 1 records.now)))
-        (O.view out.old).written (O.view out.new).written) }
-    ensures front { OnErr result (Steps (AppendsPrefix (text_of_capture rules.now.rules (records_of 1 records.now)))
-        (O.view out.old).written (O.view out.new).written) }
-    ensures cause { OnErr result (Rose (O.view out.old).faults (O.view out.new).faults) }
-    ensures count { (O.view out.old).faults ≤ (O.view out.new).faults }
+    ensures puts { Puts (text_of_capture rules.now.rules (records_of 1 records.now)) (O.view out.old) (O.view out.new) result }
 {
     let printed = print_records(rules, records, output, out)?;
-    match printed.fault {
-        Some(_) => output.flush(out)?,
-        None => print_counts(&printed.counts, output, out)?,
-    }
+    print_last_line(&printed, output, out)?;
+    output.flush(out)?;
     Ok(printed.fault)
 }
 
-/// Puts the line of the counts, and all that waits.
-fn print_counts<O: Sink>(counts: &Counts, output: &mut Output, out: &mut O) -> Result<(), Failed>
-    ensures text { OnOk result (Steps (Appends (output.old ++ counts_text counts.now)) (O.view out.old).written (O.view out.new).written) }
-    ensures front { OnErr result (Steps (AppendsPrefix (output.old ++ counts_text counts.now)) (O.view out.old).written (O.view out.new).written) }
-    ensures cause { OnErr result (Rose (O.view out.old).faults (O.view out.new).faults) }
-    ensures count { (O.view out.old).faults ≤ (O.view out.new).faults }
+/// Puts the line of the counts, where no fault ended the capture.
+fn print_last_line<O: Sink>(printed: &Printed, output: &mut Output, out: &mut O) -> Result<(), Failed>
+    ensures { HandsOn output.old output.new (last_line printed.now.counts printed.now.fault) (O.view out.old) (O.view out.new) result }
 {
+    if printed.fault.is_some() {
+        return Ok(());
+    }
     let mut line = [0u8; LINE_ROOM];
-    let len = packets_line(counts, &mut line);
-    output.put_line(&line[..len], out)?;
-    output.flush(out)
+    let len = packets_line(&printed.counts, &mut line);
+    output.put_line(&line[..len], out)
 }
 
 /// What was printed of a capture: how many records of each class, and the fault that ended it.
@@ -102,12 +92,8 @@ fn print_records<O: Sink>(
     requires layout { rules.now.layout ≡ ip4_fields }
     ensures fault { IfOk result (λ printed. printed.fault ≡ (records_of 1 records.now).fault) }
     ensures counts { IfOk result (λ printed. printed.counts ≡ counts_of (records_of 1 records.now).records) }
-    ensures gains { OnOk result (Steps (Gains output.old output.new (lines_of_records rules.now.rules 1 (records_of 1 records.now).records))
-        (O.view out.old).written (O.view out.new).written) }
-    ensures front { OnErr result (Steps (AppendsPrefix (output.old ++ lines_of_records rules.now.rules 1 (records_of 1 records.now).records))
-        (O.view out.old).written (O.view out.new).written) }
-    ensures cause { OnErr result (Rose (O.view out.old).faults (O.view out.new).faults) }
-    ensures count { (O.view out.old).faults ≤ (O.view out.new).faults }
+    ensures hands_on { HandsOn output.old output.new (lines_of_records rules.now.rules 1 (records_of 1 records.now).records)
+        (O.view out.old) (O.view out.new) result }
 {
     let mut line = [0u8; LINE_ROOM];
     let mut counts = Counts::default();

@@ -1,44 +1,136 @@
-use Rattle.std.proofs.Common.{arith, ap, ◌∙◌, take, length-take, length-drop, length, ◌+◌, ◌≤◌, ◌≡◌, inl, inr, Some, []}
-use Rattle.acl_outside.specs.Desk.{Content}
+use Rattle.std.proofs.Common.{◌≡◌, ◌≤◌, ◌<◌, ◌+◌, [], ◌++◌, Some, Ok, length, take, inl, inr, refl, ap, ◌∙◌, append-nil, arith, length-take, length-drop}
+use Rattle.std.proofs.lemmas.Result.{err_from_is_err_and}
+use Rattle.acl_outside.specs.Desk.{Content, ReadsInto}
+use Rattle.acl_outside.specs.Heard.{Ended, BrokenOff, with_ending}
+use Rattle.acl_outside.specs.Reading.{and_goes_on}
 use Rattle.acl_outside.proofs.ToldLaws.{Steps-weaker}
-use Rattle.acl_outside.proofs.ReadingLaws.{Gives-capped, Steps-read_behind, Steps-read_end}
+use Rattle.acl_outside.proofs.ReadingLaws.{Gives-capped, Steps-to_end, take-read_behind, take-read_end}
+use Rattle.acl_outside.proofs.HeardLaws.{ReadsOn-none, ReadsOn-then, ReadsOn-given, ReadsOn-ended, ReadsOn-failed}
 use Rattle.acl_outside.proofs.reading.read_up_to.Goals as goal
 use Rattle.acl_outside.proofs.reading.read_up_to.Goals.{else-parts-test, then-parts-test+in_ok-make_room+in-Ok-eq0}
+
+pub parts-init : goal.parts-init
+parts-init g c = record {
+  in_bytes = omega arith;
+  in_cap = omega (arith, c.new-bytes.ensures.len);
+  read = ReadsOn-none (g.D.Desk.view c.args.desk.now);
+  reading = refl;
+  absent = refl;
+  counts = record { read_faults = omega arith; absent = omega arith };
+}
 
 pub parts-preserved : goal.parts-preserved
 parts-preserved g c =
     let within = simp (length-take, length-drop) at c.in-Ok.ensures.within in
     let in_bytes : c.parts.len + c.in-Ok.count ≤ c.make_room.new.bytes.len = omega arith in
+    let in_read : c.in-Ok.count ≤ length c.read.new.into = rw c.read.auto.into (simp (length-take, length-drop) (omega arith)) in
+    let some : 0 < length (take c.in-Ok.count c.read.new.into) =
+    omega (arith, length-take c.in-Ok.count c.read.new.into, in_read, c.in-Ok.count-test.1) in
     record {
       in_bytes = in_bytes;
       in_cap = omega arith;
-      given = Steps-read_behind c.make_room.new.bytes.len c.parts.len c.in-Ok.count c.deref_mut.result.now c.read.new.into _ _ c.parts.bytes.items
-          (omega arith) (rw c.read.auto.into (simp (length-take, length-drop) (omega arith))) in_bytes
-          (ap (take c.parts.len) c.deref_mut.ensures.value ∙ c.in_ok-make_room.ensures.kept) _ _ _ c.parts.invariant.given c.in-Ok.ensures.given;
+      read =
+          rw (
+            take-read_behind c.make_room.new.bytes.len c.parts.len c.in-Ok.count c.deref_mut.result.now c.read.new.into _ _
+                (omega arith) in_read in_bytes,
+            ap (take c.parts.len) c.deref_mut.ensures.value ∙ c.in_ok-make_room.ensures.kept,
+          )
+          (ReadsOn-then and_goes_on (take c.parts.len c.parts.bytes.items) (take c.in-Ok.count c.read.new.into)
+          (g.D.Desk.view c.args.desk.now) (g.D.Desk.view c.parts.desk) (g.D.Desk.view c.read.new.self) c.parts.invariant.read
+          (ReadsOn-given _ c.read.new.into c.in-Ok.count (g.D.Desk.view c.parts.desk) (g.D.Desk.view c.read.new.self) c.in-Ok.ensures some));
       reading = cc;
       absent = cc;
       counts = record { read_faults = omega (arith, c.in-Ok.ensures.counts.read_faults); absent = omega (arith, c.in-Ok.ensures.counts.absent) };
     }
 
-pub returns-clause-bytes : goal.returns-clause-bytes
-returns-clause-bytes g c = elim c.parts-test.branch [
+pub returns-in_err-make_room : goal.returns-in_err-make_room
+returns-in_err-make_room g c =
+    let failed = err_from_is_err_and c.from_residual.result c.from_residual.ensures.1 in
+    rw (failed.1, failed.2, c.in_err-make_room.ensures.out_of_memory)
+    record {
+      within = tt;
+      bytes = tt;
+      heard = tt;
+      lost = (take c.parts.len c.parts.bytes.items, c.parts.invariant.read);
+      reading = c.parts.invariant.reading;
+      read_fault = λ e. absurd (cc);
+      absent = c.parts.invariant.absent;
+      counts = c.parts.invariant.counts;
+    }
+
+pub returns-in-Err : goal.returns-in-Err
+returns-in-Err g c = record {
+  within = tt;
+  bytes = tt;
+  heard = tt;
+  lost = (
+    take c.parts.len c.parts.bytes.items ++ [],
+    ReadsOn-then (with_ending BrokenOff) (take c.parts.len c.parts.bytes.items) []
+        (g.D.Desk.view c.args.desk.now) (g.D.Desk.view c.parts.desk) (g.D.Desk.view c.read.new.self) c.parts.invariant.read
+        (ReadsOn-failed c.in-Err.field-0 _ c.read.new.into (g.D.Desk.view c.parts.desk) (g.D.Desk.view c.read.new.self) c.in-Err.ensures),
+  );
+  reading = cc;
+  read_fault = λ e. omega (arith, c.parts.invariant.counts.read_faults, c.in-Err.ensures.cause);
+  absent = cc;
+  counts = record { read_faults = omega (arith, c.in-Err.ensures.counts.read_faults); absent = omega (arith, c.in-Err.ensures.counts.absent) };
+}
+
+pub returns : goal.returns
+returns g c = elim c.parts-test.branch [
   | else-parts-test w ↦
       let full : length (take c.parts.len c.parts.bytes.items) ≡ c.args.cap =
       omega (arith, w.parts-test.false, c.parts.bytes.ok, length-take c.parts.len c.parts.bytes.items) in
-      rw (c.truncate.ensures.items, w.desk-is, w.bytes-is) (Steps-weaker _ _ (Gives-capped c.args.cap (take c.parts.len c.parts.bytes.items) full) _ _ c.parts.invariant.given)
+      let same : c.truncate.new.self.items ≡ take c.parts.len c.parts.bytes.items = rw (c.truncate.ensures.items, w.bytes-is) refl in
+      rw (w.desk-is)
+      record {
+        within = rw same (omega (arith, full));
+        bytes =
+            rw same
+            (Steps-weaker _ _ (Gives-capped c.args.cap (take c.parts.len c.parts.bytes.items) full) _ _ c.parts.invariant.read.told);
+        heard = rw same (inr (c.parts.invariant.read, full));
+        lost = tt;
+        reading = c.parts.invariant.reading;
+        read_fault = λ e. absurd (cc);
+        absent = c.parts.invariant.absent;
+        counts = c.parts.invariant.counts;
+      }
   | then-parts-test+in_ok-make_room+in-Ok-eq0 w ↦
       let room = w.in_ok-make_room.ensures.room in
-      let len = w.deref_mut.ensures.len in
+      let deref_len = w.deref_mut.ensures.len in
+      let before = c.parts.bytes.items in
+      let read : ReadsInto _ w.read.new.into (g.D.Desk.view c.parts.desk) (g.D.Desk.view w.read.new.self) (Ok 0) =
+      rw (w.in-Ok-eq0.field-0-test) at w.in-Ok-eq0.ensures in
+      let kept : take c.parts.len w.deref_mut.result.now ≡ take c.parts.len before =
+      ap (take c.parts.len) w.deref_mut.ensures.value ∙ w.in_ok-make_room.ensures.kept in
+      let same : c.truncate.new.self.items ≡ take c.parts.len before =
+      rw (c.truncate.ensures.items, w.bytes-is)
+      (take-read_end w.make_room.new.bytes.len c.parts.len w.deref_mut.result.now w.read.new.into _ _ before
+      (omega arith) (omega arith) kept) in
+      let few : length (take c.parts.len before) < c.args.cap = omega (arith, length-take c.parts.len before) in
       let ended : (content : Content) → (g.D.Desk.view c.parts.desk).content ≡ Some content → content.left ≡ [] =
-      elim (w.in-Ok-eq0.ensures.end (cc)) [
+      elim (read.end refl) [
         | inl empty ↦ absurd (let none = simp (length-take, length-drop) at (ap length empty) in omega (arith, none))
         | inr ended ↦ ended
       ] in
-      rw (c.truncate.ensures.items, w.desk-is, w.bytes-is)
-      (Steps-read_end c.args.cap w.make_room.new.bytes.len c.parts.len w.deref_mut.result.now w.read.new.into _ _ c.parts.bytes.items
-      (omega arith) (omega arith) (omega arith)
-      (ap (take c.parts.len) w.deref_mut.ensures.value ∙ w.in_ok-make_room.ensures.kept) _ _ _
-      c.parts.invariant.given
-      ended
-      (rw w.in-Ok-eq0.field-0-test at w.in-Ok-eq0.ensures.given))
+      rw (w.desk-is)
+      record {
+        within = rw same (omega (arith, few));
+        bytes =
+            rw same
+            (Steps-to_end c.args.cap (take c.parts.len before) (omega (arith, few)) _ _ _ c.parts.invariant.read.told ended read.given);
+        heard =
+            rw same
+            (inl (
+              rw (append-nil (take c.parts.len before)) at
+                  (ReadsOn-then (with_ending Ended) (take c.parts.len before) []
+                  (g.D.Desk.view c.args.desk.now) (g.D.Desk.view c.parts.desk) (g.D.Desk.view w.read.new.self) c.parts.invariant.read
+                  (ReadsOn-ended _ w.read.new.into (g.D.Desk.view c.parts.desk) (g.D.Desk.view w.read.new.self) read (simp (length-take, length-drop) (omega arith)))),
+              few,
+            ));
+        lost = tt;
+        reading = cc;
+        read_fault = λ e. absurd (cc);
+        absent = cc;
+        counts = record { read_faults = omega (arith, read.counts.read_faults); absent = omega (arith, read.counts.absent) };
+      }
 ]

@@ -1,6 +1,6 @@
 use Rattle.std.proofs.Common.{◌≡◌, ◌≤◌, ◌-◌, take, vec_len}
-use Rattle.acl_outside.specs.Told.{Steps}
-use Rattle.acl_outside.specs.Desk.{Gives, KeepsCounts}
+use Rattle.acl_outside.specs.Desk.{KeepsCounts}
+use Rattle.acl_outside.specs.Reading.{ReadsOn, and_goes_on}
 use Rattle.acl_outside.proofs.reading.read_up_to.Given as goal
 
 -- the bytes so far were given
@@ -8,7 +8,7 @@ abbrev pub invariant-parts : goal.invariant-parts
 invariant-parts g l = record {
   in_bytes : l.len ≤ vec_len l.bytes;
   in_cap : vec_len l.bytes ≤ l.cap;
-  given : Steps (Gives (take l.len l.bytes.items)) (g.D.Desk.view l.initial.desk).content (g.D.Desk.view l.desk).content;
+  read : ReadsOn and_goes_on (take l.len l.bytes.items) (g.D.Desk.view l.initial.desk) (g.D.Desk.view l.desk);
   reading : (g.D.Desk.view l.desk).reading ≡ (g.D.Desk.view l.initial.desk).reading;
   absent : (g.D.Desk.view l.desk).absent ≡ (g.D.Desk.view l.initial.desk).absent;
   counts : KeepsCounts (g.D.Desk.view l.initial.desk) (g.D.Desk.view l.desk);

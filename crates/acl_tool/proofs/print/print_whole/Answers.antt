@@ -1,55 +1,62 @@
-use Rattle.std.proofs.Common.{ℕ, List, [], ◌++◌, Some, None, sym, subst}
-use Rattle.acl_outside.specs.Told.{Steps}
-use Rattle.acl_outside.specs.Sink.{Appends, AppendsPrefix}
+use Rattle.std.proofs.Common.{◌≡◌, ℕ, ◌≤◌, List, [], ◌++◌, arith}
+use Rattle.std.proofs.lemmas.Result.{err_from_is_err_and}
 use Rattle.acl_tool.specs.Capture.{records_of}
-use Rattle.acl_tool.specs.Report.{lines_of_records, packets_line}
-use Rattle.acl_tool.proofs.OutputLaws.{Steps-put, Steps-failed, Steps-more, OnErr-always}
-use Rattle.acl_tool.proofs.Reports.{front_of_lines, text_at_fault}
+use Rattle.acl_tool.specs.Outcome.{last_line}
+use Rattle.acl_tool.specs.Report.{counts_of, lines_of_records}
+use Rattle.acl_tool.specs.Output.{Passes}
+use Rattle.acl_tool.proofs.OutputLaws.{Passes-then, HandsOn-then, HandsOn-failed, HandsOn-broken, Puts-then, Puts-as_ok, Puts-as_err}
 use Rattle.acl_tool.proofs.print.print_whole.Goals as goal
 
-pub returns-in_err-printed-clause-front : goal.returns-in_err-printed-clause-front
-returns-in_err-printed-clause-front g c =
+pub returns-in_err-printed-clause-puts : goal.returns-in_err-printed-clause-puts
+returns-in_err-printed-clause-puts g c =
     let capture = records_of 1 c.args.records.now in
-    OnErr-always c.from_residual.result (front_of_lines c.args.rules.now.rules capture.records capture.fault _ _ (rw c.requires.empty at c.in_err-printed.ensures.front))
+    let failed = err_from_is_err_and c.from_residual.result c.from_residual.ensures.1 in
+    rw (failed.1, failed.2)
+    (HandsOn-broken c.print_records.new.output (lines_of_records c.args.rules.now.rules 1 capture.records)
+    (last_line (counts_of capture.records) capture.fault) (g.O.Sink.view c.args.out.now) (g.O.Sink.view c.print_records.new.out) _
+    (rw c.requires.empty at c.in_err-printed.ensures.hands_on))
 
-pub returns-in_err-flush-in-Some-clause-front : goal.returns-in_err-flush-in-Some-clause-front
-returns-in_err-flush-in-Some-clause-front g c =
+pub returns-in_err-print_last_line-clause-puts : goal.returns-in_err-print_last_line-clause-puts
+returns-in_err-print_last_line-clause-puts g c =
+    let view = g.O.Sink.view in
     let capture = records_of 1 c.args.records.now in
     let lines = lines_of_records c.args.rules.now.rules 1 capture.records in
-    let gains = rw c.requires.empty at c.in_ok-printed.ensures.gains in
-    OnErr-always c.from_residual-in_err-flush-in-Some.result (front_of_lines c.args.rules.now.rules capture.records capture.fault _ _
-    (Steps-failed [] c.print_records.new.output lines _ _ _ gains c.in_err-flush-in-Some.ensures.front))
+    let last = last_line (counts_of capture.records) capture.fault in
+    let result = c.from_residual-in_err-print_last_line in
+    let failed = err_from_is_err_and result.result result.ensures.1 in
+    let hands = rw (c.in_ok-printed.ensures.counts, c.in_ok-printed.ensures.fault) at c.in_err-print_last_line.ensures in
+    rw (failed.1, failed.2)
+    (HandsOn-failed c.print_last_line.new.output (lines ++ last) (view c.args.out.now) (view c.print_last_line.new.out) _
+    (HandsOn-then [] c.print_records.new.output c.print_last_line.new.output lines last
+    (view c.args.out.now) (view c.print_records.new.out) (view c.print_last_line.new.out) _
+    (rw c.requires.empty at c.in_ok-printed.ensures.hands_on.passes) c.in_ok-printed.ensures.hands_on.count hands))
 
-pub returns-in_err-print_counts-in-None-clause-front : goal.returns-in_err-print_counts-in-None-clause-front
-returns-in_err-print_counts-in-None-clause-front g c =
+pub returns-in_err-flush-clause-puts : goal.returns-in_err-flush-clause-puts
+returns-in_err-flush-clause-puts g c =
+    let view = g.O.Sink.view in
     let capture = records_of 1 c.args.records.now in
     let lines = lines_of_records c.args.rules.now.rules 1 capture.records in
-    let last = packets_line capture.records in
-    let waiting = c.print_records.new.output in
-    let gains = rw c.requires.empty at c.in_ok-printed.ensures.gains in
-    let front = rw c.in_ok-printed.ensures.counts at c.in_err-print_counts-in-None.ensures.front in
-    OnErr-always c.from_residual-in_err-print_counts-in-None.result
-    (subst (λ (t : List ℕ). Steps (AppendsPrefix t) (g.O.Sink.view c.args.out.now).written (g.O.Sink.view c.print_counts.new.out).written)
-    (sym (text_at_fault c.args.rules.now.rules capture c.in_ok-printed.printed.fault None c.in_ok-printed.ensures.fault c.in-None.is))
-    (Steps-failed [] (waiting ++ last) (lines ++ last) _ _ _ (Steps-more [] waiting lines last _ _ gains) front))
+    let last = last_line (counts_of capture.records) capture.fault in
+    let failed = err_from_is_err_and c.from_residual-in_err-flush.result c.from_residual-in_err-flush.ensures.1 in
+    let hands = rw (c.in_ok-printed.ensures.counts, c.in_ok-printed.ensures.fault) at c.in_ok-print_last_line.ensures in
+    rw (failed.1, failed.2)
+    (Puts-as_err (lines ++ last) (view c.args.out.now) (view c.flush.new.out) _
+    (Puts-then [] c.print_last_line.new.output (lines ++ last) (view c.args.out.now) (view c.print_last_line.new.out) (view c.flush.new.out) _
+    (Passes-then [] c.print_records.new.output c.print_last_line.new.output lines last
+    (view c.args.out.now) (view c.print_records.new.out) (view c.print_last_line.new.out)
+    (rw c.requires.empty at c.in_ok-printed.ensures.hands_on.passes) hands.passes)
+    (omega (arith, c.in_ok-printed.ensures.hands_on.count, hands.count)) c.in_err-flush.ensures.puts))
 
-pub returns-in_ok-flush-in-Some-clause-text : goal.returns-in_ok-flush-in-Some-clause-text
-returns-in_ok-flush-in-Some-clause-text g c =
+pub returns-clause-puts : goal.returns-clause-puts
+returns-clause-puts g c =
+    let view = g.O.Sink.view in
     let capture = records_of 1 c.args.records.now in
     let lines = lines_of_records c.args.rules.now.rules 1 capture.records in
-    let gains = rw c.requires.empty at c.in_ok-printed.ensures.gains in
-    subst (λ (t : List ℕ). Steps (Appends t) (g.O.Sink.view c.args.out.now).written (g.O.Sink.view c.flush.new.out).written)
-    (sym (text_at_fault c.args.rules.now.rules capture c.in_ok-printed.printed.fault (Some c.in-Some.field-0) c.in_ok-printed.ensures.fault c.in-Some.is))
-    (Steps-put [] c.print_records.new.output lines _ _ _ gains c.in_ok-flush-in-Some.ensures.written)
-
-pub returns-in_ok-print_counts-in-None-clause-text : goal.returns-in_ok-print_counts-in-None-clause-text
-returns-in_ok-print_counts-in-None-clause-text g c =
-    let capture = records_of 1 c.args.records.now in
-    let lines = lines_of_records c.args.rules.now.rules 1 capture.records in
-    let last = packets_line capture.records in
-    let waiting = c.print_records.new.output in
-    let gains = rw c.requires.empty at c.in_ok-printed.ensures.gains in
-    let put = rw c.in_ok-printed.ensures.counts at c.in_ok-print_counts-in-None.ensures.text in
-    subst (λ (t : List ℕ). Steps (Appends t) (g.O.Sink.view c.args.out.now).written (g.O.Sink.view c.print_counts.new.out).written)
-    (sym (text_at_fault c.args.rules.now.rules capture c.in_ok-printed.printed.fault None c.in_ok-printed.ensures.fault c.in-None.is))
-    (Steps-put [] (waiting ++ last) (lines ++ last) _ _ _ (Steps-more [] waiting lines last _ _ gains) put)
+    let last = last_line (counts_of capture.records) capture.fault in
+    let hands = rw (c.in_ok-printed.ensures.counts, c.in_ok-printed.ensures.fault) at c.in_ok-print_last_line.ensures in
+    Puts-as_ok (lines ++ last) (view c.args.out.now) (view c.flush.new.out) _ _
+    (Puts-then [] c.print_last_line.new.output (lines ++ last) (view c.args.out.now) (view c.print_last_line.new.out) (view c.flush.new.out) _
+    (Passes-then [] c.print_records.new.output c.print_last_line.new.output lines last
+    (view c.args.out.now) (view c.print_records.new.out) (view c.print_last_line.new.out)
+    (rw c.requires.empty at c.in_ok-printed.ensures.hands_on.passes) hands.passes)
+    (omega (arith, c.in_ok-printed.ensures.hands_on.count, hands.count)) c.in_ok-flush.ensures.puts)

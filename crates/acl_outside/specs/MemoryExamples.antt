@@ -1,4 +1,4 @@
--- Rows of the desk and the sink over memory, each checked by evaluation.
+-- Examples of the desk and the sink over memory, each checked by evaluation.
 use Rattle.std.specs.Prelude.{◌≡◌, ℕ, List, [], ◌∷◌, true, false, Some, None, codes, refl}
 use Rattle.acl_outside.specs.Fault.{next_count}
 use Rattle.acl_outside.specs.Desk.{File, bytes_of}
@@ -36,6 +36,7 @@ no_files = refl
 abbrev desk_after : ℕ → MemDeskView
 desk_after calls = record {
   content = record { files = two_files; opened = Some (codes "rules"); left = 2 ∷ 3 ∷ 4 ∷ [] };
+  answers = [];
   piece = 2;
   failing = 2 ∷ 4 ∷ [];
   calls = calls;

@@ -1,0 +1,34 @@
+-- What the desk and the sink over the system are.
+use Rattle.std.specs.Prelude.{ℕ, List, Bool, Option, None}
+use Rattle.acl_outside.specs.Desk.{Answer, DeskView}
+use Rattle.acl_outside.specs.Sink.{SinkView}
+
+-- A desk over the system: the bytes that were read of the opened file and not given yet, what is still to come of it
+-- with these, where that is known, its answers so far, whether a file is opened, and the count of its read faults.
+pub record StdDeskView : Type 0 where
+  pub held : List ℕ
+  pub remaining : Option (List ℕ)
+  pub answers : List Answer
+  pub reading : Bool
+  pub read_faults : ℕ
+
+-- what it shows as a desk: no content, and no file is told to be absent
+abbrev pub shown_std_desk : StdDeskView → DeskView
+shown_std_desk desk = record {
+  content = None;
+  answers = desk.answers;
+  reading = desk.reading;
+  read_faults = desk.read_faults;
+  absent = 0;
+}
+
+-- A sink over a writer of the system: the bytes that the writer holds, where they are known, those that the sink took
+-- so far, and the count of its faults.
+pub record StdSinkView : Type 0 where
+  pub contents : Option (List ℕ)
+  pub taken : List ℕ
+  pub faults : ℕ
+
+-- what it shows as a sink: nothing is told of what was written
+abbrev pub shown_std_sink : StdSinkView → SinkView
+shown_std_sink sink = record { taken = sink.taken; written = None; faults = sink.faults }
