@@ -81,20 +81,21 @@ fn a_sink_in_memory_takes_pieces_up_to_its_room_or_its_fault(rt: HostRuntime) ->
 
 #[test]
 fn a_file_of_the_system_is_read_as_it_was_written(rt: HostRuntime) -> Result<(), Fail> {
-    let path = "acl_outside_std_desk_test";
+    // A name keeps its spaces, and 9,600,000 bytes are more than two buffers and two parts of memory.
+    let path = " acl_outside std_desk test ";
     let alloc = rt.alloc();
     let mut written = Vec::new(alloc);
-    for place in 0u32..150_000 {
+    for place in 0u32..2_400_000 {
         written.extend_from_slice(&place.to_be_bytes())?;
     }
     fs::write(&rt, path, written.as_slice())?;
 
     let mut desk = StdDesk::new(&rt);
-    assert_eq!(rt; desk.open_file("acl_outside_no_such_file"), Err(Failed));
+    assert_eq!(rt; desk.open_file("acl_outside std_desk test"), Err(Failed));
     desk.open_file(path)?;
     // A few bytes by way of the buffer, the rest of the buffer, and then straight into the list.
     reads(&rt, &mut desk, 24, written.get(..24));
-    reads(&rt, &mut desk, 1_000_000, written.get(24..));
+    reads(&rt, &mut desk, 10_000_000, written.get(24..));
     // An opened file is read from its beginning.
     desk.open_file(path)?;
     reads(&rt, &mut desk, 10, written.get(..10));
@@ -147,8 +148,13 @@ fn a_writer_is_asked_again_where_it_was_interrupted(rt: HostRuntime) -> Result<(
     drop(sink);
     assert_eq!(rt; taken.as_slice(), b"pa".as_slice());
 
+    // A long piece is written once, and as it is.
+    let mut piece = Vec::new(rt.alloc());
+    for place in 0u32..10_000 {
+        piece.extend_from_slice(&place.to_be_bytes())?;
+    }
     let mut whole = Vec::new(rt.alloc());
-    put_all(&mut StdSink::new(&mut whole), b"packets 0")?;
-    assert_eq!(rt; whole.as_slice(), b"packets 0".as_slice());
+    put_all(&mut StdSink::new(&mut whole), &piece)?;
+    assert_eq!(rt; whole.as_slice(), piece.as_slice());
     Ok(())
 }
