@@ -1,0 +1,5 @@
+pub mod Headers
+pub mod Start
+pub mod StartExamples
+pub mod Capture
+pub mod CaptureExamples

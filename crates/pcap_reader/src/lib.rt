@@ -1,0 +1,31 @@
+//! the bytes of a capture file → its records, or its first fault with the number of its record
+//!
+//! | module | what it reads |
+//! |---|---|
+//! | `header` | the numbers of both headers, in the order that the caller names |
+//! | `start` | what a file header says of the records: their byte order and link type |
+//! | `link` | the link types that are read |
+//! | `fault` | why a capture is refused |
+//! | `laws` | that the numbers are those of the format, in either order |
+//!
+//! The format is that of libpcap's savefiles, version 2.4. The file header stands once, and a
+//! record header stands in front of the captured bytes of each record:
+//!
+//!     | magic: 4 | major: 2 | minor: 2 | zone: 4 | accuracy: 4 | snap length: 4 | network: 4 |
+//!     | seconds: 4 | fraction: 4 | captured length: 4 | original length: 4 | captured bytes |
+//!
+//! All numbers stand in the order of the magic. What a capture means is defined in
+//! `specs/Capture.antt`, and what its file header says in `specs/Start.antt`, with examples beside
+//! them.
+#![tactic(auto)]
+
+mod fault;
+mod header;
+pub mod laws;
+mod link;
+mod start;
+
+pub use fault::CaptureFault;
+pub use header::{FileHeader, RecordHeader, file_header, record_header};
+pub use link::Link;
+pub use start::Order;
