@@ -1,0 +1,4 @@
+mod Chains
+mod Ip4Packets
+mod Ip6Packets
+mod Keys

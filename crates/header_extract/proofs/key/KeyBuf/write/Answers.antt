@@ -1,0 +1,11 @@
+use Rattle.std.proofs.Common.{◌≡◌, ◌+◌, ◌-◌, length, refl, arith}
+use Rattle.header_extract.proofs.Keys.{put_mid-key}
+use Rattle.header_extract.proofs.key.KeyBuf.write.Goals as goal
+
+pub returns : goal.returns
+returns c =
+    let n = length c.args.addresses.now in
+    let one : 1 + n - 1 ≡ n = omega arith in
+    let four : 1 + n + 4 - (1 + n) ≡ 4 = omega arith in
+    rw (c.copy_from_slice.ensures.after, c.copy_from_slice-2.ensures.after, one, four)
+    (put_mid-key n c.args.self.now.bytes c.args.addresses.now c.args.ports c.args.protocol (omega arith) refl)

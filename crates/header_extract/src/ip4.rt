@@ -1,0 +1,68 @@
+//! IPv4 packets.
+//!
+//!     | version: 4 bits | words: 4 bits | .. | flags: 3 bits | fragment offset: 13 bits |
+//!     | time to live: 1 | protocol: 1 | checksum: 2 | source: 4 | destination: 4 | options |
+//!
+//! Source: RFC 791, 3.1.
+
+ghost use Rattle.std.specs.Prelude.{◌≡◌, ◌≤◌, length};
+ghost use Rattle.header_extract.specs.Class.{Extracts, or_short};
+ghost use Rattle.header_extract.specs.Ip4.{ip4_class, ip4_ports};
+
+use crate::class::Class;
+use crate::key::KeyBuf;
+use crate::ports::{NO_PORTS, Ports, read_ports};
+use byte_numbers::network_u16_at;
+
+/// How many bytes an IPv4 header has without options, which is the least.
+const HEADER: usize = 20;
+/// The version of an IPv4 packet.
+const VERSION: u8 = 4;
+/// The low four bits of the first byte, which are the length of the header in words.
+const WORDS: u8 = 0x0F;
+/// How many bytes a word of the header has.
+const WORD: usize = 4;
+/// Where the flags and the fragment offset stand.
+const FRAGMENT: usize = 6;
+/// The low 13 bits, which are the fragment offset without the flags.
+const FRAGMENT_OFFSET: u16 = 0x1FFF;
+/// Where the protocol stands.
+const PROTOCOL: usize = 9;
+/// Where the two addresses begin.
+const ADDRESSES: usize = 12;
+
+/// The class of an IPv4 packet, whose key is written.
+#[inline]
+pub fn extract_ip4(packet: &[u8], key: &mut KeyBuf) -> Class
+    ensures { Extracts (ip4_class packet.now) key.old.bytes key.new.bytes result }
+{
+    if packet.len() < HEADER {
+        return Class::Short;
+    }
+    let header_len = usize::from(packet[0] & WORDS) * WORD;
+    if packet[0] >> 4 != VERSION || header_len < HEADER {
+        return Class::Other;
+    }
+    if packet.len() < header_len {
+        return Class::Short;
+    }
+    match packet_ports(packet, &packet[header_len..]) {
+        Some(ports) => {
+            key.write(packet[PROTOCOL], &packet[ADDRESSES..HEADER], ports);
+            Class::Ip4
+        }
+        None => Class::Short,
+    }
+}
+
+/// The ports of a packet, which are 0 in all fragments but the first, or `None` where they are cut.
+#[inline]
+fn packet_ports(packet: &[u8], payload: &[u8]) -> Option<Ports>
+    requires { 20 ≤ length packet.now }
+    ensures { ip4_ports packet.now payload.now ≡ or_short result }
+{
+    if network_u16_at(packet, FRAGMENT) & FRAGMENT_OFFSET != 0 {
+        return Some(NO_PORTS);
+    }
+    read_ports(packet[PROTOCOL], payload)
+}
