@@ -2,7 +2,8 @@
 use Rattle.std.proofs.Common.{◌≡◌, Bool, true, false, ◌&&◌, cond, Some, None, refl}
 
 -- a value was answered, so the test passed, and it is the value
-pub test_passed : {A : Type 0} (test : Bool) (value answer : A) → Some answer ≡ cond test (Some value) None → (test ≡ true) × (answer ≡ value)
+pub test_passed : {A : Type 0} (test : Bool) (value answer : A) → Some answer ≡ cond test (Some value) None
+    → (test ≡ true) × (answer ≡ value)
 test_passed true value answer is = (refl, cc)
 test_passed false value answer is = cc
 

@@ -1,67 +1,97 @@
 -- The text of an IPv6 address, read part by part.
-use Rattle.std.proofs.Common.{◌≡◌, ℕ, zero, suc, ◌+◌, ◌-◌, ◌*◌, ◌^◌, ◌<◌, ◌≤◌, Bool, true, false, ◌&&◌, cond, eqb, nat_le, List, [], ◌∷◌, ◌++◌, length, take, get_or, Some, None, refl, sym, ap, ◌∙◌, arith, inl, inr, zero-add, length-append}
+use Rattle.std.proofs.Common.{◌≡◌, ℕ, zero, suc, ◌+◌, ◌-◌, ◌*◌, ◌^◌, ◌<◌, ◌≤◌, Bool, true, false, ◌&&◌, cond, eqb}
+use Rattle.std.proofs.Common.{nat_le, List, [], ◌∷◌, ◌++◌, length, take, get_or, Some, None, refl, sym, ap, ◌∙◌, arith}
+use Rattle.std.proofs.Common.{inl, inr, zero-add, length-append}
 use Rattle.std.proofs.Math.Nat.{pow-le-pow_right}
-use Rattle.std.proofs.lemmas.Bool.{and_left, and_right, and_from, and_parts, cond-true, cond-false, cases_Bool, cond_both, or_left, and_cases, lt-leb, leb-false, le-leb}
+use Rattle.std.proofs.lemmas.Bool.{and_left, and_right, and_from, and_parts, cond-true, cond-false, cases_Bool}
+use Rattle.std.proofs.lemmas.Bool.{cond_both, or_left, and_cases, lt-leb, leb-false, le-leb}
 use Rattle.std.proofs.lemmas.Grind.{flat_map-append}
 use Rattle.std.proofs.lemmas.List.{take_more, length_push, take_at, append-nil}
-use Rattle.std.proofs.lemmas.List.Folds.{list_all-append}
+use Rattle.std.proofs.lemmas.List.Folds.{list_all-append, list_all_more}
 use Rattle.std.proofs.lemmas.List.Sums.{fold-append}
 use Rattle.std.specs.List.{list_all}
-use Rattle.text_scan.specs.declared.numbers.Numbers.{Numbers}
-use Rattle.text_scan.specs.Digits.{place_value, parts_of}
+use Rattle.text_scan.specs.declared.pieces.Pieces.{Pieces}
+use Rattle.text_scan.specs.Digits.{place_value}
+use Rattle.text_scan.specs.Parts.{dot, parts_of}
 use Rattle.text_scan.specs.Ip4.{is_ip4}
-use Rattle.text_scan.specs.Ip6.{is_ip6_group, is_ip6_end, numbers_of, are_groups, are_last_groups, numbers_of_all, joined, has_gap, groups_before, groups_behind, is_shortened, filled_numbers, ip6_of}
-use Rattle.text_scan.specs.Numbers.{with_numbers, numbers_from}
+use Rattle.text_scan.specs.Ip6.{is_ip6_group, is_ip6_end, pieces_of, are_groups, are_last_groups, pieces_of_all, joined}
+use Rattle.text_scan.specs.Ip6.{has_gap, groups_before, groups_behind, is_shortened, filled_pieces, ip6_of}
+use Rattle.text_scan.specs.Pieces.{with_pieces, pieces_from}
 use Rattle.text_scan.proofs.Powers.{joined-filled}
-use Rattle.text_scan.proofs.Parts.{Lacks-digits, parts_of_one}
+use Rattle.text_scan.proofs.Separators.{Lacks-digits, parts_of_one}
+
+-- one part on
+pub list_all_next : (p : List ℕ → Bool) (parts : List (List ℕ)) (n : ℕ) (part : List ℕ)
+    → (n < length parts) × (part ≡ get_or parts n part) → list_all p (take n parts) ≡ true → p part ≡ true
+    → list_all p (take (n + 1) parts) ≡ true
+list_all_next p parts n part at before here =
+    list_all_more p parts n part at.0 ∙ and_from (list_all p (take n parts)) _ before (ap p (sym at.1) ∙ here)
 
 -- a group is no IPv4 address: it has no dot
 pub group_no_ip4 : (part : List ℕ) → is_ip6_group part ≡ true → is_ip4 part ≡ false
 group_no_ip4 part group =
-    let lacks = Lacks-digits 16 46 part refl (and_parts (nat_le 1 (length part) && nat_le (length part) 4) _ group).1 in
-    and_left (eqb (length (parts_of 46 part)) 4) _ (ap (λ ps. eqb (length ps) 4) (parts_of_one 46 part lacks))
+    let lacks = Lacks-digits 16 dot part refl
+    (and_parts (nat_le 1 (length part) && nat_le (length part) 4) _ group).1 in
+    and_left (eqb (length (parts_of dot part)) 4) _ (ap (λ ps. eqb (length ps) 4) (parts_of_one dot part lacks))
 
 -- so it stands for one number
-pub numbers_of_group : (part : List ℕ) → is_ip6_group part ≡ true → numbers_of part ≡ place_value 16 part ∷ []
-numbers_of_group part group = cond-false _ _ _ (group_no_ip4 part group)
+pub pieces_of_group : (part : List ℕ) → is_ip6_group part ≡ true → pieces_of part ≡ place_value 16 part ∷ []
+pieces_of_group part group = cond-false _ _ _ (group_no_ip4 part group)
 
 -- each part stands for a number at least
-some_number : (part : List ℕ) → 0 < length (numbers_of part)
-some_number part = cond_both (is_ip4 part) _ _ (λ ns. 0 < length ns) (λ e. omega arith) (λ e. omega arith)
+some_piece : (part : List ℕ) → 0 < length (pieces_of part)
+some_piece part = cond_both (is_ip4 part) _ _ (λ ns. 0 < length ns) (λ e. omega arith) (λ e. omega arith)
 
--- the numbers of one part more
-pub numbers_of_all_next : (parts : List (List ℕ)) (n : ℕ) (part : List ℕ) → (n < length parts) × (part ≡ get_or parts n part) → numbers_of_all (take (n + 1) parts) ≡ numbers_of_all (take n parts) ++ numbers_of part
-numbers_of_all_next parts n part at =
-    ap numbers_of_all (take_more parts n part at.0)
-    ∙ flat_map-append numbers_of (take n parts) (get_or parts n part ∷ [])
-    ∙ ap (λ ns. numbers_of_all (take n parts) ++ ns) (append-nil (numbers_of (get_or parts n part)) ∙ ap numbers_of (sym at.1))
+-- the pieces of one part more
+pub pieces_of_all_next : (parts : List (List ℕ)) (n : ℕ) (part : List ℕ)
+    → (n < length parts) × (part ≡ get_or parts n part)
+    → pieces_of_all (take (n + 1) parts) ≡ pieces_of_all (take n parts) ++ pieces_of part
+pieces_of_all_next parts n part at =
+    ap pieces_of_all (take_more parts n part at.0)
+    ∙ flat_map-append pieces_of (take n parts) (get_or parts n part ∷ [])
+    ∙ ap (λ ns. pieces_of_all (take n parts) ++ ns)
+    (append-nil (pieces_of (get_or parts n part)) ∙ ap pieces_of (sym at.1))
 
--- parts that are left have numbers that are left
-pub more_numbers : (parts : List (List ℕ)) (n : ℕ) → n < length parts → length (numbers_of_all (take n parts)) < length (numbers_of_all parts)
-more_numbers [] n inside = absurd (omega arith)
-more_numbers (part ∷ parts) zero inside = omega (arith, some_number part, length-append (numbers_of part) (numbers_of_all parts))
-more_numbers (part ∷ parts) (suc n) inside =
-    omega (arith, more_numbers parts n (omega arith), length-append (numbers_of part) (numbers_of_all parts), length-append (numbers_of part) (numbers_of_all (take n parts)))
+-- parts that are left have pieces that are left
+pub more_pieces : (parts : List (List ℕ)) (n : ℕ) → n < length parts
+    → length (pieces_of_all (take n parts)) < length (pieces_of_all parts)
+more_pieces [] n inside = absurd (omega arith)
+more_pieces (part ∷ parts) zero inside =
+    omega (arith, some_piece part, length-append (pieces_of part) (pieces_of_all parts))
+more_pieces (part ∷ parts) (suc n) inside =
+    omega (
+      arith,
+      more_pieces parts n (omega arith),
+      length-append (pieces_of part) (pieces_of_all parts),
+      length-append
+          (pieces_of part) (pieces_of_all (take n parts)),
+    )
 
--- numbers behind numbers
-pub with_numbers-append : (before : Numbers) (xs ys : List ℕ) → with_numbers (with_numbers before xs) ys ≡ with_numbers before (xs ++ ys)
-with_numbers-append before xs ys =
-    let count : before.count + length xs + length ys ≡ before.count + length (xs ++ ys) = omega (arith, length-append xs ys) in
+-- pieces behind pieces
+pub with_pieces-append : (before : Pieces) (xs ys : List ℕ)
+    → with_pieces (with_pieces before xs) ys ≡ with_pieces before (xs ++ ys)
+with_pieces-append before xs ys =
+    let count : before.count + length xs + length ys ≡ before.count + length (xs ++ ys) =
+    omega (arith, length-append xs ys) in
     let value = sym (fold-append (λ n x. n * 65536 + x) before.value xs ys) in
     λ i. record { count = count i; value = value i }
 
--- fewer than eight numbers spell one of 112 bits
-pub seven_numbers : (value count : ℕ) → value < 65536 ^ count → count < 8 → value < 2 ^ 112
-seven_numbers value count before few = omega (arith, pow-le-pow_right {n = 65536} (omega arith) {i = count} {j = 7} (omega arith))
+-- fewer than eight pieces spell one of 112 bits
+pub seven_pieces : (value count : ℕ) → value < 65536 ^ count → count < 8 → value < 2 ^ 112
+seven_pieces value count before few =
+    omega (arith, pow-le-pow_right {n = 65536} (omega arith) {i = count} {j = 7} (omega arith))
 
 -- the number of a group behind those of the groups before it
-pub numbers_next : (parts : List (List ℕ)) (n number : ℕ) (part : List ℕ) (numbers : Numbers) → (n < length parts) × (part ≡ get_or parts n part) → is_ip6_group part ≡ true → number ≡ place_value 16 part → numbers ≡ numbers_from (numbers_of_all (take n parts)) → with_numbers numbers (number ∷ []) ≡ numbers_from (numbers_of_all (take (n + 1) parts))
-numbers_next parts n number part numbers at group is before =
-    ap (λ m. with_numbers numbers (m ∷ [])) is
-    ∙ ap (λ ms. with_numbers numbers ms) (sym (numbers_of_group part group))
-    ∙ ap (λ start. with_numbers start (numbers_of part)) before
-    ∙ with_numbers-append (record { count = 0; value = 0 }) (numbers_of_all (take n parts)) (numbers_of part)
-    ∙ ap numbers_from (sym (numbers_of_all_next parts n part at))
+pub pieces_next : (parts : List (List ℕ)) (n number : ℕ) (part : List ℕ) (pieces : Pieces)
+    → (n < length parts) × (part ≡ get_or parts n part) → is_ip6_group part ≡ true → number ≡ place_value 16 part
+    → pieces ≡ pieces_from (pieces_of_all (take n parts))
+    → with_pieces pieces (number ∷ []) ≡ pieces_from (pieces_of_all (take (n + 1) parts))
+pieces_next parts n number part pieces at group is before =
+    ap (λ m. with_pieces pieces (m ∷ [])) is
+    ∙ ap (λ ms. with_pieces pieces ms) (sym (pieces_of_group part group))
+    ∙ ap (λ start. with_pieces start (pieces_of part)) before
+    ∙ with_pieces-append (record { count = 0; value = 0 }) (pieces_of_all (take n parts)) (pieces_of part)
+    ∙ ap pieces_from (sym (pieces_of_all_next parts n part at))
 
 -- groups may stand last
 pub groups_are_ends : (groups : List (List ℕ)) → are_groups groups ≡ true → list_all is_ip6_end groups ≡ true
@@ -75,44 +105,79 @@ and_true true = refl
 and_true false = refl
 
 -- groups and a last part that may be an IPv4 address
-pub are_last_groups_push : (front : List (List ℕ)) (last : List ℕ) → are_last_groups (front ++ last ∷ []) ≡ (are_groups front && is_ip6_end last)
+pub are_last_groups_push : (front : List (List ℕ)) (last : List ℕ)
+    → are_last_groups (front ++ last ∷ []) ≡ (are_groups front && is_ip6_end last)
 are_last_groups_push front last =
-    let before : take (length (front ++ last ∷ []) - 1) (front ++ last ∷ []) ≡ front = take_at front (last ∷ []) (length (front ++ last ∷ []) - 1) (omega (arith, length_push front last)) in
+    let before : take (length (front ++ last ∷ []) - 1) (front ++ last ∷ []) ≡ front =
+    take_at front (last ∷ []) (length (front ++ last ∷ []) - 1) (omega (arith, length_push front last)) in
     ap (λ groups. are_groups groups && list_all is_ip6_end (front ++ last ∷ [])) before
     ∙ elim (cases_Bool (are_groups front)) [
-      | inl all ↦ rw (all, list_all-append is_ip6_end front (last ∷ []), groups_are_ends front all) (and_true (is_ip6_end last))
+      | inl all ↦ rw (all, list_all-append is_ip6_end front (last ∷ []), groups_are_ends front all)
+          (and_true (is_ip6_end last))
       | inr other ↦ rw other refl
     ]
 
--- the numbers of groups and of a last part
-numbers_of_all_push : (front : List (List ℕ)) (last : List ℕ) → numbers_of_all (front ++ last ∷ []) ≡ numbers_of_all front ++ numbers_of last
-numbers_of_all_push front last =
-    flat_map-append numbers_of front (last ∷ []) ∙ ap (λ ns. numbers_of_all front ++ ns) (append-nil (numbers_of last))
+-- the pieces of groups and of a last part
+pieces_of_all_push : (front : List (List ℕ)) (last : List ℕ)
+    → pieces_of_all (front ++ last ∷ []) ≡ pieces_of_all front ++ pieces_of last
+pieces_of_all_push front last =
+    flat_map-append pieces_of front (last ∷ []) ∙ ap (λ ns. pieces_of_all front ++ ns) (append-nil (pieces_of last))
 
 -- reading the last part after groups reads them all
-pub read_last : (front : List (List ℕ)) (last : List ℕ) (numbers : Numbers) → are_groups front ≡ true → numbers ≡ numbers_from (numbers_of_all front) → cond (is_ip6_end last && nat_le (numbers.count + length (numbers_of last)) 8) (Some (with_numbers numbers (numbers_of last))) None ≡ cond (are_last_groups (front ++ last ∷ []) && nat_le (length (numbers_of_all (front ++ last ∷ []))) 8) (Some (numbers_from (numbers_of_all (front ++ last ∷ [])))) None
-read_last front last numbers all is =
-    let whole = numbers_of_all_push front last in
-    let tests : is_ip6_end last ≡ are_last_groups (front ++ last ∷ []) = sym (are_last_groups_push front last ∙ ap (λ t. t && is_ip6_end last) all) in
-    let counts : numbers.count + length (numbers_of last) ≡ length (numbers_of_all (front ++ last ∷ [])) = omega (arith, ap (λ ns. ns.count) is, ap length whole, length-append (numbers_of_all front) (numbers_of last)) in
-    let values : with_numbers numbers (numbers_of last) ≡ numbers_from (numbers_of_all (front ++ last ∷ [])) = ap (λ start. with_numbers start (numbers_of last)) is ∙ with_numbers-append (record { count = 0; value = 0 }) (numbers_of_all front) (numbers_of last) ∙ ap numbers_from (sym whole) in
+pub read_last : (front : List (List ℕ)) (last : List ℕ) (pieces : Pieces) → are_groups front ≡ true
+    → pieces ≡ pieces_from (pieces_of_all front)
+    → cond (is_ip6_end last && nat_le (pieces.count + length (pieces_of last)) 8)
+    (Some (with_pieces pieces (pieces_of last))) None ≡ cond
+    (are_last_groups (front ++ last ∷ []) && nat_le (length (pieces_of_all (front ++ last ∷ []))) 8)
+    (Some (pieces_from (pieces_of_all (front ++ last ∷ [])))) None
+read_last front last pieces all is =
+    let whole = pieces_of_all_push front last in
+    let tests : is_ip6_end last ≡ are_last_groups (front ++ last ∷ []) =
+    sym (are_last_groups_push front last ∙ ap (λ t. t && is_ip6_end last) all) in
+    let counts : pieces.count + length (pieces_of last) ≡ length (pieces_of_all (front ++ last ∷ [])) =
+    omega (arith, ap (λ ns. ns.count) is, ap length whole, length-append (pieces_of_all front) (pieces_of last)) in
+    let values : with_pieces pieces (pieces_of last) ≡ pieces_from (pieces_of_all (front ++ last ∷ [])) =
+    ap (λ start. with_pieces start (pieces_of last)) is
+    ∙ with_pieces-append (record { count = 0; value = 0 }) (pieces_of_all front) (pieces_of last)
+    ∙ ap pieces_from (sym whole) in
     λ i. cond (tests i && nat_le (counts i) 8) (Some (values i)) None
 
 -- groups that are refused refuse a text with a last part behind them too
-pub refused_before_last : (front : List (List ℕ)) (last : List ℕ) → (are_groups front && nat_le (length (numbers_of_all front)) 8) ≡ false → (are_last_groups (front ++ last ∷ []) && nat_le (length (numbers_of_all (front ++ last ∷ []))) 8) ≡ false
+pub refused_before_last : (front : List (List ℕ)) (last : List ℕ)
+    → (are_groups front && nat_le (length (pieces_of_all front)) 8) ≡ false
+    → (are_last_groups (front ++ last ∷ []) && nat_le (length (pieces_of_all (front ++ last ∷ []))) 8) ≡ false
 refused_before_last front last refused =
     elim (and_cases (are_groups front) _ refused) [
-      | inl other ↦ and_left (are_last_groups (front ++ last ∷ [])) _ (are_last_groups_push front last ∙ and_left (are_groups front) _ other)
-      | inr many ↦ and_right (are_last_groups (front ++ last ∷ [])) _ (lt-leb _ 8 (omega (arith, leb-false (length (numbers_of_all front)) 8 many, ap length (numbers_of_all_push front last), length-append (numbers_of_all front) (numbers_of last))))
+      | inl other ↦
+          and_left (are_last_groups (front ++ last ∷ [])) _
+          (are_last_groups_push front last ∙ and_left (are_groups front) _ other)
+      | inr many ↦ and_right (are_last_groups (front ++ last ∷ [])) _
+          (lt-leb _ 8 (omega (
+            arith,
+            leb-false (length (pieces_of_all front)) 8 many,
+            ap length
+                (pieces_of_all_push front last),
+            length-append (pieces_of_all front) (pieces_of last),
+          )))
     ]
 
 -- an address with `::`
-pub ip6_of_shortened : (text : List ℕ) (before behind : Numbers) (value : ℕ) → has_gap text ≡ true → are_groups (groups_before text) ≡ true → before ≡ numbers_from (numbers_of_all (groups_before text)) → are_last_groups (groups_behind text) ≡ true → behind ≡ numbers_from (numbers_of_all (groups_behind text)) → before.count + behind.count ≤ 7 → value ≡ before.value * 65536 ^ (8 - before.count) + behind.value → Some value ≡ ip6_of text
+pub ip6_of_shortened : (text : List ℕ) (before behind : Pieces) (value : ℕ) → has_gap text ≡ true
+    → are_groups (groups_before text) ≡ true → before ≡ pieces_from (pieces_of_all (groups_before text))
+    → are_last_groups (groups_behind text) ≡ true → behind ≡ pieces_from (pieces_of_all (groups_behind text))
+    → before.count + behind.count ≤ 7 → value ≡ before.value * 65536 ^ (8 - before.count) + behind.value
+    → Some value ≡ ip6_of text
 ip6_of_shortened text before behind value gap first before_is last behind_is few is =
-    let xs = numbers_of_all (groups_before text) in
-    let ys = numbers_of_all (groups_behind text) in
-    let counts : length xs + length ys ≤ 7 = omega (arith, ap (λ ns. ns.count) before_is, ap (λ ns. ns.count) behind_is) in
-    let shortened : is_shortened text ≡ true = and_from (are_groups (groups_before text) && are_last_groups (groups_behind text)) _ (and_from (are_groups (groups_before text)) _ first last) (le-leb (length xs + length ys) 7 counts) in
-    let power : before.value * 65536 ^ (8 - before.count) ≡ joined xs * 65536 ^ (8 - length xs) = ap (λ ns. ns.value * 65536 ^ (8 - ns.count)) before_is ∙ ap (λ n. joined xs * 65536 ^ (8 - n)) (zero-add (length xs)) in
-    let sum : value ≡ joined (filled_numbers xs ys) = omega (arith, is, power, ap (λ ns. ns.value) behind_is, joined-filled xs ys counts) in
+    let xs = pieces_of_all (groups_before text) in
+    let ys = pieces_of_all (groups_behind text) in
+    let counts : length xs + length ys ≤ 7 =
+    omega (arith, ap (λ ns. ns.count) before_is, ap (λ ns. ns.count) behind_is) in
+    let shortened : is_shortened text ≡ true =
+    and_from (are_groups (groups_before text) && are_last_groups (groups_behind text)) _
+    (and_from (are_groups (groups_before text)) _ first last) (le-leb (length xs + length ys) 7 counts) in
+    let power : before.value * 65536 ^ (8 - before.count) ≡ joined xs * 65536 ^ (8 - length xs) =
+    ap (λ ns. ns.value * 65536 ^ (8 - ns.count)) before_is
+    ∙ ap (λ n. joined xs * 65536 ^ (8 - n)) (zero-add (length xs)) in
+    let sum : value ≡ joined (filled_pieces xs ys) =
+    omega (arith, is, power, ap (λ ns. ns.value) behind_is, joined-filled xs ys counts) in
     ap (λ n. Some n) sum ∙ sym (cond-true (has_gap text) _ _ gap ∙ cond-true (is_shortened text) _ _ shortened)

@@ -1,12 +1,12 @@
 pub mod PlaceValues
 pub mod DigitTexts
 pub mod Forms
+pub mod Cuts
 pub mod Gaps
 pub mod Guards
-pub mod Ip4Texts
 pub mod Ip6Texts
 pub mod Joins
-pub mod Parts
+pub mod Separators
 pub mod Powers
 pub mod ReadBack
 pub mod Spellings

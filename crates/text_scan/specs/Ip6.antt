@@ -1,10 +1,14 @@
--- The address texts of RFC 4291, section 2.2: eight groups of one to four hexadecimal digits of either case, parted by
--- `:` (form 1); `::` once, for one or more groups of zeros (form 2); the last two groups as an IPv4 address (form 3).
--- A zone behind the address (RFC 4007, section 11) is no part of it.
-use Rattle.std.specs.Prelude.{ℕ, suc, ◌+◌, ◌-◌, ◌*◌, ◌/◌, ◌%◌, ◌^◌, ◌==◌, Bool, ◌&&◌, ◌||◌, nat_le, nat_lt, nat_eq, false, if◌then◌else◌, List, [], ◌∷◌, ◌++◌, map, length, take, drop, replicate, codes, Option, Some, None}
+-- The address texts of RFC 4291, section 2.2: eight groups of one to four hexadecimal digits of
+-- either case, separated by `:` (form 1); `::` once, for one or more groups of zeros (form 2); the
+-- last two groups as an IPv4 address (form 3). A zone behind the address (RFC 4007, section 11) is
+-- no part of it.
+use Rattle.std.specs.Prelude.{ℕ, suc, ◌+◌, ◌-◌, ◌*◌, ◌/◌, ◌%◌, ◌^◌, ◌==◌, Bool, ◌&&◌, ◌||◌, nat_le}
+use Rattle.std.specs.Prelude.{nat_lt, nat_eq, false, if◌then◌else◌, List, [], ◌∷◌, ◌++◌, map}
+use Rattle.std.specs.Prelude.{length, take, drop, replicate, codes, Option, Some, None}
 use Rattle.std.specs.Fmt.{digits}
 use Rattle.std.specs.List.{list_all, flat_map, fold, starts_with, join_with_byte}
-use Rattle.text_scan.specs.Digits.{place_value, is_group, colon, parts_of}
+use Rattle.text_scan.specs.Digits.{place_value, is_group}
+use Rattle.text_scan.specs.Parts.{colon, parts_of}
 use Rattle.text_scan.specs.Ip4.{is_ip4, ip4_value}
 
 -- one to four hexadecimal digits
@@ -15,9 +19,11 @@ is_ip6_group text = is_group 16 4 text
 abbrev pub is_ip6_end : List ℕ → Bool
 is_ip6_end text = is_ip6_group text || is_ip4 text
 
--- the numbers of 16 bits that a group or an IPv4 address stands for: one or two
-abbrev pub numbers_of : List ℕ → List ℕ
-numbers_of text = if is_ip4 text then ip4_value text / 65536 ∷ ip4_value text % 65536 ∷ [] else place_value 16 text ∷ []
+-- the pieces of 16 bits that a group or an IPv4 address stands for: one or two
+abbrev pub pieces_of : List ℕ → List ℕ
+pieces_of text =
+    if is_ip4 text then ip4_value text / 65536 ∷ ip4_value text % 65536 ∷ [] else place_value 16
+    text ∷ []
 
 -- the groups of a text that may have none: none where it is empty
 abbrev pub groups_of : List ℕ → List (List ℕ)
@@ -31,12 +37,12 @@ are_groups groups = list_all is_ip6_group groups
 abbrev pub are_last_groups : List (List ℕ) → Bool
 are_last_groups groups = are_groups (take (length groups - 1) groups) && list_all is_ip6_end groups
 
--- the numbers of groups in a row
-abbrev pub numbers_of_all : List (List ℕ) → List ℕ
-numbers_of_all groups = flat_map numbers_of groups
+-- the pieces of groups in a row
+abbrev pub pieces_of_all : List (List ℕ) → List ℕ
+pieces_of_all groups = flat_map pieces_of groups
 
--- The place of the first `::`, or the length where there is none. Where a text is an address it has no second one; the
--- law `ip6_is_cut_anywhere` of `src/laws.rt` says that a text may be cut at any.
+-- The place of the first `::`, or the length where there is none. Where a text is an address it has
+-- no second one; the law `ip6_is_cut_anywhere` of `src/laws.rt` says that a text may be cut at any.
 abbrev pub gap_place : List ℕ → ℕ
 gap_place [] = 0
 gap_place (c ∷ cs) = if starts_with nat_eq (c ∷ cs) (codes "::") then 0 else suc (gap_place cs)
@@ -52,37 +58,41 @@ groups_before text = groups_of (take (gap_place text) text)
 abbrev pub groups_behind : List ℕ → List (List ℕ)
 groups_behind text = groups_of (drop (gap_place text + 2) text)
 
--- the whole text is an address without `::`: groups for eight numbers
+-- the whole text is an address without `::`: groups for eight pieces
 abbrev pub is_full : List ℕ → Bool
-is_full text = are_last_groups (groups_of text) && length (numbers_of_all (groups_of text)) == 8
+is_full text = are_last_groups (groups_of text) && length (pieces_of_all (groups_of text)) == 8
 
--- the whole text is an address with one `::`: groups for at most seven numbers, on both sides together
+-- the whole text is an address with one `::`: groups for at most seven pieces, on both sides
+-- together
 abbrev pub is_shortened : List ℕ → Bool
 is_shortened text = are_groups (groups_before text) && are_last_groups (groups_behind text)
-    && nat_le (length (numbers_of_all (groups_before text)) + length (numbers_of_all (groups_behind text))) 7
+    && nat_le (length (pieces_of_all (groups_before text)) + length
+    (pieces_of_all (groups_behind text))) 7
 
--- the eight numbers of an address with `::`: zeros stand in its place
-abbrev pub filled_numbers : List ℕ → List ℕ → List ℕ
-filled_numbers before behind = before ++ replicate (8 - (length before + length behind)) 0 ++ behind
+-- the eight pieces of an address with `::`: zeros stand in its place
+abbrev pub filled_pieces : List ℕ → List ℕ → List ℕ
+filled_pieces before behind = before ++ replicate (8 - (length before + length behind)) 0 ++ behind
 
-abbrev pub shortened_numbers : List ℕ → List ℕ
-shortened_numbers text = filled_numbers (numbers_of_all (groups_before text)) (numbers_of_all (groups_behind text))
+abbrev pub shortened_pieces : List ℕ → List ℕ
+shortened_pieces text =
+    filled_pieces (pieces_of_all (groups_before text)) (pieces_of_all (groups_behind text))
 
--- the number that numbers of 16 bits spell, the most significant first
+-- the number that pieces of 16 bits spell, the most significant first
 abbrev pub joined : List ℕ → ℕ
-joined numbers = fold (λ n x. n * 65536 + x) 0 numbers
+joined pieces = fold (λ n x. n * 65536 + x) 0 pieces
 
 -- the address that the whole text spells
 abbrev pub ip6_of : List ℕ → Option ℕ
 ip6_of text =
     if has_gap text
-    then (if is_shortened text then Some (joined (shortened_numbers text)) else None)
-    else (if is_full text then Some (joined (numbers_of_all (groups_of text))) else None)
+    then (if is_shortened text then Some (joined (shortened_pieces text)) else None)
+    else (if is_full text then Some (joined (pieces_of_all (groups_of text))) else None)
 
--- the eight numbers of an address, the most significant first
-abbrev pub ip6_numbers : ℕ → List ℕ
-ip6_numbers value = map (λ place. value / 65536 ^ place % 65536) (7 ∷ 6 ∷ 5 ∷ 4 ∷ 3 ∷ 2 ∷ 1 ∷ 0 ∷ [])
+-- the eight pieces of an address, the most significant first
+abbrev pub ip6_pieces : ℕ → List ℕ
+ip6_pieces value = map (λ place. value / 65536 ^ place % 65536) (7 ∷ 6 ∷ 5 ∷ 4 ∷ 3 ∷ 2 ∷ 1 ∷ 0 ∷ [])
 
--- the text of an address: its eight numbers in lower-case hexadecimal without leading zeros, and without `::`
+-- the text of an address: its eight pieces in lower-case hexadecimal without leading zeros, and
+-- without `::`
 abbrev pub ip6_spelling : ℕ → List ℕ
-ip6_spelling value = join_with_byte colon (map (digits 16 false) (ip6_numbers value))
+ip6_spelling value = join_with_byte colon (map (digits 16 false) (ip6_pieces value))

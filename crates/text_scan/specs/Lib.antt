@@ -1,8 +1,10 @@
 pub mod Digits
+pub mod Parts
+pub mod PartsExamples
 pub mod Numeral
-pub mod NumeralRows
+pub mod NumeralExamples
 pub mod Ip4
-pub mod Ip4Rows
+pub mod Ip4Examples
 pub mod Ip6
-pub mod Ip6Rows
-pub mod Numbers
+pub mod Ip6Examples
+pub mod Pieces

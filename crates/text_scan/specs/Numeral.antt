@@ -1,15 +1,18 @@
--- Numbers in text as ClassBench filter sets spell them: in decimal, or in hexadecimal behind `0x` or `0X` with digits
--- of either case. These are C's decimal and hexadecimal constants (ISO C, 6.4.4.1, without suffixes), but for one choice
--- of ours: leading zeros change nothing, so no number is octal.
-use Rattle.std.specs.Prelude.{ℕ, ◌+◌, ◌==◌, Bool, ◌&&◌, ◌||◌, nat_le, if◌then◌else◌, List, length, drop, slice_index, Option, Some, None}
+-- Numbers in text as ClassBench filter sets spell them: in decimal, or in hexadecimal behind `0x`
+-- or `0X` with digits of either case. These are C's decimal and hexadecimal constants (ISO C,
+-- 6.4.4.1, without suffixes), but for one choice of ours: leading zeros change nothing, so no
+-- number is octal.
+use Rattle.std.specs.Prelude.{ℕ, ◌+◌, ◌==◌, Bool, ◌&&◌, ◌||◌, nat_le, if◌then◌else◌, List, length}
+use Rattle.std.specs.Prelude.{drop, slice_index, Option, Some, None}
 use Rattle.std.specs.Char.{is_digit}
 use Rattle.text_scan.specs.Digits.{place_value, run_of}
 
--- The text begins with `0x` or `0X` and a hexadecimal digit: 48 is `0`, 120 is `x` and 88 is `X`. Past the end of a
--- text `slice_index` gives 0, which is none of them.
+-- The text begins with `0x` or `0X` and a hexadecimal digit: 48 is `0`, 120 is `x` and 88 is `X`.
+-- Past the end of a text `slice_index` gives 0, which is none of them.
 abbrev pub begins_hexadecimal : List ℕ → Bool
 begins_hexadecimal text =
-    slice_index text 0 == 48 && (slice_index text 1 == 120 || slice_index text 1 == 88) && is_digit (slice_index text 2) 16
+    slice_index text 0 == 48 && (slice_index text 1 == 120 || slice_index text 1 == 88) && is_digit
+    (slice_index text 2) 16
 
 -- the base of a number at the beginning of the text
 abbrev pub base_of : List ℕ → ℕ
@@ -33,7 +36,8 @@ numeral_len text = mark_len text + length (digits_of text)
 
 -- a number stands at the beginning of the text, and it is at most `greatest`
 abbrev pub begins_numeral : ℕ → List ℕ → Bool
-begins_numeral greatest text = nat_le 1 (length (digits_of text)) && nat_le (numeral_value text) greatest
+begins_numeral greatest text =
+    nat_le 1 (length (digits_of text)) && nat_le (numeral_value text) greatest
 
 -- the value of the number at place `at`, at most `greatest`, and the place after it
 abbrev pub numeral_at : List ℕ → ℕ → ℕ → Option (ℕ × ℕ)

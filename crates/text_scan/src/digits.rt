@@ -1,6 +1,7 @@
 //! Digits in a base from 2 to 16: what they spell, and numbers written in them.
 
-ghost use Rattle.std.specs.Prelude.{◌≡◌, ◌+◌, ◌-◌, ◌^◌, ◌<◌, ◌≤◌, ◌++◌, ◌⊎◌, ◌&&◌, false, nat_le, if◌then◌else◌, length, take, drop, map};
+ghost use Rattle.std.specs.Prelude.{◌≡◌, ◌+◌, ◌-◌, ◌^◌, ◌<◌, ◌≤◌, ◌++◌, ◌⊎◌, ◌&&◌, false, nat_le};
+ghost use Rattle.std.specs.Prelude.{if◌then◌else◌, length, take, drop, map};
 ghost use Rattle.std.specs.Fmt.{digit_glyph, digits};
 ghost use Rattle.std.specs.List.{join_with_byte};
 ghost use Rattle.text_scan.specs.Digits.{are_digits, is_group, place_value, run_of};
@@ -33,12 +34,14 @@ fn run_len(text: &[u8], base: u32) -> usize
         .count()
 }
 
-/// What a text of digits spells. None where another byte stands in it, or where the value is above 64 bits.
+/// What a text of digits spells. None where another byte stands in it, or where the value is above
+/// 64 bits.
 fn digits_value(text: &[u8], base: u32) -> Option<u64>
     requires low { 2 ≤ base }
     requires high { base ≤ 16 }
     ensures { let value = place_value base text.now in
-        result ≡ (if are_digits base text.now && nat_le value (2 ^ 64 - 1) then Some value else None) }
+        result ≡ (if are_digits base text.now && nat_le value (2 ^ 64 - 1)
+        then Some value else None) }
 {
     let mut value = 0u64;
     for byte in text {
@@ -55,7 +58,8 @@ pub fn group_value(text: &[u8], base: u32, most: usize) -> Option<u16>
     requires low { 2 ≤ base }
     requires high { base ≤ 16 }
     requires short { most ≤ 4 }
-    ensures { result ≡ (if is_group base most text.now then Some (place_value base text.now) else None) }
+    ensures { result ≡
+        (if is_group base most text.now then Some (place_value base text.now) else None) }
 {
     if text.is_empty() || most < text.len() {
         return None;
@@ -63,14 +67,17 @@ pub fn group_value(text: &[u8], base: u32, most: usize) -> Option<u16>
     Some(digits_value(text, base)? as u16)
 }
 
-/// Writes numbers in the base at the beginning of `into`, parted by the separator, and gives the length of the text.
+/// Writes numbers in the base at the beginning of `into`, separated by the separator, and gives the
+/// length of the text.
 ///
 /// The base is 10 or 16. The bytes of `into` behind the text stay as they are.
 pub fn put_groups(groups: &[u16], base: u16, separator: u8, into: &mut [u8; 40]) -> usize
     requires base { (base ≡ 10) ⊎ (base ≡ 16) }
     requires room { length (join_with_byte separator (map (digits base false) groups.now)) ≤ 40 }
-    ensures len { result ≡ length (join_with_byte separator (map (digits base false) groups.now)) }
-    ensures text { take result into.new ≡ join_with_byte separator (map (digits base false) groups.now) }
+    ensures len { result ≡
+        length (join_with_byte separator (map (digits base false) groups.now)) }
+    ensures text { take result into.new ≡
+        join_with_byte separator (map (digits base false) groups.now) }
     ensures behind { drop result into.new ≡ drop result into.old }
 {
     let mut len = 0;
@@ -84,7 +91,8 @@ pub fn put_groups(groups: &[u16], base: u16, separator: u8, into: &mut [u8; 40])
     len
 }
 
-/// Writes a value in the base at place `at` of `into`, without leading zeros, and gives the place after it.
+/// Writes a value in the base at place `at` of `into`, without leading zeros, and gives the place
+/// after it.
 fn put_digits(value: u16, base: u16, into: &mut [u8; 40], at: usize) -> usize
     requires base { (base ≡ 10) ⊎ (base ≡ 16) }
     requires room { at + length (digits base false value) ≤ 40 }

@@ -5,26 +5,26 @@ ghost use Rattle.text_scan.specs.Digits.{place_value};
 ghost use Rattle.text_scan.specs.Ip4.{ip4_of, ip4_spelling, is_ip4_group};
 
 use crate::digits::{group_value, put_groups};
+use crate::parts::{split_in_two, split_once};
 
-/// The IPv4 address that the whole text spells: four groups of one to three decimal digits, each at most 255, parted
-/// by `.`. Leading zeros are accepted, and the first group is the most significant byte.
+/// The IPv4 address that the whole text spells: four groups of one to three decimal digits, each at
+/// most 255, parted by `.`. Leading zeros are accepted, and the first group is the most significant
+/// byte.
 ///
-/// None exactly where the text has another form. It takes no memory.
-/// Source: RFC 791, section 3.2, for the address; RFC 1123, section 2.1, for its dotted form.
+/// None exactly where the text has another form. It takes no memory. Source: RFC 791, section 3.2,
+/// for the address; RFC 1123, section 2.1, for its dotted form.
 pub fn ip4_text(bytes: &[u8]) -> Option<u32>
     ensures { result ≡ ip4_of bytes.now }
 {
-    let mut value = 0;
-    let mut count = 0usize;
-    for part in bytes.split(|byte| *byte == b'.') {
-        let group = group_byte(part)?;
-        if count == 4 {
-            return None;
-        }
-        value = value * 256 + u32::from(group);
-        count += 1;
-    }
-    (count == 4).then_some(value)
+    let (first, rest) = split_once(bytes, b'.')?;
+    let (second, rest) = split_once(rest, b'.')?;
+    let (third, fourth) = split_in_two(rest, b'.')?;
+    Some(u32::from_be_bytes([
+        group_byte(first)?,
+        group_byte(second)?,
+        group_byte(third)?,
+        group_byte(fourth)?,
+    ]))
 }
 
 /// The byte that a group spells: one to three decimal digits, at most 255.
@@ -34,11 +34,11 @@ fn group_byte(text: &[u8]) -> Option<u8>
     u8::try_from(group_value(text, 10, 3)?).ok()
 }
 
-/// Prints an IPv4 address in its dotted form, without leading zeros, and gives the length of the text.
+/// Prints an IPv4 address in its dotted form, without leading zeros, and gives the length of the
+/// text.
 ///
-/// The text has at most 15 bytes and stands at the beginning of `into`; the bytes behind it stay as they are. It refuses
-/// nothing and takes no memory.
-/// Source: RFC 1123, section 2.1.
+/// The text has at most 15 bytes and stands at the beginning of `into`; the bytes behind it stay as
+/// they are. It refuses nothing and takes no memory. Source: RFC 1123, section 2.1.
 pub fn put_ip4(value: u32, into: &mut [u8; 40]) -> usize
     ensures len { result ≡ length (ip4_spelling value) }
     ensures fits { result ≤ 15 }

@@ -1,30 +1,31 @@
 //! IPv6 addresses in text.
 
-ghost use Rattle.std.specs.Prelude.{◌≡◌, ◌+◌, ◌≤◌, ◌/◌, ◌%◌, ◌^◌, ◌<◌, if◌then◌else◌, length, take, drop, IfSome};
+ghost use Rattle.std.specs.Prelude.{◌≡◌, ◌+◌, ◌≤◌, ◌/◌, ◌%◌, ◌^◌, ◌<◌, if◌then◌else◌, length, take};
+ghost use Rattle.std.specs.Prelude.{drop, IfSome};
 ghost use Rattle.text_scan.specs.Ip6.{gap_place, has_gap, ip6_of, ip6_spelling};
 
 use crate::digits::put_groups;
-use crate::numbers::{first_numbers, last_numbers};
+use crate::pieces::{first_pieces, last_pieces};
 
 /// How many groups may be written beside `::`, which stands for one or more.
 const MOST_BESIDE_GAP: u32 = 7;
 
-/// The IPv6 address that the whole text spells: eight groups of one to four hexadecimal digits of either case, parted
-/// by `:`.
+/// The IPv6 address that the whole text spells: eight groups of one to four hexadecimal digits of
+/// either case, parted by `:`.
 ///
-/// `::` may stand once, for one or more groups of zeros, and an IPv4 address for the last two groups of the text. The
-/// first group is the most significant. None exactly where the text has another form, as with a zone or a prefix
-/// length. It takes no memory.
-/// Source: RFC 4291, section 2.2.
+/// `::` may stand once, for one or more groups of zeros, and an IPv4 address for the last two
+/// groups of the text. The first group is the most significant. None exactly where the text has
+/// another form, as with a zone or a prefix length. It takes no memory. Source: RFC 4291, section
+/// 2.2.
 pub fn ip6_text(bytes: &[u8]) -> Option<u128>
     ensures { result ≡ ip6_of bytes.now }
 {
     let Some(place) = find_gap(bytes) else {
-        let numbers = last_numbers(bytes)?;
-        return (numbers.count == 8).then_some(numbers.value);
+        let pieces = last_pieces(bytes)?;
+        return (pieces.count == 8).then_some(pieces.value);
     };
-    let before = first_numbers(&bytes[..place])?;
-    let behind = last_numbers(&bytes[place + 2..])?;
+    let before = first_pieces(&bytes[..place])?;
+    let behind = last_pieces(&bytes[place + 2..])?;
     if before.count + behind.count > MOST_BESIDE_GAP {
         return None;
     }
@@ -46,33 +47,32 @@ fn find_gap(text: &[u8]) -> Option<usize>
     None
 }
 
-/// Prints an IPv6 address as eight groups of lower-case hexadecimal digits, without leading zeros and without `::`, and
-/// gives the length of the text.
+/// Prints an IPv6 address as eight groups of lower-case hexadecimal digits, without leading zeros
+/// and without `::`, and gives the length of the text.
 ///
-/// The text has at most 39 bytes and stands at the beginning of `into`; the bytes behind it stay as they are. It refuses
-/// nothing and takes no memory.
-/// Source: RFC 4291, section 2.2, form 1.
+/// The text has at most 39 bytes and stands at the beginning of `into`; the bytes behind it stay as
+/// they are. It refuses nothing and takes no memory. Source: RFC 4291, section 2.2, form 1.
 pub fn put_ip6(value: u128, into: &mut [u8; 40]) -> usize
     ensures len { result ≡ length (ip6_spelling value) }
     ensures fits { result ≤ 39 }
     ensures text { take result into.new ≡ ip6_spelling value }
     ensures behind { drop result into.new ≡ drop result into.old }
 {
-    let numbers = [
-        number_at(value, 7),
-        number_at(value, 6),
-        number_at(value, 5),
-        number_at(value, 4),
-        number_at(value, 3),
-        number_at(value, 2),
-        number_at(value, 1),
-        number_at(value, 0),
+    let pieces = [
+        piece_at(value, 7),
+        piece_at(value, 6),
+        piece_at(value, 5),
+        piece_at(value, 4),
+        piece_at(value, 3),
+        piece_at(value, 2),
+        piece_at(value, 1),
+        piece_at(value, 0),
     ];
-    put_groups(&numbers, 16, b':', into)
+    put_groups(&pieces, 16, b':', into)
 }
 
 /// The number of 16 bits at a place of the address, counted from the last one.
-fn number_at(value: u128, place: u32) -> u16
+fn piece_at(value: u128, place: u32) -> u16
     requires { place < 8 }
     ensures { result ≡ value / 65536 ^ place % 65536 }
 {

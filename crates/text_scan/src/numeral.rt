@@ -1,18 +1,21 @@
 //! Numbers in text.
 
 ghost use Rattle.std.specs.Prelude.{◌≡◌, ◌-◌, ◌^◌, ◌≤◌, if◌then◌else◌, length};
-ghost use Rattle.text_scan.specs.Numeral.{begins_hexadecimal, begins_numeral, numeral_at, numeral_len, numeral_value};
+ghost use Rattle.text_scan.specs.Numeral.{begins_hexadecimal, begins_numeral, numeral_at};
+ghost use Rattle.text_scan.specs.Numeral.{numeral_len, numeral_value};
 
 use crate::digits::leading_digits;
 
-/// The number at place `at` of the bytes, and the place after its last digit. The place is at most the number of bytes.
+/// The number at place `at` of the bytes, and the place after its last digit. The place is at most
+/// the number of bytes.
 ///
-/// A number is decimal digits, or `0x` or `0X` and hexadecimal digits of either case, as many as follow. Leading zeros
-/// change nothing, and `0x` without a hexadecimal digit is the number 0 before an `x`.
+/// A number is decimal digits, or `0x` or `0X` and hexadecimal digits of either case, as many as
+/// follow. Leading zeros change nothing, and `0x` without a hexadecimal digit is the number 0
+/// before an `x`.
 ///
-/// None exactly where no number stands at the place, or its value is above `max`, however many digits it has. It takes
-/// no memory.
-/// Source: ISO C, 6.4.4.1, decimal and hexadecimal constants without suffixes; no number here is octal.
+/// None exactly where no number stands at the place, or its value is above `max`, however many
+/// digits it has. It takes no memory. Source: ISO C, 6.4.4.1, decimal and hexadecimal constants
+/// without suffixes; no number here is octal.
 pub fn number(bytes: &[u8], at: usize, max: u64) -> Option<(u64, usize)>
     requires { at ≤ length bytes.now }
     ensures { result ≡ numeral_at bytes.now at max }
@@ -21,7 +24,8 @@ pub fn number(bytes: &[u8], at: usize, max: u64) -> Option<(u64, usize)>
     (value <= max).then_some((value, at + len))
 }
 
-/// The number that the text begins with, and how many bytes it takes. None where its value is above 64 bits.
+/// The number that the text begins with, and how many bytes it takes. None where its value is above
+/// 64 bits.
 fn leading_number(text: &[u8]) -> Option<(u64, usize)>
     ensures { result ≡ (if begins_numeral (2 ^ 64 - 1) text.now
         then Some (numeral_value text.now, numeral_len text.now) else None) }

@@ -6,10 +6,17 @@ use Rattle.text_scan.proofs.PlaceValues.{short_group}
 use Rattle.text_scan.proofs.digits.group_value.Goals as goal
 
 -- up to four digits spell no more than 64 bits hold, so only another byte is refused
-other_byte : (base : ℕ) (text : List ℕ) → 2 ≤ base → base ≤ 16 → length text ≤ 4 → (are_digits base text && nat_le (place_value base text) (2 ^ 64 - 1)) ≡ false → are_digits base text ≡ false
+other_byte : (base : ℕ) (text : List ℕ) → 2 ≤ base → base ≤ 16 → length text ≤ 4
+    → (are_digits base text && nat_le (place_value base text) (2 ^ 64 - 1)) ≡ false → are_digits base text ≡ false
 other_byte base text low high short refused =
     elim (cases_Bool (are_digits base text)) [
-      | inl digits ↦ absurd (omega (arith, short_group base text low high short digits, leb-false (place_value base text) (2 ^ 64 - 1) (second_failed (are_digits base text) _ refused digits)))
+      | inl digits ↦
+          absurd (omega (
+            arith,
+            short_group base text low high short digits,
+            leb-false (place_value base text) (2 ^ 64 - 1)
+                (second_failed (are_digits base text) _ refused digits),
+          ))
       | inr other ↦ other
     ]
 
@@ -17,11 +24,19 @@ pub returns-in_err-digits_value : goal.returns-in_err-digits_value
 returns-in_err-digits_value c =
     let base = c.args.base in
     let text = c.args.text.now in
-    let other = other_byte c.args.base text c.requires.low c.requires.high (omega arith) (test_failed _ _ c.in_err-digits_value.ensures) in
-    c.from_residual.ensures ∙ sym (cond-false (is_group base c.args.most text) _ _ (and_right (nat_le 1 (length text) && nat_le (length text) c.args.most) _ other))
+    let other = other_byte c.args.base text c.requires.low c.requires.high (omega arith)
+    (test_failed _ _ c.in_err-digits_value.ensures) in
+    c.from_residual.ensures
+    ∙ sym (cond-false (is_group base c.args.most text) _ _
+    (and_right (nat_le 1 (length text) && nat_le (length text) c.args.most) _ other))
 
 pub overflow_cast-result : goal.overflow_cast-result
 overflow_cast-result c =
     let text = c.args.text.now in
     let passed = test_passed _ _ _ c.in_ok-digits_value.ensures in
-    omega (arith, passed.1, short_group c.args.base text c.requires.low c.requires.high (omega arith) (and_parts (are_digits c.args.base text) _ passed.0).0)
+    omega (
+      arith,
+      passed.1,
+      short_group c.args.base text c.requires.low c.requires.high (omega arith)
+          (and_parts (are_digits c.args.base text) _ passed.0).0,
+    )

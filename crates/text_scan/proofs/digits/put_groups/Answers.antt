@@ -1,4 +1,5 @@
-use Rattle.std.proofs.Common.{◌≡◌, ℕ, ◌+◌, ◌<◌, ◌++◌, false, length, take, map, get_or, List, [], ◌∷◌, arith, sym, ap, ◌∙◌, append_assoc, length-set}
+use Rattle.std.proofs.Common.{◌≡◌, ℕ, ◌+◌, ◌<◌, ◌++◌, false, length, take, map, get_or, List, [], ◌∷◌, arith, sym, ap}
+use Rattle.std.proofs.Common.{◌∙◌, append_assoc, length-set}
 use Rattle.std.proofs.lemmas.List.{get_or-map, length-map}
 use Rattle.std.specs.Fmt.{digits}
 use Rattle.std.specs.List.{join_with_byte}
@@ -8,14 +9,20 @@ use Rattle.text_scan.proofs.digits.put_groups.Goals as goal
 use Rattle.text_scan.proofs.digits.put_groups.Goals.{then-place-gt0, else-place-gt0}
 
 -- what is written of a group stands in the list of all that is written
-part_at : (write : ℕ → List ℕ) (groups : List ℕ) (place : ℕ) → place < length groups → get_or (map write groups) place [] ≡ write (get_or groups place 0)
+part_at : (write : ℕ → List ℕ) (groups : List ℕ) (place : ℕ) → place < length groups
+    → get_or (map write groups) place [] ≡ write (get_or groups place 0)
 part_at write groups place inside = get_or-map write groups place 0 [] inside
 
 pub bounds-into-len : goal.bounds-into-len
 bounds-into-len c =
     let parts : List (List ℕ) = map (digits c.args.base false) c.args.groups.now in
     let lengths = length-map c.args.groups.now (digits c.args.base false) in
-    omega (arith, c.loop-place.invariant.counted, next_part_fits c.args.separator parts c.loop-place.place (omega arith) (omega arith))
+    omega (
+      arith,
+      c.loop-place.invariant.counted,
+      next_part_fits c.args.separator parts c.loop-place.place (omega arith)
+          (omega arith),
+    )
 
 pub put_digits-len-requires-clause-room : goal.put_digits-len-requires-clause-room
 put_digits-len-requires-clause-room c =
@@ -25,10 +32,25 @@ put_digits-len-requires-clause-room c =
     let lengths = length-map c.args.groups.now write in
     let part = ap length (part_at write c.args.groups.now place (omega arith)) in
     elim c.if-place-gt0.branch [
-      | then-place-gt0 w ↦ omega (arith, part, c.loop-place.invariant.counted, next_part_fits c.args.separator parts place (omega arith) (omega arith))
+      | then-place-gt0 w ↦
+          omega (
+            arith,
+            part,
+            c.loop-place.invariant.counted,
+            next_part_fits c.args.separator parts place (omega arith)
+                (omega arith),
+          )
       | else-place-gt0 w ↦
           let first : place ≡ 0 = omega arith in
-          omega (arith, part, ap (λ k. length (get_or parts k [])) first, ap (λ k. length (join_with_byte c.args.separator (take k parts))) first, c.loop-place.invariant.counted, first_part_fits c.args.separator parts (omega arith))
+          omega (
+            arith,
+            part,
+            ap (λ k. length (get_or parts k [])) first,
+            ap
+                (λ k. length (join_with_byte c.args.separator (take k parts))) first,
+            c.loop-place.invariant.counted,
+            first_part_fits c.args.separator parts (omega arith),
+          )
     ]
 
 pub loop-place-preserved : goal.loop-place-preserved
@@ -45,16 +67,33 @@ loop-place-preserved c =
     let is = part_at write c.args.groups.now place (omega arith) in
     elim c.if-place-gt0.branch [
       | then-place-gt0 w ↦
-          let room : c.loop-place.len < length c.loop-place.into = omega (arith, c.loop-place.invariant.counted, next_part_fits separator parts place (omega arith) (omega arith), ap length w.into-is, length-set c.loop-place.into c.loop-place.len separator) in
-          let parted : Holds c.if-place-gt0.into start (joined ++ separator ∷ []) c.if-place-gt0.len = rw (w.into-is, w.len-is) (Holds_byte c.loop-place.into start joined c.loop-place.len separator c.loop-place.invariant room) in
+          let room : c.loop-place.len < length c.loop-place.into =
+          omega (
+            arith,
+            c.loop-place.invariant.counted,
+            next_part_fits separator parts place (omega arith)
+                (omega arith),
+            ap length w.into-is,
+            length-set c.loop-place.into c.loop-place.len separator,
+          ) in
+          let parted : Holds c.if-place-gt0.into start (joined ++ separator ∷ []) c.if-place-gt0.len =
+          rw (w.into-is, w.len-is)
+          (Holds_byte c.loop-place.into start joined c.loop-place.len separator c.loop-place.invariant room) in
           Holds_text put.new.into start (joined ++ separator ∷ [] ++ part) _ put.result
-          (append_assoc joined (separator ∷ []) part ∙ ap (λ text. joined ++ separator ∷ text) (sym is) ∙ sym (join_with_byte_more separator parts place (omega arith) (omega arith)))
-          (Holds_piece c.if-place-gt0.into start (joined ++ separator ∷ []) part put.new.into c.if-place-gt0.len put.result parted put.ensures.len put.ensures.text put.ensures.behind)
+          (append_assoc joined (separator ∷ []) part ∙ ap (λ text. joined ++ separator ∷ text) (sym is)
+          ∙ sym (join_with_byte_more separator parts place (omega arith) (omega arith)))
+          (Holds_piece c.if-place-gt0.into start
+          (joined ++ separator ∷ []) part put.new.into c.if-place-gt0.len put.result parted put.ensures.len
+          put.ensures.text put.ensures.behind)
       | else-place-gt0 w ↦
           let first : place ≡ 0 = omega arith in
           let none : joined ≡ [] = ap (λ k. join_with_byte separator (take k parts)) first in
-          let begun : Holds c.if-place-gt0.into start [] c.if-place-gt0.len = rw (w.into-is, w.len-is) (Holds_text c.loop-place.into start joined [] c.loop-place.len none c.loop-place.invariant) in
+          let begun : Holds c.if-place-gt0.into start [] c.if-place-gt0.len =
+          rw (w.into-is, w.len-is)
+          (Holds_text c.loop-place.into start joined [] c.loop-place.len none c.loop-place.invariant) in
           Holds_text put.new.into start part _ put.result
-          (sym is ∙ ap (λ k. get_or parts k []) first ∙ sym (join_with_byte_first separator parts (omega arith)) ∙ ap (λ k. join_with_byte separator (take (k + 1) parts)) (sym first))
-          (Holds_piece c.if-place-gt0.into start [] part put.new.into c.if-place-gt0.len put.result begun put.ensures.len put.ensures.text put.ensures.behind)
+          (sym is ∙ ap (λ k. get_or parts k []) first ∙ sym (join_with_byte_first separator parts (omega arith))
+          ∙ ap (λ k. join_with_byte separator (take (k + 1) parts)) (sym first))
+          (Holds_piece c.if-place-gt0.into start [] part put.new.into c.if-place-gt0.len put.result begun
+          put.ensures.len put.ensures.text put.ensures.behind)
     ]

@@ -1,11 +1,12 @@
 use Rattle.std.proofs.Common.{◌≡◌, [], ◌∷◌, length, refl, rules, arith}
 use Rattle.text_scan.specs.Ip4.{ip4_spelling}
 use Rattle.text_scan.proofs.Spellings.{four_fit, length-ip4_spelling-le}
+use Rattle.text_scan.specs.Parts.{dot}
 use Rattle.text_scan.proofs.ip4.put_ip4.Goals as goal
 
 pub put_groups-requires-clause-room : goal.put_groups-requires-clause-room
 put_groups-requires-clause-room c =
-    four_fit 46 (c.from.result ∷ c.from-2.result ∷ c.from-3.result ∷ c.from-4.result ∷ [])
+    four_fit dot (c.from.result ∷ c.from-2.result ∷ c.from-3.result ∷ c.from-4.result ∷ [])
     (c.from.type_inv, (c.from-2.type_inv, (c.from-3.type_inv, (c.from-4.type_inv, tt))))
     refl
 

@@ -9,7 +9,9 @@ pub loop-place-preserved : goal.loop-place-preserved
 loop-place-preserved c =
     let text = c.args.text.now in
     let place = c.loop-place.place in
-    let other : starts_with nat_eq (drop place text) (codes "::") ≡ false = ap (λ rest. starts_with nat_eq rest (codes "::")) (sym (take_rest text place)) ∙ sym c.if-starts_with.ensures.value in
+    let other : starts_with nat_eq (drop place text) (codes "::") ≡ false =
+    ap (λ rest. starts_with nat_eq rest (codes "::")) (sym (take_rest text place))
+    ∙ sym c.if-starts_with.ensures.value in
     let past = gap_place-past text place (omega arith) other in
     let named = ap (λ n. gap_place (drop n text)) (add-one place) in
     omega (arith, past, named, c.loop-place.invariant)

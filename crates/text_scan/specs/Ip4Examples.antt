@@ -1,4 +1,4 @@
--- Rows of the texts of IPv4 addresses, each checked by evaluation.
+-- Examples of the texts of IPv4 addresses, each checked by evaluation.
 use Rattle.std.specs.Prelude.{◌≡◌, codes, Some, None, refl}
 use Rattle.std.specs.Fmt.{digits}
 use Rattle.text_scan.specs.Ip4.{ip4_of, ip4_spelling}

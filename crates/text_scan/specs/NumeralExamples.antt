@@ -1,4 +1,4 @@
--- Rows of the numbers in text, each checked by evaluation.
+-- Examples of the numbers in text, each checked by evaluation.
 use Rattle.std.specs.Prelude.{◌≡◌, ◌-◌, ◌^◌, codes, Some, None, refl}
 use Rattle.text_scan.specs.Numeral.{numeral_at, numeral_value}
 
@@ -55,7 +55,8 @@ at_the_end : numeral_at (codes "7") 1 65535 ≡ None
 at_the_end = refl
 
 -- a number of 30 digits has its value, and is above any greatest value of 64 bits
-thirty_digits : numeral_value (codes "123456789012345678901234567890") ≡ 123456789012345678901234567890
+thirty_digits : numeral_value
+    (codes "123456789012345678901234567890") ≡ 123456789012345678901234567890
 thirty_digits = refl
 
 thirty_digits_at_most : numeral_at (codes "123456789012345678901234567890") 0 (2 ^ 64 - 1) ≡ None
@@ -71,7 +72,8 @@ the_greatest = refl
 one_more : numeral_at (codes "65536") 0 65535 ≡ None
 one_more = refl
 
-the_greatest_of_64_bits : numeral_at (codes "18446744073709551615") 0 (2 ^ 64 - 1) ≡ Some (2 ^ 64 - 1, 20)
+the_greatest_of_64_bits : numeral_at (codes "18446744073709551615") 0 (2 ^ 64 - 1) ≡ Some
+    (2 ^ 64 - 1, 20)
 the_greatest_of_64_bits = refl
 
 one_more_than_64_bits : numeral_at (codes "18446744073709551616") 0 (2 ^ 64 - 1) ≡ None

@@ -1,4 +1,4 @@
--- Rows of the texts of IPv6 addresses, each checked by evaluation.
+-- Examples of the texts of IPv6 addresses, each checked by evaluation.
 use Rattle.std.specs.Prelude.{◌≡◌, codes, Some, None, refl}
 use Rattle.std.specs.Fmt.{digits}
 use Rattle.text_scan.specs.Ip6.{ip6_of, ip6_spelling}
@@ -6,13 +6,18 @@ use Rattle.text_scan.specs.Ip6.{ip6_of, ip6_spelling}
 eight_groups : ip6_of (codes "1:2:3:4:5:6:7:8") ≡ Some 0x0001_0002_0003_0004_0005_0006_0007_0008
 eight_groups = refl
 
-leading_zeros : ip6_of (codes "0001:02:003:4:5:6:7:0000") ≡ Some 0x0001_0002_0003_0004_0005_0006_0007_0000
+leading_zeros : ip6_of
+    (codes "0001:02:003:4:5:6:7:0000") ≡ Some 0x0001_0002_0003_0004_0005_0006_0007_0000
 leading_zeros = refl
 
-upper_case : ip6_of (codes "ABCD:EF01:2345:6789:ABCD:EF01:2345:6789") ≡ Some 0xABCD_EF01_2345_6789_ABCD_EF01_2345_6789
+upper_case : ip6_of
+    (codes "ABCD:EF01:2345:6789:ABCD:EF01:2345:6789")
+    ≡ Some 0xABCD_EF01_2345_6789_ABCD_EF01_2345_6789
 upper_case = refl
 
-lower_case : ip6_of (codes "abcd:ef01:2345:6789:abcd:ef01:2345:6789") ≡ Some 0xABCD_EF01_2345_6789_ABCD_EF01_2345_6789
+lower_case : ip6_of
+    (codes "abcd:ef01:2345:6789:abcd:ef01:2345:6789")
+    ≡ Some 0xABCD_EF01_2345_6789_ABCD_EF01_2345_6789
 lower_case = refl
 
 seven_groups : ip6_of (codes "1:2:3:4:5:6:7") ≡ None
@@ -61,7 +66,8 @@ loopback = refl
 zeros_behind : ip6_of (codes "1::") ≡ Some 0x0001_0000_0000_0000_0000_0000_0000_0000
 zeros_behind = refl
 
-zeros_between : ip6_of (codes "2001:DB8::8:800:200C:417A") ≡ Some 0x2001_0DB8_0000_0000_0008_0800_200C_417A
+zeros_between : ip6_of
+    (codes "2001:DB8::8:800:200C:417A") ≡ Some 0x2001_0DB8_0000_0000_0008_0800_200C_417A
 zeros_between = refl
 
 one_zero_behind : ip6_of (codes "1:2:3:4:5:6:7::") ≡ Some 0x0001_0002_0003_0004_0005_0006_0007_0000
@@ -105,7 +111,8 @@ colon_before_the_gap : ip6_of (codes ":1::") ≡ None
 colon_before_the_gap = refl
 
 -- the last two groups as an IPv4 address
-ip4_behind_six : ip6_of (codes "1:2:3:4:5:6:1.2.3.4") ≡ Some 0x0001_0002_0003_0004_0005_0006_0102_0304
+ip4_behind_six : ip6_of
+    (codes "1:2:3:4:5:6:1.2.3.4") ≡ Some 0x0001_0002_0003_0004_0005_0006_0102_0304
 ip4_behind_six = refl
 
 ip4_alone : ip6_of (codes "::1.2.3.4") ≡ Some 0x0102_0304
@@ -117,7 +124,8 @@ ip4_mapped = refl
 ip4_behind_the_gap : ip6_of (codes "1::1.2.3.4") ≡ Some 0x0001_0000_0000_0000_0000_0000_0102_0304
 ip4_behind_the_gap = refl
 
-ip4_behind_five : ip6_of (codes "1:2:3:4:5::1.2.3.4") ≡ Some 0x0001_0002_0003_0004_0005_0000_0102_0304
+ip4_behind_five : ip6_of
+    (codes "1:2:3:4:5::1.2.3.4") ≡ Some 0x0001_0002_0003_0004_0005_0000_0102_0304
 ip4_behind_five = refl
 
 -- anywhere else, or with another number of groups
@@ -152,7 +160,8 @@ ip4_above_255 : ip6_of (codes "::1.2.3.256") ≡ None
 ip4_above_255 = refl
 
 -- what is printed has lower-case digits, no leading zeros and no `::`
-printed : ip6_spelling 0x2001_0DB8_0000_0000_0008_0800_200C_417A ≡ codes "2001:db8:0:0:8:800:200c:417a"
+printed : ip6_spelling 0x2001_0DB8_0000_0000_0008_0800_200C_417A
+    ≡ codes "2001:db8:0:0:8:800:200c:417a"
 unfolding digits
 printed = refl
 
@@ -160,6 +169,7 @@ printed_zeros : ip6_spelling 0 ≡ codes "0:0:0:0:0:0:0:0"
 unfolding digits
 printed_zeros = refl
 
-printed_ones : ip6_spelling 0xFFFF_FFFF_FFFF_FFFF_FFFF_FFFF_FFFF_FFFF ≡ codes "ffff:ffff:ffff:ffff:ffff:ffff:ffff:ffff"
+printed_ones : ip6_spelling 0xFFFF_FFFF_FFFF_FFFF_FFFF_FFFF_FFFF_FFFF
+    ≡ codes "ffff:ffff:ffff:ffff:ffff:ffff:ffff:ffff"
 unfolding digits
 printed_ones = refl

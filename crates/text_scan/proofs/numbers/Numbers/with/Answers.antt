@@ -1,9 +1,0 @@
-use Rattle.std.proofs.Common.{arith}
-use Rattle.text_scan.proofs.Ip6Texts.{seven_numbers}
-use Rattle.text_scan.proofs.numbers.Numbers.with.Goals as goal
-
-pub overflow_mul-result : goal.overflow_mul-result
-overflow_mul-result c = omega (arith, seven_numbers c.args.self.value c.args.self.count c.requires (omega arith))
-
-pub overflow_add-result-2 : goal.overflow_add-result-2
-overflow_add-result-2 c = omega (arith, seven_numbers c.args.self.value c.args.self.count c.requires (omega arith))
