@@ -10,4 +10,5 @@ pub mod Separators
 pub mod Powers
 pub mod ReadBack
 pub mod Spellings
+pub mod Words
 pub mod Writes

@@ -44,3 +44,8 @@ abbrev pub numeral_at : List ℕ → ℕ → ℕ → Option (ℕ × ℕ)
 numeral_at text at greatest =
     let rest = drop at text in
     if begins_numeral greatest rest then Some (numeral_value rest, at + numeral_len rest) else None
+
+-- the number that a whole text is, at most `greatest`
+abbrev pub whole_number : ℕ → List ℕ → Option ℕ
+whole_number greatest text =
+    if begins_numeral greatest text && numeral_len text == length text then Some (numeral_value text) else None

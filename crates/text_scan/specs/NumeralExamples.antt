@@ -1,6 +1,6 @@
 -- Examples of the numbers in text, each checked by evaluation.
 use Rattle.std.specs.Prelude.{◌≡◌, ◌-◌, ◌^◌, codes, Some, None, refl}
-use Rattle.text_scan.specs.Numeral.{numeral_at, numeral_value}
+use Rattle.text_scan.specs.Numeral.{numeral_at, numeral_value, whole_number}
 
 zero_alone : numeral_at (codes "0") 0 65535 ≡ Some (0, 1)
 zero_alone = refl
@@ -78,3 +78,19 @@ the_greatest_of_64_bits = refl
 
 one_more_than_64_bits : numeral_at (codes "18446744073709551616") 0 (2 ^ 64 - 1) ≡ None
 one_more_than_64_bits = refl
+
+-- a whole text is a number, or isn't
+a_whole_number : whole_number 255 (codes "0xff") ≡ Some 255
+a_whole_number = refl
+
+above_the_greatest : whole_number 254 (codes "0xff") ≡ None
+above_the_greatest = refl
+
+something_after : whole_number 255 (codes "32 ") ≡ None
+something_after = refl
+
+no_digit_after_the_mark : whole_number 255 (codes "0x") ≡ None
+no_digit_after_the_mark = refl
+
+an_empty_text : whole_number 255 (codes "") ≡ None
+an_empty_text = refl

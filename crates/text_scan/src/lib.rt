@@ -26,5 +26,5 @@ mod tests;
 
 pub use ip4::{ip4_text, put_ip4};
 pub use ip6::{ip6_text, put_ip6};
-pub use numeral::number;
-pub use parts::{after_blanks, split_line, split_once, split_word};
+pub use numeral::{number, whole_number};
+pub use parts::{after_blanks, next_word, split_line, split_once, split_word};

@@ -1,8 +1,8 @@
 //! Numbers in text.
 
-ghost use Rattle.std.specs.Prelude.{◌≡◌, ◌-◌, ◌^◌, ◌≤◌, if◌then◌else◌, length};
+ghost use Rattle.std.specs.Prelude.{◌≡◌, ◌-◌, ◌^◌, ◌≤◌, if◌then◌else◌, length, IfSome};
 ghost use Rattle.text_scan.specs.Numeral.{begins_hexadecimal, begins_numeral, numeral_at};
-ghost use Rattle.text_scan.specs.Numeral.{numeral_len, numeral_value};
+ghost use Rattle.text_scan.specs.Numeral.{numeral_len, numeral_value, whole_number};
 
 use crate::digits::leading_digits;
 
@@ -22,6 +22,15 @@ pub fn number(bytes: &[u8], at: usize, max: u64) -> Option<(u64, usize)>
 {
     let (value, len) = leading_number(&bytes[at..])?;
     (value <= max).then_some((value, at + len))
+}
+
+/// The number that the whole text is. None where the text isn't a number of at most `max`.
+pub fn whole_number(text: &[u8], max: u64) -> Option<u64>
+    ensures number { result ≡ whole_number max text.now }
+    ensures bound { IfSome result (λ value. value ≤ max) }
+{
+    let (value, end) = number(text, 0, max)?;
+    (end == text.len()).then_some(value)
 }
 
 /// The number that the text begins with, and how many bytes it takes. None where its value is above

@@ -6,7 +6,7 @@ ghost use Rattle.std.specs.Prelude.{◌≡◌, ◌≢◌, ◌+◌, ◌<◌, ◌�
 ghost use Rattle.std.specs.List.{take_while};
 ghost use Rattle.std.specs.Str.Lines.{strip_carriage_return};
 ghost use Rattle.text_scan.specs.Parts.{after_blanks, after_word, cut_at, first_word, is_blank};
-ghost use Rattle.text_scan.specs.Parts.{lines_of, parts_of};
+ghost use Rattle.text_scan.specs.Parts.{lines_of, parts_of, words_of};
 
 use memchr::memchr;
 
@@ -82,6 +82,20 @@ fn blanks_len(text: &[u8]) -> usize
     ensures { result ≡ length (take_while is_blank text.now) }
 {
     text.iter().take_while(|byte| is_blank(**byte)).count()
+}
+
+/// The first word of the text, and the text after it. None where the text has blanks alone.
+pub fn next_word(text: &[u8]) -> Option<(&[u8], &[u8])>
+    ensures words { MatchOption result
+        (words_of text.now ≡ [])
+        (λ texts. words_of text.now ≡ texts.0.now ∷ words_of texts.1.now) }
+    ensures shorter { IfSome result (λ texts. length texts.1.now < length text.now) }
+{
+    let (word, rest) = split_word(after_blanks(text));
+    if word.is_empty() {
+        return None;
+    }
+    Some((word, rest))
 }
 
 /// The word that the text begins with, which is empty before a blank and at the end, and the rest
