@@ -1,5 +1,6 @@
 -- The key of a buffer, field by field.
-use Rattle.std.proofs.Common.{◌≡◌, ℕ, zero, suc, ◌+◌, ◌<◌, ◌≤◌, List, [], ◌∷◌, ◌++◌, length, get_or, take, drop, fold, max, ap, ◌∙◌, arith}
+use Rattle.std.proofs.Common.{◌≡◌, ℕ, zero, suc, ◌+◌, ◌<◌, ◌≤◌, List, [], ◌∷◌, ◌++◌, length, get_or, take, drop, fold}
+use Rattle.std.proofs.Common.{max, ap, ◌∙◌, arith}
 use Rattle.std.proofs.lemmas.List.{take_more, append-nil}
 use Rattle.std.proofs.lemmas.List.Concat.{flat_map-append}
 use Rattle.field_defs.specs.declared.field.FieldDef.{FieldDef}
@@ -13,17 +14,22 @@ reach_from : (n : ℕ) (defs : List FieldDef) → n ≤ reach n defs
 reach_from n [] = omega arith
 reach_from n (def ∷ defs) = omega (arith, reach_from (max n (def.offset + def.size)) defs)
 
-field_within_reach : (n : ℕ) (defs : List FieldDef) (i : ℕ) (d : FieldDef) → i < length defs → (get_or defs i d).offset + (get_or defs i d).size ≤ reach n defs
+field_within_reach : (n : ℕ) (defs : List FieldDef) (i : ℕ) (d : FieldDef) → i < length defs →
+    (get_or defs i d).offset + (get_or defs i d).size ≤ reach n defs
 field_within_reach n [] i d h = absurd (omega arith)
 field_within_reach n (def ∷ defs) zero d h = omega (arith, reach_from (max n (def.offset + def.size)) defs)
-field_within_reach n (def ∷ defs) (suc i) d h = field_within_reach (max n (def.offset + def.size)) defs i d (omega arith)
+field_within_reach n (def ∷ defs) (suc i) d h =
+    field_within_reach (max n (def.offset + def.size)) defs i d (omega arith)
 
 -- no field ends behind the bytes that a buffer has to have
-pub field_within_buffer : (defs : List FieldDef) (i : ℕ) (d : FieldDef) → i < length defs → (get_or defs i d).offset + (get_or defs i d).size ≤ buffer_len_of defs
+pub field_within_buffer : (defs : List FieldDef) (i : ℕ) (d : FieldDef) → i < length defs →
+    (get_or defs i d).offset + (get_or defs i d).size ≤ buffer_len_of defs
 field_within_buffer defs i d h = field_within_reach 0 defs i d h
 
 -- one more field adds its bytes
-pub key_of_more : (defs : List FieldDef) (buffer : List ℕ) (i : ℕ) (d : FieldDef) → i < length defs → key_of (take (i + 1) defs) buffer ≡ key_of (take i defs) buffer ++ take (get_or defs i d).size (drop (get_or defs i d).offset buffer)
+pub key_of_more : (defs : List FieldDef) (buffer : List ℕ) (i : ℕ) (d : FieldDef) → i < length defs →
+    key_of (take (i + 1) defs) buffer ≡ key_of (take i defs) buffer ++ take (get_or defs i d).size
+    (drop (get_or defs i d).offset buffer)
 key_of_more defs buffer i d h =
     ap (λ ds. key_of ds buffer) (take_more defs i d h)
     ∙ flat_map-append (λ (def : FieldDef). take def.size (drop def.offset buffer)) (take i defs) (get_or defs i d ∷ [])

@@ -1,3 +1,5 @@
+pub mod Faultless
+pub mod Groups
 pub mod Keys
 pub mod Sizes
 pub mod Wild

@@ -17,6 +17,7 @@ nothing_behind_the_bits number size = rw (← bytes_as_bits size)
     (elim (cases_lt number (2 ^ (8 * size))) [
       | inl below ↦ eq-eqb _ _ (div-eq_of_lt below) ∙ sym (lt-ltb _ _ below)
       | inr above ↦
-          let some : 1 ≤ number / 2 ^ (8 * size) = le-div 1 number (2 ^ (8 * size)) (pow_pos (8 * size)) (omega arith) in
+          let some : 1 ≤ number / 2 ^ (8 * size) =
+          le-div 1 number (2 ^ (8 * size)) (pow_pos (8 * size)) (omega arith) in
           ne_eqb _ _ (λ none. omega arith) ∙ sym (le-ltb _ _ above)
     ])

@@ -1,5 +1,7 @@
--- Which numbers a rule's value for a field lets through (DPDK Programmer's Guide, ACL field types: mask, range, bitmask).
-use Rattle.std.specs.Prelude.{◌≡◌, ℕ, ◌+◌, ◌-◌, ◌*◌, ◌/◌, ◌^◌, ◌<◌, ◌==◌, Bool, true, false, ◌&&◌, ◌||◌, nat_le, nat_lt, bit_and, IsTrue}
+-- Which numbers a rule's value for a field lets through (DPDK Programmer's Guide, ACL field types:
+-- mask, range, bitmask).
+use Rattle.std.specs.Prelude.{◌≡◌, ℕ, ◌+◌, ◌-◌, ◌*◌, ◌/◌, ◌^◌, ◌<◌, ◌==◌, Bool, true, false, ◌&&◌}
+use Rattle.std.specs.Prelude.{◌||◌, nat_le, nat_lt, bit_and, IsTrue}
 use Rattle.field_defs.specs.declared.field.FieldKind.{FieldKind}
 use Rattle.field_defs.specs.declared.field.FieldKind.TheVariants as kinds
 use Rattle.field_defs.specs.declared.field.FieldValue.{FieldValue}
@@ -9,7 +11,8 @@ use Rattle.field_defs.specs.declared.field.FieldValue.TheVariants.{Mask, Range, 
 abbrev pub is_size : ℕ → Bool
 is_size size = size == 1 || size == 2 || size == 4 || size == 8
 
--- A mask agrees in its leading bits, a range holds both of its ends, and a bitmask agrees where it is set.
+-- A mask agrees in its leading bits, a range holds both of its ends, and a bitmask agrees where it
+-- is set.
 abbrev pub field_match : FieldValue → ℕ → ℕ → Bool
 field_match (Mask value bits) size x = x / 2 ^ (8 * size - bits) == value / 2 ^ (8 * size - bits)
 field_match (Range low high) size x = nat_le low x && nat_le x high
@@ -19,7 +22,8 @@ field_match (Bitmask value mask) size x = bit_and x mask == bit_and value mask
 abbrev pub IsWild : FieldValue → ℕ → Type 0
 IsWild value size = (x : ℕ) → x < 256 ^ size → field_match value size x ≡ true
 
--- The same by the value's numbers: a mask or bitmask of no bits, or a range from 0 to the greatest number of the size.
+-- The same by the value's numbers: a mask or bitmask of no bits, or a range from 0 to the greatest
+-- number of the size.
 abbrev pub is_wild : FieldValue → ℕ → Bool
 is_wild (Mask value bits) size = bits == 0
 is_wild (Range low high) size = low == 0 && nat_le (256 ^ size) (high + 1)

@@ -1,9 +1,18 @@
 -- Laws of field values, over the definitions alone.
-use Rattle.std.specs.Prelude.{ℕ, ◌↔◌, IsTrue}
+use Rattle.std.specs.Prelude.{ℕ, ◌↔◌, List, IsTrue}
+use Rattle.std.specs.List.{list_all}
+use Rattle.field_defs.specs.declared.field.FieldDef.{FieldDef}
 use Rattle.field_defs.specs.declared.field.FieldValue.{FieldValue}
-use Rattle.field_defs.specs.FieldMatch.{CanMatch, IsWild, is_wild}
+use Rattle.field_defs.specs.FieldMatch.{is_size, CanMatch, IsWild, is_wild}
+use Rattle.field_defs.specs.Lawful.{IsLayout}
 
 -- A value is wild by its numbers exactly where every number of the size matches.
 abbrev pub WildValuesMatchEveryNumber : Type 0
 WildValuesMatchEveryNumber =
-    (value : FieldValue) (size : ℕ) → CanMatch value size → (IsTrue (is_wild value size) ↔ IsWild value size)
+    (value : FieldValue) (size : ℕ) → CanMatch value size →
+    (IsTrue (is_wild value size) ↔ IsWild value size)
+
+-- Each field of a lawful layout has a size that a field may have.
+abbrev pub LawfulLayoutsHaveLawfulSizes : Type 0
+LawfulLayoutsHaveLawfulSizes = (defs : List FieldDef) → IsLayout defs →
+    IsTrue (list_all (λ def. is_size def.size) defs)

@@ -3,7 +3,7 @@ use Rattle.std.specs.Prelude.{◌≡◌, List, [], ◌∷◌, refl}
 use Rattle.std.specs.List.{range_with_len}
 use Rattle.field_defs.specs.declared.field.FieldKind.TheVariants.{Range, Bitmask}
 use Rattle.field_defs.specs.declared.field.FieldDef.{FieldDef}
-use Rattle.field_defs.specs.Layout.{key_of, key_len_of, buffer_len_of, ip4_fields}
+use Rattle.field_defs.specs.Layout.{key_of, key_len_of, buffer_len_of, ip4_fields, ip6_fields}
 
 ip4_key_len : key_len_of ip4_fields ≡ 13
 ip4_key_len = refl
@@ -14,6 +14,16 @@ ip4_buffer_len = refl
 -- the IPv4 fields lie one after the other, so the key is the buffer
 ip4_key : key_of ip4_fields (range_with_len 100 13) ≡ range_with_len 100 13
 ip4_key = refl
+
+ip6_key_len : key_len_of ip6_fields ≡ 37
+ip6_key_len = refl
+
+ip6_buffer_len : buffer_len_of ip6_fields ≡ 37
+ip6_buffer_len = refl
+
+-- the IPv6 fields lie one after the other, too
+ip6_key : key_of ip6_fields (range_with_len 100 37) ≡ range_with_len 100 37
+ip6_key = refl
 
 -- a field of two bytes that lies before one of one byte in the buffer, and after it in the key
 swapped : List FieldDef

@@ -1,5 +1,9 @@
+pub mod Faults
 pub mod FieldMatch
 pub mod FieldMatchExamples
+pub mod Lawful
+pub mod Laws
 pub mod Layout
 pub mod LayoutExamples
-pub mod Laws
+pub mod LayoutFault
+pub mod LayoutFaultExamples

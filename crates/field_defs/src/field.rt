@@ -2,7 +2,8 @@
 
 ghost use Rattle.std.specs.Prelude.{◌≡◌, ◌^◌, nat_lt};
 ghost use Rattle.field_defs.specs.declared.field.FieldValue.TheVariants.{Mask};
-ghost use Rattle.field_defs.specs.FieldMatch.{kind_of, is_within_size, is_mask_within, is_range_filled};
+ghost use Rattle.field_defs.specs.FieldMatch.{kind_of, is_size, is_within_size, is_mask_within};
+ghost use Rattle.field_defs.specs.FieldMatch.{is_range_filled};
 
 /// How a rule bounds a field (DPDK Programmer's Guide, ACL field types).
 #[derive(Clone, Copy, Debug, PartialEq, Eq, Hash)]
@@ -23,8 +24,8 @@ pub struct FieldDef {
     pub size: u8,
     /// The field's place in the layout.
     pub field_index: u8,
-    /// The group of four consecutive key bytes that the field belongs to. The first field has group 0 for itself, and
-    /// an 8-byte field fills the group that is named and the next one.
+    /// The group of four consecutive key bytes that the field belongs to. The first field has group
+    /// 0 for itself, and an 8-byte field fills the group that is named and the next one.
     pub input_index: u8,
     /// The place of the field's first byte in a searched buffer.
     pub offset: u32,
@@ -87,13 +88,21 @@ impl FieldValue {
     }
 }
 
-/// The mask of no bits, which every number matches. A small vector of values fills its unused places with it.
+/// The mask of no bits, which every number matches. A small vector of values fills its unused
+/// places with it.
 impl Default for FieldValue {
     ghost is_default = { λ value. value ≡ Mask 0 0 };
 
     fn default() -> Self {
         FieldValue::Mask { value: 0, bits: 0 }
     }
+}
+
+/// Whether a field may have so many bytes.
+pub(crate) fn is_field_size(size: u8) -> bool
+    ensures { result ≡ is_size size }
+{
+    matches!(size, 1 | 2 | 4 | 8)
 }
 
 /// Whether the number is below 256 to the power of `size`.

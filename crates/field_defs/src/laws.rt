@@ -1,8 +1,13 @@
 //! Laws of field values, over their definitions alone. They run no code.
 
-ghost use Rattle.field_defs.specs.Laws.{WildValuesMatchEveryNumber};
+ghost use Rattle.field_defs.specs.Laws.{WildValuesMatchEveryNumber, LawfulLayoutsHaveLawfulSizes};
 
 /// A value is wild by its numbers exactly where every number of the size matches it.
 pub fn wild_values_match_every_number()
     ensures { WildValuesMatchEveryNumber }
+{}
+
+/// Each field of a lawful layout has a size that a field may have.
+pub fn lawful_layouts_have_lawful_sizes()
+    ensures { LawfulLayoutsHaveLawfulSizes }
 {}

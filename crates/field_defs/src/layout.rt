@@ -1,13 +1,16 @@
 //! The fields of one kind of packet, in order, and the key of a buffer.
 
 ghost use Rattle.std.specs.Prelude.{◌≡◌, ◌≤◌, length};
-ghost use Rattle.field_defs.specs.Layout.{IsLayout, key_of, key_len_of, buffer_len_of, ip4_fields};
+ghost use Rattle.field_defs.specs.Lawful.{IsLayout};
+ghost use Rattle.field_defs.specs.Layout.{key_of, key_len_of, buffer_len_of, ip4_fields};
+ghost use Rattle.field_defs.specs.Layout.{ip6_fields};
 
 use crate::field::{FieldDef, FieldKind};
+use crate::lawful::{LayoutFault, check_layout};
 use std::marker::Model;
 
 /// How many fields a layout may have.
-const MAX_FIELDS: usize = 64;
+pub const MAX_FIELDS: usize = 64;
 
 /// What stands in a layout behind its last definition.
 const UNUSED: FieldDef = FieldDef {
@@ -57,7 +60,62 @@ const IP4_FIELDS: [FieldDef; 5] = [
     },
 ];
 
-/// The field definitions of one kind of packet, in order. Contracts see the list of them. No call takes memory.
+/// Protocol, source, destination, source port and destination port, each address as its two halves
+/// of 8 bytes.
+const IP6_FIELDS: [FieldDef; 7] = [
+    FieldDef {
+        kind: FieldKind::Bitmask,
+        size: 1,
+        field_index: 0,
+        input_index: 0,
+        offset: 0,
+    },
+    FieldDef {
+        kind: FieldKind::Mask,
+        size: 8,
+        field_index: 1,
+        input_index: 1,
+        offset: 1,
+    },
+    FieldDef {
+        kind: FieldKind::Mask,
+        size: 8,
+        field_index: 2,
+        input_index: 3,
+        offset: 9,
+    },
+    FieldDef {
+        kind: FieldKind::Mask,
+        size: 8,
+        field_index: 3,
+        input_index: 5,
+        offset: 17,
+    },
+    FieldDef {
+        kind: FieldKind::Mask,
+        size: 8,
+        field_index: 4,
+        input_index: 7,
+        offset: 25,
+    },
+    FieldDef {
+        kind: FieldKind::Range,
+        size: 2,
+        field_index: 5,
+        input_index: 9,
+        offset: 33,
+    },
+    FieldDef {
+        kind: FieldKind::Range,
+        size: 2,
+        field_index: 6,
+        input_index: 9,
+        offset: 35,
+    },
+];
+
+/// The field definitions of one kind of packet, in order. Contracts see the list of them. No call
+/// takes memory.
 #[derive(Debug, Drop)]
 pub struct Layout {
     defs: [FieldDef; MAX_FIELDS],
@@ -67,16 +125,45 @@ pub struct Layout {
 impl Model for Layout {
     ghost use Rattle.std.specs.Prelude.{◌≤◌, List, take};
     ghost use Rattle.field_defs.specs.declared.field.FieldDef.{FieldDef};
-    ghost use Rattle.field_defs.specs.Layout.{IsLayout};
+    ghost use Rattle.field_defs.specs.Lawful.{IsLayout};
+    ghost use Rattle.field_defs.specs.Layout.{max_fields};
 
     ghost Value = { List FieldDef };
 
     ghost view = { λ l. take l.count l.defs };
 
-    ghost invariant = { λ l. (l.count ≤ 64) × IsLayout (take l.count l.defs) };
+    ghost invariant = { λ l. (l.count ≤ max_fields) × IsLayout (take l.count l.defs) };
 }
 
 impl Layout {
+    ghost use Rattle.std.specs.Prelude.{◌≡◌, ◌≤◌, length, IfOk};
+    ghost use Rattle.std.specs.Result.{result_err};
+    ghost use Rattle.field_defs.specs.Layout.{max_fields};
+    ghost use Rattle.field_defs.specs.LayoutFault.{layout_fault};
+
+    /// The layout of the definitions, or why they are none. There are at most [`MAX_FIELDS`].
+    ///
+    /// The answer is the first fault in the order in which [`LayoutFault`] lists them, each kind
+    /// looked for over all definitions before the next, and within a kind the one of the least
+    /// number. Source: DPDK Programmer's Guide, "Packet Classification and Access Control".
+    pub fn new<const N: usize>(defs: &[FieldDef; N]) -> Result<Self, LayoutFault>
+        requires { N ≤ max_fields }
+        ensures layout { IfOk result (λ layout. layout ≡ defs.now) }
+        ensures fault { result_err result ≡ layout_fault defs.now }
+    {
+        Layout::of(defs)
+    }
+
+    /// The same of definitions whose number isn't known when the program is built.
+    pub fn of(defs: &[FieldDef]) -> Result<Self, LayoutFault>
+        requires { length defs.now ≤ max_fields }
+        ensures layout { IfOk result (λ layout. layout ≡ defs.now) }
+        ensures fault { result_err result ≡ layout_fault defs.now }
+    {
+        check_layout(defs)?;
+        Ok(Layout::of_lawful(defs))
+    }
+
     /// The layout of the definitions, which are lawful.
     fn of_lawful(defs: &[FieldDef]) -> Self
         requires { IsLayout defs.now }
@@ -117,8 +204,8 @@ impl Layout {
 
     /// Writes the key of the buffer: the bytes of each field, in the order of the fields.
     ///
-    /// `buffer` has at least [`Layout::buffer_len`] bytes and `into` exactly [`Layout::key_len`], all of which are
-    /// written. It refuses nothing and takes no memory.
+    /// `buffer` has at least [`Layout::buffer_len`] bytes and `into` exactly [`Layout::key_len`],
+    /// all of which are written. It refuses nothing and takes no memory.
     pub fn gather(&self, buffer: &[u8], into: &mut [u8])
         requires reached { buffer_len_of self.now ≤ length buffer.now }
         requires whole { length into.old ≡ key_len_of self.now }
@@ -130,11 +217,23 @@ impl Layout {
 
 /// The layout of IPv4 packets: protocol, source, destination, source port and destination port.
 ///
-/// The buffer has 13 bytes, in network order: the protocol, both addresses (RFC 791, 3.1) and both ports.
+/// The buffer has 13 bytes, in network order: the protocol, both addresses (RFC 791, 3.1) and both
+/// ports.
 pub fn ip4_layout() -> Layout
     ensures { result ≡ ip4_fields }
 {
     Layout::of_lawful(&IP4_FIELDS)
+}
+
+/// The layout of IPv6 packets: protocol, source, destination, source port and destination port,
+/// each address as its high and its low half.
+///
+/// The buffer has 37 bytes, in network order: the protocol, both addresses (RFC 8200, 3) and both
+/// ports.
+pub fn ip6_layout() -> Layout
+    ensures { result ≡ ip6_fields }
+{
+    Layout::of_lawful(&IP6_FIELDS)
 }
 
 /// Writes the bytes of each field, one field after the other.
@@ -150,5 +249,33 @@ fn copy_fields(defs: &[FieldDef], buffer: &[u8], into: &mut [u8])
         let bytes = &buffer[offset..offset + size];
         into[at..at + size].copy_from_slice(bytes);
         at += size;
+    }
+}
+
+#[cfg(test)]
+mod tests {
+    use super::*;
+    use std::test::Fail;
+
+    /// The definitions of the DPDK Programmer's Guide, "Packet Classification and Access Control",
+    /// are those of IPv4.
+    #[test]
+    fn the_fields_of_the_guide_are_a_layout(rt: HostRuntime) -> Result<(), Fail> {
+        let layout = Layout::new(&IP4_FIELDS)?;
+        assert_eq!(rt; layout.fields(), ip4_layout().fields());
+        let wrong = Layout::of(&IP4_FIELDS[1..]).map(|_| ());
+        assert_eq!(rt; wrong, Err(LayoutFault::FieldIndex(0)));
+        Ok(())
+    }
+
+    #[test]
+    fn the_key_of_an_ip6_packet_is_its_bytes_in_order(rt: HostRuntime) {
+        let layout = ip6_layout();
+        let mut buffer = [7u8; 37];
+        buffer[9] = 1;
+        buffer[36] = 2;
+        let mut key = [0; 37];
+        layout.gather(&buffer, &mut key);
+        assert_eq!(rt; key, buffer);
     }
 }

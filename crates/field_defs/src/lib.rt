@@ -1,15 +1,18 @@
 //! Field definitions and rule values in, layouts, keys and answers to "does this number match" out.
 //!
-//! A field is a number of 1, 2, 4 or 8 bytes of a searched buffer. Its definition says how a rule bounds it and where
-//! it lies, and a layout is the list of the fields of one kind of packet. The key of a buffer is the bytes of its
-//! fields, one field after the other. After the DPDK Programmer's Guide, "Packet Classification and Access Control".
+//! A field is a number of 1, 2, 4 or 8 bytes of a searched buffer. Its definition says how a rule
+//! bounds it and where it lies, and a layout is the list of the fields of one kind of packet. The
+//! key of a buffer is the bytes of its fields, one field after the other. After the DPDK
+//! Programmer's Guide, "Packet Classification and Access Control".
 #![tactic(auto)]
 
 mod field;
+mod lawful;
 pub mod laws;
 mod layout;
 mod matching;
 
 pub use field::{Family, FieldDef, FieldKind, FieldValue};
-pub use layout::{Layout, ip4_layout};
+pub use lawful::LayoutFault;
+pub use layout::{Layout, MAX_FIELDS, ip4_layout, ip6_layout};
 pub use matching::{field_matches, is_wild};

@@ -7,9 +7,9 @@ use crate::field::FieldValue;
 
 /// Whether the number `x` of `size` bytes matches the value.
 ///
-/// The size is 1, 2, 4 or 8, and [`FieldValue::is_within_size`] and [`FieldValue::is_mask_within`] are true of the value
-/// and the size. It refuses nothing and takes no memory.
-/// Source: DPDK Programmer's Guide, ACL field types.
+/// The size is 1, 2, 4 or 8, and [`FieldValue::is_within_size`] and [`FieldValue::is_mask_within`]
+/// are true of the value and the size. It refuses nothing and takes no memory. Source: DPDK
+/// Programmer's Guide, ACL field types.
 pub fn field_matches(value: &FieldValue, size: u8, x: u64) -> bool
     requires value { CanMatch value.now size }
     requires number { x < 256 ^ size }
@@ -18,7 +18,8 @@ pub fn field_matches(value: &FieldValue, size: u8, x: u64) -> bool
     match *value {
         FieldValue::Mask { value, bits } => {
             let free = 8 * u32::from(size) - u32::from(bits);
-            // A mask of no bits leaves all 64 bits of an 8-byte field free, and a shift by 64 isn't defined.
+            // A mask of no bits leaves all 64 bits of an 8-byte field free, and a shift by 64 isn't
+            // defined.
             free >= 64 || x >> free == value >> free
         }
         FieldValue::Range { low, high } => low <= x && x <= high,
@@ -28,9 +29,9 @@ pub fn field_matches(value: &FieldValue, size: u8, x: u64) -> bool
 
 /// Whether every number of `size` bytes matches the value.
 ///
-/// The size is 1, 2, 4 or 8, and [`FieldValue::is_within_size`] and [`FieldValue::is_mask_within`] are true of the value
-/// and the size. It refuses nothing and takes no memory.
-/// Source: DPDK Programmer's Guide, ACL field types.
+/// The size is 1, 2, 4 or 8, and [`FieldValue::is_within_size`] and [`FieldValue::is_mask_within`]
+/// are true of the value and the size. It refuses nothing and takes no memory. Source: DPDK
+/// Programmer's Guide, ACL field types.
 pub fn is_wild(value: &FieldValue, size: u8) -> bool
     requires { CanMatch value.now size }
     ensures test { result ≡ is_wild value.now size }
@@ -55,8 +56,9 @@ fn greatest_number(size: u8) -> u64
 mod tests {
     use super::*;
 
-    /// The prefixes and the packets of the example in the DPDK Programmer's Guide, "Packet Classification and Access
-    /// Control": rules to 192.168.0.0/16, to 192.168.1.0/24 and from 10.1.1.1.
+    /// The prefixes and the packets of the example in the DPDK Programmer's Guide, "Packet
+    /// Classification and Access Control": rules to 192.168.0.0/16, to 192.168.1.0/24 and from
+    /// 10.1.1.1.
     #[test]
     fn addresses_match_the_prefixes_of_the_guide(rt: HostRuntime) {
         let wide = FieldValue::Mask {

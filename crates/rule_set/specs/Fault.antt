@@ -1,19 +1,25 @@
--- Why a rule is refused (DPDK Programmer's Guide, "Packet Classification and Access Control", and `rte_acl.h`: a rule has
--- a value for each field, some category, and a priority from 0 to 536,870,911; DPDK refuses userdata 0 too, and here it is
--- lawful). DPDK answers one number for all of these; here each kind of check has a fault of its own, and the kinds have an
--- order.
-use Rattle.std.specs.Prelude.{ℕ, pos, ◌==◌, List, [], ◌∷◌, length, position, Bool, true, false, not, ◌&&◌, Option, Some, None}
+-- Why a rule is refused (DPDK Programmer's Guide, "Packet Classification and Access Control", and
+-- `rte_acl.h`: a rule has
+-- a value for each field, some category, and a priority from 0 to 536,870,911; DPDK refuses
+-- userdata 0 too, and here it is lawful). DPDK answers one number for all of these; here each kind
+-- of check has a fault of its own, and the kinds have an order.
+use Rattle.std.specs.Prelude.{ℕ, pos, ◌==◌, List, [], ◌∷◌, length, position, Bool, true, false, not}
+use Rattle.std.specs.Prelude.{◌&&◌, Option, Some, None}
 use Rattle.std.specs.List.{list_any, range_with_len, zip}
 use Rattle.std.specs.Option.{option_map}
 use Rattle.std.specs.Int.Signed.{le_z}
 use Rattle.field_defs.specs.declared.field.FieldDef.{FieldDef}
 use Rattle.field_defs.specs.declared.field.FieldValue.{FieldValue}
-use Rattle.field_defs.specs.FieldMatch.{kind_of, same_kind, is_within_size, is_mask_within, is_range_filled}
+use Rattle.field_defs.specs.FieldMatch.{kind_of, same_kind, is_within_size, is_mask_within}
+use Rattle.field_defs.specs.FieldMatch.{is_range_filled}
+use Rattle.field_defs.specs.Faults.{fault_unless, first_of}
 use Rattle.rule_set.specs.declared.rule.RuleTag.{RuleTag}
 use Rattle.rule_set.specs.declared.check.ValueCheck.{ValueCheck}
 use Rattle.rule_set.specs.declared.check.ValueCheck.TheVariants.{Kind, Width, MaskLength, RangeEnds}
 use Rattle.rule_set.specs.declared.check.RuleFault.{RuleFault}
-use Rattle.rule_set.specs.declared.check.RuleFault.TheVariants.{FieldCount, FieldKind, NoCategory, PriorityRange, FieldTooWide, MaskTooLong, EmptyRange}
+use Rattle.rule_set.specs.declared.check.RuleFault.TheVariants.{FieldCount, FieldKind, NoCategory}
+use Rattle.rule_set.specs.declared.check.RuleFault.TheVariants.{PriorityRange, FieldTooWide}
+use Rattle.rule_set.specs.declared.check.RuleFault.TheVariants.{MaskTooLong, EmptyRange}
 use Rattle.rule_set.specs.Limits.{max_priority}
 use Rattle.rule_set.specs.Winner.{is_in_category}
 
@@ -45,19 +51,9 @@ passes MaskLength = is_mask_short
 passes RangeEnds = is_filled
 
 -- the least place at which a field and its value fail the test
-abbrev pub failing_place : (FieldDef → FieldValue → Bool) → List FieldDef → List FieldValue → Option ℕ
+abbrev pub failing_place : (FieldDef → FieldValue → Bool) → List FieldDef → List FieldValue →
+    Option ℕ
 failing_place holds layout values = position (λ pair. not (holds pair.0 pair.1)) (zip layout values)
-
--- the fault where the test fails
-abbrev pub fault_unless : Bool → RuleFault → Option RuleFault
-fault_unless true fault = None
-fault_unless false fault = Some fault
-
--- the first of the faults that is there
-abbrev pub first_of : List (Option RuleFault) → Option RuleFault
-first_of [] = None
-first_of (None ∷ faults) = first_of faults
-first_of (Some fault ∷ faults) = Some fault
 
 -- the seven kinds of checks in their order, each with its fault if it fails
 abbrev pub faults : List FieldDef → RuleTag → List FieldValue → List (Option RuleFault)
@@ -71,6 +67,7 @@ faults layout tag values =
     ∷ option_map EmptyRange (failing_place is_filled layout values)
     ∷ []
 
--- why the rule is refused, if it is: each kind of check is made over all fields before the next kind
+-- why the rule is refused, if it is: each kind of check is made over all fields before the next
+-- kind
 unfoldable pub rule_fault : List FieldDef → RuleTag → List FieldValue → Option RuleFault
 rule_fault layout tag values = first_of (faults layout tag values)

@@ -1,11 +1,12 @@
 -- Laws of rules and winners, over the definitions alone.
-use Rattle.std.specs.Prelude.{◌≡◌, ◌≢◌, ℕ, ◌<◌, ◌↔◌, ◌⊎◌, List, filter, Bool, true, false, not, ◌&&◌, Option, Some, None, length, IsTrue}
+use Rattle.std.specs.Prelude.{◌≡◌, ◌≢◌, ℕ, ◌<◌, ◌↔◌, ◌⊎◌, List, filter, Bool, true, false, not}
+use Rattle.std.specs.Prelude.{◌&&◌, Option, Some, None, length, IsTrue}
 use Rattle.std.specs.List.{Contains, range_with_len}
 use Rattle.std.specs.List.Sorted.{IsStrictlyIncreasing}
 use Rattle.std.specs.Int.Signed.{le_z}
 use Rattle.field_defs.specs.declared.field.FieldDef.{FieldDef}
 use Rattle.field_defs.specs.declared.field.FieldValue.{FieldValue}
-use Rattle.field_defs.specs.Layout.{IsLayout}
+use Rattle.field_defs.specs.Lawful.{IsLayout}
 use Rattle.rule_set.specs.declared.rule.RuleTag.{RuleTag}
 use Rattle.rule_set.specs.Fault.{rule_fault}
 use Rattle.rule_set.specs.Lawful.{IsLawfulRule}
@@ -19,35 +20,43 @@ FaultlessRulesAreLawful =
     (layout : List FieldDef) (tag : RuleTag) (values : List FieldValue) → IsLayout layout →
     (rule_fault layout tag values ≡ None ↔ IsLawfulRule layout tag values)
 
--- The rule at the one place has a greater priority than that at the other, or the same priority and an earlier place.
+-- The rule at the one place has a greater priority than that at the other, or the same priority and
+-- an earlier place.
 abbrev pub WinsOver : List RuleView → ℕ → ℕ → Type 0
 WinsOver rules place other =
     (le_z (priority_at rules place) (priority_at rules other) ≡ false)
     ⊎ ((priority_at rules place ≡ priority_at rules other) × (place < other))
 
 -- The place is among the places, its rule passes the test, and it wins over each other that passes.
-pub record IsBest (test : RuleView → Bool) (rules : List RuleView) (places : List ℕ) (place : ℕ) : Type 0 where
+pub record IsBest (test : RuleView → Bool) (rules : List RuleView) (places : List ℕ)
+    (place : ℕ) : Type 0 where
   pub among : Contains places place
   pub passes : passes_at test rules place ≡ true
-  pub wins : (other : ℕ) → Contains places other → passes_at test rules other ≡ true → other ≢ place →
+  pub wins : (other : ℕ) → Contains places other → passes_at test rules other ≡ true →
+      other ≢ place →
       WinsOver rules place other
 
--- Among places that rise, the best is the one that wins over all others that pass, and there is none exactly where no
--- rule at the places passes.
+-- Among places that rise, the best is the one that wins over all others that pass, and there is
+-- none exactly where no rule at the places passes.
 pub record TheBestWinsOverAllOthers : Type 0 where
-  pub best : (test : RuleView → Bool) (rules : List RuleView) (places : List ℕ) (place : ℕ) → IsStrictlyIncreasing places →
+  pub best : (test : RuleView → Bool) (rules : List RuleView) (places : List ℕ) (place : ℕ) →
+      IsStrictlyIncreasing places →
       (best_among test rules places ≡ Some place ↔ IsBest test rules places place)
   pub none : (test : RuleView → Bool) (rules : List RuleView) (places : List ℕ) →
-      (best_among test rules places ≡ None ↔ ((place : ℕ) → Contains places place → passes_at test rules place ≡ false))
+      (best_among test rules places ≡ None ↔
+      ((place : ℕ) → Contains places place → passes_at test rules place ≡ false))
 
 -- The winner of a rule set is the winner among all places.
 abbrev pub TheWinnerIsAmongAllPlaces : Type 0
 TheWinnerIsAmongAllPlaces =
     (layout : List FieldDef) (rules : List RuleView) (key : List ℕ) (category : ℕ) →
-    winner layout rules key category ≡ winner_among layout rules (range_with_len 0 (length rules)) key category
+    winner layout rules key category ≡ winner_among layout rules
+    (range_with_len 0 (length rules)) key category
 
--- The best of the rules that pass two tests is the best by the second test of those that pass the first.
+-- The best of the rules that pass two tests is the best by the second test of those that pass the
+-- first.
 abbrev pub TestsMayBeMadeInTurn : Type 0
 TestsMayBeMadeInTurn =
     (first second : RuleView → Bool) (rules : List RuleView) (places : List ℕ) →
-    best_among (λ rule. first rule && second rule) rules places ≡ best_among second rules (filter (passes_at first rules) places)
+    best_among (λ rule. first rule && second rule) rules places
+    ≡ best_among second rules (filter (passes_at first rules) places)

@@ -4,7 +4,8 @@ use Rattle.field_defs.proofs.Sizes.{number_of_eight_bytes, nothing_behind_the_bi
 use Rattle.field_defs.proofs.field.is_number_of.Goals as goal
 
 pub returns-then-size-ge8 : goal.returns-then-size-ge8
-returns-then-size-ge8 c = le-leb 8 c.args.size c.if-size-ge8.true ∙ sym (number_of_eight_bytes c.args.number c.args.size c.ranges.number.fits c.if-size-ge8.true)
+returns-then-size-ge8 c = le-leb 8 c.args.size c.if-size-ge8.true
+    ∙ sym (number_of_eight_bytes c.args.number c.args.size c.ranges.number.fits c.if-size-ge8.true)
 
 pub returns-else-size-ge8 : goal.returns-else-size-ge8
 returns-else-size-ge8 c = nothing_behind_the_bits c.args.number c.args.size
