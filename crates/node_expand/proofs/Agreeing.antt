@@ -1,5 +1,6 @@
 -- The bytes that agree with a bitmask lie between the value and the value with all other bits set.
-use Rattle.std.proofs.Common.{◌≡◌, ℕ, ◌+◌, ◌-◌, ◌<◌, ◌≤◌, Bool, true, false, cond, Option, Some, None, IsSome, refl, sym, ◌∙◌, ap, arith}
+use Rattle.std.proofs.Common.{◌≡◌, ℕ, ◌+◌, ◌-◌, ◌<◌, ◌≤◌, Bool, true, false, cond, Option, Some, None, IsSome, refl}
+use Rattle.std.proofs.Common.{sym, ◌∙◌, ap, arith}
 use Rattle.std.specs.Prelude.{bit_and, bit_or}
 use Rattle.std.specs.Int.Bits.{and_self, and_zero_r, or_add_and}
 use Rattle.std.proofs.lemmas.Nat.{and_le_l, and_comm, and_assoc, and-not, and_or_apart, le_or_l}
@@ -19,7 +20,8 @@ test_of : (test : Bool) → IsSome (cond test (Some Free) None) → test ≡ tru
 test_of true h = refl
 test_of false h = absurd (cc)
 
-module _ (value mask : ℕ) (value_fits : value < 256) (mask_fits : mask < 256) (inside : bit_and value mask ≡ value) where
+module _ (value mask : ℕ) (value_fits : value < 256) (mask_fits : mask < 256)
+    (inside : bit_and value mask ≡ value) where
   -- a byte shares no bit with what it lacks
   apart : bit_and (255 - mask) mask ≡ 0
   apart = omega (arith, and-not 8 mask mask mask_fits mask_fits, and_self mask)
@@ -35,10 +37,19 @@ module _ (value mask : ℕ) (value_fits : value < 256) (mask_fits : mask < 256) 
   last_agrees = and_or_apart mask value (255 - mask) apart ∙ inside
 
   -- what agrees lies between
-  between_ends : (byte : ℕ) → byte < 256 → bit_and byte mask ≡ value → (value ≤ byte) × (byte ≤ bit_or value (255 - mask))
+  between_ends : (byte : ℕ) → byte < 256 → bit_and byte mask ≡ value →
+      (value ≤ byte) × (byte ≤ bit_or value (255 - mask))
   between_ends byte below agrees = (
     omega (arith, and_le_l byte mask, agrees),
-    omega (arith, and-not 8 mask byte mask_fits below, and_comm mask byte, agrees, and_le_l (255 - mask) byte, or_add_and value (255 - mask), value_apart),
+    omega (
+      arith,
+      and-not 8 mask byte mask_fits below,
+      and_comm mask byte,
+      agrees,
+      and_le_l (255 - mask) byte,
+      or_add_and value (255 - mask),
+      value_apart,
+    ),
   )
 
   pub agreeing_ends : AreEnds (answer_of (Agreeing value mask)) value (bit_or value (255 - mask))

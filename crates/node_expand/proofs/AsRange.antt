@@ -1,5 +1,6 @@
 -- A mask is the range of the numbers that it lets through.
-use Rattle.std.proofs.Common.{◌≡◌, ℕ, ◌+◌, ◌-◌, ◌*◌, ◌^◌, ◌<◌, ◌≤◌, Bool, true, false, Option, Some, None, refl, sym, ◌∙◌, ap, arith}
+use Rattle.std.proofs.Common.{◌≡◌, ℕ, ◌+◌, ◌-◌, ◌*◌, ◌^◌, ◌<◌, ◌≤◌, Bool, true, false, Option, Some, None, refl, sym}
+use Rattle.std.proofs.Common.{◌∙◌, ap, arith}
 use Rattle.std.specs.Option.{option_map}
 use Rattle.std.proofs.lemmas.Bool.{leb-true, le-leb, ltb-true, lt-ltb, and_from}
 use Rattle.field_defs.specs.declared.field.FieldValue.{FieldValue}
@@ -25,22 +26,27 @@ module _ (value bits size : ℕ) where
   range : FieldValue
   range = Range (mask_low value bits size) (mask_high value bits size)
 
-  edge_as_range : (place prefix : ℕ) → edge_after range size place prefix ≡ edge_after (Mask value bits) size place prefix
+  edge_as_range : (place prefix : ℕ) → edge_after range size place prefix
+      ≡ edge_after (Mask value bits) size place prefix
   unfolding edge_after range
-  edge_as_range place prefix = ap (option_map (edge_of (256 ^ (size - place)))) (sym (rest_as_range value bits size place prefix))
+  edge_as_range place prefix = ap (option_map (edge_of (256 ^ (size - place))))
+      (sym (rest_as_range value bits size place prefix))
 
   -- an edge stands for the same rest
-  rest_of_as_range : (place : ℕ) (edge : Edge) → rest_of range size place edge ≡ rest_of (Mask value bits) size place edge
+  rest_of_as_range : (place : ℕ) (edge : Edge) →
+      rest_of range size place edge ≡ rest_of (Mask value bits) size place edge
   unfolding rest_of range
   rest_of_as_range place edge = refl
 
   -- and a step from a rest asks no value
-  rest_step_as_range : (place byte : ℕ) (before : Rest) → rest_step range size place before byte ≡ rest_step (Mask value bits) size place before byte
+  rest_step_as_range : (place byte : ℕ) (before : Rest) →
+      rest_step range size place before byte ≡ rest_step (Mask value bits) size place before byte
   unfolding rest_step range
   rest_step_as_range place byte (Interval low high) = refl
   rest_step_as_range place byte Live = refl
 
-  step_as_range : (place byte : ℕ) (edge : Edge) → edge_step range size place edge byte ≡ edge_step (Mask value bits) size place edge byte
+  step_as_range : (place byte : ℕ) (edge : Edge) →
+      edge_step range size place edge byte ≡ edge_step (Mask value bits) size place edge byte
   unfolding edge_step
   step_as_range place byte edge =
       ap (option_map (edge_of (256 ^ (size - (place + 1)))))
@@ -52,7 +58,8 @@ module _ (value bits size : ℕ) where
   unfolding range
   lawful_as_range can =
       let high : mask_high value bits size < 256 ^ size =
-      mask_within value bits size (leb-true bits (8 * size) can.mask_within) (ltb-true value (256 ^ size) can.within_size) in
+      mask_within value bits size (leb-true bits (8 * size) can.mask_within)
+      (ltb-true value (256 ^ size) can.within_size) in
       let low : mask_low value bits size < 256 ^ size = omega (arith, mask_filled value bits size) in
       record {
         lawful_size = can.lawful_size;
@@ -80,11 +87,21 @@ module _ (value bits size : ℕ) where
     rest = λ place prefix. sym (rest_as_range value bits size place prefix);
     edge = edge_as_range;
     stands = λ place edge. (
-      λ stands. record { prefix = stands.prefix; within = stands.within; form = sym (edge_as_range place stands.prefix) ∙ stands.form },
-      λ stands. record { prefix = stands.prefix; within = stands.within; form = edge_as_range place stands.prefix ∙ stands.form },
+      λ stands. record {
+        prefix = stands.prefix;
+        within = stands.within;
+        form = sym (edge_as_range place stands.prefix) ∙ stands.form;
+      },
+      λ stands. record {
+        prefix = stands.prefix;
+        within = stands.within;
+        form = edge_as_range place stands.prefix ∙ stands.form;
+      },
     );
     step = step_as_range;
-    cut = λ place byte edge. unfold is_cut in change_alike (edge_step range size place edge) (edge_step (Mask value bits) size place edge) byte (step_as_range place byte edge) (step_as_range place (byte - 1) edge);
+    cut = λ place byte edge. unfold is_cut in
+        change_alike (edge_step range size place edge) (edge_step (Mask value bits) size place edge) byte
+        (step_as_range place byte edge) (step_as_range place (byte - 1) edge);
   }
 
 -- another value is its own range

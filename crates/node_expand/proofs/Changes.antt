@@ -1,15 +1,18 @@
 -- Where an answer changes from one byte to the next.
-use Rattle.std.proofs.Common.{◌≡◌, ◌≢◌, ℕ, zero, suc, ◌+◌, ◌-◌, ◌<◌, ◌≤◌, max, Bool, true, false, ◌&&◌, ◌||◌, not, cond, eqb, ltb, Option, Some, None, IsSome, refl, sym, ◌∙◌, ap, inl, inr, arith}
+use Rattle.std.proofs.Common.{◌≡◌, ◌≢◌, ℕ, zero, suc, ◌+◌, ◌-◌, ◌<◌, ◌≤◌, max, Bool, true, false, ◌&&◌, ◌||◌, not, cond}
+use Rattle.std.proofs.Common.{eqb, ltb, Option, Some, None, IsSome, refl, sym, ◌∙◌, ap, inl, inr, arith}
 use Rattle.std.specs.Prelude.{bit_and}
 use mathlib.Core.Bool.{beq}
-use Rattle.std.proofs.lemmas.Bool.{cases_lt, cases_order, cases_eq, lt-leb, le-leb, and_right, cond-false, lt-ltb, le-ltb, eq-eqb, ne_eqb, not-false, not_from_true}
+use Rattle.std.proofs.lemmas.Bool.{cases_lt, cases_order, cases_eq, lt-leb, le-leb, and_right, cond-false, lt-ltb}
+use Rattle.std.proofs.lemmas.Bool.{le-ltb, eq-eqb, ne_eqb, not-false, not_from_true}
 use Rattle.std.proofs.lemmas.Bool.Decides.{nat_tests}
 use Rattle.field_defs.specs.declared.field.FieldValue.{FieldValue}
 use Rattle.node_expand.specs.declared.edge.Edge.{Edge}
 use Rattle.node_expand.specs.declared.edge.Edge.TheVariants.{Free, Low, High, Both}
 use Rattle.node_expand.specs.declared.allowed.Allowed.TheVariants.{Between, Agreeing}
 use Rattle.node_expand.specs.Allowed.{answer_of, between, IsBetween}
-use Rattle.node_expand.specs.Edges.{edge_with, same_edge, same_answer, is_change, is_cut, edge_step, AreEnds, AnswersWithin}
+use Rattle.node_expand.specs.Edges.{edge_with, same_edge, same_answer, is_change, is_cut, edge_step, AreEnds}
+use Rattle.node_expand.specs.Edges.{AnswersWithin}
 use Rattle.node_expand.specs.Laws.{CutsAreChanges, UncutBytesAnswerAlike}
 
 -- an edge is itself
@@ -48,24 +51,43 @@ cuts_are_changes value size place edge byte above =
     )
 
 -- a bitmask's answer changes where the byte agrees and the byte before it doesn't, or the other way round
-pub turns : (value mask byte : ℕ) → 0 < byte → not (beq (eqb (bit_and byte mask) value) (eqb (bit_and (byte - 1) mask) value)) ≡ is_change (answer_of (Agreeing value mask)) byte
+pub turns : (value mask byte : ℕ) → 0 < byte →
+    not (beq (eqb (bit_and byte mask) value) (eqb (bit_and (byte - 1) mask) value))
+    ≡ is_change (answer_of (Agreeing value mask)) byte
 unfolding is_change answer_of
-turns value mask byte above = rw (lt-ltb 0 byte above) (agreeing (eqb (bit_and byte mask) value) (eqb (bit_and (byte - 1) mask) value))
+turns value mask byte above = rw (lt-ltb 0 byte above)
+    (agreeing (eqb (bit_and byte mask) value) (eqb (bit_and (byte - 1) mask) value))
   where
-    agreeing : (one other : Bool) → not (beq one other) ≡ not (same_answer (cond one (Some Free) None) (cond other (Some Free) None))
+    agreeing : (one other : Bool) → not (beq one other)
+        ≡ not (same_answer (cond one (Some Free) None) (cond other (Some Free) None))
     agreeing true true = refl
     agreeing true false = refl
     agreeing false true = refl
     agreeing false false = refl
 
 -- the bytes below the next one are marked, where those below this one are and this one is
-pub marked_more : (change : ℕ → Bool) (byte place : ℕ) (old : Bool) → ((eqb place byte && change byte) || ((ltb place byte && change place) || old)) ≡ ((ltb place (byte + 1) && change place) || old)
+pub marked_more : (change : ℕ → Bool) (byte place : ℕ) (old : Bool) →
+    ((eqb place byte && change byte) || ((ltb place byte && change place) || old))
+    ≡ ((ltb place (byte + 1) && change place) || old)
 marked_more change byte place old =
     elim (cases_order place byte) [
-      | inl here ↦ rw (eq-eqb place byte here, le-ltb place byte (omega arith), lt-ltb place (byte + 1) (omega arith), here) refl
+      | inl here ↦ rw (
+        eq-eqb place byte here,
+        le-ltb place byte (omega arith),
+        lt-ltb place (byte + 1) (omega arith),
+        here,
+      ) refl
       | inr other ↦ elim other [
-        | inl before ↦ rw (ne_eqb place byte (λ e. omega arith), lt-ltb place byte before, lt-ltb place (byte + 1) (omega arith)) refl
-        | inr behind ↦ rw (ne_eqb place byte (λ e. omega arith), le-ltb place byte (omega arith), le-ltb place (byte + 1) (omega arith)) refl
+        | inl before ↦ rw (
+          ne_eqb place byte (λ e. omega arith),
+          lt-ltb place byte before,
+          lt-ltb place (byte + 1) (omega arith),
+        ) refl
+        | inr behind ↦ rw (
+          ne_eqb place byte (λ e. omega arith),
+          le-ltb place byte (omega arith),
+          le-ltb place (byte + 1) (omega arith),
+        ) refl
       ]
     ]
 
@@ -75,7 +97,8 @@ none_from None never = refl
 none_from (Some edge) never = absurd (never refl)
 
 -- two bytes without an answer are no change
-no_change : (answer : ℕ → Option Edge) (byte : ℕ) → answer byte ≡ None → answer (byte - 1) ≡ None → is_change answer byte ≡ false
+no_change : (answer : ℕ → Option Edge) (byte : ℕ) → answer byte ≡ None → answer (byte - 1) ≡ None →
+    is_change answer byte ≡ false
 unfolding is_change
 no_change answer byte here before = rw (here, before) (and_right (ltb 0 byte) false refl)
 
@@ -85,7 +108,8 @@ unfolding is_change
 is_change_first answer byte first = rw first refl
 
 -- nothing changes before the first answer
-pub unchanged_before : (answer : ℕ → Option Edge) (first last byte : ℕ) → AreEnds answer first last → byte < 256 → byte < max first 1 → is_change answer byte ≡ false
+pub unchanged_before : (answer : ℕ → Option Edge) (first last byte : ℕ) → AreEnds answer first last → byte < 256 →
+    byte < max first 1 → is_change answer byte ≡ false
 unchanged_before answer first last byte ends below before =
     elim (cases_eq byte 0) [
       | inl start ↦ is_change_first answer byte start
@@ -95,13 +119,15 @@ unchanged_before answer first last byte ends below before =
     ]
 
 -- nor behind the byte after the last one
-pub unchanged_behind : (answer : ℕ → Option Edge) (first last byte : ℕ) → AreEnds answer first last → byte < 256 → last + 2 ≤ byte → is_change answer byte ≡ false
+pub unchanged_behind : (answer : ℕ → Option Edge) (first last byte : ℕ) → AreEnds answer first last → byte < 256 →
+    last + 2 ≤ byte → is_change answer byte ≡ false
 unchanged_behind answer first last byte ends below behind = no_change answer byte
     (none_from (answer byte) (λ some. omega (arith, (ends.none_outside byte below some).1)))
     (none_from (answer (byte - 1)) (λ some. omega (arith, (ends.none_outside (byte - 1) (omega arith) some).1)))
 
 -- where nothing changes below a byte none is marked
-pub marked_none : (change : ℕ → Bool) (byte place : ℕ) (old : Bool) → (place < byte → change place ≡ false) → old ≡ ((ltb place byte && change place) || old)
+pub marked_none : (change : ℕ → Bool) (byte place : ℕ) (old : Bool) → (place < byte → change place ≡ false) →
+    old ≡ ((ltb place byte && change place) || old)
 marked_none change byte place old none =
     elim (cases_lt place byte) [
       | inl before ↦ rw (none before, and_right (ltb place byte) false refl) refl
@@ -109,7 +135,8 @@ marked_none change byte place old none =
     ]
 
 -- and where nothing changes from a byte on, all are marked
-pub marked_all : (change : ℕ → Bool) (byte place : ℕ) (old : Bool) → (byte ≤ place → change place ≡ false) → ((ltb place byte && change place) || old) ≡ (change place || old)
+pub marked_all : (change : ℕ → Bool) (byte place : ℕ) (old : Bool) → (byte ≤ place → change place ≡ false) →
+    ((ltb place byte && change place) || old) ≡ (change place || old)
 marked_all change byte place old none =
     elim (cases_lt place byte) [
       | inl before ↦ rw (lt-ltb place byte before) refl
@@ -126,12 +153,15 @@ module _ (low high : ℕ) (low_inner high_inner : Bool) where
   unfolding answer_of
   answer_above byte above = cond-false _ _ _ (and_right _ _ (lt-leb byte high above))
 
-  answer_within : (byte : ℕ) → low ≤ byte → byte ≤ high → answer_of (Between low high low_inner high_inner) byte ≡ Some (edge_with (eqb byte low && low_inner) (eqb byte high && high_inner))
+  answer_within : (byte : ℕ) → low ≤ byte → byte ≤ high →
+      answer_of (Between low high low_inner high_inner) byte
+      ≡ Some (edge_with (eqb byte low && low_inner) (eqb byte high && high_inner))
   unfolding answer_of
   answer_within byte above below = rw (le-leb low byte above, le-leb byte high below) refl
 
 -- the ends are the first and the last byte with an answer
-pub between_ends : (low high : ℕ) (low_inner high_inner : Bool) → low ≤ high → AreEnds (answer_of (Between low high low_inner high_inner)) low high
+pub between_ends : (low high : ℕ) (low_inner high_inner : Bool) → low ≤ high →
+    AreEnds (answer_of (Between low high low_inner high_inner)) low high
 between_ends low high low_inner high_inner filled = record {
   first_answers = rw (answer_within low high low_inner high_inner low (omega arith) filled) refl;
   last_answers = rw (answer_within low high low_inner high_inner high filled (omega arith)) refl;
@@ -145,8 +175,10 @@ between_ends low high low_inner high_inner filled = record {
   ];
 }
 
-pub between_within : (low high : ℕ) (low_inner high_inner : Bool) → AnswersWithin (answer_of (Between low high low_inner high_inner)) low high
-between_within low high low_inner high_inner byte above below = rw (answer_within low high low_inner high_inner byte above below) refl
+pub between_within : (low high : ℕ) (low_inner high_inner : Bool) →
+    AnswersWithin (answer_of (Between low high low_inner high_inner)) low high
+between_within low high low_inner high_inner byte above below =
+    rw (answer_within low high low_inner high_inner byte above below) refl
 
 -- what the ends of some numbers allow lies between two bytes
 pub ends_between : (low high unit : ℕ) → IsBetween (between low high unit)
@@ -154,7 +186,9 @@ unfolding between
 ends_between low high unit = tt
 
 -- what answers alike has the same ends
-pub ends_alike : (answer other : ℕ → Option Edge) (first last : ℕ) → ((byte : ℕ) → byte < 256 → answer byte ≡ other byte) → last < 256 → AreEnds answer first last → AreEnds other first last
+pub ends_alike : (answer other : ℕ → Option Edge) (first last : ℕ) →
+    ((byte : ℕ) → byte < 256 → answer byte ≡ other byte) → last < 256 → AreEnds answer first last →
+    AreEnds other first last
 ends_alike answer other first last alike below ends = record {
   first_answers = rw (← alike first (omega (arith, ends.ordered))) ends.first_answers;
   last_answers = rw (← alike last below) ends.last_answers;
@@ -162,11 +196,15 @@ ends_alike answer other first last alike below ends = record {
   none_outside = λ byte within some. ends.none_outside byte within (rw (alike byte within) some);
 }
 
-pub within_alike : (answer other : ℕ → Option Edge) (first last : ℕ) → ((byte : ℕ) → byte < 256 → answer byte ≡ other byte) → last < 256 → AnswersWithin answer first last → AnswersWithin other first last
-within_alike answer other first last alike below within byte above at_most = rw (← alike byte (omega arith)) (within byte above at_most)
+pub within_alike : (answer other : ℕ → Option Edge) (first last : ℕ) →
+    ((byte : ℕ) → byte < 256 → answer byte ≡ other byte) → last < 256 → AnswersWithin answer first last →
+    AnswersWithin other first last
+within_alike answer other first last alike below within byte above at_most =
+    rw (← alike byte (omega arith)) (within byte above at_most)
 
 -- behind the first byte only the two answers count
-is_change_behind : (answer : ℕ → Option Edge) (byte : ℕ) → 0 < byte → is_change answer byte ≡ not (same_answer (answer byte) (answer (byte - 1)))
+is_change_behind : (answer : ℕ → Option Edge) (byte : ℕ) → 0 < byte →
+    is_change answer byte ≡ not (same_answer (answer byte) (answer (byte - 1)))
 unfolding is_change
 is_change_behind answer byte behind = rw (lt-ltb 0 byte behind) refl
 
@@ -181,13 +219,15 @@ edges_differ true true = refl
 abbrev pub is_marked : ℕ → ℕ → Bool → Bool → ℕ → Bool
 is_marked low high low_inner high_inner byte =
     (eqb byte (high + 1) && ltb high 255)
-    || ((eqb byte high && (ltb low high && high_inner)) || ((eqb byte (low + 1) && (ltb low high && low_inner)) || (eqb byte low && ltb 0 low)))
+    || ((eqb byte high && (ltb low high && high_inner)) ||
+    ((eqb byte (low + 1) && (ltb low high && low_inner)) || (eqb byte low && ltb 0 low)))
 
 module _ (low high byte : ℕ) (low_inner high_inner : Bool) (filled : low ≤ high) where
   unmarked_first : byte ≡ 0 → is_marked low high low_inner high_inner byte ≡ false
   unmarked_first first = grind (arith, nat_tests)
 
-  unmarked_apart : byte ≢ high + 1 → byte ≢ high → byte ≢ low + 1 → byte ≢ low → is_marked low high low_inner high_inner byte ≡ false
+  unmarked_apart : byte ≢ high + 1 → byte ≢ high → byte ≢ low + 1 → byte ≢ low →
+      is_marked low high low_inner high_inner byte ≡ false
   unmarked_apart a b c d = grind (arith, nat_tests)
 
   marked_low : 0 < byte → byte ≡ low → is_marked low high low_inner high_inner byte ≡ true
@@ -196,7 +236,9 @@ module _ (low high byte : ℕ) (low_inner high_inner : Bool) (filled : low ≤ h
   marked_behind : byte < 256 → byte ≡ high + 1 → is_marked low high low_inner high_inner byte ≡ true
   marked_behind below is = grind (arith, nat_tests)
 
-  marked_within : low < byte → byte ≤ high → is_marked low high low_inner high_inner byte ≡ ((eqb byte high && high_inner) || (eqb (byte - 1) low && low_inner))
+  marked_within : low < byte → byte ≤ high →
+      is_marked low high low_inner high_inner byte
+      ≡ ((eqb byte high && high_inner) || (eqb (byte - 1) low && low_inner))
   marked_within above within = grind (arith, nat_tests)
 
 -- the answer changes at the marks
@@ -208,22 +250,33 @@ between_changes low high byte low_inner high_inner filled below =
     let is_above = answer_above low high low_inner high_inner in
     let is_within = answer_within low high low_inner high_inner in
     elim (cases_eq byte 0) [
-      | inl first ↦ is_change_first answer byte first ∙ sym (unmarked_first low high byte low_inner high_inner filled first)
+      | inl first ↦ is_change_first answer byte first
+          ∙ sym (unmarked_first low high byte low_inner high_inner filled first)
       | inr behind ↦ is_change_behind answer byte (omega arith) ∙ elim (cases_order byte low) [
-        | inl start ↦ rw (is_below (byte - 1) (omega arith), is_within byte (omega arith) (omega arith)) (sym (marked_low low high byte low_inner high_inner filled (omega arith) start))
+        | inl start ↦ rw (is_below (byte - 1) (omega arith), is_within byte (omega arith) (omega arith))
+            (sym (marked_low low high byte low_inner high_inner filled (omega arith) start))
         | inr other ↦ elim other [
           | inl before ↦ rw (is_below byte before, is_below (byte - 1) (omega arith))
-              (sym (unmarked_apart low high byte low_inner high_inner filled (λ e. omega arith) (λ e. omega arith) (λ e. omega arith) (λ e. omega arith)))
+              (sym (unmarked_apart low high byte low_inner high_inner filled (λ e. omega arith) (λ e. omega arith)
+              (λ e. omega arith) (λ e. omega arith)))
           | inr after ↦ elim (cases_order byte (high + 1)) [
-            | inl end ↦ rw (is_above byte (omega arith), is_within (byte - 1) (omega arith) (omega arith)) (sym (marked_behind low high byte low_inner high_inner filled below end))
+            | inl end ↦ rw (is_above byte (omega arith), is_within (byte - 1) (omega arith) (omega arith))
+                (sym (marked_behind low high byte low_inner high_inner filled below end))
             | inr apart ↦ elim apart [
               | inl inside ↦
-                  let edges : not (same_answer (answer byte) (answer (byte - 1))) ≡ ((eqb byte high && high_inner) || (eqb (byte - 1) low && low_inner)) =
-                  rw (is_within byte (omega arith) (omega arith), is_within (byte - 1) (omega arith) (omega arith), ne_eqb byte low (λ e. omega arith), ne_eqb (byte - 1) high (λ e. omega arith))
+                  let edges : not (same_answer (answer byte) (answer (byte - 1)))
+                  ≡ ((eqb byte high && high_inner) || (eqb (byte - 1) low && low_inner)) =
+                  rw (
+                    is_within byte (omega arith) (omega arith),
+                    is_within (byte - 1) (omega arith) (omega arith),
+                    ne_eqb byte low (λ e. omega arith),
+                    ne_eqb (byte - 1) high (λ e. omega arith),
+                  )
                   (edges_differ (eqb (byte - 1) low && low_inner) (eqb byte high && high_inner)) in
                   edges ∙ sym (marked_within low high byte low_inner high_inner filled after (omega arith))
               | inr beyond ↦ rw (is_above byte (omega arith), is_above (byte - 1) (omega arith))
-                  (sym (unmarked_apart low high byte low_inner high_inner filled (λ e. omega arith) (λ e. omega arith) (λ e. omega arith) (λ e. omega arith)))
+                  (sym (unmarked_apart low high byte low_inner high_inner filled (λ e. omega arith) (λ e. omega arith)
+                  (λ e. omega arith) (λ e. omega arith)))
             ]
           ]
         ]
@@ -231,7 +284,8 @@ between_changes low high byte low_inner high_inner filled below =
     ]
 
 -- one mark after the other
-marks_in_turn : (first second third fourth old : Bool) → (first || (second || (third || (fourth || old)))) ≡ ((first || (second || (third || fourth))) || old)
+marks_in_turn : (first second third fourth old : Bool) →
+    (first || (second || (third || (fourth || old)))) ≡ ((first || (second || (third || fourth))) || old)
 marks_in_turn true second third fourth old = refl
 marks_in_turn false true third fourth old = refl
 marks_in_turn false false true fourth old = refl
@@ -239,12 +293,18 @@ marks_in_turn false false false fourth old = refl
 
 -- marks set one after the other are the changes, over the marks that were set before
 pub between_marks : (low high byte : ℕ) (low_inner high_inner old : Bool) → low ≤ high → byte < 256 →
-    ((eqb byte (high + 1) && ltb high 255) || ((eqb byte high && (ltb low high && high_inner)) || ((eqb byte (low + 1) && (ltb low high && low_inner)) || ((eqb byte low && ltb 0 low) || old))))
+    ((eqb byte (high + 1) && ltb high 255) ||
+    ((eqb byte high && (ltb low high && high_inner)) ||
+    ((eqb byte (low + 1) && (ltb low high && low_inner)) || ((eqb byte low && ltb 0 low) || old))))
     ≡ (is_change (answer_of (Between low high low_inner high_inner)) byte || old)
-between_marks low high byte low_inner high_inner old filled below = rw (between_changes low high byte low_inner high_inner filled below) (marks_in_turn (eqb byte (high + 1) && ltb high 255) (eqb byte high && (ltb low high && high_inner)) (eqb byte (low + 1) && (ltb low high && low_inner)) (eqb byte low && ltb 0 low) old)
+between_marks low high byte low_inner high_inner old filled below =
+    rw (between_changes low high byte low_inner high_inner filled below)
+    (marks_in_turn (eqb byte (high + 1) && ltb high 255) (eqb byte high && (ltb low high && high_inner))
+    (eqb byte (low + 1) && (ltb low high && low_inner)) (eqb byte low && ltb 0 low) old)
 
 -- two answers that are one at a byte and at the one before it change alike
-pub change_alike : (answer other : ℕ → Option Edge) (byte : ℕ) → answer byte ≡ other byte → answer (byte - 1) ≡ other (byte - 1) → is_change answer byte ≡ is_change other byte
+pub change_alike : (answer other : ℕ → Option Edge) (byte : ℕ) → answer byte ≡ other byte →
+    answer (byte - 1) ≡ other (byte - 1) → is_change answer byte ≡ is_change other byte
 unfolding is_change
 change_alike answer other byte here before = rw (here, before) refl
 
@@ -255,10 +315,13 @@ uncut_from : (value : FieldValue) (size place : ℕ) (edge : Edge) (first more :
 uncut_from value size place edge first zero uncut = let here : first + 0 ≡ first = omega arith in rw here refl
 uncut_from value size place edge first (suc more) uncut =
     let before : first + suc more - 1 ≡ first + more = omega arith in
-    let same = (cuts_are_changes value size place edge (first + suc more) (omega arith)).0 (uncut (first + suc more) (omega arith) (omega arith)) in
-    uncut_from value size place edge first more (λ byte above below. uncut byte above (omega arith)) ∙ sym (rw before at same)
+    let same = (cuts_are_changes value size place edge (first + suc more) (omega arith)).0
+    (uncut (first + suc more) (omega arith) (omega arith)) in
+    uncut_from value size place edge first more (λ byte above below. uncut byte above (omega arith))
+    ∙ sym (rw before at same)
 
 pub uncut_alike : UncutBytesAnswerAlike
 uncut_alike value size place edge first last ordered uncut =
     let end : first + (last - first) ≡ last = omega arith in
-    rw end at (uncut_from value size place edge first (last - first) (λ byte above below. uncut byte above (omega arith)))
+    rw end at (uncut_from value size place edge first (last - first)
+    (λ byte above below. uncut byte above (omega arith)))

@@ -1,5 +1,6 @@
 -- Where a value leaves all numbers it leaves all of them after more bytes.
-use Rattle.std.proofs.Common.{◌≡◌, ℕ, zero, suc, ◌+◌, ◌-◌, ◌*◌, ◌/◌, ◌^◌, ◌<◌, ◌≤◌, min, max, ◌==◌, ◌&&◌, not, true, false, ltb, nat_le, Option, Some, None, refl, sym, ◌∙◌, ap, arith}
+use Rattle.std.proofs.Common.{◌≡◌, ℕ, zero, suc, ◌+◌, ◌-◌, ◌*◌, ◌/◌, ◌^◌, ◌<◌, ◌≤◌, min, max, ◌==◌, ◌&&◌, not, true}
+use Rattle.std.proofs.Common.{false, ltb, nat_le, Option, Some, None, refl, sym, ◌∙◌, ap, arith}
 use Rattle.std.specs.Prelude.{bit_and}
 use Rattle.std.specs.Option.{option_map}
 use Rattle.std.specs.Int.Bits.{and_zero_r}
@@ -13,7 +14,8 @@ use Rattle.field_defs.specs.FieldMatch.{CanMatch, is_wild}
 use Rattle.node_expand.specs.declared.edge.Edge.{Edge}
 use Rattle.node_expand.specs.declared.edge.Edge.TheVariants.{Free}
 use Rattle.node_expand.specs.Rest.{Rest, Interval, Live, part, mask_low, mask_high, rest_after, rest_step}
-use Rattle.node_expand.specs.Edges.{edge_with, edge_of, rest_of, edge_after, edge_step, same_edge, is_change, is_cut, is_bitmask, AreEnds, AnswersWithin}
+use Rattle.node_expand.specs.Edges.{edge_with, edge_of, rest_of, edge_after, edge_step, same_edge, is_change, is_cut}
+use Rattle.node_expand.specs.Edges.{is_bitmask, AreEnds, AnswersWithin}
 use Rattle.node_expand.specs.Laws.{WildValuesStayFree, FreeEdgesStayFree}
 use Rattle.node_expand.proofs.Parts.{part_some}
 use Rattle.node_expand.proofs.Ranges.{closing, count_pos, range_rest, rest_as_range}
@@ -24,32 +26,38 @@ use Rattle.node_expand.proofs.AsRange.{as_its_range}
 use Rattle.node_expand.proofs.Standing.{step_form}
 
 -- the form of all numbers, with no byte left too
-all_is_free : (left : ℕ) → option_map (edge_of (256 ^ left)) (closing left (Some (Interval 0 (256 ^ left - 1)))) ≡ Some Free
+all_is_free : (left : ℕ) → option_map (edge_of (256 ^ left)) (closing left (Some (Interval 0 (256 ^ left - 1))))
+    ≡ Some Free
 unfolding edge_of
 all_is_free zero = refl
 all_is_free (suc left) = rw (le-ltb (256 ^ suc left - 1) (256 ^ suc left - 1) (omega arith)) refl
 
 -- all numbers of a size begin with each prefix
-all_after : (size place prefix left : ℕ) → size ≡ place + left → prefix < 256 ^ place → part 0 (256 ^ size - 1) (256 ^ left) prefix ≡ Some (Interval 0 (256 ^ left - 1))
+all_after : (size place prefix left : ℕ) → size ≡ place + left → prefix < 256 ^ place →
+    part 0 (256 ^ size - 1) (256 ^ left) prefix ≡ Some (Interval 0 (256 ^ left - 1))
 all_after size place prefix left e within =
     let count : ℕ = 256 ^ left in
     let positive : 0 < count = count_pos left in
     let whole : 256 ^ size ≡ 256 ^ place * count = rw e (pow-add 256 place left) in
     let room : suc prefix * count ≤ 256 ^ place * count = mul-le-mul_right count within in
     let first : max 0 (prefix * count) - prefix * count ≡ 0 = omega arith in
-    let last : min (256 ^ size - 1) (prefix * count + (count - 1)) - prefix * count ≡ count - 1 = omega (arith, whole, room) in
+    let last : min (256 ^ size - 1) (prefix * count + (count - 1)) - prefix * count ≡ count - 1 =
+    omega (arith, whole, room) in
     part_some 0 (256 ^ size - 1) count prefix (omega (arith, whole, room)) ∙ rw (first, last) refl
 
 -- the range of all numbers is free after any bytes
-pub all_stays_free : (size place prefix : ℕ) → place ≤ size → prefix < 256 ^ place → edge_after (Range 0 (256 ^ size - 1)) size place prefix ≡ Some Free
+pub all_stays_free : (size place prefix : ℕ) → place ≤ size → prefix < 256 ^ place →
+    edge_after (Range 0 (256 ^ size - 1)) size place prefix ≡ Some Free
 unfolding edge_after
 all_stays_free size place prefix begun within =
     let left : ℕ = size - place in
     let e : size ≡ place + left = omega arith in
-    rw (range_rest 0 (256 ^ size - 1) size place prefix left e, all_after size place prefix left e within) (all_is_free left)
+    rw (range_rest 0 (256 ^ size - 1) size place prefix left e, all_after size place prefix left e within)
+    (all_is_free left)
 
 -- a wild value is free after any bytes
-wild_after : (value : FieldValue) (size place prefix : ℕ) → CanMatch value size → is_wild value size ≡ true → place ≤ size → prefix < 256 ^ place → edge_after value size place prefix ≡ Some Free
+wild_after : (value : FieldValue) (size place prefix : ℕ) → CanMatch value size → is_wild value size ≡ true →
+    place ≤ size → prefix < 256 ^ place → edge_after value size place prefix ≡ Some Free
 wild_after (Range low high) size place prefix can wild begun within =
     let ends = and_parts (low == 0) (nat_le (256 ^ size) (high + 1)) wild in
     let first : low ≡ 0 = eqb-true low 0 ends.0 in
@@ -60,9 +68,12 @@ wild_after (Range low high) size place prefix can wild begun within =
 wild_after (Mask value bits) size place prefix can wild begun within =
     let none : bits ≡ 0 = eqb-true bits 0 wild in
     let fits : value < 2 ^ (8 * size) = rw (← count_as_bits size) (ltb-true value (256 ^ size) can.within_size) in
-    let lowest : mask_low value 0 size ≡ 0 = unfold mask_low in rw (sub-zero (8 * size), div-eq_of_lt fits) (omega arith) in
-    let greatest : mask_high value 0 size ≡ 256 ^ size - 1 = unfold mask_high in rw (sub-zero (8 * size), div-eq_of_lt fits, count_as_bits size) (omega arith) in
-    rw none (sym ((as_its_range (Mask value 0) size).edge place prefix) ∙ rw (lowest, greatest) (all_stays_free size place prefix begun within))
+    let lowest : mask_low value 0 size ≡ 0 = unfold mask_low in
+    rw (sub-zero (8 * size), div-eq_of_lt fits) (omega arith) in
+    let greatest : mask_high value 0 size ≡ 256 ^ size - 1 = unfold mask_high in
+    rw (sub-zero (8 * size), div-eq_of_lt fits, count_as_bits size) (omega arith) in
+    rw none (sym ((as_its_range (Mask value 0) size).edge place prefix)
+    ∙ rw (lowest, greatest) (all_stays_free size place prefix begun within))
 wild_after (Bitmask value mask) size place prefix can wild begun within =
     let none : mask ≡ 0 = eqb-true mask 0 wild in
     let left : ℕ = size - place in
@@ -77,9 +88,11 @@ pub wild_stays_free : WildValuesStayFree
 wild_stays_free = record {
   edge = wild_after;
   step = λ value size place byte can wild begun below.
-      let more : 256 ≤ 256 ^ (place + 1) = (let next : 256 ^ (place + 1) ≡ 256 ^ place * 256 = rw add-one (pow-suc 256 place) in omega (arith, next, one-le-pow place 256 (omega arith))) in
+      let more : 256 ≤ 256 ^ (place + 1) = (let next : 256 ^ (place + 1) ≡ 256 ^ place * 256 =
+      rw add-one (pow-suc 256 place) in omega (arith, next, one-le-pow place 256 (omega arith))) in
       let next : 0 * 256 + byte < 256 ^ (place + 1) = omega (arith, more) in
-      step_form value size place 0 byte Free begun below (wild_after value size place 0 can wild (omega arith) (pow_pos' place))
+      step_form value size place 0 byte Free begun below
+      (wild_after value size place 0 can wild (omega arith) (pow_pos' place))
       ∙ wild_after value size (place + 1) (0 * 256 + byte) can wild (omega arith) next;
 }
   where
@@ -87,7 +100,8 @@ wild_stays_free = record {
     pow_pos' place = one-le-pow place 256 (omega arith)
 
 -- a free edge of a range stands for all numbers
-free_step : (low high size place byte : ℕ) → place < size → byte < 256 → edge_step (Range low high) size place Free byte ≡ Some Free
+free_step : (low high size place byte : ℕ) → place < size → byte < 256 →
+    edge_step (Range low high) size place Free byte ≡ Some Free
 unfolding edge_step rest_step edge_after
 free_step low high size place byte begun below =
     let one : 256 ^ 1 ≡ 256 = refl in
@@ -104,24 +118,33 @@ free_stays_free = record {
 }
 
 -- where an interval is left of which neither end is inner, each byte leaves one again
-pub all_left_step : (value : FieldValue) (size place byte : ℕ) (edge : Edge) → (same_edge edge Free && not (is_bitmask value)) ≡ true →
+pub all_left_step : (value : FieldValue) (size place byte : ℕ) (edge : Edge) →
+    (same_edge edge Free && not (is_bitmask value)) ≡ true →
     place < size → byte < 256 → edge_step value size place edge byte ≡ Some Free
 all_left_step (Mask value bits) size place byte edge all begun below =
-    rw (one_edge edge Free (and_parts (same_edge edge Free) true all).0) (free_stays_free.mask value bits size place byte begun below)
+    rw (one_edge edge Free (and_parts (same_edge edge Free) true all).0)
+    (free_stays_free.mask value bits size place byte begun below)
 all_left_step (Range low high) size place byte edge all begun below =
-    rw (one_edge edge Free (and_parts (same_edge edge Free) true all).0) (free_step low high size place byte begun below)
-all_left_step (Bitmask value mask) size place byte edge all begun below = absurd (false≢true (and_parts (same_edge edge Free) false all).1)
+    rw (one_edge edge Free (and_parts (same_edge edge Free) true all).0)
+    (free_step low high size place byte begun below)
+all_left_step (Bitmask value mask) size place byte edge all begun below =
+    absurd (false≢true (and_parts (same_edge edge Free) false all).1)
 
 -- so there is no cut
-pub all_left_uncut : (value : FieldValue) (size place byte : ℕ) (edge : Edge) → (same_edge edge Free && not (is_bitmask value)) ≡ true →
+pub all_left_uncut : (value : FieldValue) (size place byte : ℕ) (edge : Edge) →
+    (same_edge edge Free && not (is_bitmask value)) ≡ true →
     place < size → byte < 256 → is_cut value size place edge byte ≡ false
 unfolding is_cut is_change
 all_left_uncut value size place byte edge all begun below =
-    rw (all_left_step value size place byte edge all begun below, all_left_step value size place (byte - 1) edge all begun (omega arith))
+    rw (
+      all_left_step value size place byte edge all begun below,
+      all_left_step value size place (byte - 1) edge all begun (omega arith),
+    )
     (and_right (ltb 0 byte) false refl)
 
 -- and the ends are the outermost bytes
-pub all_left_ends : (value : FieldValue) (size place : ℕ) (edge : Edge) → (same_edge edge Free && not (is_bitmask value)) ≡ true →
+pub all_left_ends : (value : FieldValue) (size place : ℕ) (edge : Edge) →
+    (same_edge edge Free && not (is_bitmask value)) ≡ true →
     place < size → AreEnds (edge_step value size place edge) 0 255
 all_left_ends value size place edge all begun = record {
   first_answers = rw (all_left_step value size place 0 edge all begun (omega arith)) refl;
@@ -130,7 +153,8 @@ all_left_ends value size place edge all begun = record {
   none_outside = λ byte below some. (omega arith, omega arith);
 }
 
-pub all_left_within : (value : FieldValue) (size place : ℕ) (edge : Edge) → (same_edge edge Free && not (is_bitmask value)) ≡ true →
+pub all_left_within : (value : FieldValue) (size place : ℕ) (edge : Edge) →
+    (same_edge edge Free && not (is_bitmask value)) ≡ true →
     place < size → AnswersWithin (edge_step value size place edge) 0 255
 all_left_within value size place edge all begun byte above below =
     rw (all_left_step value size place byte edge all begun (omega arith)) refl

@@ -7,7 +7,8 @@ use Rattle.std.proofs.lemmas.Nat.{pow_pos, and_mask, and_comm, and-not, div-add-
 use Rattle.std.proofs.lemmas.Bool.{cases_eq, eq-eqb, ne_eqb, lt-ltb, le-ltb}
 
 -- all bits but the lowest
-pub high_bits : (value free : ℕ) → value < 2 ^ 64 → free ≤ 64 → bit_and value (2 ^ 64 - 1 - (2 ^ free - 1)) ≡ value / 2 ^ free * 2 ^ free
+pub high_bits : (value free : ℕ) → value < 2 ^ 64 → free ≤ 64 →
+    bit_and value (2 ^ 64 - 1 - (2 ^ free - 1)) ≡ value / 2 ^ free * 2 ^ free
 high_bits value free fits within =
     let split = div-add-mod' value (2 ^ free) in
     let fit : 2 ^ free ≤ 2 ^ 64 = pow_mono within in
@@ -30,7 +31,8 @@ some_bit_set number bits =
       | inr set ↦ rw (ne_eqb _ _ set, lt-ltb 0 (number % 2 ^ bits) (omega arith)) refl
     ])
 
-pub some_bit_clear : (number bits : ℕ) → not (eqb (bit_and number (2 ^ bits - 1)) (2 ^ bits - 1)) ≡ ltb (number % 2 ^ bits) (2 ^ bits - 1)
+pub some_bit_clear : (number bits : ℕ) → not (eqb (bit_and number (2 ^ bits - 1)) (2 ^ bits - 1))
+    ≡ ltb (number % 2 ^ bits) (2 ^ bits - 1)
 some_bit_clear number bits =
     let below : number % 2 ^ bits < 2 ^ bits = mod_below number (2 ^ bits) (pow_pos bits) in
     rw (and_mask number bits) (elim (cases_eq (number % 2 ^ bits) (2 ^ bits - 1)) [

@@ -1,12 +1,15 @@
--- What an edge says of a rest, and the rest that it stands for. A rule's value fixes the inner ends of its rests: the
--- lower end, where it is inner, is what the lowest matching number ends with, and the upper end goes likewise.
-use Rattle.std.specs.Prelude.{◌≡◌, ℕ, ◌+◌, ◌-◌, ◌%◌, ◌^◌, ◌<◌, ◌≤◌, ◌==◌, Bool, true, false, ◌&&◌, not, nat_lt, Option, Some, None, IsSome, if◌then◌else◌}
+-- What an edge says of a rest, and the rest that it stands for. A rule's value fixes the inner ends
+-- of its rests: the lower end, where it is inner, is what the lowest matching number ends with, and
+-- the upper end goes likewise.
+use Rattle.std.specs.Prelude.{◌≡◌, ℕ, ◌+◌, ◌-◌, ◌%◌, ◌^◌, ◌<◌, ◌≤◌, ◌==◌, Bool, true, false, ◌&&◌}
+use Rattle.std.specs.Prelude.{not, nat_lt, Option, Some, None, IsSome, if◌then◌else◌}
 use Rattle.std.specs.Option.{option_map}
 use Rattle.field_defs.specs.declared.field.FieldValue.{FieldValue}
 use Rattle.field_defs.specs.declared.field.FieldValue.TheVariants.{Mask, Range, Bitmask}
 use Rattle.node_expand.specs.declared.edge.Edge.{Edge}
 use Rattle.node_expand.specs.declared.edge.Edge.TheVariants.{Free, Low, High, Both}
-use Rattle.node_expand.specs.Rest.{Rest, Interval, Live, count_of, mask_low, mask_high, rest_after, rest_step}
+use Rattle.node_expand.specs.Rest.{Rest, Interval, Live, count_of, mask_low, mask_high, rest_after}
+use Rattle.node_expand.specs.Rest.{rest_step}
 
 -- the edge with these ends inner: the lower, the upper
 abbrev pub edge_with : Bool → Bool → Edge
@@ -37,11 +40,13 @@ has_high Both = true
 -- the interval of the numbers below `count` that a range leaves at an edge
 abbrev pub interval_at : ℕ → ℕ → ℕ → Edge → Rest
 interval_at low high count edge =
-    Interval (if has_low edge then low % count else 0) (if has_high edge then high % count else count - 1)
+    Interval (if has_low edge then low % count else 0)
+    (if has_high edge then high % count else count - 1)
 
 -- the same for each kind
 abbrev pub open_rest_of : FieldValue → ℕ → ℕ → Edge → Rest
-open_rest_of (Mask value bits) size count edge = interval_at (mask_low value bits size) (mask_high value bits size) count edge
+open_rest_of (Mask value bits) size count edge =
+    interval_at (mask_low value bits size) (mask_high value bits size) count edge
 open_rest_of (Range low high) size count edge = interval_at low high count edge
 open_rest_of (Bitmask value mask) size count edge = Live
 
@@ -52,12 +57,14 @@ rest_of value size place edge =
 
 -- the form of the rest after the bytes that spell the prefix, or none where there is no rest
 unfoldable pub edge_after : FieldValue → ℕ → ℕ → ℕ → Option Edge
-edge_after value size place prefix = option_map (edge_of (count_of (size - place))) (rest_after value size place prefix)
+edge_after value size place prefix =
+    option_map (edge_of (count_of (size - place))) (rest_after value size place prefix)
 
 -- the form of the rest after one more byte, or none
 unfoldable pub edge_step : FieldValue → ℕ → ℕ → Edge → ℕ → Option Edge
 edge_step value size place edge byte =
-    option_map (edge_of (count_of (size - (place + 1)))) (rest_step value size place (rest_of value size place edge) byte)
+    option_map (edge_of (count_of (size - (place + 1))))
+    (rest_step value size place (rest_of value size place edge) byte)
 
 -- The edge is the form of the rest after some bytes before the place.
 pub record StandsBefore (value : FieldValue) (size place : ℕ) (edge : Edge) : Type 0 where

@@ -1,6 +1,7 @@
 -- Examples of the edges, their steps and their cuts, each checked by evaluation.
 use Rattle.std.proofs.Common.{zero, suc}
-use Rattle.std.specs.Prelude.{◌≡◌, ℕ, List, [], ◌∷◌, ◌++◌, drop, Option, Some, None, map, filter, refl}
+use Rattle.std.specs.Prelude.{◌≡◌, ℕ, List, [], ◌∷◌, ◌++◌, drop, Option, Some, None, map, filter}
+use Rattle.std.specs.Prelude.{refl}
 use Rattle.field_defs.specs.declared.field.FieldValue.{FieldValue}
 use Rattle.field_defs.specs.declared.field.FieldValue.TheVariants.{Mask, Range, Bitmask}
 use Rattle.node_expand.specs.declared.edge.Edge.{Edge}
@@ -30,7 +31,8 @@ ports_start : starts (Range 1024 65535) 2 ≡ Some Low
 unfolding edge_after edge_of rest_after part
 ports_start = refl
 
-ports_answers : answers (Range 1024 65535) 2 0 Low (3 ∷ 4 ∷ 5 ∷ []) ≡ None ∷ Some Free ∷ Some Free ∷ []
+ports_answers : answers (Range 1024 65535) 2 0 Low (3 ∷ 4 ∷ 5 ∷ [])
+    ≡ None ∷ Some Free ∷ Some Free ∷ []
 unfolding edge_step rest_of rest_step edge_of rest_after part
 ports_answers = refl
 
@@ -43,7 +45,8 @@ traceroute_start : starts (Range 33746 33846) 2 ≡ Some Both
 unfolding edge_after edge_of rest_after part
 traceroute_start = refl
 
-traceroute_answers : answers (Range 33746 33846) 2 0 Both (130 ∷ 131 ∷ 132 ∷ 133 ∷ []) ≡ None ∷ Some Low ∷ Some High ∷ None ∷ []
+traceroute_answers : answers (Range 33746 33846) 2 0 Both (130 ∷ 131 ∷ 132 ∷ 133 ∷ [])
+    ≡ None ∷ Some Low ∷ Some High ∷ None ∷ []
 unfolding edge_step rest_of rest_step edge_of rest_after part
 traceroute_answers = refl
 
@@ -56,7 +59,8 @@ mask_before_the_last_byte : edge_after (Mask 0xC0A8021F 31) 4 3 0xC0A802 ≡ Som
 unfolding edge_after edge_of rest_after part mask_low mask_high
 mask_before_the_last_byte = refl
 
-mask_answers : answers (Mask 0xC0A8021F 31) 4 3 Both (29 ∷ 30 ∷ 31 ∷ 32 ∷ []) ≡ None ∷ Some Free ∷ Some Free ∷ None ∷ []
+mask_answers : answers (Mask 0xC0A8021F 31) 4 3 Both (29 ∷ 30 ∷ 31 ∷ 32 ∷ [])
+    ≡ None ∷ Some Free ∷ Some Free ∷ None ∷ []
 unfolding edge_step rest_of rest_step edge_of rest_after part mask_low mask_high
 mask_answers = refl
 
@@ -69,7 +73,8 @@ odd_start : starts (Bitmask 1 1) 1 ≡ Some Free
 unfolding edge_after edge_of rest_after
 odd_start = refl
 
-odd_answers : answers (Bitmask 1 1) 1 0 Free (0 ∷ 1 ∷ 254 ∷ 255 ∷ []) ≡ None ∷ Some Free ∷ None ∷ Some Free ∷ []
+odd_answers : answers (Bitmask 1 1) 1 0 Free (0 ∷ 1 ∷ 254 ∷ 255 ∷ [])
+    ≡ None ∷ Some Free ∷ None ∷ Some Free ∷ []
 unfolding edge_step rest_of rest_step edge_of rest_after
 odd_answers = refl
 
@@ -82,7 +87,8 @@ any_start : starts (Mask 7 0) 8 ≡ Some Free
 unfolding edge_after edge_of rest_after part mask_low mask_high
 any_start = refl
 
-any_answers : answers (Mask 7 0) 8 0 Free (0 ∷ 7 ∷ 255 ∷ []) ≡ Some Free ∷ Some Free ∷ Some Free ∷ []
+any_answers : answers (Mask 7 0) 8 0 Free (0 ∷ 7 ∷ 255 ∷ [])
+    ≡ Some Free ∷ Some Free ∷ Some Free ∷ []
 unfolding edge_step rest_of rest_step edge_of rest_after part mask_low mask_high
 any_answers = refl
 
@@ -95,16 +101,20 @@ one_port_start : starts (Range 80 80) 2 ≡ Some Both
 unfolding edge_after edge_of rest_after part
 one_port_start = refl
 
-one_port_answers : answers (Range 80 80) 2 0 Both (0 ∷ 1 ∷ []) ∷ answers (Range 80 80) 2 1 Both (79 ∷ 80 ∷ 81 ∷ []) ∷ [] ≡ (Some Both ∷ None ∷ []) ∷ (None ∷ Some Free ∷ None ∷ []) ∷ []
+one_port_answers : answers (Range 80 80) 2 0 Both (0 ∷ 1 ∷ []) ∷ answers (Range 80 80) 2 1 Both
+    (79 ∷ 80 ∷ 81 ∷ []) ∷ [] ≡ (Some Both ∷ None ∷ []) ∷ (None ∷ Some Free ∷ None ∷ []) ∷ []
 unfolding edge_step rest_of rest_step edge_of rest_after part
 one_port_answers = refl
 
-one_port_cuts : all_cuts (Range 80 80) 2 0 Both ∷ all_cuts (Range 80 80) 2 1 Both ∷ [] ≡ (1 ∷ []) ∷ (80 ∷ 81 ∷ []) ∷ []
+one_port_cuts : all_cuts (Range 80 80) 2 0 Both ∷ all_cuts (Range 80 80) 2 1 Both ∷ []
+    ≡ (1 ∷ []) ∷ (80 ∷ 81 ∷ []) ∷ []
 unfolding is_cut is_change edge_step rest_of rest_step edge_of rest_after part
 one_port_cuts = refl
 
 -- neighbours: the byte after the lower end is that of the upper end
-neighbours : answers (Range 0x01FF 0x02FE) 2 0 Both (1 ∷ 2 ∷ []) ∷ answers (Range 0x0100 0x02FE) 2 0 Both (1 ∷ 2 ∷ []) ∷ [] ≡ (Some Low ∷ Some High ∷ []) ∷ (Some Free ∷ Some High ∷ []) ∷ []
+neighbours : answers (Range 0x01FF 0x02FE) 2 0 Both (1 ∷ 2 ∷ []) ∷ answers
+    (Range 0x0100 0x02FE) 2 0 Both (1 ∷ 2 ∷ []) ∷ []
+    ≡ (Some Low ∷ Some High ∷ []) ∷ (Some Free ∷ Some High ∷ []) ∷ []
 unfolding edge_step rest_of rest_step edge_of rest_after part
 neighbours = refl
 
@@ -113,76 +123,104 @@ unfolding is_cut is_change edge_step rest_of rest_step edge_of rest_after part
 neighbour_cuts = refl
 
 -- near the end of what 8 bytes can spell
-end_start : starts (Range 0xFFFF_FFFF_FFFF_FFFE 0xFFFF_FFFF_FFFF_FFFF) 8 ∷ starts (Range 1 0xFFFF_FFFF_FFFF_FFFE) 8 ∷ starts (Range 0 0xFFFF_FFFF_FFFF_FFFE) 8 ∷ [] ≡ Some Low ∷ Some Both ∷ Some High ∷ []
+end_start : starts (Range 0xFFFF_FFFF_FFFF_FFFE 0xFFFF_FFFF_FFFF_FFFF) 8 ∷ starts
+    (Range 1 0xFFFF_FFFF_FFFF_FFFE) 8 ∷ starts (Range 0 0xFFFF_FFFF_FFFF_FFFE) 8 ∷ []
+    ≡ Some Low ∷ Some Both ∷ Some High ∷ []
 unfolding edge_after edge_of rest_after part
 end_start = refl
 
-end_answers : answers (Range 0xFFFF_FFFF_FFFF_FFFE 0xFFFF_FFFF_FFFF_FFFF) 8 0 Low (254 ∷ 255 ∷ []) ∷ answers (Range 0 0xFFFF_FFFF_FFFF_FFFE) 8 7 High (254 ∷ 255 ∷ []) ∷ [] ≡ (None ∷ Some Low ∷ []) ∷ (Some Free ∷ None ∷ []) ∷ []
+end_answers : answers (Range 0xFFFF_FFFF_FFFF_FFFE 0xFFFF_FFFF_FFFF_FFFF) 8 0 Low
+    (254 ∷ 255 ∷ []) ∷ answers (Range 0 0xFFFF_FFFF_FFFF_FFFE) 8 7 High (254 ∷ 255 ∷ []) ∷ []
+    ≡ (None ∷ Some Low ∷ []) ∷ (Some Free ∷ None ∷ []) ∷ []
 unfolding edge_step rest_of rest_step edge_of rest_after part
 end_answers = refl
 
-end_cuts : all_cuts (Range 0xFFFF_FFFF_FFFF_FFFE 0xFFFF_FFFF_FFFF_FFFF) 8 0 Low ∷ all_cuts (Range 0 0xFFFF_FFFF_FFFF_FFFE) 8 7 High ∷ [] ≡ (255 ∷ []) ∷ (255 ∷ []) ∷ []
+end_cuts : all_cuts (Range 0xFFFF_FFFF_FFFF_FFFE 0xFFFF_FFFF_FFFF_FFFF) 8 0 Low ∷ all_cuts
+    (Range 0 0xFFFF_FFFF_FFFF_FFFE) 8 7 High ∷ [] ≡ (255 ∷ []) ∷ (255 ∷ []) ∷ []
 unfolding is_cut is_change edge_step rest_of rest_step edge_of rest_after part
 end_cuts = refl
 
 -- a bitmask of no bit, of all bits, and over eight bytes
-bitmask_cuts : all_cuts (Bitmask 0x11 0) 1 0 Free ∷ all_cuts (Bitmask 0x11 0xFF) 1 0 Free ∷ all_cuts (Bitmask 0xFFFF_FFFF_FFFF_FFFF 0x8000_0000_0000_0001) 8 0 Free ∷ []
+bitmask_cuts : all_cuts (Bitmask 0x11 0) 1 0 Free ∷ all_cuts (Bitmask 0x11 0xFF) 1 0 Free ∷ all_cuts
+    (Bitmask 0xFFFF_FFFF_FFFF_FFFF 0x8000_0000_0000_0001) 8 0 Free ∷ []
     ≡ [] ∷ (17 ∷ 18 ∷ []) ∷ (128 ∷ []) ∷ []
 unfolding is_cut is_change edge_step rest_of rest_step edge_of rest_after
 bitmask_cuts = refl
 
 -- both ends of a range of each size, at its first byte and at its last
-range_of_1_byte : answers (Range 10 20) 1 0 Both (9 ∷ 10 ∷ 20 ∷ 21 ∷ []) ≡ None ∷ Some Free ∷ Some Free ∷ None ∷ []
+range_of_1_byte : answers (Range 10 20) 1 0 Both (9 ∷ 10 ∷ 20 ∷ 21 ∷ [])
+    ≡ None ∷ Some Free ∷ Some Free ∷ None ∷ []
 unfolding edge_step rest_of rest_step edge_of rest_after part
 range_of_1_byte = refl
 
-range_of_2_bytes : answers (Range 0x0A10 0x1420) 2 0 Both (9 ∷ 10 ∷ 20 ∷ 21 ∷ []) ∷ answers (Range 0x0A10 0x1420) 2 1 Low (0x0F ∷ 0x10 ∷ []) ∷ answers (Range 0x0A10 0x1420) 2 1 High (0x20 ∷ 0x21 ∷ []) ∷ []
-    ≡ (None ∷ Some Low ∷ Some High ∷ None ∷ []) ∷ (None ∷ Some Free ∷ []) ∷ (Some Free ∷ None ∷ []) ∷ []
+range_of_2_bytes : answers (Range 0x0A10 0x1420) 2 0 Both (9 ∷ 10 ∷ 20 ∷ 21 ∷ []) ∷ answers
+    (Range 0x0A10 0x1420) 2 1 Low (0x0F ∷ 0x10 ∷ []) ∷ answers (Range 0x0A10 0x1420) 2 1 High
+    (0x20 ∷ 0x21 ∷ []) ∷ []
+    ≡ (None ∷ Some Low ∷ Some High ∷ None ∷ []) ∷ (None ∷ Some Free ∷ []) ∷
+    (Some Free ∷ None ∷ []) ∷ []
 unfolding edge_step rest_of rest_step edge_of rest_after part
 range_of_2_bytes = refl
 
-range_of_4_bytes : answers (Range 0x0A00_0001 0x1400_00FE) 4 0 Both (9 ∷ 10 ∷ 20 ∷ 21 ∷ []) ∷ answers (Range 0x0A00_0001 0x1400_00FE) 4 3 Low (0 ∷ 1 ∷ []) ∷ answers (Range 0x0A00_0001 0x1400_00FE) 4 3 High (0xFE ∷ 0xFF ∷ []) ∷ []
-    ≡ (None ∷ Some Low ∷ Some High ∷ None ∷ []) ∷ (None ∷ Some Free ∷ []) ∷ (Some Free ∷ None ∷ []) ∷ []
+range_of_4_bytes : answers (Range 0x0A00_0001 0x1400_00FE) 4 0 Both
+    (9 ∷ 10 ∷ 20 ∷ 21 ∷ []) ∷ answers (Range 0x0A00_0001 0x1400_00FE) 4 3 Low (0 ∷ 1 ∷ []) ∷ answers
+    (Range 0x0A00_0001 0x1400_00FE) 4 3 High (0xFE ∷ 0xFF ∷ []) ∷ []
+    ≡ (None ∷ Some Low ∷ Some High ∷ None ∷ []) ∷ (None ∷ Some Free ∷ []) ∷
+    (Some Free ∷ None ∷ []) ∷ []
 unfolding edge_step rest_of rest_step edge_of rest_after part
 range_of_4_bytes = refl
 
-range_of_8_bytes : answers (Range 0x0A00_0000_0000_0001 0x1400_0000_0000_00FE) 8 0 Both (9 ∷ 10 ∷ 20 ∷ 21 ∷ []) ∷ answers (Range 0x0A00_0000_0000_0001 0x1400_0000_0000_00FE) 8 7 Low (0 ∷ 1 ∷ []) ∷ answers (Range 0x0A00_0000_0000_0001 0x1400_0000_0000_00FE) 8 7 High (0xFE ∷ 0xFF ∷ []) ∷ []
-    ≡ (None ∷ Some Low ∷ Some High ∷ None ∷ []) ∷ (None ∷ Some Free ∷ []) ∷ (Some Free ∷ None ∷ []) ∷ []
+range_of_8_bytes : answers (Range 0x0A00_0000_0000_0001 0x1400_0000_0000_00FE) 8 0 Both
+    (9 ∷ 10 ∷ 20 ∷ 21 ∷ []) ∷ answers (Range 0x0A00_0000_0000_0001 0x1400_0000_0000_00FE) 8 7 Low
+    (0 ∷ 1 ∷ []) ∷ answers (Range 0x0A00_0000_0000_0001 0x1400_0000_0000_00FE) 8 7 High
+    (0xFE ∷ 0xFF ∷ []) ∷ []
+    ≡ (None ∷ Some Low ∷ Some High ∷ None ∷ []) ∷ (None ∷ Some Free ∷ []) ∷
+    (Some Free ∷ None ∷ []) ∷ []
 unfolding edge_step rest_of rest_step edge_of rest_after part
 range_of_8_bytes = refl
 
 -- both ends of a mask of each size: 101 and any bits; 10.96/11; 10.128.0.0/9; fe80::/10
-mask_of_1_byte : answers (Mask 0xA7 3) 1 0 Both (0x9F ∷ 0xA0 ∷ 0xBF ∷ 0xC0 ∷ []) ≡ None ∷ Some Free ∷ Some Free ∷ None ∷ []
+mask_of_1_byte : answers (Mask 0xA7 3) 1 0 Both (0x9F ∷ 0xA0 ∷ 0xBF ∷ 0xC0 ∷ [])
+    ≡ None ∷ Some Free ∷ Some Free ∷ None ∷ []
 unfolding edge_step rest_of rest_step edge_of rest_after part mask_low mask_high
 mask_of_1_byte = refl
 
-mask_of_2_bytes : answers (Mask 0x0A7F 11) 2 0 Both (9 ∷ 10 ∷ 11 ∷ []) ∷ answers (Mask 0x0A7F 11) 2 1 Both (0x5F ∷ 0x60 ∷ 0x7F ∷ 0x80 ∷ []) ∷ []
+mask_of_2_bytes : answers (Mask 0x0A7F 11) 2 0 Both (9 ∷ 10 ∷ 11 ∷ []) ∷ answers
+    (Mask 0x0A7F 11) 2 1 Both (0x5F ∷ 0x60 ∷ 0x7F ∷ 0x80 ∷ []) ∷ []
     ≡ (None ∷ Some Both ∷ None ∷ []) ∷ (None ∷ Some Free ∷ Some Free ∷ None ∷ []) ∷ []
 unfolding edge_step rest_of rest_step edge_of rest_after part mask_low mask_high
 mask_of_2_bytes = refl
 
-mask_of_4_bytes : answers (Mask 0x0A80_0000 9) 4 0 Both (9 ∷ 10 ∷ 11 ∷ []) ∷ answers (Mask 0x0A80_0000 9) 4 1 Low (0x7F ∷ 0x80 ∷ 0xFF ∷ []) ∷ []
+mask_of_4_bytes : answers (Mask 0x0A80_0000 9) 4 0 Both (9 ∷ 10 ∷ 11 ∷ []) ∷ answers
+    (Mask 0x0A80_0000 9) 4 1 Low (0x7F ∷ 0x80 ∷ 0xFF ∷ []) ∷ []
     ≡ (None ∷ Some Low ∷ None ∷ []) ∷ (None ∷ Some Free ∷ Some Free ∷ []) ∷ []
 unfolding edge_step rest_of rest_step edge_of rest_after part mask_low mask_high
 mask_of_4_bytes = refl
 
-mask_of_8_bytes : answers (Mask 0xFE80_0000_0000_0000 10) 8 0 Both (0xFD ∷ 0xFE ∷ 0xFF ∷ []) ∷ answers (Mask 0xFE80_0000_0000_0000 10) 8 1 Both (0x7F ∷ 0x80 ∷ 0xBF ∷ 0xC0 ∷ []) ∷ []
+mask_of_8_bytes : answers (Mask 0xFE80_0000_0000_0000 10) 8 0 Both
+    (0xFD ∷ 0xFE ∷ 0xFF ∷ []) ∷ answers (Mask 0xFE80_0000_0000_0000 10) 8 1 Both
+    (0x7F ∷ 0x80 ∷ 0xBF ∷ 0xC0 ∷ []) ∷ []
     ≡ (None ∷ Some Both ∷ None ∷ []) ∷ (None ∷ Some Free ∷ Some Free ∷ None ∷ []) ∷ []
 unfolding edge_step rest_of rest_step edge_of rest_after part mask_low mask_high
 mask_of_8_bytes = refl
 
 -- a bitmask with bits in its first byte and in its last, of each size
-bitmask_of_2_bytes : answers (Bitmask 0x0103 0x0182) 2 0 Free (0 ∷ 1 ∷ 3 ∷ []) ∷ answers (Bitmask 0x0103 0x0182) 2 1 Free (0x02 ∷ 0x7D ∷ 0x7F ∷ 0x82 ∷ []) ∷ []
+bitmask_of_2_bytes : answers (Bitmask 0x0103 0x0182) 2 0 Free (0 ∷ 1 ∷ 3 ∷ []) ∷ answers
+    (Bitmask 0x0103 0x0182) 2 1 Free (0x02 ∷ 0x7D ∷ 0x7F ∷ 0x82 ∷ []) ∷ []
     ≡ (None ∷ Some Free ∷ Some Free ∷ []) ∷ (Some Free ∷ None ∷ Some Free ∷ None ∷ []) ∷ []
 unfolding edge_step rest_of rest_step edge_of rest_after
 bitmask_of_2_bytes = refl
 
-bitmask_of_4_bytes : answers (Bitmask 0x8000_0001 0x8000_0001) 4 0 Free (0x7F ∷ 0x80 ∷ 0xFF ∷ []) ∷ answers (Bitmask 0x8000_0001 0x8000_0001) 4 1 Free (0 ∷ 255 ∷ []) ∷ answers (Bitmask 0x8000_0001 0x8000_0001) 4 3 Free (0 ∷ 1 ∷ 255 ∷ []) ∷ []
-    ≡ (None ∷ Some Free ∷ Some Free ∷ []) ∷ (Some Free ∷ Some Free ∷ []) ∷ (None ∷ Some Free ∷ Some Free ∷ []) ∷ []
+bitmask_of_4_bytes : answers (Bitmask 0x8000_0001 0x8000_0001) 4 0 Free
+    (0x7F ∷ 0x80 ∷ 0xFF ∷ []) ∷ answers (Bitmask 0x8000_0001 0x8000_0001) 4 1 Free
+    (0 ∷ 255 ∷ []) ∷ answers (Bitmask 0x8000_0001 0x8000_0001) 4 3 Free (0 ∷ 1 ∷ 255 ∷ []) ∷ []
+    ≡ (None ∷ Some Free ∷ Some Free ∷ []) ∷ (Some Free ∷ Some Free ∷ []) ∷
+    (None ∷ Some Free ∷ Some Free ∷ []) ∷ []
 unfolding edge_step rest_of rest_step edge_of rest_after
 bitmask_of_4_bytes = refl
 
-bitmask_of_8_bytes : answers (Bitmask 0x8000_0000_0000_0001 0x8000_0000_0000_0001) 8 0 Free (0x7F ∷ 0x80 ∷ 0xFF ∷ []) ∷ answers (Bitmask 0x8000_0000_0000_0001 0x8000_0000_0000_0001) 8 7 Free (0 ∷ 1 ∷ 255 ∷ []) ∷ []
+bitmask_of_8_bytes : answers (Bitmask 0x8000_0000_0000_0001 0x8000_0000_0000_0001) 8 0 Free
+    (0x7F ∷ 0x80 ∷ 0xFF ∷ []) ∷ answers
+    (Bitmask 0x8000_0000_0000_0001 0x8000_0000_0000_0001) 8 7 Free (0 ∷ 1 ∷ 255 ∷ []) ∷ []
     ≡ (None ∷ Some Free ∷ Some Free ∷ []) ∷ (None ∷ Some Free ∷ Some Free ∷ []) ∷ []
 unfolding edge_step rest_of rest_step edge_of rest_after
 bitmask_of_8_bytes = refl

@@ -1,6 +1,7 @@
 //! Which bytes a value allows at one place of a field, and what each of them leaves.
 
-ghost use Rattle.std.specs.Prelude.{◌≡◌, ℕ, ◌-◌, ◌*◌, ◌/◌, ◌%◌, ◌^◌, ◌<◌, ◌≤◌, ◌==◌, ◌&&◌, ◌||◌, true, false, slice_index_or};
+ghost use Rattle.std.specs.Prelude.{◌≡◌, ℕ, ◌-◌, ◌*◌, ◌/◌, ◌%◌, ◌^◌, ◌<◌, ◌≤◌, ◌==◌, ◌&&◌, ◌||◌};
+ghost use Rattle.std.specs.Prelude.{true, false, slice_index_or};
 ghost use Rattle.node_expand.specs.Rest.{mask_low, mask_high};
 ghost use Rattle.node_expand.specs.Edges.{is_change, AreEnds, AnswersWithin};
 ghost use Rattle.node_expand.specs.Allowed.{answer_of};
@@ -11,8 +12,8 @@ use field_defs::FieldValue;
 /// The bytes that a value allows at a place.
 #[derive(Clone, Copy)]
 pub(crate) enum Allowed {
-    /// The bytes from `low` to `high`. The lower end stays inner after `low` alone, and there only where `low_inner` says
-    /// so; the upper end goes likewise.
+    /// The bytes from `low` to `high`. The lower end stays inner after `low` alone, and there only
+    /// where `low_inner` says so; the upper end goes likewise.
     Between {
         low: u8,
         high: u8,
@@ -27,18 +28,22 @@ pub(crate) enum Allowed {
 }
 
 impl Allowed {
-    ghost use Rattle.std.specs.Prelude.{◌≡◌, ℕ, ◌-◌, ◌^◌, ◌<◌, ◌≤◌, ◌||◌, false, slice_index_or, if◌then◌else◌};
+    ghost use Rattle.std.specs.Prelude.{◌≡◌, ℕ, ◌-◌, ◌^◌, ◌<◌, ◌≤◌, ◌||◌, false, slice_index_or};
+    ghost use Rattle.std.specs.Prelude.{if◌then◌else◌};
     ghost use Rattle.field_defs.specs.FieldMatch.{CanMatch};
-    ghost use Rattle.node_expand.specs.Edges.{has_low, has_high, is_change, is_bitmask, edge_step, StandsBefore, AreEnds, AnswersWithin};
+    ghost use Rattle.node_expand.specs.Edges.{has_low, has_high, is_change, is_bitmask, edge_step};
+    ghost use Rattle.node_expand.specs.Edges.{StandsBefore, AreEnds, AnswersWithin};
     ghost use Rattle.node_expand.specs.Allowed.{answer_of, between, IsFilled, IsBetween};
 
-    /// The bytes that the value allows at the place, which counts from 0 at the most significant byte.
+    /// The bytes that the value allows at the place, which counts from 0 at the most significant
+    /// byte.
     #[inline]
     pub(crate) fn new(value: &FieldValue, size: u8, place: u8, edge: Edge) -> Self
         requires value { CanMatch value.now size }
         requires place { place < size }
         requires edge { StandsBefore value.now size place edge }
-        ensures answer { (byte : ℕ) → byte < 256 → answer_of result byte ≡ edge_step value.now size place edge byte }
+        ensures answer { (byte : ℕ) → byte < 256 →
+            answer_of result byte ≡ edge_step value.now size place edge byte }
         ensures filled { IsFilled result }
         ensures between { is_bitmask value.now ≡ false → IsBetween result }
     {
@@ -59,11 +64,14 @@ impl Allowed {
         }
     }
 
-    /// The bytes that the numbers from `low` to `high` have at the place with `shift` bits behind it, at the edge.
+    /// The bytes that the numbers from `low` to `high` have at the place with `shift` bits behind
+    /// it, at the edge.
     #[inline]
     pub(crate) fn between(low: u64, high: u64, shift: u32, edge: Edge) -> Self
         requires { shift ≤ 56 }
-        ensures { result ≡ between (if has_low edge then low else 0) (if has_high edge then high else 2 ^ 64 - 1) (2 ^ shift) }
+        ensures { result
+            ≡ between (if has_low edge then low else 0) (if has_high edge then high else 2 ^ 64 - 1)
+            (2 ^ shift) }
     {
         let low = edge.low_end(low);
         let high = edge.high_end(high);
@@ -101,7 +109,8 @@ impl Allowed {
     pub(crate) fn mark_cuts(self, marks: &mut [bool; 256])
         requires { IsFilled self }
         ensures { (byte : ℕ) → byte < 256 →
-            slice_index_or marks.new byte false ≡ (is_change (answer_of self) byte || slice_index_or marks.old byte false) }
+            slice_index_or marks.new byte false
+            ≡ (is_change (answer_of self) byte || slice_index_or marks.old byte false) }
     {
         match self {
             Allowed::Between {
@@ -171,7 +180,8 @@ pub(crate) fn byte_at(number: u64, shift: u32) -> u8
 fn mark_where(marks: &mut [bool; 256], place: usize, passes: bool)
     requires { passes ≡ true → place < 256 }
     ensures { (byte : ℕ) → byte < 256 →
-        slice_index_or marks.new byte false ≡ ((byte == place && passes) || slice_index_or marks.old byte false) }
+        slice_index_or marks.new byte false
+        ≡ ((byte == place && passes) || slice_index_or marks.old byte false) }
 {
     if passes {
         marks[place] = true;
@@ -185,7 +195,8 @@ fn mark_between(marks: &mut [bool; 256], low: usize, high: usize, low_inner: boo
     requires byte { high < 256 }
     ensures { (byte : ℕ) → byte < 256 →
         slice_index_or marks.new byte false
-        ≡ (is_change (answer_of (Allowed.Between low high low_inner high_inner)) byte || slice_index_or marks.old byte false) }
+        ≡ (is_change (answer_of (Allowed.Between low high low_inner high_inner)) byte
+        || slice_index_or marks.old byte false) }
 {
     mark_where(marks, low, low > 0);
     mark_where(marks, low + 1, low < high && low_inner);
@@ -193,13 +204,15 @@ fn mark_between(marks: &mut [bool; 256], low: usize, high: usize, low_inner: boo
     mark_where(marks, high + 1, high < 255);
 }
 
-/// Sets the marks of the bytes from 1 on that agree where the byte before doesn't, and the other way round.
+/// Sets the marks of the bytes from 1 on that agree where the byte before doesn't, and the other
+/// way round.
 fn mark_agreeing(marks: &mut [bool; 256], value: usize, mask: usize, first: usize, last: usize)
     requires ends { AreEnds (answer_of (Allowed.Agreeing value mask)) first last }
     requires byte { last < 256 }
     ensures { (byte : ℕ) → byte < 256 →
         slice_index_or marks.new byte false
-        ≡ (is_change (answer_of (Allowed.Agreeing value mask)) byte || slice_index_or marks.old byte false) }
+        ≡ (is_change (answer_of (Allowed.Agreeing value mask)) byte
+        || slice_index_or marks.old byte false) }
 {
     // No byte before the first or behind the last agrees.
     for byte in first.max(1)..(last + 2).min(256) {

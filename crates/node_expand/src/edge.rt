@@ -1,9 +1,11 @@
 //! How what is left of a field is bounded.
 
-/// The bytes of a field that aren't read yet spell a number, the most significant byte first. An edge says how it is bounded.
+/// The bytes of a field that aren't read yet spell a number, the most significant byte first. An
+/// edge says how it is bounded.
 ///
-/// An end is inner where it isn't the outermost number: a lower end above 0, an upper end below the greatest number of that
-/// many bytes. What a bitmask leaves is no interval, and its edge is `Free`, as is that of a field with no byte left.
+/// An end is inner where it isn't the outermost number: a lower end above 0, an upper end below the
+/// greatest number of that many bytes. What a bitmask leaves is no interval, and its edge is
+/// `Free`, as is that of a field with no byte left.
 #[derive(Clone, Copy, Debug, PartialEq, Eq, Hash)]
 pub enum Edge {
     /// Neither end is inner.

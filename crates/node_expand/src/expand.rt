@@ -1,10 +1,14 @@
-//! The edge before the first byte of a field, the edge after one more byte, and the bytes at which the edge changes.
+//! The edge before the first byte of a field, the edge after one more byte, and the bytes at which
+//! the edge changes.
 
-ghost use Rattle.std.specs.Prelude.{◌≡◌, ℕ, ◌+◌, ◌-◌, ◌*◌, ◌^◌, ◌<◌, ◌≤◌, ◌||◌, ◌&&◌, not, false, Some, slice_index_or, IsTrue, IfSome};
+ghost use Rattle.std.specs.Prelude.{◌≡◌, ℕ, ◌+◌, ◌-◌, ◌*◌, ◌^◌, ◌<◌, ◌≤◌, ◌||◌, ◌&&◌, not, false};
+ghost use Rattle.std.specs.Prelude.{Some, slice_index_or, IsTrue, IfSome};
 ghost use Rattle.std.specs.Option.{option_map};
 ghost use Rattle.field_defs.specs.FieldMatch.{CanMatch, is_range_filled, is_wild};
 ghost use Rattle.node_expand.specs.Rest.{Interval, as_range, rest_after, rest_step};
-ghost use Rattle.node_expand.specs.Edges.{edge_of, rest_of, edge_after, edge_step, is_cut, is_bitmask, same_edge, StandsBefore, AreEnds, AnswersWithin};
+ghost use Rattle.node_expand.specs.Edges.{edge_of, rest_of, edge_after, edge_step, is_cut};
+ghost use Rattle.node_expand.specs.Edges.{is_bitmask, same_edge, StandsBefore, AreEnds};
+ghost use Rattle.node_expand.specs.Edges.{AnswersWithin};
 
 use crate::allowed::{Allowed, mask_ends, ones};
 use crate::edge::Edge;
@@ -12,9 +16,9 @@ use field_defs::{FieldKind, FieldValue};
 
 /// The edge before the first byte of a field of `size` bytes: what the whole value allows.
 ///
-/// It refuses nothing and takes no memory. The size is 1, 2, 4 or 8, the numbers of the value are numbers of so many bytes, a
-/// mask has no more bits than the field, and a range has a number in it.
-/// Source: DPDK Programmer's Guide, ACL field types.
+/// It refuses nothing and takes no memory. The size is 1, 2, 4 or 8, the numbers of the value are
+/// numbers of so many bytes, a mask has no more bits than the field, and a range has a number in
+/// it. Source: DPDK Programmer's Guide, ACL field types.
 #[inline]
 pub fn start_edge(value: &FieldValue, size: u8) -> Edge
     requires value { CanMatch value.now size }
@@ -43,12 +47,14 @@ fn whole_edge(low: u64, high: u64, size: u8) -> Edge
     Edge::new(low > 0, high < ones(8 * u32::from(size)))
 }
 
-/// The edge after the byte at `place`, which counts from 0 at the most significant byte. `None` where no number that the
-/// value lets through begins with the bytes read before and then this byte.
+/// The edge after the byte at `place`, which counts from 0 at the most significant byte. `None`
+/// where no number that the value lets through begins with the bytes read before and then this
+/// byte.
 ///
-/// It takes no memory. The value and the size are as for [`start_edge`], and the edge is the answer of [`start_edge`] at place
-/// 0, and of [`step_edge`] at the place before. Which bytes were read doesn't matter.
-/// Source: DPDK Programmer's Guide, ACL field types; the bytes of a number as in RFC 791, appendix B.
+/// It takes no memory. The value and the size are as for [`start_edge`], and the edge is the answer
+/// of [`start_edge`] at place 0, and of [`step_edge`] at the place before. Which bytes were read
+/// doesn't matter. Source: DPDK Programmer's Guide, ACL field types; the bytes of a number as in
+/// RFC 791, appendix B.
 #[inline]
 pub fn step_edge(value: &FieldValue, size: u8, place: u8, edge: Edge, byte: u8) -> Option<Edge>
     requires value { CanMatch value.now size }
@@ -69,11 +75,11 @@ pub fn step_edge(value: &FieldValue, size: u8, place: u8, edge: Edge, byte: u8) 
     Allowed::new(value, size, place, edge).edge_at(byte)
 }
 
-/// Sets `marks[b]` for exactly those bytes b from 1 on at which [`step_edge`] answers otherwise than at b - 1, and leaves
-/// all other marks. There is a mark for each value that a byte has.
+/// Sets `marks[b]` for exactly those bytes b from 1 on at which [`step_edge`] answers otherwise
+/// than at b - 1, and leaves all other marks. There is a mark for each value that a byte has.
 ///
-/// It refuses nothing and takes no memory. The value, the size, the place and the edge are as for [`step_edge`].
-/// Source: DPDK Programmer's Guide, ACL field types.
+/// It refuses nothing and takes no memory. The value, the size, the place and the edge are as for
+/// [`step_edge`]. Source: DPDK Programmer's Guide, ACL field types.
 #[inline]
 pub fn cuts(value: &FieldValue, size: u8, place: u8, edge: Edge, marks: &mut [bool; 256])
     requires value { CanMatch value.now size }
@@ -81,7 +87,8 @@ pub fn cuts(value: &FieldValue, size: u8, place: u8, edge: Edge, marks: &mut [bo
     requires edge { StandsBefore value.now size place edge }
 
     ensures { (byte : ℕ) → byte < 256 →
-        slice_index_or marks.new byte false ≡ (is_cut value.now size place edge byte || slice_index_or marks.old byte false) }
+        slice_index_or marks.new byte false
+        ≡ (is_cut value.now size place edge byte || slice_index_or marks.old byte false) }
 {
     if leaves_all(value, edge) {
         return;
@@ -91,9 +98,10 @@ pub fn cuts(value: &FieldValue, size: u8, place: u8, edge: Edge, marks: &mut [bo
 
 /// The first and the last byte after which [`step_edge`] answers an edge.
 ///
-/// There is always one, since the edge stands for some numbers. For a mask or a range each byte between the two has an
-/// edge, too. It refuses nothing and takes no memory. The value, the size, the place and the edge are as for
-/// [`step_edge`]. Source: DPDK Programmer's Guide, ACL field types.
+/// There is always one, since the edge stands for some numbers. For a mask or a range each byte
+/// between the two has an edge, too. It refuses nothing and takes no memory. The value, the size,
+/// the place and the edge are as for [`step_edge`]. Source: DPDK Programmer's Guide, ACL field
+/// types.
 #[inline]
 pub fn first_and_last(value: &FieldValue, size: u8, place: u8, edge: Edge) -> (u8, u8)
     requires value { CanMatch value.now size }
@@ -101,7 +109,8 @@ pub fn first_and_last(value: &FieldValue, size: u8, place: u8, edge: Edge) -> (u
     requires edge { StandsBefore value.now size place edge }
 
     ensures ends { AreEnds (edge_step value.now size place edge) result.0 result.1 }
-    ensures within { is_bitmask value.now ≡ false → AnswersWithin (edge_step value.now size place edge) result.0 result.1 }
+    ensures within { is_bitmask value.now ≡ false →
+        AnswersWithin (edge_step value.now size place edge) result.0 result.1 }
 {
     if leaves_all(value, edge) {
         return (0, u8::MAX);
@@ -109,11 +118,12 @@ pub fn first_and_last(value: &FieldValue, size: u8, place: u8, edge: Edge) -> (u
     Allowed::new(value, size, place, edge).ends()
 }
 
-/// The value as a range, where it is a mask: from the lowest to the greatest number that it lets through. Another value is
-/// given back as it is.
+/// The value as a range, where it is a mask: from the lowest to the greatest number that it lets
+/// through. Another value is given back as it is.
 ///
-/// A mask and its range have the same rests, edges and cuts, and the range is quicker to ask. It refuses nothing and takes
-/// no memory. The value and the size are as for [`start_edge`]. Source: DPDK Programmer's Guide, ACL field types.
+/// A mask and its range have the same rests, edges and cuts, and the range is quicker to ask. It
+/// refuses nothing and takes no memory. The value and the size are as for [`start_edge`]. Source:
+/// DPDK Programmer's Guide, ACL field types.
 #[inline]
 pub fn as_range(value: &FieldValue, size: u8) -> FieldValue
     requires { CanMatch value.now size }
@@ -134,7 +144,8 @@ pub fn as_range(value: &FieldValue, size: u8) -> FieldValue
     }
 }
 
-/// Whether an interval is left of which neither end is inner, so that each byte leaves such an interval again.
+/// Whether an interval is left of which neither end is inner, so that each byte leaves such an
+/// interval again.
 #[inline]
 fn leaves_all(value: &FieldValue, edge: Edge) -> bool
     ensures { result ≡ (same_edge edge Edge.Free && not (is_bitmask value.now)) }

@@ -1,8 +1,10 @@
 //! Laws of rests and edges, over their definitions alone. They run no code.
 
-ghost use Rattle.node_expand.specs.Laws.{RestsHoldCompletions, RestsGoStepByStep, EdgesSayRests, EdgesAreOneWhereRestsAre};
+ghost use Rattle.node_expand.specs.Laws.{RestsHoldCompletions, RestsGoStepByStep, EdgesSayRests};
+ghost use Rattle.node_expand.specs.Laws.{EdgesAreOneWhereRestsAre};
 ghost use Rattle.node_expand.specs.Laws.{RestsAreCompared, CutsAreChanges, UncutBytesAnswerAlike};
-ghost use Rattle.node_expand.specs.Laws.{WildValuesStayFree, FreeEdgesStayFree, ValuesAreTheirRanges};
+ghost use Rattle.node_expand.specs.Laws.{WildValuesStayFree, FreeEdgesStayFree};
+ghost use Rattle.node_expand.specs.Laws.{ValuesAreTheirRanges};
 
 /// The rest of a field after some bytes is what completes them to a number that matches.
 pub fn rests_hold_completions()
@@ -14,7 +16,8 @@ pub fn rests_go_step_by_step()
     ensures { RestsGoStepByStep }
 {}
 
-/// Where an edge is the form of a rest, the edge and the rule's value give that rest, and the rest gives the edge.
+/// Where an edge is the form of a rest, the edge and the rule's value give that rest, and the rest
+/// gives the edge.
 pub fn edges_say_rests()
     ensures { EdgesSayRests }
 {}

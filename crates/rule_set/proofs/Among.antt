@@ -1,5 +1,7 @@
 -- The best of some rules wins over all others.
-use Rattle.std.proofs.Common.{◌≡◌, ◌≢◌, ℕ, ℤ, zero, suc, ◌+◌, ◌<◌, ◌≤◌, ◌⊎◌, ◌↔◌, List, [], ◌∷◌, length, filter, get_or, cond, Bool, true, false, not, ◌&&◌, Option, Some, None, refl, sym, ap, ◌∙◌, inl, inr, arith, pos, zero-add}
+use Rattle.std.proofs.Common.{◌≡◌, ◌≢◌, ℕ, ℤ, zero, suc, ◌+◌, ◌<◌, ◌≤◌, ◌⊎◌, ◌↔◌, List, [], ◌∷◌, length, filter, get_or}
+use Rattle.std.proofs.Common.{cond, Bool, true, false, not, ◌&&◌, Option, Some, None, refl, sym, ap, ◌∙◌, inl, inr}
+use Rattle.std.proofs.Common.{arith, pos, zero-add}
 use Rattle.std.specs.List.{find, list_all, Contains, AllPairs, position_from, range_with_len, slice_get}
 use Rattle.std.specs.Option.{option_map_or}
 use Rattle.std.specs.List.Sorted.{IsStrictlyIncreasing}
@@ -10,7 +12,8 @@ use Rattle.std.proofs.lemmas.List.Kept.{AllPairs-from_increasing}
 use Rattle.rule_set.specs.Rule.{RuleView}
 use Rattle.rule_set.specs.Winner.{applies, is_greatest}
 use Rattle.rule_set.specs.Among.{passes_at, priority_at, is_greatest_at, best_among}
-use Rattle.rule_set.specs.Laws.{WinsOver, IsBest, TheBestWinsOverAllOthers, TheWinnerIsAmongAllPlaces, TestsMayBeMadeInTurn}
+use Rattle.rule_set.specs.Laws.{WinsOver, IsBest, TheBestWinsOverAllOthers, TheWinnerIsAmongAllPlaces}
+use Rattle.rule_set.specs.Laws.{TestsMayBeMadeInTurn}
 use Rattle.rule_set.proofs.Find.{find_passes}
 
 -- what a list has, element by element
@@ -46,7 +49,8 @@ passing_has : (p : ℕ → Bool) (xs : List ℕ) (y : ℕ) → Has xs y → p y 
 passing_has p [] y h passes = absurd h
 passing_has p (x ∷ xs) y (inl is) passes = rw (is, passes) (inl refl)
 passing_has p (x ∷ xs) y (inr more) passes =
-    cond_both (p x) (x ∷ filter p xs) (filter p xs) (λ ys. Has ys y) (λ _. inr (passing_has p xs y more passes)) (λ _. passing_has p xs y more passes)
+    cond_both (p x) (x ∷ filter p xs) (filter p xs) (λ ys. Has ys y) (λ _. inr (passing_has p xs y more passes))
+    (λ _. passing_has p xs y more passes)
 
 -- what a test of all says of one
 all_has : (q : ℕ → Bool) (xs : List ℕ) (y : ℕ) → list_all q xs ≡ true → Has xs y → q y ≡ true
@@ -56,7 +60,8 @@ all_has q (x ∷ xs) y all (inr more) = all_has q xs y (and_parts (q x) (list_al
 
 all_from_each : (q : ℕ → Bool) (xs : List ℕ) → ((y : ℕ) → Has xs y → q y ≡ true) → list_all q xs ≡ true
 all_from_each q [] each = refl
-all_from_each q (x ∷ xs) each = and_from (q x) (list_all q xs) (each x (inl refl)) (all_from_each q xs (λ y h. each y (inr h)))
+all_from_each q (x ∷ xs) each = and_from (q x) (list_all q xs) (each x (inl refl))
+    (all_from_each q xs (λ y h. each y (inr h)))
 
 -- what is found is in the list, and what isn't found fails
 found_has : (g : ℕ → Bool) (xs : List ℕ) (w : ℕ) → find g xs ≡ Some w → Has xs w
@@ -126,7 +131,8 @@ le_z_both : (a b : ℤ) → le_z a b ≡ true → le_z b a ≡ true → a ≡ b
 le_z_both a b h k = grind (arith, ints)
 
 -- some place has the greatest priority
-some_greatest : (rules : List RuleView) (x : ℕ) (xs : List ℕ) → (w : ℕ) × Has (x ∷ xs) w × (is_greatest_at rules (x ∷ xs) w ≡ true)
+some_greatest : (rules : List RuleView) (x : ℕ) (xs : List ℕ) →
+    (w : ℕ) × Has (x ∷ xs) w × (is_greatest_at rules (x ∷ xs) w ≡ true)
 some_greatest rules x [] = (x, inl refl, and_from _ _ (le_z_refl (priority_at rules x)) refl)
 some_greatest rules x (y ∷ ys) =
     let rest = some_greatest rules y ys in
@@ -139,7 +145,8 @@ some_greatest rules x (y ∷ ys) =
         and_from _ _ (le_z_refl (priority_at rules x))
             (all_from_each (λ other. le_z (priority_at rules other) (priority_at rules x)) (y ∷ ys)
             (λ other among. le_z_trans (priority_at rules other) (priority_at rules best) (priority_at rules x)
-            (all_has (λ other. le_z (priority_at rules other) (priority_at rules best)) (y ∷ ys) other rest.2 among) (le_z_total (priority_at rules x) (priority_at rules best) above))),
+            (all_has (λ other. le_z (priority_at rules other) (priority_at rules best)) (y ∷ ys) other rest.2 among)
+            (le_z_total (priority_at rules x) (priority_at rules best) above))),
       )
     ]
 
@@ -157,18 +164,23 @@ filter-none p (x ∷ xs) fails = rw (fails x (inl refl)) (filter-none p xs (λ y
 
 -- of two places not both win over the other
 wins_once : (rules : List RuleView) (one other : ℕ) → WinsOver rules one other → WinsOver rules other one → ⊥
-wins_once rules one other (inl above) (inl below) = both_ways _ below (le_z_total (priority_at rules one) (priority_at rules other) above)
-wins_once rules one other (inl above) (inr below) = both_ways _ (rw below.0 at above) (le_z_refl (priority_at rules one))
-wins_once rules one other (inr above) (inl below) = both_ways _ (rw above.0 at below) (le_z_refl (priority_at rules other))
+wins_once rules one other (inl above) (inl below) =
+    both_ways _ below (le_z_total (priority_at rules one) (priority_at rules other) above)
+wins_once rules one other (inl above) (inr below) =
+    both_ways _ (rw below.0 at above) (le_z_refl (priority_at rules one))
+wins_once rules one other (inr above) (inl below) =
+    both_ways _ (rw above.0 at below) (le_z_refl (priority_at rules other))
 wins_once rules one other (inr above) (inr below) = omega (arith, above.1, below.1)
 
 -- what wins is not below
-wins_not_below : (rules : List RuleView) (one other : ℕ) → WinsOver rules one other → le_z (priority_at rules other) (priority_at rules one) ≡ true
+wins_not_below : (rules : List RuleView) (one other : ℕ) → WinsOver rules one other →
+    le_z (priority_at rules other) (priority_at rules one) ≡ true
 wins_not_below rules one other (inl above) = le_z_total (priority_at rules one) (priority_at rules other) above
 wins_not_below rules one other (inr level) = rw level.0 (le_z_refl (priority_at rules other))
 
 -- what is found wins over all others
-best_is : (test : RuleView → Bool) (rules : List RuleView) (places : List ℕ) (w : ℕ) → Rising places → best_among test rules places ≡ Some w → IsBest test rules places w
+best_is : (test : RuleView → Bool) (rules : List RuleView) (places : List ℕ) (w : ℕ) → Rising places →
+    best_among test rules places ≡ Some w → IsBest test rules places w
 unfolding best_among
 best_is test rules places w rises h =
     let p : ℕ → Bool = passes_at test rules in
@@ -199,12 +211,15 @@ best_is test rules places w rises h =
     }
 
 -- what wins over all others is found
-is_best : (test : RuleView → Bool) (rules : List RuleView) (places : List ℕ) (w : ℕ) (found : Option ℕ) → Rising places → best_among test rules places ≡ found → IsBest test rules places w → best_among test rules places ≡ Some w
+is_best : (test : RuleView → Bool) (rules : List RuleView) (places : List ℕ) (w : ℕ) (found : Option ℕ) →
+    Rising places → best_among test rules places ≡ found → IsBest test rules places w →
+    best_among test rules places ≡ Some w
 is_best test rules places w (Some v) rises is best = elim (cases_eq v w) [
   | inl same ↦ is ∙ ap Some same
   | inr apart ↦
       let found = best_is test rules places v rises is in
-      absurd (wins_once rules v w (found.wins w best.among best.passes (λ e. apart (sym e))) (best.wins v found.among found.passes apart))
+      absurd (wins_once rules v w (found.wins w best.among best.passes (λ e. apart (sym e)))
+      (best.wins v found.among found.passes apart))
 ]
 is_best test rules places w None rises is best = absurd (
     let p : ℕ → Bool = passes_at test rules in
@@ -218,7 +233,8 @@ is_best test rules places w None rises is best = absurd (
           let here = has_passing p places x has_x in
           wins_not_below rules w x (best.wins x (contained places x here.0) here.1 apart)
     ]) in
-    both_ways _ (not_found (is_greatest_at rules passing) passing w none (passing_has p places w (has places w best.among) best.passes)) greatest
+    both_ways _ (not_found (is_greatest_at rules passing) passing w none
+    (passing_has p places w (has places w best.among) best.passes)) greatest
     )
 
 -- none is found exactly where none passes
@@ -240,13 +256,17 @@ none_passes test rules places =
 pub best_wins : TheBestWinsOverAllOthers
 best_wins = record {
   best = λ test rules places place increases.
-      let rises = rising places (AllPairs-from_increasing places increases) in
-      (best_is test rules places place rises, is_best test rules places place (best_among test rules places) rises refl);
+      let rises = rising places (AllPairs-from_increasing places increases) in (
+        best_is test rules places place rises,
+        is_best test rules places place
+            (best_among test rules places) rises refl,
+      );
   none = none_passes;
 }
 
 -- two tests, one after the other
-filter_twice : (p q both : ℕ → Bool) (xs : List ℕ) → ((x : ℕ) → both x ≡ (p x && q x)) → filter both xs ≡ filter q (filter p xs)
+filter_twice : (p q both : ℕ → Bool) (xs : List ℕ) → ((x : ℕ) → both x ≡ (p x && q x)) →
+    filter both xs ≡ filter q (filter p xs)
 filter_twice p q both [] same = refl
 filter_twice p q both (x ∷ xs) same = elim (cases_Bool (p x)) [
   | inl e ↦ rw (same x, e) (ap (λ rest. cond (q x) (x ∷ rest) rest) (filter_twice p q both xs same))
@@ -254,7 +274,8 @@ filter_twice p q both (x ∷ xs) same = elim (cases_Bool (p x)) [
 ]
 
 passes_both : (first second : RuleView → Bool) (found : Option RuleView) →
-    option_map_or (λ rule. first rule && second rule) found false ≡ (option_map_or first found false && option_map_or second found false)
+    option_map_or (λ rule. first rule && second rule) found false
+    ≡ (option_map_or first found false && option_map_or second found false)
 passes_both first second None = refl
 passes_both first second (Some rule) = refl
 
@@ -262,17 +283,21 @@ pub tests_in_turn : TestsMayBeMadeInTurn
 unfolding best_among
 tests_in_turn first second rules places =
     ap (λ passing. find (is_greatest_at rules passing) passing)
-    (filter_twice (passes_at first rules) (passes_at second rules) (passes_at (λ rule. first rule && second rule) rules) places
+    (filter_twice (passes_at first rules) (passes_at second rules)
+    (passes_at (λ rule. first rule && second rule) rules) places
     (λ place. passes_both first second (slice_get rules place)))
 
 -- a list lies in another from a place on
 abbrev LiesAt : List RuleView → ℕ → List RuleView → Type 0
 LiesAt rules n xs = (k : ℕ) → k < length xs → slice_get rules (n + k) ≡ slice_get xs k
 
-lies_behind : (rules : List RuleView) (n : ℕ) (x : RuleView) (xs : List RuleView) → LiesAt rules n (x ∷ xs) → LiesAt rules (n + 1) xs
-lies_behind rules n x xs lies k h = (let next : n + 1 + k ≡ n + suc k = omega arith in ap (slice_get rules) next) ∙ lies (suc k) (omega arith)
+lies_behind : (rules : List RuleView) (n : ℕ) (x : RuleView) (xs : List RuleView) → LiesAt rules n (x ∷ xs) →
+    LiesAt rules (n + 1) xs
+lies_behind rules n x xs lies k h = (let next : n + 1 + k ≡ n + suc k = omega arith in ap (slice_get rules) next)
+    ∙ lies (suc k) (omega arith)
 
-lies_here : (rules : List RuleView) (n : ℕ) (x : RuleView) (xs : List RuleView) → LiesAt rules n (x ∷ xs) → slice_get rules n ≡ Some x
+lies_here : (rules : List RuleView) (n : ℕ) (x : RuleView) (xs : List RuleView) → LiesAt rules n (x ∷ xs) →
+    slice_get rules n ≡ Some x
 lies_here rules n x xs lies = (let here : n ≡ n + 0 = omega arith in ap (slice_get rules) here) ∙ lies 0 (omega arith)
 
 -- a test of places that says what a test of rules says
@@ -283,7 +308,8 @@ passes_says : (test : RuleView → Bool) (rules : List RuleView) → SaysSame ru
 passes_says test rules place rule is = ap (λ found. option_map_or test found false) is
 
 -- a test of all rules that pass is one of all places that pass
-all_at : (test holds : RuleView → Bool) (at : ℕ → Bool) (rules : List RuleView) (n : ℕ) (xs : List RuleView) → LiesAt rules n xs → SaysSame rules holds at →
+all_at : (test holds : RuleView → Bool) (at : ℕ → Bool) (rules : List RuleView) (n : ℕ) (xs : List RuleView) →
+    LiesAt rules n xs → SaysSame rules holds at →
     list_all holds (filter test xs) ≡ list_all at (filter (passes_at test rules) (range_with_len n (length xs)))
 all_at test holds at rules n [] lies same = refl
 all_at test holds at rules n (x ∷ xs) lies same =
@@ -295,8 +321,10 @@ all_at test holds at rules n (x ∷ xs) lies same =
     ])
 
 -- the first rule that passes and holds stands at the first place that passes and holds
-first_at : (test holds : RuleView → Bool) (at : ℕ → Bool) (rules : List RuleView) (n : ℕ) (xs : List RuleView) → LiesAt rules n xs → SaysSame rules holds at →
-    position_from (λ rule. test rule && holds rule) n xs ≡ find at (filter (passes_at test rules) (range_with_len n (length xs)))
+first_at : (test holds : RuleView → Bool) (at : ℕ → Bool) (rules : List RuleView) (n : ℕ) (xs : List RuleView) →
+    LiesAt rules n xs → SaysSame rules holds at →
+    position_from (λ rule. test rule && holds rule) n xs
+    ≡ find at (filter (passes_at test rules) (range_with_len n (length xs)))
 first_at test holds at rules n [] lies same = refl
 first_at test holds at rules n (x ∷ xs) lies same =
     let here = lies_here rules n x xs lies in
@@ -314,9 +342,12 @@ winner_is_among_all layout rules key category =
     let whole : LiesAt rules 0 rules = λ k h. ap (slice_get rules) (zero-add k) in
     first_at test (is_greatest (filter test rules)) (is_greatest_at rules passing) rules 0 rules whole
     (λ place rule is. sym (
-    all_at test (λ other. le_z other.tag.priority rule.tag.priority) (λ other. le_z (priority_at rules other) (priority_at rules place)) rules 0 rules whole
+    all_at test (λ other. le_z other.tag.priority rule.tag.priority)
+    (λ other. le_z (priority_at rules other) (priority_at rules place)) rules 0 rules whole
     (λ other there found.
-    let one : priority_at rules other ≡ there.tag.priority = ap (λ r. option_map_or (λ (r : RuleView). r.tag.priority) r (pos 0)) found in
-    let two : priority_at rules place ≡ rule.tag.priority = ap (λ r. option_map_or (λ (r : RuleView). r.tag.priority) r (pos 0)) is in
+    let one : priority_at rules other ≡ there.tag.priority =
+    ap (λ r. option_map_or (λ (r : RuleView). r.tag.priority) r (pos 0)) found in
+    let two : priority_at rules place ≡ rule.tag.priority =
+    ap (λ r. option_map_or (λ (r : RuleView). r.tag.priority) r (pos 0)) is in
     rw (one, two) refl)
     ))

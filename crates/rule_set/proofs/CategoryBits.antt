@@ -1,5 +1,6 @@
 -- A category mask names some of the first categories exactly where its low bits aren't all 0.
-use Rattle.std.proofs.Common.{◌≡◌, ℕ, zero, suc, ◌+◌, ◌*◌, ◌/◌, ◌%◌, ◌^◌, ◌<◌, ◌==◌, not, ◌||◌, refl, sym, ap, ◌∙◌, arith, add-one}
+use Rattle.std.proofs.Common.{◌≡◌, ℕ, zero, suc, ◌+◌, ◌*◌, ◌/◌, ◌%◌, ◌^◌, ◌<◌, ◌==◌, not, ◌||◌, refl, sym, ap, ◌∙◌}
+use Rattle.std.proofs.Common.{arith, add-one}
 use Rattle.std.specs.Prelude.{bit_and}
 use Rattle.std.specs.List.{list_any, range_with_len}
 use Rattle.std.specs.Int.{bit_at}
@@ -15,7 +16,8 @@ twice_and_a_bit : (m bit : ℕ) → bit < 2 → (bit == 1 || not (m == 0)) ≡ n
 twice_and_a_bit m bit h = grind (arith, nat_tests)
 
 -- some of the n bits from place a on is set exactly where they aren't all 0
-some_bit_from : (mask a n : ℕ) → list_any (λ c. bit_at mask c == 1) (range_with_len a n) ≡ not (mask / 2 ^ a % 2 ^ n == 0)
+some_bit_from : (mask a n : ℕ) → list_any (λ c. bit_at mask c == 1) (range_with_len a n)
+    ≡ not (mask / 2 ^ a % 2 ^ n == 0)
 some_bit_from mask a zero = rw (mod-one (mask / 2 ^ a)) refl
 some_bit_from mask a (suc n) =
     let q : ℕ = mask / 2 ^ a in
@@ -25,7 +27,8 @@ some_bit_from mask a (suc n) =
     rw (higher, split) (twice_and_a_bit (q / 2 % 2 ^ n) (q % 2) (omega arith))
 
 -- the mask has a category exactly where its low 16 bits aren't all 0
-pub some_category : (tag : RuleTag) → not (bit_and tag.category_mask 65535 == 0) ≡ list_any (is_in_category tag) categories
+pub some_category : (tag : RuleTag) → not (bit_and tag.category_mask 65535 == 0)
+    ≡ list_any (is_in_category tag) categories
 unfolding categories
 some_category tag =
     ap (λ low. not (low == 0)) (and_mask tag.category_mask 16)

@@ -1,5 +1,6 @@
 -- The first element of a list that passes a test.
-use Rattle.std.proofs.Common.{◌≡◌, ℕ, suc, ◌+◌, List, [], ◌∷◌, ◌++◌, filter, Bool, true, false, cond, Option, Some, None, refl, ap, ◌∙◌, inl, inr, arith}
+use Rattle.std.proofs.Common.{◌≡◌, ℕ, suc, ◌+◌, List, [], ◌∷◌, ◌++◌, filter, Bool, true, false, cond, Option, Some}
+use Rattle.std.proofs.Common.{None, refl, ap, ◌∙◌, inl, inr, arith}
 use Rattle.std.specs.List.{find, list_all, position_from, slice_get}
 use Rattle.std.specs.Option.{MatchOption}
 use Rattle.std.proofs.lemmas.Bool.{cases_Bool, and_parts, and_from}
@@ -34,17 +35,20 @@ module _ {X : Type 0} where
   ]
 
   -- what holds of each element that passes a test, at the first element and at the others
-  all_passing_here : (a q : X → Bool) (x : X) (xs : List X) → a x ≡ true → list_all q (filter a (x ∷ xs)) ≡ true → q x ≡ true
+  all_passing_here : (a q : X → Bool) (x : X) (xs : List X) → a x ≡ true → list_all q (filter a (x ∷ xs)) ≡ true →
+      q x ≡ true
   all_passing_here a q x xs holds all = (and_parts (q x) (list_all q (filter a xs)) (rw holds at all)).0
 
-  all_passing_rest : (a q : X → Bool) (x : X) (xs : List X) → list_all q (filter a (x ∷ xs)) ≡ true → list_all q (filter a xs) ≡ true
+  all_passing_rest : (a q : X → Bool) (x : X) (xs : List X) → list_all q (filter a (x ∷ xs)) ≡ true →
+      list_all q (filter a xs) ≡ true
   all_passing_rest a q x xs all = elim (cases_Bool (a x)) [
     | inl e ↦ (and_parts (q x) (list_all q (filter a xs)) (rw e at all)).1
     | inr e ↦ rw e at all
   ]
 
   -- what is found is one of the list
-  pub find_among : (p a q : X → Bool) (xs : List X) (w : X) → find p xs ≡ Some w → a w ≡ true → list_all q (filter a xs) ≡ true → q w ≡ true
+  pub find_among : (p a q : X → Bool) (xs : List X) (w : X) → find p xs ≡ Some w → a w ≡ true →
+      list_all q (filter a xs) ≡ true → q w ≡ true
   find_among p a q [] w h holds all = absurd (cc)
   find_among p a q (x ∷ xs) w h holds all = elim (cases_Bool (p x)) [
     | inl e ↦
@@ -55,7 +59,8 @@ module _ {X : Type 0} where
   ]
 
   -- nothing is found where each element that passes one test has a fact against the other, and no other passes it
-  pub find_none : (p a q : X → Bool) (xs : List X) → list_all q (filter a xs) ≡ true → ((x : X) → a x ≡ true → q x ≡ true → p x ≡ false) → ((x : X) → a x ≡ false → p x ≡ false) → find p xs ≡ None
+  pub find_none : (p a q : X → Bool) (xs : List X) → list_all q (filter a xs) ≡ true →
+      ((x : X) → a x ≡ true → q x ≡ true → p x ≡ false) → ((x : X) → a x ≡ false → p x ≡ false) → find p xs ≡ None
   find_none p a q [] all inside outside = refl
   find_none p a q (x ∷ xs) all inside outside =
       let fails : p x ≡ false = elim (cases_Bool (a x)) [
@@ -65,18 +70,23 @@ module _ {X : Type 0} where
       rw fails (find_none p a q xs (all_passing_rest a q x xs all) inside outside)
 
   -- a weaker test of each element
-  pub list_all_weaker : (p q : X → Bool) (xs : List X) → ((x : X) → p x ≡ true → q x ≡ true) → list_all p xs ≡ true → list_all q xs ≡ true
+  pub list_all_weaker : (p q : X → Bool) (xs : List X) → ((x : X) → p x ≡ true → q x ≡ true) → list_all p xs ≡ true →
+      list_all q xs ≡ true
   list_all_weaker p q [] weaker all = refl
   list_all_weaker p q (x ∷ xs) weaker all =
       let parts = and_parts (p x) (list_all p xs) all in
       and_from (q x) (list_all q xs) (weaker x parts.0) (list_all_weaker p q xs weaker parts.1)
 
-  place_shifted : (n : ℕ) (x : X) (xs : List X) (found : Option X) (place : Option ℕ) → MatchOption found (place ≡ None) (λ w. (i : ℕ) × (place ≡ Some (n + 1 + i)) × (slice_get xs i ≡ Some w)) → MatchOption found (place ≡ None) (λ w. (i : ℕ) × (place ≡ Some (n + i)) × (slice_get (x ∷ xs) i ≡ Some w))
+  place_shifted : (n : ℕ) (x : X) (xs : List X) (found : Option X) (place : Option ℕ) →
+      MatchOption found (place ≡ None) (λ w. (i : ℕ) × (place ≡ Some (n + 1 + i)) × (slice_get xs i ≡ Some w)) →
+      MatchOption found (place ≡ None) (λ w. (i : ℕ) × (place ≡ Some (n + i)) × (slice_get (x ∷ xs) i ≡ Some w))
   place_shifted n x xs None place h = h
   place_shifted n x xs (Some w) place h = (suc h.0, h.1 ∙ ap Some (omega arith), h.2)
 
   -- the first place that passes is that of the first element that does
-  pub position_of_found : (p : X → Bool) (n : ℕ) (xs : List X) → MatchOption (find p xs) (position_from p n xs ≡ None) (λ w. (i : ℕ) × (position_from p n xs ≡ Some (n + i)) × (slice_get xs i ≡ Some w))
+  pub position_of_found : (p : X → Bool) (n : ℕ) (xs : List X) →
+      MatchOption (find p xs) (position_from p n xs ≡ None)
+      (λ w. (i : ℕ) × (position_from p n xs ≡ Some (n + i)) × (slice_get xs i ≡ Some w))
   position_of_found p n [] = refl
   position_of_found p n (x ∷ xs) = elim (cases_Bool (p x)) [
     | inl e ↦ rw e (0, ap Some (omega arith), refl)

@@ -15,8 +15,11 @@ no_error (Ok x) h = refl
 no_error (Err e) h = absurd (cc)
 
 -- one more lawful rule
-pub IsRuleSet-push : (layout : List FieldDef) (rules : List RuleView) (rule : RuleView) → IsRuleSet record { layout = layout; rules = rules } → rule_fault layout rule.tag rule.fields ≡ None → length rules < max_rules → IsRuleSet record { layout = layout; rules = rules ++ rule ∷ [] }
+pub IsRuleSet-push : (layout : List FieldDef) (rules : List RuleView) (rule : RuleView) →
+    IsRuleSet record { layout = layout; rules = rules } → rule_fault layout rule.tag rule.fields ≡ None →
+    length rules < max_rules → IsRuleSet record { layout = layout; rules = rules ++ rule ∷ [] }
 IsRuleSet-push layout rules rule held passes room = record {
-  lawful = All-push (λ (other : RuleView). rule_fault layout other.tag other.fields ≡ None) rules rule held.lawful passes;
+  lawful = All-push (λ (other : RuleView). rule_fault layout other.tag other.fields ≡ None) rules rule held.lawful
+      passes;
   few = omega (arith, length-append rules (rule ∷ []));
 }

@@ -1,5 +1,7 @@
--- How many categories one classification takes (DPDK Programmer's Guide, "Packet Classification and Access Control", and
--- `rte_acl.h`: 1, or a multiple of `RTE_ACL_RESULTS_MULTIPLIER`, which is 4, up to `RTE_ACL_MAX_CATEGORIES`, which is 16).
+-- How many categories one classification takes (DPDK Programmer's Guide, "Packet Classification and
+-- Access Control", and
+-- `rte_acl.h`: 1, or a multiple of `RTE_ACL_RESULTS_MULTIPLIER`, which is 4, up to
+-- `RTE_ACL_MAX_CATEGORIES`, which is 16).
 use Rattle.std.specs.Prelude.{ℕ, ◌==◌, Bool, ◌||◌}
 
 -- one of 1, 4, 8, 12 and 16

@@ -6,7 +6,9 @@ use Rattle.field_defs.specs.declared.field.FieldValue.{FieldValue}
 use Rattle.field_defs.specs.declared.field.FieldValue.TheVariants.{Mask, Range, Bitmask}
 use Rattle.rule_set.specs.declared.rule.RuleTag.{RuleTag}
 use Rattle.rule_set.specs.declared.check.RuleFault.{RuleFault}
-use Rattle.rule_set.specs.declared.check.RuleFault.TheVariants.{FieldCount, FieldKind, NoCategory, PriorityRange, FieldTooWide, MaskTooLong, EmptyRange}
+use Rattle.rule_set.specs.declared.check.RuleFault.TheVariants.{FieldCount, FieldKind, NoCategory}
+use Rattle.rule_set.specs.declared.check.RuleFault.TheVariants.{PriorityRange, FieldTooWide}
+use Rattle.rule_set.specs.declared.check.RuleFault.TheVariants.{MaskTooLong, EmptyRange}
 use Rattle.rule_set.specs.Fault.{categories, rule_fault}
 
 -- a layout of a bitmask of one byte, a mask of four and a range of two
@@ -25,7 +27,8 @@ ranged_then_masked =
     ∷ []
 
 abbrev tagged : ℕ → ℤ → ℕ → RuleTag
-tagged mask priority userdata = record { category_mask = mask; priority = priority; userdata = userdata }
+tagged mask priority userdata = record
+    { category_mask = mask; priority = priority; userdata = userdata }
 
 -- a lawful tag
 abbrev plain : RuleTag
@@ -55,7 +58,8 @@ too_few_values : fault plain (Bitmask 17 255 ∷ Mask 0 0 ∷ []) ≡ Some Field
 unfolding rule_fault categories
 too_few_values = refl
 
-too_many_values : fault plain (Bitmask 17 255 ∷ Mask 0 0 ∷ Range 0 1 ∷ Range 0 1 ∷ []) ≡ Some FieldCount
+too_many_values : fault plain (Bitmask 17 255 ∷ Mask 0 0 ∷ Range 0 1 ∷ Range 0 1 ∷ [])
+    ≡ Some FieldCount
 unfolding rule_fault categories
 too_many_values = refl
 
@@ -83,7 +87,8 @@ userdata_0_is_lawful : tag_fault 1 (pos 1) 0 ≡ None
 unfolding rule_fault categories
 userdata_0_is_lawful = refl
 
-wide_value : value_fault (Bitmask 17 255) (Mask 0x100000000 16) (Range 0 65535) ≡ Some (FieldTooWide 1)
+wide_value : value_fault (Bitmask 17 255) (Mask 0x100000000 16) (Range 0 65535)
+    ≡ Some (FieldTooWide 1)
 unfolding rule_fault categories
 wide_value = refl
 
@@ -142,7 +147,8 @@ count_before_kind : fault plain (Mask 0 0 ∷ []) ≡ Some FieldCount
 unfolding rule_fault categories
 count_before_kind = refl
 
-kind_before_category : fault (tagged 0 (pos 1) 1) (Mask 0 0 ∷ Mask 0 0 ∷ Range 0 0 ∷ []) ≡ Some (FieldKind 0)
+kind_before_category : fault (tagged 0 (pos 1) 1) (Mask 0 0 ∷ Mask 0 0 ∷ Range 0 0 ∷ [])
+    ≡ Some (FieldKind 0)
 unfolding rule_fault categories
 kind_before_category = refl
 
@@ -150,7 +156,8 @@ category_before_priority : tag_fault 0 (negsuc 4) 1 ≡ Some NoCategory
 unfolding rule_fault categories
 category_before_priority = refl
 
-priority_before_width : fault (tagged 1 (negsuc 4) 0) (Bitmask 256 0 ∷ Mask 0 0 ∷ Range 0 0 ∷ []) ≡ Some PriorityRange
+priority_before_width : fault (tagged 1 (negsuc 4) 0) (Bitmask 256 0 ∷ Mask 0 0 ∷ Range 0 0 ∷ [])
+    ≡ Some PriorityRange
 unfolding rule_fault categories
 priority_before_width = refl
 
@@ -158,11 +165,13 @@ width_before_mask : value_fault (Bitmask 0 0) (Mask 0 33) (Range 0 65536) ≡ So
 unfolding rule_fault categories
 width_before_mask = refl
 
-mask_before_range : rule_fault ranged_then_masked plain (Range 8 7 ∷ Mask 0 9 ∷ []) ≡ Some (MaskTooLong 1)
+mask_before_range : rule_fault ranged_then_masked plain (Range 8 7 ∷ Mask 0 9 ∷ [])
+    ≡ Some (MaskTooLong 1)
 unfolding rule_fault categories
 mask_before_range = refl
 
 -- of one kind the least place
-first_wide_field : value_fault (Bitmask 0 0) (Mask 0x100000000 0) (Range 0 65536) ≡ Some (FieldTooWide 1)
+first_wide_field : value_fault (Bitmask 0 0) (Mask 0x100000000 0) (Range 0 65536)
+    ≡ Some (FieldTooWide 1)
 unfolding rule_fault categories
 first_wide_field = refl

@@ -9,12 +9,16 @@ use Rattle.rule_set.specs.Rule.{RuleView}
 use Rattle.rule_set.specs.Winner.{winner, verdict}
 
 abbrev one_byte : List FieldDef
-one_byte = record { kind = kinds.Range; size = 1; field_index = 0; input_index = 0; offset = 0 } ∷ []
+one_byte = record { kind = kinds.Range; size = 1; field_index = 0; input_index = 0; offset = 0 } ∷
+    []
 
 -- a rule of the range from low to high
 abbrev ranged : ℕ → ℕ → ℕ → ℤ → ℕ → RuleView
 ranged low high mask priority userdata =
-    record { tag = record { category_mask = mask; priority = priority; userdata = userdata }; fields = Range low high ∷ [] }
+    record {
+      tag = record { category_mask = mask; priority = priority; userdata = userdata };
+      fields = Range low high ∷ [];
+    }
 
 -- the winner's place and its verdict, for the one byte and the category
 abbrev wins : List RuleView → ℕ → ℕ → Option ℕ
@@ -37,7 +41,8 @@ tie_verdict = refl
 
 -- the greatest priority, and not the first in the list
 later : List RuleView
-later = ranged 0 255 1 (pos 1) 10 ∷ ranged 0 99 1 (pos 3) 20 ∷ ranged 0 255 1 (pos 2) 30 ∷ ranged 0 99 1 (pos 3) 40 ∷ []
+later = ranged 0 255 1 (pos 1) 10 ∷ ranged 0 99 1 (pos 3) 20 ∷ ranged 0 255 1
+    (pos 2) 30 ∷ ranged 0 99 1 (pos 3) 40 ∷ []
 
 later_winner : wins later 99 0 ≡ Some 1
 unfolding later
@@ -77,8 +82,9 @@ no_verdict = refl
 no_rules : says [] 0 0 ≡ 0
 no_rules = refl
 
--- the example of the DPDK Programmer's Guide: a rule to 192.168.0.0/16 in categories 0 and 1, one to 192.168.1.0/24 in
--- category 0, one from 10.1.1.1 in category 1, and the answers that it gives for three packets in four categories
+-- the example of the DPDK Programmer's Guide: a rule to 192.168.0.0/16 in categories 0 and 1, one
+-- to 192.168.1.0/24 in category 0, one from 10.1.1.1 in category 1, and the answers that it gives
+-- for three packets in four categories
 abbrev addressed : FieldValue → FieldValue → ℕ → ℤ → ℕ → RuleView
 addressed source destination mask priority userdata =
     record {
@@ -95,7 +101,8 @@ guide =
 
 -- the verdicts of a packet of protocol 17 between ports 1 and 2
 abbrev guide_says : List ℕ → List ℕ
-guide_says addresses = map (verdict ip4_fields guide (17 ∷ addresses ++ 0 ∷ 1 ∷ 0 ∷ 2 ∷ [])) (0 ∷ 1 ∷ 2 ∷ 3 ∷ [])
+guide_says addresses = map (verdict ip4_fields guide (17 ∷ addresses ++ 0 ∷ 1 ∷ 0 ∷ 2 ∷ []))
+    (0 ∷ 1 ∷ 2 ∷ 3 ∷ [])
 
 guide_packet_1 : guide_says (10 ∷ 1 ∷ 1 ∷ 1 ∷ 192 ∷ 168 ∷ 1 ∷ 15 ∷ []) ≡ 2 ∷ 3 ∷ 0 ∷ 0 ∷ []
 unfolding guide

@@ -14,7 +14,8 @@ pub struct Categories {
 }
 
 impl Categories {
-    /// So many categories, and None where a classification can't take that number. It takes no memory.
+    /// So many categories, and None where a classification can't take that number. It takes no
+    /// memory.
     pub fn new(n: u32) -> Option<Categories>
         ensures some { IsSome result ↔ IsTrue (is_count_of_categories n) }
         ensures count { IfSome result (λ cats. cats.count ≡ n) }

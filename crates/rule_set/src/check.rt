@@ -46,8 +46,9 @@ pub enum RuleFault {
 
 /// Whether the rule is lawful for the layout, and the first reason if it isn't.
 ///
-/// The kinds of faults are looked for in the order in which [`RuleFault`] lists them, each over all fields before the
-/// next. It takes no memory. Source: DPDK Programmer's Guide, "Packet Classification and Access Control".
+/// The kinds of faults are looked for in the order in which [`RuleFault`] lists them, each over all
+/// fields before the next. It takes no memory. Source: DPDK Programmer's Guide, "Packet
+/// Classification and Access Control".
 #[tactic(auto, unfolding(crate::specs::Fault::rule_fault))]
 pub fn check_rule(layout: &Layout, tag: &RuleTag, fields: &[FieldValue]) -> Result<(), RuleFault>
     ensures { result_err result ≡ rule_fault layout.now tag.now fields.now }

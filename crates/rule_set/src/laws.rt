@@ -1,13 +1,15 @@
 //! Laws of rules and winners, over their definitions alone. They run no code.
 
-ghost use Rattle.rule_set.specs.Laws.{FaultlessRulesAreLawful, TheBestWinsOverAllOthers, TheWinnerIsAmongAllPlaces, TestsMayBeMadeInTurn};
+ghost use Rattle.rule_set.specs.Laws.{FaultlessRulesAreLawful, TheBestWinsOverAllOthers};
+ghost use Rattle.rule_set.specs.Laws.{TheWinnerIsAmongAllPlaces, TestsMayBeMadeInTurn};
 
 /// A rule has no fault exactly where its tag is lawful and there is a lawful value for each field.
 pub fn faultless_rules_are_lawful()
     ensures { FaultlessRulesAreLawful }
 {}
 
-/// The best of some rules has a greater priority than each other that passes, or the same priority and an earlier place.
+/// The best of some rules has a greater priority than each other that passes, or the same priority
+/// and an earlier place.
 pub fn the_best_wins_over_all_others()
     ensures { TheBestWinsOverAllOthers }
 {}

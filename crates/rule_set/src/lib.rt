@@ -1,8 +1,9 @@
-//! Rules of one layout in, lawful rule sets and the verdict of the first matching rule of greatest priority out.
+//! Rules of one layout in, lawful rule sets and the verdict of the first matching rule of greatest
+//! priority out.
 //!
-//! A rule has a tag (categories, priority, userdata) and a value for each field of its layout. [`plain_verdict`]
-//! filters the list of the rules, and is what each faster way to a verdict has to equal.
-//! After the DPDK Programmer's Guide, "Packet Classification and Access Control".
+//! A rule has a tag (categories, priority, userdata) and a value for each field of its layout.
+//! [`plain_verdict`] filters the list of the rules, and is what each faster way to a verdict has to
+//! equal. After the DPDK Programmer's Guide, "Packet Classification and Access Control".
 #![tactic(auto)]
 
 mod categories;

@@ -11,11 +11,13 @@ use crate::set::RuleSet;
 use byte_numbers::network_number;
 use field_defs::{FieldDef, FieldValue, field_matches};
 
-/// The userdata of the first matching rule of greatest priority in the category, and 0 where no rule matches.
+/// The userdata of the first matching rule of greatest priority in the category, and 0 where no
+/// rule matches.
 ///
-/// `key` has the bytes of the layout's fields, one field after the other, each in network order, and `category` is
-/// below 16. Of rules of equal priority the one added first wins. It refuses nothing and takes no memory.
-/// Source: DPDK Programmer's Guide, "Packet Classification and Access Control".
+/// `key` has the bytes of the layout's fields, one field after the other, each in network order,
+/// and `category` is below 16. Of rules of equal priority the one added first wins. It refuses
+/// nothing and takes no memory. Source: DPDK Programmer's Guide, "Packet Classification and Access
+/// Control".
 pub fn plain_verdict(rules: &RuleSet, key: &[u8], category: u32) -> u32
     requires key { length key.now ≡ key_len_of rules.now.layout }
     requires category { category < 16 }
@@ -99,8 +101,8 @@ mod tests {
         Ok(StoredRule::new(alloc, tag, &fields)?)
     }
 
-    /// The rules of the example in the DPDK Programmer's Guide, "Packet Classification and Access Control": one to
-    /// 192.168.0.0/16, one to 192.168.1.0/24 and one from 10.1.1.1.
+    /// The rules of the example in the DPDK Programmer's Guide, "Packet Classification and Access
+    /// Control": one to 192.168.0.0/16, one to 192.168.1.0/24 and one from 10.1.1.1.
     fn guide_rules(rt: &impl Abort, alloc: Global) -> Result<RuleSet, Fail> {
         let wide = FieldValue::Mask {
             value: 0xC0A8_0000,

@@ -13,7 +13,8 @@ const INLINE_FIELDS: usize = 8;
 /// What a rule is for, apart from the packets that it matches.
 #[derive(Clone, Copy, Debug, PartialEq, Eq)]
 pub struct RuleTag {
-    /// Bit c of the low 16 is set where the rule takes part in category c. Higher bits take no part.
+    /// Bit c of the low 16 is set where the rule takes part in category c. Higher bits take no
+    /// part.
     pub category_mask: u32,
     /// Of the matching rules the one of greatest priority wins. A lawful priority is from 0 to
     /// 536,870,911.
@@ -22,7 +23,8 @@ pub struct RuleTag {
     pub userdata: u32,
 }
 
-/// A rule: its tag and its values for the fields of a layout, in their order. Contracts see the two.
+/// A rule: its tag and its values for the fields of a layout, in their order. Contracts see the
+/// two.
 #[derive(Debug, Drop)]
 pub struct StoredRule {
     tag: RuleTag,
@@ -40,7 +42,8 @@ impl Model for StoredRule {
 impl StoredRule {
     /// The rule of the tag and the values, of which there may be any number.
     ///
-    /// With at most eight values it takes no memory and succeeds. It doesn't ask whether the rule is lawful.
+    /// With at most eight values it takes no memory and succeeds. It doesn't ask whether the rule
+    /// is lawful.
     pub fn new(alloc: Global, tag: RuleTag, fields: &[FieldValue]) -> Result<Self, AllocError>
         ensures ok { IfOk result (λ rule. rule ≡ record { tag = tag; fields = fields.now }) }
         ensures inline { length fields.now ≤ 8 → IsOk result }

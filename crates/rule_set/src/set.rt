@@ -1,6 +1,7 @@
 //! Lawful rules of one layout, in the order in which they were added.
 
-ghost use Rattle.std.specs.Prelude.{◌≡◌, ◌==◌, ◌<◌, ◌↔◌, nat_le, [], ◌∷◌, ◌++◌, length, slice_get, Some, OnOk, OnErr};
+ghost use Rattle.std.specs.Prelude.{◌≡◌, ◌==◌, ◌<◌, ◌↔◌, nat_le, [], ◌∷◌, ◌++◌, length, slice_get};
+ghost use Rattle.std.specs.Prelude.{Some, OnOk, OnErr};
 ghost use Rattle.rule_set.specs.declared.check.RuleFault.{RuleFault};
 ghost use Rattle.rule_set.specs.Limits.{max_rules};
 ghost use Rattle.rule_set.specs.Fault.{rule_fault};
@@ -61,12 +62,13 @@ impl RuleSet {
 
     /// Adds the rule behind the others, if it is lawful for the layout.
     ///
-    /// The set isn't full ([`RuleSet::is_full`]). It takes the memory for one more. `Rule` comes exactly where
-    /// [`check_rule`] refuses the rule, with its fault, and `OutOfMemory` only for a lawful rule. A refusal leaves
-    /// the set as it was.
+    /// The set isn't full ([`RuleSet::is_full`]). It takes the memory for one more. `Rule` comes
+    /// exactly where [`check_rule`] refuses the rule, with its fault, and `OutOfMemory` only for a
+    /// lawful rule. A refusal leaves the set as it was.
     pub fn push(&mut self, rule: StoredRule) -> Result<(), PushFault>
         requires { length self.old.rules < max_rules }
-        ensures ok { OnOk result (self.new ≡ record self.old { rules = self.old.rules ++ rule ∷ [] }) }
+        ensures ok { OnOk result
+            (self.new ≡ record self.old { rules = self.old.rules ++ rule ∷ [] }) }
         ensures refused { (fault : RuleFault) → (result ≡ Err (PushFault.Rule fault))
             ↔ (rule_fault self.old.layout rule.tag rule.fields ≡ Some fault) }
         ensures err { OnErr result (self.new ≡ self.old) }

@@ -16,7 +16,8 @@ loop-byte-preserved c = λ place within.
     let byte = c.loop-byte.byte in
     let changes = is_change (answer_of (Agreeing c.args.value c.args.mask)) in
     c.mark_where.ensures place within
-    ∙ rw (turns c.args.value c.args.mask byte (omega arith), c.loop-byte.invariant place within) (marked_more changes byte place (get_or c.args.marks.now place false))
+    ∙ rw (turns c.args.value c.args.mask byte (omega arith), c.loop-byte.invariant place within)
+    (marked_more changes byte place (get_or c.args.marks.now place false))
 
 pub returns : goal.returns
 returns c = λ place within.

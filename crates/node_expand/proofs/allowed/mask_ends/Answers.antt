@@ -5,7 +5,8 @@ use Rattle.node_expand.proofs.allowed.mask_ends.Goals as goal
 
 pub returns-clause-low : goal.returns-clause-low
 unfolding mask_low
-returns-clause-low c = rw (c.ones-free.ensures, c.from.ensures, c.from-2.ensures) (high_bits c.args.value _ (omega arith) (omega arith))
+returns-clause-low c = rw (c.ones-free.ensures, c.from.ensures, c.from-2.ensures)
+    (high_bits c.args.value _ (omega arith) (omega arith))
 
 pub returns-clause-high : goal.returns-clause-high
 unfolding mask_high

@@ -7,11 +7,13 @@ use Rattle.node_expand.proofs.expand.cuts.Goals as goal
 
 pub returns-then-leaves_all : goal.returns-then-leaves_all
 returns-then-leaves_all c = λ byte within.
-    rw (all_left_uncut c.args.value.now c.args.size c.args.place byte c.args.edge (sym c.leaves_all.ensures ∙ c.if-leaves_all.true) c.requires.place within)
+    rw (all_left_uncut c.args.value.now c.args.size c.args.place byte c.args.edge
+    (sym c.leaves_all.ensures ∙ c.if-leaves_all.true) c.requires.place within)
 
 pub returns : goal.returns
 unfolding is_cut
 returns c = λ byte within.
-    let alike = change_alike (answer_of c.new.result) (edge_step c.args.value.now c.args.size c.args.place c.args.edge) byte
+    let alike = change_alike (answer_of c.new.result)
+    (edge_step c.args.value.now c.args.size c.args.place c.args.edge) byte
     (c.new.ensures.answer byte within) (c.new.ensures.answer (byte - 1) (omega arith)) in
     c.mark_cuts.ensures byte within ∙ ap (λ cut. cut || get_or c.args.marks.now byte false) alike

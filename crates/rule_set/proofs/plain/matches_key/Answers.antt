@@ -12,13 +12,16 @@ use Rattle.rule_set.proofs.plain.matches_key.Goals as goal
 
 pub network_number-requires : goal.network_number-requires
 network_number-requires c =
-    let turn = zip_turn c.args.defs.now c.args.values.now c.loop-def.yielded c.into_iter-def-iterator.result _ c.next.new.self _ (cc) (cc) c.loop-def.yielded_by _ c.in-Some.is c.next.ensures.steps in
-    let can : CanMatch c.in-Some.value.now c.in-Some.def.now.size = can_match_pair _ _ _ _ _ c.requires.values turn.0 (turn.2 _) (turn.3 _) in
+    let turn = zip_turn c.args.defs.now c.args.values.now c.loop-def.yielded c.into_iter-def-iterator.result _
+    c.next.new.self _ (cc) (cc) c.loop-def.yielded_by _ c.in-Some.is c.next.ensures.steps in
+    let can : CanMatch c.in-Some.value.now c.in-Some.def.now.size =
+    can_match_pair _ _ _ _ _ c.requires.values turn.0 (turn.2 _) (turn.3 _) in
     omega (arith, size_le_eight c.in-Some.def.now.size can.lawful_size)
 
 pub field_matches-requires-clause-value : goal.field_matches-requires-clause-value
 field_matches-requires-clause-value c =
-    let turn = zip_turn c.args.defs.now c.args.values.now c.loop-def.yielded c.into_iter-def-iterator.result _ c.next.new.self _ (cc) (cc) c.loop-def.yielded_by _ c.in-Some.is c.next.ensures.steps in
+    let turn = zip_turn c.args.defs.now c.args.values.now c.loop-def.yielded c.into_iter-def-iterator.result _
+    c.next.new.self _ (cc) (cc) c.loop-def.yielded_by _ c.in-Some.is c.next.ensures.steps in
     can_match_pair _ _ _ _ _ c.requires.values turn.0 (turn.2 _) (turn.3 _)
 
 pub returns-then-not-field_matches : goal.returns-then-not-field_matches
@@ -27,7 +30,8 @@ returns-then-not-field_matches c =
     let rest = c.loop-def.rest.now in
     let def = c.in-Some.def.now in
     let value = c.in-Some.value.now in
-    let turn = zip_turn c.args.defs.now c.args.values.now c.loop-def.yielded c.into_iter-def-iterator.result _ c.next.new.self _ (cc) (cc) c.loop-def.yielded_by _ c.in-Some.is c.next.ensures.steps in
+    let turn = zip_turn c.args.defs.now c.args.values.now c.loop-def.yielded c.into_iter-def-iterator.result _
+    c.next.new.self _ (cc) (cc) c.loop-def.yielded_by _ c.in-Some.is c.next.ensures.steps in
     let step = rule_match-drop c.args.defs.now c.args.values.now rest n def value turn.0 turn.1 (turn.2 _) (turn.3 _) in
     let answer : field_match value def.size (number_of (take def.size rest)) ≡ c.field_matches.result = cc in
     sym (c.loop-def.invariant.1 ∙ step ∙ and_left _ _ (answer ∙ c.if-not-field_matches.true))
@@ -38,12 +42,19 @@ loop-def-preserved c =
     let rest = c.loop-def.rest.now in
     let def = c.in-Some.def.now in
     let value = c.in-Some.value.now in
-    let turn = zip_turn c.args.defs.now c.args.values.now c.loop-def.yielded c.into_iter-def-iterator.result _ c.next.new.self _ (cc) (cc) c.loop-def.yielded_by _ c.in-Some.is c.next.ensures.steps in
+    let turn = zip_turn c.args.defs.now c.args.values.now c.loop-def.yielded c.into_iter-def-iterator.result _
+    c.next.new.self _ (cc) (cc) c.loop-def.yielded_by _ c.in-Some.is c.next.ensures.steps in
     let step = rule_match-drop c.args.defs.now c.args.values.now rest n def value turn.0 turn.1 (turn.2 _) (turn.3 _) in
     let answer : field_match value def.size (number_of (take def.size rest)) ≡ c.field_matches.result = cc in
     let others = rule_match (drop (n + 1) c.args.defs.now) (drop (n + 1) c.args.values.now) in
     rw (length_push c.loop-def.yielded (c.in-Some.def, c.in-Some.value)) (
-      omega (arith, c.loop-def.invariant.0, sum_by-drop_more (λ (d : FieldDef). d.size) c.args.defs.now n def turn.0, ap (λ (d : FieldDef). d.size) (turn.2 def), c.split_at.ensures.back_len),
+      omega (
+        arith,
+        c.loop-def.invariant.0,
+        sum_by-drop_more (λ (d : FieldDef). d.size) c.args.defs.now n def turn.0,
+        ap (λ (d : FieldDef). d.size) (turn.2 def),
+        c.split_at.ensures.back_len,
+      ),
       c.loop-def.invariant.1 ∙ step
           ∙ ap (λ here. here && others (drop def.size rest)) (answer ∙ c.if-not-field_matches.false)
           ∙ ap others (ap (λ size. drop size rest) (sym c.from.ensures) ∙ sym c.split_at.ensures.back),
@@ -51,6 +62,8 @@ loop-def-preserved c =
 
 pub returns : goal.returns
 returns c =
-    let all = zip_end c.args.defs.now c.args.values.now c.loop-def.yielded c.into_iter-def-iterator.result _ c.next.new.self _ (cc) (cc) c.loop-def.yielded_by c.in-None.is c.next.ensures.steps in
+    let all = zip_end c.args.defs.now c.args.values.now c.loop-def.yielded c.into_iter-def-iterator.result _
+    c.next.new.self _ (cc) (cc) c.loop-def.yielded_by c.in-None.is c.next.ensures.steps in
     let same = length-values c.args.defs.now c.args.values.now c.requires.values in
-    sym (c.loop-def.invariant.1 ∙ rule_match-drop_all c.args.defs.now c.args.values.now c.loop-def.rest.now (length c.loop-def.yielded) (omega arith) (omega arith))
+    sym (c.loop-def.invariant.1 ∙ rule_match-drop_all c.args.defs.now c.args.values.now c.loop-def.rest.now
+    (length c.loop-def.yielded) (omega arith) (omega arith))

@@ -7,4 +7,5 @@ use Rattle.rule_set.proofs.plain.matches_key.Given as goal
 abbrev pub invariant-loop-def : goal.invariant-loop-def
 invariant-loop-def l =
     (length l.rest ≡ key_len_of (drop (length l.yielded) l.defs))
-    × (rule_match l.defs l.values l.key ≡ rule_match (drop (length l.yielded) l.defs) (drop (length l.yielded) l.values) l.rest)
+    × (rule_match l.defs l.values l.key ≡ rule_match (drop (length l.yielded) l.defs)
+    (drop (length l.yielded) l.values) l.rest)

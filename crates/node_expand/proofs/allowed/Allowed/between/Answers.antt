@@ -5,4 +5,12 @@ use Rattle.node_expand.proofs.allowed.Allowed.between.Goals as goal
 pub returns : goal.returns
 unfolding between
 returns c =
-    rw (c.byte_at.ensures, c.byte_at-2.ensures, c.ones-tail.ensures, some_bit_set c.low_end-low.result c.args.shift, some_bit_clear c.high_end-high.result c.args.shift, c.low_end-low.ensures, c.high_end-high.ensures)
+    rw (
+      c.byte_at.ensures,
+      c.byte_at-2.ensures,
+      c.ones-tail.ensures,
+      some_bit_set c.low_end-low.result c.args.shift,
+      some_bit_clear c.high_end-high.result c.args.shift,
+      c.low_end-low.ensures,
+      c.high_end-high.ensures,
+    )
