@@ -1,0 +1,6 @@
+pub mod Levels
+pub mod Ranges
+pub mod Shape
+pub mod Unsound
+pub mod Places
+pub mod Safe

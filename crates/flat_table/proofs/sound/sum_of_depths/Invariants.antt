@@ -1,0 +1,8 @@
+-- the levels of the tries so far
+use Rattle.std.proofs.Common.{◌≡◌, ◌*◌, ◌≤◌, sum, map, take}
+use Rattle.flat_table.specs.Groups.{longest_key, depth_of}
+use Rattle.flat_table.proofs.sound.sum_of_depths.Given as goal
+
+abbrev pub invariant-loop-kept : goal.invariant-loop-kept
+invariant-loop-kept l =
+    (l.depths ≡ sum (map (depth_of l.key_len) (take l.kept-index l.kept))) × (l.depths ≤ l.kept-index * longest_key)

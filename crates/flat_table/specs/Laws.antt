@@ -1,0 +1,22 @@
+-- Laws of sound tables and of walks, over the definitions alone.
+use Rattle.std.specs.Prelude.{◌≡◌, ℕ, ◌+◌, ◌<◌, ◌≤◌, length, true, false, None, slice_index}
+use Rattle.flat_table.specs.Word.{index_of, is_match, next_place}
+use Rattle.flat_table.specs.Table.{TableView, level_of, places_of}
+use Rattle.flat_table.specs.Sound.{leads_into, sound_fault}
+use Rattle.flat_table.specs.Walk.{root_of}
+
+-- there is a word at the place, and it names a row of the table or leads into the level of the trie at the depth
+pub record LeadsOn (table : TableView) (trie depth place : ℕ) : Type 0 where
+  pub there : place < length table.words
+  pub row : is_match (slice_index table.words place) ≡ true → index_of (slice_index table.words place) < length table.rows
+  pub level : is_match (slice_index table.words place) ≡ false → leads_into (level_of table trie depth) (slice_index table.words place) ≡ true
+
+-- Each walk through a sound table stays in it: the root leads into the first level, a word that leads into a level is no
+-- match, each word of its node leads on, and behind the last level no word leads.
+pub record WalksStay : Type 0 where
+  pub root : (table : TableView) (trie : ℕ) → sound_fault table ≡ None → trie < length table.roots → leads_into (level_of table trie 0) (root_of table trie) ≡ true
+  pub node : (table : TableView) (trie depth word : ℕ) → leads_into (level_of table trie depth) word ≡ true → is_match word ≡ false
+  pub next : (table : TableView) (trie depth word byte : ℕ) → sound_fault table ≡ None → trie < length table.roots → byte < 256 →
+      leads_into (level_of table trie depth) word ≡ true → LeadsOn table trie (depth + 1) (next_place word byte)
+  pub last : (table : TableView) (trie depth word : ℕ) → length (places_of table trie) ≤ depth → trie < length table.roots → sound_fault table ≡ None →
+      leads_into (level_of table trie depth) word ≡ false

@@ -1,0 +1,11 @@
+pub mod Groups
+pub mod HandmadeTables
+pub mod Laws
+pub mod Sound
+pub mod SoundExamples
+pub mod Table
+pub mod TableInvariant
+pub mod Walk
+pub mod WalkExamples
+pub mod Word
+pub mod WordExamples

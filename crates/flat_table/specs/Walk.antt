@@ -1,0 +1,64 @@
+-- The walk of a key through a trie, and the verdicts of a table.
+use Rattle.std.specs.Prelude.{ℕ, ◌+◌, ◌%◌, ◌^◌, max, List, [], ◌∷◌, map, length, fold, slice_index, slice_index_or, if◌then◌else◌}
+use Rattle.std.specs.List.{range_with_len}
+use Rattle.flat_table.specs.Word.{index_of, is_match, next_word}
+use Rattle.flat_table.specs.Table.{TableView, places_of}
+
+-- the words that a walk takes from a word on by these bytes: one for each, until a match
+abbrev pub taken : List ℕ → ℕ → List ℕ → List ℕ
+taken words word [] = []
+taken words word (byte ∷ bytes) =
+    if is_match word then [] else next_word words word byte ∷ taken words (next_word words word byte) bytes
+
+-- the last word of those taken, or else the word from which they were taken
+abbrev pub last_word : ℕ → List ℕ → ℕ
+last_word word [] = word
+last_word word (next ∷ rest) = last_word next rest
+
+-- the root of the trie
+abbrev pub root_of : TableView → ℕ → ℕ
+root_of table trie = slice_index table.roots trie
+
+-- the bytes of the key that a walk through the trie reads
+abbrev pub bytes_of : TableView → ℕ → List ℕ → List ℕ
+bytes_of table trie key = map (λ place. slice_index key place) (places_of table trie)
+
+-- the words that the walk of the key through the trie takes
+abbrev pub walk : TableView → ℕ → List ℕ → List ℕ
+walk table trie key = taken table.words (root_of table trie) (bytes_of table trie key)
+
+-- how many words it takes
+abbrev pub walk_steps : TableView → ℕ → List ℕ → ℕ
+walk_steps table trie key = length (walk table trie key)
+
+-- the row that its last word names
+abbrev pub walk_row : TableView → ℕ → List ℕ → ℕ
+walk_row table trie key = index_of (last_word (root_of table trie) (walk table trie key))
+
+-- the numbers of the tries
+abbrev pub tries_of : TableView → List ℕ
+tries_of table = range_with_len 0 (length table.roots)
+
+-- the rows that the walks through all tries reach
+abbrev pub reached : TableView → List ℕ → List (List ℕ)
+reached table key = map (λ trie. slice_index_or table.rows (walk_row table trie key) []) (tries_of table)
+
+-- the greatest of the numbers, or 0 where there is none
+abbrev pub greatest : List ℕ → ℕ
+greatest numbers = fold max 0 numbers
+
+-- the greatest word of the category over these rows
+abbrev pub joined : TableView → List ℕ → ℕ → ℕ
+joined table key category = greatest (map (λ row. slice_index row category) (reached table key))
+
+-- how many numbers there are for the userdata of a row word, in its low half
+abbrev pub userdatas : ℕ
+userdatas = 2 ^ 32
+
+-- the verdict of the table for the key in the category: the userdata of the joined word
+abbrev pub table_verdict : TableView → List ℕ → ℕ → ℕ
+table_verdict table key category = joined table key category % userdatas
+
+-- how many words the walks of the key through all tries take
+abbrev pub key_steps : TableView → List ℕ → ℕ
+key_steps table key = fold (λ total trie. total + walk_steps table trie key) 0 (tries_of table)

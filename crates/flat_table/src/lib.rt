@@ -1,0 +1,43 @@
+//! Words and rows in, a sound table or the first fault with the parts back out.
+//!
+//! A table is what the rules of one family are made into: tries, whose nodes are words of 64 bits in one list, and
+//! rows, which say for each category which rule wins. A walk begins with the root of a trie and takes one word for
+//! each key byte that the trie reads, until a word names a row. Here is what the words mean, which parts make a
+//! table that every key can be walked through, and what a walk and a verdict are. Other crates fill tables, walk
+//! them, save and load them.
+//!
+//! ```text
+//!     Parts ── check_sound ──► Table::from_parts ──► Table: words, rows, places, roots
+//!                   │
+//!                   └► the first fault: the shape, a root, a word
+//! ```
+//!
+//! - `parts`: what a table is made of.
+//! - `word`: a transition word, bit by bit, and the place of the next one.
+//! - `groups`: which places of a key a trie reads.
+//! - `level`, `sound`: where the words of a trie's depth lie, and which parts are sound.
+//! - `table`: a sound table.
+//! - `steps`: a counter that exists in proofs alone.
+//! - `laws`: what holds of every sound table, over the definitions.
+//!
+//! After DPDK's `lib/acl` and its Programmer's Guide, "Packet Classification and Access Control".
+#![tactic(auto)]
+
+mod groups;
+pub mod laws;
+mod level;
+mod parts;
+mod sound;
+mod steps;
+mod table;
+#[cfg(test)]
+mod tests;
+mod word;
+
+pub use groups::MAX_KEY_LEN;
+pub use level::Level;
+pub use parts::Parts;
+pub use sound::{MAX_TRIES, MAX_WORDS, ROW_LEN, SoundFault, check_sound};
+pub use steps::Steps;
+pub use table::{NotSound, Table};
+pub use word::{index_of, is_match, next_place};

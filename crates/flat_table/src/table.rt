@@ -1,0 +1,186 @@
+//! Tables that every key can be walked through. A table keeps no rule.
+
+ghost use Rattle.std.specs.Prelude.{◌≡◌, ◌+◌, ◌*◌, ◌<◌, ◌≤◌, length, slice_get, slice_index, slice_index_or, None, IfOk, IfErr, Some, map, sum, take, option_map};
+ghost use Rattle.std.specs.Result.{result_err};
+ghost use Rattle.flat_table.specs.Groups.{longest_key, kept_places};
+ghost use Rattle.flat_table.specs.Table.{view_of, depths_of, places_of, level_of};
+ghost use Rattle.flat_table.specs.Sound.{most_tries, row_len, leads_into, sound_fault};
+ghost use Rattle.flat_table.specs.Walk.{root_of};
+
+use crate::groups::{Places, kept_places};
+use crate::parts::Parts;
+use crate::sound::{MAX_TRIES, ROW_LEN, SoundFault, check_sound};
+use arrayvec::ArrayVec;
+use std::marker::Model;
+
+/// Parts that make no table, and why.
+#[derive(Debug, Drop)]
+pub struct NotSound {
+    /// What is wrong with them first.
+    pub fault: SoundFault,
+    /// The parts, as they were given.
+    pub parts: Parts,
+}
+
+/// A sound table: its parts, which contracts see, and what its walks ask for again and again.
+#[derive(Drop)]
+pub struct Table {
+    parts: Parts,
+    /// For each trie the places of its kept groups, which are worked out once. They lie in the table itself,
+    /// so that a table takes no memory besides its parts.
+    places: ArrayVec<Places, MAX_TRIES>,
+}
+
+impl Model for Table {
+    ghost use Rattle.flat_table.specs.Table.{TableView, view_of};
+    ghost use Rattle.flat_table.specs.TableInvariant.{IsTable};
+
+    ghost Value = { TableView };
+
+    ghost view = { λ table. view_of table.parts };
+
+    ghost invariant = { λ table. IsTable (view_of table.parts) table.places.items };
+}
+
+/// For each trie the places of its kept groups.
+fn places_of(key_len: u32, kept: &[u128]) -> ArrayVec<Places, MAX_TRIES>
+    requires key { key_len ≤ longest_key }
+    requires few { length kept.now ≤ most_tries }
+    ensures { map (λ places. places.items) result.items ≡ map (kept_places key_len) kept.now }
+{
+    let mut tries = ArrayVec::new();
+    for kept in kept {
+        tries.push(kept_places(key_len, *kept));
+    }
+    tries
+}
+
+impl Table {
+    /// The table of the parts, or what [`check_sound`] finds wrong with them first, with the parts.
+    ///
+    /// It takes no memory.
+    pub fn from_parts(parts: Parts) -> Result<Table, NotSound>
+        ensures table { IfOk result (λ table. table ≡ view_of parts) }
+        ensures fault { option_map (λ refused. refused.fault) (result_err result) ≡ sound_fault (view_of parts) }
+        ensures parts { IfErr result (λ refused. refused.parts ≡ parts) }
+    {
+        match check_sound(&parts) {
+            Ok(()) => {
+                let places = places_of(parts.key_len, &parts.kept);
+                Ok(Table { parts, places })
+            }
+            Err(fault) => Err(NotSound { fault, parts }),
+        }
+    }
+
+    /// How many tries there are, at most 8.
+    pub fn tries(&self) -> usize
+        ensures value { result ≡ length self.now.roots }
+        ensures bound { result ≤ most_tries }
+        ensures sound { sound_fault self.now ≡ None }
+    {
+        self.parts.roots.len()
+    }
+
+    /// How many rules the table was made of.
+    pub fn rules(&self) -> u32
+        ensures { result ≡ self.now.rules }
+    {
+        self.parts.rules
+    }
+
+    /// How many bytes a key has.
+    pub fn key_len(&self) -> usize
+        ensures { result ≡ self.now.key_len }
+    {
+        self.parts.key_len as usize
+    }
+
+    /// How many words the table has, sixteen for each row counted, row 0 too.
+    pub fn total_words(&self) -> u64
+        ensures { result ≡ length self.now.words + row_len * length self.now.rows }
+    {
+        (self.parts.words.len() + ROW_LEN * self.parts.rows.len()) as u64
+    }
+
+    /// The kept groups of the trie, bit g for group g.
+    pub fn kept(&self, trie: usize) -> u128
+        requires { trie < length self.now.roots }
+        ensures { result ≡ slice_index self.now.kept trie }
+    {
+        self.parts.kept[trie]
+    }
+
+    /// How many levels the trie has: one for each of its kept places.
+    pub fn depths(&self, trie: usize) -> usize
+        requires { trie < length self.now.roots }
+        ensures value { result ≡ length (places_of self.now trie) }
+        ensures bound { result ≤ longest_key }
+    {
+        self.places(trie).len()
+    }
+
+    /// The places of a key whose bytes a walk through the trie reads, ascending.
+    pub fn places(&self, trie: usize) -> &[u16]
+        requires { trie < length self.now.roots }
+        ensures places { result.now ≡ places_of self.now trie }
+        ensures bound { length result.now ≤ longest_key }
+    {
+        let places = &self.places.as_slice()[trie];
+        places.as_slice()
+    }
+
+    /// The word that a walk through the trie begins with. It leads into the trie's first level.
+    pub fn root(&self, trie: usize) -> u64
+        requires { trie < length self.now.roots }
+        ensures value { result ≡ root_of self.now trie }
+        ensures sound { sound_fault self.now ≡ None }
+    {
+        self.parts.roots[trie]
+    }
+
+    /// How many words the trie has at the depth, which counts from 0.
+    pub fn level_len(&self, trie: usize, depth: usize) -> u32
+        requires trie { trie < length self.now.roots }
+        requires depth { depth < length (places_of self.now trie) }
+        ensures { result ≡ (level_of self.now trie depth).len }
+    {
+        let lens = self.parts.level_lens.as_slice();
+        let mut first = 0;
+        for earlier in 0..trie {
+            first += self.depths(earlier);
+        }
+        lens[first + depth]
+    }
+
+    /// All words, trie by trie and level by level.
+    pub fn words(&self) -> &[u64]
+        ensures { result.now ≡ self.now.words }
+    {
+        &self.parts.words
+    }
+
+    /// All rows, row 0 first.
+    pub fn rows(&self) -> &[[u64; ROW_LEN]]
+        ensures { result.now ≡ self.now.rows }
+    {
+        &self.parts.rows
+    }
+
+    /// The word at the place.
+    pub fn word(&self, i: usize) -> u64
+        requires { i < length self.now.words }
+        ensures { result ≡ slice_index self.now.words i }
+    {
+        self.parts.words[i]
+    }
+
+    /// The row: for each category a word with the winner's rank in its high half and its userdata in its low
+    /// half, or 0 for none.
+    pub fn row(&self, r: usize) -> &[u64; ROW_LEN]
+        requires { r < length self.now.rows }
+        ensures { slice_get self.now.rows r ≡ Some result.now }
+    {
+        &self.parts.rows[r]
+    }
+}

@@ -1,0 +1,117 @@
+//! Transition words, of which a table is made, and the nodes that they lead to.
+//!
+//! ```text
+//!     | boundaries: 32 | kind: 3 | index: 29 |      bit 0 is the lowest of the index
+//!
+//!     kind 0 full         256 words at index: that of byte b is index + b
+//!     kind 1 single       1 word at index, for every byte
+//!     kind 3 quad-range   5 words at index: that of byte b is index + (how many boundaries are below b)
+//!     kind 4 match        no words; index is a row of the table, and the walk ends
+//! ```
+//!
+//! The boundaries are four bytes, the first in bits 32 to 39, and 0 unless the kind is quad-range. After
+//! DPDK's `lib/acl/acl.h`, whose DFA node shares groups of 64 words; our full node has one word for each
+//! byte value.
+
+ghost use Rattle.std.specs.Prelude.{◌≡◌, ◌+◌, ◌*◌, ◌/◌, ◌%◌, ◌^◌, ◌<◌, ◌≤◌, nat_lt, count_by};
+ghost use Rattle.flat_table.specs.Word.{indexes, full_len, index_of, kind_of, boundaries_of, is_match, is_node, is_unbounded, node_len, offset_of, next_place};
+
+/// How many bits of a word are the index.
+const INDEX_BITS: u32 = 29;
+
+/// The bits of the index.
+const INDEX_MASK: u64 = 0x1FFF_FFFF;
+
+/// The bits of the kind, moved down.
+const KIND_MASK: u64 = 7;
+
+/// The first bit of the first boundary.
+const BOUNDARY_BITS: u32 = 32;
+
+/// A node with a word for each byte value.
+const FULL: u64 = 0;
+
+/// A node of one word.
+const SINGLE: u64 = 1;
+
+/// A node of five words, for five runs of byte values.
+const QUAD: u64 = 3;
+
+/// The end of a walk.
+const MATCH: u64 = 4;
+
+/// The place of the node's first word, or the row of a match.
+pub fn index_of(word: u64) -> usize
+    ensures value { result ≡ index_of word }
+    ensures bound { result < indexes }
+{
+    (word & INDEX_MASK) as usize
+}
+
+/// The kind: 0 full, 1 single, 3 quad-range, 4 match; other numbers are no kind.
+fn kind_of(word: u64) -> u64
+    ensures { result ≡ kind_of word }
+{
+    word >> INDEX_BITS & KIND_MASK
+}
+
+/// Whether the word ends a walk.
+pub fn is_match(word: u64) -> bool
+    ensures { result ≡ is_match word }
+{
+    kind_of(word) == MATCH
+}
+
+/// Whether the word has no boundaries.
+pub(crate) fn is_unbounded(word: u64) -> bool
+    ensures { result ≡ is_unbounded word }
+{
+    word >> BOUNDARY_BITS == 0
+}
+
+/// Whether the word leads to a node, and has boundaries only where the node is a quad-range.
+pub(crate) fn is_node(word: u64) -> bool
+    ensures { result ≡ is_node word }
+{
+    match kind_of(word) {
+        QUAD => true,
+        FULL | SINGLE => is_unbounded(word),
+        _ => false,
+    }
+}
+
+/// How many words the node has.
+pub(crate) fn node_len(word: u64) -> usize
+    ensures value { result ≡ node_len word }
+    ensures bound { result ≤ full_len }
+{
+    match kind_of(word) {
+        FULL => 256,
+        QUAD => 5,
+        _ => 1,
+    }
+}
+
+/// How many of the word's boundaries are below the byte.
+fn boundaries_below(word: u64, byte: u8) -> usize
+    ensures value { result ≡ count_by (λ boundary. nat_lt boundary byte) (boundaries_of word) }
+    ensures bound { result ≤ 4 }
+{
+    let byte = u64::from(byte);
+    usize::from((word >> 32 & 0xFF) < byte)
+        + usize::from((word >> 40 & 0xFF) < byte)
+        + usize::from((word >> 48 & 0xFF) < byte)
+        + usize::from((word >> 56) < byte)
+}
+
+/// The place of the word that a walk takes by the byte from a word that is no match.
+pub fn next_place(word: u64, byte: u8) -> usize
+    ensures { result ≡ next_place word byte }
+{
+    let offset = match kind_of(word) {
+        FULL => usize::from(byte),
+        QUAD => boundaries_below(word, byte),
+        _ => 0,
+    };
+    index_of(word) + offset
+}
