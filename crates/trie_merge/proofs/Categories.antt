@@ -1,0 +1,17 @@
+-- The categories, one after the other.
+use Rattle.std.proofs.Common.{◌≡◌, ℕ, ◌+◌, ◌<◌, List, [], ◌∷◌, ◌++◌, length, take, get_or, ◌∙◌, ap, arith}
+use Rattle.std.proofs.lemmas.List.{take_more}
+use Rattle.std.proofs.lemmas.List.FromFn.{length-range_with_len, get_or-range_with_len}
+use Rattle.rule_set.specs.Fault.{categories}
+
+pub length-categories : length categories ≡ 16
+unfolding categories
+length-categories = length-range_with_len 0 16
+
+category_at : (category d : ℕ) → category < 16 → get_or categories category d ≡ category
+unfolding categories
+category_at category d below = get_or-range_with_len 0 16 category d below ∙ omega arith
+
+pub one_more_category : (category : ℕ) → category < 16 → take (category + 1) categories ≡ take category categories ++ category ∷ []
+one_more_category category below =
+    take_more categories category 0 (rw length-categories below) ∙ ap (λ b. take category categories ++ b ∷ []) (category_at category 0 below)

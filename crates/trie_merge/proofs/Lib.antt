@@ -1,0 +1,12 @@
+pub mod Finds
+pub mod Handing
+pub mod Marks
+pub mod Numbers
+pub mod Successors
+pub mod Best
+pub mod Categories
+pub mod Rows
+pub mod Uncut
+pub mod Expanded
+pub mod Pieces
+pub mod Merging

@@ -1,0 +1,10 @@
+pub mod Entry
+pub mod Found
+pub mod Kept
+pub mod Levels
+pub mod Pieces
+pub mod Row
+pub mod Lists
+pub mod RuleRest
+pub mod State
+pub mod StateExamples

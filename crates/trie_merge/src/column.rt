@@ -1,0 +1,147 @@
+//! What one place of the key asks of the rules.
+
+ghost use Rattle.std.specs.Prelude.{◌≡◌, ◌<◌, length, map, slice_index_or, IfOk};
+ghost use Rattle.field_defs.specs.declared.field.FieldValue.TheVariants.{Mask};
+ghost use Rattle.field_defs.specs.Layout.{IsLayout, key_len_of};
+ghost use Rattle.trie_merge.specs.Entry.{field_at};
+
+use crate::entry::{edge_in, entry_of, number_in};
+use field_defs::{FieldDef, FieldValue};
+use node_expand::{Edge, cuts, start_edge, step_edge};
+use rule_set::RuleSet;
+use std::alloc::{AllocError, Global};
+use std::marker::Model;
+
+/// The values of all rules of the set for the field that has the place, by the number of the rule, the size of the field in
+/// bytes, and the place in the field. Contracts see the three.
+#[derive(Drop)]
+pub(crate) struct Column {
+    values: Vec<FieldValue>,
+    size: u8,
+    place: u8,
+}
+
+/// Where a place of the key lies.
+#[derive(Clone, Copy)]
+struct FieldPlace {
+    field: usize,
+    size: u8,
+    place: u8,
+}
+
+/// The field of a place of the key, its size, and the place in the field.
+fn field_at(defs: &[FieldDef], place: usize) -> FieldPlace
+    requires { place < key_len_of defs.now }
+    ensures at { record { field = result.field; size = result.size; place = result.place } ≡ field_at defs.now place }
+    ensures field { result.field < length defs.now }
+    ensures place { result.place < result.size }
+{
+    let mut left = place;
+    for (field, def) in defs.iter().enumerate() {
+        let size = usize::from(def.size);
+        if left < size {
+            return FieldPlace {
+                field,
+                size: def.size,
+                place: left as u8,
+            };
+        }
+        left -= size;
+    }
+    unreachable!()
+}
+
+/// The value of each rule for the field.
+fn values_of_field(
+    alloc: Global,
+    rules: &RuleSet,
+    field: usize,
+) -> Result<Vec<FieldValue>, AllocError>
+    requires layout { IsLayout rules.now.layout }
+    requires field { field < length rules.now.layout }
+    ensures { IfOk result (λ values. values.items ≡ map (λ rule. slice_index_or rule.fields field (Mask 0 0)) rules.now.rules) }
+{
+    let mut values = Vec::with_capacity(alloc, rules.len())?;
+    for i in 0..rules.len() {
+        values.push(rules.at(i).fields()[field])?;
+    }
+    Ok(values)
+}
+
+impl Model for Column {
+    ghost use Rattle.trie_merge.specs.Entry.{ColumnView};
+
+    ghost Value = { ColumnView };
+
+    ghost view = { λ c. record { values = c.values.items; size = c.size; place = c.place } };
+}
+
+impl Column {
+    ghost use Rattle.std.specs.Prelude.{◌≡◌, ℕ, ◌<◌, ◌||◌, false, slice_index_or, IfOk};
+    ghost use Rattle.field_defs.specs.Layout.{key_len_of};
+    ghost use Rattle.trie_merge.specs.Entry.{column_at, edge_before, entry_step, is_entry_cut, CanStep};
+
+    /// What the place of the key has of each rule.
+    ///
+    /// It takes memory for a value of each rule.
+    #[tactic(auto, unfolding(crate::specs::Entry::column_at))]
+    pub(crate) fn new(alloc: Global, rules: &RuleSet, place: usize) -> Result<Self, AllocError>
+        requires { place < key_len_of rules.now.layout }
+        ensures { IfOk result (λ column. column ≡ column_at rules.now place) }
+    {
+        let at = field_at(rules.layout().fields(), place);
+        let values = values_of_field(alloc, rules, at.field)?;
+        Ok(Column {
+            values,
+            size: at.size,
+            place: at.place,
+        })
+    }
+
+    /// The edge of the entry before the place.
+    fn edge_before(&self, entry: u32) -> Edge
+        requires { CanStep self.now entry }
+        ensures { result ≡ edge_before self.now entry }
+    {
+        if self.place == 0 {
+            start_edge(&self.values[number_in(entry) as usize], self.size)
+        } else {
+            edge_in(entry)
+        }
+    }
+
+    /// The entry after the byte, or none where its rule has no rest.
+    #[tactic(auto, unfolding(crate::specs::Entry::entry_step))]
+    pub(crate) fn step(&self, entry: u32, byte: u8) -> Option<u32>
+        requires { CanStep self.now entry }
+        ensures { result ≡ entry_step self.now entry byte }
+    {
+        let number = number_in(entry);
+        let edge = self.edge_before(entry);
+        let after = step_edge(
+            &self.values[number as usize],
+            self.size,
+            self.place,
+            edge,
+            byte,
+        )?;
+        Some(entry_of(number, after))
+    }
+
+    /// Sets the marks of the bytes at which the entry after them changes.
+    #[tactic(auto, unfolding(crate::specs::Entry::is_entry_cut))]
+    pub(crate) fn mark(&self, entry: u32, marks: &mut [bool; 256])
+        requires { CanStep self.now entry }
+        ensures { (byte : ℕ) → byte < 256 →
+            slice_index_or marks.new byte false ≡ (is_entry_cut self.now entry byte || slice_index_or marks.old byte false) }
+    {
+        let edge = self.edge_before(entry);
+        cuts(
+            &self.values[number_in(entry) as usize],
+            self.size,
+            self.place,
+            edge,
+            marks,
+        );
+    }
+}

@@ -1,0 +1,207 @@
+//! The states of one kept place, one after the other: their runs, their words, and the states or rows that they lead to.
+
+ghost use Rattle.std.specs.Prelude.{◌≡◌, ℕ, ◌<◌, ◌+◌, ◌*◌, ◌^◌, ◌≤◌, ◌++◌, ◌∷◌, [], List, length, map, fold, slice_index_or, All, OnOk, IfOk, if◌then◌else◌};
+ghost use Rattle.trie_merge.specs.declared.run.Succ.TheVariants.{Dead};
+ghost use Rattle.trie_merge.specs.Entry.{number_in, CanStep};
+ghost use Rattle.trie_merge.specs.Found.{all_bytes};
+ghost use Rattle.trie_merge.specs.Levels.{cost_of, max_cap};
+ghost use Rattle.trie_merge.specs.Lists.{lists_of, list_at, lists_with, succ_in, row_list, successor, state_runs, least_cost, least_words, IsMergedWithin};
+ghost use Rattle.trie_merge.specs.Pieces.{pieces_of, IsPieces};
+
+use crate::column::Column;
+use crate::expand::{INLINE_ENTRIES, fill_lists};
+use crate::number::{number_successors, push_runs};
+use crate::row::make_rows;
+use crate::run::{Run, Succ};
+use indexmap::IndexSet;
+use rule_set::RuleSet;
+use smallvec::SmallVec;
+use std::alloc::{AllocError, Global};
+
+/// The words of a state with so many runs.
+pub(crate) fn cost_of(count: usize) -> u64
+    ensures cost { result ≡ cost_of count }
+    ensures bound { (0 < result) × (result ≤ 256) }
+{
+    match count {
+        1 => 1,
+        0..=5 => 5,
+        _ => 256,
+    }
+}
+
+/// Makes the list of each interval what its bytes lead to: its row at the last place.
+fn make_successors(
+    alloc: Global,
+    rules: &RuleSet,
+    is_last: bool,
+    count: usize,
+    lists: &mut [SmallVec<u32, INLINE_ENTRIES, Global>],
+) -> Result<(), AllocError>
+    requires count { count ≤ length lists.old }
+    requires numbers { (k : ℕ) → k < count → All (λ entry. number_in entry < length rules.now.rules) (list_at lists.old k) }
+    ensures { OnOk result ((k : ℕ) → k < count →
+        list_at lists.new k ≡ (if is_last then row_list rules.now (list_at lists.old k) else list_at lists.old k)) }
+{
+    if is_last {
+        make_rows(alloc, rules, count, lists)?;
+    }
+    Ok(())
+}
+
+/// Numbers what each byte leads to from one state.
+fn expand_state(
+    alloc: Global,
+    rules: &RuleSet,
+    column: &Column,
+    is_last: bool,
+    entries: &[u32],
+    lists: &mut [SmallVec<u32, INLINE_ENTRIES, Global>],
+    found: &mut IndexSet<SmallVec<u32, INLINE_ENTRIES, Global>>,
+    succs: &mut [Succ; 256],
+) -> Result<(), AllocError>
+    requires entries { All (CanStep column.now) entries.now }
+    requires rules { length column.now.values ≡ length rules.now.rules }
+    requires lists { 256 ≤ length lists.old }
+    requires room { length found.old.keys + 256 < 2 ^ 32 }
+    ensures found { OnOk result (lists_of found.new.keys
+        ≡ fold lists_with (lists_of found.old.keys) (map (successor rules.now column.now is_last entries.now) all_bytes)) }
+    ensures succs { OnOk result ((more : List (List ℕ)) (byte : ℕ) → byte < 256 → slice_index_or succs.new byte Dead
+        ≡ succ_in is_last (lists_of found.new.keys ++ more) (successor rules.now column.now is_last entries.now byte)) }
+{
+    let mut marks = [false; 256];
+    let count = fill_lists(column, entries, &mut marks, lists)?;
+    make_successors(alloc, rules, is_last, count, lists)?;
+    number_successors(alloc, is_last, &marks, lists, found, succs)?;
+    Ok(())
+}
+
+/// The runs of the states of one place, and where those of each state end.
+#[derive(Drop)]
+pub(crate) struct Pieces {
+    pub(crate) runs: Vec<Run>,
+    pub(crate) ends: Vec<usize>,
+}
+
+/// Merges what one state leads to into the others, and gives the state's words.
+fn merge_state(
+    alloc: Global,
+    rules: &RuleSet,
+    column: &Column,
+    is_last: bool,
+    entries: &[u32],
+    lists: &mut [SmallVec<u32, INLINE_ENTRIES, Global>],
+    found: &mut IndexSet<SmallVec<u32, INLINE_ENTRIES, Global>>,
+    pieces: &mut Pieces,
+) -> Result<u64, AllocError>
+    requires entries { All (CanStep column.now) entries.now }
+    requires rules { length column.now.values ≡ length rules.now.rules }
+    requires lists { 256 ≤ length lists.old }
+    requires room { length found.old.keys + 256 < 2 ^ 32 }
+    requires pieces { IsPieces 0 pieces.old.ends.items (length pieces.old.runs.items) }
+    ensures found { OnOk result (lists_of found.new.keys
+        ≡ fold lists_with (lists_of found.old.keys) (map (successor rules.now column.now is_last entries.now) all_bytes)) }
+    ensures runs { OnOk result ((more : List (List ℕ)) →
+        pieces_of pieces.new.runs.items 0 pieces.new.ends.items
+        ≡ pieces_of pieces.old.runs.items 0 pieces.old.ends.items
+        ++ state_runs rules.now column.now is_last (lists_of found.new.keys ++ more) entries.now ∷ []) }
+    ensures pieces { OnOk result (IsPieces 0 pieces.new.ends.items (length pieces.new.runs.items)) }
+    ensures words { IfOk result (λ words. (more : List (List ℕ)) →
+        words ≡ cost_of (length (state_runs rules.now column.now is_last (lists_of found.new.keys ++ more) entries.now))) }
+    ensures some { IfOk result (λ words. (0 < words) × (words ≤ 256)) }
+{
+    let mut succs = [Succ::Dead; 256];
+    expand_state(
+        alloc, rules, column, is_last, entries, lists, found, &mut succs,
+    )?;
+    let start = pieces.runs.len();
+    push_runs(&succs, &mut pieces.runs)?;
+    let end = pieces.runs.len();
+    pieces.ends.push(end)?;
+    Ok(cost_of(end - start))
+}
+
+/// What the states of one place come to.
+#[derive(Drop)]
+pub(crate) struct Merged {
+    /// Their runs.
+    pub(crate) pieces: Pieces,
+    /// The states that they lead to, or at the last place the rows.
+    pub(crate) found: IndexSet<SmallVec<u32, INLINE_ENTRIES, Global>>,
+    /// The words before them and their own.
+    pub(crate) words: u64,
+}
+
+/// Why there are no merged states.
+#[derive(Clone, Copy, Debug, PartialEq, Eq)]
+pub enum MergeFault {
+    /// The words exceed the cap.
+    OverCap,
+    /// There is no memory for the states.
+    OutOfMemory,
+}
+
+/// Merges the states of one place. There are as many words before them as `before` says.
+pub(crate) fn merge_states(
+    alloc: Global,
+    rules: &RuleSet,
+    column: &Column,
+    is_last: bool,
+    cap: u64,
+    before: u64,
+    states: &[SmallVec<u32, INLINE_ENTRIES, Global>],
+    lists: &mut [SmallVec<u32, INLINE_ENTRIES, Global>],
+) -> Result<Merged, MergeFault>
+    requires states { All (λ state. All (CanStep column.now) state.items) states.now }
+    requires rules { length column.now.values ≡ length rules.now.rules }
+    requires lists { 256 ≤ length lists.old }
+    requires cap { cap ≤ max_cap }
+    requires before { before ≤ cap }
+    ensures merged { IfOk result (λ merged. IsMergedWithin rules.now column.now is_last cap before (lists_of states.now)
+        (pieces_of merged.pieces.runs.items 0 merged.pieces.ends.items) (lists_of merged.found.keys) merged.words) }
+    ensures pieces { IfOk result (λ merged. IsPieces 0 merged.pieces.ends.items (length merged.pieces.runs.items)) }
+    ensures over { (result ≡ Err MergeFault.OverCap) → cap < least_words rules.now column.now is_last before (lists_of states.now) }
+{
+    let mut pieces = Pieces {
+        runs: Vec::new(alloc),
+        ends: Vec::new(alloc),
+    };
+    let mut found = IndexSet::new(alloc);
+    let mut words = before;
+    for state in states {
+        let cost = match merge_state(
+            alloc,
+            rules,
+            column,
+            is_last,
+            state.as_slice(),
+            lists,
+            &mut found,
+            &mut pieces,
+        ) {
+            Ok(cost) => cost,
+            Err(_) => return Err(MergeFault::OutOfMemory),
+        };
+        words += cost;
+        if words + least_cost(is_last, found.len()) > cap {
+            return Err(MergeFault::OverCap);
+        }
+    }
+    Ok(Merged {
+        pieces,
+        found,
+        words,
+    })
+}
+
+/// How many words so many states or rows take at least: 1 for each state, and 16 for each row.
+fn least_cost(is_last: bool, count: usize) -> u64
+    requires { count < 2 ^ 40 }
+    ensures { result ≡ least_cost is_last count }
+{
+    let count = count as u64;
+    if is_last { ROW_WORDS * count } else { count }
+}
+
+/// How many words a row takes.
+const ROW_WORDS: u64 = 16;
