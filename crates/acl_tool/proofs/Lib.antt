@@ -1,12 +1,15 @@
+mod Classifying
 mod ColumnLemmas
-mod Endings
-mod Fronts
 mod Inputs
 mod KeyParts
 mod LawfulLemmas
+mod Links
 mod NumberLemmas
 mod OutputLaws
+mod Plans
 mod Printing
 mod RecordLaws
 mod RuleFileLemmas
 mod SplitLemmas
+mod Told
+mod Usage

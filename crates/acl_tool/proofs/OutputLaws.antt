@@ -1,5 +1,5 @@
 -- What waits on its way to a sink and what was put, call by call.
-use Rattle.std.proofs.Common.{◌≡◌, ℕ, ◌≤◌, List, [], ◌++◌, Result, Ok, Err, OnErr, sym, ap, ◌∙◌, append_assoc, arith}
+use Rattle.std.proofs.Common.{ℕ, ◌≤◌, List, [], ◌++◌, Result, Ok, Err, OnErr, sym, ap, ◌∙◌, append_assoc, arith}
 use Rattle.acl_outside.specs.Sink.{SinkView, GainsPrefix, Puts}
 use Rattle.acl_outside.proofs.WritingLaws.{Gains-then, GainsPrefix-then, GainsPrefix-more}
 use Rattle.acl_tool.specs.Output.{Passes, HandsOn}

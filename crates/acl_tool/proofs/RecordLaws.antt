@@ -1,8 +1,8 @@
 -- How the records of a capture follow one another.
-use Rattle.std.proofs.Common.{◌≡◌, ℕ, zero, suc, ◌+◌, ◌≤◌, List, [], ◌∷◌, length, take, drop, true, false, Ok, Err, inl, inr, ◌<◌, refl, sym, ap, ◌∙◌, arith}
+use Rattle.std.proofs.Common.{◌≡◌, ℕ, zero, suc, ◌+◌, ◌≤◌, List, [], ◌∷◌, ◌++◌, length, length-append, take, drop, true, false, Ok, Err, inl, inr, ◌<◌, refl, sym, ap, ◌∙◌, arith}
 use Rattle.std.proofs.lemmas.List.{drop-drop, length-drop, length-take, length-take-le, take_all}
 use Rattle.std.proofs.lemmas.Bool.{or_parts, ltb-false, lt-ltb, le-ltb, or_from, cases_Bool, cases_lt}
-use Rattle.acl_tool.specs.Capture.{captured_len, is_record_cut, has_file_header, onto_records, records_of, records_within, capture_of}
+use Rattle.acl_tool.specs.Capture.{captured_len, is_record_cut, has_file_header, onto_records, records_of, records_within, max_capture, capture_of}
 use Rattle.acl_tool.specs.Record.{HasRecord}
 use Rattle.acl_tool.specs.declared.status.CaptureFault.TheVariants.{TooManyRecords}
 
@@ -75,12 +75,7 @@ HasRecord-len {left} {captured} {behind} h =
     let back = ap length h.rest ∙ length-drop (16 + captured_len left) left in
     omega (arith, front, back, length-drop 16 left)
 
--- so many bytes tell all of a capture: one byte more than it may have
-pub capture_of-take : (bytes : List ℕ) → capture_of (take 16777217 bytes) ≡ capture_of bytes
-capture_of-take bytes =
-    elim (cases_lt (length bytes) 16777217) [
-      | inl small ↦ ap capture_of (take_all 16777217 bytes (omega arith))
-      | inr large ↦
-          let longer : length (take 16777217 bytes) ≡ 16777217 = length-take-le 16777217 bytes large in
-          capture_of-long (take 16777217 bytes) (omega arith) ∙ sym (capture_of-long bytes (omega arith))
-    ]
+-- one byte past the limit tells all of a capture
+pub capture_of-more : (front more : List ℕ) → length front ≡ max_capture + 1 → capture_of (front ++ more) ≡ capture_of front
+capture_of-more front more long =
+    capture_of-long (front ++ more) (omega (arith, length-append front more, long)) ∙ sym (capture_of-long front (omega (arith, long)))

@@ -6,7 +6,8 @@ use Rattle.rule_set.specs.Rule.{RuleView}
 use Rattle.acl_tool.specs.declared.status.LineFault.{LineFault}
 use Rattle.acl_tool.specs.declared.status.LineKind.TheVariants.{BadStart}
 use Rattle.acl_tool.specs.Text.{lines_of}
-use Rattle.acl_tool.specs.RuleFile.{values_of_line, rule_of, line_then, rules_of_lines, rule_file}
+use Rattle.acl_tool.specs.RuleFile.{values_of_line, rule_of, line_then, rules_of_lines, max_rule_file, rule_file}
+use Rattle.acl_tool.specs.Outcome.{rules_of_bytes}
 
 -- rules in front of those that come behind them, or the fault behind them
 unfoldable pub onto_rules : List RuleView → Result (List RuleView) LineFault → Result (List RuleView) LineFault
@@ -61,9 +62,10 @@ unfolding onto_rules
 rule_file-all bytes rules number left read none =
     read.joined ∙ ap (λ lines. onto_rules rules (rules_of_lines (number + 1) lines)) none ∙ ap Ok (append-nil rules)
 
--- the file is read up to one byte past the limit
-pub rule_file-take : (bytes : List ℕ) → rule_file (take 1048577 bytes) ≡ rule_file bytes
-rule_file-take bytes =
-    ⊎_elim (λ long. rw (lt-ltb 1048576 (length bytes) (omega arith), lt-ltb 1048576 (length (take 1048577 bytes)) (omega (arith, length-take 1048577 bytes))) refl)
-    (λ short. rw (take_all 1048577 bytes short) refl)
-    (cases_lt 1048577 (length bytes))
+-- one byte past the limit tells all of a rule file
+pub rules_of_bytes-more : (front more : List ℕ) → length front ≡ max_rule_file + 1 → rules_of_bytes (front ++ more) ≡ rules_of_bytes front
+rules_of_bytes-more front more long =
+    rw (
+      lt-ltb max_rule_file (length (front ++ more)) (omega (arith, length-append front more, long)),
+      lt-ltb max_rule_file (length front) (omega (arith, long)),
+    ) refl

@@ -1,14 +1,20 @@
 -- What a part of a command says of the outside, before and after it.
-use Rattle.std.specs.Prelude.{◌≡◌, ◌≢◌, ◌≤◌, ◌⊎◌, ℕ, List, false, true, Option, Some, Result, Ok, Err, IfOk, IfErr}
+use Rattle.std.specs.Prelude.{◌≡◌, ◌≢◌, ℕ, ◌≤◌, ◌⊎◌, List, [], ◌∷◌, length, false, true, Option, Some, None, Result, Ok, Err, IfOk, IfErr}
 use Rattle.std.specs.Option.{option_map}
+use Rattle.std.specs.declared.vec.Vec.{Vec}
+use Rattle.std.specs.declared.alloc.Global.{Global}
 use Rattle.acl_outside.specs.Fault.{Rose}
-use Rattle.acl_outside.specs.Desk.{File, DeskView, KeepsCounts}
+use Rattle.acl_outside.specs.Desk.{File, DeskView, KeepsCounts, bytes_of}
+use Rattle.acl_outside.specs.Heard.{Heard, GoesOn, Ended, heard}
 use Rattle.acl_outside.specs.Sink.{SinkView, Gains, GainsPrefix}
 use Rattle.acl_tool.specs.declared.status.Status.{Status}
-use Rattle.acl_tool.specs.declared.status.Status.TheVariants.{ReadFault, WriteFault, OutOfMemory}
+use Rattle.acl_tool.specs.declared.status.Status.TheVariants.{Usage, ReadFault, WriteFault, OutOfMemory}
 use Rattle.acl_tool.specs.declared.status.UsageFault.{UsageFault}
-use Rattle.acl_tool.specs.Command.{Request}
-use Rattle.acl_tool.specs.Outcome.{Outcome, is_decided, is_reported, outcome_of_command}
+use Rattle.acl_tool.specs.Command.{Request, capture_name, command}
+use Rattle.acl_tool.specs.Message.{message}
+use Rattle.acl_tool.specs.Plan.{Outcome, Plan, found, settled}
+use Rattle.acl_tool.specs.Follow.{Reached, Given, Follows, IsOneOf, IsCutOff, outcome_of, status_within}
+use Rattle.acl_tool.specs.Outcome.{is_decided, is_reported, is_usage, outcome, plan_of}
 
 -- the files of a desk that tells them
 abbrev pub files_of : DeskView → Option (List File)
@@ -17,6 +23,18 @@ files_of desk = option_map (λ content. content.files) desk.content
 -- the name of the opened file, of a desk that tells it
 abbrev pub opened_of : DeskView → Option (Option (List ℕ))
 opened_of desk = option_map (λ content. content.opened) desk.content
+
+-- what a desk was asked for, one opening after the other, newest first
+abbrev pub heard_of : DeskView → List Heard
+heard_of desk = heard desk.answers
+
+-- the outside of a command: the desk that it reads through, and the sink that it prints to
+pub record Outside : Type 0 where
+  pub desk : DeskView
+  pub out : SinkView
+
+abbrev pub outside : DeskView → SinkView → Outside
+outside desk out = record { desk = desk; out = out }
 
 -- The files are as before, and no count fell.
 pub record KeepsFiles (old new : DeskView) : Type 0 where
@@ -29,59 +47,96 @@ CannotRead old new IsAbsentIn =
     Rose old.read_faults new.read_faults
     ⊎ (Rose old.absent new.absent × ((files : List File) → files_of old ≡ Some files → IsAbsentIn files))
 
--- No file was asked for that isn't there, unless this is so.
+-- Where the files are told, no file was asked for that isn't there, unless this is so.
 abbrev pub AsksForNothingAbsent : DeskView → DeskView → Type 0 → Type 0
 AsksForNothingAbsent old new IsFault = (files : List File) → files_of old ≡ Some files → ¬ IsFault → new.absent ≡ old.absent
 
--- A value was taken from the named file, which is the opened one then: it is the expected one, or the status is the expected one, or the status has its cause.
-pub record Takes {X Y : Type 0} (name : List ℕ) (seen : X → Y) (expected : List File → Result Y Status) (old new : DeskView)
-    (result : Result X Status) : Type 0 where
-  pub value : (files : List File) → files_of old ≡ Some files → IfOk result (λ x. expected files ≡ Ok (seen x))
-  pub refusal : (files : List File) → files_of old ≡ Some files →
-      IfErr result (λ status. is_decided status ≡ true → expected files ≡ Err status)
-  pub read_fault : result ≡ Err ReadFault → CannotRead old new (λ files. expected files ≡ Err ReadFault)
+-- The named file was read to its end or to the cap, and nothing else was asked for.
+pub record ReadsFile (name : List ℕ) (cap : ℕ) (old new : DeskView) (result : Result (Vec ℕ Global) Status) : Type 0 where
+  pub file : Heard
+  pub named : file.name ≡ name
+  pub heard : heard_of new ≡ file ∷ heard_of old
+  pub told : IsOneOf (files_of old) file
+  pub bytes : IfOk result (λ bytes. file.bytes ≡ bytes.items)
+  pub ending : IfOk result (λ bytes. (file.ending ≡ Ended) ⊎ ((file.ending ≡ GoesOn) × (length bytes.items ≡ cap)))
+  pub fault : IfErr result (λ status. (status ≡ OutOfMemory) ⊎ ((status ≡ ReadFault) × (status ≡ status_within file.ending)))
+  pub read_fault : result ≡ Err ReadFault → CannotRead old new (λ files. bytes_of files name ≡ None)
   pub opened : (files : List File) → files_of old ≡ Some files → IfOk result (λ _. opened_of new ≡ Some (Some name))
+  pub absent : AsksForNothingAbsent old new (result ≡ Err ReadFault)
+  pub kept : KeepsFiles old new
+
+-- The answer of a step of a command that was followed so far: a value, or how the command ends.
+abbrev pub IsAnswer : {X Y : Type 0} → (X → Y) → Reached Y → Result X Status → Type 0
+IsAnswer seen reached (Ok x) = reached ≡ Given (seen x)
+IsAnswer seen reached (Err status) = IsCutOff reached status
+
+-- A step of a command followed its plan to a value, or to an end with nothing printed.
+pub record Takes {X Y : Type 0} (plan : Plan Y) (seen : X → Y) (old new : DeskView) (result : Result X Status) : Type 0 where
+  pub reached : Reached Y
+  pub follows : Follows (files_of old) plan (heard_of old) (heard_of new) reached
+  pub answer : IsAnswer seen reached result
+  pub read_fault : result ≡ Err ReadFault → CannotRead old new (λ files. found plan files ≡ Err ReadFault)
   pub unreported : IfErr result (λ status. is_reported status ≡ false)
+  pub lawful : IfErr result (λ status. is_usage status ≡ false)
   pub absent : AsksForNothingAbsent old new (result ≡ Err ReadFault)
   pub kept : KeepsFiles old new
 
 -- A text was put to a sink: all of it with the status that goes with it, or a prefix of it where the sink failed.
 pub record Prints (expected : Outcome) (old new : SinkView) (status : Status) : Type 0 where
   pub decided : status ≢ WriteFault → (status ≡ expected.status) × Gains expected.text old new
-  pub write_fault : status ≡ WriteFault →
-      Rose old.faults new.faults × GainsPrefix expected.text old new
+  pub write_fault : status ≡ WriteFault → Rose old.faults new.faults × GainsPrefix expected.text old new
   pub count : old.faults ≤ new.faults
 
--- A command, a request or a usage fault, ended as its outcome says, or with a status that has its cause.
-pub record Ends (request : Result Request UsageFault) (old new : DeskView) (out_old out_new : SinkView) (status : Status) : Type 0 where
-  -- a decided status is that of the outcome, with all of its text
-  pub decided : (files : List File) → files_of old ≡ Some files → is_decided status ≡ true →
-      status ≡ (outcome_of_command request files).status
-  pub text : (files : List File) → files_of old ≡ Some files → is_decided status ≡ true →
-      Gains (outcome_of_command request files).text out_old out_new
-  -- a read fault and want of memory leave the output untouched
-  pub read_fault : status ≡ ReadFault → CannotRead old new (λ files. (outcome_of_command request files).status ≡ ReadFault)
-  pub read_fault_is_silent : status ≡ ReadFault → out_new ≡ out_old
-  pub out_of_memory_is_silent : status ≡ OutOfMemory → out_new ≡ out_old
-  -- a write fault leaves a prefix of the text
-  pub write_fault : status ≡ WriteFault → Rose out_old.faults out_new.faults
-  pub prefix : (files : List File) → files_of old ≡ Some files → status ≡ WriteFault →
-      GainsPrefix (outcome_of_command request files).text out_old out_new
+-- A command ended by its plan. So it is for every desk and sink: the status and the bytes that `out` took are those of the
+-- outcome of what was heard, each file was opened once, and nothing else was asked for.
+pub record Ends (plan : Plan Outcome) (old new : Outside) (status : Status) : Type 0 where
+  pub reached : Reached Outcome
+  pub follows : Follows (files_of old.desk) plan (heard_of old.desk) (heard_of new.desk) reached
+  pub ended : (status ≡ (outcome_of reached).status) ⊎ ((status ≡ WriteFault) ⊎ (status ≡ OutOfMemory))
+  pub text : status ≢ WriteFault → status ≢ OutOfMemory → Gains (outcome_of reached).text old.out new.out
+  pub prefix : status ≡ WriteFault → GainsPrefix (outcome_of reached).text old.out new.out
+  pub out_of_memory : status ≡ OutOfMemory → Gains [] old.out new.out
+  -- each fault has its cause
+  pub read_fault : status ≡ ReadFault → CannotRead old.desk new.desk (λ files. (settled (found plan files)).status ≡ ReadFault)
+  pub write_fault : status ≡ WriteFault → Rose old.out.faults new.out.faults
   -- in every case
-  pub absent : AsksForNothingAbsent old new (status ≡ ReadFault)
-  pub opened : (files : List File) → files_of old ≡ Some files → is_reported status ≡ true →
-      IfOk request (λ r. opened_of new ≡ Some (Some r.capture))
-  pub kept : KeepsFiles old new
-  pub count : out_old.faults ≤ out_new.faults
+  pub absent : AsksForNothingAbsent old.desk new.desk (status ≡ ReadFault)
+  pub kept : KeepsFiles old.desk new.desk
+  pub count : old.out.faults ≤ new.out.faults
+
+-- The same against the files, where the desk tells them: status and text are those of the outcome of the files.
+pub record EndsAsTold (expected : Outcome) (old new : Outside) (status : Status) : Type 0 where
+  pub decided : is_decided status ≡ true → status ≡ expected.status
+  pub text : is_decided status ≡ true → Gains expected.text old.out new.out
+  pub prefix : status ≡ WriteFault → GainsPrefix expected.text old.out new.out
 
 -- A line was put to a sink, or a prefix of it where the sink failed.
 pub record PutsLine (line : List ℕ) (old new : SinkView) : Type 0 where
-  pub told : Gains line old new
-      ⊎ (Rose old.faults new.faults × GainsPrefix line old new)
+  pub told : Gains line old new ⊎ (Rose old.faults new.faults × GainsPrefix line old new)
   pub count : old.faults ≤ new.faults
 
 -- No count of the desk or of the sink rose.
-pub record HasNoFault (old new : DeskView) (out_old out_new : SinkView) : Type 0 where
-  pub read_faults : ¬ Rose old.read_faults new.read_faults
-  pub absent : ¬ Rose old.absent new.absent
-  pub faults : ¬ Rose out_old.faults out_new.faults
+pub record HasNoFault (old new : Outside) : Type 0 where
+  pub read_faults : ¬ Rose old.desk.read_faults new.desk.read_faults
+  pub absent : ¬ Rose old.desk.absent new.desk.absent
+  pub faults : ¬ Rose old.out.faults new.out.faults
+
+-- A request or a usage fault was answered: all that is promised of a command but its message.
+pub record Answers (request : Result Request UsageFault) (old new : Outside) (status : Status) : Type 0 where
+  -- a usage fault comes exactly of such words, whatever memory and the outside do, and then nothing is asked or printed
+  pub usage : IfErr request (λ fault. status ≡ Usage fault)
+  pub usage_only : IfOk request (λ _. is_usage status ≡ false)
+  pub usage_is_silent : IfErr request (λ _. new ≡ old)
+  pub ends : Ends (plan_of request) old new status
+  -- where the desk tells its files
+  pub told : (files : List File) → files_of old.desk ≡ Some files → EndsAsTold (settled (found (plan_of request) files)) old new status
+  pub opened : (files : List File) → files_of old.desk ≡ Some files → is_reported status ≡ true →
+      IfOk request (λ r. opened_of new.desk ≡ Some (Some (capture_name r)))
+
+-- All that `run` promises.
+pub record Runs (words : List (List ℕ)) (old new : Outside) (err_old err_new : SinkView) (status : Status) : Type 0 where
+  pub answers : Answers (command words) old new status
+  -- where the outside has no fault, only memory keeps the command from its outcome
+  pub complete : HasNoFault old new → (files : List File) → files_of old.desk ≡ Some files →
+      (status ≡ (outcome words files).status) ⊎ (status ≡ OutOfMemory)
+  pub message : PutsLine (message status) err_old err_new

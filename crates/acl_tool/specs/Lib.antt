@@ -1,5 +1,8 @@
 pub mod Text
 pub mod Command
+pub mod CommandLine
+pub mod Plan
+pub mod Follow
 pub mod RuleFile
 pub mod RuleFileExamples
 pub mod RuleValues

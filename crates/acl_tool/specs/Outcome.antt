@@ -1,45 +1,18 @@
 -- How a command ends, and what it prints, as a function of its words and of the files that are there.
-use Rattle.std.specs.Prelude.{ℕ, List, [], ◌++◌, Bool, true, false, Option, Some, None, take, Result, Ok, Err}
-use Rattle.acl_outside.specs.Desk.{File, bytes_of}
+use Rattle.std.specs.Prelude.{ℕ, List, [], ◌++◌, Bool, true, false, Option, Some, None, Result, Ok, Err}
+use Rattle.acl_outside.specs.Desk.{File}
 use Rattle.rule_set.specs.Rule.{RuleView}
+use Rattle.acl_tool.specs.declared.report.Counts.{Counts}
 use Rattle.acl_tool.specs.declared.status.Status.{Status}
 use Rattle.acl_tool.specs.declared.status.Status.TheVariants.{Done, Usage, RulesRefused, CaptureRefused, ReadFault, WriteFault, OutOfMemory}
 use Rattle.acl_tool.specs.declared.status.LineFault.{LineFault}
 use Rattle.acl_tool.specs.declared.status.UsageFault.{UsageFault}
 use Rattle.acl_tool.specs.declared.status.CaptureFault.{CaptureFault}
-use Rattle.acl_tool.specs.Command.{Request, command}
+use Rattle.acl_tool.specs.Command.{Request, Classify, command}
 use Rattle.acl_tool.specs.RuleFile.{rule_file}
 use Rattle.acl_tool.specs.Capture.{Capture, capture_of}
-use Rattle.acl_tool.specs.declared.report.Counts.{Counts}
 use Rattle.acl_tool.specs.Report.{counts_of, counts_text, lines_of_records}
-
--- a status, and the text that is printed
-pub record Outcome : Type 0 where
-  pub status : Status
-  pub text : List ℕ
-
--- a status with nothing printed
-abbrev pub silent : Status → Outcome
-silent status = record { status = status; text = [] }
-
--- the rules of a file that may be there, or the status that stands for its fault
-abbrev pub rules_of_bytes : Result (List RuleView) LineFault → Result (List RuleView) Status
-rules_of_bytes (Ok rules) = Ok rules
-rules_of_bytes (Err fault) = Err (RulesRefused fault)
-
-abbrev pub rules_of_file : Option (List ℕ) → Result (List RuleView) Status
-rules_of_file None = Err ReadFault
-rules_of_file (Some bytes) = rules_of_bytes (rule_file bytes)
-
--- the bytes of a file, or the status of a file that isn't there
-abbrev pub bytes_of_file : Option (List ℕ) → Result (List ℕ) Status
-bytes_of_file None = Err ReadFault
-bytes_of_file (Some bytes) = Ok bytes
-
--- the same of the first `cap` bytes
-abbrev pub front_of_file : ℕ → Option (List ℕ) → Result (List ℕ) Status
-front_of_file cap None = Err ReadFault
-front_of_file cap (Some bytes) = Ok (take cap bytes)
+use Rattle.acl_tool.specs.Plan.{Outcome, silent, Plan, Give, Stop, ◌>>=◌, reading, unless_refused, found, settled}
 
 -- the last line: that of the counts of a whole capture, and none where a fault ends it
 abbrev pub last_line : Counts → Option CaptureFault → List ℕ
@@ -65,27 +38,36 @@ report_of_capture rules (Err fault) = silent (CaptureRefused fault)
 abbrev pub report : List RuleView → List ℕ → Outcome
 report rules bytes = report_of_capture rules (capture_of bytes)
 
--- what comes behind the rules, and behind the capture
-abbrev pub outcome_of_capture : List RuleView → Result (List ℕ) Status → Outcome
-outcome_of_capture rules (Ok bytes) = report rules bytes
-outcome_of_capture rules (Err status) = silent status
+-- the status that stands for the fault of a rule file
+abbrev pub refused_rules : Result (List RuleView) LineFault → Result (List RuleView) Status
+refused_rules (Ok rules) = Ok rules
+refused_rules (Err fault) = Err (RulesRefused fault)
 
-abbrev pub outcome_of_rules : Result (List RuleView) Status → Result (List ℕ) Status → Outcome
-outcome_of_rules (Ok rules) capture = outcome_of_capture rules capture
-outcome_of_rules (Err status) capture = silent status
+-- the rules of a file, or the status that stands for its fault
+abbrev pub rules_of_bytes : List ℕ → Result (List RuleView) Status
+rules_of_bytes bytes = refused_rules (rule_file bytes)
 
--- the rule file comes first, and then the capture
-abbrev pub outcome_of_request : Request → List File → Outcome
-outcome_of_request request files =
-    outcome_of_rules (rules_of_file (bytes_of files request.rules)) (bytes_of_file (bytes_of files request.capture))
+-- the rules of the named file
+abbrev pub rules_in : List ℕ → Plan (List RuleView)
+rules_in name = do
+  bytes ← reading name
+  unless_refused (rules_of_bytes bytes)
 
-abbrev pub outcome_of_command : Result Request UsageFault → List File → Outcome
-outcome_of_command (Ok request) files = outcome_of_request request files
-outcome_of_command (Err fault) files = silent (Usage fault)
+-- what a command asks for, case by case
+abbrev pub plan_of_request : Request → Plan Outcome
+plan_of_request (Classify rules capture) = do
+  set ← rules_in rules
+  bytes ← reading capture
+  Give (report set bytes)
+
+-- words that are no command ask for nothing
+abbrev pub plan_of : Result Request UsageFault → Plan Outcome
+plan_of (Ok request) = plan_of_request request
+plan_of (Err fault) = Stop (Usage fault)
 
 -- how the words end, and what they print, where these files are there
 abbrev pub outcome : List (List ℕ) → List File → Outcome
-outcome words files = outcome_of_command (command words) files
+outcome words files = settled (found (plan_of (command words)) files)
 
 -- A status that comes with a report, or a first part of one.
 abbrev pub is_reported : Status → Bool
@@ -106,3 +88,13 @@ is_decided (CaptureRefused fault) = true
 is_decided ReadFault = false
 is_decided WriteFault = false
 is_decided OutOfMemory = false
+
+-- A status of words that are no command.
+abbrev pub is_usage : Status → Bool
+is_usage Done = false
+is_usage (Usage fault) = true
+is_usage (RulesRefused fault) = false
+is_usage (CaptureRefused fault) = false
+is_usage ReadFault = false
+is_usage WriteFault = false
+is_usage OutOfMemory = false

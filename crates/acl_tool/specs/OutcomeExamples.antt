@@ -6,7 +6,8 @@ use Rattle.acl_tool.specs.declared.status.Status.TheVariants.{Done, Usage, Rules
 use Rattle.acl_tool.specs.declared.status.LineKind.TheVariants.{BadStart}
 use Rattle.acl_tool.specs.declared.status.CaptureFault.TheVariants.{Magic, RecordCut}
 use Rattle.acl_tool.specs.Command.{unknown_command}
-use Rattle.acl_tool.specs.Outcome.{outcome, silent}
+use Rattle.acl_tool.specs.Outcome.{outcome}
+use Rattle.acl_tool.specs.Plan.{silent}
 use Rattle.acl_tool.specs.Message.{message}
 use Rattle.acl_tool.specs.RuleFileExamples.{guide_line}
 use Rattle.acl_tool.specs.CaptureExamples.{file_header}

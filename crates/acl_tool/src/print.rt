@@ -64,7 +64,11 @@ fn print_whole<O: Sink>(
 }
 
 /// Puts the line of the counts, where no fault ended the capture.
-fn print_last_line<O: Sink>(printed: &Printed, output: &mut Output, out: &mut O) -> Result<(), Failed>
+fn print_last_line<O: Sink>(
+    printed: &Printed,
+    output: &mut Output,
+    out: &mut O,
+) -> Result<(), Failed>
     ensures { HandsOn output.old output.new (last_line printed.now.counts printed.now.fault) (O.view out.old) (O.view out.new) result }
 {
     if printed.fault.is_some() {

@@ -1,11 +1,10 @@
 //! The top call: words, files and sinks in, a status out.
 
-ghost use Rattle.std.specs.Prelude.{◌≡◌, ◌⊎◌, List, Some, Ok, map, string_bytes, IfErr};
-ghost use Rattle.acl_outside.specs.Desk.{File};
-ghost use Rattle.acl_tool.specs.Command.{command};
+ghost use Rattle.std.specs.Prelude.{Ok, map, string_bytes};
+ghost use Rattle.acl_tool.specs.Command.{Classify, command};
+ghost use Rattle.acl_tool.specs.CommandLine.{request_of};
 ghost use Rattle.acl_tool.specs.Message.{message};
-ghost use Rattle.acl_tool.specs.Outcome.{outcome};
-ghost use Rattle.acl_tool.specs.Effects.{Ends, HasNoFault, PutsLine, files_of};
+ghost use Rattle.acl_tool.specs.Effects.{Answers, PutsLine, Runs, outside};
 
 use crate::command_line::{Request, read_words};
 use crate::input::{read_file, read_rule_file};
@@ -30,19 +29,8 @@ pub fn run<D: Desk, O: Sink, E: Sink>(
     out: &mut O,
     err: &mut E,
 ) -> Status
-    // Words that are no command are a usage fault, whatever memory, the desk and the sinks do, and nothing is touched.
-    ensures usage { IfErr (command (map string_bytes words.now)) (λ fault. result ≡ Status.Usage fault) }
-    ensures usage_is_silent { IfErr (command (map string_bytes words.now)) (λ _.
-        (D.view desk.new ≡ D.view desk.old) × (O.view out.new ≡ O.view out.old)) }
-
-    // The status and what was printed are those of the outcome of the words and the files, and each fault has its cause.
-    ensures ends { Ends (command (map string_bytes words.now)) (D.view desk.old) (D.view desk.new) (O.view out.old) (O.view out.new) result }
-    // Where the outside has no fault, only memory keeps the command from its outcome.
-    ensures complete { HasNoFault (D.view desk.old) (D.view desk.new) (O.view out.old) (O.view out.new) →
-        (files : List File) → files_of (D.view desk.old) ≡ Some files →
-        (result ≡ (outcome (map string_bytes words.now) files).status) ⊎ (result ≡ Status.OutOfMemory) }
-
-    ensures message { PutsLine (message result) (E.view err.old) (E.view err.new) }
+    ensures { Runs (map string_bytes words.now) (outside (D.view desk.old) (O.view out.old))
+        (outside (D.view desk.new) (O.view out.new)) (E.view err.old) (E.view err.new) result }
 {
     let status = answer(alloc, words, desk, out);
     put_message(&status, err);
@@ -51,32 +39,46 @@ pub fn run<D: Desk, O: Sink, E: Sink>(
 
 /// The command without its message.
 fn answer<D: Desk, O: Sink>(alloc: Global, words: &[String], desk: &mut D, out: &mut O) -> Status
-    ensures usage { IfErr (command (map string_bytes words.now)) (λ fault. result ≡ Status.Usage fault) }
-    ensures usage_is_silent { IfErr (command (map string_bytes words.now)) (λ _.
-        (D.view desk.new ≡ D.view desk.old) × (O.view out.new ≡ O.view out.old)) }
-    ensures ends { Ends (command (map string_bytes words.now)) (D.view desk.old) (D.view desk.new) (O.view out.old) (O.view out.new) result }
+    ensures { Answers (command (map string_bytes words.now)) (outside (D.view desk.old) (O.view out.old))
+        (outside (D.view desk.new) (O.view out.new)) result }
 {
     match read_words(words) {
-        Ok(request) => classify(alloc, &request, desk, out),
+        Ok(request) => answer_request(alloc, request, desk, out),
         Err(fault) => Status::Usage(fault),
     }
 }
 
-/// Prints the report of the two files of a `classify`.
-fn classify<D: Desk, O: Sink>(
+/// Does what was asked for.
+fn answer_request<D: Desk, O: Sink>(
     alloc: Global,
-    request: &Request<'_>,
+    request: Request<'_>,
     desk: &mut D,
     out: &mut O,
 ) -> Status
-    ensures { Ends (Ok (record { rules = request.now.rules.now; capture = request.now.capture.now }))
-        (D.view desk.old) (D.view desk.new) (O.view out.old) (O.view out.new) result }
+    ensures { Answers (Ok (request_of request.entry)) (outside (D.view desk.old) (O.view out.old))
+        (outside (D.view desk.new) (O.view out.new)) result }
 {
-    let rules = match read_rule_file(alloc, request.rules, desk) {
+    match request {
+        Request::Classify { rules, capture } => classify(alloc, rules, capture, desk, out),
+    }
+}
+
+/// Prints the report of a capture by the rules of a file.
+fn classify<D: Desk, O: Sink>(
+    alloc: Global,
+    rules: &str,
+    capture: &str,
+    desk: &mut D,
+    out: &mut O,
+) -> Status
+    ensures { Answers (Ok (Classify rules.now capture.now)) (outside (D.view desk.old) (O.view out.old))
+        (outside (D.view desk.new) (O.view out.new)) result }
+{
+    let rules = match read_rule_file(alloc, rules, desk) {
         Ok(rules) => rules,
         Err(status) => return status,
     };
-    let capture = match read_file(alloc, request.capture, MAX_CAPTURE + 1, desk) {
+    let capture = match read_file(alloc, capture, MAX_CAPTURE + 1, desk) {
         Ok(capture) => capture,
         Err(status) => return status,
     };

@@ -1,14 +1,25 @@
-use Rattle.std.proofs.Common.{refl, rules}
-use Rattle.acl_tool.proofs.Inputs.{cannot_open}
+use Rattle.acl_tool.proofs.Inputs.{ReadsFile-unopened, ReadsFile-read, ReadsFile-broken, ReadsFile-full}
 use Rattle.acl_tool.proofs.input.read_file.Goals as goal
 
 pub returns-in-Err : goal.returns-in-Err
-returns-in-Err g c = record {
-  value = search rules;
-  refusal = search rules;
-  read_fault = λ _. cannot_open c.args.cap c.args.name.now (g.D.Desk.view c.args.desk.now) (g.D.Desk.view c.open_file.new.self) c.in-Err.ensures.cause c.in-Err.ensures.there;
-  opened = search rules;
-  unreported = search rules;
-  absent = λ files told isnt. absurd (isnt refl);
-  kept = search rules;
-}
+returns-in-Err g c =
+    let view = g.D.Desk.view in
+    ReadsFile-unopened c.args.name.now c.args.cap (view c.args.desk.now) (view c.open_file.new.self) c.in-Err.field-0 c.in-Err.ensures
+
+pub returns-in-Ok-read_up_to : goal.returns-in-Ok-read_up_to
+returns-in-Ok-read_up_to g c =
+    let view = g.D.Desk.view in
+    ReadsFile-read c.args.name.now c.args.cap (view c.args.desk.now) (view c.open_file.new.self) (view c.read_up_to.new.desk) c.in-Ok.field-0
+    c.in-Ok-read_up_to.bytes c.in-Ok.ensures c.in-Ok-read_up_to.ensures
+
+pub returns-in-Err-ReadFault : goal.returns-in-Err-ReadFault
+returns-in-Err-ReadFault g c =
+    let view = g.D.Desk.view in
+    ReadsFile-broken c.args.name.now c.args.cap (view c.args.desk.now) (view c.open_file.new.self) (view c.read_up_to.new.desk) c.in-Ok.field-0
+    c.in-Ok.ensures (rw c.in-Err-ReadFault.field-0-is at c.in-Err-ReadFault.ensures)
+
+pub returns-in-Err-OutOfMemory : goal.returns-in-Err-OutOfMemory
+returns-in-Err-OutOfMemory g c =
+    let view = g.D.Desk.view in
+    ReadsFile-full c.args.name.now c.args.cap (view c.args.desk.now) (view c.open_file.new.self) (view c.read_up_to.new.desk) c.in-Ok.field-0
+    c.in-Ok.ensures (rw c.in-Err-OutOfMemory.field-0-is at c.in-Err-OutOfMemory.ensures)

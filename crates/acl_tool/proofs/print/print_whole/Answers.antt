@@ -1,9 +1,8 @@
-use Rattle.std.proofs.Common.{◌≡◌, ℕ, ◌≤◌, List, [], ◌++◌, arith}
+use Rattle.std.proofs.Common.{[], ◌++◌, arith}
 use Rattle.std.proofs.lemmas.Result.{err_from_is_err_and}
 use Rattle.acl_tool.specs.Capture.{records_of}
 use Rattle.acl_tool.specs.Outcome.{last_line}
 use Rattle.acl_tool.specs.Report.{counts_of, lines_of_records}
-use Rattle.acl_tool.specs.Output.{Passes}
 use Rattle.acl_tool.proofs.OutputLaws.{Passes-then, HandsOn-then, HandsOn-failed, HandsOn-broken, Puts-then, Puts-as_ok, Puts-as_err}
 use Rattle.acl_tool.proofs.print.print_whole.Goals as goal
 

@@ -1,0 +1,9 @@
+use Rattle.acl_tool.proofs.Told.{Ends-complete}
+use Rattle.acl_tool.proofs.tool.run.Goals as goal
+
+pub returns : goal.returns
+returns g c = record {
+  answers = c.answer-status.ensures;
+  complete = Ends-complete _ _ _ c.answer-status.result c.answer-status.ensures.ends;
+  message = c.put_message.ensures;
+}
