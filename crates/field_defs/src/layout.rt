@@ -177,6 +177,13 @@ impl Layout {
         }
     }
 
+    /// The same layout once more. It takes no memory.
+    pub fn copied(&self) -> Self
+        ensures { result ≡ self.now }
+    {
+        Layout::of_lawful(self.fields())
+    }
+
     /// The definitions, in order.
     pub fn fields(&self) -> &[FieldDef]
         ensures fields { result.now ≡ self.now }

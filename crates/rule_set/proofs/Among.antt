@@ -6,9 +6,10 @@ use Rattle.std.specs.List.{find, list_all, Contains, AllPairs, position_from, ra
 use Rattle.std.specs.Option.{option_map_or}
 use Rattle.std.specs.List.Sorted.{IsStrictlyIncreasing}
 use Rattle.std.specs.Int.Signed.{le_z}
-use Rattle.std.proofs.lemmas.Bool.{cases_Bool, cases_eq, and_parts, and_from, cond_both, both_ways}
+use Rattle.std.proofs.lemmas.Bool.{cases_Bool, cases_eq, cases_lt, and_parts, and_from, cond_both, both_ways}
 use Rattle.std.proofs.lemmas.Int.{ints}
 use Rattle.std.proofs.lemmas.List.Kept.{AllPairs-from_increasing}
+use Rattle.std.proofs.lemmas.Option.{slice_get_past}
 use Rattle.rule_set.specs.Rule.{RuleView}
 use Rattle.rule_set.specs.Winner.{applies, is_greatest}
 use Rattle.rule_set.specs.Among.{passes_at, priority_at, is_greatest_at, best_among}
@@ -17,7 +18,7 @@ use Rattle.rule_set.specs.Laws.{TestsMayBeMadeInTurn}
 use Rattle.rule_set.proofs.Find.{find_passes}
 
 -- what a list has, element by element
-abbrev Has : List ℕ → ℕ → Type 0
+abbrev pub Has : List ℕ → ℕ → Type 0
 Has [] y = ⊥
 Has (x ∷ xs) y = (x ≡ y) ⊎ Has xs y
 
@@ -118,16 +119,16 @@ rising_filter p (x ∷ xs) h =
     (λ _. (λ y has_y. h.0 y (has_passing p xs y has_y).0, rising_filter p xs h.1)) (λ _. rising_filter p xs h.1)
 
 -- the order of priorities
-le_z_refl : (a : ℤ) → le_z a a ≡ true
+pub le_z_refl : (a : ℤ) → le_z a a ≡ true
 le_z_refl a = grind (arith, ints)
 
-le_z_trans : (a b c : ℤ) → le_z a b ≡ true → le_z b c ≡ true → le_z a c ≡ true
+pub le_z_trans : (a b c : ℤ) → le_z a b ≡ true → le_z b c ≡ true → le_z a c ≡ true
 le_z_trans a b c h k = grind (arith, ints)
 
-le_z_total : (a b : ℤ) → le_z a b ≡ false → le_z b a ≡ true
+pub le_z_total : (a b : ℤ) → le_z a b ≡ false → le_z b a ≡ true
 le_z_total a b h = grind (arith, ints)
 
-le_z_both : (a b : ℤ) → le_z a b ≡ true → le_z b a ≡ true → a ≡ b
+pub le_z_both : (a b : ℤ) → le_z a b ≡ true → le_z b a ≡ true → a ≡ b
 le_z_both a b h k = grind (arith, ints)
 
 -- some place has the greatest priority
@@ -306,6 +307,14 @@ SaysSame rules test at = (place : ℕ) (rule : RuleView) → slice_get rules pla
 
 passes_says : (test : RuleView → Bool) (rules : List RuleView) → SaysSame rules test (passes_at test rules)
 passes_says test rules place rule is = ap (λ found. option_map_or test found false) is
+
+-- a rule that passes is there
+pub passes_there : (test : RuleView → Bool) (rules : List RuleView) (place : ℕ) → passes_at test rules place ≡ true →
+    place < length rules
+passes_there test rules place passes = elim (cases_lt place (length rules)) [
+  | inl here ↦ here
+  | inr past ↦ absurd (let none = rw (slice_get_past rules place past) at passes in cc)
+]
 
 -- a test of all rules that pass is one of all places that pass
 all_at : (test holds : RuleView → Bool) (at : ℕ → Bool) (rules : List RuleView) (n : ℕ) (xs : List RuleView) →

@@ -61,7 +61,8 @@ values_lawful layout tag values lawful none_there =
     })
 
 -- and so is its tag
-tag_lawful : (layout : List FieldDef) (tag : RuleTag) (values : List FieldValue) → rule_fault layout tag values ≡ None →
+pub tag_lawful : (layout : List FieldDef) (tag : RuleTag) (values : List FieldValue) →
+    rule_fault layout tag values ≡ None →
     IsLawfulTag tag
 unfolding rule_fault
 tag_lawful layout tag values none_there =

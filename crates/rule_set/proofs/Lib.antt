@@ -1,8 +1,11 @@
 pub mod Among
 pub mod Best
+pub mod Counts
 pub mod CategoryBits
 pub mod Fields
 pub mod Find
 pub mod Held
+pub mod Keys
 pub mod Lawful
 pub mod Passing
+pub mod RankOrder

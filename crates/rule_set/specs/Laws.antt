@@ -1,5 +1,5 @@
 -- Laws of rules and winners, over the definitions alone.
-use Rattle.std.specs.Prelude.{◌≡◌, ◌≢◌, ℕ, ◌<◌, ◌↔◌, ◌⊎◌, List, filter, Bool, true, false, not}
+use Rattle.std.specs.Prelude.{◌≡◌, ◌≢◌, ℕ, ◌<◌, ◌≤◌, ◌↔◌, ◌⊎◌, List, filter, Bool, true, false, not}
 use Rattle.std.specs.Prelude.{◌&&◌, Option, Some, None, length, IsTrue}
 use Rattle.std.specs.List.{Contains, range_with_len}
 use Rattle.std.specs.List.Sorted.{IsStrictlyIncreasing}
@@ -12,6 +12,7 @@ use Rattle.rule_set.specs.Fault.{rule_fault}
 use Rattle.rule_set.specs.Lawful.{IsLawfulRule}
 use Rattle.rule_set.specs.Rule.{RuleView}
 use Rattle.rule_set.specs.Winner.{winner}
+use Rattle.rule_set.specs.Rank.{comes_below, rank_of}
 use Rattle.rule_set.specs.Among.{passes_at, priority_at, best_among, winner_among}
 
 -- A rule has no fault for a layout exactly where it is lawful as a whole.
@@ -60,3 +61,30 @@ TestsMayBeMadeInTurn =
     (first second : RuleView → Bool) (rules : List RuleView) (places : List ℕ) →
     best_among (λ rule. first rule && second rule) rules places
     ≡ best_among second rules (filter (passes_at first rules) places)
+
+-- The ranks of a set are from 1 to the number of its rules and all different, and one is greater
+-- than another exactly where the other rule comes below.
+pub record RanksOrderRules : Type 0 where
+  pub bounds : (rules : List RuleView) (place : ℕ) → place < length rules →
+      (1 ≤ rank_of rules place) × (rank_of rules place ≤ length rules)
+  pub order : (rules : List RuleView) (place other : ℕ) → place < length rules →
+      other < length rules →
+      (rank_of rules other < rank_of rules place ↔ comes_below rules place other ≡ true)
+  pub distinct : (rules : List RuleView) (place other : ℕ) → place < length rules →
+      other < length rules → place ≢ other → rank_of rules place ≢ rank_of rules other
+
+-- The place is among the places, its rule passes the test, and each other that passes has a lower
+-- rank.
+pub record HasGreatestRank (test : RuleView → Bool) (rules : List RuleView) (places : List ℕ)
+    (place : ℕ) : Type 0 where
+  pub among : Contains places place
+  pub passes : passes_at test rules place ≡ true
+  pub below : (other : ℕ) → Contains places other → passes_at test rules other ≡ true →
+      other ≢ place → rank_of rules other < rank_of rules place
+
+-- Among places that rise, the best is the one of greatest rank among those that pass.
+abbrev pub TheBestHasTheGreatestRank : Type 0
+TheBestHasTheGreatestRank =
+    (test : RuleView → Bool) (rules : List RuleView) (places : List ℕ) (place : ℕ) →
+    IsStrictlyIncreasing places →
+    (best_among test rules places ≡ Some place ↔ HasGreatestRank test rules places place)

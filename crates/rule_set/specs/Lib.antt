@@ -3,9 +3,12 @@ pub mod Categories
 pub mod CategoriesExamples
 pub mod Fault
 pub mod FaultExamples
+pub mod Keys
 pub mod Lawful
 pub mod Laws
 pub mod Limits
+pub mod Rank
+pub mod RankExamples
 pub mod Rule
 pub mod RuleSet
 pub mod Winner

@@ -10,11 +10,13 @@ mod categories;
 mod check;
 pub mod laws;
 mod plain;
+mod rank;
 mod rule;
 mod set;
 
 pub use categories::Categories;
 pub use check::{MAX_PRIORITY, RuleFault, check_rule};
 pub use plain::plain_verdict;
-pub use rule::{RuleTag, StoredRule};
+pub use rank::ranks;
+pub use rule::{Rule, RuleTag, StoredRule};
 pub use set::{MAX_RULES, PushFault, RuleSet};

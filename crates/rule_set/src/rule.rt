@@ -23,6 +23,29 @@ pub struct RuleTag {
     pub userdata: u32,
 }
 
+/// A rule with N values, as it is written down in a program.
+#[derive(Clone, Copy, Debug, PartialEq, Eq)]
+pub struct Rule<const N: usize> {
+    pub tag: RuleTag,
+    /// The values for the fields of a layout, in their order.
+    pub fields: [FieldValue; N],
+}
+
+impl<const N: usize> Rule<N> {
+    ghost use Rattle.std.specs.Prelude.{◌≡◌, ◌≤◌, IsOk, IfOk};
+    ghost use Rattle.field_defs.specs.Layout.{max_fields};
+
+    /// The same rule, stored. With at most eight values it takes no memory and succeeds.
+    pub fn store(&self, alloc: Global) -> Result<StoredRule, AllocError>
+        requires { N ≤ max_fields }
+        ensures ok { IfOk result
+            (λ rule. rule ≡ record { tag = self.now.tag; fields = self.now.fields }) }
+        ensures inline { N ≤ 8 → IsOk result }
+    {
+        StoredRule::new(alloc, self.tag, &self.fields)
+    }
+}
+
 /// A rule: its tag and its values for the fields of a layout, in their order. Contracts see the
 /// two.
 #[derive(Debug, Drop)]
@@ -71,6 +94,23 @@ impl StoredRule {
 mod tests {
     use super::*;
     use std::test::Fail;
+
+    #[test]
+    fn a_rule_of_two_values_is_stored(rt: HostRuntime) -> Result<(), Fail> {
+        let tag = RuleTag {
+            category_mask: 1,
+            priority: 2,
+            userdata: 0,
+        };
+        let fields = [
+            FieldValue::Range { low: 4, high: 5 },
+            FieldValue::Mask { value: 6, bits: 7 },
+        ];
+        let rule = Rule { tag, fields }.store(rt.alloc())?;
+        assert_eq!(rt; rule.fields(), fields.as_slice());
+        assert_eq!(rt; rule.tag(), tag);
+        Ok(())
+    }
 
     #[test]
     fn a_rule_of_nine_values_is_stored(rt: HostRuntime) -> Result<(), Fail> {

@@ -1,6 +1,7 @@
 //! Lawful rules of one layout, in the order in which they were added.
 
-ghost use Rattle.std.specs.Prelude.{◌≡◌, ◌==◌, ◌<◌, ◌↔◌, nat_le, [], ◌∷◌, ◌++◌, length, slice_get};
+ghost use Rattle.std.specs.Prelude.{◌≡◌, ◌==◌, ◌<◌, ◌≤◌, ◌↔◌, nat_le, take, [], ◌∷◌, ◌++◌, length};
+ghost use Rattle.std.specs.Prelude.{slice_get};
 ghost use Rattle.std.specs.Prelude.{Some, OnOk, OnErr};
 ghost use Rattle.rule_set.specs.declared.check.RuleFault.{RuleFault};
 ghost use Rattle.rule_set.specs.Limits.{max_rules};
@@ -75,6 +76,24 @@ impl RuleSet {
     {
         check_rule(&self.layout, &rule.tag(), rule.fields()).map_err(PushFault::Rule)?;
         self.rules.push(rule).map_err(|_| PushFault::OutOfMemory)
+    }
+
+    /// Takes the rules from the place `len` on out again, so that a caller can add some rules or
+    /// none.
+    ///
+    /// `len` is at most the number of rules. It refuses nothing and takes no memory.
+    pub fn truncate(&mut self, len: usize)
+        requires { len ≤ length self.old.rules }
+        ensures { self.new ≡ record self.old { rules = take len self.old.rules } }
+    {
+        self.rules.truncate(len);
+    }
+
+    /// A set without rules, of the same layout. It takes no memory.
+    pub fn new_of_same_layout(&self, alloc: Global) -> Self
+        ensures { result ≡ record { layout = self.now.layout; rules = [] } }
+    {
+        RuleSet::new(alloc, self.layout.copied())
     }
 
     /// How many rules the set holds.
