@@ -48,13 +48,13 @@ pub record CaptureRecord : Type 0 where
   pub link : Link
   pub bytes : List ℕ
 
--- the records of a capture, and the fault that ends it, or none where it ends whole
-pub record CaptureView : Type 0 where
+-- what a capture holds: its records, and the fault that ends it, or none where it ends whole
+pub record Recorded : Type 0 where
   pub records : List CaptureRecord
   pub fault : Option CaptureFault
 
 -- what stands next, and then what `rest` makes of the bytes behind it
-abbrev pub onward : Link → Next → (List ℕ → CaptureView) → CaptureView
+abbrev pub onward : Link → Next → (List ℕ → Recorded) → Recorded
 onward link End rest = record { records = []; fault = None }
 onward link (Record captured behind) rest =
     record {
@@ -65,24 +65,24 @@ onward link (Fault fault) rest = record { records = []; fault = Some fault }
 
 -- The records of the bytes that are left behind so many records. Each record takes bytes away, so
 -- that as much fuel as there are bytes is enough.
-abbrev pub records_within : ℕ → Start → ℕ → List ℕ → CaptureView
+abbrev pub records_within : ℕ → Start → ℕ → List ℕ → Recorded
 records_within zero start count left = record { records = []; fault = None }
 records_within (suc fuel) start count left =
     onward start.link (next_of start.order count left)
     (λ behind. records_within fuel start (count + 1) behind)
 
 -- the records of the bytes that are left behind so many records
-abbrev pub records_behind : Start → ℕ → List ℕ → CaptureView
+abbrev pub records_behind : Start → ℕ → List ℕ → Recorded
 records_behind start count left = records_within (length left) start count left
 
 -- the records of a capture and its ending, or the fault of its file header
-abbrev pub capture_of : List ℕ → Result CaptureView CaptureFault
+abbrev pub capture_of : List ℕ → Result Recorded CaptureFault
 capture_of bytes = do
   start ← start_of bytes
   Ok (records_behind start 0 (drop file_header_len bytes))
 
 -- the records of a capture that has no fault in its file header
-abbrev pub records_in : Result CaptureView CaptureFault → List CaptureRecord
+abbrev pub records_in : Result Recorded CaptureFault → List CaptureRecord
 records_in (Ok capture) = capture.records
 records_in (Err fault) = []
 

@@ -1,8 +1,6 @@
 -- Examples of captures, each checked by evaluation.
 use Rattle.std.specs.Prelude.{◌≡◌, ℕ, List, [], ◌∷◌, ◌++◌, take, replicate, Some, None, Ok, Err, refl}
-use Rattle.pcap_reader.specs.declared.fault.CaptureFault.{CaptureFault}
 use Rattle.pcap_reader.specs.declared.fault.CaptureFault.TheVariants.{HeaderCut, RecordCut, RecordTooLong, TooManyRecords}
-use Rattle.pcap_reader.specs.declared.link.Link.{Link}
 use Rattle.pcap_reader.specs.declared.link.Link.TheVariants.{Ethernet, Ip6}
 use Rattle.pcap_reader.specs.declared.start.Order.TheVariants.{Big, Little}
 use Rattle.pcap_reader.specs.Capture.{CaptureRecord, End, Record, Fault, next_of, capture_of, whole_records}

@@ -34,3 +34,14 @@ pub enum CaptureFault {
     #[error("read fault")]
     ReadFault,
 }
+
+/// Why a capture isn't begun.
+#[derive(Clone, Copy, Debug, PartialEq, Eq, Error)]
+pub enum BeginFault {
+    /// The file header has a fault, or can't be read.
+    #[error("{0}")]
+    Capture(CaptureFault),
+    /// Memory ran out, before anything was read.
+    #[error("out of memory")]
+    OutOfMemory,
+}

@@ -1,12 +1,18 @@
 //! the bytes of a capture file → its records, or its first fault with the number of its record
 //!
-//! | module | what it reads |
+//! A [`Capture`] reads the opened file of a desk, record by record:
+//!
+//! | module | what it reads or says |
 //! |---|---|
+//! | `capture` | the way in: `begin`, and `next` for each record |
+//! | `record` | the file header, or a record, from the opened file |
+//! | `fill` | as many bytes as a slice has room for, or those up to the end of the file |
 //! | `header` | the numbers of both headers, in the order that the caller names |
 //! | `start` | what a file header says of the records: their byte order and link type |
 //! | `link` | the link types that are read |
 //! | `fault` | why a capture is refused |
-//! | `laws` | that the numbers are those of the format, in either order |
+//! | `progress` | whether a reader has records to give, has ended or has failed |
+//! | `laws` | that the numbers are those of the format, and how records follow one another |
 //!
 //! The format is that of libpcap's savefiles, version 2.4. The file header stands once, and a
 //! record header stands in front of the captured bytes of each record:
@@ -19,13 +25,20 @@
 //! them.
 #![tactic(auto)]
 
+mod capture;
 mod fault;
+mod fill;
 mod header;
 pub mod laws;
 mod link;
+mod progress;
+mod record;
 mod start;
+#[cfg(test)]
+mod tests;
 
-pub use fault::CaptureFault;
+pub use capture::Capture;
+pub use fault::{BeginFault, CaptureFault};
 pub use header::{FileHeader, RecordHeader, file_header, record_header};
 pub use link::Link;
 pub use start::Order;

@@ -1,0 +1,109 @@
+-- How a slice is filled part by part.
+use Rattle.std.proofs.Common.{◌≡◌, ℕ, ◌+◌, ◌<◌, ◌≤◌, List, [], ◌++◌, length, take, drop, Option, Some, None, Result, Ok, inl, inr, refl, sym, subst, ap, ◌∙◌, arith, add-zero, append-nil, length-take, length-drop, length-append}
+use Rattle.std.specs.Option.{option_map_or}
+use Rattle.std.proofs.Math.Seq.{take-append-add}
+use Rattle.std.proofs.lemmas.Bool.{lt-ltb, le-ltb}
+use Rattle.std.proofs.lemmas.List.{length-take-le, take-append-le}
+use borrow.Rule.Slice.PartMut.{put_mid}
+use Rattle.acl_outside.specs.Fault.{Rose}
+use Rattle.acl_outside.specs.Told.{Steps}
+use Rattle.acl_outside.specs.Desk.{Content, DeskView, Gives, ReadsInto}
+use Rattle.acl_outside.specs.Heard.{Ended, with_ending}
+use Rattle.acl_outside.specs.Reading.{ReadsOn, and_goes_on}
+use Rattle.pcap_reader.specs.Fill.{KeepsReading, IsAtEnd, after_fill}
+
+-- what was read behind the first len bytes stands behind them
+pub take-put_mid : (len size count : ℕ) (xs part : List ℕ) → len ≤ length xs → count ≤ length part →
+    take (len + count) (put_mid len size xs part) ≡ take len xs ++ take count part
+take-put_mid len size count xs part within read =
+    let rest : List ℕ = drop size (drop len xs) in
+    subst (λ k. take (k + count) (take len xs ++ (part ++ rest)) ≡ take len xs ++ take count (part ++ rest))
+    (length-take-le len xs within)
+    (take-append-add (take len xs) (part ++ rest) count) ∙
+    ap (λ ys. take len xs ++ ys) (take-append-le count part rest read)
+
+pub length-put_mid : (len size : ℕ) (xs part : List ℕ) → len + size ≤ length xs → length part ≡ size →
+    length (put_mid len size xs part) ≡ length xs
+length-put_mid len size xs part within fits =
+    omega (
+      arith,
+      fits,
+      length-append (take len xs) (part ++ drop size (drop len xs)),
+      length-append part (drop size (drop len xs)),
+      length-take len xs,
+      length-drop size (drop len xs),
+      length-drop len xs,
+    )
+
+-- nothing was read behind the first len bytes
+pub take-put_none : (len size : ℕ) (xs part : List ℕ) → len ≤ length xs →
+    take len (put_mid len size xs part) ≡ take len xs
+take-put_none len size xs part within =
+    ap (λ k. take k (put_mid len size xs part)) (sym (add-zero len))
+    ∙ take-put_mid len size 0 xs part within (omega arith) ∙ append-nil (take len xs)
+
+-- fewer bytes than there was room for: the end was met
+pub after_fill-short : (room count : ℕ) (bytes : List ℕ) (old new : DeskView) → count < room →
+    ReadsOn (with_ending Ended) bytes old new → ReadsOn (after_fill room count) bytes old new
+after_fill-short room count bytes old new less reads = rw (lt-ltb count room less) reads
+
+-- as many bytes as there was room for
+pub after_fill-full : (room count : ℕ) (bytes : List ℕ) (old new : DeskView) → room ≤ count →
+    ReadsOn and_goes_on bytes old new → ReadsOn (after_fill room count) bytes old new
+after_fill-full room count bytes old new full reads = rw (le-ltb count room full) reads
+
+-- a read more
+pub KeepsReading-read : {E : Type 0} (into_old into_new : List ℕ) (result : Result ℕ E) (old mid new : DeskView) →
+    KeepsReading old mid → ReadsInto into_old into_new mid new result → KeepsReading old new
+KeepsReading-read into_old into_new result old mid new keeps read = record {
+  reading = read.reading ∙ keeps.reading;
+  absent = read.absent ∙ keeps.absent;
+  counts = record {
+    read_faults = omega (arith, keeps.counts.read_faults, read.counts.read_faults);
+    absent = omega (arith, keeps.counts.absent, read.counts.absent);
+  };
+}
+
+-- A fault that is counted in a later call is counted over both.
+pub Rose-later : (old mid new : DeskView) → KeepsReading old mid → Rose mid.read_faults new.read_faults →
+    Rose old.read_faults new.read_faults
+Rose-later old mid new keeps rose = omega (arith, keeps.counts.read_faults, rose)
+
+-- nothing was left, and nothing was given
+at_end_after : (mid new : Option Content) → ((content : Content) → mid ≡ Some content → content.left ≡ []) →
+    Steps (Gives []) mid new →
+    (content : Content) → new ≡ Some content → content.left ≡ []
+at_end_after None None ended step content is = absurd (cc)
+at_end_after (Some old) (Some now) ended step content is =
+    let left : Option Content → List ℕ = λ told. option_map_or (λ (c : Content). c.left) told [] in
+    sym (ap left is) ∙ sym step.left ∙ ended old refl
+at_end_after None (Some now) ended step content is = absurd step
+at_end_after (Some old) None ended step content is = absurd step
+
+-- The end of the file was met, as a read with some room gave nothing.
+pub IsAtEnd-read : {E : Type 0} (into_old into_new : List ℕ) (mid new : DeskView) → 0 < length into_old →
+    ReadsInto {E = E} into_old into_new mid new (Ok 0) → IsAtEnd new
+IsAtEnd-read into_old into_new mid new room read = elim (read.end refl) [
+  | inl empty ↦ absurd (omega (arith, room, ap length empty))
+  | inr ended ↦ at_end_after mid.content new.content ended read.given
+]
+
+-- and back: a slice that is full leaves the reading as it stands
+pub reads-full : (room count : ℕ) (bytes : List ℕ) (old new : DeskView) → room ≤ count →
+    ReadsOn (after_fill room count) bytes old new → ReadsOn and_goes_on bytes old new
+reads-full room count bytes old new full reads = rw (le-ltb count room full) at reads
+
+-- and a slice that isn't full met the end
+pub reads-short : (room count : ℕ) (bytes : List ℕ) (old new : DeskView) → count < room →
+    ReadsOn (after_fill room count) bytes old new → ReadsOn (with_ending Ended) bytes old new
+reads-short room count bytes old new less reads = rw (lt-ltb count room less) at reads
+
+pub KeepsReading-join : (old mid new : DeskView) → KeepsReading old mid → KeepsReading mid new → KeepsReading old new
+KeepsReading-join old mid new a b = record {
+  reading = b.reading ∙ a.reading;
+  absent = b.absent ∙ a.absent;
+  counts = record {
+    read_faults = omega (arith, a.counts.read_faults, b.counts.read_faults);
+    absent = omega (arith, a.counts.absent, b.counts.absent);
+  };
+}

@@ -1,0 +1,5 @@
+mod CaptureLaws
+mod FillLaws
+mod NextLaws
+mod ReaderLaws
+mod StartLaws

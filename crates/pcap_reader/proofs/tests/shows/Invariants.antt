@@ -1,0 +1,10 @@
+use Rattle.std.proofs.Common.{◌≡◌, false}
+use Rattle.std.specs.Bool.{IsTrue}
+use Rattle.pcap_reader.specs.Reader.{has_failed}
+use Rattle.pcap_reader.proofs.tests.shows.Given as goal
+
+abbrev pub invariant-loop-record : goal.invariant-loop-record
+invariant-loop-record g l = record {
+  reading : IsTrue (g.D.Desk.view l.desk).reading;
+  unfailed : has_failed l.capture.progress ≡ false;
+}

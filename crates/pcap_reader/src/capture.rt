@@ -1,0 +1,126 @@
+//! A capture that is read record by record.
+
+ghost use Rattle.std.specs.Prelude.{◌≡◌, IsTrue, false};
+ghost use Rattle.pcap_reader.specs.Reader.{Begins, TakesNext, answer_of, has_failed};
+
+use crate::fault::{BeginFault, CaptureFault};
+use crate::link::Link;
+use crate::progress::Progress;
+use crate::record::{MAX_CAPTURED, read_file_header, read_record};
+use crate::start::Start;
+use acl_outside::Desk;
+use std::alloc::{AllocError, Global};
+use std::marker::Model;
+
+/// A capture that is read record by record from the opened file of a desk.
+///
+/// It holds one buffer of 262,144 bytes, into which each record is read, and what its file header
+/// says.
+/// The desk is lent to each call, and must have the same file opened.
+#[derive(Drop)]
+pub struct Capture {
+    start: Start,
+    /// How many records were given.
+    count: u64,
+    progress: Progress,
+    /// Room for the captured bytes of a record.
+    buffer: Vec<u8>,
+}
+
+impl Model for Capture {
+    ghost use Rattle.std.specs.Prelude.{◌≡◌, vec_len};
+    ghost use Rattle.pcap_reader.specs.Capture.{max_captured};
+    ghost use Rattle.pcap_reader.specs.Reader.{CaptureState, state_of};
+
+    ghost Value = { CaptureState };
+
+    ghost view = { λ capture. state_of capture.start capture.count capture.progress };
+
+    ghost invariant = { λ capture. vec_len capture.buffer ≡ max_captured };
+}
+
+impl Capture {
+    ghost use Rattle.std.specs.Borrow.{sem};
+    ghost use Rattle.pcap_reader.specs.Lending.{GoesOnAs};
+
+    /// Begins to read the opened file as a capture: takes the buffer, and reads the file header.
+    ///
+    /// A file has to be opened, and is read from where it stands. [`BeginFault::OutOfMemory`] comes
+    /// before
+    /// anything is read. No other call takes memory. Source: libpcap savefile format, file header.
+    pub fn begin<D: Desk>(alloc: Global, desk: &mut D) -> Result<Capture, BeginFault>
+        requires { IsTrue (D.view desk.old).reading }
+        ensures { Begins (D.view desk.old) (D.view desk.new) result }
+    {
+        let mut buffer = Vec::new(alloc);
+        match buffer.resize(MAX_CAPTURED, 0) {
+            Ok(()) => {}
+            Err(AllocError) => return Err(BeginFault::OutOfMemory),
+        }
+        match read_file_header(desk) {
+            Ok(start) => Ok(Capture {
+                start,
+                count: 0,
+                progress: Progress::Reading,
+                buffer,
+            }),
+            Err(fault) => Err(BeginFault::Capture(fault)),
+        }
+    }
+
+    /// The captured bytes of the next record, or `None` at the end of the file.
+    ///
+    /// The file has to be opened still, and no earlier call may have failed. The bytes are read
+    /// into the
+    /// buffer, and no byte is asked for beyond the record. After `None` it answers `None` again,
+    /// and asks
+    /// for nothing. A fault that isn't [`CaptureFault::ReadFault`] is that of the capture, whose
+    /// numbers
+    /// count records from 1. Source: libpcap savefile format, per-packet header.
+    pub fn next<D: Desk>(&mut self, desk: &mut D) -> Result<Option<&[u8]>, CaptureFault>
+        requires reading { IsTrue (D.view desk.old).reading }
+        requires unfailed { has_failed self.old.progress ≡ false }
+
+        ensures record { TakesNext self.old (D.view desk.old) (D.view desk.new) (answer_of result) }
+        ensures* goes_on { sem 𝓛 (GoesOnAs self.entry result) }
+    {
+        if self.progress == Progress::Ended {
+            return Ok(None);
+        }
+        match read_record(desk, self.start.order, self.count, &mut self.buffer) {
+            Ok(Some(len)) => {
+                self.count += 1;
+                Ok(Some(&self.buffer[..len]))
+            }
+            Ok(None) => {
+                self.progress = Progress::Ended;
+                Ok(None)
+            }
+            Err(fault) => {
+                self.progress = Progress::Failed;
+                Err(fault)
+            }
+        }
+    }
+
+    /// The link type of all records.
+    pub fn link(&self) -> Link
+        ensures { result ≡ self.now.start.link }
+    {
+        self.start.link
+    }
+
+    /// How many records were given.
+    pub fn count(&self) -> u64
+        ensures { result ≡ self.now.count }
+    {
+        self.count
+    }
+
+    /// Whether an earlier call answered a fault.
+    pub fn failed(&self) -> bool
+        ensures { result ≡ has_failed self.now.progress }
+    {
+        self.progress == Progress::Failed
+    }
+}
