@@ -1,0 +1,13 @@
+-- So many of the answers have been written, each in the room for one.
+use Rattle.std.proofs.Common.{◌≡◌, ◌+◌, ◌*◌, ◌≤◌, ◌++◌, length, map, take}
+use Rattle.acl_report.specs.declared.packet.TheConstants.{VERDICT_ROOM}
+use Rattle.acl_report.specs.Line.{spaced}
+use Rattle.acl_report.specs.Packet.{answers, answer_word}
+use Rattle.acl_report.proofs.packet.append_answers.Given as goal
+
+abbrev pub invariant-loop-verdict : goal.invariant-loop-verdict
+invariant-loop-verdict l = record {
+  room : l.at ≤ l.start + length l.yielded * VERDICT_ROOM;
+  line : take l.at l.into ≡ take l.start l.fn.into
+      ++ spaced (map answer_word (take (length l.yielded) (answers l.verdicts l.dashes)));
+}

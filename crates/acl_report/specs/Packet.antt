@@ -1,0 +1,38 @@
+-- The line of a packet: what is printed of a record of a capture.
+use Rattle.std.specs.Prelude.{ℕ, List, [], ◌∷◌, map, Bool, Option, Some, None, codes, decimal}
+use Rattle.std.specs.Prelude.{if◌then◌else◌}
+use Rattle.std.specs.List.{zip}
+use Rattle.header_extract.specs.declared.class.Class.{Class}
+use Rattle.header_extract.specs.declared.class.Class.TheVariants.{Ip4, Ip6, Other, Short}
+use Rattle.acl_report.specs.Line.{line_of}
+
+abbrev pub class_word : Class → List ℕ
+class_word Ip4 = codes "ip4"
+class_word Ip6 = codes "ip6"
+class_word Other = codes "other"
+class_word Short = codes "short"
+
+-- what a category says of a packet: the userdata of the rule that wins, or a dash
+abbrev pub answer_word : Option ℕ → List ℕ
+answer_word (Some userdata) = decimal userdata
+answer_word None = codes "-"
+
+-- a frame without a packet has one dash in the place of all categories
+abbrev pub answer_words : Class → List (Option ℕ) → List (List ℕ)
+answer_words Ip4 answers = map answer_word answers
+answer_words Ip6 answers = map answer_word answers
+answer_words Other answers = answer_word None ∷ []
+answer_words Short answers = answer_word None ∷ []
+
+-- the line of a packet: its number, its class, and what each category says, from category 0 on
+abbrev pub packet_text : ℕ → Class → List (Option ℕ) → List ℕ
+packet_text number class answers =
+    line_of (decimal number) (class_word class ∷ answer_words class answers)
+
+-- a verdict, or none where a dash stands for it
+abbrev pub answer : ℕ → Bool → Option ℕ
+answer verdict dash = if dash then None else Some verdict
+
+-- the verdicts, and none where a dash stands
+abbrev pub answers : List ℕ → List Bool → List (Option ℕ)
+answers verdicts dashes = map (λ pair. answer pair.0 pair.1) (zip verdicts dashes)

@@ -1,0 +1,85 @@
+//! The line of a packet.
+
+ghost use Rattle.std.specs.Prelude.{◌≡◌, ◌+◌, ◌*◌, ◌≤◌, ◌∷◌, ◌++◌, length, map, take};
+ghost use Rattle.acl_report.specs.declared.line.TheConstants.{LINE_ROOM};
+ghost use Rattle.acl_report.specs.declared.packet.TheConstants.{MAX_VERDICTS, VERDICT_ROOM};
+ghost use Rattle.acl_report.specs.Line.{space, spaced};
+ghost use Rattle.acl_report.specs.Packet.{answer, answers, answer_word, packet_text};
+
+use crate::line::{LINE_ROOM, append, append_number};
+use header_extract::Class;
+
+/// How many categories a line shows at most.
+pub const MAX_VERDICTS: usize = 16;
+
+/// How many bytes a verdict takes at most: a space, and 32 bits in decimal digits.
+const VERDICT_ROOM: usize = 11;
+
+/// Writes the line of a packet to the front of `into`, and gives its length with its LF.
+///
+/// The line has the packet's number, the word of its class, and a word for each category: the
+/// verdict, or `-` where its dash is true. A class that has no key has a single `-` in their place.
+/// `verdicts` and `dashes` have an entry for each category, from category 0 on. It takes no memory.
+pub fn packet_line(
+    number: u64,
+    class: Class,
+    verdicts: &[u32],
+    dashes: &[bool],
+    into: &mut [u8; LINE_ROOM],
+) -> usize
+    requires categories { length verdicts.now ≤ MAX_VERDICTS }
+    requires dashes { length dashes.now ≡ length verdicts.now }
+    ensures within { result ≤ LINE_ROOM }
+    ensures line { take result into.new
+        ≡ packet_text number class (answers verdicts.now dashes.now) }
+{
+    let at = append_number(into, 0, number);
+    let at = match class {
+        Class::Ip4 => {
+            let at = append(into, at, b" ip4");
+            append_answers(into, at, verdicts, dashes)
+        }
+        Class::Ip6 => {
+            let at = append(into, at, b" ip6");
+            append_answers(into, at, verdicts, dashes)
+        }
+        Class::Other => append(into, at, b" other -"),
+        Class::Short => append(into, at, b" short -"),
+    };
+    append(into, at, b"\n")
+}
+
+/// Writes a word for each category, each behind a space.
+fn append_answers(
+    into: &mut [u8; LINE_ROOM],
+    start: usize,
+    verdicts: &[u32],
+    dashes: &[bool],
+) -> usize
+    requires dashes { length dashes.now ≡ length verdicts.now }
+    requires room { start + length verdicts.now * VERDICT_ROOM ≤ LINE_ROOM }
+    ensures end { result ≤ start + length verdicts.now * VERDICT_ROOM }
+    ensures line { take result into.new
+        ≡ take start into.old ++ spaced (map answer_word (answers verdicts.now dashes.now)) }
+{
+    let mut at = start;
+    for (&verdict, &dash) in verdicts.iter().zip(dashes) {
+        at = append_answer(into, at, verdict, dash);
+    }
+    at
+}
+
+/// Writes the word of one category behind a space.
+fn append_answer(into: &mut [u8; LINE_ROOM], at: usize, verdict: u32, dash: bool) -> usize
+    requires { at + VERDICT_ROOM ≤ LINE_ROOM }
+    ensures end { result ≤ at + VERDICT_ROOM }
+    ensures line { take result into.new
+        ≡ take at into.old ++ space ∷ answer_word (answer verdict dash) }
+{
+    let at = append(into, at, b" ");
+    if dash {
+        append(into, at, b"-")
+    } else {
+        append_number(into, at, verdict)
+    }
+}
