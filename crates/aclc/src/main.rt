@@ -2,11 +2,11 @@
 //! exit code out.
 #![tactic(auto)]
 
-ghost use Rattle.std.specs.Prelude.{◌≡◌, map, string_bytes};
+ghost use Rattle.std.specs.Prelude.{◌≡◌, None, drop, map, string_bytes, IfSome};
+ghost use Rattle.std.specs.Vec.Iter.{into_iter_items};
 ghost use Rattle.acl_tool.specs.declared.status.Status.{Status};
-ghost use Rattle.acl_tool.specs.Command.{command};
-ghost use Rattle.acl_tool.specs.Message.{code_of, message};
-ghost use Rattle.acl_tool.specs.Effects.{Ends, PutsLine};
+ghost use Rattle.acl_tool.specs.Message.{code_of};
+ghost use Rattle.acl_tool.specs.Effects.{Runs, outside};
 
 use acl_outside::{Desk, Sink, StdDesk, StdSink};
 use acl_tool::run;
@@ -14,36 +14,59 @@ use std::alloc::Global;
 use std::env;
 use std::process::ExitCode;
 
+#[cfg(test)]
+mod tests;
+
 /// The exit code where the words can't be had from the system, as where one isn't UTF-8. No status has it.
 const NO_WORDS: u8 = 1;
 
 fn main(rt: HostRuntime) -> ExitCode {
-    let Some(words) = words_behind_name(&rt) else {
-        return ExitCode::from(NO_WORDS);
+    let words = match env::args(&rt) {
+        Ok(args) => all_words(rt.alloc(), args),
+        Err(_) => None,
     };
     let mut desk = StdDesk::new(&rt);
     let mut out = StdSink::new(rt.stdout());
     let mut err = StdSink::new(rt.stderr());
-    ExitCode::from(exit_code(rt.alloc(), &words, &mut desk, &mut out, &mut err))
+    ExitCode::from(exit_code(rt.alloc(), words, &mut desk, &mut out, &mut err))
 }
 
-/// Runs the command that the words are, over any files and streams, and gives the exit code of its status.
+/// All words of a command line, with the program's name in front, or `None` where there is no memory for them.
+fn all_words(alloc: Global, args: env::Args) -> Option<Vec<String>>
+    ensures { IfSome result (λ words. words.items ≡ into_iter_items args) }
+{
+    args.collect(alloc).ok()
+}
+
+/// Runs the command that stands behind the program's name, over any files and streams, and gives the exit code of its
+/// status, or `NO_WORDS` where there are no words.
 fn exit_code<D: Desk, O: Sink, E: Sink>(
     alloc: Global,
-    words: &[String],
+    words: Option<Vec<String>>,
     desk: &mut D,
     out: &mut O,
     err: &mut E,
 ) -> u8
-    // The code is that of a status with which the command may end on what it was lent.
-    ensures { (status : Status) × (result ≡ code_of status)
-        × Ends (command (map string_bytes words.now)) (D.view desk.old) (D.view desk.new) (O.view out.old) (O.view out.new) status
-        × PutsLine (message status) (E.view err.old) (E.view err.new) }
+    // The code is that of the status with which the command ended, and all that `run` promises holds.
+    ensures ran { IfSome words (λ all. (status : Status) × (result ≡ code_of status)
+        × Runs (map string_bytes (drop 1 all.items)) (outside (D.view desk.old) (O.view out.old))
+        (outside (D.view desk.new) (O.view out.new)) (E.view err.old) (E.view err.new) status) }
+    // Nothing is asked or printed where there are no words.
+    ensures no_words { words ≡ None → (result ≡ NO_WORDS) × (outside (D.view desk.new) (O.view out.new) ≡ outside (D.view desk.old) (O.view out.old))
+        × (E.view err.new ≡ E.view err.old) }
 {
-    run(alloc, words, desk, out, err).code()
+    match words {
+        Some(all) => run(alloc, behind_name(&all), desk, out, err).code(),
+        None => NO_WORDS,
+    }
 }
 
-/// The words behind the program's name.
-fn words_behind_name(rt: &HostRuntime) -> Option<Vec<String>> {
-    env::args(rt).ok()?.skip(1).collect(rt.alloc()).ok()
+/// The words behind the first, which is the program's name.
+fn behind_name(all: &[String]) -> &[String]
+    ensures { result.now ≡ drop 1 all.now }
+{
+    match all {
+        [] => &[],
+        [_, words @ ..] => words,
+    }
 }
