@@ -44,7 +44,7 @@ next_of-shorter order count left =
     ]
 
 -- what stands next is one of three
-next_cases : (next : Next) →
+pub next_cases : (next : Next) →
     (next ≡ End) ⊎ (((captured : List ℕ) × (behind : List ℕ) × (next ≡ Record captured behind)) ⊎
     ((fault : CaptureFault) × (next ≡ Fault fault)))
 next_cases End = inl refl

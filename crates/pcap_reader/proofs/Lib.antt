@@ -1,3 +1,4 @@
+mod AnswersLaws
 mod CaptureLaws
 mod FillLaws
 mod NextLaws

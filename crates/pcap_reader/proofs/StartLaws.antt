@@ -7,7 +7,7 @@ use Rattle.acl_outside.specs.Desk.{DeskView, Gives}
 use Rattle.acl_outside.specs.Reading.{ReadsOn, and_goes_on}
 use Rattle.acl_outside.proofs.ToldLaws.{Steps-weaker}
 use Rattle.pcap_reader.specs.declared.fault.CaptureFault.{CaptureFault}
-use Rattle.pcap_reader.specs.declared.fault.CaptureFault.TheVariants.{HeaderCut, Magic, Version, LinkType, RecordCut, RecordTooLong, TooManyRecords, ReadFault}
+use Rattle.pcap_reader.specs.declared.fault.CaptureFault.TheVariants.{Magic, Version, LinkType, ReadFault}
 use Rattle.pcap_reader.specs.declared.header.FileHeader.{FileHeader}
 use Rattle.pcap_reader.specs.declared.link.Link.{Link}
 use Rattle.pcap_reader.specs.declared.start.Order.{Order}
@@ -70,11 +70,7 @@ answer-left header left behind (Err Version) whole says judged is_left = ap star
     ∙ start_of-append header behind whole ∙ says
 answer-left header left behind (Err LinkType) whole says judged is_left = ap start_of is_left
     ∙ start_of-append header behind whole ∙ says
-answer-left header left behind (Err HeaderCut) whole says judged is_left = absurd judged
-answer-left header left behind (Err (RecordCut number)) whole says judged is_left = absurd judged
-answer-left header left behind (Err (RecordTooLong number)) whole says judged is_left = absurd judged
-answer-left header left behind (Err TooManyRecords) whole says judged is_left = absurd judged
-answer-left header left behind (Err ReadFault) whole says judged is_left = absurd judged
+answer-left header left behind (Err fault) whole says judged is_left = absurd judged
 
 -- the reading goes on behind a whole header
 reads-judged : (header : List ℕ) (old new : DeskView) (result : Result Start CaptureFault) → IsJudged result →
@@ -83,11 +79,7 @@ reads-judged header old new (Ok start) judged reads = reads
 reads-judged header old new (Err Magic) judged reads = reads
 reads-judged header old new (Err Version) judged reads = reads
 reads-judged header old new (Err LinkType) judged reads = reads
-reads-judged header old new (Err HeaderCut) judged reads = absurd judged
-reads-judged header old new (Err (RecordCut number)) judged reads = absurd judged
-reads-judged header old new (Err (RecordTooLong number)) judged reads = absurd judged
-reads-judged header old new (Err TooManyRecords) judged reads = absurd judged
-reads-judged header old new (Err ReadFault) judged reads = absurd judged
+reads-judged header old new (Err fault) judged reads = absurd judged
 
 no_read_fault : (result : Result Start CaptureFault) (before now : ℕ) → IsJudged result → result ≡ Err ReadFault →
     Rose before now

@@ -5,4 +5,6 @@ pub mod StartExamples
 pub mod Capture
 pub mod CaptureExamples
 pub mod Reader
+pub mod Answers
+pub mod AnswersExamples
 pub mod Lending

@@ -1,11 +1,16 @@
 //! Laws over the definitions of the headers and of a capture. Their functions do nothing when they
 //! are run, and take no memory.
 
-ghost use Rattle.std.specs.Prelude.{◌≡◌, ◌+◌, ℕ};
+ghost use Rattle.std.specs.Prelude.{◌≡◌, ◌+◌, ℕ, List, [], ◌++◌, Ok, Err, drop, true};
+ghost use Rattle.std.specs.List.{concat};
 ghost use Rattle.byteorder.specs.Endian.{big_number, little_number};
 ghost use Rattle.pcap_reader.specs.Headers.{file_header_by, file_header_of, record_header_by, record_header_of};
+ghost use Rattle.pcap_reader.specs.declared.fault.CaptureFault.{CaptureFault};
 ghost use Rattle.pcap_reader.specs.declared.start.Start.{Start};
-ghost use Rattle.pcap_reader.specs.Capture.{records_behind, onward, next_of};
+ghost use Rattle.pcap_reader.specs.Capture.{records_behind, onward, next_of, capture_of, whole_records};
+ghost use Rattle.pcap_reader.specs.Start.{start_of, file_header_len};
+ghost use Rattle.pcap_reader.specs.Reader.{IsStart};
+ghost use Rattle.pcap_reader.specs.Answers.{Answer, AreAnswersOn, AreAnswersTo, have_ending, recorded_by, records_given};
 
 use crate::start::Order;
 
@@ -30,4 +35,30 @@ pub fn each_record_is_next(left: &[u8])
     ensures { (start : Start) (count : ℕ) → records_behind start count left.now
         ≡ onward start.link (next_of start.order count left.now)
         (λ behind. records_behind start (count + 1) behind) }
+{}
+
+/// Over `begin` and the calls of `next`, for any desk: the records given are the whole records of
+/// the bytes
+/// that the desk gave, and none where `begin` met a fault. Once the end or a fault of the capture
+/// was answered, records, link type and ending are
+/// those of the capture that these bytes are.
+pub fn answers_are_those_of_the_bytes_given(header: &[u8])
+    ensures none { (fault : CaptureFault) → IsStart header.now [] (Err fault) →
+        whole_records header.now ≡ [] }
+    ensures records { (start : Start) (pieces : List (List ℕ)) (answers : List Answer) →
+        IsStart header.now [] (Ok start) → AreAnswersTo start.order 0 pieces answers →
+        whole_records (header.now ++ concat pieces) ≡ records_given start.link answers }
+    ensures capture { (start : Start) (pieces : List (List ℕ)) (answers : List Answer) →
+        IsStart header.now [] (Ok start) → AreAnswersTo start.order 0 pieces answers →
+        have_ending answers ≡ true →
+        capture_of (header.now ++ concat pieces) ≡ Ok (recorded_by start.link answers) }
+{}
+
+/// Over `begin` and the calls of `next`, where the file is told: once the end or a fault of the
+/// capture was
+/// answered, records, link type and ending are those of the capture that the file is.
+pub fn answers_are_those_of_the_file(file: &[u8])
+    ensures { (start : Start) (answers : List Answer) → start_of file.now ≡ Ok start →
+        AreAnswersOn start.order 0 (drop file_header_len file.now) answers →
+        have_ending answers ≡ true → capture_of file.now ≡ Ok (recorded_by start.link answers) }
 {}
