@@ -1,8 +1,10 @@
 -- Which numbers are numbers of a size.
-use Rattle.std.proofs.Common.{◌≡◌, ℕ, ◌*◌, ◌/◌, ◌^◌, ◌<◌, ◌≤◌, ◌==◌, true, nat_lt, sym, ◌∙◌, inl, inr, arith}
+use Rattle.std.proofs.Common.{IsTrue, ◌≡◌, ℕ, ◌*◌, ◌/◌, ◌^◌, ◌<◌, ◌≤◌, ◌==◌, true, nat_lt, sym, ◌∙◌, inl, inr, arith}
 use Rattle.std.proofs.Math.Nat.{pow-le-pow_right, div-eq_of_lt}
 use Rattle.std.proofs.lemmas.Nat.{pow_pos, le-div}
 use Rattle.std.proofs.lemmas.Bool.{cases_lt, lt-ltb, le-ltb, eq-eqb, ne_eqb}
+use Rattle.std.proofs.lemmas.Bool.Decides.{nat_tests}
+use Rattle.field_defs.specs.FieldMatch.{is_size}
 use Rattle.byte_numbers.proofs.Powers.{bytes_as_bits}
 
 -- a number of 64 bits is a number of eight bytes and of more
@@ -21,3 +23,10 @@ nothing_behind_the_bits number size = rw (← bytes_as_bits size)
           le-div 1 number (2 ^ (8 * size)) (pow_pos (8 * size)) (omega arith) in
           ne_eqb _ _ (λ none. omega arith) ∙ sym (le-ltb _ _ above)
     ])
+
+-- a field has at least one byte and at most eight
+pub size_at_most_8 : (size : ℕ) → IsTrue (is_size size) → size ≤ 8
+size_at_most_8 size is = grind (arith, nat_tests)
+
+pub size_at_least_1 : (size : ℕ) → IsTrue (is_size size) → 0 < size
+size_at_least_1 size is = grind (arith, nat_tests)

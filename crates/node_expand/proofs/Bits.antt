@@ -12,13 +12,6 @@ use Rattle.field_defs.specs.declared.field.FieldValue.TheVariants.{Bitmask}
 use Rattle.node_expand.specs.Rest.{live_where, rest_after, rest_step}
 use Rattle.node_expand.proofs.Ranges.{rest_whole, rest_open, count_pos}
 
--- bytes by their bits
-pub count_as_bits : (bytes : ℕ) → 256 ^ bytes ≡ 2 ^ (8 * bytes)
-count_as_bits zero = refl
-count_as_bits (suc bytes) =
-    let bits : 8 * suc bytes ≡ 8 * bytes + 8 = omega arith in
-    pow-suc 256 bytes ∙ rw (bits, pow-add 2 (8 * bytes) 8, count_as_bits bytes) refl
-
 -- two numbers are one where their blocks are
 eqb-blocks : (a b c d : ℕ) → b < 256 → d < 256 → eqb (a * 256 + b) (c * 256 + d) ≡ (eqb a c && eqb b d)
 eqb-blocks a b c d short short' =

@@ -9,6 +9,7 @@ use Rattle.std.proofs.Math.Pow.{ones_split}
 use Rattle.std.proofs.lemmas.Nat.{pow_pos, div-add-mod', mod_below, mod-mul-add, le-div}
 use Rattle.std.proofs.lemmas.Bool.{cases_lt, cases_eq, le-leb, lt-leb, lt-ltb, le-ltb, eq-eqb, ne_eqb}
 use Rattle.std.proofs.lemmas.Bool.Decides.{nat_tests}
+use Rattle.byte_numbers.proofs.Powers.{bytes_as_bits}
 use Rattle.field_defs.specs.declared.field.FieldValue.{FieldValue}
 use Rattle.field_defs.specs.declared.field.FieldValue.TheVariants.{Mask, Range, Bitmask}
 use Rattle.field_defs.specs.FieldMatch.{is_size}
@@ -19,7 +20,7 @@ use Rattle.node_expand.specs.declared.edge.Edge.TheVariants.{Free}
 use Rattle.node_expand.specs.Rest.{Interval, part, mask_low, mask_high, live_where, rest_after, rest_step}
 use Rattle.node_expand.specs.Edges.{edge_of, has_low, has_high, rest_of, edge_step, StandsBefore}
 use Rattle.node_expand.specs.Allowed.{answer_of, between, IsFilled}
-use Rattle.node_expand.proofs.Bits.{count_as_bits, byte_of_end, bitmask_rest}
+use Rattle.node_expand.proofs.Bits.{byte_of_end, bitmask_rest}
 use Rattle.node_expand.proofs.Completions.{rests_hold_completions}
 use Rattle.node_expand.proofs.EdgeRests.{rest_of_open, edge_says_rest}
 use Rattle.node_expand.proofs.Parts.{part_none, part_some}
@@ -108,7 +109,7 @@ greatest_end bytes within =
     let bits : 64 - 8 * bytes + 8 * bytes ≡ 64 = omega arith in
     let parts : 2 ^ 64 - 1 ≡ (2 ^ (64 - 8 * bytes) - 1) * 2 ^ (8 * bytes) + (2 ^ (8 * bytes) - 1) =
     rw bits at (ones_split (64 - 8 * bytes) (8 * bytes)) in
-    rw (parts, count_as_bits bytes) (mod-mul-add (2 ^ (64 - 8 * bytes) - 1) (2 ^ (8 * bytes)) (2 ^ (8 * bytes) - 1)
+    rw (parts, ← bytes_as_bits bytes) (mod-mul-add (2 ^ (64 - 8 * bytes) - 1) (2 ^ (8 * bytes)) (2 ^ (8 * bytes) - 1)
     (omega (arith, pow_pos (8 * bytes))))
 
 -- an end that is inner keeps its last bytes, and another one is outermost in these
@@ -220,7 +221,7 @@ bytes_of_ends low high size place edge = between (if has_low edge then low else 
 pub shift_count : (size place : ℕ) → 2 ^ (8 * (size - 1 - place)) ≡ 256 ^ (size - (place + 1))
 shift_count size place =
     let behind : size - 1 - place ≡ size - (place + 1) = omega arith in
-    rw behind (sym (count_as_bits (size - (place + 1))))
+    rw behind (bytes_as_bits (size - (place + 1)))
 
 -- what a range allows
 pub range_answers : (low high size place : ℕ) (edge : Edge) → size ≤ 8 → place < size →
@@ -278,10 +279,3 @@ agreeing_answer value mask size place byte edge begun =
       numbers,
     )
     (sym (edge_of_live count _ ∙ rw (value_byte, mask_byte) refl))
-
--- the sizes of a field
-pub size_at_most_8 : (size : ℕ) → IsTrue (is_size size) → size ≤ 8
-size_at_most_8 size is = grind (arith, nat_tests)
-
-pub size_at_least_1 : (size : ℕ) → IsTrue (is_size size) → 0 < size
-size_at_least_1 size is = grind (arith, nat_tests)

@@ -4,6 +4,7 @@ use Rattle.std.proofs.Common.{eqb, Option, Some, None, IsSome, refl, sym, ◌∙
 use Rattle.std.specs.Prelude.{bit_and}
 use Rattle.std.proofs.lemmas.Nat.{pow_pos, mod_below, same_from_place, and_le_l}
 use Rattle.std.proofs.lemmas.Bool.{cases_lt, le-leb, leb-true, and_parts, and_from, eqb-true, eq-eqb}
+use Rattle.byte_numbers.proofs.Powers.{bytes_as_bits}
 use Rattle.field_defs.specs.declared.field.FieldValue.{FieldValue}
 use Rattle.field_defs.specs.declared.field.FieldValue.TheVariants.{Mask, Range, Bitmask}
 use Rattle.field_defs.specs.FieldMatch.{field_match}
@@ -12,7 +13,7 @@ use Rattle.node_expand.specs.Laws.{HoldsCompletions, RestsHoldCompletions}
 use Rattle.node_expand.proofs.Parts.{part_none, part_some}
 use Rattle.node_expand.proofs.Ranges.{closing, count_pos, range_rest, rest_whole, rest_as_range, mask_as_range}
 use Rattle.node_expand.proofs.EdgeRests.{live_only}
-use Rattle.node_expand.proofs.Bits.{count_as_bits, shared_by_block, shared_in_blocks, agrees, bitmask_rest}
+use Rattle.node_expand.proofs.Bits.{shared_by_block, shared_in_blocks, agrees, bitmask_rest}
 
 -- What a part says of the numbers behind the prefix.
 record HoldsPart (low high count prefix : ℕ) (found : Option Rest) : Type 0 where
@@ -142,7 +143,7 @@ bitmask_holds : (value mask size place prefix : ℕ) → place ≤ size →
     HoldsCompletions (Bitmask value mask) size place prefix
 bitmask_holds value mask size place prefix within =
     let left : ℕ = size - place in
-    let bits : 256 ^ left ≡ 2 ^ (8 * left) = count_as_bits left in
+    let bits : 256 ^ left ≡ 2 ^ (8 * left) = sym (bytes_as_bits left) in
     let is : rest_after (Bitmask value mask) size place prefix ≡ live_where (agrees value mask (256 ^ left) prefix) =
     bitmask_rest value mask size place prefix left (omega arith) in
     let live = some_live (agrees value mask (256 ^ left) prefix) in

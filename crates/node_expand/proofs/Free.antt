@@ -8,6 +8,7 @@ use Rattle.std.proofs.Math.Nat.{pow-suc, sub-zero, div-eq_of_lt, zero-div, mul-l
 use Rattle.std.proofs.Math.Numerals.{add-one}
 use Rattle.std.proofs.lemmas.Nat.{pow-add, pow_pos}
 use Rattle.std.proofs.lemmas.Bool.{and_parts, and_right, eqb-true, leb-true, ltb-true, le-ltb, false≢true}
+use Rattle.byte_numbers.proofs.Powers.{bytes_as_bits}
 use Rattle.field_defs.specs.declared.field.FieldValue.{FieldValue}
 use Rattle.field_defs.specs.declared.field.FieldValue.TheVariants.{Mask, Range, Bitmask}
 use Rattle.field_defs.specs.FieldMatch.{CanMatch, is_wild}
@@ -19,7 +20,7 @@ use Rattle.node_expand.specs.Edges.{is_bitmask, AreEnds, AnswersWithin}
 use Rattle.node_expand.specs.Laws.{WildValuesStayFree, FreeEdgesStayFree}
 use Rattle.node_expand.proofs.Parts.{part_some}
 use Rattle.node_expand.proofs.Ranges.{closing, count_pos, range_rest, rest_as_range}
-use Rattle.node_expand.proofs.Bits.{count_as_bits, bitmask_rest}
+use Rattle.node_expand.proofs.Bits.{bitmask_rest}
 use Rattle.node_expand.proofs.EdgeRests.{rest_of_open}
 use Rattle.node_expand.proofs.Changes.{one_edge}
 use Rattle.node_expand.proofs.AsRange.{as_its_range}
@@ -67,11 +68,11 @@ wild_after (Range low high) size place prefix can wild begun within =
     rw (first, last) (all_stays_free size place prefix begun within)
 wild_after (Mask value bits) size place prefix can wild begun within =
     let none : bits ≡ 0 = eqb-true bits 0 wild in
-    let fits : value < 2 ^ (8 * size) = rw (← count_as_bits size) (ltb-true value (256 ^ size) can.within_size) in
+    let fits : value < 2 ^ (8 * size) = rw (bytes_as_bits size) (ltb-true value (256 ^ size) can.within_size) in
     let lowest : mask_low value 0 size ≡ 0 = unfold mask_low in
     rw (sub-zero (8 * size), div-eq_of_lt fits) (omega arith) in
     let greatest : mask_high value 0 size ≡ 256 ^ size - 1 = unfold mask_high in
-    rw (sub-zero (8 * size), div-eq_of_lt fits, count_as_bits size) (omega arith) in
+    rw (sub-zero (8 * size), div-eq_of_lt fits, ← bytes_as_bits size) (omega arith) in
     rw none (sym ((as_its_range (Mask value 0) size).edge place prefix)
     ∙ rw (lowest, greatest) (all_stays_free size place prefix begun within))
 wild_after (Bitmask value mask) size place prefix can wild begun within =

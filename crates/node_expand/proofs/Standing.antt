@@ -5,6 +5,7 @@ use Rattle.std.specs.Option.{option_map, option_and_then}
 use Rattle.std.proofs.Math.Nat.{pow-suc, div-eq_of_lt, mul-le-mul_right}
 use Rattle.std.proofs.Math.Numerals.{add-one}
 use Rattle.std.proofs.lemmas.Nat.{pow-add, pow_pos, shr_below}
+use Rattle.byte_numbers.proofs.Powers.{bytes_as_bits}
 use Rattle.field_defs.specs.declared.field.FieldValue.{FieldValue}
 use Rattle.field_defs.specs.declared.field.FieldValue.TheVariants.{Mask, Range, Bitmask}
 use Rattle.node_expand.specs.declared.edge.Edge.{Edge}
@@ -13,7 +14,7 @@ use Rattle.node_expand.specs.Rest.{Interval, mask_low, mask_high, rest_after, re
 use Rattle.node_expand.specs.Edges.{edge_of, rest_of, edge_after, edge_step, StandsBefore}
 use Rattle.node_expand.proofs.Parts.{part_some}
 use Rattle.node_expand.proofs.Ranges.{rest_open, rest_as_range}
-use Rattle.node_expand.proofs.Bits.{count_as_bits, bitmask_rest}
+use Rattle.node_expand.proofs.Bits.{bitmask_rest}
 use Rattle.node_expand.proofs.Steps.{rest_steps}
 use Rattle.node_expand.proofs.EdgeRests.{edge_says_rest, edges_say}
 
@@ -34,9 +35,9 @@ unfolding mask_high
 mask_within value bits size within fits =
     let parts : bits + (8 * size - bits) ≡ 8 * size = omega arith in
     let whole : 2 ^ (8 * size) ≡ 2 ^ bits * 2 ^ (8 * size - bits) = rw parts at (pow-add 2 bits (8 * size - bits)) in
-    let short : value < 2 ^ (bits + (8 * size - bits)) = rw (parts, ← count_as_bits size) fits in
+    let short : value < 2 ^ (bits + (8 * size - bits)) = rw (parts, bytes_as_bits size) fits in
     let quotient : value / 2 ^ (8 * size - bits) < 2 ^ bits = shr_below value bits (8 * size - bits) short in
-    rw (count_as_bits size) (omega (
+    rw (← bytes_as_bits size) (omega (
       arith,
       whole,
       mul-le-mul_right (2 ^ (8 * size - bits)) quotient,

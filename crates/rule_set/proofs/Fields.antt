@@ -1,26 +1,22 @@
 -- A rule's values against a key, field by field.
 use Rattle.std.proofs.Common.{◌≡◌, ℕ, zero, suc, ◌+◌, ◌<◌, ◌≤◌, List, [], ◌∷◌, length, get_or, take, drop, true, ◌&&◌}
-use Rattle.std.proofs.Common.{IsTrue, sym, ap, ◌∙◌, refl, arith}
+use Rattle.std.proofs.Common.{sym, ap, ◌∙◌, refl, arith}
+use Rattle.std.specs.List.{AllZip}
 use Rattle.std.proofs.lemmas.List.{drop_more, drop_all}
-use Rattle.std.proofs.lemmas.Bool.Decides.{nat_tests}
 use Rattle.byte_numbers.specs.Number.{number_of}
 use Rattle.field_defs.specs.declared.field.FieldDef.{FieldDef}
 use Rattle.field_defs.specs.declared.field.FieldValue.{FieldValue}
-use Rattle.field_defs.specs.FieldMatch.{field_match, is_size, CanMatch}
+use Rattle.field_defs.specs.FieldMatch.{field_match, CanMatch}
 use Rattle.rule_set.specs.Rule.{CanMatchAll}
 use Rattle.rule_set.specs.Winner.{rule_match}
 
--- no field has more than eight bytes
-pub size_le_eight : (size : ℕ) → IsTrue (is_size size) → size ≤ 8
-size_le_eight size h = grind (arith, nat_tests)
-
--- there are as many values as fields
-pub length-values : (defs : List FieldDef) (values : List FieldValue) → CanMatchAll defs values →
+-- a relation at each place holds of lists of one length
+pub length-AllZip : (R : FieldDef → FieldValue → Type 0) (defs : List FieldDef) (values : List FieldValue) → AllZip R defs values →
     length values ≡ length defs
-length-values [] [] can = refl
-length-values [] (value ∷ values) can = absurd can
-length-values (def ∷ defs) [] can = absurd can
-length-values (def ∷ defs) (value ∷ values) can = ap suc (length-values defs values can.1)
+length-AllZip R [] [] all = refl
+length-AllZip R [] (value ∷ values) all = absurd all
+length-AllZip R (def ∷ defs) [] all = absurd all
+length-AllZip R (def ∷ defs) (value ∷ values) all = ap suc (length-AllZip R defs values all.1)
 
 can_match_at : (defs : List FieldDef) (values : List FieldValue) (i : ℕ) (d : FieldDef) (v : FieldValue) →
     CanMatchAll defs values → i < length defs → CanMatch (get_or values i v) (get_or defs i d).size

@@ -25,15 +25,8 @@ use Rattle.rule_set.specs.Lawful.{IsLawfulValue, IsLawfulTag, IsLawfulRule}
 use Rattle.rule_set.specs.Laws.{FaultlessRulesAreLawful}
 use Rattle.rule_set.specs.Rule.{RuleView, RuleSetView, CanMatchAll}
 use Rattle.rule_set.specs.RuleSet.{IsRuleSet}
+use Rattle.rule_set.proofs.Fields.{length-AllZip}
 use Rattle.rule_set.proofs.Passing.{no_place, passes_at, all_zip_from_places}
-
--- there are as many values as fields
-pub length-lawful : (layout : List FieldDef) (values : List FieldValue) → AllZip IsLawfulValue layout values →
-    length values ≡ length layout
-length-lawful [] [] lawful = refl
-length-lawful [] (v ∷ vs) lawful = absurd lawful
-length-lawful (d ∷ ds) [] lawful = absurd lawful
-length-lawful (d ∷ ds) (v ∷ vs) lawful = ap suc (length-lawful ds vs lawful.1)
 
 -- each value of a rule without fault is lawful for its field
 values_lawful : (layout : List FieldDef) (tag : RuleTag) (values : List FieldValue) → IsLayout layout →
@@ -101,7 +94,7 @@ no_fault : (layout : List FieldDef) (tag : RuleTag) (values : List FieldValue) �
     rule_fault layout tag values ≡ None
 unfolding rule_fault
 no_fault layout tag values lawful =
-    let counted = eq-eqb (length values) (length layout) (length-lawful layout values lawful.values) in
+    let counted = eq-eqb (length values) (length layout) (length-AllZip IsLawfulValue layout values lawful.values) in
     let kinds_fit = failing_place-none is_of_kind (λ def value fits. fits.kind) layout values lawful.values in
     let narrow = failing_place-none is_narrow
     (λ def value fits. fits.can_match.within_size) layout values lawful.values in

@@ -1,9 +1,16 @@
-//! Rules of one layout in, lawful rule sets and the verdict of the first matching rule of greatest
-//! priority out.
+//! rules of one layout, a key → a lawful set, a verdict, ranks
 //!
 //! A rule has a tag (categories, priority, userdata) and a value for each field of its layout.
 //! [`plain_verdict`] filters the list of the rules, and is what each faster way to a verdict has to
 //! equal. After the DPDK Programmer's Guide, "Packet Classification and Access Control".
+//!
+//! - `rule`: what a rule is, and how it is stored
+//! - `check`: whether a rule is lawful for a layout, and the first reason if it isn't
+//! - `set`: lawful rules of one layout, in the order in which they were added
+//! - `plain`: the verdict, by one pass over the rules
+//! - `rank`: numbers that say which of two rules wins
+//! - `categories`: how many categories a classification takes
+//! - `laws`: what lawful means field by field, and winners by priorities, places and ranks
 #![tactic(auto)]
 
 mod categories;

@@ -1,7 +1,7 @@
 use Rattle.node_expand.specs.Edges.{edge_of}
-use Rattle.node_expand.proofs.Bits.{count_as_bits}
+use Rattle.byte_numbers.proofs.Powers.{bytes_as_bits}
 use Rattle.node_expand.proofs.expand.whole_edge.Goals as goal
 
 pub returns : goal.returns
 unfolding edge_of
-returns c = rw (c.new.ensures, c.ones.ensures, c.from.ensures, count_as_bits c.args.size)
+returns c = rw (c.new.ensures, c.ones.ensures, c.from.ensures, ← bytes_as_bits c.args.size)

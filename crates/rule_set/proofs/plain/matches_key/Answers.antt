@@ -6,8 +6,9 @@ use Rattle.std.proofs.lemmas.Slice.Zip.{zip_turn, zip_end}
 use Rattle.byte_numbers.specs.Number.{number_of}
 use Rattle.field_defs.specs.declared.field.FieldDef.{FieldDef}
 use Rattle.field_defs.specs.FieldMatch.{field_match, CanMatch}
+use Rattle.field_defs.proofs.Sizes.{size_at_most_8}
 use Rattle.rule_set.specs.Winner.{rule_match}
-use Rattle.rule_set.proofs.Fields.{size_le_eight, length-values, can_match_pair, rule_match-drop, rule_match-drop_all}
+use Rattle.rule_set.proofs.Fields.{length-AllZip, can_match_pair, rule_match-drop, rule_match-drop_all}
 use Rattle.rule_set.proofs.plain.matches_key.Goals as goal
 
 pub network_number-requires : goal.network_number-requires
@@ -16,7 +17,7 @@ network_number-requires c =
     c.next.new.self _ (cc) (cc) c.loop-def.yielded_by _ c.in-Some.is c.next.ensures.steps in
     let can : CanMatch c.in-Some.value.now c.in-Some.def.now.size =
     can_match_pair _ _ _ _ _ c.requires.values turn.0 (turn.2 _) (turn.3 _) in
-    omega (arith, size_le_eight c.in-Some.def.now.size can.lawful_size)
+    omega (arith, size_at_most_8 c.in-Some.def.now.size can.lawful_size)
 
 pub field_matches-requires-clause-value : goal.field_matches-requires-clause-value
 field_matches-requires-clause-value c =
@@ -64,6 +65,6 @@ pub returns : goal.returns
 returns c =
     let all = zip_end c.args.defs.now c.args.values.now c.loop-def.yielded c.into_iter-def-iterator.result _
     c.next.new.self _ (cc) (cc) c.loop-def.yielded_by c.in-None.is c.next.ensures.steps in
-    let same = length-values c.args.defs.now c.args.values.now c.requires.values in
+    let same = length-AllZip (λ (def : FieldDef) value. CanMatch value def.size) c.args.defs.now c.args.values.now c.requires.values in
     sym (c.loop-def.invariant.1 ∙ rule_match-drop_all c.args.defs.now c.args.values.now c.loop-def.rest.now
     (length c.loop-def.yielded) (omega arith) (omega arith))

@@ -1,7 +1,8 @@
 use Rattle.node_expand.proofs.Agreeing.{and_again}
 use Rattle.std.proofs.lemmas.Bool.{true≢false}
 use Rattle.node_expand.proofs.Changes.{ends_between}
-use Rattle.node_expand.proofs.Bytes.{Answers, range_answers, mask_answers, agreeing_answer, shift_count, size_at_most_8}
+use Rattle.node_expand.proofs.Bytes.{Answers, range_answers, mask_answers, agreeing_answer, shift_count}
+use Rattle.field_defs.proofs.Sizes.{size_at_most_8}
 use Rattle.node_expand.proofs.allowed.Allowed.new.Goals as goal
 use Rattle.node_expand.proofs.allowed.Allowed.new.Goals.{After-between, After-between-in-Range}
 
