@@ -1,18 +1,21 @@
 -- What holds of definitions without a fault.
-use Rattle.std.proofs.Common.{◌≡◌, ℕ, zero, suc, ◌+◌, ◌-◌, ◌<◌, ◌≤◌, List, [], ◌∷◌, length, get_or, cond, Bool, true}
+use Rattle.std.proofs.Common.{◌≡◌, ℕ, zero, suc, ◌+◌, ◌-◌, ◌*◌, ◌==◌, ◌<◌, ◌≤◌, List, [], ◌∷◌, length, get_or, cond, Bool, true}
 use Rattle.std.proofs.Common.{false, not, Option, Some, None, IsTrue, refl, sym, ap, ◌∙◌, inl, inr, arith, zero-add}
 use Rattle.std.specs.List.{find, list_all, range_with_len}
 use Rattle.std.specs.Option.{option_map}
 use Rattle.std.proofs.Math.Nat.{sub-zero}
-use Rattle.std.proofs.lemmas.Bool.{cases_Bool, and_from, not-false, true≢false}
+use Rattle.std.proofs.lemmas.Bool.{cases_Bool, and_parts, eqb-true, and_from, not-false, true≢false}
 use Rattle.field_defs.specs.declared.field.FieldKind.TheVariants.{Mask}
 use Rattle.field_defs.specs.declared.field.FieldDef.{FieldDef}
 use Rattle.field_defs.specs.declared.lawful.LayoutFault.{LayoutFault}
-use Rattle.field_defs.specs.declared.lawful.LayoutFault.TheVariants.{BadSize}
+use Rattle.field_defs.specs.declared.lawful.LayoutFault.TheVariants.{BadSize, FirstNotOneByte}
 use Rattle.field_defs.specs.FieldMatch.{is_size}
 use Rattle.field_defs.specs.Faults.{fault_unless, first_of, failing_number}
+use Rattle.field_defs.specs.Layout.{key_len_of}
 use Rattle.field_defs.specs.Lawful.{IsLayout}
-use Rattle.field_defs.specs.Laws.{LawfulLayoutsHaveLawfulSizes}
+use Rattle.field_defs.proofs.Sizes.{size_at_most_8}
+use Rattle.std.proofs.lemmas.List.Sums.{sum_by-cons}
+use Rattle.field_defs.specs.Laws.{LawfulLayoutsHaveLawfulSizes, LawfulLayoutsHaveShortKeys}
 use Rattle.field_defs.specs.LayoutFault.{layout_fault, layout_faults, is_sized}
 
 -- where there is no first fault, no fault is there
@@ -100,3 +103,32 @@ lawful_sizes defs lawful =
     all_from_places (λ (def : FieldDef). is_size def.size) defs record
     { kind = Mask; size = 1; field_index = 0; input_index = 0; offset = 0 }
     (λ place below. passes_each (is_sized defs) (length defs) place (no_number BadSize _ sizes) below)
+
+-- fields of lawful sizes have at most eight bytes each
+sum_of_sizes : (defs : List FieldDef) → list_all (λ (def : FieldDef). is_size def.size) defs ≡ true → key_len_of defs ≤ 8 * length defs
+sum_of_sizes [] sizes = omega arith
+sum_of_sizes (def ∷ defs) sizes =
+    let parts = and_parts (is_size def.size) (list_all (λ (d : FieldDef). is_size d.size) defs) sizes in
+    omega (arith, sum_by-cons (λ (d : FieldDef). d.size) def defs, size_at_most_8 def.size parts.0, sum_of_sizes defs parts.1)
+
+-- a layout has a first field
+some_first : (defs : List FieldDef) → layout_fault defs ≡ None → 0 < length defs
+unfolding layout_fault
+some_first [] none = absurd (cc)
+some_first (def ∷ defs) none = omega arith
+
+-- which has one byte
+first_size : (def : FieldDef) (defs : List FieldDef) → layout_fault (def ∷ defs) ≡ None → def.size ≡ 1
+unfolding layout_fault
+first_size def defs none =
+    let first : fault_unless (def.size == 1) FirstNotOneByte ≡ None = none_at (layout_faults (def ∷ defs)) 3 none in
+    eqb-true def.size 1 (passes_test (def.size == 1) FirstNotOneByte first)
+
+pub short_keys : LawfulLayoutsHaveShortKeys
+short_keys [] lawful = absurd (omega (arith, some_first [] lawful.faultless))
+short_keys (def ∷ defs) lawful =
+    let sizes = and_parts (is_size def.size) (list_all (λ (d : FieldDef). is_size d.size) defs) (lawful_sizes (def ∷ defs) lawful) in
+    let whole = sum_by-cons (λ (d : FieldDef). d.size) def defs in
+    let first = first_size def defs lawful.faultless in
+    let others = sum_of_sizes defs sizes.1 in
+    (omega (arith, whole, first), omega (arith, whole, first, others, lawful.few))

@@ -1,9 +1,10 @@
 -- Laws of field values, over the definitions alone.
-use Rattle.std.specs.Prelude.{ℕ, ◌↔◌, List, IsTrue}
+use Rattle.std.specs.Prelude.{ℕ, ◌<◌, ◌≤◌, ◌↔◌, List, IsTrue}
 use Rattle.std.specs.List.{list_all}
 use Rattle.field_defs.specs.declared.field.FieldDef.{FieldDef}
 use Rattle.field_defs.specs.declared.field.FieldValue.{FieldValue}
 use Rattle.field_defs.specs.FieldMatch.{is_size, CanMatch, IsWild, is_wild}
+use Rattle.field_defs.specs.Layout.{key_len_of, max_key_len}
 use Rattle.field_defs.specs.Lawful.{IsLayout}
 
 -- A value is wild by its numbers exactly where every number of the size matches.
@@ -16,3 +17,8 @@ WildValuesMatchEveryNumber =
 abbrev pub LawfulLayoutsHaveLawfulSizes : Type 0
 LawfulLayoutsHaveLawfulSizes = (defs : List FieldDef) → IsLayout defs →
     IsTrue (list_all (λ def. is_size def.size) defs)
+
+-- A key of a lawful layout has at least one byte and at most 505.
+abbrev pub LawfulLayoutsHaveShortKeys : Type 0
+LawfulLayoutsHaveShortKeys =
+    (defs : List FieldDef) → IsLayout defs → (0 < key_len_of defs) × (key_len_of defs ≤ max_key_len)

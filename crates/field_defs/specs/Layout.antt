@@ -21,6 +21,10 @@ buffer_len_of defs = fold (λ n d. max n (d.offset + d.size)) 0 defs
 abbrev pub max_fields : ℕ
 max_fields = 64
 
+-- how many bytes a key may have: the first field has one, and each other one at most eight
+abbrev pub max_key_len : ℕ
+max_key_len = 505
+
 -- the layout of IPv4 packets: protocol, source, destination, source port, destination port
 abbrev pub ip4_fields : List FieldDef
 ip4_fields =

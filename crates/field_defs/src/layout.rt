@@ -192,7 +192,7 @@ impl Layout {
         &self.defs[..self.count]
     }
 
-    /// How many bytes a key has: the sum of the fields' sizes.
+    /// How many bytes a key has: the sum of the fields' sizes, from 1 to 505.
     pub fn key_len(&self) -> usize
         ensures { result ≡ key_len_of self.now }
     {
