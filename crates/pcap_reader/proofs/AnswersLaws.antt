@@ -26,7 +26,7 @@ no_records start count left none =
     ]
 
 -- A record in front of what the later answers come to.
-with_record : (start : Start) (count : ℕ) (given captured rest : List ℕ) →
+pub with_record : (start : Start) (count : ℕ) (given captured rest : List ℕ) →
     next_of start.order count given ≡ Record captured [] →
     records_behind start count (given ++ rest)
     ≡ onward start.link (Record captured rest) (λ behind. records_behind start (count + 1) behind)

@@ -1,6 +1,6 @@
-mod AnswersLaws
-mod CaptureLaws
+pub mod AnswersLaws
+pub mod CaptureLaws
 mod FillLaws
-mod NextLaws
+pub mod NextLaws
 mod ReaderLaws
-mod StartLaws
+pub mod StartLaws

@@ -1,6 +1,6 @@
 -- What a capture file means: its records, each with its link type, and its ending (libpcap savefile
 -- format 2.4).
-use Rattle.std.specs.Prelude.{ℕ, zero, suc, ◌+◌, ◌==◌, List, [], ◌∷◌, length, take, drop, nat_lt, Option, Some, None, Result, Ok, Err, if◌then◌else◌}
+use Rattle.std.specs.Prelude.{ℕ, zero, suc, ◌+◌, ◌==◌, List, [], ◌∷◌, ◌++◌, length, take, drop, nat_lt, Option, Some, None, Result, Ok, Err, if◌then◌else◌}
 use Rattle.pcap_reader.specs.declared.fault.CaptureFault.{CaptureFault}
 use Rattle.pcap_reader.specs.declared.fault.CaptureFault.TheVariants.{RecordCut, RecordTooLong, TooManyRecords}
 use Rattle.pcap_reader.specs.declared.link.Link.{Link}
@@ -52,6 +52,10 @@ pub record CaptureRecord : Type 0 where
 pub record Recorded : Type 0 where
   pub records : List CaptureRecord
   pub fault : Option CaptureFault
+
+-- some records, and then what the bytes behind them hold
+abbrev pub followed_by : List CaptureRecord → Recorded → Recorded
+followed_by records behind = record { records = records ++ behind.records; fault = behind.fault }
 
 -- what stands next, and then what `rest` makes of the bytes behind it
 abbrev pub onward : Link → Next → (List ℕ → Recorded) → Recorded

@@ -1,13 +1,13 @@
 //! Laws over the definitions of the headers and of a capture. Their functions do nothing when they
 //! are run, and take no memory.
 
-ghost use Rattle.std.specs.Prelude.{◌≡◌, ◌+◌, ℕ, List, [], ◌++◌, Ok, Err, drop, true};
+ghost use Rattle.std.specs.Prelude.{◌≡◌, ◌+◌, ℕ, List, [], ◌++◌, Ok, Err, None, drop, length, true};
 ghost use Rattle.std.specs.List.{concat};
 ghost use Rattle.byteorder.specs.Endian.{big_number, little_number};
 ghost use Rattle.pcap_reader.specs.Headers.{file_header_by, file_header_of, record_header_by, record_header_of};
 ghost use Rattle.pcap_reader.specs.declared.fault.CaptureFault.{CaptureFault};
 ghost use Rattle.pcap_reader.specs.declared.start.Start.{Start};
-ghost use Rattle.pcap_reader.specs.Capture.{records_behind, onward, next_of, capture_of, whole_records};
+ghost use Rattle.pcap_reader.specs.Capture.{records_behind, onward, next_of, capture_of, whole_records, followed_by, CaptureRecord};
 ghost use Rattle.pcap_reader.specs.Start.{start_of, file_header_len};
 ghost use Rattle.pcap_reader.specs.Reader.{IsStart};
 ghost use Rattle.pcap_reader.specs.Answers.{Answer, AreAnswersOn, AreAnswersTo, have_ending, recorded_by, records_given};
@@ -61,4 +61,14 @@ pub fn answers_are_those_of_the_file(file: &[u8])
     ensures { (start : Start) (answers : List Answer) → start_of file.now ≡ Ok start →
         AreAnswersOn start.order 0 (drop file_header_len file.now) answers →
         have_ending answers ≡ true → capture_of file.now ≡ Ok (recorded_by start.link answers) }
+{}
+
+/// Behind a whole capture its records go on with those of the bytes behind it. So a reader that
+/// gave the
+/// records of the bytes so far has, one record later, given those of one record more.
+pub fn records_follow_a_whole_capture(front: &[u8], behind: &[u8])
+    ensures { (start : Start) (records : List CaptureRecord) → start_of front.now ≡ Ok start →
+        capture_of front.now ≡ Ok (record { records = records; fault = None }) →
+        capture_of (front.now ++ behind.now)
+        ≡ Ok (followed_by records (records_behind start (length records) behind.now)) }
 {}
