@@ -6,6 +6,7 @@ pub mod Gaps
 pub mod Guards
 pub mod Ip6Texts
 pub mod Joins
+pub mod Numerals
 pub mod Separators
 pub mod Powers
 pub mod ReadBack

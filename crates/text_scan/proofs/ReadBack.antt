@@ -23,12 +23,12 @@ use Rattle.text_scan.proofs.Separators.{Lacks, Lacks-digits, parts_of_one}
 use Rattle.text_scan.proofs.Spellings.{AllBelow, bytes_below, pieces_below, length-digits-le}
 
 -- std's words for digits, said in ours
-are_digits_from_AllDigits : (base : ℕ) (text : List ℕ) → AllDigits base text → are_digits base text ≡ true
+pub are_digits_from_AllDigits : (base : ℕ) (text : List ℕ) → AllDigits base text → are_digits base text ≡ true
 are_digits_from_AllDigits base [] all = refl
 are_digits_from_AllDigits base (c ∷ cs) all =
     and_from (is_digit c base) _ (lt-ltb (digit_value c) base all.0) (are_digits_from_AllDigits base cs all.1)
 
-digits_value_after-place_value : (base n : ℕ) (text : List ℕ)
+pub digits_value_after-place_value : (base n : ℕ) (text : List ℕ)
     → digits_value_after base n text ≡ n * base ^ length text + place_value base text
 digits_value_after-place_value base n [] = rw (pow-zero base) (omega arith)
 digits_value_after-place_value base n (c ∷ cs) =

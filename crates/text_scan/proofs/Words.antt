@@ -1,9 +1,11 @@
 -- Texts taken apart word by word.
-use Rattle.std.proofs.Common.{◌≡◌, ℕ, suc, ◌<◌, Bool, true, false, not, eqb, List, [], ◌∷◌, length, take, drop, refl, sym}
+use Rattle.std.proofs.Common.{◌≡◌, ℕ, suc, ◌<◌, Bool, true, false, not, eqb, List, [], ◌∷◌, ◌++◌, length, take, drop}
+use Rattle.std.proofs.Common.{refl, sym}
 use Rattle.std.proofs.Common.{ap, ◌∙◌, arith, inl, inr}
+use Rattle.std.proofs.Math.Seq.{take-append_seam, drop-append_seam}
 use Rattle.std.specs.Prelude.{filter}
-use Rattle.std.specs.List.{prefix_len, slice_split}
-use Rattle.std.proofs.lemmas.Bool.{cases_Bool, ne_eqb}
+use Rattle.std.specs.List.{list_all, prefix_len, slice_split}
+use Rattle.std.proofs.lemmas.Bool.{cases_Bool, ne_eqb, and_parts}
 use Rattle.std.proofs.lemmas.List.Folds.{length-prefix_len}
 use Rattle.text_scan.specs.Parts.{is_blank, after_blanks, first_word, after_word, words_of}
 
@@ -12,14 +14,14 @@ abbrev is_filled : List ℕ → Bool
 is_filled part = not (eqb (length part) 0)
 
 -- a blank at the beginning is passed over, and another byte isn't
-after_blanks-blank : (c : ℕ) (cs : List ℕ) → is_blank c ≡ true → after_blanks (c ∷ cs) ≡ after_blanks cs
+pub after_blanks-blank : (c : ℕ) (cs : List ℕ) → is_blank c ≡ true → after_blanks (c ∷ cs) ≡ after_blanks cs
 after_blanks-blank c cs blank =
     let here = length-prefix_len is_blank (c ∷ cs) in
     let there = length-prefix_len is_blank cs in
     let first : prefix_len is_blank (c ∷ cs) ≡ suc (prefix_len is_blank cs) = rw blank (omega arith) in
     ap (λ n. drop n (c ∷ cs)) (here ∙ first) ∙ ap (λ n. drop n cs) (sym there)
 
-after_blanks-other : (c : ℕ) (cs : List ℕ) → is_blank c ≡ false → after_blanks (c ∷ cs) ≡ c ∷ cs
+pub after_blanks-other : (c : ℕ) (cs : List ℕ) → is_blank c ≡ false → after_blanks (c ∷ cs) ≡ c ∷ cs
 after_blanks-other c cs other =
     let none : prefix_len is_blank (c ∷ cs) ≡ 0 = rw other refl in
     ap (λ n. drop n (c ∷ cs)) (length-prefix_len is_blank (c ∷ cs) ∙ none)
@@ -47,7 +49,8 @@ first_word-blank c cs blank = rw blank refl
 
 first_word-other : (c : ℕ) (cs : List ℕ) → is_blank c ≡ false → first_word (c ∷ cs) ≡ c ∷ first_word cs
 first_word-other c cs other =
-    let longer : prefix_len (λ d. not (is_blank d)) (c ∷ cs) ≡ suc (prefix_len (λ d. not (is_blank d)) cs) = rw other (omega arith) in
+    let longer : prefix_len (λ d. not (is_blank d)) (c ∷ cs) ≡ suc (prefix_len (λ d. not (is_blank d)) cs) =
+        rw other (omega arith) in
     ap (λ n. take n (c ∷ cs)) longer
 
 begins : (text : List ℕ) → Begins text
@@ -69,10 +72,12 @@ begins (c ∷ cs) =
     ]
 
 -- the words of a text are the word that it begins with, if there is one, and those of what follows it
-pub words_of-more : (text : List ℕ) → 0 < length (first_word text) → words_of text ≡ first_word text ∷ words_of (after_word text)
+pub words_of-more : (text : List ℕ) → 0 < length (first_word text)
+    → words_of text ≡ first_word text ∷ words_of (after_word text)
 words_of-more text some =
     let cut = begins text in
-    let filled : is_filled (first_word text) ≡ true = ap not (ne_eqb (length (first_word text)) 0 (λ none. omega arith)) in
+    let filled : is_filled (first_word text) ≡ true =
+        ap not (ne_eqb (length (first_word text)) 0 (λ none. omega arith)) in
     ap (filter is_filled) cut.whole ∙ rw filled (ap (λ ws. first_word text ∷ ws) cut.words)
 
 -- the same after blanks
@@ -85,8 +90,49 @@ pub words_of-none : (text : List ℕ) → length (first_word (after_blanks text)
 words_of-none [] none = refl
 words_of-none (c ∷ cs) none =
     elim (cases_Bool (is_blank c)) [
-      | inl blank ↦ rw blank (words_of-none cs (ap (λ text. length (first_word text)) (sym (after_blanks-blank c cs blank)) ∙ none))
+      | inl blank ↦
+          rw blank (words_of-none cs
+          (ap (λ text. length (first_word text)) (sym (after_blanks-blank c cs blank)) ∙ none))
       | inr other ↦
-          let word : first_word (after_blanks (c ∷ cs)) ≡ c ∷ first_word cs = ap first_word (after_blanks-other c cs other) ∙ first_word-other c cs other in
+          let word : first_word (after_blanks (c ∷ cs)) ≡ c ∷ first_word cs =
+              ap first_word (after_blanks-other c cs other) ∙ first_word-other c cs other in
           absurd (omega (arith, ap length word, none))
     ]
+
+-- A text that is a word, as long as it has a byte, and what follows one.
+abbrev pub IsWord : List ℕ → Type 0
+IsWord text = list_all (λ c. not (is_blank c)) text ≡ true
+
+abbrev pub EndsWord : List ℕ → Type 0
+EndsWord [] = Unit {0}
+EndsWord (c ∷ cs) = is_blank c ≡ true
+
+word_len : (word rest : List ℕ) → IsWord word → EndsWord rest
+    → prefix_len (λ c. not (is_blank c)) (word ++ rest) ≡ length word
+word_len [] [] is ends = refl
+word_len [] (c ∷ rest) is ends = rw ends refl
+word_len (d ∷ word) rest is ends =
+    let parts = and_parts (not (is_blank d)) _ is in
+    rw parts.0 (omega (arith, word_len word rest parts.1 ends))
+
+-- the first word, and what follows it
+pub first_word-append : (word rest : List ℕ) → IsWord word → EndsWord rest → first_word (word ++ rest) ≡ word
+first_word-append word rest is ends = ap (λ n. take n (word ++ rest)) (word_len word rest is ends)
+    ∙ take-append_seam word rest
+
+pub after_word-append : (word rest : List ℕ) → IsWord word → EndsWord rest → after_word (word ++ rest) ≡ rest
+after_word-append word rest is ends =
+    ap (λ w. drop (length w) (word ++ rest)) (first_word-append word rest is ends) ∙ drop-append_seam word rest
+
+-- the words of a text that begins with one
+pub words_of-append : (word rest : List ℕ) → IsWord word → 0 < length word → EndsWord rest
+    → words_of (word ++ rest) ≡ word ∷ words_of rest
+words_of-append word rest is some ends =
+    let first = first_word-append word rest is ends in
+    words_of-more (word ++ rest) (omega (arith, ap length first))
+    ∙ ap (λ w. w ∷ words_of (after_word (word ++ rest))) first
+    ∙ ap (λ r. word ∷ words_of r) (after_word-append word rest is ends)
+
+-- a blank at the beginning is no part of a word
+pub words_of-blank : (c : ℕ) (rest : List ℕ) → is_blank c ≡ true → words_of (c ∷ rest) ≡ words_of rest
+words_of-blank c rest blank = rw blank refl

@@ -1,7 +1,9 @@
 //! Laws over the definitions of the texts. Their functions do nothing when they are run, and take
 //! no memory.
 
-ghost use Rattle.std.specs.Prelude.{◌≡◌, ◌+◌, ◌≤◌, ◌++◌, IsTrue, codes, length};
+ghost use Rattle.std.specs.Prelude.{◌≡◌, ◌+◌, ◌-◌, ◌^◌, ◌≤◌, ◌++◌, IsTrue, codes, length};
+ghost use Rattle.std.specs.Fmt.{decimal};
+ghost use Rattle.text_scan.specs.Numeral.{whole_number};
 ghost use Rattle.text_scan.specs.Ip4.{ip4_of, ip4_spelling};
 ghost use Rattle.text_scan.specs.Ip6.{are_groups, are_last_groups, filled_pieces, groups_of};
 ghost use Rattle.text_scan.specs.Ip6.{ip6_of, ip6_spelling, joined, pieces_of_all};
@@ -31,4 +33,9 @@ pub fn ip4_reads_back(value: u32)
 /// `put_ip6` printed.
 pub fn ip6_reads_back(value: u128)
     ensures { ip6_of (ip6_spelling value) ≡ Some value }
+{}
+
+/// The text of a number in decimal, read as a text, is the number.
+pub fn number_reads_back(value: u64)
+    ensures { whole_number (2 ^ 64 - 1) (decimal value) ≡ Some value }
 {}
