@@ -1,14 +1,14 @@
 -- Numbers in decimal, read back from where they stand.
-use Rattle.std.proofs.Common.{◌≡◌, ℕ, zero, suc, ◌+◌, ◌*◌, ◌^◌, ◌<◌, ◌≤◌, Bool, true, false, ◌&&◌, ◌||◌, eqb, nat_le}
+use Rattle.std.proofs.Common.{◌≡◌, ℕ, ◌^◌, ◌<◌, ◌≤◌, Bool, true, false, ◌&&◌, eqb, nat_le}
 use Rattle.std.proofs.Common.{List, [], ◌∷◌, ◌++◌, length, take, drop, Some, refl, sym, ap, ◌∙◌, arith, append-nil}
-use Rattle.std.proofs.lemmas.Bool.{and_from, and_parts, cond-true, cond-false, le-leb, eq-eqb, ne_eqb, false≢true}
+use Rattle.std.proofs.lemmas.Bool.{and_from, and_parts, cond-true, le-leb, eq-eqb, ne_eqb, false≢true}
 use Rattle.std.proofs.lemmas.Fmt.{decimal_is_IsNumeral}
 use Rattle.std.proofs.Math.Seq.{take-append_seam, drop-append_seam}
 use Rattle.std.specs.Char.{is_digit}
 use Rattle.std.specs.Fmt.{decimal}
-use Rattle.std.specs.List.{list_all, prefix_len}
+use Rattle.std.specs.List.{prefix_len}
 use Rattle.text_scan.specs.Digits.{place_value, are_digits, run_of}
-use Rattle.text_scan.specs.Numeral.{begins_hexadecimal, base_of, mark_len, digits_of, numeral_value, numeral_len}
+use Rattle.text_scan.specs.Numeral.{begins_hexadecimal, digits_of, numeral_value, numeral_len}
 use Rattle.text_scan.specs.Numeral.{begins_numeral, whole_number}
 use Rattle.text_scan.proofs.ReadBack.{are_digits_from_AllDigits, digits_value_after-place_value}
 
@@ -96,10 +96,10 @@ whole_number-spelled greatest n written spelled small =
     let whole = append-nil written in
     let read = spelled_begins n written [] spelled tt in
     let begins : begins_numeral greatest written ≡ true = ap (begins_numeral greatest) (sym whole)
-        ∙ read.begins greatest small in
+    ∙ read.begins greatest small in
     let ends : eqb (numeral_len written) (length written) ≡ true =
     eq-eqb _ _ (ap numeral_len (sym whole) ∙ read.len) in
     let value : numeral_value written ≡ n = ap numeral_value (sym whole) ∙ read.value in
     cond-true (begins_numeral greatest written && eqb (numeral_len written) (length written)) _ _
-        (and_from _ _ begins ends)
+    (and_from _ _ begins ends)
     ∙ ap Some value

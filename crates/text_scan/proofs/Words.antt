@@ -50,7 +50,7 @@ first_word-blank c cs blank = rw blank refl
 first_word-other : (c : ℕ) (cs : List ℕ) → is_blank c ≡ false → first_word (c ∷ cs) ≡ c ∷ first_word cs
 first_word-other c cs other =
     let longer : prefix_len (λ d. not (is_blank d)) (c ∷ cs) ≡ suc (prefix_len (λ d. not (is_blank d)) cs) =
-        rw other (omega arith) in
+    rw other (omega arith) in
     ap (λ n. take n (c ∷ cs)) longer
 
 begins : (text : List ℕ) → Begins text
@@ -77,7 +77,7 @@ pub words_of-more : (text : List ℕ) → 0 < length (first_word text)
 words_of-more text some =
     let cut = begins text in
     let filled : is_filled (first_word text) ≡ true =
-        ap not (ne_eqb (length (first_word text)) 0 (λ none. omega arith)) in
+    ap not (ne_eqb (length (first_word text)) 0 (λ none. omega arith)) in
     ap (filter is_filled) cut.whole ∙ rw filled (ap (λ ws. first_word text ∷ ws) cut.words)
 
 -- the same after blanks
@@ -95,7 +95,7 @@ words_of-none (c ∷ cs) none =
           (ap (λ text. length (first_word text)) (sym (after_blanks-blank c cs blank)) ∙ none))
       | inr other ↦
           let word : first_word (after_blanks (c ∷ cs)) ≡ c ∷ first_word cs =
-              ap first_word (after_blanks-other c cs other) ∙ first_word-other c cs other in
+          ap first_word (after_blanks-other c cs other) ∙ first_word-other c cs other in
           absurd (omega (arith, ap length word, none))
     ]
 

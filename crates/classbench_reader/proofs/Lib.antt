@@ -1,0 +1,3 @@
+pub mod AttributeWords
+pub mod LawfulLines
+pub mod FileLines

@@ -1,0 +1,13 @@
+use Rattle.std.proofs.Common.{sym, ◌∙◌}
+use Rattle.classbench_reader.proofs.LawfulLines.{rule_fault-ip4, rule_fault-ip6}
+use Rattle.classbench_reader.proofs.rule_file.RuleFile.add.Goals as goal
+
+pub push-requires-clause-lawful : goal.push-requires-clause-lawful
+push-requires-clause-lawful c =
+    rw (c.requires.room.ip4_layout, c.rule.ensures) (
+    rule_fault-ip4 c.args.line.now c.requires.lawful (sym c.family.ensures ∙ c.in-Ip4.is))
+
+pub push-requires-in-Ip6-clause-lawful : goal.push-requires-in-Ip6-clause-lawful
+push-requires-in-Ip6-clause-lawful c =
+    rw (c.requires.room.ip6_layout, c.rule-in-Ip6.ensures) (
+    rule_fault-ip6 c.args.line.now c.requires.lawful (sym c.family.ensures ∙ c.in-Ip6.is))

@@ -1,0 +1,11 @@
+pub mod Limits
+pub mod Reading
+pub mod Network
+pub mod Columns
+pub mod Attributes
+pub mod Line
+pub mod LineExamples
+pub mod Lawful
+pub mod RuleFile
+pub mod RuleFileExamples
+pub mod Files

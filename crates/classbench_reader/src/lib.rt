@@ -1,0 +1,32 @@
+//! bytes of a rule file → rules of both families, or the first faulty line
+//!
+//! A file is cut into lines. Blank lines and comments are skipped, and each other line is read from
+//! left to right: `@`, source, destination, two ranges of ports, a protocol, optional flags, and
+//! attributes. What a line says becomes a rule in the set of its family.
+//!
+//! | module | what it holds |
+//! |---|---|
+//! | `fault` | the kinds of faults, and the line of the first one |
+//! | `network` | an address with a prefix length, of either family |
+//! | `columns` | ports, protocol and flags |
+//! | `attributes` | `pri=`, `cat=` and `data=`, and the tag that they make |
+//! | `line` | a whole line, and its rule |
+//! | `rule_file` | a whole file, and its rules by family |
+//!
+//! Source: D. E. Taylor and J. S. Turner, "ClassBench: A Packet Classification Benchmark", 2007,
+//! and DPDK's `app/test-acl`, for the columns; the attributes are an extension of this project.
+#![tactic(auto)]
+
+mod attributes;
+mod columns;
+mod fault;
+mod line;
+mod network;
+mod rule_file;
+#[cfg(test)]
+mod tests;
+
+pub use fault::{LineFault, LineKind, RulesFault};
+pub use line::{RuleLine, is_skipped};
+pub use network::{Address, Network};
+pub use rule_file::{MAX_RULE_FILE, RuleFile, read_rules};
