@@ -4,3 +4,5 @@ pub mod Shape
 pub mod Unsound
 pub mod Places
 pub mod Safe
+pub mod Taken
+pub mod Lanes

@@ -1,3 +1,4 @@
+pub mod Batch
 pub mod Groups
 pub mod HandmadeTables
 pub mod Laws

@@ -1,5 +1,5 @@
 -- The walk of a key through a trie, and the verdicts of a table.
-use Rattle.std.specs.Prelude.{ℕ, ◌+◌, ◌%◌, ◌^◌, max, List, [], ◌∷◌, map, length, fold, slice_index, slice_index_or, if◌then◌else◌}
+use Rattle.std.specs.Prelude.{ℕ, ◌+◌, ◌%◌, ◌^◌, max, List, [], ◌∷◌, map, take, length, fold, slice_index, slice_index_or, if◌then◌else◌}
 use Rattle.std.specs.List.{range_with_len}
 use Rattle.flat_table.specs.Word.{index_of, is_match, next_word}
 use Rattle.flat_table.specs.Table.{TableView, places_of}
@@ -9,6 +9,10 @@ abbrev pub taken : List ℕ → ℕ → List ℕ → List ℕ
 taken words word [] = []
 taken words word (byte ∷ bytes) =
     if is_match word then [] else next_word words word byte ∷ taken words (next_word words word byte) bytes
+
+-- the word that stands after one more byte: a match stays
+abbrev pub moved : List ℕ → ℕ → ℕ → ℕ
+moved words word byte = if is_match word then word else next_word words word byte
 
 -- the last word of those taken, or else the word from which they were taken
 abbrev pub last_word : ℕ → List ℕ → ℕ
@@ -26,6 +30,13 @@ bytes_of table trie key = map (λ place. slice_index key place) (places_of table
 -- the words that the walk of the key through the trie takes
 abbrev pub walk : TableView → ℕ → List ℕ → List ℕ
 walk table trie key = taken table.words (root_of table trie) (bytes_of table trie key)
+
+-- the word that a walk through the trie stands at after so many bytes, and how many words it took for them
+abbrev pub word_after : TableView → ℕ → List ℕ → ℕ → ℕ
+word_after table trie key n = fold (moved table.words) (root_of table trie) (take n (bytes_of table trie key))
+
+abbrev pub steps_after : TableView → ℕ → List ℕ → ℕ → ℕ
+steps_after table trie key n = length (taken table.words (root_of table trie) (take n (bytes_of table trie key)))
 
 -- how many words it takes
 abbrev pub walk_steps : TableView → ℕ → List ℕ → ℕ

@@ -91,7 +91,9 @@ impl Table {
 
     /// How many bytes a key has.
     pub fn key_len(&self) -> usize
-        ensures { result ≡ self.now.key_len }
+        ensures value { result ≡ self.now.key_len }
+        ensures some { 0 < result }
+        ensures bound { result ≤ longest_key }
     {
         self.parts.key_len as usize
     }

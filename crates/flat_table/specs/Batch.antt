@@ -1,0 +1,43 @@
+-- Batches of keys: the keys stand one after the other, and so do the verdicts of each.
+use Rattle.std.specs.Prelude.{◌≡◌, ℕ, ◌+◌, ◌*◌, ◌/◌, ◌≤◌, List, map, take, drop, length, fold, flat_map}
+use Rattle.std.specs.List.{range_with_len}
+use Rattle.flat_table.specs.Table.{TableView}
+use Rattle.flat_table.specs.Walk.{table_verdict, key_steps}
+
+-- how many keys a batch has at most
+abbrev pub most_keys : ℕ
+most_keys = 65536
+
+-- how many keys the bytes are
+abbrev pub keys_in : TableView → List ℕ → ℕ
+keys_in table keys = length keys / table.key_len
+
+-- key k of the batch
+abbrev pub key_at : TableView → List ℕ → ℕ → List ℕ
+key_at table keys k = take table.key_len (drop (k * table.key_len) keys)
+
+-- the bytes are whole keys, not too many, and there is room for so many verdicts of each
+pub record LengthsFit (table : TableView) (keys : List ℕ) (count room : ℕ) : Type 0 where
+  pub whole : length keys ≡ keys_in table keys * table.key_len
+  pub few : keys_in table keys ≤ most_keys
+  pub room_fits : room ≡ keys_in table keys * count
+
+-- the verdicts of a key in the categories from 0 on
+abbrev pub key_verdicts : TableView → ℕ → List ℕ → List ℕ
+key_verdicts table count key = map (λ category. table_verdict table key category) (range_with_len 0 count)
+
+-- the verdicts of the first n keys
+abbrev pub first_verdicts : TableView → ℕ → List ℕ → ℕ → List ℕ
+first_verdicts table count keys n = flat_map (λ k. key_verdicts table count (key_at table keys k)) (range_with_len 0 n)
+
+-- the verdicts of all keys
+abbrev pub batch_verdicts : TableView → ℕ → List ℕ → List ℕ
+batch_verdicts table count keys = first_verdicts table count keys (keys_in table keys)
+
+-- how many words the walks of the first n keys take
+abbrev pub first_steps : TableView → List ℕ → ℕ → ℕ
+first_steps table keys n = fold (λ total k. total + key_steps table (key_at table keys k)) 0 (range_with_len 0 n)
+
+-- how many words the walks of all keys take
+abbrev pub batch_steps : TableView → List ℕ → ℕ
+batch_steps table keys = first_steps table keys (keys_in table keys)

@@ -1,0 +1,18 @@
+use Rattle.std.proofs.Common.{◌≡◌, ◌+◌, ◌*◌, ◌/◌, ◌<◌, ℕ, List, length, arith, sym, ap, ◌∙◌, subst}
+use Rattle.flat_table.specs.Batch.{keys_in}
+use Rattle.scalar_walk.proofs.Batches.{verdicts_turn, steps_turn}
+use Rattle.scalar_walk.proofs.classify.classify_scalar.Goals as goal
+
+pub loop-k-preserved : goal.loop-k-preserved
+loop-k-preserved g c =
+    let table = c.args.table.now in
+    let keys = c.args.keys.now in
+    let l = c.loop-k in
+    let w = c.classify_one-taken in
+    let len = c.key_len-key_len.ensures.value in
+    let lt : l.k < keys_in table keys = subst (λ (n : ℕ). l.k < length keys / n) len c.loop-k-test.true in
+    let count : c.args.cats.count ≡ c.count-count.result = sym c.count-count.ensures.value in
+    let room : length l.out ≡ keys_in table keys * c.count-count.result = l.auto.out ∙ c.requires.room_fits ∙ ap (λ (n : ℕ). keys_in table keys * n) count in
+    let steps = steps_turn table keys l.k c.key_len-key_len.result l.taken w.result len l.invariant.1 w.ensures.taken in
+    (verdicts_turn table keys l.out c.args.out.now w.new.verdicts l.k (keys_in table keys) c.count-count.result c.key_len-key_len.result len lt room l.invariant.0 w.ensures.verdicts,
+     steps, omega (arith, l.invariant.2, w.ensures.bound), omega (arith, l.invariant.3, w.ensures.steps, w.ensures.taken))

@@ -1,0 +1,13 @@
+-- the verdicts of the keys so far, and the words that their walks took
+use Rattle.std.proofs.Common.{◌≡◌, ◌+◌, ◌*◌, ◌≤◌, ◌++◌, drop}
+use Rattle.flat_table.specs.Groups.{longest_key}
+use Rattle.flat_table.specs.Sound.{most_tries}
+use Rattle.flat_table.specs.Batch.{first_verdicts, first_steps}
+use Rattle.scalar_walk.proofs.classify.classify_scalar.Given as goal
+
+abbrev pub invariant-loop-k : goal.invariant-loop-k
+invariant-loop-k g l =
+    (l.out ≡ first_verdicts l.table l.count l.keys l.k ++ drop (l.k * l.count) l.initial.out)
+    × (l.taken ≡ first_steps l.table l.keys l.k)
+    × (l.taken ≤ l.k * (most_tries * longest_key))
+    × (l.steps ≡ l.initial.steps + l.taken)

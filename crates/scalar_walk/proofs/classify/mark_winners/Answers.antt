@@ -1,0 +1,11 @@
+use Rattle.std.proofs.Common.{◌≡◌, ◌<◌, ◌==◌, ℕ, List, length, take, not, arith, sym, ap, ◌∙◌, subst, All}
+use Rattle.scalar_walk.specs.Rows.{joined_rows}
+use Rattle.scalar_walk.proofs.Reached.{rows_there, won_are}
+use Rattle.scalar_walk.proofs.classify.mark_winners.Goals as goal
+
+pub returns : goal.returns
+returns g c =
+    let table = c.args.table.now in
+    let rows = c.reach-reached.result.rows in
+    won_are table c.args.key.now rows c.reach-reached.ensures.rows (omega (arith, c.tries.ensures.bound, c.tries.ensures.value)) c.loop-category.won c.loop-category.invariant.0
+    (λ k h. c.loop-category.invariant.1 k (omega arith) ∙ ap (λ (n : ℕ). not (joined_rows table.rows (take n rows) k == 0)) c.tries.ensures.value)

@@ -1,0 +1,7 @@
+-- no match so far, and a step for each byte
+use Rattle.std.proofs.Common.{◌≡◌, ◌+◌}
+use Rattle.scalar_walk.proofs.Walks.{Walks}
+use Rattle.scalar_walk.proofs.walk.walk_one.Given as goal
+
+abbrev pub invariant-loop-taken : goal.invariant-loop-taken
+invariant-loop-taken g l = Walks l.table l.trie l.key l.taken l.word × (l.steps ≡ l.initial.steps + l.taken)

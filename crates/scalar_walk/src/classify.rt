@@ -1,0 +1,141 @@
+//! The verdicts of keys, by the rows that their walks reach.
+
+ghost use Rattle.std.specs.Prelude.{◌≡◌, ◌+◌, ◌*◌, ◌%◌, ◌<◌, ◌≤◌, ◌^◌, ◌==◌, length, map, not, All};
+ghost use Rattle.std.specs.List.{range_with_len};
+ghost use Rattle.flat_table.specs.Groups.{longest_key};
+ghost use Rattle.flat_table.specs.Sound.{most_tries, row_len};
+ghost use Rattle.flat_table.specs.Walk.{joined, key_steps, userdatas};
+ghost use Rattle.flat_table.specs.Batch.{LengthsFit, key_verdicts, batch_verdicts, batch_steps};
+ghost use Rattle.scalar_walk.specs.Rows.{Reaches, joined_rows, winners_of};
+
+use crate::walk::walk_one;
+use flat_table::{MAX_TRIES, ROW_LEN, Steps, Table};
+use rule_set::Categories;
+use std::marker::Brand;
+use std::sync::ledger::{Blank, Ledger};
+
+/// The bits of a row word that are the userdata.
+const USERDATA_MASK: u64 = 0xFFFF_FFFF;
+
+/// The greatest word of the category over the rows of these numbers.
+fn greatest_word(rows: &[[u64; ROW_LEN]], reached: &[u32], category: usize) -> u64
+    requires rows { All (λ row. row < length rows.now) reached.now }
+    requires category { category < row_len }
+    ensures { result ≡ joined_rows rows.now reached.now category }
+{
+    let mut greatest = 0;
+    for row in reached {
+        greatest = rows[*row as usize][category].max(greatest);
+    }
+    greatest
+}
+
+/// Writes for each category from 0 on the userdata of the greatest word over the rows of these numbers.
+fn write_verdicts(rows: &[[u64; ROW_LEN]], reached: &[u32], verdicts: &mut [u32])
+    requires rows { All (λ row. row < length rows.now) reached.now }
+    requires few { length verdicts.old ≤ row_len }
+    ensures { verdicts.new ≡ map (λ category. joined_rows rows.now reached.now category % userdatas)
+        (range_with_len 0 (length verdicts.old)) }
+{
+    for (category, verdict) in verdicts.iter_mut().enumerate() {
+        *verdict = (greatest_word(rows, reached, category) & USERDATA_MASK) as u32;
+    }
+}
+
+/// The rows that the walks of a key reach, one for each trie, and how many words they took.
+#[derive(Clone, Copy)]
+struct Reached {
+    rows: [u32; MAX_TRIES],
+    taken: u64,
+}
+
+/// The walks of the key through all tries.
+fn reach<L: Ledger>(table: &Table, key: &[u8], steps: &mut Steps<L>) -> Reached
+    requires { length key.now ≡ table.now.key_len }
+    ensures rows { Reaches table.now key.now (length table.now.roots) result.rows }
+    ensures taken { result.taken ≡ key_steps table.now key.now }
+    ensures bound { result.taken ≤ most_tries * longest_key }
+    ensures steps { steps.new ≡ steps.old + key_steps table.now key.now }
+{
+    let mut rows = [0u32; MAX_TRIES];
+    let mut taken = 0;
+    for trie in 0..table.tries() {
+        let walked = walk_one(table, trie, key, steps);
+        rows[trie] = walked.row;
+        taken += u64::from(walked.taken);
+    }
+    Reached { rows, taken }
+}
+
+/// Writes the verdicts of one key, and says how many words its walks took.
+fn classify_one<L: Ledger>(
+    table: &Table,
+    key: &[u8],
+    verdicts: &mut [u32],
+    steps: &mut Steps<L>,
+) -> u64
+    requires key { length key.now ≡ table.now.key_len }
+    requires few { length verdicts.old ≤ row_len }
+    ensures verdicts { verdicts.new ≡ key_verdicts table.now (length verdicts.old) key.now }
+    ensures taken { result ≡ key_steps table.now key.now }
+    ensures bound { result ≤ most_tries * longest_key }
+    ensures steps { steps.new ≡ steps.old + key_steps table.now key.now }
+{
+    let reached = reach(table, key, steps);
+    write_verdicts(table.rows(), &reached.rows[..table.tries()], verdicts);
+    reached.taken
+}
+
+/// Writes the verdicts of the keys of a batch, and says how many words their walks took.
+///
+/// `keys` has the bytes of at most 65,536 keys of the table, one after the other, and `out` has room for the verdicts of
+/// each: the categories from 0 on of the first key, then those of the second. A verdict is the userdata of the winner,
+/// or 0 where no rule wins. It refuses nothing and takes no memory.
+pub fn classify_scalar<L: Ledger>(
+    table: &Table,
+    keys: &[u8],
+    cats: Categories,
+    out: &mut [u32],
+    steps: &mut Steps<L>,
+) -> u64
+    requires { LengthsFit table.now keys.now cats.count (length out.old) }
+    ensures verdicts { out.new ≡ batch_verdicts table.now cats.count keys.now }
+    ensures taken { result ≡ batch_steps table.now keys.now }
+    ensures steps { steps.new ≡ steps.old + batch_steps table.now keys.now }
+{
+    let key_len = table.key_len();
+    let count = cats.count();
+    let mut taken = 0;
+    for k in 0..keys.len() / key_len {
+        let key = &keys[k * key_len..(k + 1) * key_len];
+        taken += classify_one(table, key, &mut out[k * count..(k + 1) * count], steps);
+    }
+    taken
+}
+
+/// Marks the categories in which some rule wins the key.
+///
+/// `key` has the bytes of a key of the table. Entry c of `won` says whether a rule wins in category c, also where its
+/// userdata is 0. It refuses nothing, takes no memory and counts no steps.
+pub fn winners(table: &Table, key: &[u8], won: &mut [bool; ROW_LEN])
+    requires { length key.now ≡ table.now.key_len }
+    ensures { won.new ≡ winners_of table.now key.now }
+{
+    mark_winners::<Brand>(Blank::new(1), table, key, won)
+}
+
+/// Marks the categories in which some rule wins the key, with a counter that nobody sees.
+fn mark_winners<L: Ledger>(blank: Blank, table: &Table, key: &[u8], won: &mut [bool; ROW_LEN])
+    requires name { blank.name ≡ L.name }
+    requires parts { blank.parts ≡ L.parts }
+    requires some { 0 < blank.parts }
+    requires key { length key.now ≡ table.now.key_len }
+    ensures { won.new ≡ winners_of table.now key.now }
+{
+    let mut steps = Steps::<L>::new(blank);
+    let reached = reach(table, key, &mut steps);
+    let rows = &reached.rows[..table.tries()];
+    for (category, won) in won.iter_mut().enumerate() {
+        *won = greatest_word(table.rows(), rows, category) != 0;
+    }
+}
