@@ -1,5 +1,6 @@
 -- What the calls of a reader promise, from what was read.
 use Rattle.std.proofs.Common.{◌≡◌, ℕ, ◌+◌, ◌<◌, ◌≤◌, List, [], ◌++◌, length, take, Option, Some, None, Ok, Err, refl, sym, subst, ap, ◌∙◌, append-nil, arith}
+use Rattle.std.proofs.lemmas.Bool.{false≢true}
 use Rattle.std.proofs.lemmas.List.{take_all}
 use Rattle.acl_outside.specs.Fault.{Rose}
 use Rattle.acl_outside.specs.Told.{Steps}
@@ -60,6 +61,7 @@ ReadsNext-record order count header captured old mid new h fits reads keeps =
       reads = both;
       answer = whole;
       told = told-record order count (header ++ captured) captured old.content new.content whole both.told;
+      end = λ e. absurd (false≢true e);
       read_fault = λ e. absurd (cc);
       keeps = KeepsReading-join old mid new h.keeps keeps;
     }
@@ -79,6 +81,7 @@ ReadsNext-cut order count header part old mid new h less reads end keeps =
       answer = cut;
       told = told-end order count (header ++ part)
           (Fault (RecordCut (count + 1))) old.content new.content cut end both.told;
+      end = λ e. end;
       read_fault = λ e. absurd (cc);
       keeps = KeepsReading-join old mid new h.keeps keeps;
     }
@@ -101,6 +104,7 @@ ReadsNext-broken order count header part old mid new h less reads rose keeps =
           (λ was now. BreaksOffAt (λ front. HasNoRecord (next_of order count front)) was.left now.left)
           (λ was now gives. record { front = header ++ part; parts = gives.left; no_whole = no_whole }) old.content
           new.content both.told;
+      end = λ e. absurd (false≢true e);
       read_fault = λ e. Rose-later old mid new h.keeps rose;
       keeps = KeepsReading-join old mid new h.keeps keeps;
     }

@@ -1,6 +1,6 @@
 -- What a file header says, and that bytes behind it change nothing.
-use Rattle.std.proofs.Common.{◌≡◌, ℕ, List, [], ◌++◌, length, take, drop, Option, Some, None, Result, Ok, Err, refl, sym, ap, ◌∙◌, append-nil, arith, length-append}
-use Rattle.std.proofs.lemmas.Bool.{le-leb}
+use Rattle.std.proofs.Common.{◌≡◌, ℕ, List, [], ◌++◌, length, take, drop, true, Option, Some, None, Result, Ok, Err, refl, sym, ap, ◌∙◌, append-nil, arith, length-append}
+use Rattle.std.proofs.lemmas.Bool.{le-leb, false≢true}
 use Rattle.std.proofs.lemmas.List.{take_at, take_all, drop_at}
 use Rattle.acl_outside.specs.Fault.{Rose}
 use Rattle.acl_outside.specs.Desk.{DeskView, Gives}
@@ -14,9 +14,9 @@ use Rattle.pcap_reader.specs.declared.start.Order.{Order}
 use Rattle.pcap_reader.specs.declared.start.Start.{Start}
 use Rattle.pcap_reader.specs.Headers.{file_header_of}
 use Rattle.pcap_reader.specs.Start.{◌>>=◌, or_fault, order_of, of_version, link_of, start_in, start_of, file_header_len}
-use Rattle.pcap_reader.specs.Fill.{KeepsReading, Fills}
+use Rattle.pcap_reader.specs.Fill.{KeepsReading, IsAtEnd, Fills}
 use Rattle.pcap_reader.proofs.FillLaws.{reads-full}
-use Rattle.pcap_reader.specs.Reader.{IsStart, ReadsStart, after_start}
+use Rattle.pcap_reader.specs.Reader.{IsStart, ReadsStart, after_start, is_cut_start}
 
 -- a whole header has one of three faults, or none
 abbrev IsJudged : Result Start CaptureFault → Type 0
@@ -85,6 +85,13 @@ no_read_fault : (result : Result Start CaptureFault) (before now : ℕ) → IsJu
     Rose before now
 no_read_fault result before now judged is = absurd (rw is at judged)
 
+not_cut : (new : DeskView) (result : Result Start CaptureFault) → IsJudged result → is_cut_start result ≡ true → IsAtEnd new
+not_cut new (Ok start) judged cut = absurd (false≢true cut)
+not_cut new (Err Magic) judged cut = absurd (false≢true cut)
+not_cut new (Err Version) judged cut = absurd (false≢true cut)
+not_cut new (Err LinkType) judged cut = absurd (false≢true cut)
+not_cut new (Err fault) judged cut = absurd judged
+
 -- what a header of so many bytes says, of a file that was read so far
 start_answered : (header : List ℕ) (old new : DeskView) (result : Result Start CaptureFault) →
     length header ≡ file_header_len → start_in header ≡ result →
@@ -96,6 +103,7 @@ start_answered header old new result whole says judged reads keeps = record {
   told = Steps-weaker (Gives header) (λ was now. IsStart was.left now.left result)
       (λ was now gives. answer-left header was.left now.left result whole says judged gives.left) old.content
       new.content reads.told;
+  end = not_cut new result judged;
   read_fault = no_read_fault result old.read_faults new.read_faults judged;
   keeps = keeps;
 }

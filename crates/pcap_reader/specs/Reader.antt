@@ -15,7 +15,7 @@ use Rattle.pcap_reader.specs.declared.progress.Progress.TheVariants as progress
 use Rattle.pcap_reader.specs.declared.start.Order.{Order}
 use Rattle.pcap_reader.specs.declared.start.Start.{Start}
 use Rattle.pcap_reader.specs.Capture.{Next, End, Record, Fault, next_of}
-use Rattle.pcap_reader.specs.Fill.{KeepsReading}
+use Rattle.pcap_reader.specs.Fill.{KeepsReading, IsAtEnd}
 use Rattle.pcap_reader.specs.Start.{start_of, file_header_len}
 
 -- What a reader shows: byte order and link type of its capture, how many records it gave, and
@@ -87,6 +87,17 @@ after_next (Ok None) = with_ending Ended
 after_next (Ok (Some captured)) = and_goes_on
 after_next (Err fault) = after_fault fault
 
+-- the answer is one that comes at the end of the file
+abbrev pub is_cut : CaptureFault → Bool
+is_cut HeaderCut = true
+is_cut (RecordCut number) = true
+is_cut fault = false
+
+abbrev pub meets_end : Result (Option (List ℕ)) CaptureFault → Bool
+meets_end (Ok None) = true
+meets_end (Ok (Some captured)) = false
+meets_end (Err fault) = is_cut fault
+
 -- All that a call of `next` promises of the opened file where records are still to come. The answer
 -- is
 -- that of the bytes which the desk gave in this call, and of all that was left, where that is told.
@@ -96,6 +107,7 @@ pub record ReadsNext (order : Order) (count : ℕ) (old new : DeskView)
   pub reads : ReadsOn (after_next result) given old new
   pub answer : IsNext order count given [] result
   pub told : Steps (λ was now. IsNext order count was.left now.left result) old.content new.content
+  pub end : meets_end result ≡ true → IsAtEnd new
   pub read_fault : result ≡ Err ReadFault → Rose old.read_faults new.read_faults
   pub keeps : KeepsReading old new
 
@@ -139,12 +151,17 @@ abbrev pub after_start : Result Start CaptureFault → Heard → Heard
 after_start (Ok start) = and_goes_on
 after_start (Err fault) = after_fault fault
 
+abbrev pub is_cut_start : Result Start CaptureFault → Bool
+is_cut_start (Ok start) = false
+is_cut_start (Err fault) = is_cut fault
+
 -- All that the reading of a file header promises of the opened file, in the same way.
 pub record ReadsStart (old new : DeskView) (result : Result Start CaptureFault) : Type 0 where
   pub given : List ℕ
   pub reads : ReadsOn (after_start result) given old new
   pub answer : IsStart given [] result
   pub told : Steps (λ was now. IsStart was.left now.left result) old.content new.content
+  pub end : is_cut_start result ≡ true → IsAtEnd new
   pub read_fault : result ≡ Err ReadFault → Rose old.read_faults new.read_faults
   pub keeps : KeepsReading old new
 
