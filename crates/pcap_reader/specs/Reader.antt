@@ -19,8 +19,7 @@ use Rattle.pcap_reader.specs.Fill.{KeepsReading, IsAtEnd}
 use Rattle.pcap_reader.specs.Start.{start_of, file_header_len}
 
 -- What a reader shows: byte order and link type of its capture, how many records it gave, and
--- whether
--- it has ended or failed.
+-- whether it has ended or failed.
 pub record CaptureState : Type 0 where
   pub start : Start
   pub count : ℕ
@@ -71,8 +70,7 @@ pub record BreaksOffAt (Whole : List ℕ → Type 0) (left behind : List ℕ) : 
   pub no_whole : Whole front
 
 -- An answer to what stands next behind so many records, where `left` was left before it and
--- `behind`
--- after it.
+-- `behind` after it.
 abbrev pub IsNext : Order → ℕ → List ℕ → List ℕ → Result (Option (List ℕ)) CaptureFault → Type 0
 IsNext order count left behind (Ok None) = (next_of order count left ≡ End) × (behind ≡ left)
 IsNext order count left behind (Ok (Some captured)) =
@@ -99,8 +97,8 @@ meets_end (Ok (Some captured)) = false
 meets_end (Err fault) = is_cut fault
 
 -- All that a call of `next` promises of the opened file where records are still to come. The answer
--- is
--- that of the bytes which the desk gave in this call, and of all that was left, where that is told.
+-- is that of the bytes which the desk gave in this call, and of all that was left, where that is
+-- told.
 pub record ReadsNext (order : Order) (count : ℕ) (old new : DeskView)
     (result : Result (Option (List ℕ)) CaptureFault) : Type 0 where
   pub given : List ℕ

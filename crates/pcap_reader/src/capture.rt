@@ -15,8 +15,7 @@ use std::marker::Model;
 /// A capture that is read record by record from the opened file of a desk.
 ///
 /// It holds one buffer of 262,144 bytes, into which each record is read, and what its file header
-/// says.
-/// The desk is lent to each call, and must have the same file opened.
+/// says. The desk is lent to each call, and must have the same file opened.
 #[derive(Drop)]
 pub struct Capture {
     start: Start,
@@ -46,8 +45,8 @@ impl Capture {
     /// Begins to read the opened file as a capture: takes the buffer, and reads the file header.
     ///
     /// A file has to be opened, and is read from where it stands. [`BeginFault::OutOfMemory`] comes
-    /// before
-    /// anything is read. No other call takes memory. Source: libpcap savefile format, file header.
+    /// before anything is read. No other call takes memory. Source: libpcap savefile format, file
+    /// header.
     pub fn begin<D: Desk>(alloc: Global, desk: &mut D) -> Result<Capture, BeginFault>
         requires { IsTrue (D.view desk.old).reading }
         ensures { Begins (D.view desk.old) (D.view desk.new) result }
@@ -71,12 +70,10 @@ impl Capture {
     /// The captured bytes of the next record, or `None` at the end of the file.
     ///
     /// The file has to be opened still, and no earlier call may have failed. The bytes are read
-    /// into the
-    /// buffer, and no byte is asked for beyond the record. After `None` it answers `None` again,
-    /// and asks
-    /// for nothing. A fault that isn't [`CaptureFault::ReadFault`] is that of the capture, whose
-    /// numbers
-    /// count records from 1. Source: libpcap savefile format, per-packet header.
+    /// into the buffer, and no byte is asked for beyond the record. After `None` it answers `None`
+    /// again, and asks for nothing. A fault that isn't [`CaptureFault::ReadFault`] is that of the
+    /// capture, whose numbers count records from 1. Source: libpcap savefile format, per-packet
+    /// header.
     pub fn next<D: Desk>(&mut self, desk: &mut D) -> Result<Option<&[u8]>, CaptureFault>
         requires reading { IsTrue (D.view desk.old).reading }
         requires unfailed { has_failed self.old.progress ≡ false }

@@ -38,10 +38,9 @@ pub fn each_record_is_next(left: &[u8])
 {}
 
 /// Over `begin` and the calls of `next`, for any desk: the records given are the whole records of
-/// the bytes
-/// that the desk gave, and none where `begin` met a fault. Once the end or a fault of the capture
-/// was answered, records, link type and ending are
-/// those of the capture that these bytes are.
+/// the bytes that the desk gave, and none where `begin` met a fault. Once the end or a fault of the
+/// capture was answered, records, link type and ending are those of the capture that these bytes
+/// are.
 pub fn answers_are_those_of_the_bytes_given(header: &[u8])
     ensures none { (fault : CaptureFault) → IsStart header.now [] (Err fault) →
         whole_records header.now ≡ [] }
@@ -55,8 +54,7 @@ pub fn answers_are_those_of_the_bytes_given(header: &[u8])
 {}
 
 /// Over `begin` and the calls of `next`, where the file is told: once the end or a fault of the
-/// capture was
-/// answered, records, link type and ending are those of the capture that the file is.
+/// capture was answered, records, link type and ending are those of the capture that the file is.
 pub fn answers_are_those_of_the_file(file: &[u8])
     ensures { (start : Start) (answers : List Answer) → start_of file.now ≡ Ok start →
         AreAnswersOn start.order 0 (drop file_header_len file.now) answers →
@@ -64,8 +62,7 @@ pub fn answers_are_those_of_the_file(file: &[u8])
 {}
 
 /// Behind a whole capture its records go on with those of the bytes behind it. So a reader that
-/// gave the
-/// records of the bytes so far has, one record later, given those of one record more.
+/// gave the records of the bytes so far has, one record later, given those of one record more.
 pub fn records_follow_a_whole_capture(front: &[u8], behind: &[u8])
     ensures { (start : Start) (records : List CaptureRecord) → start_of front.now ≡ Ok start →
         capture_of front.now ≡ Ok (record { records = records; fault = None }) →

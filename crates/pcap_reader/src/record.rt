@@ -1,6 +1,7 @@
 //! Reading the file header and the records from the opened file of a desk.
 
 ghost use Rattle.std.specs.Prelude.{◌≤◌, ℕ, List, length, IsTrue, IfOk, IfSome, IsNone};
+ghost use Rattle.pcap_reader.specs.declared.start.Order.{Order};
 ghost use Rattle.pcap_reader.specs.Capture.{max_captured, max_records};
 ghost use Rattle.pcap_reader.specs.Reader.{ReadsNext, ReadsStart, answer_in};
 
@@ -28,8 +29,7 @@ pub fn read_file_header<D: Desk>(desk: &mut D) -> Result<Start, CaptureFault>
 }
 
 /// Reads the record behind so many others into the front of `buffer`, and says how many captured
-/// bytes
-/// it has, or `None` at the end of the file.
+/// bytes it has, or `None` at the end of the file.
 pub fn read_record<D: Desk>(
     desk: &mut D,
     order: Order,
@@ -44,7 +44,7 @@ pub fn read_record<D: Desk>(
         (answer_in buffer.new result) }
 {
     if count >= MAX_RECORDS {
-        return read_end(desk, order, count);
+        return read_end(desk, count);
     }
     let mut header = [0; RECORD_HEADER];
     match fill(desk, &mut header) {
@@ -66,15 +66,14 @@ pub fn read_record<D: Desk>(
 
 /// Reads no record behind the last that a capture may have: `None` at the end of the file, else a
 /// fault.
-fn read_end<D: Desk>(desk: &mut D, order: Order, count: u64) -> Result<Option<usize>, CaptureFault>
+fn read_end<D: Desk>(desk: &mut D, count: u64) -> Result<Option<usize>, CaptureFault>
     requires reading { IsTrue (D.view desk.old).reading }
     requires last { max_records ≤ count }
 
     ensures none { IfOk result IsNone }
-    ensures record { (buffer : List ℕ) → ReadsNext order count (D.view desk.old) (D.view desk.new)
-        (answer_in buffer result) }
+    ensures record { (order : Order) (buffer : List ℕ) →
+        ReadsNext order count (D.view desk.old) (D.view desk.new) (answer_in buffer result) }
 {
-    let _ = order;
     let mut byte = [0; 1];
     match fill(desk, &mut byte) {
         Ok(0) => Ok(None),

@@ -78,8 +78,8 @@ fn a_capture_ends_by_its_records_its_first_fault_or_a_read_fault(
     rt: HostRuntime,
 ) -> Result<(), Fail> {
     // Call 1 opens the file and call 2 reads its header, where a call gives 100 bytes. The length
-    // of the
-    // file, the bytes of a call, the call that fails, and how many records come before the ending.
+    // of the file, the bytes of a call, the call that fails, and how many records come before the
+    // ending.
     let cases: [(usize, usize, u64, usize, Result<(), CaptureFault>); 10] = [
         (77, 100, 0, 3, Ok(())),
         (77, 5, 0, 3, Ok(())),
