@@ -85,7 +85,8 @@ no_read_fault : (result : Result Start CaptureFault) (before now : ℕ) → IsJu
     Rose before now
 no_read_fault result before now judged is = absurd (rw is at judged)
 
-not_cut : (new : DeskView) (result : Result Start CaptureFault) → IsJudged result → is_cut_start result ≡ true → IsAtEnd new
+not_cut : (new : DeskView) (result : Result Start CaptureFault) → IsJudged result → is_cut_start result ≡ true →
+    IsAtEnd new
 not_cut new (Ok start) judged cut = absurd (false≢true cut)
 not_cut new (Err Magic) judged cut = absurd (false≢true cut)
 not_cut new (Err Version) judged cut = absurd (false≢true cut)

@@ -91,6 +91,7 @@ is_cut HeaderCut = true
 is_cut (RecordCut number) = true
 is_cut fault = false
 
+-- the answer is the end of the file, or a record that the end of the file cuts
 abbrev pub meets_end : Result (Option (List ℕ)) CaptureFault → Bool
 meets_end (Ok None) = true
 meets_end (Ok (Some captured)) = false
@@ -149,6 +150,7 @@ abbrev pub after_start : Result Start CaptureFault → Heard → Heard
 after_start (Ok start) = and_goes_on
 after_start (Err fault) = after_fault fault
 
+-- the answer is a file header that the end of the file cuts
 abbrev pub is_cut_start : Result Start CaptureFault → Bool
 is_cut_start (Ok start) = false
 is_cut_start (Err fault) = is_cut fault
