@@ -23,7 +23,8 @@ StandsAt-found files place file name in_list is same none_before =
     )
 
 -- the bytes from one on are the first of them and those from a later one on
-pub rest_of-split : (file : Option MemFile) (at count : ℕ) → rest_of file at ≡ take count (rest_of file at) ++ rest_of file (at + count)
+pub rest_of-split : (file : Option MemFile) (at count : ℕ) →
+    rest_of file at ≡ take count (rest_of file at) ++ rest_of file (at + count)
 rest_of-split None at count = sym (append-nil (take count []) ∙ take_all count [] (omega arith))
 rest_of-split (Some file) at count =
     sym (ap (λ rest. take count (drop at file.bytes.items) ++ rest) (sym (drop-drop count at file.bytes.items)) ∙

@@ -7,7 +7,8 @@ use Rattle.acl_outside.specs.Desk.{Content, Gives}
 use Rattle.acl_outside.specs.Reading.{GivesUpTo}
 
 -- the bytes of two reads, one after the other
-pub Gives-append : (first second : List ℕ) (old mid new : Content) → Gives first old mid → Gives second mid new → Gives (first ++ second) old new
+pub Gives-append : (first second : List ℕ) (old mid new : Content) → Gives first old mid → Gives second mid new →
+    Gives (first ++ second) old new
 Gives-append first second old mid new a b = record {
   files = b.files ∙ a.files;
   opened = b.opened ∙ a.opened;
@@ -15,7 +16,8 @@ Gives-append first second old mid new a b = record {
 }
 
 -- as many bytes as the cap allows
-pub Gives-capped : (cap : ℕ) (bytes : List ℕ) → length bytes ≡ cap → (old new : Content) → Gives bytes old new → GivesUpTo cap bytes old new
+pub Gives-capped : (cap : ℕ) (bytes : List ℕ) → length bytes ≡ cap → (old new : Content) → Gives bytes old new →
+    GivesUpTo cap bytes old new
 Gives-capped cap bytes full old new given = record {
   files = given.files;
   opened = given.opened;
@@ -24,7 +26,8 @@ Gives-capped cap bytes full old new given = record {
 }
 
 -- all bytes that were left, of which the cap allows as many
-pub Gives-whole : (cap : ℕ) (bytes : List ℕ) → length bytes ≤ cap → (old new : Content) → new.left ≡ [] → Gives bytes old new → GivesUpTo cap bytes old new
+pub Gives-whole : (cap : ℕ) (bytes : List ℕ) → length bytes ≤ cap → (old new : Content) → new.left ≡ [] →
+    Gives bytes old new → GivesUpTo cap bytes old new
 Gives-whole cap bytes few old new ended given =
     let whole : old.left ≡ bytes = given.left ∙ ap (λ xs. bytes ++ xs) ended ∙ append-nil bytes in
     record {
@@ -36,30 +39,36 @@ Gives-whole cap bytes few old new ended given =
 
 -- Bytes were given, and then no more: nothing was left.
 pub Steps-to_end : (cap : ℕ) (bytes : List ℕ) → length bytes ≤ cap → (old mid new : Option Content) →
-    Steps (Gives bytes) old mid → ((content : Content) → mid ≡ Some content → content.left ≡ []) → Steps (Gives []) mid new →
+    Steps (Gives bytes) old mid → ((content : Content) → mid ≡ Some content → content.left ≡ []) →
+        Steps (Gives []) mid new →
     Steps (GivesUpTo cap bytes) old new
 Steps-to_end cap bytes few None None None given ended last = tt
 Steps-to_end cap bytes few (Some old) (Some mid) (Some new) given ended last =
     Gives-whole cap bytes few old new (sym last.left ∙ ended mid refl)
-    record { files = last.files ∙ given.files; opened = last.opened ∙ given.opened; left = given.left ∙ ap (λ xs. bytes ++ xs) last.left }
+    record { files = last.files ∙ given.files; opened = last.opened ∙ given.opened;
+        left = given.left ∙ ap (λ xs. bytes ++ xs) last.left }
 Steps-to_end cap bytes few None (Some mid) new given ended last = absurd given
 Steps-to_end cap bytes few (Some old) None new given ended last = absurd given
 Steps-to_end cap bytes few None None (Some new) given ended last = absurd last
 Steps-to_end cap bytes few (Some old) (Some mid) None given ended last = absurd last
 
 -- what was read behind the first len bytes of a list stands behind them
-pub take-read_behind : (n len count : ℕ) (xs read rest behind : List ℕ) → len ≤ length xs → count ≤ length read → len + count ≤ n →
+pub take-read_behind : (n len count : ℕ) (xs read rest behind : List ℕ) → len ≤ length xs → count ≤ length read →
+    len + count ≤ n →
     take (len + count) (take n ((take len xs ++ (read ++ rest)) ++ behind)) ≡ take len xs ++ take count read
 take-read_behind n len count xs read rest behind in_list in_read in_all =
     let all : List ℕ = take len xs ++ (read ++ rest) in
     let front : length (take len xs) ≡ len = length-take-le len xs in_list in
-    let long : len + count ≤ length all = omega (arith, length-append (take len xs) (read ++ rest), length-append read rest) in
+    let long : len + count ≤ length all = omega (arith, length-append (take len xs) (read ++ rest),
+        length-append read rest) in
     take-take (len + count) n (all ++ behind) in_all ∙ take-append-le (len + count) all behind long ∙
-    subst (λ k. take (k + count) all ≡ take len xs ++ take count (read ++ rest)) front (take-append-add (take len xs) (read ++ rest) count) ∙
+    subst (λ k. take (k + count) all ≡ take len xs ++ take count (read ++ rest)) front
+        (take-append-add (take len xs) (read ++ rest) count) ∙
     ap (λ ys. take len xs ++ ys) (take-append-le count read rest in_read)
 
 -- and where nothing was read behind them, the first len bytes are what they were
-pub take-read_end : (n len : ℕ) (xs read rest behind before : List ℕ) → len ≤ length xs → len ≤ n → take len xs ≡ take len before →
+pub take-read_end : (n len : ℕ) (xs read rest behind before : List ℕ) → len ≤ length xs → len ≤ n →
+    take len xs ≡ take len before →
     take len (take n ((take len xs ++ (read ++ rest)) ++ behind)) ≡ take len before
 take-read_end n len xs read rest behind before in_list in_all kept =
     ap (λ k. take k (take n ((take len xs ++ (read ++ rest)) ++ behind))) (sym (add-zero len)) ∙

@@ -6,11 +6,13 @@ use Rattle.acl_outside.specs.Sink.{SinkView, Appends, Gains, GainsPrefix}
 use Rattle.acl_outside.proofs.ToldLaws.{Steps-join}
 
 -- bytes at the end, and then more bytes
-pub Appends-then : (first second old mid new : List ℕ) → Appends first old mid → Appends second mid new → Appends (first ++ second) old new
+pub Appends-then : (first second old mid new : List ℕ) → Appends first old mid → Appends second mid new →
+    Appends (first ++ second) old new
 Appends-then first second old mid new a b = b ∙ ap (λ xs. xs ++ second) a ∙ append_assoc old first second
 
 -- a text, and then another
-pub Gains-then : (first second : List ℕ) (old mid new : SinkView) → Gains first old mid → Gains second mid new → Gains (first ++ second) old new
+pub Gains-then : (first second : List ℕ) (old mid new : SinkView) → Gains first old mid → Gains second mid new →
+    Gains (first ++ second) old new
 Gains-then first second old mid new a b = record {
   taken = Appends-then first second old.taken mid.taken new.taken a.taken b.taken;
   written = Steps-join (Appends first) (Appends second) (Appends (first ++ second)) (Appends-then first second)
@@ -18,7 +20,8 @@ Gains-then first second old mid new a b = record {
 }
 
 -- a text, and then a prefix of another
-pub GainsPrefix-then : (first second : List ℕ) (old mid new : SinkView) → Gains first old mid → GainsPrefix second mid new →
+pub GainsPrefix-then : (first second : List ℕ) (old mid new : SinkView) → Gains first old mid →
+    GainsPrefix second mid new →
     GainsPrefix (first ++ second) old new
 GainsPrefix-then first second old mid new a b = record {
   prefix = first ++ b.prefix;
@@ -28,7 +31,8 @@ GainsPrefix-then first second old mid new a b = record {
 }
 
 -- a prefix of a text is one of a longer text
-pub GainsPrefix-more : (text more : List ℕ) (old new : SinkView) → GainsPrefix text old new → GainsPrefix (text ++ more) old new
+pub GainsPrefix-more : (text more : List ℕ) (old new : SinkView) → GainsPrefix text old new →
+    GainsPrefix (text ++ more) old new
 GainsPrefix-more text more old new h = record {
   prefix = h.prefix;
   rest = h.rest ++ more;

@@ -2,7 +2,8 @@
 use Rattle.std.specs.Prelude.{ℕ, ◌==◌, List, [], ◌∷◌, ◌++◌, Bool, true, false, Option, Some, None, if◌then◌else◌}
 use Rattle.acl_outside.specs.Desk.{Answer, Opening, Reading}
 
--- How the reading of a file stands: it couldn't be opened, more of it may come, its end was met, or a read failed.
+-- How the reading of a file stands: it couldn't be opened, more of it may come, its end was met, or
+-- a read failed.
 pub data Ending : Type 0 where
   NotOpened : Ending
   GoesOn : Ending
@@ -18,7 +19,8 @@ pub record Heard : Type 0 where
 -- the same opening with these bytes more
 abbrev pub with_bytes : List ℕ → Heard → Heard
 with_bytes [] file = file
-with_bytes (b ∷ bs) file = record { name = file.name; bytes = file.bytes ++ b ∷ bs; ending = GoesOn }
+with_bytes (b ∷ bs) file = record { name = file.name; bytes = file.bytes ++ b ∷ bs;
+    ending = GoesOn }
 
 -- the same opening with this ending
 abbrev pub with_ending : Ending → Heard → Heard

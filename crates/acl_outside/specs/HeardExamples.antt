@@ -1,4 +1,5 @@
--- Examples of what was heard of files, each checked by evaluation. Answers and openings stand newest first.
+-- Examples of what was heard of files, each checked by evaluation. Answers and openings stand
+-- newest first.
 use Rattle.std.specs.Prelude.{◌≡◌, ℕ, List, [], ◌∷◌, true, false, Some, None, codes, refl}
 use Rattle.acl_outside.specs.Note.{note_of}
 use Rattle.acl_outside.specs.Desk.{Answer, Opening, Reading}
@@ -11,7 +12,8 @@ opening bytes ending = record { name = codes "r"; bytes = bytes; ending = ending
 
 -- an opening and two reads
 abbrev two_reads : List Answer
-two_reads = Reading 8 (Some (3 ∷ [])) ∷ Reading 2 (Some (1 ∷ 2 ∷ [])) ∷ Opening (codes "r") true ∷ []
+two_reads =
+    Reading 8 (Some (3 ∷ [])) ∷ Reading 2 (Some (1 ∷ 2 ∷ [])) ∷ Opening (codes "r") true ∷ []
 
 nothing_asked : heard [] ≡ []
 nothing_asked = refl
@@ -37,7 +39,8 @@ broken_read : heard (Reading 8 None ∷ two_reads) ≡ opening (1 ∷ 2 ∷ 3 �
 broken_read = refl
 
 -- a file that is read on behind its end has grown
-grown_file : heard (Reading 8 (Some (4 ∷ [])) ∷ Reading 8 (Some []) ∷ two_reads) ≡ opening (1 ∷ 2 ∷ 3 ∷ 4 ∷ []) GoesOn ∷ []
+grown_file : heard (Reading 8 (Some (4 ∷ [])) ∷ Reading 8 (Some []) ∷ two_reads) ≡
+    opening (1 ∷ 2 ∷ 3 ∷ 4 ∷ []) GoesOn ∷ []
 grown_file = refl
 
 -- each opening begins anew, also of the same name
@@ -51,10 +54,13 @@ no_opening = refl
 
 -- the notes that the desks and the sink over the system keep
 noted_answers : answers_of (
-    note_of (FAILED ∷ 8 ∷ []) [] ∷ note_of (GIVEN ∷ 2 ∷ []) (1 ∷ 2 ∷ []) ∷ note_of (OPENED ∷ []) (codes "r")
+    note_of (FAILED ∷ 8 ∷ []) [] ∷ note_of (GIVEN ∷ 2 ∷ []) (1 ∷ 2 ∷ [])
+        ∷ note_of (OPENED ∷ []) (codes "r")
     ∷ note_of (NOT_OPENED ∷ []) (codes "c") ∷ [])
-    ≡ Reading 8 None ∷ Reading 2 (Some (1 ∷ 2 ∷ [])) ∷ Opening (codes "r") true ∷ Opening (codes "c") false ∷ []
+    ≡ Reading 8 None ∷ Reading 2 (Some (1 ∷ 2 ∷ [])) ∷ Opening (codes "r") true
+        ∷ Opening (codes "c") false ∷ []
 noted_answers = refl
 
-noted_bytes : taken_of (note_of (TAKEN ∷ []) (3 ∷ []) ∷ note_of (TAKEN ∷ []) (1 ∷ 2 ∷ []) ∷ []) ≡ 1 ∷ 2 ∷ 3 ∷ []
+noted_bytes : taken_of (note_of (TAKEN ∷ []) (3 ∷ []) ∷ note_of (TAKEN ∷ []) (1 ∷ 2 ∷ []) ∷ [])
+    ≡ 1 ∷ 2 ∷ 3 ∷ []
 noted_bytes = refl

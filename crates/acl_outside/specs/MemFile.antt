@@ -5,7 +5,8 @@ use Rattle.acl_outside.specs.declared.mem_desk.MemFile.{MemFile}
 
 -- the files' names and bytes
 abbrev pub files_of : List MemFile → List File
-files_of files = map (λ file. record { name = string_bytes file.name; bytes = file.bytes.items }) files
+files_of files = map (λ file. record { name = string_bytes file.name; bytes = file.bytes.items })
+    files
 
 -- the name of a file, if there is one
 abbrev pub name_of : Option MemFile → Option (List ℕ)
@@ -24,15 +25,18 @@ file_at files (Some place) = slice_get files place
 
 -- the content, with the file at this place opened and read up to this byte
 abbrev pub content_at : List MemFile → Option ℕ → ℕ → Content
-content_at files opened at = record { files = files_of files; opened = name_of (file_at files opened); left = rest_of (file_at files opened) at }
+content_at files opened at = record { files = files_of files;
+    opened = name_of (file_at files opened); left = rest_of (file_at files opened) at }
 
 -- an opened place is one of the list, and no more bytes were read than the file there has
 abbrev pub IsReadAt : List MemFile → Option ℕ → ℕ → Type 0
 IsReadAt files None at = ⊤
-IsReadAt files (Some place) at = (place < length files) × ((file : MemFile) → slice_get files place ≡ Some file → at ≤ length file.bytes.items)
+IsReadAt files (Some place) at = (place < length files) ×
+    ((file : MemFile) → slice_get files place ≡ Some file → at ≤ length file.bytes.items)
 
 -- The first file of that name stands there, or there is none.
 abbrev pub StandsAt : List MemFile → List ℕ → Option ℕ → Type 0
 StandsAt files name None = bytes_of (files_of files) name ≡ None
-StandsAt files name (Some place) = (file : MemFile) × (slice_get files place ≡ Some file) × (string_bytes file.name ≡ name)
+StandsAt files name (Some place) = (file : MemFile) × (slice_get files place ≡ Some file) ×
+    (string_bytes file.name ≡ name)
     × (bytes_of (files_of files) name ≡ Some file.bytes.items)

@@ -1,4 +1,5 @@
--- What the desk and the sink over memory are, and how their calls end. They stand in for the outside in tests.
+-- What the desk and the sink over memory are, and how their calls end. They stand in for the
+-- outside in tests.
 use Rattle.std.specs.Prelude.{◌≡◌, ℕ, ◌-◌, List, [], ◌∷◌, length, Bool, true, not, ◌&&◌, ◌||◌, ◌==◌, nat_lt, min, Some, is_some}
 use Rattle.std.specs.List.{list_any}
 use Rattle.acl_outside.specs.Fault.{next_count}
@@ -14,8 +15,8 @@ distinct_names (file ∷ files) = not (is_some (bytes_of files file.name)) && di
 abbrev pub is_listed : List ℕ → ℕ → Bool
 is_listed failing number = list_any (λ listed. listed == number) failing
 
--- A desk over memory: its content, its answers so far and its counts, how many bytes it moves at most in a call,
--- the numbers of the calls that fail, and how many calls were made.
+-- A desk over memory: its content, its answers so far and its counts, how many bytes it moves at
+-- most in a call, the numbers of the calls that fail, and how many calls were made.
 pub record MemDeskView : Type 0 where
   pub content : Content
   pub answers : List Answer
@@ -53,8 +54,9 @@ pub record CountsCall (old new : MemDeskView) : Type 0 where
   pub piece : new.piece ≡ old.piece
   pub failing : new.failing ≡ old.failing
 
--- A sink over memory: what was written and the count of its faults, for how many bytes it has room in all,
--- how many it moves at most in a put, the numbers of the puts that fail, and how many puts of non-empty pieces were made.
+-- A sink over memory: what was written and the count of its faults, for how many bytes it has room
+-- in all, how many it moves at most in a put, the numbers of the puts that fail, and how many puts
+-- of non-empty pieces were made.
 pub record MemSinkView : Type 0 where
   pub written : List ℕ
   pub room : ℕ
@@ -67,9 +69,11 @@ pub record MemSinkView : Type 0 where
 abbrev pub shown_sink : MemSinkView → SinkView
 shown_sink sink = record { taken = sink.written; written = Some sink.written; faults = sink.faults }
 
--- a put of a piece of this length fails: it isn't empty, and no room is left or its number is one of those that fail
+-- a put of a piece of this length fails: it isn't empty, and no room is left or its number is one
+-- of those that fail
 abbrev pub put_fails : MemSinkView → ℕ → Bool
-put_fails sink len = nat_lt 0 len && (not (nat_lt (length sink.written) sink.room) || is_listed sink.failing (next_count sink.puts))
+put_fails sink len = nat_lt 0 len && (not (nat_lt (length sink.written) sink.room) ||
+    is_listed sink.failing (next_count sink.puts))
 
 -- how many bytes of a piece of this length a put takes
 abbrev pub put_len : MemSinkView → ℕ → ℕ

@@ -3,8 +3,9 @@ use Rattle.std.specs.Prelude.{ℕ, List, Bool, Option, None}
 use Rattle.acl_outside.specs.Desk.{Answer, DeskView}
 use Rattle.acl_outside.specs.Sink.{SinkView}
 
--- A desk over the system: the bytes that were read of the opened file and not given yet, what is still to come of it
--- with these, where that is known, its answers so far, whether a file is opened, and the count of its read faults.
+-- A desk over the system: the bytes that were read of the opened file and not given yet, what is
+-- still to come of it with these, where that is known, its answers so far, whether a file is
+-- opened, and the count of its read faults.
 pub record StdDeskView : Type 0 where
   pub held : List ℕ
   pub remaining : Option (List ℕ)
@@ -22,8 +23,8 @@ shown_std_desk desk = record {
   absent = 0;
 }
 
--- A sink over a writer of the system: the bytes that the writer holds, where they are known, those that the sink took
--- so far, and the count of its faults.
+-- A sink over a writer of the system: the bytes that the writer holds, where they are known, those
+-- that the sink took so far, and the count of its faults.
 pub record StdSinkView : Type 0 where
   pub contents : Option (List ℕ)
   pub taken : List ℕ

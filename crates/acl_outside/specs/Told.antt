@@ -1,4 +1,5 @@
--- What the outside may tell or keep to itself: a real file or terminal tells nothing of its content.
+-- What the outside may tell or keep to itself: a real file or terminal tells nothing of its
+-- content.
 use Rattle.std.specs.Prelude.{Option, Some, None, ⊤}
 
 -- What is told changes by P, and what isn't told stays so.

@@ -1,13 +1,16 @@
-//! named files and pieces of output → their bytes, a transcript of what was asked and answered, counts of faults
+//! named files and pieces of output → their bytes, a transcript of what was asked and answered,
+//! counts of faults
 //!
-//! A program asks a [`Desk`] for files and gives a [`Sink`] its output, and never learns what stands behind them: memory
-//! in tests, the system else. Clauses see of each what it tells, and what it answered so far.
+//! A program asks a [`Desk`] for files and gives a [`Sink`] its output, and never learns what
+//! stands behind them: memory in tests, the system else. Clauses see of each what it tells, and
+//! what it answered so far.
 //!
 //! - `desk`: the trait of what reads files, and the answer of a call that failed
 //! - `sink`: the trait of what takes output
 //! - `reading`: a file from where it is read on to its end or a cap
 //! - `writing`: a piece as a whole
-//! - `mem_desk`, `mem_sink`, `listed`: files and output in memory, which fail where they are told to
+//! - `mem_desk`, `mem_sink`, `listed`: files and output in memory, which fail where they are told
+//!   to
 //! - `std_desk`, `read_buffer`, `std_sink`: files and output streams of the system
 //! - `transcript`: what was asked and answered, which only clauses read
 #![tactic(auto)]

@@ -17,12 +17,14 @@ pub struct MemFile {
     pub bytes: Vec<u8>,
 }
 
-/// Files in memory, read a piece at a time. It tells its content, and none of its calls takes memory.
+/// Files in memory, read a piece at a time. It tells its content, and none of its calls takes
+/// memory.
 ///
-/// Its calls of `open_file` and `read` are numbered together from 1. Where a call's number stands in the list that it
-/// was made with, the call is a read fault. An `open_file` of a name that isn't there fails too, and then counts as absent,
-/// whether its number is listed or not. A read into an empty slice has a number, and never fails. No other call of it fails.
-/// At 2^64 - 1 the number of calls and the counts of faults stand still.
+/// Its calls of `open_file` and `read` are numbered together from 1. Where a call's number stands
+/// in the list that it was made with, the call is a read fault. An `open_file` of a name that isn't
+/// there fails too, and then counts as absent, whether its number is listed or not. A read into an
+/// empty slice has a number, and never fails. No other call of it fails. At 2^64 - 1 the number of
+/// calls and the counts of faults stand still.
 #[derive(Drop)]
 pub struct MemDesk {
     files: Vec<MemFile>,
@@ -57,7 +59,8 @@ impl Model for MemDesk {
       absent = desk.absent;
     } };
 
-    ghost invariant = { λ desk. IsTrue (distinct_names (files_of desk.files.items)) × (0 < desk.piece) × IsReadAt desk.files.items desk.opened desk.at };
+    ghost invariant = { λ desk. IsTrue (distinct_names (files_of desk.files.items)) ×
+        (0 < desk.piece) × IsReadAt desk.files.items desk.opened desk.at };
 }
 
 impl MemDesk {
@@ -80,8 +83,9 @@ impl MemDesk {
         true
     }
 
-    /// A desk over these files, which gives at most `piece` bytes in a read and whose calls of the numbers
-    /// `failing_reads` fail. No two files have one name, and `piece` is at least 1. It takes no memory.
+    /// A desk over these files, which gives at most `piece` bytes in a read and whose calls of the
+    /// numbers `failing_reads` fail. No two files have one name, and `piece` is at least 1. It
+    /// takes no memory.
     pub fn new(files: Vec<MemFile>, piece: usize, failing_reads: Vec<u64>) -> MemDesk
         requires distinct { IsTrue (distinct_names (files_of files.items)) }
         requires moves { 0 < piece }
@@ -111,7 +115,8 @@ impl MemDesk {
 
     /// The bytes of the named file, or `None` where no such file is there.
     pub fn file(&self, name: &str) -> Option<&[u8]>
-        ensures { option_map (λ bytes. bytes.now) result ≡ bytes_of self.now.content.files name.now }
+        ensures { option_map (λ bytes. bytes.now) result ≡
+            bytes_of self.now.content.files name.now }
     {
         let place = place_of(&self.files, name)?;
         let file = self.files.get(place)?;
@@ -177,10 +182,13 @@ impl Desk for MemDesk {
     fn open_file(&mut self, name: &str) -> Result<(), Failed>
         ensures opens { OpensFile name.now (shown_desk self.old) (shown_desk self.new) result }
         // Exactly where it succeeds, and which count rises where it doesn't.
-        ensures succeeds { is_ok result ≡ (has_file self.old name.now && not (next_fails self.old)) }
-        ensures read_faults { self.new.read_faults ≡ (if has_file self.old name.now && next_fails self.old
+        ensures succeeds { is_ok result ≡ (has_file self.old name.now &&
+            not (next_fails self.old)) }
+        ensures read_faults { self.new.read_faults ≡
+            (if has_file self.old name.now && next_fails self.old
             then next_count self.old.read_faults else self.old.read_faults) }
-        ensures absent { self.new.absent ≡ (if has_file self.old name.now then self.old.absent else next_count self.old.absent) }
+        ensures absent { self.new.absent ≡ (if has_file self.old name.now then self.old.absent else
+            next_count self.old.absent) }
         ensures call { CountsCall self.old self.new }
     {
         self.calls = self.calls.saturating_add(1);
@@ -204,11 +212,13 @@ impl Desk for MemDesk {
     fn read(&mut self, into: &mut [u8]) -> Result<usize, Failed>
         requires { IsTrue (shown_desk self.old).reading }
 
-        ensures reads { ReadsInto into.old into.new (shown_desk self.old) (shown_desk self.new) result }
+        ensures reads { ReadsInto into.old into.new (shown_desk self.old) (shown_desk self.new)
+            result }
         // Exactly where it fails, and how many bytes it gives where it doesn't.
         ensures fails { is_err result ≡ (nat_lt 0 (length into.old) && next_fails self.old) }
         ensures moved { IfOk result (λ count. count ≡ read_len self.old (length into.old)) }
-        ensures read_faults { self.new.read_faults ≡ (if is_ok result then self.old.read_faults else next_count self.old.read_faults) }
+        ensures read_faults { self.new.read_faults ≡
+            (if is_ok result then self.old.read_faults else next_count self.old.read_faults) }
         ensures call { CountsCall self.old self.new }
     {
         self.calls = self.calls.saturating_add(1);

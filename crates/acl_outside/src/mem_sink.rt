@@ -1,4 +1,5 @@
-//! A sink over memory, which stands in for an output stream in tests, and fails where it is told to.
+//! A sink over memory, which stands in for an output stream in tests, and fails where it is told
+//! to.
 
 use crate::desk::Failed;
 use crate::listed::is_listed;
@@ -6,10 +7,12 @@ use crate::sink::Sink;
 use std::alloc::{AllocError, Global};
 use std::marker::Model;
 
-/// A sink that keeps what is written, up to the room that it was made with. It tells what was written, and a put takes no memory.
+/// A sink that keeps what is written, up to the room that it was made with. It tells what was
+/// written, and a put takes no memory.
 ///
-/// Its puts of non-empty pieces are numbered from 1. Such a put fails exactly where its number stands in the list that the
-/// sink was made with, or no room is left. At 2^64 - 1 the number of puts and the count of faults stand still.
+/// Its puts of non-empty pieces are numbered from 1. Such a put fails exactly where its number
+/// stands in the list that the sink was made with, or no room is left. At 2^64 - 1 the number of
+/// puts and the count of faults stand still.
 #[derive(Drop)]
 pub struct MemSink {
     /// What was written, in memory that was taken for `room` bytes.
@@ -37,15 +40,18 @@ impl Model for MemSink {
       faults = sink.faults;
     } };
 
-    ghost invariant = { λ sink. (vec_len sink.bytes ≤ sink.room) × (sink.room ≤ vec_capacity sink.bytes) × (0 < sink.piece) };
+    ghost invariant = { λ sink. (vec_len sink.bytes ≤ sink.room) ×
+        (sink.room ≤ vec_capacity sink.bytes) × (0 < sink.piece) };
 }
 
 impl MemSink {
     ghost use Rattle.std.specs.Prelude.{◌≡◌, ◌<◌, [], IfOk};
 
-    /// A sink with room for `room` bytes, whose puts take at most `piece` bytes and fail at the numbers `failing`.
+    /// A sink with room for `room` bytes, whose puts take at most `piece` bytes and fail at the
+    /// numbers `failing`.
     ///
-    /// `piece` is at least 1. It takes the memory for `room` bytes, and is an `Err` where that can't be had.
+    /// `piece` is at least 1. It takes the memory for `room` bytes, and is an `Err` where that
+    /// can't be had.
     pub fn new(
         alloc: Global,
         room: usize,
@@ -96,12 +102,15 @@ impl Sink for MemSink {
     ghost view = { shown_sink };
 
     fn put(&mut self, piece: &[u8]) -> Result<usize, Failed>
-        ensures puts_prefix { PutsPrefix piece.now (shown_sink self.old) (shown_sink self.new) result }
+        ensures puts_prefix { PutsPrefix piece.now (shown_sink self.old) (shown_sink self.new)
+            result }
         // Exactly where it fails, and how many bytes it takes where it doesn't.
         ensures fails { is_err result ≡ put_fails self.old (length piece.now) }
         ensures moved { IfOk result (λ count. count ≡ put_len self.old (length piece.now)) }
-        ensures puts { self.new.puts ≡ (if nat_lt 0 (length piece.now) then next_count self.old.puts else self.old.puts) }
-        ensures faults { self.new.faults ≡ (if is_ok result then self.old.faults else next_count self.old.faults) }
+        ensures puts { self.new.puts ≡ (if nat_lt 0 (length piece.now) then next_count self.old.puts
+            else self.old.puts) }
+        ensures faults { self.new.faults ≡ (if is_ok result then self.old.faults else next_count
+            self.old.faults) }
         ensures kept { KeepsRules self.old self.new }
     {
         if piece.is_empty() {

@@ -7,8 +7,9 @@ use crate::desk::Failed;
 use std::io::{ErrorKind, Read};
 use std::marker::Model;
 
-/// How many bytes the buffer holds at most: one call of the system reads as many.
-pub(crate) const BUFFER_SIZE: usize = 64 * 1024;
+/// How many bytes the buffer holds at most: one call of the system reads as many. It stands in the
+/// frame of the caller, whose stack it has to fit.
+pub(crate) const BUFFER_SIZE: usize = 16 * 1024;
 
 /// Bytes that were read of a file and not given yet: those of `bytes` from `start` to `end`.
 #[derive(Drop)]
@@ -20,12 +21,13 @@ pub(crate) struct ReadBuffer {
 
 impl Model for ReadBuffer {
     ghost use Rattle.std.specs.Prelude.{ℕ, ◌-◌, ◌≤◌, List, take, drop};
+    ghost use Rattle.acl_outside.specs.declared.read_buffer.TheConstants.{BUFFER_SIZE};
 
     ghost Value = { List ℕ };
 
     ghost view = { λ buffer. take (buffer.end - buffer.start) (drop buffer.start buffer.bytes) };
 
-    ghost invariant = { λ buffer. (buffer.start ≤ buffer.end) × (buffer.end ≤ 65536) };
+    ghost invariant = { λ buffer. (buffer.start ≤ buffer.end) × (buffer.end ≤ BUFFER_SIZE) };
 }
 
 impl ReadBuffer {
@@ -54,9 +56,11 @@ impl ReadBuffer {
 
     /// Reads once of the file, in place of what was held.
     pub(crate) fn refill<F: Read>(&mut self, file: &mut F) -> Result<(), Failed>
-        ensures read { OnOk result (Consumes (F.remaining file.old) (F.remaining file.new) self.new) }
+        ensures read { OnOk result (Consumes (F.remaining file.old) (F.remaining file.new)
+            self.new) }
         ensures end { OnOk result (self.new ≡ [] → IsAtEnd (F.remaining file.new)) }
-        ensures lost_nothing { OnErr result ((self.new ≡ []) × Keeps (F.remaining file.old) (F.remaining file.new)) }
+        ensures lost_nothing { OnErr result ((self.new ≡ []) ×
+            Keeps (F.remaining file.old) (F.remaining file.new)) }
     {
         self.start = 0;
         self.end = 0;
@@ -78,7 +82,8 @@ impl ReadBuffer {
     }
 }
 
-/// Reads once of the file into the front of the slice, and says how many bytes. A read that is interrupted is made again.
+/// Reads once of the file into the front of the slice, and says how many bytes. A read that is
+/// interrupted is made again.
 pub(crate) fn read_once<F: Read>(file: &mut F, into: &mut [u8]) -> Result<usize, Failed>
     ensures within { IfOk result (λ count. count ≤ length into.old) }
     ensures bytes { ReadConsumes (F.remaining file.old) (F.remaining file.new) result into.new }

@@ -18,10 +18,11 @@ pub enum ReadAll {
 /// The first and smallest part that is made for the bytes of a file.
 const FIRST_PART: usize = 64 * 1024;
 
-/// The bytes of the opened file from where it is read on: up to its end, or `cap` of them where it has more.
+/// The bytes of the opened file from where it is read on: up to its end, or `cap` of them where it
+/// has more.
 ///
-/// An `Err` has lost some prefix of what was left. It takes memory for 64 KiB first, and then for as much again
-/// as was read, and reads straight into it.
+/// An `Err` has lost some prefix of what was left. It takes memory for 64 KiB first, and then for
+/// as much again as was read, and reads straight into it.
 pub fn read_up_to<D: Desk>(alloc: Global, desk: &mut D, cap: usize) -> Result<Vec<u8>, ReadAll>
     requires { IsTrue (D.view desk.old).reading }
 

@@ -6,12 +6,15 @@ use crate::desk::Failed;
 
 /// Takes bytes, one piece after the other.
 ///
-/// A sink begins with nothing taken and its count 0. No call takes memory where the implementation doesn't say so.
+/// A sink begins with nothing taken and its count 0. No call takes memory where the implementation
+/// doesn't say so.
 pub trait Sink {
-    /// What the sink shows of itself: what it took, what was written, where it tells that, and its count of faults.
+    /// What the sink shows of itself: what it took, what was written, where it tells that, and its
+    /// count of faults.
     ghost view: { Self → SinkView };
 
-    /// Takes a prefix of the piece, and says how many bytes it has: at least one, but for an empty piece.
+    /// Takes a prefix of the piece, and says how many bytes it has: at least one, but for an empty
+    /// piece.
     ///
     /// `Failed`: nothing was taken.
     fn put(&mut self, piece: &[u8]) -> Result<usize, Failed>

@@ -13,10 +13,12 @@ use std::rt::Files;
 
 /// Files of the system, of which it tells nothing. None of its calls takes memory.
 ///
-/// It reads through a buffer of its own of 64 KiB, or straight into a slice that is as large, so that reading a file
-/// to its end takes one call of the system for each 64 KiB and one for the end, where the system gives as much at a time.
-/// A read that is interrupted before it gives a byte is made again. Every opening that fails is a read fault, also where
-/// the file isn't there. A folder can be opened, and reading it is a fault. Its count of read faults stands still at 2^64 - 1.
+/// It reads through a buffer of its own of 16 KiB, or straight into a slice that is as large, so
+/// that reading a file takes one call of the system for each 16 KiB or for each slice, and one for
+/// the end, where the system gives as much at a time. A read that is interrupted before it gives a
+/// byte is made again. Every opening that fails is a read fault, also where the file isn't there. A
+/// folder can be opened, and reading it is a fault. Its count of read faults stands still at 2^64 -
+/// 1.
 /// Source: POSIX.1-2017, `open` and `read`.
 #[derive(Drop)]
 pub struct StdDesk<'a, R: Files> {
@@ -38,7 +40,8 @@ impl<'a, R: Files> Model for StdDesk<'a, R> {
 
     ghost view = { λ desk. record {
       held = desk.buffer;
-      remaining = option_and_then (λ file. prepend_known desk.buffer (R.File.remaining file)) desk.opened;
+      remaining = option_and_then (λ file. prepend_known desk.buffer (R.File.remaining file))
+          desk.opened;
       answers = answers_of desk.transcript.notes;
       reading = is_some desk.opened;
       read_faults = desk.read_faults;
@@ -50,7 +53,8 @@ impl<'a, R: Files> StdDesk<'a, R> {
 
     /// A desk over the files that the runtime opens. It takes no memory.
     pub fn new(rt: &'a R) -> StdDesk<'a, R>
-        ensures { result ≡ record { held = []; remaining = None; answers = []; reading = false; read_faults = 0 } }
+        ensures { result ≡ record { held = []; remaining = None; answers = []; reading = false;
+            read_faults = 0 } }
     {
         StdDesk {
             rt,
@@ -72,12 +76,14 @@ impl<'a, R: Files> Desk for StdDesk<'a, R> {
     ghost view = { shown_std_desk };
 
     fn open_file(&mut self, name: &str) -> Result<(), Failed>
-        ensures opens { OpensFile name.now (shown_std_desk self.old) (shown_std_desk self.new) result }
+        ensures opens { OpensFile name.now (shown_std_desk self.old) (shown_std_desk self.new)
+            result }
 
         // No byte of the file before is given for one of this file.
         ensures nothing_held { self.new.held ≡ [] }
         // Each failure is a read fault, and nothing else is.
-        ensures read_faults { self.new.read_faults ≡ (if is_ok result then self.old.read_faults else next_count self.old.read_faults) }
+        ensures read_faults { self.new.read_faults ≡
+            (if is_ok result then self.old.read_faults else next_count self.old.read_faults) }
     {
         self.buffer.clear();
         self.opened = fs::open(self.rt, name).ok();
@@ -93,14 +99,18 @@ impl<'a, R: Files> Desk for StdDesk<'a, R> {
     fn read(&mut self, into: &mut [u8]) -> Result<usize, Failed>
         requires { IsTrue self.old.reading }
 
-        ensures reads { ReadsInto into.old into.new (shown_std_desk self.old) (shown_std_desk self.new) result }
+        ensures reads { ReadsInto into.old into.new (shown_std_desk self.old)
+            (shown_std_desk self.new) result }
 
-        // The bytes given are the next of the file, also across the buffer, and no byte of it is lost.
-        ensures next { IfOk result (λ count. Consumes self.old.remaining self.new.remaining (take count into.new)) }
+        // The bytes given are the next of the file, also across the buffer, and no byte of it is
+        // lost.
+        ensures next { IfOk result (λ count. Consumes self.old.remaining self.new.remaining
+            (take count into.new)) }
         ensures at_end { result ≡ Ok 0 → (into.old ≡ []) ⊎ IsAtEnd self.new.remaining }
         ensures kept { OnErr result (Keeps self.old.remaining self.new.remaining) }
         // Each failure is a read fault, and nothing else is.
-        ensures read_faults { self.new.read_faults ≡ (if is_ok result then self.old.read_faults else next_count self.old.read_faults) }
+        ensures read_faults { self.new.read_faults ≡
+            (if is_ok result then self.old.read_faults else next_count self.old.read_faults) }
     {
         let Some(file) = &mut self.opened else {
             unreachable!()
@@ -130,7 +140,8 @@ fn read_buffered<F: Read>(
     // What is still to come of a file is what the buffer holds, and then what the file has left.
     ensures given { IfOk result (λ count. Consumes (prepend_known buffer.old (F.remaining file.old))
         (prepend_known buffer.new (F.remaining file.new)) (take count into.new)) }
-    ensures end { result ≡ Ok 0 → (into.old ≡ []) ⊎ IsAtEnd (prepend_known buffer.new (F.remaining file.new)) }
+    ensures end { result ≡ Ok 0 → (into.old ≡ []) ⊎
+        IsAtEnd (prepend_known buffer.new (F.remaining file.new)) }
     ensures lost_nothing { OnErr result (Keeps (prepend_known buffer.old (F.remaining file.old))
         (prepend_known buffer.new (F.remaining file.new))) }
 {

@@ -11,8 +11,9 @@ use std::marker::Model;
 
 /// A sink over standard output, standard error or another writer, of which it tells nothing.
 ///
-/// Each put is one write, so join what belongs together before it is put. A write that is interrupted before it takes
-/// a byte is made again, and one that takes no byte of a piece has failed. Its count of faults stands still at 2^64 - 1.
+/// Each put is one write, so join what belongs together before it is put. A write that is
+/// interrupted before it takes a byte is made again, and one that takes no byte of a piece has
+/// failed. Its count of faults stands still at 2^64 - 1.
 /// Source: POSIX.1-2017, `write`.
 #[derive(Drop)]
 pub struct StdSink<W: Write + Drop> {
@@ -59,12 +60,14 @@ impl<W: Write + Drop> Sink for StdSink<W> {
     ghost view = { shown_std_sink };
 
     fn put(&mut self, piece: &[u8]) -> Result<usize, Failed>
-        ensures puts_prefix { PutsPrefix piece.now (shown_std_sink self.old) (shown_std_sink self.new) result }
+        ensures puts_prefix { PutsPrefix piece.now (shown_std_sink self.old)
+            (shown_std_sink self.new) result }
 
         // The writer gained the bytes that were taken, and nothing else.
         ensures contents { WriteAppends self.old.contents self.new.contents result piece.now }
         // Each failure is counted, and nothing else is.
-        ensures faults { self.new.faults ≡ (if is_ok result then self.old.faults else next_count self.old.faults) }
+        ensures faults { self.new.faults ≡ (if is_ok result then self.old.faults else next_count
+            self.old.faults) }
     {
         if piece.is_empty() {
             return Ok(0);
@@ -82,8 +85,8 @@ impl<W: Write + Drop> Sink for StdSink<W> {
     }
 }
 
-/// Writes a prefix of the piece, which isn't empty, and says how many bytes it has. A write that is interrupted
-/// is made again, and one that takes nothing has failed.
+/// Writes a prefix of the piece, which isn't empty, and says how many bytes it has. A write that is
+/// interrupted is made again, and one that takes nothing has failed.
 fn write_once<W: Write>(writer: &mut W, piece: &[u8]) -> Result<usize, Failed>
     ensures within { IfOk result (λ count. (0 < count) × (count ≤ length piece.now)) }
     ensures bytes { WriteAppends (W.contents writer.old) (W.contents writer.new) result piece.now }

@@ -29,8 +29,8 @@ fn reads<R: Abort + AllocGlobal, D: Desk>(rt: &R, desk: &mut D, cap: usize, want
 
 #[test]
 fn a_file_in_memory_is_read_to_its_end_its_cap_or_its_fault(rt: HostRuntime) -> Result<(), Fail> {
-    // A read gives three bytes. Call 1 finds no file, call 2 opens one, calls 3 to 6 read it, and call 7 meets its end.
-    // What is read first and then, or none for a read fault.
+    // A read gives three bytes. Call 1 finds no file, call 2 opens one, calls 3 to 6 read it, and
+    // call 7 meets its end. What is read first and then, or none for a read fault.
     let cases: [(&str, usize, u64, Option<&str>, Option<&str>); 8] = [
         ("digits", 100, 0, Some("0123456789"), Some("")),
         ("digits", 11, 0, Some("0123456789"), Some("")),
@@ -81,7 +81,8 @@ fn a_sink_in_memory_takes_pieces_up_to_its_room_or_its_fault(rt: HostRuntime) ->
 
 #[test]
 fn a_file_of_the_system_is_read_as_it_was_written(rt: HostRuntime) -> Result<(), Fail> {
-    // A name keeps its spaces, and 9,600,000 bytes are more than two buffers and two parts of memory.
+    // A name keeps its spaces, and 9,600,000 bytes are more than two buffers and two parts of
+    // memory.
     let path = " acl_outside std_desk test ";
     let alloc = rt.alloc();
     let mut written = Vec::new(alloc);

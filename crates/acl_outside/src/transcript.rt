@@ -65,7 +65,8 @@ impl Transcript {
     }
 
     pub(crate) fn note_given(&mut self, room: usize, bytes: &[u8])
-        ensures { answers_of self.new.notes ≡ Reading room (Some bytes.now) ∷ answers_of self.old.notes }
+        ensures { answers_of self.new.notes ≡ Reading room (Some bytes.now)
+            ∷ answers_of self.old.notes }
     {
         self.note(&[GIVEN, room as u64], bytes);
     }

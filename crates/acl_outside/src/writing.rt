@@ -7,7 +7,8 @@ use crate::sink::Sink;
 
 /// Puts the whole piece, in as many puts as that needs. Of an empty piece it puts nothing.
 ///
-/// `Failed`: a put failed, and some prefix of the piece was taken. It takes no memory where a put takes none.
+/// `Failed`: a put failed, and some prefix of the piece was taken. It takes no memory where a put
+/// takes none.
 pub fn put_all<O: Sink>(out: &mut O, piece: &[u8]) -> Result<(), Failed>
     ensures { Puts piece.now (O.view out.old) (O.view out.new) result }
 {

@@ -10,7 +10,8 @@ returns-in_err-written g c =
     rw (failed.1)
     record {
       whole = tt;
-      prefix = GainsPrefix-failed c.puts.written c.args.piece.now _ _ _ c.puts.invariant.so_far c.in_err-written.ensures.took_nothing;
+      prefix = GainsPrefix-failed c.puts.written c.args.piece.now _ _ _ c.puts.invariant.so_far
+          c.in_err-written.ensures.took_nothing;
       cause = omega (arith, c.puts.invariant.count, c.in_err-written.ensures.cause);
       count = omega (arith, c.puts.invariant.count, c.in_err-written.ensures.count);
     }

@@ -12,7 +12,8 @@ returns-clause-reads c = record {
       record {
         files = refl;
         opened = refl;
-        left = rest_of-split (file_at c.self.inside.files.items c.self.inside.opened) c.self.inside.at c.move_prefix-count.result;
+        left = rest_of-split (file_at c.self.inside.files.items c.self.inside.opened) c.self.inside.at
+            c.move_prefix-count.result;
       };
   end = grind (arith, common_steps);
   empty = search rules;
