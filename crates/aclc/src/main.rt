@@ -1,5 +1,5 @@
-//! The program `aclc`: the words of the command line in, `run` of acl_tool over the files and streams of the system, its
-//! exit code out.
+//! The program `aclc`: the words of the command line in, `run` of acl_tool over the files and
+//! streams of the system, its exit code out.
 #![tactic(auto)]
 
 ghost use Rattle.std.specs.Prelude.{◌≡◌, None, drop, map, string_bytes, IfSome};
@@ -11,16 +11,22 @@ ghost use Rattle.acl_tool.specs.Effects.{Runs, outside};
 use acl_outside::{Desk, Sink, StdDesk, StdSink};
 use acl_tool::run;
 use std::alloc::Global;
-use std::env;
+use std::os::fd::AsRawFd;
 use std::process::ExitCode;
+use std::{env, fs};
 
 #[cfg(test)]
 mod tests;
 
-/// The exit code where the words can't be had from the system, as where one isn't UTF-8. No status has it.
+/// The exit code where the words can't be had from the system, as where one isn't UTF-8. No status
+/// has it.
 const NO_WORDS: u8 = 1;
 
+/// The numbers of standard input, output and error are at most this one.
+const LAST_STREAM: i32 = 2;
+
 fn main(rt: HostRuntime) -> ExitCode {
+    let _held = (held_stream(&rt), held_stream(&rt), held_stream(&rt));
     let words = match env::args(&rt) {
         Ok(args) => all_words(rt.alloc(), args),
         Err(_) => None,
@@ -31,15 +37,30 @@ fn main(rt: HostRuntime) -> ExitCode {
     ExitCode::from(exit_code(rt.alloc(), words, &mut desk, &mut out, &mut err))
 }
 
-/// All words of a command line, with the program's name in front, or `None` where there is no memory for them.
+/// The null device in the place of a standard stream that is closed, so that no file that is opened
+/// later gets its number and is written over by lines. `None` where none is closed, or the null
+/// device can't be opened.
+///
+/// Source: POSIX.1-2017, `open`, which gives the lowest free number.
+fn held_stream(rt: &HostRuntime) -> Option<fs::File> {
+    let null = fs::open(rt, "/dev/null").ok()?;
+    if null.as_raw_fd() <= LAST_STREAM {
+        Some(null)
+    } else {
+        None
+    }
+}
+
+/// All words of a command line, with the program's name in front, or `None` where there is no
+/// memory for them.
 fn all_words(alloc: Global, args: env::Args) -> Option<Vec<String>>
     ensures { IfSome result (λ words. words.items ≡ into_iter_items args) }
 {
     args.collect(alloc).ok()
 }
 
-/// Runs the command that stands behind the program's name, over any files and streams, and gives the exit code of its
-/// status, or `NO_WORDS` where there are no words.
+/// Runs the command that stands behind the program's name, over any files and streams, and gives
+/// the exit code of its status, or `NO_WORDS` where there are no words.
 fn exit_code<D: Desk, O: Sink, E: Sink>(
     alloc: Global,
     words: Option<Vec<String>>,
@@ -47,12 +68,14 @@ fn exit_code<D: Desk, O: Sink, E: Sink>(
     out: &mut O,
     err: &mut E,
 ) -> u8
-    // The code is that of the status with which the command ended, and all that `run` promises holds.
+    // The code is that of the status with which the command ended, and all that `run` promises
+    // holds.
     ensures ran { IfSome words (λ all. (status : Status) × (result ≡ code_of status)
         × Runs (map string_bytes (drop 1 all.items)) (outside (D.view desk.old) (O.view out.old))
         (outside (D.view desk.new) (O.view out.new)) (E.view err.old) (E.view err.new) status) }
     // Nothing is asked or printed where there are no words.
-    ensures no_words { words ≡ None → (result ≡ NO_WORDS) × (outside (D.view desk.new) (O.view out.new) ≡ outside (D.view desk.old) (O.view out.old))
+    ensures no_words { words ≡ None → (result ≡ NO_WORDS) ×
+        (outside (D.view desk.new) (O.view out.new) ≡ outside (D.view desk.old) (O.view out.old))
         × (E.view err.new ≡ E.view err.old) }
 {
     match words {

@@ -8,7 +8,8 @@ use Rattle.std.specs.declared.vec.Vec.{Vec}
 use Rattle.aclc.proofs.all_words.Goals as goal
 
 -- what is known of a value is known where it is kept
-kept : {A Z E : Type 0} (xs : List A) (result : Result (Vec A Z) E) → IfOk result (λ v. vec_items v ≡ xs) → IfSome (result_ok result) (λ v. v.items ≡ xs)
+kept : {A Z E : Type 0} (xs : List A) (result : Result (Vec A Z) E) → IfOk result (λ v. vec_items v ≡ xs) →
+    IfSome (result_ok result) (λ v. v.items ≡ xs)
 kept xs (Ok v) same = same
 kept xs (Err e) same = tt
 
@@ -16,4 +17,5 @@ pub returns : goal.returns
 returns c =
     rw (c.ok.ensures.value)
     (kept (into_iter_items c.args.args) c.collect.result
-    (items_from_collect c.collect.result c.collect.ensures.ran (YieldsList-from_vec (into_iter_items c.args.args) refl (c.args.args.rest.ok.0))))
+    (items_from_collect c.collect.result c.collect.ensures.ran
+        (YieldsList-from_vec (into_iter_items c.args.args) refl (c.args.args.rest.ok.0))))
