@@ -1,5 +1,5 @@
 -- How `classify` ends, link by link.
-use Rattle.std.proofs.Common.{◌≡◌, ◌≢◌, ◌⊎◌, ℕ, ◌+◌, List, [], ◌++◌, length, true, false, Option, Some, None, Result, Ok, Err, inl, inr, sym, ap, ◌∙◌, refl, arith}
+use Rattle.std.proofs.Common.{◌≡◌, ℕ, ◌+◌, List, true, false, Option, Some, None, Result, Ok, Err, inl, inr, sym, ap, ◌∙◌, refl}
 use Rattle.std.proofs.lemmas.Bool.{false≢true}
 use Rattle.std.specs.declared.vec.Vec.{Vec}
 use Rattle.std.specs.declared.alloc.Global.{Global}
@@ -7,9 +7,9 @@ use Rattle.rule_set.specs.Rule.{RuleView}
 use Rattle.acl_outside.specs.Desk.{File, DeskView}
 use Rattle.acl_outside.specs.Sink.{SinkView}
 use Rattle.acl_tool.specs.declared.status.Status.{Status}
-use Rattle.acl_tool.specs.declared.status.Status.TheVariants.{WriteFault, OutOfMemory}
+use Rattle.acl_tool.specs.declared.status.Status.TheVariants.{OutOfMemory}
 use Rattle.acl_tool.specs.declared.status.CaptureFault.{CaptureFault}
-use Rattle.acl_tool.specs.Command.{Request, Classify, capture_name}
+use Rattle.acl_tool.specs.Command.{Classify}
 use Rattle.acl_tool.specs.Capture.{Capture, capture_of, max_capture}
 use Rattle.acl_tool.specs.Plan.{Outcome, Plan, Give, ◌>>=◌, reading}
 use Rattle.acl_tool.specs.Outcome.{is_decided, is_reported, is_usage, status_of_fault, report_of_capture, report, rules_of_bytes, rules_in, plan_of_request}

@@ -1,5 +1,5 @@
 -- A file that is opened and read.
-use Rattle.std.proofs.Common.{◌≡◌, ◌⊎◌, ℕ, ◌<◌, ◌≤◌, List, [], ◌∷◌, ◌++◌, length, take, drop, true, false, Option, Some, None, Result, Ok, Err, IsSome, inl, inr, sym, ap, ◌∙◌, refl, arith, length-take}
+use Rattle.std.proofs.Common.{◌≡◌, ◌⊎◌, ℕ, ◌<◌, ◌≤◌, List, [], ◌∷◌, length, true, false, Option, Some, None, Ok, Err, IsSome, inl, inr, ap, ◌∙◌, refl, arith, length-take}
 use Rattle.std.proofs.lemmas.List.{drop_all}
 use Rattle.std.specs.Option.{option_map}
 use Rattle.std.specs.declared.vec.Vec.{Vec}
@@ -7,12 +7,12 @@ use Rattle.std.specs.declared.alloc.Global.{Global}
 use Rattle.acl_outside.specs.Fault.{Rose}
 use Rattle.acl_outside.specs.Told.{Steps}
 use Rattle.acl_outside.specs.Desk.{File, Content, DeskView, bytes_of, Opens, GivesUp, Gives, OpensFile, KeepsCounts}
-use Rattle.acl_outside.specs.Heard.{Heard, Ending, NotOpened, GoesOn, Ended, BrokenOff, heard, opening_of, change_newest, with_bytes, with_ending}
-use Rattle.acl_outside.specs.Reading.{GivesUpTo, ReadsOn, ReadsUpTo, and_goes_on, after_fault}
+use Rattle.acl_outside.specs.Heard.{Heard, Ending, GoesOn, Ended, BrokenOff, heard, opening_of, change_newest, with_bytes, with_ending}
+use Rattle.acl_outside.specs.Reading.{GivesUpTo, ReadsOn, ReadsUpTo, and_goes_on}
 use Rattle.acl_outside.specs.declared.reading.ReadAll.TheVariants as reading
 use Rattle.acl_tool.specs.declared.status.Status.TheVariants.{ReadFault, OutOfMemory}
-use Rattle.acl_tool.specs.Follow.{IsPartOf, IsOneOf}
-use Rattle.acl_tool.specs.Effects.{files_of, opened_of, heard_of, KeepsFiles, CannotRead, ReadsFile}
+use Rattle.acl_tool.specs.Follow.{IsPartOf}
+use Rattle.acl_tool.specs.Effects.{files_of, heard_of, KeepsFiles, CannotRead, ReadsFile}
 
 -- what `open_file` says of a file that is there, where the content is told
 abbrev IsKnown : Option Content → List ℕ → DeskView → DeskView → Type 0
@@ -138,6 +138,7 @@ ReadsFile-read name cap old mid new x bytes opens reads = go reads.heard
     absent_kept : (files : List File) → files_of old ≡ Some files → new.absent ≡ old.absent
     absent_kept files told =
         reads.absent ∙ opened_absent name old mid old.content mid.content (λ content at some. (opens.there content at some).0) opens.opened files told
+
     go : (ReadsOn (with_ending Ended) bytes.items mid new × (length bytes.items < cap)) ⊎ (ReadsOn and_goes_on bytes.items mid new × (length bytes.items ≡ cap)) →
         ReadsFile name cap old new (Ok bytes)
     go (inl (on, few)) = record {

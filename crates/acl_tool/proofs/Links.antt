@@ -1,21 +1,20 @@
 -- The links of a command: a step and then the rest, or an end in either. They serve every command.
-use Rattle.std.proofs.Common.{◌≡◌, ◌≢◌, ◌⊎◌, ℕ, ◌+◌, ◌≤◌, List, [], ◌∷◌, ◌++◌, Bool, true, false, Option, Some, None, Result, Ok, Err, IfOk, IfErr, inl, inr, length, sym, ap, subst, ◌∙◌, refl, append-nil, arith}
+use Rattle.std.proofs.Common.{◌≡◌, ◌≢◌, ◌⊎◌, ℕ, List, [], ◌∷◌, ◌++◌, true, false, Option, Some, None, Result, Ok, Err, IfOk, IfErr, inl, inr, length, sym, ap, subst, ◌∙◌, refl, append-nil, arith}
 use Rattle.std.proofs.lemmas.Bool.{false≢true}
 use Rattle.std.specs.Option.{option_map_or}
 use Rattle.std.specs.declared.vec.Vec.{Vec}
 use Rattle.std.specs.declared.alloc.Global.{Global}
-use Rattle.acl_outside.specs.Fault.{Rose}
 use Rattle.acl_outside.specs.Told.{Steps}
-use Rattle.acl_outside.specs.Desk.{File, DeskView, bytes_of}
-use Rattle.acl_outside.specs.Heard.{Heard, Ended, GoesOn}
+use Rattle.acl_outside.specs.Desk.{File, DeskView}
+use Rattle.acl_outside.specs.Heard.{Heard}
 use Rattle.acl_outside.specs.Sink.{SinkView, Appends, Gains, GainsPrefix}
 use Rattle.acl_tool.specs.declared.status.Status.{Status}
 use Rattle.acl_tool.specs.declared.status.Status.TheVariants.{Done, Usage, RulesRefused, CaptureRefused, ReadFault, WriteFault, OutOfMemory}
-use Rattle.acl_tool.specs.Plan.{Outcome, Plan, Give, Stop, ◌>>=◌, reading, unless_refused, found, settled}
+use Rattle.acl_tool.specs.Plan.{Outcome, Plan, Give, ◌>>=◌, reading, unless_refused, found, settled}
 use Rattle.acl_tool.specs.Follow.{Reached, Given, Stopped, Before, Within, IsEnough, Follows, IsCutOff, outcome_of}
 use Rattle.acl_tool.specs.Outcome.{is_decided, is_reported, is_usage}
-use Rattle.acl_tool.specs.Effects.{files_of, heard_of, outside, KeepsFiles, CannotRead, AsksForNothingAbsent, ReadsFile, Takes, Prints, Ends}
-use Rattle.acl_tool.proofs.Plans.{carried, then_found, IsFound, Follows-found, Follows-then, Follows-cut, found-then}
+use Rattle.acl_tool.specs.Effects.{files_of, heard_of, outside, KeepsFiles, CannotRead, ReadsFile, Takes, Prints, Ends}
+use Rattle.acl_tool.proofs.Plans.{carried, then_found, Follows-found, Follows-then, Follows-cut, found-then}
 
 none_written : (written : Option (List ℕ)) → Steps (Appends []) written written
 none_written None = tt
@@ -79,11 +78,16 @@ Takes-read name cap parse seen old new bytes items (Ok x) read is_items long val
     let enough = read_enough (λ front. unless_refused (parse front)) name cap old new bytes read (λ front more e. ap unless_refused (long front more e)) in
     record {
       reached = Given (seen x);
-      follows = inr (read.file, read.named, read.told, inr (
-        enough,
-        follows_value (files_of old) (parse read.file.bytes) (seen x) (read.file ∷ heard_of old) (heard_of new)
-        (ap parse (read.bytes ∙ sym is_items) ∙ value) read.heard,
-      ));
+      follows = inr (
+        read.file,
+        read.named,
+        read.told,
+        inr (
+          enough,
+          follows_value (files_of old) (parse read.file.bytes) (seen x) (read.file ∷ heard_of old) (heard_of new)
+              (ap parse (read.bytes ∙ sym is_items) ∙ value) read.heard,
+        ),
+      );
       answer = refl;
       read_fault = λ e. absurd (cc);
       unreported = tt;
@@ -95,11 +99,16 @@ Takes-read name cap parse seen old new bytes items (Err status) read is_items lo
     let enough = read_enough (λ front. unless_refused (parse front)) name cap old new bytes read (λ front more e. ap unless_refused (long front more e)) in
     record {
       reached = Stopped status;
-      follows = inr (read.file, read.named, read.told, inr (
-        enough,
-        follows_stop (files_of old) (parse read.file.bytes) status (read.file ∷ heard_of old) (heard_of new)
-        (ap parse (read.bytes ∙ sym is_items) ∙ refused) read.heard,
-      ));
+      follows = inr (
+        read.file,
+        read.named,
+        read.told,
+        inr (
+          enough,
+          follows_stop (files_of old) (parse read.file.bytes) status (read.file ∷ heard_of old) (heard_of new)
+              (ap parse (read.bytes ∙ sym is_items) ∙ refused) read.heard,
+        ),
+      );
       answer = refl;
       read_fault = λ e. absurd (unread (cc));
       unreported = unreported;
@@ -234,10 +243,15 @@ Ends-printed name cap f old new bytes items out_old out_new status read is_items
     λ isnt other. undecided status (f read.file.bytes).status isnt (decided read.file.bytes) (p.decided other).0 in
     record {
       reached = Given (f read.file.bytes);
-      follows = inr (read.file, read.named, read.told, inr (
-        read_enough (λ front. Give (f front)) name cap old new bytes read (λ front more e. ap Give (long front more e)),
-        (read.heard, refl),
-      ));
+      follows = inr (
+        read.file,
+        read.named,
+        read.told,
+        inr (
+          read_enough (λ front. Give (f front)) name cap old new bytes read (λ front more e. ap Give (long front more e)),
+          (read.heard, refl),
+        ),
+      );
       ended = elim (write_or_not status) [ inl is ↦ inr (inl is) | inr other ↦ inl ((p.decided other).0) ];
       text = λ other full. (p.decided other).1;
       prefix = λ e. (p.write_fault e).1;

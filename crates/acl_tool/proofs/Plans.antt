@@ -1,10 +1,10 @@
 -- Plans that were followed, and what they come to.
-use Rattle.std.proofs.Common.{◌≡◌, ◌⊎◌, ℕ, List, [], ◌∷◌, ◌++◌, Bool, true, false, Option, Some, None, Result, Ok, Err, inl, inr, sym, ap, subst, ◌∙◌, refl, append-nil}
+use Rattle.std.proofs.Common.{◌≡◌, ℕ, List, [], ◌∷◌, ◌++◌, Bool, true, false, Option, Some, None, Result, Ok, Err, inl, inr, sym, ap, subst, ◌∙◌, refl, append-nil}
 use Rattle.std.proofs.lemmas.Bool.{false≢true}
 use Rattle.std.specs.Prelude.{⊤}
 use Rattle.std.specs.Option.{option_map_or}
 use Rattle.acl_outside.specs.Desk.{File, bytes_of}
-use Rattle.acl_outside.specs.Heard.{Heard, Ended, GoesOn}
+use Rattle.acl_outside.specs.Heard.{Heard}
 use Rattle.acl_tool.specs.declared.status.Status.{Status}
 use Rattle.acl_tool.specs.declared.status.Status.TheVariants.{ReadFault}
 use Rattle.acl_tool.specs.Plan.{Plan, Give, Stop, Read, ◌>>=◌, found}
@@ -88,10 +88,15 @@ Follows-then (Read name printed next) f value told old mid new reached (inl befo
 Follows-then (Read name printed next) f value told old mid new reached (inr (file, is_name, one, inl within)) second =
     absurd (false≢true (sym (ap is_given (within.1))))
 Follows-then (Read name printed next) f value told old mid new reached (inr (file, is_name, one, inr (enough, rest))) second =
-    inr (file, is_name, one, inr (
-      enough_then next f file enough,
-      Follows-then (next file.bytes) f value told (file ∷ old) mid new reached rest second,
-    ))
+    inr (
+      file,
+      is_name,
+      one,
+      inr (
+        enough_then next f file enough,
+        Follows-then (next file.bytes) f value told (file ∷ old) mid new reached rest second,
+      ),
+    )
 
 -- A plan was followed to an end short of its value, and the next never begins.
 pub Follows-cut : {A B : Type 0} (plan : Plan A) (f : A → Plan B) (status : Status) (told : Option (List File)) (old new : List Heard)
@@ -102,10 +107,15 @@ Follows-cut (Read name printed next) f status told old new reached cut (inl befo
 Follows-cut (Read name printed next) f status told old new reached cut (inr (file, is_name, one, inl within)) =
     inr (file, is_name, one, inl (within.0, ap carried (within.1)))
 Follows-cut (Read name printed next) f status told old new reached cut (inr (file, is_name, one, inr (enough, rest))) =
-    inr (file, is_name, one, inr (
-      enough_then next f file enough,
-      Follows-cut (next file.bytes) f status told (file ∷ old) new reached cut rest,
-    ))
+    inr (
+      file,
+      is_name,
+      one,
+      inr (
+        enough_then next f file enough,
+        Follows-cut (next file.bytes) f status told (file ∷ old) new reached cut rest,
+      ),
+    )
 
 -- what a plan and the next come to, once it is known what the first comes to
 abbrev pub then_found : {A B : Type 0} → (A → Plan B) → List File → Result A Status → Result B Status

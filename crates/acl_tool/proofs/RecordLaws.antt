@@ -1,7 +1,7 @@
 -- How the records of a capture follow one another.
 use Rattle.std.proofs.Common.{◌≡◌, ℕ, zero, suc, ◌+◌, ◌≤◌, List, [], ◌∷◌, ◌++◌, length, length-append, take, drop, true, false, Ok, Err, inl, inr, ◌<◌, refl, sym, ap, ◌∙◌, arith}
-use Rattle.std.proofs.lemmas.List.{drop-drop, length-drop, length-take, length-take-le, take_all}
-use Rattle.std.proofs.lemmas.Bool.{or_parts, ltb-false, lt-ltb, le-ltb, or_from, cases_Bool, cases_lt}
+use Rattle.std.proofs.lemmas.List.{drop-drop, length-drop, length-take}
+use Rattle.std.proofs.lemmas.Bool.{or_parts, ltb-false, lt-ltb, le-ltb, or_from, cases_Bool}
 use Rattle.acl_tool.specs.Capture.{captured_len, is_record_cut, has_file_header, onto_records, records_of, records_within, max_capture, capture_of}
 use Rattle.acl_tool.specs.Record.{HasRecord}
 use Rattle.acl_tool.specs.declared.status.CaptureFault.TheVariants.{TooManyRecords}

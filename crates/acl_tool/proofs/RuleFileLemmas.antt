@@ -1,6 +1,5 @@
 -- The rules of the lines that have been read, and those of the lines that are left.
-use Rattle.std.proofs.Common.{◌≡◌, ℕ, ◌+◌, ◌≤◌, List, [], ◌∷◌, ◌++◌, length, take, Some, None, Result, Ok, Err, refl, sym, ap, ◌∙◌, arith, append_assoc, append-nil, take_all, ◌*◌, lt-ltb, le-ltb, length-append, length-take, ⊎_elim}
-use Rattle.std.proofs.lemmas.Bool.{cases_lt}
+use Rattle.std.proofs.Common.{◌≡◌, ℕ, ◌+◌, ◌≤◌, List, [], ◌∷◌, ◌++◌, length, Some, None, Result, Ok, Err, refl, sym, ap, ◌∙◌, arith, append_assoc, append-nil, ◌*◌, lt-ltb, le-ltb, length-append}
 use Rattle.field_defs.specs.declared.field.FieldValue.{FieldValue}
 use Rattle.rule_set.specs.Rule.{RuleView}
 use Rattle.acl_tool.specs.declared.status.LineFault.{LineFault}

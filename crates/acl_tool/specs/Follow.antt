@@ -43,8 +43,8 @@ Follows told (Stop status) old new reached = (new ≡ old) × (reached ≡ Stopp
 Follows told (Read name printed next) old new reached =
     ((new ≡ old) × (reached ≡ Before name))
     ⊎ ((file : Heard) × (file.name ≡ name) × IsOneOf told file × (
-      ((new ≡ file ∷ old) × (reached ≡ Within file (printed file.bytes)))
-      ⊎ (IsEnough next file × Follows told (next file.bytes) (file ∷ old) new reached)))
+    ((new ≡ file ∷ old) × (reached ≡ Within file (printed file.bytes)))
+    ⊎ (IsEnough next file × Follows told (next file.bytes) (file ∷ old) new reached)))
 
 -- Where a command ends within a file, the file couldn't be read, or memory ran out.
 abbrev pub status_within : Ending → Status

@@ -17,6 +17,8 @@ pub mod Extract
 pub mod Report
 pub mod Outcome
 pub mod OutcomeExamples
+pub mod FollowExamples
 pub mod Message
+pub mod MessageExamples
 pub mod Output
 pub mod Effects

@@ -1,5 +1,5 @@
 -- The line on standard error that tells how a command ended.
-use Rattle.std.specs.Prelude.{ℕ, List, [], ◌∷◌, ◌++◌, codes, decimal}
+use Rattle.std.specs.Prelude.{ℕ, ◌+◌, List, [], ◌∷◌, ◌++◌, codes, decimal}
 use Rattle.acl_tool.specs.declared.status.Status.{Status}
 use Rattle.acl_tool.specs.declared.status.Status.TheVariants.{Done, Usage, RulesRefused, CaptureRefused, ReadFault, WriteFault, OutOfMemory}
 use Rattle.acl_tool.specs.declared.status.UsageKind.{UsageKind}
@@ -21,11 +21,15 @@ capture_text Magic = codes "magic"
 capture_text (RecordCut number) = codes "cut"
 capture_text TooManyRecords = codes "too many"
 
+-- how many records a capture may have
+abbrev pub max_records : ℕ
+max_records = 1000000000
+
 -- the number of the record that a fault names: 0 for the file header, and one more than the greatest for too many
 abbrev pub record_of_fault : CaptureFault → ℕ
 record_of_fault Magic = 0
 record_of_fault (RecordCut number) = number
-record_of_fault TooManyRecords = 1000000001
+record_of_fault TooManyRecords = max_records + 1
 
 -- what stands behind the program's name, a number and a kind
 abbrev pub numbered : List ℕ → ℕ → List ℕ → List ℕ

@@ -8,7 +8,6 @@ use Rattle.acl_tool.specs.declared.status.CaptureFault.TheVariants.{Magic, Recor
 use Rattle.acl_tool.specs.Command.{unknown_command}
 use Rattle.acl_tool.specs.Outcome.{outcome}
 use Rattle.acl_tool.specs.Plan.{silent}
-use Rattle.acl_tool.specs.Message.{message}
 use Rattle.acl_tool.specs.RuleFileExamples.{guide_line}
 use Rattle.acl_tool.specs.CaptureExamples.{file_header}
 
@@ -65,16 +64,3 @@ no_capture = refl
 
 no_magic : outcome classify (both [] []) ≡ silent (CaptureRefused Magic)
 no_magic = refl
-
--- the messages
-usage_message : message (Usage unknown_command) ≡ codes "aclc: usage: word 1: unknown command\n"
-unfolding digits
-usage_message = refl
-
-rules_message : message (RulesRefused (record { line = 12; kind = BadStart })) ≡ codes "aclc: rules: line 12: bad start\n"
-unfolding digits
-rules_message = refl
-
-capture_message : message (CaptureRefused (RecordCut 3)) ≡ codes "aclc: capture: record 3: cut\n"
-unfolding digits
-capture_message = refl

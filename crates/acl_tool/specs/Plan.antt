@@ -1,5 +1,5 @@
 -- A command as a plan: what it asks for, and what it does with what it is given.
-use Rattle.std.specs.Prelude.{ℕ, List, [], Option, Result, Ok, Err}
+use Rattle.std.specs.Prelude.{ℕ, List, [], Result, Ok, Err}
 use Rattle.std.specs.Option.{option_map_or}
 use Rattle.acl_outside.specs.Desk.{File, bytes_of}
 use Rattle.acl_tool.specs.declared.status.Status.{Status}

@@ -88,6 +88,9 @@ fn capture_kind(fault: CaptureFault) -> &'static [u8]
     }
 }
 
+/// How many records a capture may have.
+const MAX_RECORDS: u64 = 1_000_000_000;
+
 /// The number of the record that a fault names, and 0 for the file header.
 fn fault_record(fault: CaptureFault) -> u64
     ensures { result ≡ record_of_fault fault }
@@ -95,6 +98,6 @@ fn fault_record(fault: CaptureFault) -> u64
     match fault {
         CaptureFault::Magic => 0,
         CaptureFault::RecordCut(number) => number,
-        CaptureFault::TooManyRecords => 1_000_000_001,
+        CaptureFault::TooManyRecords => MAX_RECORDS + 1,
     }
 }

@@ -87,7 +87,7 @@ fn expect<R: Abort + AllocGlobal>(
     );
     let mut out = MemSink::new(
         alloc,
-        1000,
+        50_000,
         outside.put_piece,
         vec![in alloc; outside.failing_put]?,
     )?;
@@ -278,5 +278,66 @@ fn faults_of_the_outside_end_the_command(rt: HostRuntime) -> Result<(), Fail> {
             (status, out, err, read_faults),
         )?;
     }
+    Ok(())
+}
+
+/// A rule file of 300 rules, of which the rule of each line matches the packets from one address.
+fn many_rules(alloc: Global) -> Result<Vec<u8>, Fail> {
+    let mut rules = Vec::new(alloc);
+    for place in 0u32..300 {
+        let high = place / 256;
+        let low = place % 256;
+        let line = format!(in alloc;
+            "@10.0.{high}.{low}/32\t0.0.0.0/0\t0 : 65535\t0 : 65535\t0x00/0x00\n"
+        )?;
+        rules.extend_from_slice(line.as_bytes())?;
+    }
+    Ok(rules)
+}
+
+/// A capture of 3,000 UDP packets from 400 addresses in turn, and the report of it by the rules above.
+fn many_packets(alloc: Global) -> Result<(Vec<u8>, String), Fail> {
+    let mut capture = Vec::from_slice(alloc, HEADER)?;
+    let mut report = String::new(alloc);
+    for record in 0u32..3000 {
+        let place = record % 400;
+        let source = [
+            0x45,
+            0,
+            0,
+            24,
+            0,
+            0,
+            0,
+            0,
+            64,
+            17,
+            0,
+            0,
+            10,
+            0,
+            (place / 256) as u8,
+            (place % 256) as u8,
+        ];
+        add_record(
+            &mut capture,
+            &[IP4_FRAME, &source, &[192, 168, 2, 31, 19, 136, 4, 210]],
+        )?;
+        let number = record + 1;
+        let verdict = if place < 300 { place + 1 } else { 0 };
+        report.push_str(&format!(in alloc; "{number} ip4 {verdict}\n")?)?;
+    }
+    report.push_str("packets 3000 ip4 3000 ip6 0 other 0 short 0\n")?;
+    Ok((capture, report))
+}
+
+#[test]
+fn many_packets_are_reported_by_many_rules(rt: HostRuntime) -> Result<(), Fail> {
+    let rules = many_rules(rt.alloc())?;
+    let (capture, report) = many_packets(rt.alloc())?;
+    // The report is longer than what waits to be put, so that lines are put while packets are left.
+    assert!(rt; report.len() > 33_000);
+    let want = (Status::Done, report.as_str(), "", 0);
+    expect(&rt, CLASSIFY, &rules, &capture, FAULTLESS, want)?;
     Ok(())
 }

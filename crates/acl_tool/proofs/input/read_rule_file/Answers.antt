@@ -1,4 +1,4 @@
-use Rattle.acl_tool.specs.Outcome.{rules_of_bytes, refused_rules}
+use Rattle.acl_tool.specs.Outcome.{rules_of_bytes}
 use Rattle.acl_tool.proofs.Links.{Takes-read, Takes-unread}
 use Rattle.acl_tool.proofs.RuleFileLemmas.{rules_of_bytes-more}
 use Rattle.acl_tool.proofs.input.read_rule_file.Goals as goal
