@@ -10,3 +10,12 @@ pub mod Uncut
 pub mod Expanded
 pub mod Pieces
 pub mod Merging
+pub mod Packed
+pub mod PackedState
+pub mod RestSteps
+pub mod Reached
+pub mod Counting
+pub mod WildAt
+pub mod WildSays
+pub mod Gaps
+pub mod Walk

@@ -34,3 +34,8 @@ pub piece_within : (start : ℕ) (ends : List ℕ) (len k : ℕ) → IsPieces st
 piece_within start [] len k is within = absurd (omega arith)
 piece_within start (end ∷ ends) len zero is within = (is.0, is.1)
 piece_within start (end ∷ ends) len (suc k) is within = piece_within end ends len k is.2 (omega arith)
+
+-- how many pieces there are
+pub length-pieces : {X : Type 0} (xs : List X) (start : ℕ) (ends : List ℕ) → length (pieces_of xs start ends) ≡ length ends
+length-pieces xs start [] = refl
+length-pieces xs start (end ∷ ends) = ap suc (length-pieces xs end ends)

@@ -33,9 +33,9 @@ is_wild_place set group place = list_all (λ number. is_wild_at set.layout (valu
 abbrev pub key_places : RuleSetView → List ℕ
 key_places set = range_with_len 0 (key_len_of set.layout)
 
--- the places of the input group are wild in every rule
+-- each place of the input group is wild in every rule
 unfoldable pub is_idle : RuleSetView → List ℕ → ℕ → Bool
-is_idle set group input = list_all (is_wild_place set group) (filter (λ place. group_of place == input) (key_places set))
+is_idle set group input = list_all (λ place. not (group_of place == input) || is_wild_place set group place) (key_places set)
 
 -- an input group is kept where it isn't idle, and group 0 also where all are idle
 unfoldable pub is_kept : RuleSetView → List ℕ → ℕ → Bool

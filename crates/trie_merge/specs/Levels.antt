@@ -1,7 +1,8 @@
 -- The merged states of a group of rules, place by place, and how many words a table of them takes (DPDK's `lib/acl`,
 -- `acl_gen.c`: a node of one target takes one word, of a few ranges one for each of five, and any other one for each byte).
-use Rattle.std.specs.Prelude.{ℕ, ◌+◌, ◌-◌, ◌*◌, ◌==◌, List, [], ◌∷◌, length, map, filter, replicate, nat_le, Bool, true, false, not, ◌||◌, if◌then◌else◌}
+use Rattle.std.specs.Prelude.{ℕ, ◌+◌, ◌-◌, ◌*◌, ◌<◌, ◌==◌, All, List, [], ◌∷◌, length, map, filter, replicate, nat_le, Bool, true, false, not, ◌||◌, if◌then◌else◌}
 use Rattle.std.specs.List.{position_or_len, sum_by}
+use Rattle.std.specs.List.Sorted.{IsStrictlyIncreasing}
 use Rattle.std.specs.Str.{bytes_eq}
 use Rattle.field_defs.specs.Layout.{key_len_of}
 use Rattle.rule_set.specs.Rule.{RuleSetView}
@@ -16,6 +17,12 @@ use Rattle.trie_merge.specs.Row.{final_row, rows_of}
 -- the states after so many bytes: live, distinct, in the order of their least prefixes
 unfoldable pub states_at : RuleSetView → List ℕ → ℕ → List (List Held)
 states_at set group place = found_in same_state is_live (map (state set group) (prefixes place))
+
+-- A group of rules: numbers of rules of the set, ascending, and at least one.
+pub record IsGroup (set : RuleSetView) (group : List ℕ) : Type 0 where
+  pub some : 0 < length group
+  pub ascending : IsStrictlyIncreasing group
+  pub within : All (λ number. number < length set.rules) group
 
 -- what a state before a place reaches by a byte there, and then bytes 0 at all places before the next kept one
 unfoldable pub reached : RuleSetView → ℕ → ℕ → List Held → ℕ → List Held

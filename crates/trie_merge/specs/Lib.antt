@@ -8,3 +8,5 @@ pub mod Lists
 pub mod RuleRest
 pub mod State
 pub mod StateExamples
+pub mod Walk
+pub mod Wild

@@ -2,7 +2,8 @@
 
 ghost use Rattle.std.specs.Prelude.{◌≡◌, ◌<◌, length, map, slice_index_or, IfOk};
 ghost use Rattle.field_defs.specs.declared.field.FieldValue.TheVariants.{Mask};
-ghost use Rattle.field_defs.specs.Layout.{IsLayout, key_len_of};
+ghost use Rattle.field_defs.specs.Lawful.{IsLayout};
+ghost use Rattle.field_defs.specs.Layout.{key_len_of};
 ghost use Rattle.trie_merge.specs.Entry.{field_at};
 
 use crate::entry::{edge_in, entry_of, number_in};
@@ -23,14 +24,14 @@ pub(crate) struct Column {
 
 /// Where a place of the key lies.
 #[derive(Clone, Copy)]
-struct FieldPlace {
-    field: usize,
-    size: u8,
-    place: u8,
+pub(crate) struct FieldPlace {
+    pub(crate) field: usize,
+    pub(crate) size: u8,
+    pub(crate) place: u8,
 }
 
 /// The field of a place of the key, its size, and the place in the field.
-fn field_at(defs: &[FieldDef], place: usize) -> FieldPlace
+pub(crate) fn field_at(defs: &[FieldDef], place: usize) -> FieldPlace
     requires { place < key_len_of defs.now }
     ensures at { record { field = result.field; size = result.size; place = result.place } ≡ field_at defs.now place }
     ensures field { result.field < length defs.now }

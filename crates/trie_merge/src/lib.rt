@@ -1,12 +1,38 @@
-//! A group of rules in, its merged states place by place, their runs of bytes and the rows at the end out.
+//! A rule set and a group of its rules in; the group's merged states, kept place by kept place, with the runs of bytes
+//! that lead from each, the rows at the end and the words of a table of them out, or that the words exceed a cap.
+//!
+//! After some bytes of a key a rule can still match or not, and what its current field still allows is a rest. The
+//! *state* of the group is the list of its rules that can still match, each with its rest. Many beginnings of keys have
+//! one state, so states are merged: those of each place are found in the order of their least beginnings, and for each of
+//! them the 256 bytes part into *runs* that lead to one state of the next place. After the last byte a state becomes a
+//! *row*: the winning rule of each category. Input groups in which all rules are wild decide nothing and are left out.
+//! After the tries of DPDK's `lib/acl` (`acl_bld.c`), which merges the rules' tries one after the other.
+//!
+//! The way of the data, from the bottom up:
+//!
+//! - `entry`: a rule of a state and the edge of its rest as one number.
+//! - `column`: what a place of the key has of each rule, and what a byte makes of an entry there.
+//! - `expand`: the cuts of a state's entries, and the list of entries after each interval of bytes between them.
+//! - `row`: the row of the entries after a whole key.
+//! - `number`: lists numbered in the order in which they are found, and the runs of bytes.
+//! - `merge`: the states of one place, one after the other, with their words against the cap.
+//! - `kept`: the places of the kept input groups.
+//! - `build`: all kept places, one after the other; [`Levels::build`] and [`count_capped`].
+//! - `levels`, `run`: what comes out.
 #![tactic(auto)]
 
+mod build;
 mod column;
 mod entry;
 mod expand;
+mod kept;
+mod levels;
 mod merge;
 mod number;
 mod row;
 mod run;
 
+pub use build::count_capped;
+pub use levels::Levels;
+pub use merge::{MAX_CAP, MergeFault};
 pub use run::{Run, Succ};

@@ -203,5 +203,8 @@ fn least_cost(is_last: bool, count: usize) -> u64
     if is_last { ROW_WORDS * count } else { count }
 }
 
+/// The greatest cap: 512 MiB of words.
+pub const MAX_CAP: u64 = 67_108_864;
+
 /// How many words a row takes.
-const ROW_WORDS: u64 = 16;
+pub(crate) const ROW_WORDS: u64 = 16;

@@ -4,14 +4,15 @@ use Rattle.std.proofs.lemmas.Option.{get_or_from_slice_get}
 use Rattle.field_defs.specs.declared.field.FieldValue.{FieldValue}
 use Rattle.field_defs.specs.declared.field.FieldValue.TheVariants.{Mask}
 use Rattle.rule_set.specs.Rule.{RuleView}
-use Rattle.rule_set.proofs.Lawful.{length-lawful, faultless_rules}
+use Rattle.rule_set.proofs.Lawful.{faultless_rules}
+use Rattle.trie_merge.proofs.WildAt.{length-zipped}
 use Rattle.trie_merge.proofs.column.values_of_field.Goals as goal
 
 pub bounds-fields-field : goal.bounds-fields-field
 bounds-fields-field c =
     let rule = c.at.result.now in
     let lawful = (faultless_rules c.args.rules.now.layout rule.tag rule.fields c.requires.layout).0 c.at.ensures.lawful in
-    omega (arith, length-lawful c.args.rules.now.layout rule.fields lawful.values, ap length c.fields.ensures)
+    omega (arith, length-zipped c.args.rules.now.layout rule.fields lawful.values, ap length c.fields.ensures)
 
 pub loop-i-preserved : goal.loop-i-preserved
 loop-i-preserved c =

@@ -1,0 +1,396 @@
+-- States place by place: what is found by all prefixes is found from the states before, byte by byte.
+use Rattle.std.proofs.Common.{◌≡◌, ◌≢◌, ℕ, zero, suc, ◌+◌, ◌-◌, ◌<◌, ◌≤◌, List, [], ◌∷◌, ◌++◌, length, map, fold, replicate, Bool, true, false, cond, not, ◌&&◌, true≢false, refl, sym, ◌∙◌, ap, subst, inl, inr, arith, length-append, add-one}
+use Rattle.std.specs.List.{AllByRecursion, flat_map, range_with_len, position_or_len, list_any}
+use Rattle.std.specs.Str.{bytes_eq}
+use Rattle.std.proofs.lemmas.List.{map-append, append_assoc, append-nil, length-map, length-replicate}
+use Rattle.std.proofs.lemmas.List.Folds.{flat_map-map, fold-map}
+use Rattle.std.proofs.lemmas.List.Concat.{flat_map-append, flat_map_single}
+use Rattle.std.proofs.lemmas.List.Sums.{fold-append}
+use Rattle.field_defs.specs.Layout.{key_len_of}
+use Rattle.rule_set.specs.Rule.{RuleSetView}
+use Rattle.trie_merge.specs.declared.run.Run.{Run}
+use Rattle.trie_merge.specs.declared.run.Succ.{Succ}
+use Rattle.trie_merge.specs.declared.run.Succ.TheVariants.{Dead, State, Row}
+use Rattle.trie_merge.specs.State.{Held, state, state_through, same_state, is_live}
+use Rattle.trie_merge.specs.Found.{found_with, found_in, all_bytes, prefixes}
+use Rattle.trie_merge.specs.Kept.{is_wild_place}
+use Rattle.trie_merge.specs.Row.{row_of, final_row, rows_of}
+use Rattle.trie_merge.specs.Levels.{states_at, reached, state_succ, row_succ, runs_of}
+use Rattle.trie_merge.specs.Entry.{ColumnView, entries_step, column_at, number_in, CanStep}
+use Rattle.trie_merge.specs.Lists.{row_list, successor, level_found, succ_in, state_runs}
+use Rattle.trie_merge.proofs.Finds.{is_new, NoneNew, all_stays, old_once_found, found_behind_found, found_in-map, position-map, All-found_in}
+use Rattle.trie_merge.proofs.Numbers.{bytes_eq_refl, bytes_eq_sound}
+use Rattle.trie_merge.proofs.Successors.{same_runs, length-all_bytes}
+use Rattle.trie_merge.proofs.Packed.{AreBytes}
+use Rattle.trie_merge.proofs.PackedState.{IsHeld, IsEntryAt, packed_state, packed_state_steps, packed_state_wild, packed_entries, decoded, state_is, compared_alike, alive_alike}
+use Rattle.trie_merge.proofs.RestSteps.{state_goes_through}
+
+-- ---- lists
+
+module _ {X Y : Type 0} where
+  pub map_same : (f g : X → Y) (xs : List X) → AllByRecursion (λ x. f x ≡ g x) xs → map f xs ≡ map g xs
+  map_same f g [] same = refl
+  map_same f g (x ∷ xs) same = λ i. same.0 i ∷ map_same f g xs same.1 i
+
+  pub flat_map_same : (f g : X → List Y) (xs : List X) → AllByRecursion (λ x. f x ≡ g x) xs → flat_map f xs ≡ flat_map g xs
+  flat_map_same f g [] same = refl
+  flat_map_same f g (x ∷ xs) same = λ i. same.0 i ++ flat_map_same f g xs same.1 i
+
+module _ {X : Type 0} (P Q : X → Type 0) where
+  pub all_weaker : (xs : List X) → ((x : X) → P x → Q x) → AllByRecursion P xs → AllByRecursion Q xs
+  all_weaker [] weaker all = tt
+  all_weaker (x ∷ xs) weaker all = (weaker x all.0, all_weaker xs weaker all.1)
+
+module _ {X Y Z : Type 0} where
+  pub map-flat_map : (f : Y → Z) (g : X → List Y) (xs : List X) → map f (flat_map g xs) ≡ flat_map (λ x. map f (g x)) xs
+  map-flat_map f g [] = refl
+  map-flat_map f g (x ∷ xs) = map-append f (g x) (flat_map g xs) ∙ ap (λ l. map f (g x) ++ l) (map-flat_map f g xs)
+
+  map-singles : (f : Y → Z) (h : X → Y) (xs : List X) → map f (flat_map (λ x. h x ∷ []) xs) ≡ map (λ x. f (h x)) xs
+  map-singles f h [] = refl
+  map-singles f h (x ∷ xs) = ap (λ l. f (h x) ∷ l) (map-singles f h xs)
+
+  pub map-map : (f : Y → Z) (g : X → Y) (xs : List X) → map f (map g xs) ≡ map (λ x. f (g x)) xs
+  map-map f g [] = refl
+  map-map f g (x ∷ xs) = ap (λ l. f (g x) ∷ l) (map-map f g xs)
+
+-- ---- bytes and prefixes
+
+below_from : (first count : ℕ) → first + count ≤ 256 → AllByRecursion (λ byte. byte < 256) (range_with_len first count)
+below_from first zero within = tt
+below_from first (suc count) within = (omega arith, below_from (first + 1) count (omega arith))
+
+pub bytes_below : AllByRecursion (λ byte. byte < 256) all_bytes
+unfolding all_bytes
+bytes_below = below_from 0 256 (omega arith)
+
+abbrev pub IsPrefix : ℕ → List ℕ → Type 0
+IsPrefix place key = AreBytes key × (length key ≡ place)
+
+bytes_push : (key : List ℕ) (byte : ℕ) → AreBytes key → byte < 256 → AreBytes (key ++ byte ∷ [])
+bytes_push [] byte small below = (below, tt)
+bytes_push (k ∷ ks) byte small below = (small.0, bytes_push ks byte small.1 below)
+
+pub prefix_push : (place : ℕ) (key : List ℕ) (byte : ℕ) → IsPrefix place key → byte < 256 → IsPrefix (place + 1) (key ++ byte ∷ [])
+prefix_push place key byte is below = (bytes_push key byte is.0 below, length-append key (byte ∷ []) ∙ ap (λ n. n + 1) is.1)
+
+all-append : {X : Type 0} (P : X → Type 0) (xs ys : List X) → AllByRecursion P xs → AllByRecursion P ys → AllByRecursion P (xs ++ ys)
+all-append P [] ys all more = more
+all-append P (x ∷ xs) ys all more = (all.0, all-append P xs ys all.1 more)
+
+all-flat_map : {X Y : Type 0} (P : Y → Type 0) (f : X → List Y) (xs : List X) → AllByRecursion (λ x. AllByRecursion P (f x)) xs → AllByRecursion P (flat_map f xs)
+all-flat_map P f [] all = tt
+all-flat_map P f (x ∷ xs) all = all-append P (f x) (flat_map f xs) all.0 (all-flat_map P f xs all.1)
+
+pub all-map : {X Y : Type 0} (P : Y → Type 0) (f : X → Y) (xs : List X) → AllByRecursion (λ x. P (f x)) xs → AllByRecursion P (map f xs)
+all-map P f [] all = tt
+all-map P f (x ∷ xs) all = (all.0, all-map P f xs all.1)
+
+pub prefixes_are : (place : ℕ) → AllByRecursion (IsPrefix place) (prefixes place)
+unfolding prefixes
+prefixes_are zero = ((tt, refl), tt)
+prefixes_are (suc place) =
+    all-flat_map (IsPrefix (suc place)) (λ before. flat_map (λ byte. (before ++ byte ∷ []) ∷ []) all_bytes) (prefixes place)
+    (all_weaker (IsPrefix place) (λ before. AllByRecursion (IsPrefix (suc place)) (flat_map (λ byte. (before ++ byte ∷ []) ∷ []) all_bytes)) (prefixes place)
+    (λ before is. all-flat_map (IsPrefix (suc place)) (λ byte. (before ++ byte ∷ []) ∷ []) all_bytes
+    (all_weaker (λ byte. byte < 256) (λ byte. IsPrefix (suc place) (before ++ byte ∷ []) × Unit {0}) all_bytes
+    (λ byte below. (let e : place + 1 ≡ suc place = omega arith in subst (λ n. IsPrefix n (before ++ byte ∷ [])) e (prefix_push place before byte is below), tt))
+    bytes_below))
+    (prefixes_are place))
+
+-- a function of the prefixes that are one byte longer
+pub of_longer : {X : Type 0} (f : List ℕ → X) (place : ℕ) → map f (prefixes (place + 1)) ≡ flat_map (λ key. map (λ byte. f (key ++ byte ∷ [])) all_bytes) (prefixes place)
+unfolding prefixes
+of_longer f place =
+    let e : place + 1 ≡ suc place = omega arith in
+    ap (λ n. map f (prefixes n)) e
+    ∙ map-flat_map f (λ before. flat_map (λ byte. (before ++ byte ∷ []) ∷ []) all_bytes) (prefixes place)
+    ∙ flat_map_same (λ before. map f (flat_map (λ byte. (before ++ byte ∷ []) ∷ []) all_bytes)) (λ before. map (λ byte. f (before ++ byte ∷ [])) all_bytes) (prefixes place)
+    (all_weaker (IsPrefix place) _ (prefixes place) (λ before is. map-singles f (λ byte. before ++ byte ∷ []) all_bytes) (prefixes_are place))
+
+-- ---- the entries of all prefixes
+
+unfoldable pub packed_at : RuleSetView → List ℕ → ℕ → List (List ℕ)
+packed_at set group place = found_in bytes_eq is_live (map (packed_state set group) (prefixes place))
+
+-- what holds of the entries of each prefix holds of each that is found
+pub all_packed : (set : RuleSetView) (group : List ℕ) (place : ℕ) (P : List ℕ → Type 0) → ((key : List ℕ) → IsPrefix place key → P (packed_state set group key)) → AllByRecursion P (packed_at set group place)
+unfolding packed_at
+all_packed set group place P holds =
+    All-found_in bytes_eq is_live P (map (packed_state set group) (prefixes place))
+    (all-map (λ entries. is_live entries ≡ true → P entries) (packed_state set group) (prefixes place)
+    (all_weaker (IsPrefix place) (λ key. is_live (packed_state set group key) ≡ true → P (packed_state set group key)) (prefixes place) (λ key is live. holds key is) (prefixes_are place)))
+
+module _ (set : RuleSetView) (column : ColumnView) (is_last : Bool) where
+  abbrev pub successors : List ℕ → List (List ℕ)
+  successors entries = map (successor set column is_last entries) all_bytes
+
+  -- no entries lead to nothing
+  dead_leads_nowhere : (entries : List ℕ) → is_live entries ≡ false → (found : List (List ℕ)) → NoneNew bytes_eq is_live found (successors entries)
+  unfolding successor row_list entries_step
+  dead_leads_nowhere [] dead found = by is_last all_bytes
+    where
+      by : (b : Bool) (bytes : List ℕ) → NoneNew bytes_eq is_live found (map (λ byte. cond b (row_list set (entries_step column [] byte)) (entries_step column [] byte)) bytes)
+      by true [] = tt
+      by false [] = tt
+      by true (byte ∷ bytes) = (refl, by true bytes)
+      by false (byte ∷ bytes) = (refl, by false bytes)
+  dead_leads_nowhere (entry ∷ entries) dead found = absurd (let e : true ≡ false = dead in true≢false e)
+
+  -- what is found behind those found is what is found behind all
+  pub level_of_all : (all : List (List ℕ)) → level_found set column is_last (found_in bytes_eq is_live all) ≡ found_in bytes_eq is_live (flat_map successors all)
+  unfolding level_found
+  level_of_all all = found_behind_found bytes_eq is_live bytes_eq_sound bytes_eq is_live bytes_eq_refl successors dead_leads_nowhere all
+
+module _ (set : RuleSetView) (group : List ℕ) (held : AllByRecursion (IsHeld set) group) where
+  -- the entries one byte on are found from those before
+  pub packed_one_on : (place : ℕ) → place < key_len_of set.layout → level_found set (column_at set place) false (packed_at set group place) ≡ packed_at set group (place + 1)
+  unfolding packed_at successor
+  packed_one_on place within =
+      let column : ColumnView = column_at set place in
+      level_of_all set column false (map (packed_state set group) (prefixes place))
+      ∙ ap (found_in bytes_eq is_live)
+      (flat_map-map (successors set column false) (packed_state set group) (prefixes place)
+      ∙ flat_map_same (λ key. successors set column false (packed_state set group key)) (λ key. map (λ byte. packed_state set group (key ++ byte ∷ [])) all_bytes) (prefixes place)
+      (all_weaker (IsPrefix place) _ (prefixes place)
+      (λ key is. map_same (entries_step column (packed_state set group key)) (λ byte. packed_state set group (key ++ byte ∷ [])) all_bytes
+      (all_weaker (λ byte. byte < 256) _ all_bytes
+      (λ byte below. ap (λ n. entries_step (column_at set n) (packed_state set group key) byte) (sym is.1) ∙ sym (packed_state_steps set group key byte held (omega (arith, is.1)) below))
+      bytes_below))
+      (prefixes_are place))
+      ∙ sym (of_longer (packed_state set group) place))
+
+  -- copies of an element are found once
+  copies : (found : List (List ℕ)) (entries : List ℕ) (bytes : List ℕ) → is_new bytes_eq is_live found entries ≡ false → fold (found_with bytes_eq is_live) found (map (λ (byte : ℕ). entries) bytes) ≡ found
+  copies found entries bytes old = all_stays bytes_eq is_live found (map (λ (byte : ℕ). entries) bytes) (none bytes)
+    where
+      none : (bs : List ℕ) → NoneNew bytes_eq is_live found (map (λ (byte : ℕ). entries) bs)
+      none [] = tt
+      none (b ∷ bs) = (old, none bs)
+
+  found_once : (bytes : List ℕ) → 0 < length bytes → (found : List (List ℕ)) (all : List (List ℕ)) →
+      fold (found_with bytes_eq is_live) found (flat_map (λ entries. map (λ (byte : ℕ). entries) bytes) all) ≡ fold (found_with bytes_eq is_live) found all
+  found_once [] some found all = absurd (omega arith)
+  found_once (b ∷ bs) some found [] = refl
+  found_once (b ∷ bs) some found (entries ∷ all) =
+      let next : List (List ℕ) = found_with bytes_eq is_live found entries in
+      fold-append (found_with bytes_eq is_live) next (map (λ (byte : ℕ). entries) bs) (flat_map (λ e. map (λ (byte : ℕ). e) (b ∷ bs)) all)
+      ∙ ap (λ f. fold (found_with bytes_eq is_live) f (flat_map (λ e. map (λ (byte : ℕ). e) (b ∷ bs)) all))
+      (copies next entries bs (old_once_found bytes_eq is_live bytes_eq_refl found entries))
+      ∙ found_once (b ∷ bs) some next all
+
+  -- a place at which all rules are wild changes nothing
+  pub packed_past_wild : (place : ℕ) → place < key_len_of set.layout → is_wild_place set group place ≡ true → packed_at set group (place + 1) ≡ packed_at set group place
+  unfolding packed_at found_in
+  packed_past_wild place within wild =
+      ap (fold (found_with bytes_eq is_live) [])
+      (of_longer (packed_state set group) place
+      ∙ flat_map_same (λ key. map (λ byte. packed_state set group (key ++ byte ∷ [])) all_bytes) (λ key. map (λ (byte : ℕ). packed_state set group key) all_bytes) (prefixes place)
+      (all_weaker (IsPrefix place) _ (prefixes place)
+      (λ key is. map_same (λ byte. packed_state set group (key ++ byte ∷ [])) (λ (byte : ℕ). packed_state set group key) all_bytes
+      (all_weaker (λ byte. byte < 256) _ all_bytes
+      (λ byte below. packed_state_wild set group key byte held is.0 below (omega (arith, is.1)) (ap (is_wild_place set group) is.1 ∙ wild))
+      bytes_below))
+      (prefixes_are place))
+      ∙ sym (flat_map-map (λ entries. map (λ (byte : ℕ). entries) all_bytes) (packed_state set group) (prefixes place)))
+      ∙ found_once all_bytes (rw length-all_bytes (omega arith)) [] (map (packed_state set group) (prefixes place))
+
+  -- and neither do some such places, one after the other
+  pub packed_past_all : (place count : ℕ) → place + count ≤ key_len_of set.layout → ((gap : ℕ) → gap < count → is_wild_place set group (place + gap) ≡ true) →
+      packed_at set group (place + count) ≡ packed_at set group place
+  packed_past_all place zero within wild = ap (packed_at set group) (omega arith)
+  packed_past_all place (suc count) within wild =
+      let next : place + suc count ≡ place + count + 1 = omega arith in
+      ap (packed_at set group) next ∙ packed_past_wild (place + count) (omega arith) (wild count (omega arith)) ∙ packed_past_all place count (omega arith) (λ gap below. wild gap (omega arith))
+
+  -- the states of a place are what the entries stand for
+  pub states_are : (place : ℕ) → states_at set group place ≡ map (map (decoded set place)) (packed_at set group place)
+  unfolding states_at packed_at
+  states_are place =
+      let entries : List (List ℕ) = map (packed_state set group) (prefixes place) in
+      ap (found_in same_state is_live)
+      (map_same (state set group) (λ key. map (decoded set place) (packed_state set group key)) (prefixes place)
+      (all_weaker (IsPrefix place) _ (prefixes place) (λ key is. state_is set group key held ∙ ap (λ n. map (decoded set n) (packed_state set group key)) is.1) (prefixes_are place))
+      ∙ sym (map-map (map (decoded set place)) (packed_state set group) (prefixes place)))
+      ∙ found_in-map bytes_eq is_live same_state is_live (map (decoded set place)) (AllByRecursion (IsEntryAt set place)) (compared_alike set place) (λ xs _. alive_alike (decoded set place) xs) entries
+      (all-map (AllByRecursion (IsEntryAt set place)) (packed_state set group) (prefixes place)
+      (all_weaker (IsPrefix place) _ (prefixes place) (λ key is. subst (λ n. AllByRecursion (IsEntryAt set n) (packed_state set group key)) is.1 (packed_entries set group key held is.0)) (prefixes_are place)))
+
+-- ---- successors
+
+zeros_small : (count : ℕ) → AreBytes (replicate count 0)
+zeros_small zero = tt
+zeros_small (suc count) = (omega arith, zeros_small count)
+
+-- The places behind one up to the next kept one, which lies within the key or at its end, are wild in all rules.
+pub record IsGap (set : RuleSetView) (group : List ℕ) (place next : ℕ) : Type 0 where
+  pub rises : place < next
+  pub within : next ≤ key_len_of set.layout
+  pub wild : (between : ℕ) → place < between → between < next → is_wild_place set group between ≡ true
+
+module _ (set : RuleSetView) (group : List ℕ) (held : AllByRecursion (IsHeld set) group) where
+  -- bytes 0 at places at which all rules are wild leave the entries as they are
+  zeros_on : (key : List ℕ) (count : ℕ) → AreBytes key → length key + count ≤ key_len_of set.layout →
+      ((gap : ℕ) → gap < count → is_wild_place set group (length key + gap) ≡ true) → packed_state set group (key ++ replicate count 0) ≡ packed_state set group key
+  zeros_on key zero small within wild = ap (packed_state set group) (append-nil key)
+  zeros_on key (suc count) small within wild =
+      let long : length (key ++ 0 ∷ []) ≡ length key + 1 = length-append key (0 ∷ []) in
+      ap (packed_state set group) (sym (append_assoc key (0 ∷ []) (replicate count 0)))
+      ∙ zeros_on (key ++ 0 ∷ []) count (bytes_push key 0 small (omega arith)) (omega (arith, long))
+      (λ gap below. (let e : length (key ++ 0 ∷ []) + gap ≡ length key + suc gap = omega (arith, long) in ap (is_wild_place set group) e ∙ wild (suc gap) (omega arith)))
+      ∙ packed_state_wild set group key 0 held small (omega arith) (omega arith) ((let e : length key + 0 ≡ length key = omega arith in ap (is_wild_place set group) (sym e)) ∙ wild 0 (omega arith))
+
+  module _ (place next : ℕ) (gap : IsGap set group place next) where
+    gap_len : ℕ
+    gap_len = next - place - 1
+
+    -- the entries after a byte at the place stand for what its state reaches
+    pub reached_is : (key : List ℕ) (byte : ℕ) → IsPrefix place key → byte < 256 →
+        reached set place next (map (decoded set place) (packed_state set group key)) byte ≡ map (decoded set next) (entries_step (column_at set place) (packed_state set group key) byte)
+    unfolding reached
+    reached_is key byte is below =
+        let zeros : List ℕ = replicate (next - place - 1) 0 in
+        let longer : List ℕ = key ++ byte ∷ [] in
+        let long : length longer ≡ place + 1 = (prefix_push place key byte is below).1 in
+        let whole : length (longer ++ zeros) ≡ next = length-append longer zeros ∙ omega (arith, long, length-replicate {A = ℕ} (next - place - 1) 0, gap.rises) in
+        let end : length key + length (byte ∷ zeros) ≤ key_len_of set.layout = omega (arith, is.1, length-replicate {A = ℕ} (next - place - 1) 0, gap.rises, gap.within) in
+        let same : packed_state set group (longer ++ zeros) ≡ entries_step (column_at set place) (packed_state set group key) byte =
+        zeros_on longer (next - place - 1) (prefix_push place key byte is below).0 (omega (arith, long, gap.rises, gap.within))
+        (λ g under. gap.wild (length longer + g) (omega (arith, long)) (omega (arith, long)))
+        ∙ packed_state_steps set group key byte held (omega (arith, is.1, gap.rises, gap.within)) below
+        ∙ ap (λ n. entries_step (column_at set n) (packed_state set group key) byte) is.1 in
+        (λ i. state_through set (sym is.1 i) (start key is i) (byte ∷ zeros))
+        ∙ sym (state_goes_through set group key (byte ∷ zeros) held (below, zeros_small (next - place - 1)) end)
+        ∙ ap (state set group) (sym (append_assoc key (byte ∷ []) zeros))
+        ∙ state_is set group (longer ++ zeros) held
+        ∙ (λ i. map (decoded set (whole i)) (same i))
+      where
+        start : (k : List ℕ) → IsPrefix place k → map (decoded set place) (packed_state set group k) ≡ state set group k
+        start k is = sym (state_is set group k held ∙ ap (λ n. map (decoded set n) (packed_state set group k)) is.1)
+
+    -- and are those of some prefix of the next place
+    pub entries_next : (key : List ℕ) (byte : ℕ) → IsPrefix place key → byte < 256 → AllByRecursion (IsEntryAt set next) (entries_step (column_at set place) (packed_state set group key) byte)
+    entries_next key byte is below =
+        let zeros : List ℕ = replicate (next - place - 1) 0 in
+        let longer : List ℕ = key ++ byte ∷ [] in
+        let long : length longer ≡ place + 1 = (prefix_push place key byte is below).1 in
+        let whole : length (longer ++ zeros) ≡ next = length-append longer zeros ∙ omega (arith, long, length-replicate {A = ℕ} (next - place - 1) 0, gap.rises) in
+        let same : packed_state set group (longer ++ zeros) ≡ entries_step (column_at set place) (packed_state set group key) byte =
+        zeros_on longer (next - place - 1) (prefix_push place key byte is below).0 (omega (arith, long, gap.rises, gap.within))
+        (λ g under. gap.wild (length longer + g) (omega (arith, long)) (omega (arith, long)))
+        ∙ packed_state_steps set group key byte held (omega (arith, is.1, gap.rises, gap.within)) below
+        ∙ ap (λ n. entries_step (column_at set n) (packed_state set group key) byte) is.1 in
+        subst (AllByRecursion (IsEntryAt set next)) same
+        (subst (λ n. AllByRecursion (IsEntryAt set n) (packed_state set group (longer ++ zeros))) whole
+        (packed_entries set group (longer ++ zeros) held (all-append (λ b. b < 256) longer zeros (prefix_push place key byte is below).0 (zeros_small (next - place - 1)))))
+
+    -- the entries of the next kept place are found from those of the place
+    pub packed_next : level_found set (column_at set place) false (packed_at set group place) ≡ packed_at set group next
+    packed_next =
+        let e : place + 1 + (next - place - 1) ≡ next = omega (arith, gap.rises) in
+        packed_one_on set group held place (omega (arith, gap.rises, gap.within))
+        ∙ sym (packed_past_all set group held (place + 1) (next - place - 1) (omega (arith, gap.rises, gap.within)) (λ g under. gap.wild (place + 1 + g) (omega arith) (omega (arith, gap.rises))))
+        ∙ ap (packed_at set group) e
+
+    -- the runs of the entries are those of their states
+    pub runs_next : map (state_runs set (column_at set place) false (packed_at set group next)) (packed_at set group place)
+        ≡ map (λ before. runs_of (λ byte. state_succ (states_at set group next) (reached set place next before byte))) (states_at set group place)
+    unfolding successor
+    runs_next =
+        let after : List ℕ → List Run = state_runs set (column_at set place) false (packed_at set group next) in
+        let runs : List Held → List Run = λ before. runs_of (λ byte. state_succ (states_at set group next) (reached set place next before byte)) in
+        map_same after (λ entries. runs (map (decoded set place) entries)) (packed_at set group place)
+        (all_packed set group place (λ entries. after entries ≡ runs (map (decoded set place) entries))
+        (λ key is. same_runs _ _ (λ byte below. succ_is key byte is below)))
+        ∙ sym (map-map runs (map (decoded set place)) (packed_at set group place))
+        ∙ ap (map runs) (sym (states_are set group held place))
+      where
+        all_entries : AllByRecursion (AllByRecursion (IsEntryAt set next)) (packed_at set group next)
+        all_entries = all_packed set group next (AllByRecursion (IsEntryAt set next)) (λ key is. subst (λ n. AllByRecursion (IsEntryAt set n) (packed_state set group key)) is.1 (packed_entries set group key held is.0))
+
+        succ_is : (key : List ℕ) (byte : ℕ) → IsPrefix place key → byte < 256 →
+            succ_in false (packed_at set group next) (entries_step (column_at set place) (packed_state set group key) byte)
+            ≡ state_succ (states_at set group next) (reached set place next (map (decoded set place) (packed_state set group key)) byte)
+        succ_is key byte is below =
+            let entries : List ℕ = entries_step (column_at set place) (packed_state set group key) byte in
+            sym (
+            ap (state_succ (states_at set group next)) (reached_is key byte is below)
+            ∙ ap (λ states. state_succ states (map (decoded set next) entries)) (states_are set group held next)
+            ∙ (λ i. cond (alive_alike (decoded set next) entries i)
+            (State (position-map bytes_eq is_live same_state is_live (map (decoded set next)) (AllByRecursion (IsEntryAt set next)) (compared_alike set next) (λ xs _. alive_alike (decoded set next) xs)
+            entries (packed_at set group next) (entries_next key byte is below) all_entries i))
+            Dead)
+            )
+
+-- ---- the end of the key
+
+-- the final row of a state is the row of its entries
+row_is : (set : RuleSetView) (place : ℕ) (entries : List ℕ) → final_row set (map (decoded set place) entries) ≡ row_list set entries
+unfolding final_row row_list decoded
+row_is set place [] = refl
+row_is set place (entry ∷ entries) = ap (row_of set) (map-map (λ (h : Held). h.number) (decoded set place) (entry ∷ entries))
+
+module _ (set : RuleSetView) (group : List ℕ) (held : AllByRecursion (IsHeld set) group) (place : ℕ) (gap : IsGap set group place (key_len_of set.layout)) where
+  dead_row : (entries : List ℕ) → is_live entries ≡ false → (found : List (List ℕ)) → NoneNew bytes_eq is_live found (row_list set entries ∷ [])
+  unfolding row_list
+  dead_row [] dead found = (refl, tt)
+  dead_row (entry ∷ entries) dead found = absurd (let e : true ≡ false = dead in true≢false e)
+
+  abbrev one_row : List ℕ → List (List ℕ)
+  one_row entries = row_list set entries ∷ []
+
+  rows_behind : (all : List (List ℕ)) → found_in bytes_eq is_live (flat_map one_row (found_in bytes_eq is_live all)) ≡ found_in bytes_eq is_live (flat_map one_row all)
+  rows_behind all = found_behind_found bytes_eq is_live bytes_eq_sound bytes_eq is_live bytes_eq_refl one_row dead_row all
+
+  flat_map-flat_map : {X Y Z : Type 0} (f : Y → List Z) (g : X → List Y) (xs : List X) → flat_map f (flat_map g xs) ≡ flat_map (λ x. flat_map f (g x)) xs
+  flat_map-flat_map f g [] = refl
+  flat_map-flat_map f g (x ∷ xs) = flat_map-append f (g x) (flat_map g xs) ∙ ap (λ l. flat_map f (g x) ++ l) (flat_map-flat_map f g xs)
+
+  -- rows over bytes
+  rows_after : (entries bytes : List ℕ) → flat_map one_row (map (successor set (column_at set place) false entries) bytes) ≡ map (successor set (column_at set place) true entries) bytes
+  unfolding successor
+  rows_after entries [] = refl
+  rows_after entries (byte ∷ bytes) = ap (λ l. row_list set (entries_step (column_at set place) entries byte) ∷ l) (rows_after entries bytes)
+
+  all_rows_after : (all : List (List ℕ)) → flat_map one_row (flat_map (successors set (column_at set place) false) all) ≡ flat_map (successors set (column_at set place) true) all
+  all_rows_after [] = refl
+  all_rows_after (entries ∷ all) =
+      flat_map-append one_row (successors set (column_at set place) false entries) (flat_map (successors set (column_at set place) false) all)
+      ∙ (λ i. rows_after entries all_bytes i ++ all_rows_after all i)
+
+  -- the rows are found from the entries of the last kept place
+  pub rows_are : level_found set (column_at set place) true (packed_at set group place) ≡ rows_of set group
+  unfolding level_found rows_of packed_at
+  rows_are =
+      let whole : ℕ = key_len_of set.layout in
+      let found : List (List ℕ) → List (List ℕ) = found_in bytes_eq is_live in
+      let entries : List (List ℕ) = map (packed_state set group) (prefixes whole) in
+      let rows_by_entries : map (λ key. final_row set (state set group key)) (prefixes whole) ≡ flat_map one_row entries =
+      map_same (λ key. final_row set (state set group key)) (λ key. row_list set (packed_state set group key)) (prefixes whole)
+      (all_weaker (IsPrefix whole) _ (prefixes whole) (λ key is. ap (final_row set) (state_is set group key held) ∙ row_is set (length key) (packed_state set group key)) (prefixes_are whole))
+      ∙ sym (flat_map_single (λ key. row_list set (packed_state set group key)) (prefixes whole))
+      ∙ sym (flat_map-map one_row (packed_state set group) (prefixes whole)) in
+      let before : List (List ℕ) = packed_at set group place in
+      sym (
+      ap found rows_by_entries
+      ∙ sym (rows_behind entries)
+      ∙ ap (λ all. found (flat_map one_row all)) (sym (packed_next set group held place whole gap))
+      ∙ rows_behind (flat_map (successors set (column_at set place) false) before)
+      ∙ ap found (all_rows_after before)
+      )
+
+  -- the runs of the entries are those of their states
+  pub runs_last : map (state_runs set (column_at set place) true (rows_of set group)) (packed_at set group place)
+      ≡ map (λ before. runs_of (λ byte. row_succ (rows_of set group) (final_row set (reached set place (key_len_of set.layout) before byte)))) (states_at set group place)
+  unfolding successor
+  runs_last =
+      let rows : List (List ℕ) = rows_of set group in
+      let after : List ℕ → List Run = state_runs set (column_at set place) true rows in
+      let runs : List Held → List Run = λ before. runs_of (λ byte. row_succ rows (final_row set (reached set place (key_len_of set.layout) before byte))) in
+      map_same after (λ entries. runs (map (decoded set place) entries)) (packed_at set group place)
+      (all_packed set group place (λ entries. after entries ≡ runs (map (decoded set place) entries))
+      (λ key is. same_runs _ _ (λ byte below.
+      sym (ap (λ whole. row_succ rows (final_row set whole)) (reached_is set group held place (key_len_of set.layout) gap key byte is below)
+      ∙ ap (row_succ rows) (row_is set (key_len_of set.layout) (entries_step (column_at set place) (packed_state set group key) byte))))))
+      ∙ sym (map-map runs (map (decoded set place)) (packed_at set group place))
+      ∙ ap (map runs) (sym (states_are set group held place))

@@ -1,0 +1,46 @@
+-- The value of the field that has a place.
+use Rattle.std.proofs.Common.{◌≡◌, ℕ, zero, suc, ◌+◌, ◌-◌, ◌<◌, ◌≤◌, List, [], ◌∷◌, length, get_or, Bool, true, false, cond, ltb, refl, sym, ◌∙◌, ap, subst, inl, inr, arith, add-one}
+use Rattle.std.specs.List.{AllZip}
+use Rattle.std.proofs.lemmas.List.Sums.{sum_by-cons}
+use Rattle.std.proofs.lemmas.Bool.{cases_lt, cond-true, cond-false, lt-ltb, le-ltb}
+use Rattle.field_defs.specs.declared.field.FieldDef.{FieldDef}
+use Rattle.field_defs.specs.declared.field.FieldValue.{FieldValue}
+use Rattle.field_defs.specs.declared.field.FieldValue.TheVariants.{Mask}
+use Rattle.field_defs.specs.FieldMatch.{is_wild, CanMatch}
+use Rattle.field_defs.specs.Layout.{key_len_of}
+use Rattle.rule_set.specs.Lawful.{IsLawfulValue}
+use Rattle.trie_merge.specs.Kept.{is_wild_at}
+use Rattle.trie_merge.specs.Entry.{FieldPlace, field_at}
+use Rattle.trie_merge.proofs.Packed.{field_at_in, field_at_behind, further_value, one_further}
+
+-- there are as many values as fields
+pub length-zipped : (defs : List FieldDef) (values : List FieldValue) → AllZip IsLawfulValue defs values → length values ≡ length defs
+length-zipped [] [] lawful = refl
+length-zipped [] (v ∷ vs) lawful = absurd lawful
+length-zipped (d ∷ ds) [] lawful = absurd lawful
+length-zipped (d ∷ ds) (v ∷ vs) lawful = ap suc (length-zipped ds vs lawful.1)
+
+-- The value can be asked about the numbers of its field's size, and whether it is wild says so of the place.
+pub record IsValueAt (defs : List FieldDef) (values : List FieldValue) (place : ℕ) (at : FieldPlace) : Type 0 where
+  pub within : at.field < length values
+  pub can : CanMatch (get_or values at.field (Mask 0 0)) at.size
+  pub wild : is_wild_at defs values place ≡ is_wild (get_or values at.field (Mask 0 0)) at.size
+
+pub value_at_place : (defs : List FieldDef) (values : List FieldValue) (place : ℕ) → AllZip IsLawfulValue defs values → place < key_len_of defs → IsValueAt defs values place (field_at defs place)
+value_at_place [] values place lawful within = absurd (omega arith)
+value_at_place (def ∷ defs) [] place lawful within = absurd lawful
+value_at_place (def ∷ defs) (value ∷ values) place lawful within = elim (cases_lt place def.size) [
+  | inl begun ↦
+      subst (IsValueAt (def ∷ defs) (value ∷ values) place) (sym (field_at_in def defs place begun))
+      (record { within = omega arith; can = lawful.0.can_match; wild = cond-true _ _ _ (lt-ltb place def.size begun) })
+  | inr behind ↦
+      let there = value_at_place defs values (place - def.size) lawful.1 (omega (arith, within, sum_by-cons (λ (d : FieldDef). d.size) def defs)) in
+      let at : FieldPlace = field_at defs (place - def.size) in
+      let same = further_value value values at.field in
+      subst (IsValueAt (def ∷ defs) (value ∷ values) place) (sym (field_at_behind def defs place behind))
+      (record {
+        within = omega (arith, there.within);
+        can = subst (λ v. CanMatch v at.size) (sym same) there.can;
+        wild = cond-false _ _ _ (le-ltb place def.size behind) ∙ there.wild ∙ ap (λ v. is_wild v at.size) (sym same);
+      })
+]

@@ -1,0 +1,66 @@
+use Rattle.std.proofs.Common.{◌≡◌, ℕ, List, ◌+◌, ◌==◌, ◌<◌, ◌≤◌, length, get_or, map, Err, refl, sym, ◌∙◌, ap, subst, arith}
+use Rattle.field_defs.specs.Layout.{key_len_of}
+use Rattle.field_defs.proofs.Faultless.{short_keys}
+use Rattle.trie_merge.specs.declared.merge.MergeFault.TheVariants.{OverCap}
+use Rattle.trie_merge.specs.Kept.{kept_places}
+use Rattle.trie_merge.specs.Levels.{levels_of}
+use Rattle.trie_merge.specs.Entry.{column_at}
+use Rattle.trie_merge.proofs.PackedState.{length-column}
+use Rattle.trie_merge.proofs.Walk.{Walked, group_held, walk_start, place_within, states_can_step, walk_on, walk_over, walk_end}
+use Rattle.trie_merge.proofs.build.walk.Goals as goal
+
+pub loop-j-init : goal.loop-j-init
+loop-j-init c =
+    let set = c.args.rules.now in
+    let group = c.args.group.now in
+    rw c.new-levels.ensures.items
+    (walk_start set group (group_held set group c.requires.rules c.requires.layout c.requires.group.within) c.requires.group.some (short_keys set.layout c.requires.layout).0 c.args.cap c.args.start.keys c.requires.start)
+
+pub new-requires : goal.new-requires
+new-requires c =
+    let set = c.args.rules.now in
+    let group = c.args.group.now in
+    let below : c.loop-j.j < length (kept_places set group) = rw (← c.requires.places) c.loop-j-test.true in
+    rw c.requires.places
+    (place_within set group (group_held set group c.requires.rules c.requires.layout c.requires.group.within) c.requires.group.some (short_keys set.layout c.requires.layout).0
+    c.args.cap c.loop-j.j c.loop-j.levels.items c.loop-j.found.keys c.loop-j.words c.loop-j.invariant below)
+
+pub merge_states-requires-clause-states : goal.merge_states-requires-clause-states
+merge_states-requires-clause-states c =
+    let set = c.args.rules.now in
+    let group = c.args.group.now in
+    let below : c.loop-j.j < length (kept_places set group) = rw (← c.requires.places) c.loop-j-test.true in
+    rw (c.as_slice.ensures.keys, c.in-Ok.ensures, c.requires.places)
+    (states_can_step set group (group_held set group c.requires.rules c.requires.layout c.requires.group.within) c.requires.group.some (short_keys set.layout c.requires.layout).0
+    c.args.cap c.loop-j.j c.loop-j.levels.items c.loop-j.found.keys c.loop-j.words c.loop-j.invariant below)
+
+pub merge_states-requires-clause-rules : goal.merge_states-requires-clause-rules
+merge_states-requires-clause-rules c = rw c.in-Ok.ensures (length-column c.args.rules.now (get_or c.args.places.now c.loop-j.j 0))
+
+pub loop-j-preserved : goal.loop-j-preserved
+loop-j-preserved c =
+    let set = c.args.rules.now in
+    let group = c.args.group.now in
+    let below : c.loop-j.j < length (kept_places set group) = rw (← c.requires.places) c.loop-j-test.true in
+    let merged = rw (c.as_slice.ensures.keys, c.in-Ok.ensures, c.requires.places) at c.in-Ok-merge_states.ensures.merged in
+    rw (c.in-Ok-push.ensures.items, c.new-in-loop-j.ensures)
+    (walk_on set group (group_held set group c.requires.rules c.requires.layout c.requires.group.within) c.requires.group.some (short_keys set.layout c.requires.layout).0
+    c.args.cap c.loop-j.j c.loop-j.levels.items c.loop-j.found.keys c.loop-j.words c.loop-j.invariant below _ _ _ merged)
+
+pub returns-clause-walked : goal.returns-clause-walked
+returns-clause-walked c =
+    let set = c.args.rules.now in
+    let group = c.args.group.now in
+    walk_end set group (group_held set group c.requires.rules c.requires.layout c.requires.group.within) c.requires.group.some (short_keys set.layout c.requires.layout).0
+    c.args.cap c.loop-j.j c.loop-j.levels.items c.loop-j.found.keys c.loop-j.words c.loop-j.invariant (rw (← c.requires.places) c.loop-j-test.false)
+
+pub returns-in-Err-merge_states-clause-over : goal.returns-in-Err-merge_states-clause-over
+unfolding levels_of
+returns-in-Err-merge_states-clause-over c = λ over.
+    let set = c.args.rules.now in
+    let group = c.args.group.now in
+    let below : c.loop-j.j < length (kept_places set group) = rw (← c.requires.places) c.loop-j-test.true in
+    let is : c.in-Err-merge_states.fault ≡ OverCap = cc in
+    let past = rw (c.as_slice.ensures.keys, c.in-Ok.ensures, c.requires.places) at (c.in-Err-merge_states.ensures.over (ap Err is)) in
+    walk_over set group (group_held set group c.requires.rules c.requires.layout c.requires.group.within) c.requires.group.some (short_keys set.layout c.requires.layout).0
+    c.args.cap c.loop-j.j c.loop-j.levels.items c.loop-j.found.keys c.loop-j.words c.loop-j.invariant below past

@@ -1,0 +1,10 @@
+use Rattle.std.proofs.Common.{◌≡◌, ℕ, List, Bool, ◌++◌, ◌∷◌, [], map, sym, ◌∙◌, ap, arith}
+use Rattle.trie_merge.specs.Kept.{is_wild_place}
+use Rattle.trie_merge.proofs.Counting.{map_more_numbers}
+use Rattle.trie_merge.proofs.kept.wild_places.Goals as goal
+
+pub loop-place-preserved : goal.loop-place-preserved
+loop-place-preserved c =
+    c.in_ok-push.ensures.items
+    ∙ (λ i. c.loop-place.invariant i ++ c.is_wild_place.ensures i ∷ [])
+    ∙ sym (map_more_numbers (is_wild_place c.args.rules.now c.args.group.now) c.loop-place.place)

@@ -1,0 +1,163 @@
+//! The merged states of a group of rules.
+
+ghost use Rattle.std.specs.Prelude.{◌≡◌, ◌<◌, ◌∷◌, [], length, slice_index_or};
+ghost use Rattle.trie_merge.specs.Pieces.{pieces_of, IsPieces};
+
+use crate::merge::Pieces;
+use crate::row::CATEGORIES;
+use crate::run::Run;
+use std::marker::Model;
+
+/// The runs of the states of one kept place. Contracts see the list of the runs of each state.
+#[derive(Drop)]
+pub(crate) struct Level {
+    pieces: Pieces,
+}
+
+impl Model for Level {
+    ghost use Rattle.std.specs.Prelude.{List, length};
+    ghost use Rattle.trie_merge.specs.declared.run.Run.{Run};
+    ghost use Rattle.trie_merge.specs.Pieces.{pieces_of, IsPieces};
+
+    ghost Value = { List (List Run) };
+
+    ghost view = { λ l. pieces_of l.pieces.runs.items 0 l.pieces.ends.items };
+
+    ghost invariant = { λ l. IsPieces 0 l.pieces.ends.items (length l.pieces.runs.items) };
+}
+
+impl Level {
+    ghost use Rattle.std.specs.Prelude.{◌≡◌, ◌<◌, [], length, slice_index_or};
+    ghost use Rattle.trie_merge.specs.Pieces.{pieces_of, IsPieces};
+
+    /// The level of the pieces.
+    pub(crate) fn new(pieces: Pieces) -> Self
+        requires { IsPieces 0 pieces.ends.items (length pieces.runs.items) }
+        ensures { result ≡ pieces_of pieces.runs.items 0 pieces.ends.items }
+    {
+        Level { pieces }
+    }
+
+    /// How many states there are.
+    fn len(&self) -> usize
+        ensures { result ≡ length self.now }
+    {
+        self.pieces.ends.len()
+    }
+
+    /// The runs of one state.
+    fn runs(&self, state: usize) -> &[Run]
+        requires { state < length self.now }
+        ensures { result.now ≡ slice_index_or self.now state [] }
+    {
+        piece(
+            self.pieces.runs.as_slice(),
+            self.pieces.ends.as_slice(),
+            state,
+        )
+    }
+}
+
+/// Where a piece begins: where the one before ends.
+fn start_of(ends: &[usize], k: usize) -> usize
+    requires { k < length ends.now }
+    ensures { result ≡ slice_index_or (0 ∷ ends.now) k 0 }
+{
+    if k == 0 { 0 } else { ends[k - 1] }
+}
+
+/// One of the pieces that end at the given places.
+fn piece<'a>(runs: &'a [Run], ends: &[usize], k: usize) -> &'a [Run]
+    requires pieces { IsPieces 0 ends.now (length runs.now) }
+    requires k { k < length ends.now }
+    ensures { result.now ≡ slice_index_or (pieces_of runs.now 0 ends.now) k [] }
+{
+    let (until, _) = runs.split_at(ends[k]);
+    let (_, piece) = until.split_at(start_of(ends, k));
+    piece
+}
+
+/// The merged states of a group of rules, kept place by kept place. Contracts see the kept groups, the group, the runs of each
+/// state at each place, the rows and the words.
+#[derive(Drop)]
+pub struct Levels {
+    pub(crate) kept: u128,
+    pub(crate) group: Vec<u32>,
+    pub(crate) levels: Vec<Level>,
+    pub(crate) rows: Vec<[u32; CATEGORIES]>,
+    pub(crate) words: u64,
+}
+
+impl Model for Levels {
+    ghost use Rattle.trie_merge.specs.Levels.{LevelsView};
+
+    ghost Value = { LevelsView };
+
+    ghost view = { λ l. record { kept = l.kept; group = l.group.items; levels = l.levels.items; rows = l.rows.items; words = l.words } };
+}
+
+impl Levels {
+    ghost use Rattle.std.specs.Prelude.{◌≡◌, ◌<◌, [], length, slice_index_or};
+
+    /// The kept groups, bit g for input group g.
+    pub fn kept(&self) -> u128
+        ensures { result ≡ self.now.kept }
+    {
+        self.kept
+    }
+
+    /// The group: numbers of rules, ascending.
+    pub fn group(&self) -> &[u32]
+        ensures { result.now ≡ self.now.group }
+    {
+        self.group.as_slice()
+    }
+
+    /// How many kept places there are.
+    pub fn depths(&self) -> usize
+        ensures { result ≡ length self.now.levels }
+    {
+        self.levels.len()
+    }
+
+    /// How many states there are at the kept place of that number, which is below [`Levels::depths`].
+    pub fn states(&self, depth: usize) -> usize
+        requires { depth < length self.now.levels }
+        ensures { result ≡ length (slice_index_or self.now.levels depth []) }
+    {
+        self.levels[depth].len()
+    }
+
+    /// The maximal runs of bytes with one successor, in order, the last ending at 255.
+    ///
+    /// The depth is below [`Levels::depths`] and the state below [`Levels::states`].
+    pub fn runs(&self, depth: usize, state: usize) -> &[Run]
+        requires depth { depth < length self.now.levels }
+        requires state { state < length (slice_index_or self.now.levels depth []) }
+        ensures { result.now ≡ slice_index_or (slice_index_or self.now.levels depth []) state [] }
+    {
+        self.levels[depth].runs(state)
+    }
+
+    /// How many rows there are.
+    pub fn rows(&self) -> usize
+        ensures { result ≡ length self.now.rows }
+    {
+        self.rows.len()
+    }
+
+    /// The row of that number, which is below [`Levels::rows`]: for each category the winner's number plus 1, or 0 for none.
+    pub fn row(&self, r: usize) -> &[u32; CATEGORIES]
+        requires { r < length self.now.rows }
+        ensures { result.now ≡ slice_index_or self.now.rows r [] }
+    {
+        &self.rows[r]
+    }
+
+    /// The words of a table of the states: 1, 5 or 256 for each, and 16 for each row.
+    pub fn words(&self) -> u64
+        ensures { result ≡ self.now.words }
+    {
+        self.words
+    }
+}
