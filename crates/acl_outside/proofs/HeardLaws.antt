@@ -14,8 +14,11 @@ with_bytes-append : (first second : List ℕ) (file : Heard) →
 with_bytes-append [] second file = refl
 with_bytes-append (b ∷ bs) [] file = ap (λ bytes. with_bytes bytes file) (sym (append-nil (b ∷ bs)))
 with_bytes-append (b ∷ bs) (c ∷ cs) file =
-    ap (λ bytes. let heard_file : Heard = record { name = file.name; bytes = bytes;
-        ending = (with_bytes (c ∷ cs) file).ending } in heard_file)
+    ap (λ bytes. let heard_file : Heard = record {
+      name = file.name;
+      bytes = bytes;
+      ending = (with_bytes (c ∷ cs) file).ending;
+    } in heard_file)
     (append_assoc file.bytes (b ∷ bs) (c ∷ cs))
 
 change_newest-same : (files : List Heard) → files ≡ change_newest and_goes_on files
@@ -24,7 +27,7 @@ change_newest-same (file ∷ files) = refl
 
 change_newest-then : (change : Heard → Heard) (first second : List ℕ) (files : List Heard) →
     change_newest (λ file. change (with_bytes second file)) (change_newest (λ file. and_goes_on (with_bytes first file))
-        files)
+    files)
     ≡ change_newest (λ file. change (with_bytes (first ++ second) file)) files
 change_newest-then change first second [] = refl
 change_newest-then change first second (file ∷ files) = ap (λ f. change f ∷ files) (with_bytes-append first second file)
@@ -55,14 +58,14 @@ ReadsOn-then change first second old mid new a b = record {
 -- A read gave bytes, at least one.
 given_some : (room : ℕ) (bytes : List ℕ) (files : List Heard) → 0 < length bytes →
     change_newest (after_read room (Some bytes)) files ≡ change_newest (λ file. and_goes_on (with_bytes bytes file))
-        files
+    files
 given_some room [] files some = absurd (omega (arith, some))
 given_some room (b ∷ bs) [] some = refl
 given_some room (b ∷ bs) (file ∷ files) some = refl
 
 pub ReadsOn-given : {E : Type 0} (into_old into_new : List ℕ) (count : ℕ) (old new : DeskView) →
     ReadsInto {E = E} into_old into_new old new (Ok count) → 0 < length (take count into_new) →
-        ReadsOn and_goes_on (take count into_new) old new
+    ReadsOn and_goes_on (take count into_new) old new
 ReadsOn-given into_old into_new count old new read some = record {
   heard = ap heard read.answer ∙ given_some (length into_old) (take count into_new) (heard old.answers) some;
   told = read.given;
@@ -71,7 +74,7 @@ ReadsOn-given into_old into_new count old new read some = record {
 -- A read gave nothing, with room for something.
 given_none : (room : ℕ) (files : List Heard) → 0 < room →
     change_newest (after_read room (Some [])) files ≡ change_newest (λ file. with_ending Ended (with_bytes [] file))
-        files
+    files
 given_none room [] some = refl
 given_none room (file ∷ files) some = rw (ne_eqb room 0 (λ e. omega (arith, some, e))) refl
 

@@ -40,13 +40,16 @@ Gives-whole cap bytes few old new ended given =
 -- Bytes were given, and then no more: nothing was left.
 pub Steps-to_end : (cap : ℕ) (bytes : List ℕ) → length bytes ≤ cap → (old mid new : Option Content) →
     Steps (Gives bytes) old mid → ((content : Content) → mid ≡ Some content → content.left ≡ []) →
-        Steps (Gives []) mid new →
+    Steps (Gives []) mid new →
     Steps (GivesUpTo cap bytes) old new
 Steps-to_end cap bytes few None None None given ended last = tt
 Steps-to_end cap bytes few (Some old) (Some mid) (Some new) given ended last =
     Gives-whole cap bytes few old new (sym last.left ∙ ended mid refl)
-    record { files = last.files ∙ given.files; opened = last.opened ∙ given.opened;
-        left = given.left ∙ ap (λ xs. bytes ++ xs) last.left }
+    record {
+      files = last.files ∙ given.files;
+      opened = last.opened ∙ given.opened;
+      left = given.left ∙ ap (λ xs. bytes ++ xs) last.left;
+    }
 Steps-to_end cap bytes few None (Some mid) new given ended last = absurd given
 Steps-to_end cap bytes few (Some old) None new given ended last = absurd given
 Steps-to_end cap bytes few None None (Some new) given ended last = absurd last
@@ -59,11 +62,14 @@ pub take-read_behind : (n len count : ℕ) (xs read rest behind : List ℕ) → 
 take-read_behind n len count xs read rest behind in_list in_read in_all =
     let all : List ℕ = take len xs ++ (read ++ rest) in
     let front : length (take len xs) ≡ len = length-take-le len xs in_list in
-    let long : len + count ≤ length all = omega (arith, length-append (take len xs) (read ++ rest),
-        length-append read rest) in
+    let long : len + count ≤ length all = omega (
+      arith,
+      length-append (take len xs) (read ++ rest),
+      length-append read rest,
+    ) in
     take-take (len + count) n (all ++ behind) in_all ∙ take-append-le (len + count) all behind long ∙
     subst (λ k. take (k + count) all ≡ take len xs ++ take count (read ++ rest)) front
-        (take-append-add (take len xs) (read ++ rest) count) ∙
+    (take-append-add (take len xs) (read ++ rest) count) ∙
     ap (λ ys. take len xs ++ ys) (take-append-le count read rest in_read)
 
 -- and where nothing was read behind them, the first len bytes are what they were

@@ -11,7 +11,7 @@ answer_of note =
     if slice_index note.numbers 0 == OPENED then Opening note.bytes true
     else (if slice_index note.numbers 0 == NOT_OPENED then Opening note.bytes false
     else (if slice_index note.numbers 0 == GIVEN then Reading (slice_index note.numbers 1)
-        (Some note.bytes)
+    (Some note.bytes)
     else Reading (slice_index note.numbers 1) None))
 
 -- the answers, newest first, of notes, newest first

@@ -19,8 +19,11 @@ pub record Heard : Type 0 where
 -- the same opening with these bytes more
 abbrev pub with_bytes : List ℕ → Heard → Heard
 with_bytes [] file = file
-with_bytes (b ∷ bs) file = record { name = file.name; bytes = file.bytes ++ b ∷ bs;
-    ending = GoesOn }
+with_bytes (b ∷ bs) file = record {
+  name = file.name;
+  bytes = file.bytes ++ b ∷ bs;
+  ending = GoesOn;
+}
 
 -- the same opening with this ending
 abbrev pub with_ending : Ending → Heard → Heard

@@ -55,10 +55,10 @@ no_opening = refl
 -- the notes that the desks and the sink over the system keep
 noted_answers : answers_of (
     note_of (FAILED ∷ 8 ∷ []) [] ∷ note_of (GIVEN ∷ 2 ∷ []) (1 ∷ 2 ∷ [])
-        ∷ note_of (OPENED ∷ []) (codes "r")
+    ∷ note_of (OPENED ∷ []) (codes "r")
     ∷ note_of (NOT_OPENED ∷ []) (codes "c") ∷ [])
     ≡ Reading 8 None ∷ Reading 2 (Some (1 ∷ 2 ∷ [])) ∷ Opening (codes "r") true
-        ∷ Opening (codes "c") false ∷ []
+    ∷ Opening (codes "c") false ∷ []
 noted_answers = refl
 
 noted_bytes : taken_of (note_of (TAKEN ∷ []) (3 ∷ []) ∷ note_of (TAKEN ∷ []) (1 ∷ 2 ∷ []) ∷ [])

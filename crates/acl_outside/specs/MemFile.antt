@@ -25,8 +25,11 @@ file_at files (Some place) = slice_get files place
 
 -- the content, with the file at this place opened and read up to this byte
 abbrev pub content_at : List MemFile → Option ℕ → ℕ → Content
-content_at files opened at = record { files = files_of files;
-    opened = name_of (file_at files opened); left = rest_of (file_at files opened) at }
+content_at files opened at = record {
+  files = files_of files;
+  opened = name_of (file_at files opened);
+  left = rest_of (file_at files opened) at;
+}
 
 -- an opened place is one of the list, and no more bytes were read than the file there has
 abbrev pub IsReadAt : List MemFile → Option ℕ → ℕ → Type 0

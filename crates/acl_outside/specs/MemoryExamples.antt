@@ -75,8 +75,14 @@ bound_by_what_is_left = refl
 
 -- a sink with room for two bytes more, whose second put fails
 abbrev sink_after : ℕ → MemSinkView
-sink_after puts = record { written = 1 ∷ 2 ∷ 3 ∷ []; room = 5; piece = 4; failing = 2 ∷ [];
-    puts = puts; faults = 0 }
+sink_after puts = record {
+  written = 1 ∷ 2 ∷ 3 ∷ [];
+  room = 5;
+  piece = 4;
+  failing = 2 ∷ [];
+  puts = puts;
+  faults = 0;
+}
 
 a_put_succeeds : put_fails (sink_after 0) 1 ≡ false
 a_put_succeeds = refl

@@ -32,7 +32,7 @@ and_goes_on file = file
 abbrev pub ReadsToEndOrCap : ℕ → List ℕ → DeskView → DeskView → Type 0
 ReadsToEndOrCap cap bytes old new =
     (ReadsOn (with_ending Ended) bytes old new × (length bytes < cap)) ⊎
-        (ReadsOn and_goes_on bytes old new × (length bytes ≡ cap))
+    (ReadsOn and_goes_on bytes old new × (length bytes ≡ cap))
 
 -- how the reading stands after a fault: want of memory says nothing of the file
 abbrev pub after_fault : ReadAll → Heard → Heard

@@ -53,8 +53,13 @@ impl<'a, R: Files> StdDesk<'a, R> {
 
     /// A desk over the files that the runtime opens. It takes no memory.
     pub fn new(rt: &'a R) -> StdDesk<'a, R>
-        ensures { result ≡ record { held = []; remaining = None; answers = []; reading = false;
-            read_faults = 0 } }
+        ensures { result ≡ record {
+          held = [];
+          remaining = None;
+          answers = [];
+          reading = false;
+          read_faults = 0;
+        } }
     {
         StdDesk {
             rt,

@@ -18,4 +18,4 @@ returns c =
     rw (c.ok.ensures.value)
     (kept (into_iter_items c.args.args) c.collect.result
     (items_from_collect c.collect.result c.collect.ensures.ran
-        (YieldsList-from_vec (into_iter_items c.args.args) refl (c.args.args.rest.ok.0))))
+    (YieldsList-from_vec (into_iter_items c.args.args) refl (c.args.args.rest.ok.0))))

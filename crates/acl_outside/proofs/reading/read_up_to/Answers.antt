@@ -24,7 +24,7 @@ parts-preserved g c =
     let within = simp (length-take, length-drop) at c.in-Ok.ensures.within in
     let in_bytes : c.parts.len + c.in-Ok.count ≤ c.make_room.new.bytes.len = omega arith in
     let in_read : c.in-Ok.count ≤ length c.read.new.into = rw c.read.auto.into
-        (simp (length-take, length-drop) (omega arith)) in
+    (simp (length-take, length-drop) (omega arith)) in
     let some : 0 < length (take c.in-Ok.count c.read.new.into) =
     omega (arith, length-take c.in-Ok.count c.read.new.into, in_read, c.in-Ok.count-test.1) in
     record {
@@ -39,13 +39,15 @@ parts-preserved g c =
           )
           (ReadsOn-then and_goes_on (take c.parts.len c.parts.bytes.items) (take c.in-Ok.count c.read.new.into)
           (g.D.Desk.view c.args.desk.now) (g.D.Desk.view c.parts.desk) (g.D.Desk.view c.read.new.self)
-              c.parts.invariant.read
+          c.parts.invariant.read
           (ReadsOn-given _ c.read.new.into c.in-Ok.count (g.D.Desk.view c.parts.desk) (g.D.Desk.view c.read.new.self)
-              c.in-Ok.ensures some));
+          c.in-Ok.ensures some));
       reading = cc;
       absent = cc;
-      counts = record { read_faults = omega (arith, c.in-Ok.ensures.counts.read_faults);
-          absent = omega (arith, c.in-Ok.ensures.counts.absent) };
+      counts = record {
+        read_faults = omega (arith, c.in-Ok.ensures.counts.read_faults);
+        absent = omega (arith, c.in-Ok.ensures.counts.absent);
+      };
     }
 
 pub returns-in_err-make_room : goal.returns-in_err-make_room
@@ -72,15 +74,17 @@ returns-in-Err g c = record {
     take c.parts.len c.parts.bytes.items ++ [],
     ReadsOn-then (with_ending BrokenOff) (take c.parts.len c.parts.bytes.items) []
         (g.D.Desk.view c.args.desk.now) (g.D.Desk.view c.parts.desk) (g.D.Desk.view c.read.new.self)
-            c.parts.invariant.read
+        c.parts.invariant.read
         (ReadsOn-failed c.in-Err.field-0 _ c.read.new.into (g.D.Desk.view c.parts.desk) (g.D.Desk.view c.read.new.self)
-            c.in-Err.ensures),
+        c.in-Err.ensures),
   );
   reading = cc;
   read_fault = λ e. omega (arith, c.parts.invariant.counts.read_faults, c.in-Err.ensures.cause);
   absent = cc;
-  counts = record { read_faults = omega (arith, c.in-Err.ensures.counts.read_faults);
-      absent = omega (arith, c.in-Err.ensures.counts.absent) };
+  counts = record {
+    read_faults = omega (arith, c.in-Err.ensures.counts.read_faults);
+    absent = omega (arith, c.in-Err.ensures.counts.absent);
+  };
 }
 
 pub returns : goal.returns
@@ -89,14 +93,14 @@ returns g c = elim c.parts-test.branch [
       let full : length (take c.parts.len c.parts.bytes.items) ≡ c.args.cap =
       omega (arith, w.parts-test.false, c.parts.bytes.ok, length-take c.parts.len c.parts.bytes.items) in
       let same : c.truncate.new.self.items ≡ take c.parts.len c.parts.bytes.items =
-          rw (c.truncate.ensures.items, w.bytes-is) refl in
+      rw (c.truncate.ensures.items, w.bytes-is) refl in
       rw (w.desk-is)
       record {
         within = rw same (omega (arith, full));
         bytes =
             rw same
             (Steps-weaker _ _ (Gives-capped c.args.cap (take c.parts.len c.parts.bytes.items) full) _ _
-                c.parts.invariant.read.told);
+            c.parts.invariant.read.told);
         heard = rw same (inr (c.parts.invariant.read, full));
         lost = tt;
         reading = c.parts.invariant.reading;
@@ -128,23 +132,25 @@ returns g c = elim c.parts-test.branch [
         bytes =
             rw same
             (Steps-to_end c.args.cap (take c.parts.len before) (omega (arith, few)) _ _ _ c.parts.invariant.read.told
-                ended read.given);
+            ended read.given);
         heard =
             rw same
             (inl (
               rw (append-nil (take c.parts.len before)) at
                   (ReadsOn-then (with_ending Ended) (take c.parts.len before) []
                   (g.D.Desk.view c.args.desk.now) (g.D.Desk.view c.parts.desk) (g.D.Desk.view w.read.new.self)
-                      c.parts.invariant.read
+                  c.parts.invariant.read
                   (ReadsOn-ended _ w.read.new.into (g.D.Desk.view c.parts.desk) (g.D.Desk.view w.read.new.self) read
-                      (simp (length-take, length-drop) (omega arith)))),
+                  (simp (length-take, length-drop) (omega arith)))),
               few,
             ));
         lost = tt;
         reading = cc;
         read_fault = λ e. absurd (cc);
         absent = cc;
-        counts = record { read_faults = omega (arith, read.counts.read_faults);
-            absent = omega (arith, read.counts.absent) };
+        counts = record {
+          read_faults = omega (arith, read.counts.read_faults);
+          absent = omega (arith, read.counts.absent);
+        };
       }
 ]

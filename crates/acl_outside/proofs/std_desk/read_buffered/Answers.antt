@@ -25,7 +25,7 @@ returns-clause-given g c =
       | then-is_empty-2+else-into-ge-BUFFER_SIZE+in_ok-refill w ↦
           rw (w.buffer-is, w.file-is, w.if-is_empty-2.ensures.0 refl)
           (Consumes-refilled c.give.result w.refill.new.self (remaining c.args.file.now) (remaining w.refill.new.file)
-              w.in_ok-refill.ensures.read)
+          w.in_ok-refill.ensures.read)
       | else-is_empty-2 w ↦
           rw (w.buffer-is, w.file-is) (Consumes-held c.give.result c.args.buffer.now (remaining c.args.file.now))
     ])
