@@ -1,0 +1,5 @@
+mod Aimed
+mod Drawing
+mod Held
+mod Lawful
+mod Words

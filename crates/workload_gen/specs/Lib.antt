@@ -1,0 +1,9 @@
+pub mod Draws
+pub mod DrawsExamples
+pub mod Laws
+pub mod Packet
+pub mod PacketExamples
+pub mod Rule
+pub mod RuleExamples
+pub mod Workload
+pub mod WorkloadExamples

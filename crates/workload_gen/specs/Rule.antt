@@ -1,0 +1,99 @@
+-- The rule that six words give. All its choices are ours.
+use Rattle.std.specs.Prelude.{ℕ, pos, ◌+◌, ◌/◌, ◌%◌, ◌^◌, ◌==◌, List, [], ◌∷◌, min, slice_index}
+use Rattle.std.specs.Prelude.{if◌then◌else◌}
+use Rattle.field_defs.specs.declared.field.FieldValue.{FieldValue}
+use Rattle.field_defs.specs.declared.field.FieldValue.TheVariants.{Mask, Range, Bitmask}
+use Rattle.rule_set.specs.declared.rule.RuleTag.{RuleTag}
+use Rattle.rule_set.specs.Rule.{RuleView}
+
+-- protocol numbers (IANA), and the bits of one of them
+abbrev pub tcp : ℕ
+tcp = 6
+
+abbrev pub udp : ℕ
+udp = 17
+
+abbrev pub whole_protocol : ℕ
+whole_protocol = 0xFF
+
+-- 10.0.0.0, the network of all addresses of a workload (RFC 1918, 3)
+abbrev pub network : ℕ
+network = 0x0A000000
+
+-- the greatest port
+abbrev pub last_port : ℕ
+last_port = 65535
+
+-- the first port that a program without special rights may use
+abbrev pub first_user_port : ℕ
+first_user_port = 1024
+
+-- how many ports a range has behind its first one, at most
+abbrev pub ports_behind : ℕ
+ports_behind = 100
+
+-- how many bits of a source decide
+abbrev pub source_bits : List ℕ
+source_bits = 16 ∷ 24 ∷ 32 ∷ []
+
+-- how many bits of a destination decide
+abbrev pub destination_bits : List ℕ
+destination_bits = 0 ∷ 16 ∷ 24 ∷ 32 ∷ []
+
+-- how many priorities a workload has
+abbrev pub priorities : ℕ
+priorities = 1000
+
+-- how many masks name some of 16 categories
+abbrev pub category_masks : ℕ
+category_masks = 65535
+
+-- an address of the network, by the low 24 bits of a word
+abbrev pub address : ℕ → ℕ
+address word = network + word % 2 ^ 24
+
+-- the high eight bits of a word, which choose
+abbrev pub choice : ℕ → ℕ
+choice word = word / 2 ^ 24
+
+-- UDP, any protocol, or TCP
+abbrev pub protocol_value : ℕ → FieldValue
+protocol_value word =
+    if word % 4 == 1 then Bitmask udp whole_protocol
+    else (if word % 4 == 3 then Bitmask 0 0 else Bitmask tcp whole_protocol)
+
+-- a source of 16, 24 or 32 bits
+abbrev pub source_value : ℕ → FieldValue
+source_value word = Mask (address word) (slice_index source_bits (choice word % 3))
+
+-- a destination of no, 16, 24 or 32 bits
+abbrev pub destination_value : ℕ → FieldValue
+destination_value word = Mask (address word) (slice_index destination_bits (choice word % 4))
+
+-- all ports, those from 1024 on, one port, or a port and up to a hundred behind it
+abbrev pub destination_ports : ℕ → FieldValue
+destination_ports word =
+    let first = word / 2 ^ 16 in
+    if word % 4 == 0 then Range 0 last_port
+    else (if word % 4 == 1 then Range first_user_port last_port
+    else (if word % 4 == 2 then Range first first
+    else Range first (min (first + ports_behind) last_port)))
+
+-- the tag of a number: some of 16 categories, a priority from 0 on, and the number for its userdata
+abbrev pub tag_of : ℕ → ℕ → ℕ → RuleTag
+tag_of number priority categories = record {
+  category_mask = 1 + categories % category_masks;
+  priority = pos (priority % priorities);
+  userdata = number;
+}
+
+-- the rule of a number, by its six words: protocol, source, destination, destination ports,
+-- priority and categories
+abbrev pub rule_of : ℕ → List ℕ → RuleView
+rule_of number words = record {
+  tag = tag_of number (slice_index words 4) (slice_index words 5);
+  fields =
+      protocol_value (slice_index words 0) ∷ source_value (slice_index words 1)
+      ∷ destination_value (slice_index words 2) ∷ Range 0 last_port
+      ∷ destination_ports (slice_index words 3) ∷ [];
+}
