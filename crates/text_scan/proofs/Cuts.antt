@@ -1,12 +1,19 @@
 -- Texts that are cut at the first separator.
 use Rattle.std.proofs.Common.{◌≡◌, ℕ, zero, suc, ◌+◌, ◌<◌, eqb, true, false, List, [], ◌∷◌, length, take, drop, map}
 use Rattle.std.proofs.Common.{Some, None, refl, ap, ◌∙◌, arith, inl, inr}
-use Rattle.std.proofs.lemmas.Bool.{cases_Bool, cond-false, ne_eqb, or_right, false_from_ne_true}
+use Rattle.std.proofs.lemmas.Bool.{cases_Bool, cond-false, ne_eqb, or_right, false_from_ne_true, and_parts, eq-eqb}
+use Rattle.std.proofs.lemmas.Bool.{not-true}
 use Rattle.std.proofs.lemmas.List.Sums.{position_or_len_is}
 use Rattle.std.specs.Str.Lines.{strip_carriage_return}
 use Rattle.std.specs.List.{onto_first, list_any}
 use Rattle.memchr.specs.Find.{Nowhere, NoneBefore, Passes, is_byte}
-use Rattle.text_scan.specs.Parts.{line_feed, parts_of, cut_at, without_empty_end, lines_of}
+use Rattle.text_scan.specs.Parts.{carriage_return, line_feed, parts_of, cut_at, without_empty_end, lines_of}
+use Rattle.std.proofs.Common.{get_or, ◌-◌, ◌++◌, ◌&&◌, not, Bool, sym, append_assoc}
+use Rattle.std.proofs.Math.Seq.{take-append_seam, drop-append_seam}
+use Rattle.std.proofs.lemmas.List.{length_push}
+use Rattle.std.proofs.lemmas.List.Splits.{slice_split_at}
+use Rattle.std.proofs.lemmas.List.Sums.{AllPass-from_list_all}
+use Rattle.std.specs.List.{All, list_all, position_or_len}
 
 -- a text without a separator is its only part
 pub parts_of-whole : (separator : ℕ) (text : List ℕ) → Nowhere (Passes (is_byte separator) text) 0 (length text)
@@ -102,3 +109,54 @@ lines_of-cut text place first here =
     ap (λ parts. map strip_carriage_return (without_empty_end parts)) (parts_of-cut line_feed text place first here)
     ∙ ap (map strip_carriage_return)
     (without_empty_end-more (take place text) (parts_of line_feed rest) (parts_of-some line_feed rest))
+
+-- a separator stands in a text that has it
+any-append : (p : ℕ → Bool) (before rest : List ℕ) (c : ℕ) → p c ≡ true → list_any p (before ++ c ∷ rest) ≡ true
+any-append p [] rest c here = rw here refl
+any-append p (b ∷ before) rest c here = or_right (p b) _ (any-append p before rest c here)
+
+-- and no place before it does, where the text before it lacks it
+place-append : (p : ℕ → Bool) (before rest : List ℕ) (c : ℕ) → list_all (λ b. not (p b)) before ≡ true → p c ≡ true
+    → position_or_len p (before ++ c ∷ rest) ≡ length before
+place-append p [] rest c lacks here = rw here refl
+place-append p (b ∷ before) rest c lacks here =
+    let parts = and_parts (not (p b)) _ lacks in
+    rw parts.0 (omega (arith, place-append p before rest c parts.1 here))
+
+-- a text is cut where its first separator was put
+pub cut_at-append : (separator : ℕ) (before rest : List ℕ) → list_all (λ b. not (eqb b separator)) before ≡ true
+    → cut_at separator (before ++ separator ∷ rest) ≡ Some (before, rest)
+cut_at-append separator before rest lacks =
+    let is_it : ℕ → Bool = λ c. eqb c separator in
+    let here : is_it separator ≡ true = eq-eqb separator separator refl in
+    let place = place-append is_it before rest separator lacks here in
+    let first = take-append_seam before (separator ∷ rest) in
+    let longer : length before + 1 ≡ length (before ++ separator ∷ []) = sym (length_push before separator) in
+    let second : drop (length before + 1) (before ++ separator ∷ rest) ≡ rest =
+    ap (λ n. drop n (before ++ separator ∷ rest)) longer
+    ∙ ap (drop (length (before ++ separator ∷ []))) (sym (append_assoc before (separator ∷ []) rest))
+    ∙ drop-append_seam (before ++ separator ∷ []) rest in
+    rw (any-append is_it before rest separator here, place, first, second) refl
+
+-- bytes that end no line
+abbrev pub ends_no_line : ℕ → Bool
+ends_no_line c = not (eqb c line_feed) && not (eqb c carriage_return)
+
+lacks_line_feed : (text : List ℕ) → list_all ends_no_line text ≡ true → All (λ c. eqb c line_feed ≡ false) text
+lacks_line_feed text plain = λ k d inside.
+    not-true _ (and_parts _ _ (AllPass-from_list_all ends_no_line text plain k d inside)).0
+
+strip-plain : (text : List ℕ) → list_all ends_no_line text ≡ true → strip_carriage_return text ≡ text
+strip-plain [] plain = refl
+strip-plain (c ∷ cs) plain =
+    let last = length (c ∷ cs) - 1 in
+    let passes = and_parts _ _ (AllPass-from_list_all ends_no_line (c ∷ cs) plain last 0 (omega arith)) in
+    cond-false (eqb (get_or (c ∷ cs) last 0) carriage_return) _ _ (not-true _ passes.1)
+
+-- one line, ended by LF, where none of its bytes ends a line
+pub lines_of-one : (text : List ℕ) → list_all ends_no_line text ≡ true
+    → lines_of (text ++ line_feed ∷ []) ≡ text ∷ []
+lines_of-one text plain =
+    let cut = slice_split_at (λ c. eqb c line_feed) text line_feed [] (lacks_line_feed text plain) refl in
+    ap (λ parts. map strip_carriage_return (without_empty_end parts)) cut
+    ∙ ap (λ line. line ∷ []) (strip-plain text plain)

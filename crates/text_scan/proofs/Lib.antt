@@ -1,6 +1,7 @@
 pub mod PlaceValues
 pub mod DigitTexts
 pub mod Forms
+pub mod AddressBytes
 pub mod Cuts
 pub mod Gaps
 pub mod Guards

@@ -5,7 +5,7 @@ use Rattle.std.proofs.Common.{ap, ◌∙◌, arith, inl, inr}
 use Rattle.std.proofs.Math.Seq.{take-append_seam, drop-append_seam}
 use Rattle.std.specs.Prelude.{filter}
 use Rattle.std.specs.List.{list_all, prefix_len, slice_split}
-use Rattle.std.proofs.lemmas.Bool.{cases_Bool, ne_eqb, and_parts}
+use Rattle.std.proofs.lemmas.Bool.{cases_Bool, ne_eqb, and_parts, not-true}
 use Rattle.std.proofs.lemmas.List.Folds.{length-prefix_len}
 use Rattle.text_scan.specs.Parts.{is_blank, after_blanks, first_word, after_word, words_of}
 
@@ -136,3 +136,10 @@ words_of-append word rest is some ends =
 -- a blank at the beginning is no part of a word
 pub words_of-blank : (c : ℕ) (rest : List ℕ) → is_blank c ≡ true → words_of (c ∷ rest) ≡ words_of rest
 words_of-blank c rest blank = rw blank refl
+
+-- before a word there is no blank
+pub after_blanks-word : (word rest : List ℕ) → IsWord word → 0 < length word
+    → after_blanks (word ++ rest) ≡ word ++ rest
+after_blanks-word [] rest is some = absurd (omega arith)
+after_blanks-word (c ∷ word) rest is some =
+    after_blanks-other c (word ++ rest) (not-true _ (and_parts (not (is_blank c)) _ is).0)

@@ -48,4 +48,5 @@ numeral_at text at greatest =
 -- the number that a whole text is, at most `greatest`
 abbrev pub whole_number : ℕ → List ℕ → Option ℕ
 whole_number greatest text =
-    if begins_numeral greatest text && numeral_len text == length text then Some (numeral_value text) else None
+    if begins_numeral greatest text && numeral_len text == length text then Some
+    (numeral_value text) else None

@@ -20,6 +20,9 @@ slash = 47
 abbrev pub line_feed : ℕ
 line_feed = 10
 
+abbrev pub carriage_return : ℕ
+carriage_return = 13
+
 abbrev pub tab : ℕ
 tab = 9
 
