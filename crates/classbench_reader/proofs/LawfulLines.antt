@@ -69,11 +69,11 @@ one_family family.Ip6 family.Ip4 same = absurd (cc)
 one_family family.Ip6 family.Ip6 same = refl
 
 -- the layouts
-ip4_is_layout : IsLayout ip4_fields
+pub ip4_is_layout : IsLayout ip4_fields
 unfolding layout_fault failing_number
 ip4_is_layout = record { few = omega arith; faultless = refl }
 
-ip6_is_layout : IsLayout ip6_fields
+pub ip6_is_layout : IsLayout ip6_fields
 unfolding layout_fault failing_number
 ip6_is_layout = record { few = omega arith; faultless = refl }
 

@@ -1,3 +1,7 @@
 pub mod AttributeWords
 pub mod LawfulLines
 pub mod FileLines
+pub mod PrintedParts
+pub mod PrintedLines
+pub mod PrintedFiles
+pub mod PrintedRules

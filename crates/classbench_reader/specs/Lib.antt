@@ -9,3 +9,5 @@ pub mod Lawful
 pub mod RuleFile
 pub mod RuleFileExamples
 pub mod Files
+pub mod Print
+pub mod PrintExamples

@@ -1,8 +1,8 @@
 //! Rule files as people write them, and files with a fault. What is expected is done by hand.
 
-use crate::{LineFault, LineKind, RulesFault, read_rules};
-use field_defs::FieldValue;
-use rule_set::RuleTag;
+use crate::{LineFault, LineKind, RulesFault, print_rule, read_rules};
+use field_defs::{Family, FieldValue, ip4_layout};
+use rule_set::{RuleTag, StoredRule, check_rule};
 use std::alloc::Global;
 use std::test::Fail;
 
@@ -91,5 +91,40 @@ fn hundreds_of_rules_are_read(rt: HostRuntime) -> Result<(), Fail> {
     assert_eq!(rt; file.ip4.len(), 300);
     assert_eq!(rt; file.ip6.len(), 300);
     assert_eq!(rt; file.ip4.at(299).tag().userdata, 600);
+    Ok(())
+}
+
+#[test]
+fn a_printed_rule_is_one_line(rt: HostRuntime) -> Result<(), Fail> {
+    let tag = RuleTag {
+        category_mask: 3,
+        priority: 5,
+        userdata: 7,
+    };
+    let fields = [
+        FieldValue::Bitmask {
+            value: 6,
+            mask: 0xFA,
+        },
+        FieldValue::Mask {
+            value: 0xC0A8_0100,
+            bits: 24,
+        },
+        FieldValue::Mask { value: 0, bits: 0 },
+        FieldValue::Range {
+            low: 0,
+            high: 65535,
+        },
+        FieldValue::Range { low: 80, high: 80 },
+    ];
+    let rule = StoredRule::new(rt.alloc(), tag, &fields)?;
+    assert_eq!(rt;
+        check_rule(&ip4_layout(), &rule.tag(), rule.fields()),
+        Ok(())
+    );
+    let line = print_rule(rt.alloc(), Family::Ip4, &rule)?;
+    let expected =
+        b"@192.168.1.0/24\t0.0.0.0/0\t0 : 65535\t80 : 80\t0x06/0xFA\tpri=5 cat=3 data=7\n";
+    assert_eq!(rt; line.as_slice(), expected.as_slice());
     Ok(())
 }

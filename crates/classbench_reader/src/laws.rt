@@ -1,0 +1,24 @@
+//! Laws over the definitions of lines and files. Their functions do nothing when they are run, and
+//! take no memory.
+
+ghost use Rattle.std.specs.Prelude.{◌≡◌, [], ◌∷◌, ◌++◌, Ok};
+ghost use Rattle.text_scan.specs.Parts.{line_feed};
+ghost use Rattle.classbench_reader.specs.Lawful.{IsLawfulLine};
+ghost use Rattle.classbench_reader.specs.Line.{family_of_line, rule_line_of, rule_of};
+ghost use Rattle.classbench_reader.specs.Print.{line_text, rule_alone};
+ghost use Rattle.classbench_reader.specs.RuleFile.{rule_file_of};
+
+use crate::line::RuleLine;
+
+/// The text of a lawful line, read as the rule of any ordinal, says the line.
+pub fn printed_lines_read_back(line: RuleLine, ordinal: u32)
+    requires { IsLawfulLine line }
+    ensures { rule_line_of ordinal (line_text line) ≡ Ok line }
+{}
+
+/// The text of a lawful line, ended by LF, is a rule file of that one rule.
+pub fn printed_lines_are_files(line: RuleLine)
+    requires { IsLawfulLine line }
+    ensures { rule_file_of (line_text line ++ line_feed ∷ [])
+        ≡ Ok (rule_alone (family_of_line line) (rule_of line)) }
+{}
