@@ -5,8 +5,10 @@ use Rattle.std.specs.List.{range_with_len}
 use Rattle.std.proofs.lemmas.Bool.{cases_Bool}
 use Rattle.std.proofs.lemmas.List.Sums.{length-filter, count_by-le-length}
 use Rattle.std.proofs.lemmas.List.FromFn.{length-range_with_len}
-use Rattle.flat_table.specs.Word.{index_of, is_match, next_place, next_word}
+use Rattle.flat_table.specs.Word.{index_of, is_match, is_node, next_place, next_word}
 use Rattle.flat_table.specs.Groups.{is_kept}
+use Rattle.flat_table.specs.declared.level.Level.{Level}
+use Rattle.std.proofs.lemmas.Bool.Decides.{nat_tests}
 use Rattle.flat_table.specs.Table.{TableView, level_of, places_of}
 use Rattle.flat_table.specs.Sound.{leads_into, sound_fault}
 use Rattle.flat_table.specs.Walk.{root_of, moved, word_after, steps_after, walk_row, walk_steps}
@@ -36,9 +38,14 @@ pub record Stands (table : TableView) (trie : ℕ) (key : List ℕ) (n word : �
   pub row : is_match word ≡ true → index_of word < length table.rows
   pub level : is_match word ≡ false → leads_into (level_of table trie n) word ≡ true
 
+-- what leads into a level leads to a node
+node_of : (level : Level) (word : ℕ) → leads_into level word ≡ true → is_node word ≡ true
+node_of level word e = grind (arith, nat_tests)
+
 -- what one more byte needs, and what it leaves
 pub record Goes (table : TableView) (trie : ℕ) (key : List ℕ) (n word byte : ℕ) : Type 0 where
   pub there : is_match word ≡ false → next_place word byte < length table.words
+  pub node : is_match word ≡ false → is_node word ≡ true
   pub next : Stands table trie key (n + 1) (moved table.words word byte)
   pub steps : steps_after table trie key (n + 1) ≡ steps_after table trie key n + (if is_match word then 0 else 1)
 
@@ -78,6 +85,7 @@ module _ (table : TableView) (trie : ℕ) (key : List ℕ) (sound : sound_fault 
   pub goes : (n place byte word : ℕ) → n < length (places_of table trie) → place ≡ slice_index (places_of table trie) n → byte ≡ slice_index key place → byte < 256 →
       Stands table trie key n word → Goes table trie key n word byte
   goes n place byte word h e b small s = record {
+    node = λ no_match. node_of (level_of table trie n) word (s.level no_match);
     there = λ no_match. (next_leads_on table trie sound lt n word byte small (s.level no_match)).there;
     next = moves word byte n s small (word_more table trie key n place h e ∙ ap (λ (x : ℕ). moved table.words (word_after table trie key n) x) (sym b));
     steps = step_more table trie key n h ∙ ap (λ (w : ℕ). steps_after table trie key n + (if is_match w then 0 else 1)) (sym s.is)

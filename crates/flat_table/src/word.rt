@@ -29,16 +29,16 @@ const KIND_MASK: u64 = 7;
 const BOUNDARY_BITS: u32 = 32;
 
 /// A node with a word for each byte value.
-const FULL: u64 = 0;
+pub const FULL: u64 = 0;
 
 /// A node of one word.
-const SINGLE: u64 = 1;
+pub const SINGLE: u64 = 1;
 
 /// A node of five words, for five runs of byte values.
-const QUAD: u64 = 3;
+pub const QUAD: u64 = 3;
 
 /// The end of a walk.
-const MATCH: u64 = 4;
+pub const MATCH: u64 = 4;
 
 /// The place of the node's first word, or the row of a match.
 pub fn index_of(word: u64) -> usize
@@ -48,8 +48,8 @@ pub fn index_of(word: u64) -> usize
     (word & INDEX_MASK) as usize
 }
 
-/// The kind: 0 full, 1 single, 3 quad-range, 4 match; other numbers are no kind.
-fn kind_of(word: u64) -> u64
+/// The kind: [`FULL`], [`SINGLE`], [`QUAD`] or [`MATCH`]; other numbers are no kind.
+pub fn kind_of(word: u64) -> u64
     ensures { result ≡ kind_of word }
 {
     word >> INDEX_BITS & KIND_MASK
@@ -93,7 +93,7 @@ pub(crate) fn node_len(word: u64) -> usize
 }
 
 /// How many of the word's boundaries are below the byte.
-fn boundaries_below(word: u64, byte: u8) -> usize
+pub fn boundaries_below(word: u64, byte: u8) -> usize
     ensures value { result ≡ count_by (λ boundary. nat_lt boundary byte) (boundaries_of word) }
     ensures bound { result ≤ 4 }
 {

@@ -3,11 +3,12 @@ use Rattle.std.proofs.Common.{◌≡◌, ℕ, zero, suc, ◌+◌, ◌-◌, ◌*�
 use Rattle.std.specs.Prelude.{flat_map}
 use Rattle.std.specs.List.{range_with_len}
 use Rattle.std.proofs.lemmas.Grind.{flat_map-append}
-use Rattle.std.proofs.lemmas.List.{length-map, drop-drop}
+use Rattle.std.proofs.lemmas.List.{length-map, drop-drop, drop-take, take-take}
 use Rattle.std.proofs.lemmas.List.Sums.{fold-append}
 use Rattle.std.proofs.lemmas.List.FromFn.{length-range_with_len}
 use Rattle.std.proofs.Math.Seq.{take-append_seam, drop-append_seam}
 use Rattle.std.proofs.Math.Nat.{mul-le-mul_right}
+use Rattle.std.proofs.Math.ListN.{drop_of_length-le}
 use borrow.Rule.Slice.PartMut.{put_mid, post_of}
 use Rattle.flat_table.specs.Table.{TableView}
 use Rattle.flat_table.specs.Walk.{key_steps}
@@ -30,7 +31,7 @@ module _ (table : TableView) (count : ℕ) (keys : List ℕ) where
       ∙ flat_map-append (λ j. key_verdicts table count (key_at table keys j)) (range_with_len 0 k) ((0 + k) ∷ [])
       ∙ ap (λ (vs : List ℕ). first_verdicts table count keys k ++ vs) (append-nil _ ∙ ap (λ (j : ℕ). key_verdicts table count (key_at table keys j)) (omega arith))
 
-  verdicts_len : (k : ℕ) → length (key_verdicts table count (key_at table keys k)) ≡ count
+  pub verdicts_len : (k : ℕ) → length (key_verdicts table count (key_at table keys k)) ≡ count
   verdicts_len k = length-map (range_with_len 0 count) _ ∙ length-range_with_len 0 count
 
   pub first-len : (k : ℕ) → length (first_verdicts table count keys k) ≡ k * count
@@ -82,3 +83,99 @@ pub steps_turn : (table : TableView) (keys : List ℕ) (k len taken more : ℕ) 
 steps_turn table keys k len taken more e is here =
     let key : more ≡ key_steps table (key_at table keys k) = here ∙ ap (λ (key : List ℕ). key_steps table key) (key_is table keys k len e) in
     omega (arith, key, is, steps-more table keys k)
+
+-- four pieces of one length, written one after the other
+pub four_written : (v y0 y1 y2 y3 : List ℕ) (count : ℕ) → length v ≡ 4 * count → length y0 ≡ count → length y1 ≡ count → length y2 ≡ count → length y3 ≡ count →
+    put_mid (3 * count) (4 * count - 3 * count) (put_mid (2 * count) (3 * count - 2 * count) (put_mid count (2 * count - count) (y0 ++ post_of 0 (count - 0) v) y1) y2) y3
+        ≡ y0 ++ (y1 ++ (y2 ++ (y3 ++ [])))
+four_written v y0 y1 y2 y3 count room l0 l1 l2 l3 =
+    let e0 : y0 ++ post_of 0 (count - 0) v ≡ y0 ++ drop count v = ap (λ (n : ℕ). y0 ++ drop n v) (omega arith) in
+    let e1 : put_mid count (2 * count - count) (y0 ++ post_of 0 (count - 0) v) y1 ≡ (y0 ++ y1) ++ drop (2 * count) v =
+        put_behind y0 (y0 ++ post_of 0 (count - 0) v) v y1 count (2 * count - count) l0 e0 ∙ ap (λ (n : ℕ). (y0 ++ y1) ++ drop n v) (omega arith) in
+    let l01 : length (y0 ++ y1) ≡ 2 * count = omega (arith, length-append y0 y1) in
+    let e2 : put_mid (2 * count) (3 * count - 2 * count) (put_mid count (2 * count - count) (y0 ++ post_of 0 (count - 0) v) y1) y2 ≡ ((y0 ++ y1) ++ y2) ++ drop (3 * count) v =
+        put_behind (y0 ++ y1) (put_mid count (2 * count - count) (y0 ++ post_of 0 (count - 0) v) y1) v y2 (2 * count) (3 * count - 2 * count) l01 e1
+        ∙ ap (λ (n : ℕ). ((y0 ++ y1) ++ y2) ++ drop n v) (omega arith) in
+    let l012 : length ((y0 ++ y1) ++ y2) ≡ 3 * count = omega (arith, length-append (y0 ++ y1) y2) in
+    let none : drop (4 * count) v ≡ [] = drop_of_length-le v (omega arith) in
+    put_behind ((y0 ++ y1) ++ y2) (put_mid (2 * count) (3 * count - 2 * count) (put_mid count (2 * count - count) (y0 ++ post_of 0 (count - 0) v) y1) y2) v y3 (3 * count) (4 * count - 3 * count) l012 e2
+    ∙ ap (λ (n : ℕ). (((y0 ++ y1) ++ y2) ++ y3) ++ drop n v) (omega arith)
+    ∙ ap (λ (xs : List ℕ). (((y0 ++ y1) ++ y2) ++ y3) ++ xs) none
+    ∙ append_assoc ((y0 ++ y1) ++ y2) y3 [] ∙ append_assoc (y0 ++ y1) y2 (y3 ++ []) ∙ append_assoc y0 y1 (y2 ++ (y3 ++ []))
+
+-- key j of a part of the batch
+part_key : (table : TableView) (keys : List ℕ) (k j rest whole : ℕ) → whole ≡ j * table.key_len + (table.key_len + rest) →
+    key_at table (take whole (drop (k * table.key_len) keys)) j ≡ key_at table keys (k + j)
+part_key table keys k j rest whole e =
+    ap (λ (n : ℕ). take table.key_len (drop (j * table.key_len) (take n (drop (k * table.key_len) keys)))) e
+    ∙ ap (λ (xs : List ℕ). take table.key_len xs) (drop-take (j * table.key_len) (table.key_len + rest) (drop (k * table.key_len) keys))
+    ∙ take-take table.key_len (table.key_len + rest) (drop (j * table.key_len) (drop (k * table.key_len) keys)) (omega arith)
+    ∙ ap (λ (xs : List ℕ). take table.key_len xs) (drop-drop (j * table.key_len) (k * table.key_len) keys ∙ ap (λ (n : ℕ). drop n keys) (omega arith))
+
+joined_from_left : (f a b c d : List ℕ) → (((f ++ a) ++ b) ++ c) ++ d ≡ f ++ (a ++ (b ++ (c ++ (d ++ []))))
+joined_from_left f a b c d = simp (append_assoc, append-nil)
+
+-- four keys of the batch, as the code cuts them
+module _ (table : TableView) (keys : List ℕ) (k len : ℕ) (e : len ≡ table.key_len) where
+  four : List ℕ
+  four = take ((k + 4) * len - k * len) (drop (k * len) keys)
+
+  four_is : take ((k + 4) * len - k * len) (drop (k * len) keys) ≡ take (4 * table.key_len) (drop (k * table.key_len) keys)
+  four_is = ap (λ (n : ℕ). take n (drop (k * len) keys)) (omega (arith, e)) ∙ ap (λ (n : ℕ). take (4 * table.key_len) (drop (k * n) keys)) e
+
+  four_key : (j rest : ℕ) → 4 * table.key_len ≡ j * table.key_len + (table.key_len + rest) → key_at table (take ((k + 4) * len - k * len) (drop (k * len) keys)) j ≡ key_at table keys (k + j)
+  four_key j rest h = ap (λ (part : List ℕ). key_at table part j) four_is ∙ part_key table keys k j rest (4 * table.key_len) h
+
+  key_0 : key_at table (take ((k + 4) * len - k * len) (drop (k * len) keys)) 0 ≡ key_at table keys k
+  key_0 = four_key 0 (3 * table.key_len) (omega arith) ∙ ap (λ (n : ℕ). key_at table keys n) (omega arith)
+
+  key_1 : key_at table (take ((k + 4) * len - k * len) (drop (k * len) keys)) 1 ≡ key_at table keys (k + 1)
+  key_1 = four_key 1 (2 * table.key_len) (omega arith)
+
+  key_2 : key_at table (take ((k + 4) * len - k * len) (drop (k * len) keys)) 2 ≡ key_at table keys (k + 2)
+  key_2 = four_key 2 table.key_len (omega arith)
+
+  key_3 : key_at table (take ((k + 4) * len - k * len) (drop (k * len) keys)) 3 ≡ key_at table keys (k + 3)
+  key_3 = four_key 3 0 (omega arith)
+
+  module _ (count : ℕ) where
+    verdicts_at : ℕ → List ℕ
+    verdicts_at j = key_verdicts table count (key_at table keys j)
+
+    four_verdicts : first_verdicts table count (take ((k + 4) * len - k * len) (drop (k * len) keys)) 4
+        ≡ key_verdicts table count (key_at table keys k) ++ (key_verdicts table count (key_at table keys (k + 1)) ++ (key_verdicts table count (key_at table keys (k + 2)) ++ (key_verdicts table count (key_at table keys (k + 3)) ++ [])))
+    four_verdicts = rw (key_0, key_1, key_2, key_3) refl
+
+    next_verdicts : (j n : ℕ) → n ≡ j + 1 → first_verdicts table count keys n ≡ first_verdicts table count keys j ++ key_verdicts table count (key_at table keys j)
+    next_verdicts j n h = ap (λ (m : ℕ). first_verdicts table count keys m) h ∙ verdicts-more table count keys j
+
+    pub verdicts-four : first_verdicts table count keys (k + 4) ≡ first_verdicts table count keys k ++ first_verdicts table count (take ((k + 4) * len - k * len) (drop (k * len) keys)) 4
+    verdicts-four =
+        let one = next_verdicts k (k + 1) refl in
+        let two = next_verdicts (k + 1) (k + 2) (omega arith) ∙ ap (λ (xs : List ℕ). xs ++ key_verdicts table count (key_at table keys (k + 1))) one in
+        let three = next_verdicts (k + 2) (k + 3) (omega arith) ∙ ap (λ (xs : List ℕ). xs ++ key_verdicts table count (key_at table keys (k + 2))) two in
+        next_verdicts (k + 3) (k + 4) (omega arith) ∙ ap (λ (xs : List ℕ). xs ++ key_verdicts table count (key_at table keys (k + 3))) three
+        ∙ joined_from_left (first_verdicts table count keys k) (key_verdicts table count (key_at table keys k)) (key_verdicts table count (key_at table keys (k + 1)))
+            (key_verdicts table count (key_at table keys (k + 2))) (key_verdicts table count (key_at table keys (k + 3)))
+        ∙ ap (λ (xs : List ℕ). first_verdicts table count keys k ++ xs) (sym four_verdicts)
+
+  next_steps : (j n : ℕ) → n ≡ j + 1 → first_steps table keys n ≡ first_steps table keys j + key_steps table (key_at table keys j)
+  next_steps j n h = ap (λ (m : ℕ). first_steps table keys m) h ∙ steps-more table keys j
+
+  four_steps : first_steps table (take ((k + 4) * len - k * len) (drop (k * len) keys)) 4
+      ≡ 0 + key_steps table (key_at table keys k) + key_steps table (key_at table keys (k + 1)) + key_steps table (key_at table keys (k + 2)) + key_steps table (key_at table keys (k + 3))
+  four_steps = rw (key_0, key_1, key_2, key_3) refl
+
+  pub steps-four : first_steps table keys (k + 4) ≡ first_steps table keys k + first_steps table (take ((k + 4) * len - k * len) (drop (k * len) keys)) 4
+  steps-four = omega (arith, four_steps, next_steps k (k + 1) refl, next_steps (k + 1) (k + 2) (omega arith), next_steps (k + 2) (k + 3) (omega arith), next_steps (k + 3) (k + 4) (omega arith))
+
+-- the verdicts of four keys more, as the code writes them
+pub four_turn : (table : TableView) (keys out start new : List ℕ) (k n count len : ℕ) → len ≡ table.key_len → k + 4 ≤ n → length out ≡ n * count →
+    out ≡ first_verdicts table count keys k ++ drop (k * count) start →
+    new ≡ first_verdicts table count (take ((k + 4) * len - k * len) (drop (k * len) keys)) 4 →
+    put_mid (k * count) ((k + 4) * count - k * count) out new ≡ first_verdicts table count keys (k + 4) ++ drop ((k + 4) * count) start
+four_turn table keys out start new k n count len e h room is written =
+    put_behind (first_verdicts table count keys k) out start new (k * count) ((k + 4) * count - k * count) (first-len table count keys k) is
+    ∙ ap (λ (xs : List ℕ). (first_verdicts table count keys k ++ xs) ++ drop (k * count + ((k + 4) * count - k * count)) start) written
+    ∙ ap (λ (xs : List ℕ). xs ++ drop (k * count + ((k + 4) * count - k * count)) start) (sym (verdicts-four table keys k len e count))
+    ∙ ap (λ (m : ℕ). first_verdicts table count keys (k + 4) ++ drop m start) (omega arith)

@@ -1,3 +1,4 @@
 pub mod Batches
+pub mod InStep
 pub mod Reached
 pub mod Walks

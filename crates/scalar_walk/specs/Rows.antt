@@ -18,3 +18,8 @@ pub record Reaches (table : TableView) (key : List ℕ) (n : ℕ) (rows : List �
 -- for each category whether some rule wins the key in it
 unfoldable pub winners_of : TableView → List ℕ → List Bool
 winners_of table key = map (λ category. not (joined table key category == 0)) (range_with_len 0 row_len)
+
+-- the walk of the key through the trie ends at the row, which is there
+pub record EndsAt (table : TableView) (trie : ℕ) (key : List ℕ) (row : ℕ) : Type 0 where
+  pub is : row ≡ walk_row table trie key
+  pub there : row < length table.rows

@@ -5,9 +5,10 @@ ghost use Rattle.std.specs.List.{range_with_len};
 ghost use Rattle.flat_table.specs.Groups.{longest_key};
 ghost use Rattle.flat_table.specs.Sound.{most_tries, row_len};
 ghost use Rattle.flat_table.specs.Walk.{joined, key_steps, userdatas};
-ghost use Rattle.flat_table.specs.Batch.{LengthsFit, key_verdicts, batch_verdicts, batch_steps};
+ghost use Rattle.flat_table.specs.Batch.{LengthsFit, key_at, key_verdicts, first_verdicts, first_steps, batch_verdicts, batch_steps};
 ghost use Rattle.scalar_walk.specs.Rows.{Reaches, joined_rows, winners_of};
 
+use crate::in_step::{IN_STEP, walk_four};
 use crate::walk::walk_one;
 use flat_table::{MAX_TRIES, ROW_LEN, Steps, Table};
 use rule_set::Categories;
@@ -30,12 +31,18 @@ fn greatest_word(rows: &[[u64; ROW_LEN]], reached: &[u32], category: usize) -> u
     greatest
 }
 
-/// Writes for each category from 0 on the userdata of the greatest word over the rows of these numbers.
-fn write_verdicts(rows: &[[u64; ROW_LEN]], reached: &[u32], verdicts: &mut [u32])
+/// Writes for so many categories from 0 on the userdata of the greatest word over the rows of these numbers.
+fn write_verdicts(
+    rows: &[[u64; ROW_LEN]],
+    reached: &[u32],
+    count: usize,
+    verdicts: &mut [u32],
+)
     requires rows { All (λ row. row < length rows.now) reached.now }
-    requires few { length verdicts.old ≤ row_len }
+    requires few { count ≤ row_len }
+    requires room { length verdicts.old ≡ count }
     ensures { verdicts.new ≡ map (λ category. joined_rows rows.now reached.now category % userdatas)
-        (range_with_len 0 (length verdicts.old)) }
+        (range_with_len 0 count) }
 {
     for (category, verdict) in verdicts.iter_mut().enumerate() {
         *verdict = (greatest_word(rows, reached, category) & USERDATA_MASK) as u32;
@@ -82,7 +89,81 @@ fn classify_one<L: Ledger>(
     ensures steps { steps.new ≡ steps.old + key_steps table.now key.now }
 {
     let reached = reach(table, key, steps);
-    write_verdicts(table.rows(), &reached.rows[..table.tries()], verdicts);
+    let tries = table.tries();
+    write_verdicts(table.rows(), &reached.rows[..tries], verdicts.len(), verdicts);
+    reached.taken
+}
+
+/// The rows that the walks of four keys reach, one for each trie, and how many words they took together.
+#[derive(Clone, Copy)]
+struct FourReached {
+    first: [u32; MAX_TRIES],
+    second: [u32; MAX_TRIES],
+    third: [u32; MAX_TRIES],
+    fourth: [u32; MAX_TRIES],
+    taken: u64,
+}
+
+/// The walks of four keys, which stand one after the other, through all tries.
+fn reach_four<L: Ledger>(table: &Table, keys: &[u8], steps: &mut Steps<L>) -> FourReached
+    requires { length keys.now ≡ 4 * table.now.key_len }
+    ensures first { Reaches table.now (key_at table.now keys.now 0)
+        (length table.now.roots) result.first }
+    ensures second { Reaches table.now (key_at table.now keys.now 1)
+        (length table.now.roots) result.second }
+    ensures third { Reaches table.now (key_at table.now keys.now 2)
+        (length table.now.roots) result.third }
+    ensures fourth { Reaches table.now (key_at table.now keys.now 3)
+        (length table.now.roots) result.fourth }
+    ensures taken { result.taken ≡ first_steps table.now keys.now IN_STEP }
+    ensures bound { result.taken ≤ 4 * (most_tries * longest_key) }
+    ensures steps { steps.new ≡ steps.old + result.taken }
+{
+    let mut first = [0u32; MAX_TRIES];
+    let mut second = [0u32; MAX_TRIES];
+    let mut third = [0u32; MAX_TRIES];
+    let mut fourth = [0u32; MAX_TRIES];
+    let mut taken = 0;
+    for trie in 0..table.tries() {
+        let walked = walk_four(table, trie, keys, steps);
+        first[trie] = walked.first;
+        second[trie] = walked.second;
+        third[trie] = walked.third;
+        fourth[trie] = walked.fourth;
+        taken += walked.taken;
+    }
+    FourReached {
+        first,
+        second,
+        third,
+        fourth,
+        taken,
+    }
+}
+
+/// Writes the verdicts of four keys, so many of each, and says how many words their walks took.
+fn classify_four<L: Ledger>(
+    table: &Table,
+    keys: &[u8],
+    count: usize,
+    verdicts: &mut [u32],
+    steps: &mut Steps<L>,
+) -> u64
+    requires keys { length keys.now ≡ 4 * table.now.key_len }
+    requires few { count ≤ row_len }
+    requires room { length verdicts.old ≡ 4 * count }
+    ensures verdicts { verdicts.new ≡ first_verdicts table.now count keys.now IN_STEP }
+    ensures taken { result ≡ first_steps table.now keys.now IN_STEP }
+    ensures bound { result ≤ 4 * (most_tries * longest_key) }
+    ensures steps { steps.new ≡ steps.old + result }
+{
+    let reached = reach_four(table, keys, steps);
+    let tries = table.tries();
+    let rows = table.rows();
+    write_verdicts(rows, &reached.first[..tries], count, &mut verdicts[0..count]);
+    write_verdicts(rows, &reached.second[..tries], count, &mut verdicts[count..2 * count]);
+    write_verdicts(rows, &reached.third[..tries], count, &mut verdicts[2 * count..3 * count]);
+    write_verdicts(rows, &reached.fourth[..tries], count, &mut verdicts[3 * count..4 * count]);
     reached.taken
 }
 
@@ -105,8 +186,15 @@ pub fn classify_scalar<L: Ledger>(
 {
     let key_len = table.key_len();
     let count = cats.count();
+    let n = keys.len() / key_len;
     let mut taken = 0;
-    for k in 0..keys.len() / key_len {
+    for block in 0..n / IN_STEP {
+        let k = block * IN_STEP;
+        let four = &keys[k * key_len..(k + IN_STEP) * key_len];
+        let verdicts = &mut out[k * count..(k + IN_STEP) * count];
+        taken += classify_four(table, four, count, verdicts, steps);
+    }
+    for k in n / IN_STEP * IN_STEP..n {
         let key = &keys[k * key_len..(k + 1) * key_len];
         taken += classify_one(table, key, &mut out[k * count..(k + 1) * count], steps);
     }

@@ -2,6 +2,7 @@
 #![tactic(auto)]
 
 mod classify;
+mod in_step;
 mod walk;
 
 pub use classify::{classify_scalar, winners};

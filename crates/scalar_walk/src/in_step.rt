@@ -1,0 +1,92 @@
+//! Four walks through one trie, in step: their loads of words don't wait for each other.
+
+ghost use Rattle.std.specs.Prelude.{◌≡◌, ◌+◌, ◌*◌, ◌^◌, ◌<◌, ◌≤◌, length, true, false, if◌then◌else◌};
+ghost use Rattle.flat_table.specs.Groups.{longest_key};
+ghost use Rattle.flat_table.specs.Word.{is_match, is_node, next_place};
+ghost use Rattle.flat_table.specs.Walk.{moved, walk_steps};
+ghost use Rattle.flat_table.specs.Batch.{key_at};
+ghost use Rattle.scalar_walk.specs.Rows.{EndsAt};
+
+use flat_table::{MATCH, QUAD, SINGLE, Steps, Table, boundaries_below, index_of, kind_of};
+use std::sync::ledger::Ledger;
+
+/// How many keys are walked in step.
+pub(crate) const IN_STEP: usize = 4;
+
+/// The rows at which four walks ended, and how many words they took together.
+#[derive(Clone, Copy)]
+pub(crate) struct FourWalked {
+    pub(crate) first: u32,
+    pub(crate) second: u32,
+    pub(crate) third: u32,
+    pub(crate) fourth: u32,
+    pub(crate) taken: u64,
+}
+
+/// The word that stands after one more byte: a match stays, and any other word costs a step.
+fn go_on<L: Ledger>(
+    words: &[u64],
+    word: u64,
+    byte: u8,
+    taken: &mut u64,
+    steps: &mut Steps<L>,
+) -> u64
+    requires node { is_match word ≡ false → is_node word ≡ true }
+    requires there { is_match word ≡ false → next_place word byte < length words.now }
+    requires fits { taken.old < 2 ^ 32 }
+    ensures word { result ≡ moved words.now word byte }
+    ensures taken { taken.new ≡ taken.old + (if is_match word then 0 else 1) }
+    ensures steps { steps.new ≡ steps.old + (if is_match word then 0 else 1) }
+{
+    // The kinds are in the order of how often they come.
+    let place = match kind_of(word) {
+        SINGLE => index_of(word),
+        QUAD => index_of(word) + boundaries_below(word, byte),
+        MATCH => return word,
+        _ => index_of(word) + usize::from(byte),
+    };
+    *taken += 1;
+    steps.raise();
+    words[place]
+}
+
+/// The walks of four keys, which stand one after the other, through the trie.
+pub(crate) fn walk_four<L: Ledger>(
+    table: &Table,
+    trie: usize,
+    keys: &[u8],
+    steps: &mut Steps<L>,
+) -> FourWalked
+    requires trie { trie < length table.now.roots }
+    requires keys { length keys.now ≡ 4 * table.now.key_len }
+    ensures first { EndsAt table.now trie (key_at table.now keys.now 0) result.first }
+    ensures second { EndsAt table.now trie (key_at table.now keys.now 1) result.second }
+    ensures third { EndsAt table.now trie (key_at table.now keys.now 2) result.third }
+    ensures fourth { EndsAt table.now trie (key_at table.now keys.now 3) result.fourth }
+    ensures taken { result.taken ≡ walk_steps table.now trie (key_at table.now keys.now 0)
+        + walk_steps table.now trie (key_at table.now keys.now 1)
+        + walk_steps table.now trie (key_at table.now keys.now 2)
+        + walk_steps table.now trie (key_at table.now keys.now 3) }
+    ensures limit { result.taken ≤ 4 * longest_key }
+    ensures steps { steps.new ≡ steps.old + result.taken }
+{
+    let words = table.words();
+    let len = table.key_len();
+    let root = table.root(trie);
+    let (mut first, mut second, mut third, mut fourth) = (root, root, root, root);
+    let mut taken = 0;
+    for place in table.places(trie) {
+        let place = usize::from(*place);
+        first = go_on(words, first, keys[place], &mut taken, steps);
+        second = go_on(words, second, keys[len + place], &mut taken, steps);
+        third = go_on(words, third, keys[2 * len + place], &mut taken, steps);
+        fourth = go_on(words, fourth, keys[3 * len + place], &mut taken, steps);
+    }
+    FourWalked {
+        first: index_of(first) as u32,
+        second: index_of(second) as u32,
+        third: index_of(third) as u32,
+        fourth: index_of(fourth) as u32,
+        taken,
+    }
+}
