@@ -8,7 +8,7 @@ use Rattle.trie_merge.specs.Kept.{group_of, is_wild_place, is_idle, is_kept, key
 use Rattle.trie_merge.proofs.Reached.{IsGap}
 
 -- what holds of all numbers of a range holds of each
-each : (p : ℕ → Bool) (first count : ℕ) → list_all p (range_with_len first count) ≡ true → (k : ℕ) → first ≤ k → k < first + count → p k ≡ true
+pub each : (p : ℕ → Bool) (first count : ℕ) → list_all p (range_with_len first count) ≡ true → (k : ℕ) → first ≤ k → k < first + count → p k ≡ true
 each p first zero all k from below = absurd (omega arith)
 each p first (suc count) all k from below =
     let parts = and_parts (p first) (list_all p (range_with_len (first + 1) count)) all in

@@ -19,3 +19,4 @@ pub mod WildAt
 pub mod WildSays
 pub mod Gaps
 pub mod Walk
+pub mod StateLaws

@@ -156,7 +156,7 @@ module _ (set : RuleSetView) (group : List ℕ) (held : AllByRecursion (IsHeld s
         whole = λ h. absurd (omega (arith, h, first.some));
       }
 
-  gaps_behind : (ps : List ℕ) (n : ℕ) → Gaps set group ps → Gaps set group (drop n ps)
+  pub gaps_behind : (ps : List ℕ) (n : ℕ) → Gaps set group ps → Gaps set group (drop n ps)
   gaps_behind ps zero gaps = gaps
   gaps_behind [] (suc n) gaps = tt
   gaps_behind (p ∷ []) (suc n) gaps = by n

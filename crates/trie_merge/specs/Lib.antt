@@ -1,6 +1,7 @@
 pub mod Entry
 pub mod Found
 pub mod Kept
+pub mod Laws
 pub mod Levels
 pub mod Pieces
 pub mod Row

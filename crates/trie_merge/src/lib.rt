@@ -26,6 +26,7 @@ mod column;
 mod entry;
 mod expand;
 mod kept;
+pub mod laws;
 mod levels;
 mod merge;
 mod number;

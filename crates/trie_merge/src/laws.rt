@@ -1,0 +1,24 @@
+//! Laws of states, rows and runs, over their definitions alone. They run no code.
+
+ghost use Rattle.trie_merge.specs.Laws.{WholeKeysAreLiveWhereTheyMatch, StatesGoByteByByte};
+ghost use Rattle.trie_merge.specs.Laws.{NextStatesAreReached, IdleBytesLeadToOneState};
+
+/// After a whole key a rule's rest is live exactly where the rule matches the key.
+pub fn whole_keys_are_live_where_they_match()
+    ensures { WholeKeysAreLiveWhereTheyMatch }
+{}
+
+/// The state after one more byte is the step of the state.
+pub fn states_go_byte_by_byte()
+    ensures { StatesGoByteByByte }
+{}
+
+/// The states of the next kept place are what those of a kept place reach, in order and without repeats.
+pub fn next_states_are_reached()
+    ensures { NextStatesAreReached }
+{}
+
+/// Inside an idle group every byte leads a state to one next state.
+pub fn idle_bytes_lead_to_one_state()
+    ensures { IdleBytesLeadToOneState }
+{}
