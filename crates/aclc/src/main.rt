@@ -1,5 +1,7 @@
-//! The program `aclc`: the words of the command line in, `run` of acl_tool over the files and
-//! streams of the system, its exit code out.
+//! the words of the system → an exit code
+//!
+//! The words behind the program's name go to `run` of acl_tool, over the files and streams of the
+//! system, and the code of its status comes back.
 #![tactic(auto)]
 
 ghost use Rattle.std.specs.Prelude.{◌≡◌, None, drop, map, string_bytes, IfSome};
@@ -51,7 +53,7 @@ fn held_stream(rt: &HostRuntime) -> Option<fs::File> {
     }
 }
 
-/// All words of a command line, with the program's name in front, or `None` where there is no
+/// All words of a command line, which begin with the program's name, or `None` where there is no
 /// memory for them.
 fn all_words(alloc: Global, args: env::Args) -> Option<Vec<String>>
     ensures { IfSome result (λ words. words.items ≡ into_iter_items args) }
