@@ -22,8 +22,8 @@ filter-range-below p a (suc n) zero h =
     elim (cases_Bool (p a)) [ inl w ↦ rw w (omega arith) | inr w ↦ rw w (omega (arith, filter-range-below p (a + 1) n zero (rw w at h))) ]
 filter-range-below p a (suc n) (suc k) h =
     elim (cases_Bool (p a)) [
-      inl w ↦ let h' : suc k < suc (length (filter p (range_with_len (a + 1) n))) = rw w at h in rw w (omega (arith, filter-range-below p (a + 1) n k (omega arith)))
-    | inr w ↦ rw w (omega (arith, filter-range-below p (a + 1) n (suc k) (rw w at h)))
+      | inl w ↦ let h' : suc k < suc (length (filter p (range_with_len (a + 1) n))) = rw w at h in rw w (omega (arith, filter-range-below p (a + 1) n k (omega arith)))
+      | inr w ↦ rw w (omega (arith, filter-range-below p (a + 1) n (suc k) (rw w at h)))
     ]
 
 -- there are no more kept places than bytes
@@ -57,7 +57,7 @@ module _ (table : TableView) (trie : ℕ) (key : List ℕ) (sound : sound_fault 
   begins = record {
     is = refl;
     row = λ match. cc (node_is_no_match table trie 0 (root_of table trie) (root_leads table trie sound lt));
-    level = λ _. root_leads table trie sound lt
+    level = λ _. root_leads table trie sound lt;
   }
 
   moves : (word byte n : ℕ) → Stands table trie key n word → byte < 256 → word_after table trie key (n + 1) ≡ moved table.words (word_after table trie key n) byte →
@@ -65,20 +65,20 @@ module _ (table : TableView) (trie : ℕ) (key : List ℕ) (sound : sound_fault 
   moves word byte n s small more =
       let is : moved table.words word byte ≡ word_after table trie key (n + 1) = ap (λ (w : ℕ). moved table.words w byte) s.is ∙ sym more in
       elim (cases_Bool (is_match word)) [
-        inl w ↦
+        | inl w ↦
             let stays : moved table.words word byte ≡ word = rw w refl in
             record {
               is = is;
               row = λ _. subst (λ (v : ℕ). index_of v < length table.rows) (sym stays) (s.row w);
-              level = λ no_match. cc (ap (λ (v : ℕ). is_match v) stays)
+              level = λ no_match. cc (ap (λ (v : ℕ). is_match v) stays);
             }
-      | inr w ↦
+        | inr w ↦
             let on = next_leads_on table trie sound lt n word byte small (s.level w) in
             let next : moved table.words word byte ≡ next_word table.words word byte = rw w refl in
             record {
               is = is;
               row = λ match. subst (λ (v : ℕ). index_of v < length table.rows) (sym next) (on.row (ap (λ (v : ℕ). is_match v) (sym next) ∙ match));
-              level = λ no_match. subst (λ (v : ℕ). leads_into (level_of table trie (n + 1)) v ≡ true) (sym next) (on.level (ap (λ (v : ℕ). is_match v) (sym next) ∙ no_match))
+              level = λ no_match. subst (λ (v : ℕ). leads_into (level_of table trie (n + 1)) v ≡ true) (sym next) (on.level (ap (λ (v : ℕ). is_match v) (sym next) ∙ no_match));
             }
       ]
 
@@ -88,13 +88,13 @@ module _ (table : TableView) (trie : ℕ) (key : List ℕ) (sound : sound_fault 
     node = λ no_match. node_of (level_of table trie n) word (s.level no_match);
     there = λ no_match. (next_leads_on table trie sound lt n word byte small (s.level no_match)).there;
     next = moves word byte n s small (word_more table trie key n place h e ∙ ap (λ (x : ℕ). moved table.words (word_after table trie key n) x) (sym b));
-    steps = step_more table trie key n h ∙ ap (λ (w : ℕ). steps_after table trie key n + (if is_match w then 0 else 1)) (sym s.is)
+    steps = step_more table trie key n h ∙ ap (λ (w : ℕ). steps_after table trie key n + (if is_match w then 0 else 1)) (sym s.is);
   }
 
   -- at the end a match stands
   pub ends_at_match : (word : ℕ) → Stands table trie key (length (places_of table trie)) word → is_match word ≡ true
   ends_at_match word s =
       elim (cases_Bool (is_match word)) [
-        inl w ↦ w
-      | inr w ↦ cc (s.level w, none_behind table trie sound lt (length (places_of table trie)) word (omega arith))
+        | inl w ↦ w
+        | inr w ↦ cc (s.level w, none_behind table trie sound lt (length (places_of table trie)) word (omega arith))
       ]

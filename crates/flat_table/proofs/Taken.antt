@@ -28,8 +28,8 @@ taken_push : (words : List ℕ) (word byte : ℕ) (bytes : List ℕ) →
 taken_push words word byte [] = elim (cases_Bool (is_match word)) [ inl w ↦ rw w refl | inr w ↦ rw w refl ]
 taken_push words word byte (first ∷ bytes) =
     elim (cases_Bool (is_match word)) [
-      inl w ↦ rw w (rw (match_stays words word bytes w) (rw w refl))
-    | inr w ↦ rw w (ap suc (taken_push words (next_word words word first) byte bytes) ∙ suc_plus _ _)
+      | inl w ↦ rw w (rw (match_stays words word bytes w) (rw w refl))
+      | inr w ↦ rw w (ap suc (taken_push words (next_word words word first) byte bytes) ∙ suc_plus _ _)
     ]
 
 -- a walk takes at most a word for each byte

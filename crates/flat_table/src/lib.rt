@@ -40,4 +40,6 @@ pub use parts::Parts;
 pub use sound::{MAX_TRIES, MAX_WORDS, ROW_LEN, SoundFault, check_sound};
 pub use steps::Steps;
 pub use table::{NotSound, Table};
-pub use word::{FULL, MATCH, QUAD, SINGLE, boundaries_below, index_of, is_match, kind_of, next_place};
+pub use word::{
+    FULL, MATCH, QUAD, SINGLE, boundaries_below, index_of, is_match, kind_of, next_place,
+};

@@ -69,8 +69,8 @@ pub verdicts_turn : (table : TableView) (keys out start new : List ℕ) (k n cou
 verdicts_turn table keys out start new k n count len e h room is written =
     let room_at : length (take ((k + 1) * count - k * count) (drop (k * count) out)) ≡ count = room_is out k n count room h in
     let verdicts : new ≡ key_verdicts table count (key_at table keys k) =
-        written ∙ ap (λ (m : ℕ). key_verdicts table m (take ((k + 1) * len - k * len) (drop (k * len) keys))) room_at
-        ∙ ap (λ (key : List ℕ). key_verdicts table count key) (key_is table keys k len e) in
+    written ∙ ap (λ (m : ℕ). key_verdicts table m (take ((k + 1) * len - k * len) (drop (k * len) keys))) room_at
+    ∙ ap (λ (key : List ℕ). key_verdicts table count key) (key_is table keys k len e) in
     ap (λ (m : ℕ). put_mid (k * count) m out new) (piece_len k count)
     ∙ put_behind (first_verdicts table count keys k) out start new (k * count) count (first-len table count keys k) is
     ∙ ap (λ (xs : List ℕ). (first_verdicts table count keys k ++ xs) ++ drop (k * count + count) start) verdicts
@@ -87,15 +87,15 @@ steps_turn table keys k len taken more e is here =
 -- four pieces of one length, written one after the other
 pub four_written : (v y0 y1 y2 y3 : List ℕ) (count : ℕ) → length v ≡ 4 * count → length y0 ≡ count → length y1 ≡ count → length y2 ≡ count → length y3 ≡ count →
     put_mid (3 * count) (4 * count - 3 * count) (put_mid (2 * count) (3 * count - 2 * count) (put_mid count (2 * count - count) (y0 ++ post_of 0 (count - 0) v) y1) y2) y3
-        ≡ y0 ++ (y1 ++ (y2 ++ (y3 ++ [])))
+    ≡ y0 ++ (y1 ++ (y2 ++ (y3 ++ [])))
 four_written v y0 y1 y2 y3 count room l0 l1 l2 l3 =
     let e0 : y0 ++ post_of 0 (count - 0) v ≡ y0 ++ drop count v = ap (λ (n : ℕ). y0 ++ drop n v) (omega arith) in
     let e1 : put_mid count (2 * count - count) (y0 ++ post_of 0 (count - 0) v) y1 ≡ (y0 ++ y1) ++ drop (2 * count) v =
-        put_behind y0 (y0 ++ post_of 0 (count - 0) v) v y1 count (2 * count - count) l0 e0 ∙ ap (λ (n : ℕ). (y0 ++ y1) ++ drop n v) (omega arith) in
+    put_behind y0 (y0 ++ post_of 0 (count - 0) v) v y1 count (2 * count - count) l0 e0 ∙ ap (λ (n : ℕ). (y0 ++ y1) ++ drop n v) (omega arith) in
     let l01 : length (y0 ++ y1) ≡ 2 * count = omega (arith, length-append y0 y1) in
     let e2 : put_mid (2 * count) (3 * count - 2 * count) (put_mid count (2 * count - count) (y0 ++ post_of 0 (count - 0) v) y1) y2 ≡ ((y0 ++ y1) ++ y2) ++ drop (3 * count) v =
-        put_behind (y0 ++ y1) (put_mid count (2 * count - count) (y0 ++ post_of 0 (count - 0) v) y1) v y2 (2 * count) (3 * count - 2 * count) l01 e1
-        ∙ ap (λ (n : ℕ). ((y0 ++ y1) ++ y2) ++ drop n v) (omega arith) in
+    put_behind (y0 ++ y1) (put_mid count (2 * count - count) (y0 ++ post_of 0 (count - 0) v) y1) v y2 (2 * count) (3 * count - 2 * count) l01 e1
+    ∙ ap (λ (n : ℕ). ((y0 ++ y1) ++ y2) ++ drop n v) (omega arith) in
     let l012 : length ((y0 ++ y1) ++ y2) ≡ 3 * count = omega (arith, length-append (y0 ++ y1) y2) in
     let none : drop (4 * count) v ≡ [] = drop_of_length-le v (omega arith) in
     put_behind ((y0 ++ y1) ++ y2) (put_mid (2 * count) (3 * count - 2 * count) (put_mid count (2 * count - count) (y0 ++ post_of 0 (count - 0) v) y1) y2) v y3 (3 * count) (4 * count - 3 * count) l012 e2
@@ -156,7 +156,7 @@ module _ (table : TableView) (keys : List ℕ) (k len : ℕ) (e : len ≡ table.
         let three = next_verdicts (k + 2) (k + 3) (omega arith) ∙ ap (λ (xs : List ℕ). xs ++ key_verdicts table count (key_at table keys (k + 2))) two in
         next_verdicts (k + 3) (k + 4) (omega arith) ∙ ap (λ (xs : List ℕ). xs ++ key_verdicts table count (key_at table keys (k + 3))) three
         ∙ joined_from_left (first_verdicts table count keys k) (key_verdicts table count (key_at table keys k)) (key_verdicts table count (key_at table keys (k + 1)))
-            (key_verdicts table count (key_at table keys (k + 2))) (key_verdicts table count (key_at table keys (k + 3)))
+        (key_verdicts table count (key_at table keys (k + 2))) (key_verdicts table count (key_at table keys (k + 3)))
         ∙ ap (λ (xs : List ℕ). first_verdicts table count keys k ++ xs) (sym four_verdicts)
 
   next_steps : (j n : ℕ) → n ≡ j + 1 → first_steps table keys n ≡ first_steps table keys j + key_steps table (key_at table keys j)

@@ -33,14 +33,14 @@ module _ (table : TableView) (trie : ℕ) (keys : List ℕ) (sound : sound_fault
       let below : place < table.key_len = omega (arith, e', place_below table trie key sound lt n h') in
       let whole : (j + 1) * table.key_len ≤ 4 * table.key_len = mul-le-mul_right table.key_len (omega arith) in
       let byte : slice_index keys at ≡ slice_index key place =
-          ap (λ (k : ℕ). slice_index keys k) is_at
-          ∙ sym (get_or-take table.key_len (drop (j * table.key_len) keys) place 0 below ∙ get_or-drop (j * table.key_len) keys place 0) in
+      ap (λ (k : ℕ). slice_index keys k) is_at
+      ∙ sym (get_or-take table.key_len (drop (j * table.key_len) keys) place 0 below ∙ get_or-drop (j * table.key_len) keys place 0) in
       let g = goes table trie key sound lt n place (slice_index keys at) word h' e' byte (small at) s in
       record {
         in_keys = omega (arith, whole, below, is_at, fits);
         there = λ no_match. omega (arith, g.there no_match, ap (λ (xs : List ℕ). length xs) ws);
         next = λ next is_next. subst (λ (v : ℕ). Stands table trie key (n + 1) v) (sym (is_next ∙ ap (λ (xs : List ℕ). moved xs word (slice_index keys at)) ws)) g.next;
-        steps = g.steps
+        steps = g.steps;
       }
 
   pub lane_ends : (key : List ℕ) (n word row : ℕ) → length places ≤ n → n ≤ length places → row ≡ index_of word → Stands table trie key n word → EndsAt table trie key row
@@ -50,7 +50,7 @@ module _ (table : TableView) (trie : ℕ) (keys : List ℕ) (sound : sound_fault
       let match = ends_at_match table trie key sound lt word s' in
       record {
         is = is_row ∙ ap index_of s'.is ∙ sym (row_is table trie key);
-        there = omega (arith, is_row, s.row match)
+        there = omega (arith, is_row, s.row match);
       }
 
   pub lane_steps : (key : List ℕ) (n : ℕ) → length places ≤ n → n ≤ length places → steps_after table trie key n ≡ walk_steps table trie key

@@ -23,7 +23,7 @@ pub reaches_more : (table : TableView) (key rows : List ℕ) (n row : ℕ) → R
 reaches_more table key rows n row r few e there = record {
   len = omega (arith, length-set rows n row, r.len);
   each = below_more _ _ (λ k h. let ne : k ≢ n = omega arith in get_or-set_other rows n k row 0 ne ∙ r.each k h) (get_or-set_same rows n row 0 (omega (arith, r.len)) ∙ e);
-  there = below_more _ _ (λ k h. let ne : k ≢ n = omega arith in rw get_or-set_other (r.there k h)) (let at : n < length rows = omega (arith, r.len) in rw get_or-set_same there)
+  there = below_more _ _ (λ k h. let ne : k ≢ n = omega arith in rw get_or-set_other (r.there k h)) (let at : n < length rows = omega (arith, r.len) in rw get_or-set_same there);
 }
 
 -- the words that the walks through the first tries take
@@ -51,7 +51,7 @@ module _ (table : TableView) (key rows : List ℕ) (r : Reaches table key (lengt
   rows_there = λ k d h.
       let lt : k < length table.roots = omega (arith, h, length-take {A = ℕ}) in
       let same : get_or (take (length table.roots) rows) k d ≡ get_or rows k 0 =
-          get_or-take (length table.roots) rows k d lt ∙ get_or_any rows k d 0 (omega (arith, r.len)) in
+      get_or-take (length table.roots) rows k d lt ∙ get_or_any rows k d 0 (omega (arith, r.len)) in
       omega (arith, same, r.there k lt)
 
   rows_are : take (length table.roots) rows ≡ map (λ trie. walk_row table trie key) (tries_of table)
@@ -63,8 +63,8 @@ module _ (table : TableView) (key rows : List ℕ) (r : Reaches table key (lengt
   joined_is category =
       ap (λ (numbers : List ℕ). joined_rows table.rows numbers category) rows_are
       ∙ ap greatest
-        (map-map (λ row. slice_index (get_or table.rows row []) category) (λ trie. walk_row table trie key) (tries_of table)
-        ∙ sym (map-map (λ row. slice_index row category) (λ trie. get_or table.rows (walk_row table trie key) []) (tries_of table)))
+      (map-map (λ row. slice_index (get_or table.rows row []) category) (λ trie. walk_row table trie key) (tries_of table)
+      ∙ sym (map-map (λ row. slice_index row category) (λ trie. get_or table.rows (walk_row table trie key) []) (tries_of table)))
 
   pub verdicts_are : (count : ℕ) → map (λ category. joined_rows table.rows (take (length table.roots) rows) category % userdatas) (range_with_len 0 count) ≡ key_verdicts table count key
   verdicts_are count = map_same _ _ (range_with_len 0 count) (λ category. ap (λ (word : ℕ). word % userdatas) (joined_is category))

@@ -35,7 +35,7 @@ module _ (table : TableView) (trie : ℕ) (key : List ℕ) (sound : sound_fault 
         in_key = from_in_key n from h e;
         in_words = omega (arith, g.there w.no_match);
         stands = subst (λ (v : ℕ). Stands table trie key (n + 1) v) same g.next;
-        steps = rw w.no_match at g.steps ∙ ap (λ (k : ℕ). k + 1) w.steps
+        steps = rw w.no_match at g.steps ∙ ap (λ (k : ℕ). k + 1) w.steps;
       }
 
   -- the same for lists that equal those of the table
@@ -75,6 +75,6 @@ root_walks table trie key word sound lt e =
     let from_root : Walks table trie key 0 (root_of table trie) = record {
       stands = begins table trie key sound lt;
       no_match = node_is_no_match table trie 0 (root_of table trie) (root_leads table trie sound lt);
-      steps = refl
+      steps = refl;
     } in
     subst (λ (v : ℕ). Walks table trie key 0 v) (sym e) from_root

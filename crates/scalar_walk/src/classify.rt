@@ -32,12 +32,7 @@ fn greatest_word(rows: &[[u64; ROW_LEN]], reached: &[u32], category: usize) -> u
 }
 
 /// Writes for so many categories from 0 on the userdata of the greatest word over the rows of these numbers.
-fn write_verdicts(
-    rows: &[[u64; ROW_LEN]],
-    reached: &[u32],
-    count: usize,
-    verdicts: &mut [u32],
-)
+fn write_verdicts(rows: &[[u64; ROW_LEN]], reached: &[u32], count: usize, verdicts: &mut [u32])
     requires rows { All (λ row. row < length rows.now) reached.now }
     requires few { count ≤ row_len }
     requires room { length verdicts.old ≡ count }
@@ -90,7 +85,12 @@ fn classify_one<L: Ledger>(
 {
     let reached = reach(table, key, steps);
     let tries = table.tries();
-    write_verdicts(table.rows(), &reached.rows[..tries], verdicts.len(), verdicts);
+    write_verdicts(
+        table.rows(),
+        &reached.rows[..tries],
+        verdicts.len(),
+        verdicts,
+    );
     reached.taken
 }
 
@@ -160,10 +160,30 @@ fn classify_four<L: Ledger>(
     let reached = reach_four(table, keys, steps);
     let tries = table.tries();
     let rows = table.rows();
-    write_verdicts(rows, &reached.first[..tries], count, &mut verdicts[0..count]);
-    write_verdicts(rows, &reached.second[..tries], count, &mut verdicts[count..2 * count]);
-    write_verdicts(rows, &reached.third[..tries], count, &mut verdicts[2 * count..3 * count]);
-    write_verdicts(rows, &reached.fourth[..tries], count, &mut verdicts[3 * count..4 * count]);
+    write_verdicts(
+        rows,
+        &reached.first[..tries],
+        count,
+        &mut verdicts[0..count],
+    );
+    write_verdicts(
+        rows,
+        &reached.second[..tries],
+        count,
+        &mut verdicts[count..2 * count],
+    );
+    write_verdicts(
+        rows,
+        &reached.third[..tries],
+        count,
+        &mut verdicts[2 * count..3 * count],
+    );
+    write_verdicts(
+        rows,
+        &reached.fourth[..tries],
+        count,
+        &mut verdicts[3 * count..4 * count],
+    );
     reached.taken
 }
 

@@ -10,5 +10,5 @@ returns c = record {
   begin = λ table trie key. (refl, refl);
   word_more = word_more;
   step_more = step_more;
-  bound = steps_bound
+  bound = steps_bound;
 }

@@ -18,6 +18,12 @@ loop-trie-preserved g c =
     let r2 = reaches_more table (key_at table keys 2) l.third l.trie w.result.third l.invariant.2 lt w.ensures.third.is w.ensures.third.there in
     let m2 = first_tries_more table (key_at table keys 2) l.trie in
     let r3 = reaches_more table (key_at table keys 3) l.fourth l.trie w.result.fourth l.invariant.3 lt w.ensures.fourth.is w.ensures.fourth.there in
-    let m3 = first_tries_more table (key_at table keys 3) l.trie in
-    (r0, r1, r2, r3, sum_of_tries _ _ _ _ _ _ _ _ _ _ _ _ _ _ _ l.invariant.4 refl w.ensures.taken m0 m1 m2 m3,
-     omega (arith, l.invariant.5, w.ensures.limit), omega (arith, l.invariant.6, w.ensures.steps))
+    let m3 = first_tries_more table (key_at table keys 3) l.trie in (
+      r0,
+      r1,
+      r2,
+      r3,
+      sum_of_tries _ _ _ _ _ _ _ _ _ _ _ _ _ _ _ l.invariant.4 refl w.ensures.taken m0 m1 m2 m3,
+      omega (arith, l.invariant.5, w.ensures.limit),
+      omega (arith, l.invariant.6, w.ensures.steps),
+    )

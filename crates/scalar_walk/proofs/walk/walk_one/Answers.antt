@@ -24,44 +24,44 @@ bounds-words-next_place g c =
 pub returns-then-is_match-clause-row : goal.returns-then-is_match-clause-row
 returns-then-is_match-clause-row g c =
     let s = step_in c.args.table.now c.args.trie c.args.key.now c.root-word.ensures.sound c.requires.trie c.requires.key
-        c.places-place-items.result.now c.words-words.result.now c.places-place-items.ensures.places c.words-words.ensures
-        c.loop-taken.taken c.loop-taken.word c.from.result c.next_place.result c.loop-taken.invariant.0 c.loop-taken-test.true c.from.ensures
-        (omega (arith, c.type_inv.key c.from.result)) c.next_place.ensures in
+    c.places-place-items.result.now c.words-words.result.now c.places-place-items.ensures.places c.words-words.ensures
+    c.loop-taken.taken c.loop-taken.word c.from.result c.next_place.result c.loop-taken.invariant.0 c.loop-taken-test.true c.from.ensures
+    (omega (arith, c.type_inv.key c.from.result)) c.next_place.ensures in
     c.index_of.ensures.value
     ∙ row_of_match c.args.table.now c.args.trie c.args.key.now c.root-word.ensures.sound c.requires.trie c.requires.key _ _ s.stands (sym c.is_match.ensures ∙ c.if-is_match.true)
 
 pub returns-then-is_match-clause-taken : goal.returns-then-is_match-clause-taken
 returns-then-is_match-clause-taken g c =
     let s = step_in c.args.table.now c.args.trie c.args.key.now c.root-word.ensures.sound c.requires.trie c.requires.key
-        c.places-place-items.result.now c.words-words.result.now c.places-place-items.ensures.places c.words-words.ensures
-        c.loop-taken.taken c.loop-taken.word c.from.result c.next_place.result c.loop-taken.invariant.0 c.loop-taken-test.true c.from.ensures
-        (omega (arith, c.type_inv.key c.from.result)) c.next_place.ensures in
+    c.places-place-items.result.now c.words-words.result.now c.places-place-items.ensures.places c.words-words.ensures
+    c.loop-taken.taken c.loop-taken.word c.from.result c.next_place.result c.loop-taken.invariant.0 c.loop-taken-test.true c.from.ensures
+    (omega (arith, c.type_inv.key c.from.result)) c.next_place.ensures in
     sym s.steps
     ∙ sym (steps_of_match c.args.table.now c.args.trie c.args.key.now c.root-word.ensures.sound c.requires.trie c.requires.key _ _ s.stands (sym c.is_match.ensures ∙ c.if-is_match.true))
 
 pub returns-then-is_match-clause-steps : goal.returns-then-is_match-clause-steps
 returns-then-is_match-clause-steps g c =
     let s = step_in c.args.table.now c.args.trie c.args.key.now c.root-word.ensures.sound c.requires.trie c.requires.key
-        c.places-place-items.result.now c.words-words.result.now c.places-place-items.ensures.places c.words-words.ensures
-        c.loop-taken.taken c.loop-taken.word c.from.result c.next_place.result c.loop-taken.invariant.0 c.loop-taken-test.true c.from.ensures
-        (omega (arith, c.type_inv.key c.from.result)) c.next_place.ensures in
+    c.places-place-items.result.now c.words-words.result.now c.places-place-items.ensures.places c.words-words.ensures
+    c.loop-taken.taken c.loop-taken.word c.from.result c.next_place.result c.loop-taken.invariant.0 c.loop-taken-test.true c.from.ensures
+    (omega (arith, c.type_inv.key c.from.result)) c.next_place.ensures in
     let all = steps_of_match c.args.table.now c.args.trie c.args.key.now c.root-word.ensures.sound c.requires.trie c.requires.key _ _ s.stands (sym c.is_match.ensures ∙ c.if-is_match.true) in
     omega (arith, s.steps, all)
 
 pub returns-then-is_match-clause-there : goal.returns-then-is_match-clause-there
 returns-then-is_match-clause-there g c =
     let s = step_in c.args.table.now c.args.trie c.args.key.now c.root-word.ensures.sound c.requires.trie c.requires.key
-        c.places-place-items.result.now c.words-words.result.now c.places-place-items.ensures.places c.words-words.ensures
-        c.loop-taken.taken c.loop-taken.word c.from.result c.next_place.result c.loop-taken.invariant.0 c.loop-taken-test.true c.from.ensures
-        (omega (arith, c.type_inv.key c.from.result)) c.next_place.ensures in
+    c.places-place-items.result.now c.words-words.result.now c.places-place-items.ensures.places c.words-words.ensures
+    c.loop-taken.taken c.loop-taken.word c.from.result c.next_place.result c.loop-taken.invariant.0 c.loop-taken-test.true c.from.ensures
+    (omega (arith, c.type_inv.key c.from.result)) c.next_place.ensures in
     omega (arith, s.stands.row (sym c.is_match.ensures ∙ c.if-is_match.true), c.index_of.ensures.value)
 
 pub loop-taken-preserved : goal.loop-taken-preserved
 loop-taken-preserved g c =
     let s = step_in c.args.table.now c.args.trie c.args.key.now c.root-word.ensures.sound c.requires.trie c.requires.key
-        c.places-place-items.result.now c.words-words.result.now c.places-place-items.ensures.places c.words-words.ensures
-        c.loop-taken.taken c.loop-taken.word c.from.result c.next_place.result c.loop-taken.invariant.0 c.loop-taken-test.true c.from.ensures
-        (omega (arith, c.type_inv.key c.from.result)) c.next_place.ensures in
+    c.places-place-items.result.now c.words-words.result.now c.places-place-items.ensures.places c.words-words.ensures
+    c.loop-taken.taken c.loop-taken.word c.from.result c.next_place.result c.loop-taken.invariant.0 c.loop-taken-test.true c.from.ensures
+    (omega (arith, c.type_inv.key c.from.result)) c.next_place.ensures in
     (record { stands = s.stands; no_match = sym c.is_match.ensures ∙ c.if-is_match.false; steps = s.steps }, omega arith)
 
 pub unreachable-requires : goal.unreachable-requires
