@@ -108,10 +108,11 @@ pub fn boundaries_below(word: u64, byte: u8) -> usize
 pub fn next_place(word: u64, byte: u8) -> usize
     ensures { result ≡ next_place word byte }
 {
-    let offset = match kind_of(word) {
-        FULL => usize::from(byte),
-        QUAD => boundaries_below(word, byte),
-        _ => 0,
-    };
-    index_of(word) + offset
+    // The kinds are in the order of how often they come.
+    match kind_of(word) {
+        SINGLE => index_of(word),
+        QUAD => index_of(word) + boundaries_below(word, byte),
+        FULL => index_of(word) + usize::from(byte),
+        _ => index_of(word),
+    }
 }
