@@ -20,3 +20,4 @@ pub mod WildSays
 pub mod Gaps
 pub mod Walk
 pub mod StateLaws
+pub mod Following

@@ -243,7 +243,7 @@ stands_in def value (k ∷ ks) edge lawful small begun is =
     subst (λ e. StandsBefore value def.size (length (k ∷ ks)) e) (sym (ap (λ b. cond b (unwrap_or (edge_after value def.size 0 0) Free) edge) some))
     (record { prefix = number_of (k ∷ ks); within = number_small (k ∷ ks) small; form = form })
 
-bytes_behind : (n : ℕ) (bytes : List ℕ) → AreBytes bytes → AreBytes (drop n bytes)
+pub bytes_behind : (n : ℕ) (bytes : List ℕ) → AreBytes bytes → AreBytes (drop n bytes)
 bytes_behind zero bytes small = small
 bytes_behind (suc n) [] small = tt
 bytes_behind (suc n) (byte ∷ bytes) small = bytes_behind n bytes small.1

@@ -74,7 +74,7 @@ bytes_push (k ∷ ks) byte small below = (small.0, bytes_push ks byte small.1 be
 pub prefix_push : (place : ℕ) (key : List ℕ) (byte : ℕ) → IsPrefix place key → byte < 256 → IsPrefix (place + 1) (key ++ byte ∷ [])
 prefix_push place key byte is below = (bytes_push key byte is.0 below, length-append key (byte ∷ []) ∙ ap (λ n. n + 1) is.1)
 
-all-append : {X : Type 0} (P : X → Type 0) (xs ys : List X) → AllByRecursion P xs → AllByRecursion P ys → AllByRecursion P (xs ++ ys)
+pub all-append : {X : Type 0} (P : X → Type 0) (xs ys : List X) → AllByRecursion P xs → AllByRecursion P ys → AllByRecursion P (xs ++ ys)
 all-append P [] ys all more = more
 all-append P (x ∷ xs) ys all more = (all.0, all-append P xs ys all.1 more)
 

@@ -46,7 +46,7 @@ whole_keys_are_live_where_they_match (def ∷ defs) (value ∷ values) key long 
     by true b is = is
     by false b is = refl
 
-held_of : (set : RuleSetView) (group : List ℕ) → IsGrouped set group → AllByRecursion (IsHeld set) group
+pub held_of : (set : RuleSetView) (group : List ℕ) → IsGrouped set group → AllByRecursion (IsHeld set) group
 held_of set group is = group_held set group is.rules is.layout is.group.within
 
 pub states_go_byte_by_byte : StatesGoByteByByte

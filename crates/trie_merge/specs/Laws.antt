@@ -13,7 +13,8 @@ use Rattle.trie_merge.specs.RuleRest.{values_rest, values_of}
 use Rattle.trie_merge.specs.State.{Held, state, state_step, same_state, is_live}
 use Rattle.trie_merge.specs.Found.{found_in, all_bytes}
 use Rattle.trie_merge.specs.Kept.{group_of, is_idle, kept_places}
-use Rattle.trie_merge.specs.Levels.{states_at, reached, IsGroup}
+use Rattle.trie_merge.specs.Levels.{states_at, reached, levels_of, IsGroup}
+use Rattle.trie_merge.specs.Follow.{followed, matching, IsAnswer}
 
 -- A list of bytes.
 abbrev pub AreBytes : List ℕ → Type 0
@@ -52,3 +53,10 @@ IdleBytesLeadToOneState =
     (set : RuleSetView) (group : List ℕ) (place one other : ℕ) → IsGrouped set group → place < key_len_of set.layout →
     is_idle set group (group_of place) ≡ true → one < 256 → other < 256 →
     All (λ before. state_step set place before one ≡ state_step set place before other) (states_at set group place)
+
+-- For every key the runs lead to the row of the group's rules that match it, or to nothing where none does.
+abbrev pub RunsLeadToTheRowOfTheMatchingRules : Type 0
+RunsLeadToTheRowOfTheMatchingRules =
+    (set : RuleSetView) (group key : List ℕ) → IsGrouped set group → AreBytes key → length key ≡ key_len_of set.layout →
+    (let merged = levels_of set group in
+    IsAnswer set merged.rows (matching set group key) (followed merged.levels (kept_places set group) key 0))

@@ -1,4 +1,5 @@
 pub mod Entry
+pub mod Follow
 pub mod Found
 pub mod Kept
 pub mod Laws

@@ -2,6 +2,7 @@
 
 ghost use Rattle.trie_merge.specs.Laws.{WholeKeysAreLiveWhereTheyMatch, StatesGoByteByByte};
 ghost use Rattle.trie_merge.specs.Laws.{NextStatesAreReached, IdleBytesLeadToOneState};
+ghost use Rattle.trie_merge.specs.Laws.{RunsLeadToTheRowOfTheMatchingRules};
 
 /// After a whole key a rule's rest is live exactly where the rule matches the key.
 pub fn whole_keys_are_live_where_they_match()
@@ -21,4 +22,9 @@ pub fn next_states_are_reached()
 /// Inside an idle group every byte leads a state to one next state.
 pub fn idle_bytes_lead_to_one_state()
     ensures { IdleBytesLeadToOneState }
+{}
+
+/// For every key the runs lead to the row of the group's rules that match it, or to nothing where none does.
+pub fn runs_lead_to_the_row_of_the_matching_rules()
+    ensures { RunsLeadToTheRowOfTheMatchingRules }
 {}
