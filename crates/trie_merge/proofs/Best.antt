@@ -1,7 +1,7 @@
 -- The winner among some numbered rules, as one more comes to the end of the list.
-use Rattle.std.proofs.Common.{◌≡◌, ℕ, ℤ, pos, ◌+◌, ◌<◌, List, [], ◌∷◌, ◌++◌, length, filter, get_or, Bool, true, false, not, ◌&&◌, cond, Option, Some, None, slice_get, refl, sym, ap, ◌∙◌, inl, inr, true≢false, arith}
+use Rattle.std.proofs.Common.{◌≡◌, ℕ, ℤ, pos, ◌+◌, List, [], ◌∷◌, ◌++◌, filter, Bool, true, false, not, ◌&&◌, cond, Option, Some, None, slice_get, refl, sym, ap, ◌∙◌, inl, inr, true≢false, arith}
 use Rattle.std.specs.List.{find, list_all}
-use Rattle.std.specs.Option.{option_map, option_map_or}
+use Rattle.std.specs.Option.{option_map_or}
 use Rattle.std.specs.Int.Signed.{le_z}
 use Rattle.std.proofs.lemmas.Bool.{cases_Bool, and_parts, and_from, and_left, and_right, not-true, not-false}
 use Rattle.std.proofs.lemmas.Int.{ints}
@@ -9,11 +9,10 @@ use Rattle.std.proofs.lemmas.List.{append-nil}
 use Rattle.std.proofs.lemmas.List.Elements.{filter-append}
 use Rattle.std.proofs.lemmas.List.Folds.{list_all-append}
 use Rattle.rule_set.specs.declared.rule.RuleTag.{RuleTag}
-use Rattle.rule_set.specs.Rule.{RuleView, RuleSetView}
+use Rattle.rule_set.specs.Rule.{RuleView}
 use Rattle.rule_set.specs.Winner.{is_in_category}
 use Rattle.rule_set.specs.Among.{passes_at, priority_at, is_greatest_at, best_among}
 use Rattle.rule_set.proofs.Find.{find-append_some, find-append_none, find_agree, list_all_weaker}
-use Rattle.trie_merge.specs.Row.{winner_of}
 
 le_refl : (a : ℤ) → le_z a a ≡ true
 le_refl a = grind (arith, ints)

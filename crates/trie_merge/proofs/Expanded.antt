@@ -1,11 +1,11 @@
 -- What the bytes of a place make of a state.
-use Rattle.std.proofs.Common.{◌≡◌, ◌≢◌, ℕ, zero, suc, ◌+◌, ◌<◌, ◌≤◌, List, [], ◌∷◌, length, map, fold, get_or, Bool, true, false, cond, refl, sym, ◌∙◌, ap, inl, inr, arith}
+use Rattle.std.proofs.Common.{◌≡◌, ℕ, zero, suc, ◌+◌, ◌<◌, ◌≤◌, List, ◌∷◌, map, Bool, cond, refl, ◌∙◌, ap, arith}
 use Rattle.std.specs.List.{range_with_len}
 use Rattle.smallvec.specs.SmallVec.{SmallVec}
 use Rattle.rule_set.specs.Rule.{RuleSetView}
 use Rattle.trie_merge.specs.Entry.{ColumnView, entries_step}
 use Rattle.trie_merge.specs.Found.{all_bytes}
-use Rattle.trie_merge.specs.Lists.{lists_of, list_at, list_of_byte, row_list, successor, interval_at}
+use Rattle.trie_merge.specs.Lists.{list_at, list_of_byte, row_list, successor, interval_at}
 
 -- two functions that agree on bytes
 from : {X : Type 0} (f g : ℕ → X) (first count : ℕ) → first + count ≤ 256 → ((byte : ℕ) → byte < 256 → f byte ≡ g byte) → map f (range_with_len first count) ≡ map g (range_with_len first count)

@@ -1,10 +1,8 @@
 -- The runs lead to the row of the matching rules.
-use Rattle.std.proofs.Common.{◌≡◌, ◌≢◌, ℕ, zero, suc, ◌+◌, ◌-◌, ◌<◌, ◌≤◌, ◌==◌, List, [], ◌∷◌, ◌++◌, length, map, fold, filter, take, drop, get_or, slice_get, Bool, true, false, cond, ltb, leb, eqb, not, ◌&&◌, ◌||◌, true≢false, Option, Some, None, refl, sym, ◌∙◌, ap, subst, inl, inr, ◌⊎◌, arith, length-append}
-use Rattle.std.specs.Prelude.{All}
-use Rattle.std.specs.Bool.{Decides}
-use Rattle.std.specs.List.{AllByRecursion, range_with_len, flat_map, find, list_any, position_or_len, filter_map, cons_option}
+use Rattle.std.proofs.Common.{◌≡◌, ◌≢◌, ℕ, zero, suc, ◌+◌, ◌-◌, ◌<◌, ◌≤◌, ◌==◌, List, [], ◌∷◌, ◌++◌, length, map, fold, filter, take, drop, get_or, slice_get, Bool, true, false, cond, leb, not, ◌&&◌, ◌||◌, true≢false, Some, None, refl, sym, ◌∙◌, ap, subst, inl, inr, ◌⊎◌, arith, length-append}
+use Rattle.std.specs.List.{AllByRecursion, range_with_len, flat_map, find, list_any, position_or_len, cons_option}
 use Rattle.std.specs.Option.{option_map, option_map_or}
-use Rattle.std.proofs.lemmas.Bool.{cases_Bool, cases_lt, cases_eq, eqb-true, eq-eqb, ne_eqb, le-leb, lt-leb, not-false}
+use Rattle.std.proofs.lemmas.Bool.{cases_Bool, cases_eq, eqb-true, eq-eqb, le-leb, lt-leb, not-false}
 use Rattle.std.specs.Str.{bytes_eq}
 use Rattle.std.proofs.lemmas.List.Elements.{recursion_from_All}
 use Rattle.std.proofs.lemmas.List.{take_more, take_all, length-take-le, length-drop, append-nil, append_assoc, take-append-drop, length-map}
@@ -26,13 +24,13 @@ use Rattle.trie_merge.specs.Entry.{entry_of, column_at, entries_step}
 use Rattle.trie_merge.specs.Found.{found_with, found_in, all_bytes, prefixes}
 use Rattle.trie_merge.specs.Levels.{same_succ, is_end, runs_of, states_at, reached, state_succ, row_succ, level_runs, levels_of}
 use Rattle.trie_merge.specs.Follow.{run_to, on_from, followed, matching, IsAnswer}
-use Rattle.trie_merge.specs.Laws.{IsGrouped, RunsLeadToTheRowOfTheMatchingRules}
+use Rattle.trie_merge.specs.Laws.{RunsLeadToTheRowOfTheMatchingRules}
 use Rattle.trie_merge.proofs.Finds.{is_new, none_new_once_found}
 use Rattle.trie_merge.proofs.Numbers.{bytes_eq_refl, bytes_eq_sound}
 use Rattle.trie_merge.proofs.Packed.{AreBytes, bytes_behind}
 use Rattle.trie_merge.proofs.PackedState.{IsHeld, packed_state, packed_state_steps, packed_state_wild, packed_state_start, decoded, state_is, same_state-Decides}
 use Rattle.trie_merge.proofs.RestSteps.{state_goes_through}
-use Rattle.trie_merge.proofs.Reached.{IsGap, packed_at, states_are, reached_is, all-append}
+use Rattle.trie_merge.proofs.Reached.{IsGap, states_are, reached_is, all-append}
 use Rattle.trie_merge.proofs.Gaps.{Gaps, HasFirst, kept_places_first}
 use Rattle.trie_merge.proofs.Walk.{packed_start}
 use Rattle.trie_merge.proofs.Categories.{length-categories}

@@ -1,23 +1,18 @@
 -- Numbering lists in the order in which they are found.
-use Rattle.std.proofs.Common.{◌≡◌, ℕ, ◌+◌, ◌-◌, ◌<◌, ◌≤◌, ◌==◌, List, [], ◌∷◌, ◌++◌, length, map, fold, take, get_or, set, position, Bool, true, false, cond, ltb, ◌⊎◌, not, ◌&&◌, ◌||◌, is_some, Option, Some, None, refl, sym, ◌∙◌, ap, subst, inl, inr, true≢false, arith}
+use Rattle.std.proofs.Common.{◌≡◌, ℕ, ◌+◌, List, [], ◌∷◌, ◌++◌, length, position, Bool, true, false, cond, ltb, ◌⊎◌, not, ◌||◌, Some, None, refl, sym, ◌∙◌, ap, inl, inr, true≢false, arith}
 use Rattle.std.specs.List.{list_any, position_or_len}
 use Rattle.std.specs.Str.{bytes_eq}
 use Rattle.std.specs.Bool.{Decides}
-use Rattle.std.specs.Option.{option_map}
-use lib.Pointwise.{pointwise}
-use Rattle.std.proofs.lemmas.List.{map-append, length-map}
-use Rattle.std.proofs.lemmas.List.Folds.{list_any-append}
+use Rattle.std.proofs.lemmas.List.{map-append}
 use Rattle.std.proofs.lemmas.Slice.Eq.{slice_eq-Decides}
 use Rattle.std.proofs.lemmas.Bool.Decides.{Decides-eqb}
 use Rattle.std.proofs.lemmas.Bool.{cases_Bool, not-false}
 use Rattle.smallvec.specs.SmallVec.{SmallVec}
 use Rattle.indexmap.specs.IndexSet.{insert_key}
-use Rattle.trie_merge.specs.declared.run.Succ.{Succ}
-use Rattle.trie_merge.specs.declared.run.Succ.TheVariants.{Dead, State, Row}
+use Rattle.trie_merge.specs.declared.run.Succ.TheVariants.{State, Row}
 use Rattle.trie_merge.specs.State.{is_live}
-use Rattle.trie_merge.specs.Found.{found_with}
-use Rattle.trie_merge.specs.Lists.{lists_of, lists_with, succ_in}
-use Rattle.trie_merge.proofs.Finds.{is_new, goes_behind, stays_found, old_once_found, old_for_more}
+use Rattle.trie_merge.specs.Lists.{lists_of, succ_in}
+use Rattle.trie_merge.proofs.Finds.{is_new}
 
 -- equality of lists is decided
 pub bytes_eq-Decides : (xs ys : List ℕ) → Decides (bytes_eq xs ys) (xs ≡ ys)

@@ -1,11 +1,11 @@
 -- The edge that is kept of one rule after some bytes of a key. Before the first byte of a field and after a whole key it is
 -- the free one.
-use Rattle.std.proofs.Common.{◌≡◌, ◌≢◌, ℕ, zero, suc, ◌+◌, ◌-◌, ◌*◌, ◌^◌, ◌<◌, ◌≤◌, List, [], ◌∷◌, ◌++◌, length, take, drop, fold, get_or, Bool, true, false, cond, ltb, eqb, ◌&&◌, true≢false, IsTrue, Option, Some, None, refl, sym, ◌∙◌, ap, subst, inl, inr, arith, length-append, add-one}
+use Rattle.std.proofs.Common.{◌≡◌, ℕ, zero, suc, ◌+◌, ◌-◌, ◌*◌, ◌^◌, ◌<◌, ◌≤◌, List, [], ◌∷◌, ◌++◌, length, take, drop, fold, get_or, Bool, true, false, cond, ltb, eqb, IsTrue, Option, Some, None, refl, sym, ◌∙◌, ap, subst, inl, inr, arith, length-append, add-one}
 use Rattle.std.specs.Option.{option_map, option_and_then, unwrap_or}
 use Rattle.std.specs.List.{AllZip, AllByRecursion}
 use Rattle.std.proofs.lemmas.List.{length-drop, drop-append-le, take-append-le, take_all, drop_all}
 use Rattle.std.proofs.lemmas.List.Sums.{fold-append, sum_by-cons}
-use Rattle.std.proofs.lemmas.Bool.{cases_lt, cases_eq, cases_Bool, cond-true, cond-false, lt-ltb, le-ltb, eq-eqb, ne_eqb, ltb-true, leb-true, and_parts}
+use Rattle.std.proofs.lemmas.Bool.{cases_lt, cond-true, cond-false, lt-ltb, le-ltb, ne_eqb, ltb-true, leb-true, and_parts}
 use Rattle.std.proofs.lemmas.Bool.Decides.{nat_tests}
 use Rattle.std.proofs.Math.Nat.{pow-suc, mul-le-mul_right}
 use Rattle.byte_numbers.specs.Number.{number_of}
@@ -14,16 +14,15 @@ use Rattle.field_defs.specs.declared.field.FieldValue.{FieldValue}
 use Rattle.field_defs.specs.declared.field.FieldValue.TheVariants.{Mask, Range, Bitmask}
 use Rattle.field_defs.specs.FieldMatch.{field_match, is_size, is_wild, CanMatch, is_range_filled}
 use Rattle.field_defs.specs.Layout.{key_len_of}
-use Rattle.field_defs.proofs.Wild.{wild_is_every}
 use Rattle.rule_set.specs.Lawful.{IsLawfulValue}
 use Rattle.node_expand.specs.declared.edge.Edge.{Edge}
 use Rattle.node_expand.specs.declared.edge.Edge.TheVariants.{Free}
-use Rattle.node_expand.specs.Rest.{Rest, Interval, Live, live_where, rest_after, rest_step}
+use Rattle.node_expand.specs.Rest.{Rest, Live, live_where, rest_after, rest_step}
 use Rattle.node_expand.specs.Edges.{edge_of, rest_of, edge_after, edge_step, StandsBefore}
 use Rattle.node_expand.proofs.Ranges.{rest_whole}
 use Rattle.node_expand.proofs.Steps.{rest_steps}
 use Rattle.node_expand.proofs.Standing.{range_start, mask_start, bitmask_start, step_form, starts}
-use Rattle.node_expand.proofs.EdgeRests.{edges_say, edges_are_one, edge_says_rest}
+use Rattle.node_expand.proofs.EdgeRests.{edges_say, edges_are_one}
 use Rattle.node_expand.proofs.Free.{wild_stays_free}
 use Rattle.trie_merge.specs.RuleRest.{values_rest}
 use Rattle.trie_merge.specs.Entry.{FieldPlace, field_at}

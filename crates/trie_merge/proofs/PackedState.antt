@@ -1,17 +1,14 @@
 -- The entries that are kept of a group after some bytes of a key, and the state that they stand for.
-use Rattle.std.proofs.Common.{◌≡◌, ◌≢◌, ℕ, ℤ, pos, zero, suc, ◌+◌, ◌-◌, ◌*◌, ◌/◌, ◌%◌, ◌<◌, ◌≤◌, List, [], ◌∷◌, ◌++◌, length, map, take, drop, get_or, Bool, true, false, cond, eqb, ◌==◌, ◌&&◌, ◌||◌, true≢false, IsTrue, Option, Some, None, slice_get, refl, sym, ◌∙◌, ap, subst, inl, inr, arith}
+use Rattle.std.proofs.Common.{◌≡◌, ℕ, pos, ◌+◌, ◌*◌, ◌%◌, ◌<◌, List, [], ◌∷◌, ◌++◌, length, map, get_or, Bool, true, false, ◌==◌, ◌&&◌, true≢false, IsTrue, Option, Some, None, slice_get, refl, sym, ◌∙◌, ap, subst, arith}
 use Rattle.std.specs.Bool.{Decides}
 use Rattle.std.specs.Option.{option_map, option_map_or, option_and_then}
 use Rattle.std.specs.List.{AllZip, AllByRecursion, filter_map, cons_option, list_all}
 use Rattle.std.specs.Str.{bytes_eq}
-use lib.Pointwise.{pointwise}
 use Rattle.std.proofs.lemmas.List.{get_or-map, length-map}
-use Rattle.std.proofs.lemmas.Bool.{cases_Bool, and_parts, and_from, eqb-true, eq-eqb}
-use Rattle.std.proofs.lemmas.Bool.Decides.{Decides-eqb}
+use Rattle.std.proofs.lemmas.Bool.{and_parts, and_from, eqb-true, eq-eqb}
 use Rattle.std.proofs.lemmas.Option.{slice_get-get_or, get_or_from_slice_get}
 use Rattle.rule_set.specs.Fault.{rule_fault}
 use Rattle.std.proofs.lemmas.Slice.Eq.{slice_eq-Decides}
-use Rattle.field_defs.specs.declared.field.FieldDef.{FieldDef}
 use Rattle.field_defs.specs.declared.field.FieldValue.{FieldValue}
 use Rattle.field_defs.specs.declared.field.FieldValue.TheVariants.{Mask}
 use Rattle.field_defs.specs.FieldMatch.{CanMatch, is_range_filled}
@@ -29,10 +26,10 @@ use Rattle.node_expand.proofs.Compared.{rests_compared}
 use Rattle.trie_merge.specs.RuleRest.{values_of, values_rest, rule_rest}
 use Rattle.trie_merge.specs.State.{Held, state, same_state, is_live}
 use Rattle.trie_merge.specs.Kept.{is_wild_at, is_wild_place}
-use Rattle.trie_merge.specs.Entry.{ColumnView, FieldPlace, entry_of, number_in, edge_in, edge_coded, value_in, edge_before, field_at, column_at, entry_step, entries_step, CanStep}
+use Rattle.trie_merge.specs.Entry.{FieldPlace, entry_of, number_in, edge_in, edge_coded, value_in, edge_before, field_at, column_at, entry_step, entries_step, CanStep}
 use Rattle.trie_merge.proofs.Uncut.{number_in-entry_of}
 use Rattle.trie_merge.proofs.Numbers.{bytes_eq-Decides}
-use Rattle.trie_merge.proofs.Packed.{packed_edge, stepped, before_at, rest_at, AreBytes, Stands, packed_steps, packed_stands, packed_rests, packed_apart, packed_wild, packed_nothing}
+use Rattle.trie_merge.proofs.Packed.{packed_edge, stepped, before_at, rest_at, AreBytes, Stands, packed_steps, packed_rests, packed_apart, packed_wild, packed_nothing}
 
 -- ---- rules of a set
 

@@ -1,22 +1,21 @@
 -- States place by place: what is found by all prefixes is found from the states before, byte by byte.
-use Rattle.std.proofs.Common.{◌≡◌, ◌≢◌, ℕ, zero, suc, ◌+◌, ◌-◌, ◌<◌, ◌≤◌, List, [], ◌∷◌, ◌++◌, length, map, fold, replicate, Bool, true, false, cond, not, ◌&&◌, true≢false, refl, sym, ◌∙◌, ap, subst, inl, inr, arith, length-append, add-one}
-use Rattle.std.specs.List.{AllByRecursion, flat_map, range_with_len, position_or_len, list_any}
+use Rattle.std.proofs.Common.{◌≡◌, ℕ, zero, suc, ◌+◌, ◌-◌, ◌<◌, ◌≤◌, List, [], ◌∷◌, ◌++◌, length, map, fold, replicate, Bool, true, false, cond, true≢false, refl, sym, ◌∙◌, ap, subst, arith, length-append}
+use Rattle.std.specs.List.{AllByRecursion, flat_map, range_with_len}
 use Rattle.std.specs.Str.{bytes_eq}
-use Rattle.std.proofs.lemmas.List.{map-append, append_assoc, append-nil, length-map, length-replicate}
-use Rattle.std.proofs.lemmas.List.Folds.{flat_map-map, fold-map}
+use Rattle.std.proofs.lemmas.List.{map-append, append_assoc, append-nil, length-replicate}
+use Rattle.std.proofs.lemmas.List.Folds.{flat_map-map}
 use Rattle.std.proofs.lemmas.List.Concat.{flat_map-append, flat_map_single}
 use Rattle.std.proofs.lemmas.List.Sums.{fold-append}
 use Rattle.field_defs.specs.Layout.{key_len_of}
 use Rattle.rule_set.specs.Rule.{RuleSetView}
 use Rattle.trie_merge.specs.declared.run.Run.{Run}
-use Rattle.trie_merge.specs.declared.run.Succ.{Succ}
-use Rattle.trie_merge.specs.declared.run.Succ.TheVariants.{Dead, State, Row}
+use Rattle.trie_merge.specs.declared.run.Succ.TheVariants.{Dead, State}
 use Rattle.trie_merge.specs.State.{Held, state, state_through, same_state, is_live}
 use Rattle.trie_merge.specs.Found.{found_with, found_in, all_bytes, prefixes}
 use Rattle.trie_merge.specs.Kept.{is_wild_place}
 use Rattle.trie_merge.specs.Row.{row_of, final_row, rows_of}
 use Rattle.trie_merge.specs.Levels.{states_at, reached, state_succ, row_succ, runs_of}
-use Rattle.trie_merge.specs.Entry.{ColumnView, entries_step, column_at, number_in, CanStep}
+use Rattle.trie_merge.specs.Entry.{ColumnView, entries_step, column_at}
 use Rattle.trie_merge.specs.Lists.{row_list, successor, level_found, succ_in, state_runs}
 use Rattle.trie_merge.proofs.Finds.{is_new, NoneNew, all_stays, old_once_found, found_behind_found, found_in-map, position-map, All-found_in}
 use Rattle.trie_merge.proofs.Numbers.{bytes_eq_refl, bytes_eq_sound}

@@ -1,7 +1,7 @@
 -- The rest of a whole rule goes step by step, and so does the state of a group.
-use Rattle.std.proofs.Common.{◌≡◌, ◌≢◌, ℕ, zero, suc, ◌+◌, ◌-◌, ◌*◌, ◌<◌, ◌≤◌, List, [], ◌∷◌, ◌++◌, length, take, drop, Bool, true, false, cond, ltb, eqb, Option, Some, None, refl, sym, ◌∙◌, ap, inl, inr, arith, length-append}
+use Rattle.std.proofs.Common.{◌≡◌, ℕ, ◌+◌, ◌-◌, ◌*◌, ◌<◌, ◌≤◌, List, [], ◌∷◌, ◌++◌, length, take, drop, Bool, true, false, cond, ltb, eqb, Option, Some, None, refl, sym, ◌∙◌, ap, inl, inr, arith, length-append}
 use Rattle.std.specs.Option.{option_map, option_and_then}
-use Rattle.std.specs.List.{AllZip, AllByRecursion, filter_map, cons_option}
+use Rattle.std.specs.List.{AllZip, AllByRecursion, cons_option}
 use Rattle.std.proofs.lemmas.List.{length-drop, drop-append-le, take-append-le, take_all, drop_all, append_assoc, append-nil}
 use Rattle.std.proofs.lemmas.List.Sums.{sum_by-cons}
 use Rattle.std.proofs.lemmas.Bool.{cases_lt, cond-true, cond-false, lt-ltb, le-ltb, eq-eqb, ne_eqb}
@@ -12,7 +12,7 @@ use Rattle.field_defs.specs.FieldMatch.{field_match}
 use Rattle.field_defs.specs.Layout.{key_len_of}
 use Rattle.rule_set.specs.Rule.{RuleSetView}
 use Rattle.rule_set.specs.Lawful.{IsLawfulValue}
-use Rattle.node_expand.specs.Rest.{Rest, Live, live_where, rest_after, rest_step}
+use Rattle.node_expand.specs.Rest.{Rest, live_where, rest_after, rest_step}
 use Rattle.node_expand.proofs.Ranges.{rest_whole}
 use Rattle.node_expand.proofs.Steps.{rest_steps}
 use Rattle.trie_merge.specs.RuleRest.{values_rest, values_step, values_of, rule_rest, rule_step}

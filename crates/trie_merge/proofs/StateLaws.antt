@@ -1,34 +1,32 @@
 -- The laws of states.
-use Rattle.std.proofs.Common.{◌≡◌, ◌≢◌, ℕ, zero, suc, ◌+◌, ◌-◌, ◌<◌, ◌≤◌, ◌==◌, List, [], ◌∷◌, ◌++◌, length, map, take, drop, get_or, Bool, true, false, cond, not, ◌&&◌, ◌||◌, Option, Some, None, refl, sym, ◌∙◌, ap, subst, inl, inr, arith, length-append}
-use Rattle.std.specs.Prelude.{All}
-use Rattle.std.specs.List.{AllByRecursion, flat_map, list_all}
+use Rattle.std.proofs.Common.{◌≡◌, ℕ, ◌+◌, ◌<◌, ◌==◌, List, [], ◌∷◌, ◌++◌, length, map, take, drop, get_or, Bool, true, false, cond, not, ◌&&◌, ◌||◌, Some, None, refl, sym, ◌∙◌, ap, subst, arith, length-append}
+use Rattle.std.specs.List.{AllByRecursion, flat_map}
 use Rattle.std.specs.Str.{bytes_eq}
 use Rattle.std.proofs.lemmas.Bool.{cond-false, le-ltb, eq-eqb}
 use Rattle.std.proofs.lemmas.List.{length-drop, drop_more}
 use Rattle.std.proofs.lemmas.List.Folds.{flat_map-map}
-use Rattle.std.proofs.lemmas.List.Elements.{recursion_from_All, All-from_recursion}
+use Rattle.std.proofs.lemmas.List.Elements.{All-from_recursion}
 use Rattle.std.proofs.lemmas.List.Sums.{sum_by-cons}
 use Rattle.byte_numbers.specs.Number.{number_of}
 use Rattle.field_defs.specs.declared.field.FieldDef.{FieldDef}
-use Rattle.field_defs.specs.declared.field.FieldValue.{FieldValue}
 use Rattle.field_defs.specs.FieldMatch.{field_match}
 use Rattle.field_defs.specs.Layout.{key_len_of}
 use Rattle.field_defs.proofs.Faultless.{short_keys}
 use Rattle.rule_set.specs.Rule.{RuleSetView}
 use Rattle.rule_set.specs.Winner.{rule_match}
 use Rattle.node_expand.specs.Rest.{Live}
-use Rattle.trie_merge.specs.RuleRest.{values_rest, values_of}
+use Rattle.trie_merge.specs.RuleRest.{values_rest}
 use Rattle.trie_merge.specs.State.{Held, state, state_step, same_state, is_live}
 use Rattle.trie_merge.specs.Found.{found_in, all_bytes}
-use Rattle.trie_merge.specs.Kept.{group_of, is_wild_place, is_idle, key_places, kept_places}
-use Rattle.trie_merge.specs.Levels.{states_at, reached, IsGroup}
+use Rattle.trie_merge.specs.Kept.{group_of, is_wild_place, is_idle, kept_places}
+use Rattle.trie_merge.specs.Levels.{states_at, reached}
 use Rattle.trie_merge.specs.Entry.{column_at, entries_step}
 use Rattle.trie_merge.specs.Lists.{level_found, successor}
 use Rattle.trie_merge.specs.Laws.{IsGrouped, WholeKeysAreLiveWhereTheyMatch, StatesGoByteByByte, NextStatesAreReached, IdleBytesLeadToOneState}
 use Rattle.trie_merge.proofs.Finds.{found_in-map}
 use Rattle.trie_merge.proofs.PackedState.{IsHeld, IsEntryAt, packed_state, packed_state_wild, decoded, state_is, compared_alike, alive_alike}
 use Rattle.trie_merge.proofs.RestSteps.{state_goes_on}
-use Rattle.trie_merge.proofs.Reached.{IsGap, IsPrefix, packed_at, packed_next, states_are, all_packed, all_weaker, all-map, all-flat_map, map_same, flat_map_same, map-map, map-flat_map, bytes_below, reached_is, entries_next, successors}
+use Rattle.trie_merge.proofs.Reached.{IsGap, IsPrefix, packed_at, packed_next, states_are, all_packed, all_weaker, all-map, all-flat_map, map_same, flat_map_same, map-map, map-flat_map, bytes_below, reached_is, entries_next}
 use Rattle.trie_merge.proofs.Gaps.{Gaps, each, kept_places_first}
 use Rattle.trie_merge.proofs.Walk.{group_held, gaps_behind}
 

@@ -1,6 +1,5 @@
 -- Numbering the successors of one state, byte by byte.
-use Rattle.std.proofs.Common.{◌≡◌, ◌≢◌, ℕ, zero, suc, ◌+◌, ◌-◌, ◌<◌, ◌≤◌, ◌==◌, List, [], ◌∷◌, ◌++◌, length, map, fold, take, filter, get_or, set, Bool, true, false, cond, not, ◌||◌, true≢false, refl, sym, ◌∙◌, ap, inl, inr, arith}
-use Rattle.std.specs.List.{range_with_len}
+use Rattle.std.proofs.Common.{◌≡◌, ℕ, zero, suc, ◌+◌, ◌-◌, ◌<◌, ◌≤◌, ◌==◌, List, [], ◌∷◌, ◌++◌, length, map, fold, take, filter, get_or, set, Bool, true, false, cond, not, ◌||◌, true≢false, refl, sym, ◌∙◌, ap, inl, inr, arith}
 use Rattle.std.specs.Str.{bytes_eq}
 use Rattle.std.proofs.lemmas.List.{take_more, map_push, append_assoc, append-nil, length-map, get_or-set_same, get_or-set_other, length-set, map-append, take_all, length-append}
 use Rattle.std.proofs.lemmas.List.FromFn.{length-range_with_len, get_or-range_with_len}
@@ -12,10 +11,10 @@ use Rattle.trie_merge.specs.declared.run.Run.{Run}
 use Rattle.trie_merge.specs.declared.run.Succ.{Succ}
 use Rattle.trie_merge.specs.declared.run.Succ.TheVariants.{Dead}
 use Rattle.trie_merge.specs.State.{is_live}
-use Rattle.trie_merge.specs.Found.{found_with, all_bytes}
+use Rattle.trie_merge.specs.Found.{all_bytes}
 use Rattle.trie_merge.specs.Levels.{same_succ, is_end, runs_of}
 use Rattle.trie_merge.specs.Lists.{lists_of, list_at, list_of_byte, lists_with, succ_in, interval_at}
-use Rattle.trie_merge.proofs.Finds.{is_new, found_grows, stays_found, goes_behind, old_for_more, old_once_found}
+use Rattle.trie_merge.proofs.Finds.{is_new, found_grows, stays_found, goes_behind, old_once_found}
 use Rattle.trie_merge.proofs.Numbers.{bytes_eq_refl, succ_stays}
 use Rattle.trie_merge.proofs.Marks.{interval_first, interval_marked, interval_unmarked}
 

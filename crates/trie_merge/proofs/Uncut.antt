@@ -1,17 +1,15 @@
 -- Bytes of one interval make the same of a state.
-use Rattle.std.proofs.Common.{◌≡◌, ◌≢◌, ℕ, zero, suc, ◌+◌, ◌-◌, ◌*◌, ◌/◌, ◌<◌, ◌≤◌, List, [], ◌∷◌, length, map, fold, get_or, Bool, true, false, ◌||◌, true≢false, Option, Some, None, refl, sym, ◌∙◌, ap, subst, inl, inr, ◌⊎◌, arith}
+use Rattle.std.proofs.Common.{◌≡◌, ℕ, zero, suc, ◌+◌, ◌-◌, ◌<◌, ◌≤◌, List, [], ◌∷◌, length, get_or, Bool, true, false, ◌||◌, true≢false, Option, Some, None, refl, sym, ◌∙◌, ap, subst, inl, inr, ◌⊎◌, arith}
 use Rattle.std.specs.Prelude.{All}
-use Rattle.std.specs.List.{list_any, filter_map, cons_option, AllByRecursion}
+use Rattle.std.specs.List.{list_any, cons_option, AllByRecursion}
 use Rattle.std.specs.Option.{option_map}
-use Rattle.std.proofs.Math.Numerals.{add-one}
 use Rattle.std.proofs.lemmas.Bool.{cases_Bool, cases_lt}
 use Rattle.std.proofs.lemmas.List.Elements.{recursion_from_All, All-from_recursion}
 use Rattle.node_expand.specs.declared.edge.Edge.{Edge}
 use Rattle.node_expand.specs.declared.edge.Edge.TheVariants.{Free, Low, High, Both}
 use Rattle.node_expand.specs.Edges.{edge_step}
 use Rattle.node_expand.proofs.Changes.{cuts_are_changes}
-use Rattle.rule_set.specs.Rule.{RuleSetView}
-use Rattle.trie_merge.specs.Entry.{ColumnView, CanStep, number_in, entry_of, edge_before, value_in, entry_step, entries_step, is_entry_cut}
+use Rattle.trie_merge.specs.Entry.{ColumnView, number_in, entry_of, edge_before, value_in, entry_step, entries_step, is_entry_cut}
 use Rattle.trie_merge.specs.Lists.{interval_at}
 use Rattle.trie_merge.proofs.Marks.{interval_marked, interval_unmarked}
 

@@ -1,9 +1,9 @@
 -- Merging the kept places of a group, one after the other.
-use Rattle.std.proofs.Common.{◌≡◌, ◌≢◌, ℕ, zero, suc, ◌+◌, ◌-◌, ◌*◌, ◌<◌, ◌≤◌, ◌==◌, List, [], ◌∷◌, ◌++◌, length, map, fold, drop, get_or, Bool, true, false, cond, true≢false, refl, sym, ◌∙◌, ap, subst, inl, inr, arith}
+use Rattle.std.proofs.Common.{◌≡◌, ℕ, zero, suc, ◌+◌, ◌-◌, ◌*◌, ◌<◌, ◌≤◌, ◌==◌, List, [], ◌∷◌, ◌++◌, length, map, drop, get_or, Bool, true, false, cond, true≢false, refl, sym, ◌∙◌, ap, subst, inl, inr, arith}
 use Rattle.std.specs.Prelude.{All, nat_le}
-use Rattle.std.specs.List.{AllByRecursion, sum_by}
+use Rattle.std.specs.List.{AllByRecursion}
 use Rattle.std.specs.Str.{bytes_eq}
-use Rattle.std.proofs.lemmas.Bool.{cases_eq, cases_lt, eq-eqb, ne_eqb}
+use Rattle.std.proofs.lemmas.Bool.{cases_eq, eq-eqb, ne_eqb}
 use Rattle.std.proofs.lemmas.List.{drop_more, drop_all, length-map, length-drop, append-nil, append_assoc, get_or-drop}
 use Rattle.std.proofs.lemmas.List.Elements.{recursion_from_All, All-from_recursion}
 use Rattle.std.proofs.lemmas.List.Sums.{sum_by-cons}
@@ -19,17 +19,17 @@ use Rattle.trie_merge.specs.State.{Held, state, is_live}
 use Rattle.trie_merge.specs.Found.{found_with, found_in, prefixes}
 use Rattle.trie_merge.specs.Kept.{is_wild_place, kept_places}
 use Rattle.trie_merge.specs.Row.{row_of, final_row, rows_of}
-use Rattle.trie_merge.specs.Levels.{states_at, level_runs, cost_of, words_of, few_runs, many_runs, row_words, levels_of, IsGroup}
+use Rattle.trie_merge.specs.Levels.{states_at, level_runs, cost_of, words_of, few_runs, many_runs, row_words, levels_of}
 use Rattle.trie_merge.specs.Walk.{IsWalk}
 use Rattle.trie_merge.specs.RuleRest.{values_of}
-use Rattle.trie_merge.specs.Entry.{ColumnView, entry_of, field_at, column_at, CanStep}
+use Rattle.trie_merge.specs.Entry.{entry_of, field_at, column_at, CanStep}
 use Rattle.trie_merge.specs.Lists.{lists_of, level_found, state_runs, states_words, least_cost, least_words, IsMergedWithin}
-use Rattle.trie_merge.proofs.Packed.{AreBytes, Stands, packed_stands}
+use Rattle.trie_merge.proofs.Packed.{Stands, packed_stands}
 use Rattle.trie_merge.proofs.PackedState.{IsHeld, IsEntryAt, packed_state, packed_state_start, packed_entries, decoded, is_held, entry_can_step}
-use Rattle.trie_merge.proofs.Reached.{IsGap, IsPrefix, packed_at, packed_next, packed_past_all, runs_next, runs_last, rows_are, states_are, all_packed, all_weaker, all-map, prefixes_are}
+use Rattle.trie_merge.proofs.Reached.{IsPrefix, packed_at, packed_next, packed_past_all, runs_next, runs_last, rows_are, states_are, all_packed, all_weaker, all-map, prefixes_are}
 use Rattle.trie_merge.proofs.Finds.{All-found_in}
 use Rattle.trie_merge.proofs.Categories.{length-categories}
-use Rattle.trie_merge.proofs.Gaps.{Gaps, HasFirst, kept_places_first}
+use Rattle.trie_merge.proofs.Gaps.{Gaps, kept_places_first}
 
 -- the rules of a group are held
 pub group_held : (set : RuleSetView) (group : List ℕ) → IsRuleSet set → IsLayout set.layout → All (λ number. number < length set.rules) group → AllByRecursion (IsHeld set) group

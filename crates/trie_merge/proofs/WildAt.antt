@@ -1,5 +1,5 @@
 -- The value of the field that has a place.
-use Rattle.std.proofs.Common.{◌≡◌, ℕ, zero, suc, ◌+◌, ◌-◌, ◌<◌, ◌≤◌, List, [], ◌∷◌, length, get_or, Bool, true, false, cond, ltb, refl, sym, ◌∙◌, ap, subst, inl, inr, arith, add-one}
+use Rattle.std.proofs.Common.{◌≡◌, ℕ, suc, ◌-◌, ◌<◌, List, [], ◌∷◌, length, get_or, refl, sym, ◌∙◌, ap, subst, inl, inr, arith}
 use Rattle.std.specs.List.{AllZip}
 use Rattle.std.proofs.lemmas.List.Sums.{sum_by-cons}
 use Rattle.std.proofs.lemmas.Bool.{cases_lt, cond-true, cond-false, lt-ltb, le-ltb}
@@ -11,7 +11,7 @@ use Rattle.field_defs.specs.Layout.{key_len_of}
 use Rattle.rule_set.specs.Lawful.{IsLawfulValue}
 use Rattle.trie_merge.specs.Kept.{is_wild_at}
 use Rattle.trie_merge.specs.Entry.{FieldPlace, field_at}
-use Rattle.trie_merge.proofs.Packed.{field_at_in, field_at_behind, further_value, one_further}
+use Rattle.trie_merge.proofs.Packed.{field_at_in, field_at_behind, further_value}
 
 -- there are as many values as fields
 pub length-zipped : (defs : List FieldDef) (values : List FieldValue) → AllZip IsLawfulValue defs values → length values ≡ length defs

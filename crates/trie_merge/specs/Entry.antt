@@ -1,6 +1,6 @@
 -- How a state is kept: for each of its rules one number, which holds the rule's number and the edge of its rest. Before the
 -- first byte of a field the rule's value says the rest, so the edge kept there is the one after a whole field.
-use Rattle.std.specs.Prelude.{◌≡◌, ℕ, ◌+◌, ◌-◌, ◌*◌, ◌/◌, ◌%◌, ◌<◌, ◌==◌, List, [], ◌∷◌, length, map, slice_index_or, nat_lt, Bool, IsTrue, Option, if◌then◌else◌}
+use Rattle.std.specs.Prelude.{ℕ, ◌+◌, ◌-◌, ◌*◌, ◌/◌, ◌%◌, ◌<◌, ◌==◌, List, [], ◌∷◌, length, map, slice_index_or, nat_lt, Bool, IsTrue, Option, if◌then◌else◌}
 use Rattle.std.specs.List.{filter_map}
 use Rattle.std.specs.Option.{option_map, unwrap_or}
 use Rattle.field_defs.specs.declared.field.FieldDef.{FieldDef}

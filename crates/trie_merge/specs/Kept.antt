@@ -1,7 +1,7 @@
 -- The input groups of a key that a trie keeps. Byte 0 of a key is group 0, and then four bytes each make a group (DPDK
 -- Programmer's Guide: the first field has one byte, and the others are grouped into four consecutive bytes). A group in
 -- which each rule of the trie lets every number through decides nothing, so it is left out.
-use Rattle.std.specs.Prelude.{ℕ, ◌+◌, ◌-◌, ◌*◌, ◌/◌, ◌^◌, ◌==◌, List, [], ◌∷◌, filter, nat_lt, Bool, true, not, ◌&&◌, ◌||◌, if◌then◌else◌}
+use Rattle.std.specs.Prelude.{ℕ, ◌+◌, ◌-◌, ◌/◌, ◌^◌, ◌==◌, List, [], ◌∷◌, filter, nat_lt, Bool, true, not, ◌&&◌, ◌||◌, if◌then◌else◌}
 use Rattle.std.specs.List.{list_all, range_with_len, sum_by}
 use Rattle.field_defs.specs.declared.field.FieldDef.{FieldDef}
 use Rattle.field_defs.specs.declared.field.FieldValue.{FieldValue}

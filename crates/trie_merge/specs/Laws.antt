@@ -1,5 +1,5 @@
 -- Laws of states, rows and runs, over the definitions alone.
-use Rattle.std.specs.Prelude.{◌≡◌, ◌≢◌, ℕ, ◌+◌, ◌<◌, ◌≤◌, List, [], ◌∷◌, ◌++◌, length, map, All, true, Some, None, slice_index_or, if◌then◌else◌}
+use Rattle.std.specs.Prelude.{◌≡◌, ℕ, ◌+◌, ◌<◌, List, [], ◌∷◌, ◌++◌, length, map, All, true, Some, None, slice_index_or, if◌then◌else◌}
 use Rattle.std.specs.List.{flat_map}
 use Rattle.field_defs.specs.declared.field.FieldDef.{FieldDef}
 use Rattle.field_defs.specs.declared.field.FieldValue.{FieldValue}
@@ -9,8 +9,8 @@ use Rattle.rule_set.specs.Rule.{RuleSetView}
 use Rattle.rule_set.specs.RuleSet.{IsRuleSet}
 use Rattle.rule_set.specs.Winner.{rule_match}
 use Rattle.node_expand.specs.Rest.{Live}
-use Rattle.trie_merge.specs.RuleRest.{values_rest, values_of}
-use Rattle.trie_merge.specs.State.{Held, state, state_step, same_state, is_live}
+use Rattle.trie_merge.specs.RuleRest.{values_rest}
+use Rattle.trie_merge.specs.State.{state, state_step, same_state, is_live}
 use Rattle.trie_merge.specs.Found.{found_in, all_bytes}
 use Rattle.trie_merge.specs.Kept.{group_of, is_idle, kept_places}
 use Rattle.trie_merge.specs.Levels.{states_at, reached, levels_of, IsGroup}

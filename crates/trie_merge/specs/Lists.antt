@@ -1,5 +1,5 @@
 -- The lists of the intervals of one state's bytes, and the lists found.
-use Rattle.std.specs.Prelude.{◌≡◌, ℕ, ◌+◌, ◌*◌, ◌≤◌, List, [], ◌∷◌, map, fold, length, slice_index_or, take, drop, count_by, Bool, false, if◌then◌else◌}
+use Rattle.std.specs.Prelude.{◌≡◌, ℕ, ◌+◌, ◌*◌, ◌≤◌, List, [], map, length, slice_index_or, take, drop, count_by, Bool, if◌then◌else◌}
 use Rattle.std.specs.List.{position_or_len, flat_map, sum_by}
 use Rattle.std.specs.Str.{bytes_eq}
 use Rattle.smallvec.specs.SmallVec.{SmallVec}

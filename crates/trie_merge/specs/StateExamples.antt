@@ -1,22 +1,17 @@
 -- Examples of rests, states, rows and words, each checked by evaluation. Keys are cut down to one or two bytes, so that all
 -- prefixes are gone through.
-use Rattle.std.specs.Prelude.{◌≡◌, ℕ, pos, List, [], ◌∷◌, map, length, Option, Some, None, refl}
+use Rattle.std.specs.Prelude.{◌≡◌, ℕ, pos, List, [], ◌∷◌, map, Some, None, refl}
 use Rattle.field_defs.specs.declared.field.FieldKind.TheVariants as kinds
 use Rattle.field_defs.specs.declared.field.FieldDef.{FieldDef}
 use Rattle.field_defs.specs.declared.field.FieldValue.{FieldValue}
-use Rattle.field_defs.specs.declared.field.FieldValue.TheVariants.{Mask, Range, Bitmask}
+use Rattle.field_defs.specs.declared.field.FieldValue.TheVariants.{Range, Bitmask}
 use Rattle.rule_set.specs.Rule.{RuleView, RuleSetView}
-use Rattle.rule_set.specs.Fault.{categories}
-use Rattle.rule_set.specs.Among.{best_among}
-use Rattle.node_expand.specs.Rest.{Interval, Live, part, rest_after, rest_step, mask_low, mask_high}
-use Rattle.trie_merge.specs.declared.run.Run.{Run}
-use Rattle.trie_merge.specs.declared.run.Succ.TheVariants.{Dead, State, Row}
+use Rattle.node_expand.specs.Rest.{Interval, Live, part, rest_after, rest_step}
 use Rattle.trie_merge.specs.RuleRest.{rule_rest, rule_step}
-use Rattle.trie_merge.specs.State.{Held, state, state_step, state_through}
+use Rattle.trie_merge.specs.State.{state}
 use Rattle.trie_merge.specs.Found.{found_in, all_bytes, prefixes}
-use Rattle.trie_merge.specs.Kept.{is_wild_place, is_idle, is_kept, kept_places, kept_bits}
-use Rattle.trie_merge.specs.Row.{row_of, final_row, rows_of}
-use Rattle.trie_merge.specs.Levels.{states_at, reached, runs_of, level_runs, levels_of}
+use Rattle.trie_merge.specs.Kept.{is_wild_place, is_idle, is_kept, kept_bits}
+use Rattle.trie_merge.specs.Levels.{states_at}
 
 -- a key of two bytes: a bitmask of one byte and a range of one
 abbrev two_bytes : List FieldDef

@@ -1,5 +1,5 @@
 -- The kept groups, where it is given of each place of a key whether it is wild.
-use Rattle.std.specs.Prelude.{ℕ, ◌+◌, ◌-◌, ◌^◌, ◌==◌, List, length, filter, slice_index_or, Bool, true, false, not, ◌&&◌, ◌||◌}
+use Rattle.std.specs.Prelude.{ℕ, ◌+◌, ◌-◌, ◌^◌, ◌==◌, List, length, filter, slice_index_or, Bool, true, not, ◌&&◌, ◌||◌}
 use Rattle.std.specs.List.{list_all, range_with_len, sum_by}
 use Rattle.trie_merge.specs.Kept.{group_of}
 

@@ -1,4 +1,4 @@
-use Rattle.std.proofs.Common.{◌≡◌, ℕ, arith}
+use Rattle.std.proofs.Common.{arith}
 use Rattle.trie_merge.proofs.build.lists_of_bytes.Goals as goal
 
 pub returns : goal.returns

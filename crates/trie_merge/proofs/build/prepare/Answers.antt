@@ -1,4 +1,3 @@
-use Rattle.std.proofs.Common.{◌≡◌, ℕ, ◌<◌, ◌≤◌, subst, arith}
 use Rattle.field_defs.specs.Lawful.{IsLayout}
 use Rattle.field_defs.proofs.Faultless.{short_keys}
 use Rattle.trie_merge.proofs.build.prepare.Goals as goal

@@ -1,12 +1,10 @@
-use Rattle.std.proofs.Common.{◌≡◌, ℕ, List, ◌+◌, ◌==◌, ◌<◌, ◌≤◌, length, get_or, map, Err, refl, sym, ◌∙◌, ap, subst, arith}
-use Rattle.field_defs.specs.Layout.{key_len_of}
+use Rattle.std.proofs.Common.{◌≡◌, ◌<◌, length, get_or, Err, ap}
 use Rattle.field_defs.proofs.Faultless.{short_keys}
 use Rattle.trie_merge.specs.declared.merge.MergeFault.TheVariants.{OverCap}
 use Rattle.trie_merge.specs.Kept.{kept_places}
 use Rattle.trie_merge.specs.Levels.{levels_of}
-use Rattle.trie_merge.specs.Entry.{column_at}
 use Rattle.trie_merge.proofs.PackedState.{length-column}
-use Rattle.trie_merge.proofs.Walk.{Walked, group_held, walk_start, place_within, states_can_step, walk_on, walk_over, walk_end}
+use Rattle.trie_merge.proofs.Walk.{group_held, walk_start, place_within, states_can_step, walk_on, walk_over, walk_end}
 use Rattle.trie_merge.proofs.build.walk.Goals as goal
 
 pub loop-j-init : goal.loop-j-init

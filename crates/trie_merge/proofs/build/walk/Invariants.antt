@@ -1,4 +1,3 @@
-use Rattle.std.proofs.Common.{length}
 use Rattle.trie_merge.proofs.Walk.{Walked}
 use Rattle.trie_merge.proofs.build.walk.Given as goal
 

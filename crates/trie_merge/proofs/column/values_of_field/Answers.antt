@@ -1,5 +1,5 @@
-use Rattle.std.proofs.Common.{◌≡◌, ℕ, List, ◌+◌, ◌<◌, ◌++◌, ◌∷◌, [], length, take, map, get_or, sym, ◌∙◌, ap, arith}
-use Rattle.std.proofs.lemmas.List.{take_more, map_push, take_all, get_or_default}
+use Rattle.std.proofs.Common.{◌≡◌, List, ◌+◌, ◌++◌, ◌∷◌, [], length, take, map, get_or, sym, ◌∙◌, ap, arith}
+use Rattle.std.proofs.lemmas.List.{take_more, map_push, take_all}
 use Rattle.std.proofs.lemmas.Option.{get_or_from_slice_get}
 use Rattle.field_defs.specs.declared.field.FieldValue.{FieldValue}
 use Rattle.field_defs.specs.declared.field.FieldValue.TheVariants.{Mask}

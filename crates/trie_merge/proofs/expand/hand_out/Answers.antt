@@ -1,4 +1,4 @@
-use Rattle.std.proofs.Common.{sym, ◌∙◌, arith}
+use Rattle.std.proofs.Common.{arith}
 use Rattle.trie_merge.proofs.Handing.{handed_some, handed_none}
 use Rattle.trie_merge.proofs.expand.hand_out.Goals as goal
 use Rattle.trie_merge.proofs.expand.hand_out.Goals.{in-Some+in_ok-push, in_default}

@@ -1,4 +1,4 @@
-use Rattle.std.proofs.Common.{◌≡◌, ◌≢◌, ℕ, ◌<◌, ◌≤◌, length, List, [], ◌++◌, get_or, option_to_list, sym, ◌∙◌, ap, inl, inr, arith}
+use Rattle.std.proofs.Common.{ℕ, List, ◌++◌, get_or, option_to_list, sym, ◌∙◌, ap, inl, inr, arith}
 use Rattle.std.proofs.lemmas.Bool.{cases_eq}
 use Rattle.trie_merge.specs.Entry.{entry_step}
 use Rattle.trie_merge.proofs.Handing.{list_at-set_same, list_at-set_other, entries_step_more, entries_step_none}

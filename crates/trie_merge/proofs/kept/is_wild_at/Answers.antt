@@ -1,8 +1,5 @@
-use Rattle.std.proofs.Common.{◌≡◌, ℕ, ◌<◌, length, get_or, sym, ◌∙◌, ap, subst, arith}
-use Rattle.field_defs.specs.declared.field.FieldValue.{FieldValue}
-use Rattle.field_defs.specs.FieldMatch.{CanMatch}
-use Rattle.trie_merge.specs.Entry.{FieldPlace, field_at}
-use Rattle.trie_merge.proofs.WildAt.{IsValueAt, value_at_place}
+use Rattle.std.proofs.Common.{length, sym, ◌∙◌, ap, arith}
+use Rattle.trie_merge.proofs.WildAt.{value_at_place}
 use Rattle.trie_merge.proofs.kept.is_wild_at.Goals as goal
 
 pub bounds-values-at : goal.bounds-values-at

@@ -1,4 +1,4 @@
-use Rattle.std.proofs.Common.{◌≡◌, ℕ, List, Bool, ◌++◌, ◌∷◌, [], map, sym, ◌∙◌, ap, arith}
+use Rattle.std.proofs.Common.{◌++◌, ◌∷◌, [], sym, ◌∙◌}
 use Rattle.trie_merge.specs.Kept.{is_wild_place}
 use Rattle.trie_merge.proofs.Counting.{map_more_numbers}
 use Rattle.trie_merge.proofs.kept.wild_places.Goals as goal

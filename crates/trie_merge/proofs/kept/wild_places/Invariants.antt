@@ -1,4 +1,4 @@
-use Rattle.std.proofs.Common.{◌≡◌, take, map}
+use Rattle.std.proofs.Common.{◌≡◌, map}
 use Rattle.std.specs.List.{range_with_len}
 use Rattle.trie_merge.specs.Kept.{is_wild_place}
 use Rattle.trie_merge.proofs.kept.wild_places.Given as goal

@@ -1,9 +1,8 @@
-use Rattle.std.proofs.Common.{◌≡◌, ◌≢◌, ℕ, ◌<◌, ◌≤◌, length, List, ◌++◌, false, map, fold, get_or, refl, sym, ◌∙◌, ap, inl, inr, arith}
+use Rattle.std.proofs.Common.{◌≡◌, ℕ, ◌<◌, length, ◌++◌, false, fold, ◌∙◌, ap}
 use Rattle.std.specs.Prelude.{All}
 use Rattle.std.proofs.lemmas.List.{get_or-replicate}
-use Rattle.trie_merge.specs.Entry.{number_in, CanStep}
-use Rattle.trie_merge.specs.Lists.{list_at, list_of_byte, interval_at, lists_with, lists_of, successor, succ_in}
-use Rattle.trie_merge.specs.Found.{all_bytes}
+use Rattle.trie_merge.specs.Entry.{number_in}
+use Rattle.trie_merge.specs.Lists.{list_of_byte, lists_with, lists_of, successor, succ_in}
 use Rattle.trie_merge.proofs.Uncut.{steps_keep_numbers}
 use Rattle.trie_merge.proofs.Expanded.{same_over_bytes, expanded_is}
 use Rattle.trie_merge.proofs.merge.expand_state.Goals as goal

@@ -1,9 +1,9 @@
-use Rattle.std.proofs.Common.{◌≡◌, ℕ, List, ◌<◌, ◌+◌, ◌-◌, ◌++◌, ◌∷◌, [], length, get_or, refl, sym, ◌∙◌, ap, arith, length-append}
+use Rattle.std.proofs.Common.{◌≡◌, ℕ, List, ◌+◌, ◌-◌, ◌++◌, ◌∷◌, [], length, get_or, ◌∙◌, ap, arith, length-append}
 use Rattle.trie_merge.specs.declared.run.Run.{Run}
 use Rattle.trie_merge.specs.declared.run.Succ.{Succ}
 use Rattle.trie_merge.specs.declared.run.Succ.TheVariants.{Dead}
 use Rattle.trie_merge.specs.Levels.{runs_of, cost_of}
-use Rattle.trie_merge.specs.Pieces.{pieces_of, IsPieces}
+use Rattle.trie_merge.specs.Pieces.{pieces_of}
 use Rattle.trie_merge.specs.Lists.{lists_of, succ_in, successor, state_runs}
 use Rattle.trie_merge.proofs.Successors.{same_runs}
 use Rattle.trie_merge.proofs.Pieces.{pieces-push, IsPieces-push}

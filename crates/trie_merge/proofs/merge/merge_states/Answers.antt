@@ -1,8 +1,8 @@
-use Rattle.std.proofs.Common.{◌≡◌, ℕ, List, ◌+◌, ◌*◌, ◌<◌, ◌≤◌, ◌++◌, ◌∷◌, [], length, take, drop, get_or, refl, sym, ◌∙◌, ap, arith}
+use Rattle.std.proofs.Common.{◌≡◌, ℕ, List, ◌+◌, ◌++◌, ◌∷◌, [], length, take, drop, sym, ◌∙◌, ap, arith}
 use Rattle.std.proofs.lemmas.List.{take_more, take_all, take-append-drop}
 use Rattle.smallvec.specs.SmallVec.{SmallVec}
-use Rattle.trie_merge.specs.Lists.{lists_of, least_cost, least_words}
-use Rattle.trie_merge.proofs.Merging.{MergedSoFar, none_merged, one_merged, past_cap, all_merged, grown_by, few_found, least_cost_small}
+use Rattle.trie_merge.specs.Lists.{least_cost}
+use Rattle.trie_merge.proofs.Merging.{none_merged, one_merged, past_cap, all_merged, grown_by, few_found, least_cost_small}
 use Rattle.trie_merge.proofs.merge.merge_states.Goals as goal
 
 pub loop-state-init : goal.loop-state-init

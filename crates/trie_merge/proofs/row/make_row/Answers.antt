@@ -1,4 +1,4 @@
-use Rattle.std.proofs.Common.{◌≡◌, ◌≢◌, ℕ, List, length, map, true, false, eqb, true≢false, eq-eqb, eqb-true, sym, ◌∙◌, ap}
+use Rattle.std.proofs.Common.{◌≢◌, ℕ, List, length, map, true≢false, eq-eqb, eqb-true, sym, ◌∙◌, ap}
 use Rattle.trie_merge.specs.Entry.{number_in}
 use Rattle.trie_merge.specs.Row.{row_of}
 use Rattle.trie_merge.proofs.Rows.{row_of_some, row_of_none}

@@ -1,7 +1,7 @@
-use Rattle.std.proofs.Common.{◌≡◌, ◌≢◌, ℕ, ◌<◌, ◌≤◌, length, get_or, sym, ◌∙◌, ap, inl, inr, arith}
+use Rattle.std.proofs.Common.{◌≢◌, ℕ, ◌<◌, length, sym, ◌∙◌, ap, inl, inr, arith}
 use Rattle.std.proofs.lemmas.Bool.{cases_eq}
 use Rattle.smallvec.specs.SmallVec.{SmallVec}
-use Rattle.trie_merge.specs.Lists.{list_at, row_list}
+use Rattle.trie_merge.specs.Lists.{row_list}
 use Rattle.trie_merge.proofs.Handing.{list_at-set_same, list_at-set_other, list_at-read}
 use Rattle.trie_merge.proofs.row.make_rows.Goals as goal
 

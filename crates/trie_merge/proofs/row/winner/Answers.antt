@@ -3,7 +3,7 @@ use Rattle.std.specs.Option.{option_map_or}
 use Rattle.std.proofs.lemmas.List.{take_more, map_push, take_all}
 use Rattle.trie_merge.specs.Entry.{number_in}
 use Rattle.trie_merge.specs.Row.{winner_of}
-use Rattle.trie_merge.proofs.Best.{Leads, leads_to, better_leads, other_follows}
+use Rattle.trie_merge.proofs.Best.{leads_to, better_leads, other_follows}
 use Rattle.trie_merge.proofs.row.winner.Goals as goal
 use Rattle.trie_merge.proofs.row.winner.Goals.{then-is_better, else-is_better}
 

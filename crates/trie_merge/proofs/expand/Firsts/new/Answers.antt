@@ -1,4 +1,4 @@
-use Rattle.std.proofs.Common.{◌≡◌, ℕ, refl, arith}
+use Rattle.std.proofs.Common.{refl, arith}
 use Rattle.trie_merge.proofs.Marks.{begun_start, begun_marked, begun_unmarked}
 use Rattle.trie_merge.proofs.expand.Firsts.new.Goals as goal
 use Rattle.trie_merge.proofs.expand.Firsts.new.Goals.{then-marks-byte, else-marks-byte}

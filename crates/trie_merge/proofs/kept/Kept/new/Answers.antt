@@ -1,5 +1,4 @@
-use Rattle.std.proofs.Common.{◌≡◌, ℕ, List, Bool, length, map, sym, ◌∙◌, ap, arith}
-use Rattle.trie_merge.specs.Kept.{is_wild_place, key_places}
+use Rattle.std.proofs.Common.{length, ◌∙◌, ap, arith}
 use Rattle.trie_merge.specs.Wild.{places_by, bits_by}
 use Rattle.trie_merge.proofs.WildSays.{length-wild, places_say, bits_say}
 use Rattle.trie_merge.proofs.kept.Kept.new.Goals as goal

@@ -1,4 +1,4 @@
-use Rattle.std.proofs.Common.{◌≡◌, ℕ, length, sym, ◌∙◌, ap, arith}
+use Rattle.std.proofs.Common.{◌≡◌, length, sym, ◌∙◌, ap, arith}
 use Rattle.trie_merge.proofs.Pieces.{length-pieces}
 use Rattle.trie_merge.proofs.levels.Level.len.Goals as goal
 
