@@ -34,9 +34,11 @@ fn run_len(text: &[u8], base: u32) -> usize
         .count()
 }
 
-/// What a text of digits spells. None where another byte stands in it, or where the value is above
-/// 64 bits.
-fn digits_value(text: &[u8], base: u32) -> Option<u64>
+/// What a text of digits of the base spells, and 0 for an empty text. None where another byte stands
+/// in it, or where the value is above 64 bits.
+///
+/// The base is 2 to 16. It takes no memory.
+pub fn digits_value(text: &[u8], base: u32) -> Option<u64>
     requires low { 2 ≤ base }
     requires high { base ≤ 16 }
     ensures { let value = place_value base text.now in

@@ -24,6 +24,7 @@ mod pieces;
 #[cfg(test)]
 mod tests;
 
+pub use digits::digits_value;
 pub use ip4::{ip4_text, put_ip4};
 pub use ip6::{ip6_text, put_ip6};
 pub use numeral::{number, whole_number};
