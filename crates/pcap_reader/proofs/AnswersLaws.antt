@@ -15,8 +15,8 @@ use Rattle.pcap_reader.proofs.NextLaws.{next_of-append, with_behind, IsDecided}
 use Rattle.pcap_reader.proofs.CaptureLaws.{next_cases, records_behind-record, records_behind-end, records_behind-fault}
 use Rattle.pcap_reader.proofs.StartLaws.{start_of-append}
 
--- what stands next has no record, and so have the bytes
-no_records : (start : Start) (count : ℕ) (left : List ℕ) → HasNoRecord (next_of start.order count left) →
+-- where what stands next has no record, the bytes have none
+pub no_records : (start : Start) (count : ℕ) (left : List ℕ) → HasNoRecord (next_of start.order count left) →
     (records_behind start count left).records ≡ []
 no_records start count left none =
     elim (next_cases (next_of start.order count left)) [
@@ -48,7 +48,7 @@ only_piece given pieces later order count none answers =
     ap (λ (l : List ℕ). given ++ l) (last_piece pieces later order (count + 1) none answers) ∙ append-nil given
 
 -- behind a fault there is no record in the bytes that it was the answer to
-unanswered : (order : Order) (count : ℕ) (given : List ℕ) (fault : CaptureFault) →
+pub unanswered : (order : Order) (count : ℕ) (given : List ℕ) (fault : CaptureFault) →
     IsNext order count given [] (Err fault) → HasNoRecord (next_of order count given)
 unanswered order count given ReadFault breaks =
     subst (λ l. HasNoRecord (next_of order count l)) (sym (breaks.parts ∙ append-nil breaks.front)) breaks.no_whole

@@ -12,7 +12,7 @@ use Rattle.pcap_reader.specs.Capture.{CaptureRecord, Recorded, capture_of, Next,
 use Rattle.pcap_reader.proofs.NextLaws.{IsOpen, captured_in, next_of-too_many, next_of-cut, next_of-too_long, next_of-short, next_of-record, next_of-append, with_behind, IsDecided}
 
 -- a record takes its header away at least
-abbrev IsShorter : List ℕ → Next → Type 0
+abbrev pub IsShorter : List ℕ → Next → Type 0
 IsShorter left End = Unit {0}
 IsShorter left (Record captured behind) = length behind + record_header_len ≤ length left
 IsShorter left (Fault fault) = Unit {0}
@@ -20,7 +20,7 @@ IsShorter left (Fault fault) = Unit {0}
 next_of-none : (order : Order) (count : ℕ) (left : List ℕ) → length left ≡ 0 → next_of order count left ≡ End
 next_of-none order count left none = rw (eq-eqb (length left) 0 none) refl
 
-next_of-shorter : (order : Order) (count : ℕ) (left : List ℕ) → IsShorter left (next_of order count left)
+pub next_of-shorter : (order : Order) (count : ℕ) (left : List ℕ) → IsShorter left (next_of order count left)
 next_of-shorter order count left =
     let at : (next : Next) → next_of order count left ≡ next → IsShorter left next →
     IsShorter left (next_of order count left) =
