@@ -34,7 +34,7 @@ known_or_absent (Some told) name old new known =
     elim (found_or_absent told name (bytes_of told.files name) refl) [ inl found ↦ inl ((known told refl found).1) | inr absent ↦ inr absent ]
 
 -- A file that can't be opened is a fault of the desk, or it is absent.
-cannot_open : (name : List ℕ) (old new : DeskView) → Rose old.read_faults new.read_faults ⊎ Rose old.absent new.absent →
+pub cannot_open : (name : List ℕ) (old new : DeskView) → Rose old.read_faults new.read_faults ⊎ Rose old.absent new.absent →
     IsKnown old.content name old new → CannotRead old new (λ files. bytes_of files name ≡ None)
 cannot_open name old new (inl rose) known = inl rose
 cannot_open name old new (inr rose) known =
@@ -47,6 +47,13 @@ told_files P keeps None None step = refl
 told_files P keeps (Some old) (Some new) step = ap Some (keeps old new step)
 told_files P keeps None (Some new) step = absurd step
 told_files P keeps (Some old) None step = absurd step
+
+-- where no file is opened, the files stay
+pub unopened_kept : {T E : Type 0} (name : List ℕ) (old new : DeskView) (e : E) → OpensFile {T = T} name old new (Err e) → KeepsFiles old new
+unopened_kept name old new e opens = record {
+  files = told_files GivesUp (λ a b step. step.files) old.content new.content opens.given_up;
+  counts = opens.counts;
+}
 
 -- The file can't be opened.
 pub ReadsFile-unopened : {T E : Type 0} (name : List ℕ) (cap : ℕ) (old new : DeskView) (e : E) → OpensFile {T = T} name old new (Err e) →
@@ -62,7 +69,7 @@ ReadsFile-unopened name cap old new e opens = record {
   read_fault = λ same. cannot_open name old new opens.cause opens.there;
   opened = λ files told. tt;
   absent = λ files told isnt. absurd (isnt refl);
-  kept = record { files = told_files GivesUp (λ a b step. step.files) old.content new.content opens.given_up; counts = opens.counts };
+  kept = unopened_kept name old new e opens;
 }
 
 -- an opening with its first bytes
@@ -70,7 +77,7 @@ begun : (name bytes : List ℕ) → with_bytes bytes (opening_of name true) ≡ 
 begun name [] = refl
 begun name (b ∷ bs) = refl
 
-heard_file : {T E : Type 0} (change : Heard → Heard) (name bytes : List ℕ) (old mid new : DeskView) (x : T) →
+pub heard_file : {T E : Type 0} (change : Heard → Heard) (name bytes : List ℕ) (old mid new : DeskView) (x : T) →
     OpensFile {E = E} name old mid (Ok x) → ReadsOn change bytes mid new →
     heard_of new ≡ change (record { name = name; bytes = bytes; ending = GoesOn }) ∷ heard_of old
 heard_file change name bytes old mid new x opens reads =
@@ -78,7 +85,7 @@ heard_file change name bytes old mid new x opens reads =
     ∙ ap (λ file. change file ∷ heard old.answers) (begun name bytes)
 
 -- what was read is a part of the told file
-part_told : (name bytes : List ℕ) (ending : Ending) (old mid new : Option Content) → Steps (Opens name) old mid → Steps (Gives bytes) mid new →
+pub part_told : (name bytes : List ℕ) (ending : Ending) (old mid new : Option Content) → Steps (Opens name) old mid → Steps (Gives bytes) mid new →
     (ending ≡ Ended → (content : Content) → new ≡ Some content → content.left ≡ []) →
     (files : List File) → option_map (λ c. c.files) old ≡ Some files → IsPartOf files (record { name = name; bytes = bytes; ending = ending })
 part_told name bytes ending None mid new opens gives ended files told = absurd (cc)
@@ -103,7 +110,7 @@ ended_told cap bytes (Some old) (Some new) gives few content told =
     let short : length old.left ≤ cap = omega (arith, ap length gives.given, length-take cap old.left, few) in
     rw (← at) (gives.left ∙ drop_all cap old.left short)
 
-opened_told : (name bytes : List ℕ) (old mid new : Option Content) → Steps (Opens name) old mid → Steps (Gives bytes) mid new →
+pub opened_told : (name bytes : List ℕ) (old mid new : Option Content) → Steps (Opens name) old mid → Steps (Gives bytes) mid new →
     (files : List File) → option_map (λ c. c.files) old ≡ Some files → option_map (λ c. c.opened) new ≡ Some (Some name)
 opened_told name bytes None mid new opens gives files told = absurd (cc)
 opened_told name bytes (Some old) None new opens gives files told = absurd opens
@@ -111,14 +118,14 @@ opened_told name bytes (Some old) (Some mid) None opens gives files told = absur
 opened_told name bytes (Some old) (Some mid) (Some new) opens gives files told = ap Some (gives.opened ∙ opens.opened)
 
 -- an opened file was there
-opened_absent : (name : List ℕ) (old new : DeskView) (old_content new_content : Option Content) →
+pub opened_absent : (name : List ℕ) (old new : DeskView) (old_content new_content : Option Content) →
     ((content : Content) → old_content ≡ Some content → IsSome (bytes_of content.files name) → new.absent ≡ old.absent) →
     Steps (Opens name) old_content new_content → (files : List File) → option_map (λ c. c.files) old_content ≡ Some files → new.absent ≡ old.absent
 opened_absent name old new None new_content there opens files told = absurd (cc)
 opened_absent name old new (Some content) None there opens files told = absurd opens
 opened_absent name old new (Some content) (Some after) there opens files told = there content refl (rw (opens.left) refl)
 
-kept_files : {T E : Type 0} (name bytes : List ℕ) (old mid new : DeskView) (x : T) → OpensFile {E = E} name old mid (Ok x) →
+pub kept_files : {T E : Type 0} (name bytes : List ℕ) (old mid new : DeskView) (x : T) → OpensFile {E = E} name old mid (Ok x) →
     Steps (Gives bytes) mid.content new.content → KeepsCounts mid new → KeepsFiles old new
 kept_files name bytes old mid new x opens gives counts = record {
   files =

@@ -1,31 +1,22 @@
 -- The links of a command: a step and then the rest, or an end in either. They serve every command.
-use Rattle.std.proofs.Common.{◌≡◌, ◌≢◌, ◌⊎◌, ℕ, List, [], ◌∷◌, ◌++◌, true, false, Option, Some, None, Result, Ok, Err, IfOk, IfErr, inl, inr, length, sym, ap, subst, ◌∙◌, refl, append-nil, arith}
+use Rattle.std.proofs.Common.{◌≡◌, ◌≢◌, ◌⊎◌, ℕ, ◌+◌, ◌≤◌, List, [], ◌∷◌, ◌++◌, Bool, true, false, Option, Some, None, Result, Ok, Err, IfOk, IfErr, inl, inr, length, sym, ap, subst, ◌∙◌, refl, append-nil, arith}
 use Rattle.std.proofs.lemmas.Bool.{false≢true}
 use Rattle.std.specs.Option.{option_map_or}
 use Rattle.std.specs.declared.vec.Vec.{Vec}
 use Rattle.std.specs.declared.alloc.Global.{Global}
+use Rattle.acl_outside.specs.Fault.{Rose}
 use Rattle.acl_outside.specs.Told.{Steps}
-use Rattle.acl_outside.specs.Desk.{File, DeskView}
-use Rattle.acl_outside.specs.Heard.{Heard}
-use Rattle.acl_outside.specs.Sink.{SinkView, Appends, Gains, GainsPrefix}
+use Rattle.acl_outside.specs.Desk.{File, DeskView, bytes_of}
+use Rattle.acl_outside.specs.Heard.{Heard, Ending, NotOpened, GoesOn, Ended, BrokenOff}
+use Rattle.acl_outside.specs.Sink.{SinkView, Gains, GainsPrefix}
 use Rattle.acl_tool.specs.declared.status.Status.{Status}
 use Rattle.acl_tool.specs.declared.status.Status.TheVariants.{Done, Usage, RulesRefused, CaptureRefused, ReadFault, WriteFault, OutOfMemory}
-use Rattle.acl_tool.specs.Plan.{Outcome, Plan, Give, ◌>>=◌, reading, unless_refused, found, settled}
-use Rattle.acl_tool.specs.Follow.{Reached, Given, Stopped, Before, Within, IsEnough, Follows, IsCutOff, outcome_of}
+use Rattle.acl_tool.specs.Plan.{Outcome, Plan, Give, Stop, ◌>>=◌, nothing, reading, unless_refused, found, settled}
+use Rattle.acl_tool.specs.Follow.{Reached, Given, Stopped, Before, Within, IsEnough, Follows, IsCutOff, said, said_in, outcome_of}
 use Rattle.acl_tool.specs.Outcome.{is_decided, is_reported, is_usage}
-use Rattle.acl_tool.specs.Effects.{files_of, heard_of, outside, KeepsFiles, CannotRead, ReadsFile, Takes, Prints, Ends}
-use Rattle.acl_tool.proofs.Plans.{carried, then_found, Follows-found, Follows-then, Follows-cut, found-then}
-
-none_written : (written : Option (List ℕ)) → Steps (Appends []) written written
-none_written None = tt
-none_written (Some bytes) = sym (append-nil bytes)
-
--- a sink that was left alone
-pub Gains-none : (view : SinkView) → Gains [] view view
-Gains-none view = record { taken = sym (append-nil view.taken); written = none_written view.written }
-
-pub GainsPrefix-none : (text : List ℕ) (view : SinkView) → GainsPrefix text view view
-GainsPrefix-none text view = record { prefix = []; rest = text; parts = refl; gains = Gains-none view }
+use Rattle.acl_tool.specs.Effects.{files_of, heard_of, outside, KeepsFiles, CannotRead, AsksForNothingAbsent, ReadsFile, Takes, Ends}
+use Rattle.acl_tool.proofs.Gained.{Gains-none, GainsPrefix-none}
+use Rattle.acl_tool.proofs.Plans.{carried, then_found, IsFound, Follows-found, Follows-then, Follows-cut, found-then}
 
 pub KeepsFiles-then : (old mid new : DeskView) → KeepsFiles old mid → KeepsFiles mid new → KeepsFiles old new
 KeepsFiles-then old mid new first second = record {
@@ -37,7 +28,7 @@ KeepsFiles-then old mid new first second = record {
 }
 
 -- a fault of the desk, for a reason that follows from another
-CannotRead-because : (P Q : List File → Type 0) (old new : DeskView) →
+pub CannotRead-because : (P Q : List File → Type 0) (old new : DeskView) →
     ((files : List File) → files_of old ≡ Some files → P files → Q files) → CannotRead old new P → CannotRead old new Q
 CannotRead-because P Q old new because (inl rose) = inl rose
 CannotRead-because P Q old new because (inr (rose, absent)) = inr (rose, λ files told. because files told (absent files told))
@@ -66,6 +57,16 @@ follows_stop : {A : Type 0} (told : Option (List File)) (result : Result A Statu
     result ≡ Err status → new ≡ old → Follows told (unless_refused result) old new (Stopped status)
 follows_stop told result status old new is same = rw is (same, refl)
 
+nothing_in : (ending : Ending) → said_in ending [] ≡ []
+nothing_in NotOpened = refl
+nothing_in GoesOn = refl
+nothing_in Ended = refl
+nothing_in BrokenOff = refl
+
+-- nothing is printed within a file that is read silently
+said-nothing : (file : Heard) → said nothing file ≡ []
+said-nothing file = nothing_in file.ending
+
 -- A file was read, and its bytes give a value or are refused.
 pub Takes-read : {X Y : Type 0} (name : List ℕ) (cap : ℕ) (parse : List ℕ → Result Y Status) (seen : X → Y) (old new : DeskView)
     (bytes : Vec ℕ Global) (items : List ℕ) (result : Result X Status) → ReadsFile name cap old new (Ok bytes) → items ≡ bytes.items →
@@ -78,16 +79,11 @@ Takes-read name cap parse seen old new bytes items (Ok x) read is_items long val
     let enough = read_enough (λ front. unless_refused (parse front)) name cap old new bytes read (λ front more e. ap unless_refused (long front more e)) in
     record {
       reached = Given (seen x);
-      follows = inr (
-        read.file,
-        read.named,
-        read.told,
-        inr (
-          enough,
-          follows_value (files_of old) (parse read.file.bytes) (seen x) (read.file ∷ heard_of old) (heard_of new)
-              (ap parse (read.bytes ∙ sym is_items) ∙ value) read.heard,
-        ),
-      );
+      follows = inr (read.file, read.named, read.told, inr (
+        enough,
+        follows_value (files_of old) (parse read.file.bytes) (seen x) (read.file ∷ heard_of old) (heard_of new)
+        (ap parse (read.bytes ∙ sym is_items) ∙ value) read.heard,
+      ));
       answer = refl;
       read_fault = λ e. absurd (cc);
       unreported = tt;
@@ -99,16 +95,11 @@ Takes-read name cap parse seen old new bytes items (Err status) read is_items lo
     let enough = read_enough (λ front. unless_refused (parse front)) name cap old new bytes read (λ front more e. ap unless_refused (long front more e)) in
     record {
       reached = Stopped status;
-      follows = inr (
-        read.file,
-        read.named,
-        read.told,
-        inr (
-          enough,
-          follows_stop (files_of old) (parse read.file.bytes) status (read.file ∷ heard_of old) (heard_of new)
-              (ap parse (read.bytes ∙ sym is_items) ∙ refused) read.heard,
-        ),
-      );
+      follows = inr (read.file, read.named, read.told, inr (
+        enough,
+        follows_stop (files_of old) (parse read.file.bytes) status (read.file ∷ heard_of old) (heard_of new)
+        (ap parse (read.bytes ∙ sym is_items) ∙ refused) read.heard,
+      ));
       answer = refl;
       read_fault = λ e. absurd (unread (cc));
       unreported = unreported;
@@ -118,7 +109,7 @@ Takes-read name cap parse seen old new bytes items (Err status) read is_items lo
     }
 Takes-read name cap parse seen old new bytes items (Err status) read is_items long value (inr full) unread unreported lawful = record {
   reached = Within read.file [];
-  follows = inr (read.file, read.named, read.told, inl (read.heard, refl));
+  follows = inr (read.file, read.named, read.told, inl (read.heard, ap (Within read.file) (sym (said-nothing read.file))));
   answer = (refl, inl full);
   read_fault = λ e. absurd (unread (cc));
   unreported = unreported;
@@ -142,7 +133,7 @@ pub Takes-unread : {X Y : Type 0} (name : List ℕ) (cap : ℕ) (f : List ℕ �
     ReadsFile name cap old new (Err status) → Takes (reading name >>= f) seen old new (Err status)
 Takes-unread name cap f seen old new status read = record {
   reached = Within read.file [];
-  follows = inr (read.file, read.named, read.told, inl (read.heard, refl));
+  follows = inr (read.file, read.named, read.told, inl (read.heard, ap (Within read.file) (sym (said-nothing read.file))));
   answer = (refl, unread_cut status _ read.fault);
   read_fault = λ e.
       CannotRead-because _ _ old new (λ files told none. ap (λ o. option_map_or (λ bytes. found (f bytes) files) o (Err ReadFault)) none)
@@ -226,56 +217,3 @@ write_or_not (CaptureRefused fault) = inr (λ e. absurd (cc))
 write_or_not ReadFault = inr (λ e. absurd (cc))
 write_or_not WriteFault = inl refl
 write_or_not OutOfMemory = inr (λ e. absurd (cc))
-
--- a status that isn't decided isn't that of a decided outcome
-undecided : (status expected : Status) → is_decided status ≡ false → is_decided expected ≡ true → status ≡ expected → ⊥
-undecided status expected isnt decided same = false≢true (sym isnt ∙ ap is_decided same ∙ decided)
-
--- The last file was read, and its outcome was printed.
-pub Ends-printed : (name : List ℕ) (cap : ℕ) (f : List ℕ → Outcome) (old new : DeskView) (bytes : Vec ℕ Global) (items : List ℕ)
-    (out_old out_new : SinkView) (status : Status) → ReadsFile name cap old new (Ok bytes) → items ≡ bytes.items →
-    ((front more : List ℕ) → length front ≡ cap → f (front ++ more) ≡ f front) → ((front : List ℕ) → is_decided (f front).status ≡ true) →
-    Prints (f items) out_old out_new status → Ends (reading name >>= λ front. Give (f front)) (outside old out_old) (outside new out_new) status
-Ends-printed name cap f old new bytes items out_old out_new status read is_items long decided prints =
-    let p : Prints (f read.file.bytes) out_old out_new status =
-    subst (λ (front : List ℕ). Prints (f front) out_old out_new status) (is_items ∙ sym read.bytes) prints in
-    let never : is_decided status ≡ false → status ≢ WriteFault → ⊥ =
-    λ isnt other. undecided status (f read.file.bytes).status isnt (decided read.file.bytes) (p.decided other).0 in
-    record {
-      reached = Given (f read.file.bytes);
-      follows = inr (
-        read.file,
-        read.named,
-        read.told,
-        inr (
-          read_enough (λ front. Give (f front)) name cap old new bytes read (λ front more e. ap Give (long front more e)),
-          (read.heard, refl),
-        ),
-      );
-      ended = elim (write_or_not status) [ inl is ↦ inr (inl is) | inr other ↦ inl ((p.decided other).0) ];
-      text = λ other full. (p.decided other).1;
-      prefix = λ e. (p.write_fault e).1;
-      out_of_memory = λ e. absurd (never (ap is_decided e) (λ w. absurd (cc)));
-      read_fault = λ e. absurd (never (ap is_decided e) (λ w. absurd (cc)));
-      write_fault = λ e. (p.write_fault e).0;
-      absent = λ files told isnt. read.absent files told (λ e. absurd (cc));
-      kept = read.kept;
-      count = p.count;
-    }
-
--- The last file was read, and there was no memory to print.
-pub Ends-full : (name : List ℕ) (cap : ℕ) (f : List ℕ → Plan Outcome) (old new : DeskView) (bytes : Vec ℕ Global) (out : SinkView) →
-    ReadsFile name cap old new (Ok bytes) → Ends (reading name >>= f) (outside old out) (outside new out) OutOfMemory
-Ends-full name cap f old new bytes out read = record {
-  reached = Within read.file [];
-  follows = inr (read.file, read.named, read.told, inl (read.heard, refl));
-  ended = inr (inr refl);
-  text = λ other full. absurd (full refl);
-  prefix = λ e. absurd (cc);
-  out_of_memory = λ e. Gains-none out;
-  read_fault = λ e. absurd (cc);
-  write_fault = λ e. absurd (cc);
-  absent = λ files told isnt. read.absent files told (λ e. absurd (cc));
-  kept = read.kept;
-  count = omega arith;
-}

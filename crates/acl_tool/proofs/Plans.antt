@@ -29,7 +29,8 @@ heard_enough next files file part (inl ended) =
     ap (λ bytes. found (next (file.bytes ++ bytes)) files) (part.whole ended) ∙ ap (λ bytes. found (next bytes) files) (append-nil file.bytes)
 heard_enough next files file part (inr on) = ap (λ plan. found plan files) ((on.1) part.rest)
 
-found_next : {A : Type 0} (told : Option (List File)) (files : List File) (name : List ℕ) (next : List ℕ → Plan A) (file : Heard) →
+-- what the whole of a file comes to, of which enough was heard
+pub found_next : {A : Type 0} (told : Option (List File)) (files : List File) (name : List ℕ) (next : List ℕ → Plan A) (file : Heard) →
     told ≡ Some files → file.name ≡ name → IsOneOf told file → IsEnough next file →
     option_map_or (λ bytes. found (next bytes) files) (bytes_of files name) (Err ReadFault) ≡ found (next file.bytes) files
 found_next told files name next file at_files is_name one enough =

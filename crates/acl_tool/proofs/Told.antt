@@ -1,45 +1,75 @@
 -- What holds of a command against the files, where the desk tells them.
-use Rattle.std.proofs.Common.{◌≡◌, ◌⊎◌, ℕ, List, [], ◌∷◌, true, false, Option, Some, Result, Ok, Err, inl, inr, sym, ap, subst, ◌∙◌, refl}
+use Rattle.std.proofs.Common.{◌≡◌, ◌⊎◌, ℕ, List, [], ◌∷◌, ◌++◌, true, false, Option, Some, None, Result, Ok, Err, inl, inr, sym, ap, subst, ◌∙◌, refl, append-nil}
 use Rattle.std.proofs.lemmas.Bool.{false≢true}
 use Rattle.std.specs.Prelude.{⊤}
-use Rattle.acl_outside.specs.Desk.{File}
+use Rattle.acl_outside.specs.Fault.{Rose}
+use Rattle.acl_outside.specs.Desk.{File, bytes_of}
 use Rattle.acl_outside.specs.Heard.{Heard, Ending, NotOpened, GoesOn, Ended, BrokenOff}
 use Rattle.acl_outside.specs.Sink.{SinkView, Gains, GainsPrefix}
 use Rattle.acl_outside.proofs.WritingLaws.{GainsPrefix-more}
 use Rattle.acl_tool.specs.declared.status.Status.{Status}
 use Rattle.acl_tool.specs.declared.status.Status.TheVariants.{ReadFault, WriteFault, OutOfMemory}
-use Rattle.acl_tool.specs.Plan.{Outcome, Plan, Give, Stop, Read, ◌>>=◌, unless_refused, found, settled}
-use Rattle.acl_tool.specs.Follow.{Reached, Given, Stopped, Before, Within, Follows, outcome_of, status_within}
+use Rattle.acl_tool.specs.Plan.{Outcome, Plan, Give, Stop, Read, ◌>>=◌, unless_refused, found, settled, silent}
+use Rattle.acl_tool.specs.Follow.{Reached, Given, Stopped, Before, Within, IsOpened, IsPartOf, IsOneOf, Follows, said, said_in, outcome_of, status_within}
 use Rattle.acl_tool.specs.Outcome.{is_decided}
 use Rattle.acl_tool.specs.Effects.{Outside, files_of, heard_of, CannotRead, HasNoFault, Ends, EndsAsTold}
-use Rattle.acl_tool.proofs.Plans.{IsFound, Follows-found}
+use Rattle.acl_tool.proofs.Plans.{IsFound, Follows-found, found_next}
 
--- A plan that prints nothing while it reads.
-abbrev pub IsQuiet : {A : Type 0} → Plan A → Type 0
-IsQuiet (Give value) = ⊤
-IsQuiet (Stop status) = ⊤
-IsQuiet (Read name printed next) = ((bytes : List ℕ) → printed bytes ≡ []) × ((bytes : List ℕ) → IsQuiet (next bytes))
+-- a text begins with another
+pub record BeginsWith (front text : List ℕ) : Type 0 where
+  pub rest : List ℕ
+  pub parts : text ≡ front ++ rest
 
-pub quiet_unless : {A B : Type 0} (result : Result A Status) (f : A → Plan B) → ((value : A) → IsQuiet (f value)) →
-    IsQuiet (unless_refused result >>= f)
-quiet_unless (Ok value) f quiet = quiet value
-quiet_unless (Err status) f quiet = tt
+pub BeginsWith-nothing : (text : List ℕ) → BeginsWith [] text
+BeginsWith-nothing text = record { rest = text; parts = refl }
 
--- nothing was printed within a file
-abbrev SaysNothing : {A : Type 0} → Reached A → Type 0
-SaysNothing (Given value) = ⊤
-SaysNothing (Stopped status) = ⊤
-SaysNothing (Before name) = ⊤
-SaysNothing (Within file text) = text ≡ []
+BeginsWith-same : (text : List ℕ) → BeginsWith text text
+BeginsWith-same text = record { rest = []; parts = sym (append-nil text) }
 
-Follows-quiet : {A : Type 0} (plan : Plan A) (told : Option (List File)) (old new : List Heard) (reached : Reached A) →
-    IsQuiet plan → Follows told plan old new reached → SaysNothing reached
-Follows-quiet (Give value) told old new reached quiet h = rw (h.1) tt
-Follows-quiet (Stop status) told old new reached quiet h = rw (h.1) tt
-Follows-quiet (Read name printed next) told old new reached quiet (inl before) = rw (before.1) tt
-Follows-quiet (Read name printed next) told old new reached quiet (inr (file, is_name, one, inl within)) = rw (within.1) ((quiet.0) file.bytes)
-Follows-quiet (Read name printed next) told old new reached quiet (inr (file, is_name, one, inr (enough, rest))) =
-    Follows-quiet (next file.bytes) told (file ∷ old) new reached ((quiet.1) file.bytes) rest
+-- What a plan prints while it reads a file is the first part of what is printed in all, where these files are there.
+abbrev pub IsFaithful : List File → Plan Outcome → Type 0
+IsFaithful files (Give value) = ⊤
+IsFaithful files (Stop status) = ⊤
+IsFaithful files (Read name printed next) =
+    ((bytes more : List ℕ) → BeginsWith (printed bytes) (settled (found (next (bytes ++ more)) files)).text)
+    × ((bytes : List ℕ) → IsFaithful files (next bytes))
+
+pub faithful_unless : {A : Type 0} (files : List File) (result : Result A Status) (f : A → Plan Outcome) → ((value : A) → IsFaithful files (f value)) →
+    IsFaithful files (unless_refused result >>= f)
+faithful_unless files (Ok value) f each = each value
+faithful_unless files (Err status) f each = tt
+
+part_text : (files : List File) (file : Heard) (name : List ℕ) (printed : List ℕ → List ℕ) (next : List ℕ → Plan Outcome) →
+    file.name ≡ name → IsPartOf files file →
+    ((bytes more : List ℕ) → BeginsWith (printed bytes) (settled (found (next (bytes ++ more)) files)).text) →
+    BeginsWith (printed file.bytes) (settled (found (Read name printed next) files)).text
+part_text files file name printed next is_name part begins =
+    let there : bytes_of files name ≡ Some (file.bytes ++ part.rest) = ap (bytes_of files) (sym is_name) ∙ part.there in
+    rw there (begins file.bytes part.rest)
+
+-- the text within a file, by how its reading stands
+within_text : (ending : Ending) (files : List File) (file : Heard) (name : List ℕ) (printed : List ℕ → List ℕ) (next : List ℕ → Plan Outcome) →
+    file.ending ≡ ending → file.name ≡ name → ((files_there : IsOpened ending) → IsPartOf files file) →
+    ((bytes more : List ℕ) → BeginsWith (printed bytes) (settled (found (next (bytes ++ more)) files)).text) →
+    BeginsWith (said_in ending (printed file.bytes)) (settled (found (Read name printed next) files)).text
+within_text NotOpened files file name printed next is is_name part begins = BeginsWith-nothing _
+within_text GoesOn files file name printed next is is_name part begins = part_text files file name printed next is_name (part tt) begins
+within_text Ended files file name printed next is is_name part begins = part_text files file name printed next is_name (part tt) begins
+within_text BrokenOff files file name printed next is is_name part begins = part_text files file name printed next is_name (part tt) begins
+
+-- What was printed of an outcome of what was heard is the first part of what the files give.
+Follows-text : (plan : Plan Outcome) (told : Option (List File)) (files : List File) (old new : List Heard) (reached : Reached Outcome) →
+    told ≡ Some files → IsFaithful files plan → Follows told plan old new reached →
+    BeginsWith (outcome_of reached).text (settled (found plan files)).text
+Follows-text (Give value) told files old new reached at_files faithful h = rw (h.1) (BeginsWith-same value.text)
+Follows-text (Stop status) told files old new reached at_files faithful h = rw (h.1) (BeginsWith-same [])
+Follows-text (Read name printed next) told files old new reached at_files faithful (inl before) = rw (before.1) (BeginsWith-nothing _)
+Follows-text (Read name printed next) told files old new reached at_files faithful (inr (file, is_name, one, inl within)) =
+    rw (within.1)
+    (within_text file.ending files file name printed next refl is_name (λ opened. one files at_files opened) (faithful.0))
+Follows-text (Read name printed next) told files old new reached at_files faithful (inr (file, is_name, one, inr (enough, rest))) =
+    rw (found_next told files name next file at_files is_name one enough)
+    (Follows-text (next file.bytes) told files (file ∷ old) new reached at_files ((faithful.1) file.bytes) rest)
 
 undecided_within : (ending : Ending) → is_decided (status_within ending) ≡ false
 undecided_within NotOpened = refl
@@ -55,14 +85,9 @@ decided_outcome files (Stopped status) result is decided = ap settled (sym is)
 decided_outcome files (Before name) result is decided = absurd (false≢true decided)
 decided_outcome files (Within file text) result is decided = absurd (false≢true (sym (undecided_within file.ending) ∙ decided))
 
--- what was printed of an outcome of what was heard was printed of that of the files
-told_prefix : (files : List File) (reached : Reached Outcome) (result : Result Outcome Status) (old new : SinkView) → IsFound files reached result →
-    SaysNothing reached → GainsPrefix (outcome_of reached).text old new → GainsPrefix (settled result).text old new
-told_prefix files (Given outcome) result old new is quiet prefix = rw is prefix
-told_prefix files (Stopped status) result old new is quiet prefix = rw is prefix
-told_prefix files (Before name) result old new is quiet prefix = GainsPrefix-more [] (settled result).text old new prefix
-told_prefix files (Within file text) result old new is quiet prefix =
-    GainsPrefix-more [] (settled result).text old new (rw quiet at prefix)
+-- a prefix of a first part
+prefix_of : (front text : List ℕ) (old new : SinkView) → BeginsWith front text → GainsPrefix front old new → GainsPrefix text old new
+prefix_of front text old new begins prefix = rw begins.parts (GainsPrefix-more front begins.rest old new prefix)
 
 -- the status of a decided end is that of what was heard
 decided_status : (status expected : Status) → (status ≡ expected) ⊎ ((status ≡ WriteFault) ⊎ (status ≡ OutOfMemory)) →
@@ -72,9 +97,10 @@ decided_status status expected (inr (inl write)) decided = absurd (false≢true 
 decided_status status expected (inr (inr full)) decided = absurd (false≢true (ap is_decided (sym full) ∙ decided))
 
 -- Where the files are told, a command ends by the outcome of the files.
-pub Ends-told : (plan : Plan Outcome) (old new : Outside) (status : Status) → IsQuiet plan → Ends plan old new status →
+pub Ends-told : (plan : Plan Outcome) (old new : Outside) (status : Status) →
+    ((files : List File) → IsFaithful files plan) → Ends plan old new status →
     (files : List File) → files_of old.desk ≡ Some files → EndsAsTold (settled (found plan files)) old new status
-Ends-told plan old new status quiet ends files told =
+Ends-told plan old new status faithful ends files told =
     let is = Follows-found plan (files_of old.desk) files (heard_of old.desk) (heard_of new.desk) ends.reached told ends.follows in
     let same : is_decided status ≡ true → outcome_of ends.reached ≡ settled (found plan files) =
     λ decided. decided_outcome files ends.reached (found plan files) is
@@ -86,8 +112,9 @@ Ends-told plan old new status quiet ends files told =
           subst (λ (o : Outcome). Gains o.text old.out new.out) (same decided)
           (ends.text (λ write. false≢true (ap is_decided (sym write) ∙ decided)) (λ full. false≢true (ap is_decided (sym full) ∙ decided)));
       prefix = λ write.
-          told_prefix files ends.reached (found plan files) old.out new.out is
-          (Follows-quiet plan (files_of old.desk) (heard_of old.desk) (heard_of new.desk) ends.reached quiet ends.follows) (ends.prefix write);
+          prefix_of (outcome_of ends.reached).text (settled (found plan files)).text old.out new.out
+          (Follows-text plan (files_of old.desk) files (heard_of old.desk) (heard_of new.desk) ends.reached told (faithful files) ends.follows)
+          (ends.prefix write);
     }
 
 no_read_fault : (P : List File → Type 0) (old new : Outside) → HasNoFault old new → CannotRead old.desk new.desk P → ⊥

@@ -1,5 +1,5 @@
 -- What a part of a command says of the outside, before and after it.
-use Rattle.std.specs.Prelude.{◌≡◌, ◌≢◌, ℕ, ◌≤◌, ◌⊎◌, List, [], ◌∷◌, length, false, true, Option, Some, None, Result, Ok, Err, IfOk, IfErr}
+use Rattle.std.specs.Prelude.{◌≡◌, ◌≢◌, ℕ, ◌+◌, ◌≤◌, ◌⊎◌, List, [], ◌∷◌, length, false, true, Option, Some, None, Result, Ok, Err, IfOk, IfErr}
 use Rattle.std.specs.Option.{option_map}
 use Rattle.std.specs.declared.vec.Vec.{Vec}
 use Rattle.std.specs.declared.alloc.Global.{Global}
@@ -10,11 +10,15 @@ use Rattle.acl_outside.specs.Sink.{SinkView, Gains, GainsPrefix}
 use Rattle.acl_tool.specs.declared.status.Status.{Status}
 use Rattle.acl_tool.specs.declared.status.Status.TheVariants.{Usage, ReadFault, WriteFault, OutOfMemory}
 use Rattle.acl_tool.specs.declared.status.UsageFault.{UsageFault}
+use Rattle.pcap_reader.specs.Capture.{whole_records}
+use Rattle.acl_tool.specs.Verdicts.{Classifier}
+use Rattle.acl_tool.specs.Report.{lines_in}
+use Rattle.acl_tool.specs.Taken.{max_batch}
 use Rattle.acl_tool.specs.Command.{Request, capture_name, command}
 use Rattle.acl_tool.specs.Message.{message}
 use Rattle.acl_tool.specs.Plan.{Outcome, Plan, found, settled}
 use Rattle.acl_tool.specs.Follow.{Reached, Given, Follows, IsOneOf, IsCutOff, outcome_of, status_within}
-use Rattle.acl_tool.specs.Outcome.{is_decided, is_reported, is_usage, outcome, plan_of}
+use Rattle.acl_tool.specs.Outcome.{is_decided, is_reported, is_usage, outcome, plan_of, reported}
 
 -- the files of a desk that tells them
 abbrev pub files_of : DeskView → Option (List File)
@@ -23,6 +27,10 @@ files_of desk = option_map (λ content. content.files) desk.content
 -- the name of the opened file, of a desk that tells it
 abbrev pub opened_of : DeskView → Option (Option (List ℕ))
 opened_of desk = option_map (λ content. content.opened) desk.content
+
+abbrev pub earlier_of : List Heard → List Heard
+earlier_of [] = []
+earlier_of (file ∷ files) = files
 
 -- what a desk was asked for, one opening after the other, newest first
 abbrev pub heard_of : DeskView → List Heard
@@ -81,12 +89,6 @@ pub record Takes {X Y : Type 0} (plan : Plan Y) (seen : X → Y) (old new : Desk
   pub absent : AsksForNothingAbsent old new (result ≡ Err ReadFault)
   pub kept : KeepsFiles old new
 
--- A text was put to a sink: all of it with the status that goes with it, or a prefix of it where the sink failed.
-pub record Prints (expected : Outcome) (old new : SinkView) (status : Status) : Type 0 where
-  pub decided : status ≢ WriteFault → (status ≡ expected.status) × Gains expected.text old new
-  pub write_fault : status ≡ WriteFault → Rose old.faults new.faults × GainsPrefix expected.text old new
-  pub count : old.faults ≤ new.faults
-
 -- A command ended by its plan. So it is for every desk and sink: the status and the bytes that `out` took are those of the
 -- outcome of what was heard, each file was opened once, and nothing else was asked for.
 pub record Ends (plan : Plan Outcome) (old new : Outside) (status : Status) : Type 0 where
@@ -115,6 +117,22 @@ pub record PutsLine (line : List ℕ) (old new : SinkView) : Type 0 where
   pub told : Gains line old new ⊎ (Rose old.faults new.faults × GainsPrefix line old new)
   pub count : old.faults ≤ new.faults
 
+-- Of the records that were heard of the named capture at most a batch has no line in what the sink gained.
+pub record KeepsUp (name : List ℕ) (old new : Outside) : Type 0 where
+  pub file : Heard
+  pub named : file.name ≡ name
+  pub newest : heard_of new.desk ≡ file ∷ earlier_of (heard_of new.desk)
+  pub put : List ℕ
+  pub gains : Gains put old.out new.out
+  pub few : length (whole_records file.bytes) ≤ lines_in put + max_batch
+
+-- The report of the named capture was printed as far as its plan was followed.
+pub record Reports (classifier : Classifier) (name : List ℕ) (old new : Outside) (status : Status) : Type 0 where
+  pub ends : Ends (reported classifier name) old new status
+  pub lawful : is_usage status ≡ false
+  pub opened : (files : List File) → files_of old.desk ≡ Some files → is_reported status ≡ true → opened_of new.desk ≡ Some (Some name)
+  pub keeps_up : status ≡ WriteFault → KeepsUp name old new
+
 -- No count of the desk or of the sink rose.
 pub record HasNoFault (old new : Outside) : Type 0 where
   pub read_faults : ¬ Rose old.desk.read_faults new.desk.read_faults
@@ -132,6 +150,8 @@ pub record Answers (request : Result Request UsageFault) (old new : Outside) (st
   pub told : (files : List File) → files_of old.desk ≡ Some files → EndsAsTold (settled (found (plan_of request) files)) old new status
   pub opened : (files : List File) → files_of old.desk ≡ Some files → is_reported status ≡ true →
       IfOk request (λ r. opened_of new.desk ≡ Some (Some (capture_name r)))
+  -- lines are put soon after their records were read
+  pub keeps_up : status ≡ WriteFault → IfOk request (λ r. KeepsUp (capture_name r) old new)
 
 -- All that `run` promises.
 pub record Runs (words : List (List ℕ)) (old new : Outside) (err_old err_new : SinkView) (status : Status) : Type 0 where

@@ -35,6 +35,16 @@ pub record IsPartOf (files : List File) (file : Heard) : Type 0 where
 abbrev pub IsOneOf : Option (List File) → Heard → Type 0
 IsOneOf told file = (files : List File) → told ≡ Some files → IsOpened file.ending → IsPartOf files file
 
+-- what is printed once so much of a file was heard, and nothing where it couldn't be opened
+abbrev pub said_in : Ending → List ℕ → List ℕ
+said_in NotOpened text = []
+said_in GoesOn text = text
+said_in Ended text = text
+said_in BrokenOff text = text
+
+abbrev pub said : (List ℕ → List ℕ) → Heard → List ℕ
+said printed file = said_in file.ending (printed file.bytes)
+
 -- What was heard newly is one opening for each reading of the plan, in its order and of the files that are told, and the
 -- plan was followed so far. Openings stand newest first.
 abbrev pub Follows : {A : Type 0} → Option (List File) → Plan A → List Heard → List Heard → Reached A → Type 0
@@ -43,8 +53,8 @@ Follows told (Stop status) old new reached = (new ≡ old) × (reached ≡ Stopp
 Follows told (Read name printed next) old new reached =
     ((new ≡ old) × (reached ≡ Before name))
     ⊎ ((file : Heard) × (file.name ≡ name) × IsOneOf told file × (
-    ((new ≡ file ∷ old) × (reached ≡ Within file (printed file.bytes)))
-    ⊎ (IsEnough next file × Follows told (next file.bytes) (file ∷ old) new reached)))
+      ((new ≡ file ∷ old) × (reached ≡ Within file (said printed file)))
+      ⊎ (IsEnough next file × Follows told (next file.bytes) (file ∷ old) new reached)))
 
 -- Where a command ends within a file, the file couldn't be read, or memory ran out.
 abbrev pub status_within : Ending → Status

@@ -5,16 +5,16 @@ use Rattle.std.specs.Fmt.{digits}
 use Rattle.acl_outside.specs.Desk.{File}
 use Rattle.acl_outside.specs.Heard.{Heard, Ending, NotOpened, GoesOn, Ended, BrokenOff}
 use Rattle.acl_tool.specs.declared.status.Status.TheVariants.{Done, RulesRefused, ReadFault, OutOfMemory}
-use Rattle.acl_tool.specs.declared.status.LineKind.TheVariants.{BadStart}
+use Rattle.classbench_reader.specs.declared.fault.LineKind.TheVariants.{BadStart}
+use Rattle.pcap_reader.specs.StartExamples.{ethernet_header}
 use Rattle.acl_tool.specs.Command.{Classify}
 use Rattle.acl_tool.specs.Plan.{Outcome, Plan, silent}
 use Rattle.acl_tool.specs.Follow.{Given, Stopped, Before, Within, IsOneOf, Follows, outcome_of}
 use Rattle.acl_tool.specs.Outcome.{plan_of_request}
-use Rattle.acl_tool.specs.CaptureExamples.{file_header}
 
 -- a `classify` of the files r and c
 abbrev classify : Plan Outcome
-classify = plan_of_request (Classify (codes "r") (codes "c"))
+classify = plan_of_request (Classify (codes "r") (codes "c") (record { categories = 1 }))
 
 abbrev rules_file : List ℕ → Ending → Heard
 rules_file bytes ending = record { name = codes "r"; bytes = bytes; ending = ending }
@@ -31,11 +31,11 @@ untold : (file : Heard) → IsOneOf None file
 untold file files told opened = absurd (subst IsUntold told tt)
 
 -- both files were read to their ends, in this order
-whole : Follows None classify [] (capture_file file_header Ended ∷ rules_file [] Ended ∷ []) (Given (record {
+whole : Follows None classify [] (capture_file ethernet_header Ended ∷ rules_file [] Ended ∷ []) (Given (record {
   status = Done;
   text = codes "packets 0 ip4 0 ip6 0 other 0 short 0\n";
 }))
-unfolding digits file_header
+unfolding digits
 whole =
     inr (
       rules_file [] Ended,
@@ -43,13 +43,13 @@ whole =
       untold (rules_file [] Ended),
       inr (
         inl refl,
-        inr (capture_file file_header Ended, refl, untold (capture_file file_header Ended), inr (inl refl, (refl, refl))),
+        inr (capture_file ethernet_header Ended, refl, untold (capture_file ethernet_header Ended), inr (inl refl, (refl, refl))),
       ),
     )
 
 -- a refused rule file ends the command before the capture is opened
-refused : Follows None classify [] (rules_file (10 ∷ []) Ended ∷ []) (Stopped (RulesRefused (record { line = 1; kind = BadStart })))
-refused = inr (rules_file (10 ∷ []) Ended, refl, untold (rules_file (10 ∷ []) Ended), inr (inl refl, (refl, refl)))
+refused : Follows None classify [] (rules_file (120 ∷ []) Ended ∷ []) (Stopped (RulesRefused (record { line = 1; kind = BadStart })))
+refused = inr (rules_file (120 ∷ []) Ended, refl, untold (rules_file (120 ∷ []) Ended), inr (inl refl, (refl, refl)))
 
 -- the rule file couldn't be opened
 absent : Follows None classify [] (rules_file [] NotOpened ∷ []) (Within (rules_file [] NotOpened) [])

@@ -3,33 +3,57 @@ use Rattle.std.specs.Prelude.{ℕ, ◌+◌, List, [], ◌∷◌, ◌++◌, codes
 use Rattle.acl_tool.specs.declared.status.Status.{Status}
 use Rattle.acl_tool.specs.declared.status.Status.TheVariants.{Done, Usage, RulesRefused, CaptureRefused, ReadFault, WriteFault, OutOfMemory}
 use Rattle.acl_tool.specs.declared.status.UsageKind.{UsageKind}
-use Rattle.acl_tool.specs.declared.status.UsageKind.TheVariants.{UnknownCommand}
-use Rattle.acl_tool.specs.declared.status.LineKind.{LineKind}
-use Rattle.acl_tool.specs.declared.status.LineKind.TheVariants.{FileTooLong, BadStart}
-use Rattle.acl_tool.specs.declared.status.CaptureFault.{CaptureFault}
-use Rattle.acl_tool.specs.declared.status.CaptureFault.TheVariants.{Magic, RecordCut, TooManyRecords}
+use Rattle.acl_tool.specs.declared.status.UsageKind.TheVariants.{MissingCommand, UnknownCommand, MissingName, UnknownOption, RepeatedOption, BadValue}
+use Rattle.classbench_reader.specs.declared.fault.LineKind.{LineKind}
+use Rattle.classbench_reader.specs.declared.fault.LineKind.TheVariants.{FileTooLong, TooManyRules, BadStart, BadAddress, BadPrefix, MixedFamilies, BadPorts, EmptyRange, BadProtocol, BadFlags, BadAttribute, TailLeft, NoCategory, PriorityRange}
+use Rattle.pcap_reader.specs.declared.fault.CaptureFault.{CaptureFault}
+use Rattle.pcap_reader.specs.declared.fault.CaptureFault.TheVariants.{HeaderCut, Magic, Version, LinkType, RecordCut, RecordTooLong, TooManyRecords, ReadFault as CannotRead}
+use Rattle.pcap_reader.specs.Capture.{max_records}
 
 abbrev pub usage_text : UsageKind → List ℕ
+usage_text MissingCommand = codes "missing command"
 usage_text UnknownCommand = codes "unknown command"
+usage_text MissingName = codes "missing name"
+usage_text UnknownOption = codes "unknown option"
+usage_text RepeatedOption = codes "repeated option"
+usage_text BadValue = codes "bad value"
 
 abbrev pub line_text : LineKind → List ℕ
 line_text FileTooLong = codes "file too long"
+line_text TooManyRules = codes "too many rules"
 line_text BadStart = codes "bad start"
+line_text BadAddress = codes "bad address"
+line_text BadPrefix = codes "bad prefix"
+line_text MixedFamilies = codes "mixed families"
+line_text BadPorts = codes "bad ports"
+line_text EmptyRange = codes "empty range"
+line_text BadProtocol = codes "bad protocol"
+line_text BadFlags = codes "bad flags"
+line_text BadAttribute = codes "bad attribute"
+line_text TailLeft = codes "tail left"
+line_text NoCategory = codes "no category"
+line_text PriorityRange = codes "priority range"
 
 abbrev pub capture_text : CaptureFault → List ℕ
+capture_text HeaderCut = codes "header cut"
 capture_text Magic = codes "magic"
+capture_text Version = codes "version"
+capture_text LinkType = codes "link type"
 capture_text (RecordCut number) = codes "cut"
+capture_text (RecordTooLong number) = codes "too long"
 capture_text TooManyRecords = codes "too many"
-
--- how many records a capture may have
-abbrev pub max_records : ℕ
-max_records = 1000000000
+capture_text CannotRead = codes "read fault"
 
 -- the number of the record that a fault names: 0 for the file header, and one more than the greatest for too many
 abbrev pub record_of_fault : CaptureFault → ℕ
+record_of_fault HeaderCut = 0
 record_of_fault Magic = 0
+record_of_fault Version = 0
+record_of_fault LinkType = 0
 record_of_fault (RecordCut number) = number
+record_of_fault (RecordTooLong number) = number
 record_of_fault TooManyRecords = max_records + 1
+record_of_fault CannotRead = 0
 
 -- what stands behind the program's name, a number and a kind
 abbrev pub numbered : List ℕ → ℕ → List ℕ → List ℕ

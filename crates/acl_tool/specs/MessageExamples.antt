@@ -2,15 +2,16 @@
 use Rattle.std.specs.Prelude.{◌≡◌, [], ◌∷◌, codes, refl, map}
 use Rattle.std.specs.Fmt.{digits}
 use Rattle.acl_tool.specs.declared.status.Status.TheVariants.{Done, Usage, RulesRefused, CaptureRefused, ReadFault, WriteFault, OutOfMemory}
-use Rattle.acl_tool.specs.declared.status.LineKind.TheVariants.{FileTooLong, BadStart}
-use Rattle.acl_tool.specs.declared.status.CaptureFault.TheVariants.{Magic, RecordCut, TooManyRecords}
-use Rattle.acl_tool.specs.Command.{unknown_command}
-use Rattle.acl_tool.specs.Message.{message, code_of}
+use Rattle.acl_tool.specs.declared.status.UsageKind.TheVariants.{MissingCommand, UnknownCommand, MissingName, UnknownOption, RepeatedOption, BadValue}
+use Rattle.classbench_reader.specs.declared.fault.LineKind.TheVariants.{FileTooLong, TooManyRules, BadStart, BadAddress, BadPrefix, MixedFamilies, BadPorts, EmptyRange, BadProtocol, BadFlags, BadAttribute, TailLeft, NoCategory, PriorityRange}
+use Rattle.pcap_reader.specs.declared.fault.CaptureFault.TheVariants.{HeaderCut, Magic, Version, LinkType, RecordCut, RecordTooLong, TooManyRecords}
+use Rattle.acl_tool.specs.Command.{fault_at}
+use Rattle.acl_tool.specs.Message.{message, usage_text, line_text, capture_text, code_of}
 
 done : message Done ≡ []
 done = refl
 
-usage : message (Usage unknown_command) ≡ codes "aclc: usage: word 1: unknown command\n"
+usage : message (Usage (fault_at 1 UnknownCommand)) ≡ codes "aclc: usage: word 1: unknown command\n"
 unfolding digits
 usage = refl
 
@@ -43,8 +44,30 @@ write_fault = refl
 out_of_memory : message OutOfMemory ≡ codes "aclc: out of memory\n"
 out_of_memory = refl
 
+usage_kinds : map usage_text (MissingCommand ∷ UnknownCommand ∷ MissingName ∷ UnknownOption ∷ RepeatedOption ∷ BadValue ∷ [])
+    ≡ codes "missing command" ∷ codes "unknown command" ∷ codes "missing name" ∷ codes "unknown option" ∷ codes "repeated option"
+    ∷ codes "bad value" ∷ []
+usage_kinds = refl
+
+line_kinds : map line_text (
+    FileTooLong ∷ TooManyRules ∷ BadStart ∷ BadAddress ∷ BadPrefix ∷ MixedFamilies ∷ BadPorts ∷ EmptyRange ∷ BadProtocol ∷ BadFlags
+    ∷ BadAttribute ∷ TailLeft ∷ NoCategory ∷ PriorityRange ∷ [])
+    ≡ codes "file too long" ∷ codes "too many rules" ∷ codes "bad start" ∷ codes "bad address" ∷ codes "bad prefix" ∷ codes "mixed families"
+    ∷ codes "bad ports" ∷ codes "empty range" ∷ codes "bad protocol" ∷ codes "bad flags" ∷ codes "bad attribute" ∷ codes "tail left"
+    ∷ codes "no category" ∷ codes "priority range" ∷ []
+line_kinds = refl
+
+capture_kinds : map capture_text (
+    HeaderCut ∷ Magic ∷ Version ∷ LinkType ∷ RecordCut 1 ∷ RecordTooLong 1 ∷ TooManyRecords ∷ [])
+    ≡ codes "header cut" ∷ codes "magic" ∷ codes "version" ∷ codes "link type" ∷ codes "cut" ∷ codes "too long" ∷ codes "too many" ∷ []
+capture_kinds = refl
+
+long_record : message (CaptureRefused (RecordTooLong 7)) ≡ codes "aclc: capture: record 7: too long\n"
+unfolding digits
+long_record = refl
+
 -- each status has a code of its own
 all_codes : map code_of (
-    Done ∷ Usage unknown_command ∷ RulesRefused (record { line = 1; kind = BadStart }) ∷ CaptureRefused Magic
+    Done ∷ Usage (fault_at 1 UnknownCommand) ∷ RulesRefused (record { line = 1; kind = BadStart }) ∷ CaptureRefused Magic
     ∷ ReadFault ∷ WriteFault ∷ OutOfMemory ∷ []) ≡ 0 ∷ 2 ∷ 3 ∷ 5 ∷ 7 ∷ 8 ∷ 9 ∷ []
 all_codes = refl

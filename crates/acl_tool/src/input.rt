@@ -1,23 +1,24 @@
 //! The files that a command reads.
 
 ghost use Rattle.std.specs.Prelude.{◌≡◌, ◌≢◌, ◌⊎◌, false, Ok, Err, IfOk, IfErr};
-ghost use Rattle.field_defs.specs.Layout.{ip4_fields};
+ghost use Rattle.field_defs.specs.Layout.{ip4_fields, ip6_fields};
 ghost use Rattle.acl_tool.specs.Outcome.{is_reported, is_usage, rules_in, rules_of_bytes};
+ghost use Rattle.acl_tool.specs.Verdicts.{lists_of};
 ghost use Rattle.acl_tool.specs.Effects.{ReadsFile, Takes};
 
-use crate::rule_file::{MAX_RULE_FILE, RulesFault, read_rules};
 use crate::status::Status;
 use acl_outside::{Desk, Failed, ReadAll, read_up_to};
-use rule_set::RuleSet;
+use classbench_reader::{MAX_RULE_FILE, RuleFile, RulesFault, read_rules};
 use std::alloc::Global;
 
 /// The rules of the named file. It takes the memory of the file and of the rules.
 ///
 /// The file is read as far as one byte more than a rule file may have. A file that isn't there or can't be read is a
 /// read fault.
-pub fn read_rule_file<D: Desk>(alloc: Global, name: &str, desk: &mut D) -> Result<RuleSet, Status>
-    ensures taken { Takes (rules_in name.now) (λ set. set.rules) (D.view desk.old) (D.view desk.new) result }
-    ensures layout { IfOk result (λ set. set.layout ≡ ip4_fields) }
+pub fn read_rule_file<D: Desk>(alloc: Global, name: &str, desk: &mut D) -> Result<RuleFile, Status>
+    ensures taken { Takes (rules_in name.now) lists_of (D.view desk.old) (D.view desk.new) result }
+    ensures ip4 { IfOk result (λ rules. rules.ip4.layout ≡ ip4_fields) }
+    ensures ip6 { IfOk result (λ rules. rules.ip6.layout ≡ ip6_fields) }
 {
     match read_file(alloc, name, MAX_RULE_FILE + 1, desk) {
         Ok(bytes) => rules_of(alloc, &bytes),
@@ -26,13 +27,14 @@ pub fn read_rule_file<D: Desk>(alloc: Global, name: &str, desk: &mut D) -> Resul
 }
 
 /// The rules of a file, or the status of its fault.
-fn rules_of(alloc: Global, bytes: &[u8]) -> Result<RuleSet, Status>
-    ensures rules { IfOk result (λ set. rules_of_bytes bytes.now ≡ Ok set.rules) }
+fn rules_of(alloc: Global, bytes: &[u8]) -> Result<RuleFile, Status>
+    ensures rules { IfOk result (λ rules. rules_of_bytes bytes.now ≡ Ok (lists_of rules)) }
     ensures fault { IfErr result (λ status. (rules_of_bytes bytes.now ≡ Err status) ⊎ (status ≡ Status.OutOfMemory)) }
     ensures unread { IfErr result (λ status. status ≢ Status.ReadFault) }
     ensures unreported { IfErr result (λ status. is_reported status ≡ false) }
     ensures lawful { IfErr result (λ status. is_usage status ≡ false) }
-    ensures layout { IfOk result (λ set. set.layout ≡ ip4_fields) }
+    ensures ip4 { IfOk result (λ rules. rules.ip4.layout ≡ ip4_fields) }
+    ensures ip6 { IfOk result (λ rules. rules.ip6.layout ≡ ip6_fields) }
 {
     match read_rules(alloc, bytes) {
         Ok(rules) => Ok(rules),

@@ -1,10 +1,13 @@
 //! The line on standard error that tells how a command ended.
 
 ghost use Rattle.std.specs.Prelude.{◌≡◌, ◌≤◌, ◌+◌, ◌++◌, [], ◌∷◌, length, take};
+ghost use Rattle.acl_report.specs.declared.line.TheConstants.{LINE_ROOM};
 ghost use Rattle.acl_tool.specs.Message.{message, numbered, usage_text, line_text, capture_text, record_of_fault};
 
-use crate::line::{LINE_ROOM, append, append_number};
-use crate::status::{CaptureFault, LineKind, Status, UsageKind};
+use crate::status::{Status, UsageKind};
+use acl_report::{LINE_ROOM, append, append_number};
+use classbench_reader::LineKind;
+use pcap_reader::CaptureFault;
 
 /// Writes the line of a status to the front of `into`, and gives its length with the LF that ends it. `Done` has no line.
 ///
@@ -63,7 +66,12 @@ fn usage_kind(kind: UsageKind) -> &'static [u8]
     ensures short { length result.now ≤ 40 }
 {
     match kind {
+        UsageKind::MissingCommand => b"missing command",
         UsageKind::UnknownCommand => b"unknown command",
+        UsageKind::MissingName => b"missing name",
+        UsageKind::UnknownOption => b"unknown option",
+        UsageKind::RepeatedOption => b"repeated option",
+        UsageKind::BadValue => b"bad value",
     }
 }
 
@@ -73,7 +81,19 @@ fn line_kind(kind: LineKind) -> &'static [u8]
 {
     match kind {
         LineKind::FileTooLong => b"file too long",
+        LineKind::TooManyRules => b"too many rules",
         LineKind::BadStart => b"bad start",
+        LineKind::BadAddress => b"bad address",
+        LineKind::BadPrefix => b"bad prefix",
+        LineKind::MixedFamilies => b"mixed families",
+        LineKind::BadPorts => b"bad ports",
+        LineKind::EmptyRange => b"empty range",
+        LineKind::BadProtocol => b"bad protocol",
+        LineKind::BadFlags => b"bad flags",
+        LineKind::BadAttribute => b"bad attribute",
+        LineKind::TailLeft => b"tail left",
+        LineKind::NoCategory => b"no category",
+        LineKind::PriorityRange => b"priority range",
     }
 }
 
@@ -82,9 +102,14 @@ fn capture_kind(fault: CaptureFault) -> &'static [u8]
     ensures short { length result.now ≤ 40 }
 {
     match fault {
+        CaptureFault::HeaderCut => b"header cut",
         CaptureFault::Magic => b"magic",
+        CaptureFault::Version => b"version",
+        CaptureFault::LinkType => b"link type",
         CaptureFault::RecordCut(_) => b"cut",
+        CaptureFault::RecordTooLong(_) => b"too long",
         CaptureFault::TooManyRecords => b"too many",
+        CaptureFault::ReadFault => b"read fault",
     }
 }
 
@@ -96,8 +121,12 @@ fn fault_record(fault: CaptureFault) -> u64
     ensures { result ≡ record_of_fault fault }
 {
     match fault {
-        CaptureFault::Magic => 0,
-        CaptureFault::RecordCut(number) => number,
+        CaptureFault::HeaderCut
+        | CaptureFault::Magic
+        | CaptureFault::Version
+        | CaptureFault::LinkType
+        | CaptureFault::ReadFault => 0,
+        CaptureFault::RecordCut(number) | CaptureFault::RecordTooLong(number) => number,
         CaptureFault::TooManyRecords => MAX_RECORDS + 1,
     }
 }

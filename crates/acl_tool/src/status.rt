@@ -3,6 +3,9 @@
 ghost use Rattle.std.specs.Prelude.{◌≡◌};
 ghost use Rattle.acl_tool.specs.Message.{code_of};
 
+use classbench_reader::LineFault;
+use pcap_reader::CaptureFault;
+
 /// How a command ended. Each status has an exit code of its own.
 #[derive(Clone, Copy, Debug, PartialEq, Eq)]
 pub enum Status {
@@ -14,7 +17,7 @@ pub enum Status {
     RulesRefused(LineFault),
     /// The capture isn't one. The lines of the records before the fault were printed.
     CaptureRefused(CaptureFault),
-    /// A file can't be read, or isn't there. Nothing was printed.
+    /// A file can't be read, or isn't there. The lines of the records that were read were printed.
     ReadFault,
     /// The output can't be written. A first part of it was.
     WriteFault,
@@ -49,33 +52,16 @@ pub struct UsageFault {
 /// What is wrong with a word.
 #[derive(Clone, Copy, Debug, PartialEq, Eq)]
 pub enum UsageKind {
-    /// The words aren't three with `classify` first.
+    /// There is no word.
+    MissingCommand,
+    /// The first word isn't a command.
     UnknownCommand,
-}
-
-/// What is wrong with a rule file, and the number of the line, from 1. Line 0 stands for the whole file.
-#[derive(Clone, Copy, Debug, PartialEq, Eq)]
-pub struct LineFault {
-    pub line: u32,
-    pub kind: LineKind,
-}
-
-/// What is wrong with a line.
-#[derive(Clone, Copy, Debug, PartialEq, Eq)]
-pub enum LineKind {
-    /// The file has more than 1,048,576 bytes.
-    FileTooLong,
-    /// The line isn't spelled as a rule, whichever of its columns is wrong.
-    BadStart,
-}
-
-/// What is wrong with a capture.
-#[derive(Clone, Copy, Debug, PartialEq, Eq)]
-pub enum CaptureFault {
-    /// The capture doesn't begin with the file header that is read.
-    Magic,
-    /// The record of this number, from 1, is cut short, or is longer than 262,144 bytes.
-    RecordCut(u64),
-    /// The capture has more than 16,777,216 bytes.
-    TooManyRecords,
+    /// The name of a file should stand here.
+    MissingName,
+    /// The word doesn't begin with an option of the command and its `=`.
+    UnknownOption,
+    /// The option was given before.
+    RepeatedOption,
+    /// The option can't have this value.
+    BadValue,
 }

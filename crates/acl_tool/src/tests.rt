@@ -1,4 +1,6 @@
-//! Whole commands over files in memory: the worked rows, each refusal, and faults of the outside.
+//! Whole commands over files in memory: printed reports, each refusal, and faults of the outside.
+
+ghost use Rattle.std.specs.Prelude.{◌≡◌};
 
 use crate::{CaptureFault, LineFault, LineKind, Status, UsageFault, UsageKind, run};
 use acl_outside::{MemDesk, MemFile, MemSink};
@@ -6,20 +8,52 @@ use std::alloc::{AllocError, Global};
 use std::process::Abort;
 use std::test::Fail;
 
-/// The IPv4 rule of the example in the DPDK Programmer's Guide, "Packet Classification and Access Control".
-const GUIDE: &[u8] = b"@192.168.1.0/24\t192.168.2.31/32\t0 : 65535\t1234 : 1234\t0x11/0xFF\n";
+/// The IPv4 rule of the example in the DPDK Programmer's Guide, "Packet Classification and Access
+/// Control", as ClassBench writes it, with flags and a last tab.
+const GUIDE: &[u8] =
+    b"@192.168.1.0/24\t192.168.2.31/32\t0 : 65535\t1234 : 1234\t0x11/0xFF\t0x0000/0x0000\t\n";
 
-/// The file header of a little-endian capture of Ethernet frames.
+/// A rule that matches every IPv4 packet.
+const ANY: &[u8] = b"@0.0.0.0/0 0.0.0.0/0 0:65535 0:65535 0x00/0x00";
+
+/// The three rules of that chapter: one to a wide network, one to a narrow one, one from a host.
+const THREE: &[u8] = b"@0.0.0.0/0 192.168.0.0/16 0:65535 0:65535 0x00/0x00 pri=1 cat=3 data=1
+@0.0.0.0/0 192.168.1.0/24 0:65535 0:65535 0x00/0x00 pri=2 cat=1 data=2
+@10.1.1.1/32 0.0.0.0/0 0:65535 0:65535 0x00/0x00 pri=3 cat=2 data=3
+";
+
+/// One rule of each family.
+const BOTH: &[u8] = b"@0.0.0.0/0 0.0.0.0/0 0:65535 80:80 0x06/0xFF
+@::/0 ::/0 0:65535 0:0 0x11/0xFF
+";
+
+/// The file header of a little-endian capture of Ethernet frames, in microseconds.
 const HEADER: &[u8] = &[
     0xD4, 0xC3, 0xB2, 0xA1, 2, 0, 4, 0, 0, 0, 0, 0, 0, 0, 0, 0, 0, 0, 4, 0, 1, 0, 0, 0,
+];
+
+/// The same big-endian, in nanoseconds.
+const BIG_HEADER: &[u8] = &[
+    0xA1, 0xB2, 0x3C, 0x4D, 0, 2, 0, 4, 0, 0, 0, 0, 0, 0, 0, 0, 0, 4, 0, 0, 0, 0, 0, 1,
 ];
 
 /// The start of an Ethernet frame that holds IPv4.
 const IP4_FRAME: &[u8] = &[0, 0, 0, 0, 0, 0, 0, 0, 0, 0, 0, 0, 8, 0];
 
-/// An IPv4 header: UDP from 192.168.1.5 to 192.168.2.31.
-const UDP: &[u8] = &[
-    0x45, 0, 0, 24, 0, 0, 0, 0, 64, 17, 0, 0, 192, 168, 1, 5, 192, 168, 2, 31,
+/// The start of an IPv4 header of UDP, up to the addresses.
+const UDP: &[u8] = &[0x45, 0, 0, 24, 0, 0, 0, 0, 64, 17, 0, 0];
+
+/// TCP behind two tags and an option of the IPv4 header, to port 80.
+const TAGGED: &[u8] = &[
+    0, 0, 0, 0, 0, 0, 0, 0, 0, 0, 0, 0, 0x88, 0xA8, 0, 1, 0x81, 0, 0, 2, 8, 0, 0x46, 0, 0, 28, 0,
+    0, 0, 0, 64, 6, 0, 0, 1, 2, 3, 4, 5, 6, 7, 8, 1, 1, 1, 1, 3, 232, 0, 80,
+];
+
+/// A later fragment of UDP over IPv6, behind a hop-by-hop header.
+const FRAGMENT: &[u8] = &[
+    0, 0, 0, 0, 0, 0, 0, 0, 0, 0, 0, 0, 0x86, 0xDD, 0x60, 0, 0, 0, 0, 20, 0, 64, 0, 0, 0, 0, 0, 0,
+    0, 0, 0, 0, 0, 0, 0, 0, 0, 1, 0, 0, 0, 0, 0, 0, 0, 0, 0, 0, 0, 0, 0, 0, 0, 2, 44, 0, 0, 0, 0,
+    0, 0, 0, 17, 0, 0, 8, 0, 0, 0, 0, 0, 1, 0, 2,
 ];
 
 /// Puts a record of these captured bytes, below 256 of them, at the end of a capture.
@@ -35,15 +69,26 @@ fn add_record(capture: &mut Vec<u8>, captured: &[&[u8]]) -> Result<(), AllocErro
     Ok(())
 }
 
+/// Puts a record of a UDP packet of these addresses and ports at the end of a capture.
+fn add_udp(capture: &mut Vec<u8>, ends: &[u8; 12]) -> Result<(), AllocError> {
+    add_record(capture, &[IP4_FRAME, UDP, ends])
+}
+
+/// From 192.168.1.5, port 5000, to 192.168.2.31 and a port of 1,024 more than this.
+fn to_port(port: u8) -> [u8; 12] {
+    [192, 168, 1, 5, 192, 168, 2, 31, 19, 136, 4, port]
+}
+
 /// A capture of two UDP packets, to the ports 1234 and 1235.
 fn guide_capture(alloc: Global) -> Result<Vec<u8>, AllocError> {
     let mut capture = Vec::from_slice(alloc, HEADER)?;
-    add_record(&mut capture, &[IP4_FRAME, UDP, &[19, 136, 4, 210]])?;
-    add_record(&mut capture, &[IP4_FRAME, UDP, &[19, 136, 4, 211]])?;
+    add_udp(&mut capture, &to_port(210))?;
+    add_udp(&mut capture, &to_port(211))?;
     Ok(capture)
 }
 
-/// How the outside is made for a command: how much a call moves, and the number of the call that fails, 0 for none.
+/// How the outside is made for a command: how much a call moves, and the number of the call that
+/// fails, 0 for none.
 #[derive(Clone, Copy)]
 struct Outside {
     read_piece: usize,
@@ -53,9 +98,9 @@ struct Outside {
 }
 
 const FAULTLESS: Outside = Outside {
-    read_piece: 1000,
+    read_piece: 1_000_000,
     failing_read: 0,
-    put_piece: 1000,
+    put_piece: 100_000,
     failing_put: 0,
 };
 
@@ -66,7 +111,8 @@ fn file(alloc: Global, name: &str, bytes: &[u8]) -> Result<MemFile, AllocError> 
     })
 }
 
-/// Runs the words over the files `r` and `c`, and compares the status, both outputs and the count of read faults.
+/// Runs the words over the files `r` and `c`, and compares the status, both outputs and the count
+/// of read faults.
 fn expect<R: Abort + AllocGlobal>(
     rt: &R,
     words: &[&str],
@@ -108,12 +154,14 @@ fn expect<R: Abort + AllocGlobal>(
 
 const CLASSIFY: &[&str] = &["classify", "r", "c"];
 
+const TWO_PACKETS: &str = "1 ip4 1\n2 ip4 0\npackets 2 ip4 2 ip6 0 other 0 short 0\n";
+
 #[test]
 fn captures_are_reported_line_by_line(rt: HostRuntime) -> Result<(), Fail> {
     let alloc = rt.alloc();
     let guide = guide_capture(alloc)?;
     let mut cut = guide_capture(alloc)?;
-    add_record(&mut cut, &[IP4_FRAME, UDP, &[19, 136, 4, 210]])?;
+    add_udp(&mut cut, &to_port(210))?;
     cut.truncate(cut.len().saturating_sub(1));
     let mut others = Vec::from_slice(alloc, HEADER)?;
     add_record(&mut others, &[&[0; 13]])?;
@@ -122,27 +170,37 @@ fn captures_are_reported_line_by_line(rt: HostRuntime) -> Result<(), Fail> {
         &[&[0, 0, 0, 0, 0, 0, 0, 0, 0, 0, 0, 0, 8, 6], &[0; 46]],
     )?;
     add_record(&mut others, &[IP4_FRAME, &[0x44], &[0; 45]])?;
-    let twice = [GUIDE, GUIDE].concat(alloc)?;
-
-    let two_packets = "1 ip4 1\n2 ip4 0\npackets 2 ip4 2 ip6 0 other 0 short 0\n";
-    let cases: [(&[u8], &[u8], Status, &str, &str); 7] = [
-        (GUIDE, &guide, Status::Done, two_packets, ""),
-        // Of two rules that match the one of the earlier line wins.
-        (&twice, &guide, Status::Done, two_packets, ""),
+    let mut both = Vec::from_slice(alloc, HEADER)?;
+    add_record(&mut both, &[TAGGED])?;
+    add_record(&mut both, &[FRAGMENT])?;
+    let mut big = Vec::from_slice(alloc, BIG_HEADER)?;
+    for port in [210, 211] {
+        big.extend_from_slice(&[0, 0, 0, 0, 0, 0, 0, 0, 0, 0, 0, 38, 0, 0, 0, 38])?;
+        for part in [IP4_FRAME, UDP, &to_port(port)] {
+            big.extend_from_slice(part)?;
+        }
+    }
+    let tie = [ANY, b" pri=5 data=8\n", ANY, b" pri=5 data=9\n"].concat(alloc)?;
+    let no_packets = "packets 0 ip4 0 ip6 0 other 0 short 0\n";
+    let cases: [(&[u8], &[u8], Status, &str, &str); 8] = [
+        (GUIDE, &guide, Status::Done, TWO_PACKETS, ""),
+        (GUIDE, &big, Status::Done, TWO_PACKETS, ""),
+        // Of two rules of one priority the earlier wins.
         (
-            b"",
+            &tie,
             &guide,
             Status::Done,
-            "1 ip4 0\n2 ip4 0\npackets 2 ip4 2 ip6 0 other 0 short 0\n",
+            "1 ip4 8\n2 ip4 8\npackets 2 ip4 2 ip6 0 other 0 short 0\n",
             "",
         ),
         (
-            b"",
-            HEADER,
+            BOTH,
+            &both,
             Status::Done,
-            "packets 0 ip4 0 ip6 0 other 0 short 0\n",
+            "1 ip4 1\n2 ip6 2\npackets 2 ip4 1 ip6 1 other 0 short 0\n",
             "",
         ),
+        (b"", HEADER, Status::Done, no_packets, ""),
         (
             GUIDE,
             &others,
@@ -160,9 +218,9 @@ fn captures_are_reported_line_by_line(rt: HostRuntime) -> Result<(), Fail> {
         (
             GUIDE,
             &HEADER[..23],
-            Status::CaptureRefused(CaptureFault::Magic),
+            Status::CaptureRefused(CaptureFault::HeaderCut),
             "",
-            "aclc: capture: record 0: magic\n",
+            "aclc: capture: record 0: header cut\n",
         ),
     ];
     for (rules, capture, status, out, err) in cases {
@@ -179,55 +237,121 @@ fn captures_are_reported_line_by_line(rt: HostRuntime) -> Result<(), Fail> {
 }
 
 #[test]
-fn words_rules_and_files_are_refused_by_their_names(rt: HostRuntime) -> Result<(), Fail> {
-    let usage = Status::Usage(UsageFault {
-        word: 1,
-        kind: UsageKind::UnknownCommand,
-    });
-    let second_line = Status::RulesRefused(LineFault {
-        line: 2,
-        kind: LineKind::BadStart,
-    });
-    let unknown = "aclc: usage: word 1: unknown command\n";
-    let cases: [(&[&str], &[u8], Status, &str); 7] = [
-        (&[], GUIDE, usage, unknown),
-        (&["classify", "r"], GUIDE, usage, unknown),
-        (&["classify", "r", "c", "c"], GUIDE, usage, unknown),
-        (&["build", "r", "c"], GUIDE, usage, unknown),
+fn each_category_has_a_verdict_of_its_own(rt: HostRuntime) -> Result<(), Fail> {
+    let mut capture = Vec::from_slice(rt.alloc(), HEADER)?;
+    let packets = [
+        [10, 1, 1, 1, 192, 168, 1, 15, 0, 1, 0, 2],
+        [192, 168, 1, 1, 192, 168, 2, 11, 0, 1, 0, 2],
+        [10, 1, 1, 1, 201, 212, 111, 12, 0, 1, 0, 2],
+    ];
+    for ends in packets {
+        add_udp(&mut capture, &ends)?;
+    }
+    let words = &["classify", "r", "c", "categories=4"];
+    let want = (
+        Status::Done,
+        "1 ip4 2 3 0 0\n2 ip4 1 1 0 0\n3 ip4 0 3 0 0\npackets 3 ip4 3 ip6 0 other 0 short 0\n",
+        "",
+        0,
+    );
+    expect(&rt, words, THREE, &capture, FAULTLESS, want)?;
+
+    let mut one = Vec::from_slice(rt.alloc(), HEADER)?;
+    add_udp(&mut one, &to_port(210))?;
+    let words = &["classify", "r", "c", "categories=16"];
+    let want = (
+        Status::Done,
+        "1 ip4 1 1 1 1 1 1 1 1 1 1 1 1 1 1 1 1\npackets 1 ip4 1 ip6 0 other 0 short 0\n",
+        "",
+        0,
+    );
+    expect(&rt, words, ANY, &one, FAULTLESS, want)?;
+    Ok(())
+}
+
+/// The usage fault at a word.
+fn usage(word: u32, kind: UsageKind) -> Status
+    ensures { result ≡ Status.Usage (record { word = word; kind = kind }) }
+{
+    Status::Usage(UsageFault { word, kind })
+}
+
+#[test]
+fn words_are_refused_from_left_to_right(rt: HostRuntime) -> Result<(), Fail> {
+    let cases: [(&[&str], Status, &str); 7] = [
         (
-            &["classify", "x", "c"],
-            GUIDE,
-            Status::ReadFault,
-            "aclc: read fault\n",
+            &[],
+            usage(1, UsageKind::MissingCommand),
+            "aclc: usage: word 1: missing command\n",
         ),
         (
-            &["classify", "r", "x"],
-            GUIDE,
-            Status::ReadFault,
-            "aclc: read fault\n",
+            &["--help"],
+            usage(1, UsageKind::UnknownCommand),
+            "aclc: usage: word 1: unknown command\n",
+        ),
+        (
+            &["classify", "r"],
+            usage(3, UsageKind::MissingName),
+            "aclc: usage: word 3: missing name\n",
+        ),
+        (
+            &["classify", "r", "c", "categories=2"],
+            usage(4, UsageKind::BadValue),
+            "aclc: usage: word 4: bad value\n",
+        ),
+        (
+            &["classify", "r", "c", "categories=000000000000000000004"],
+            usage(4, UsageKind::BadValue),
+            "aclc: usage: word 4: bad value\n",
+        ),
+        (
+            &["classify", "r", "c", "c"],
+            usage(4, UsageKind::UnknownOption),
+            "aclc: usage: word 4: unknown option\n",
+        ),
+        (
+            &["classify", "r", "c", "categories=4", "categories=2"],
+            usage(5, UsageKind::RepeatedOption),
+            "aclc: usage: word 5: repeated option\n",
+        ),
+    ];
+    for (words, status, err) in cases {
+        expect(&rt, words, GUIDE, HEADER, FAULTLESS, (status, "", err, 0))?;
+    }
+    Ok(())
+}
+
+#[test]
+fn rules_and_files_are_refused_by_their_names(rt: HostRuntime) -> Result<(), Fail> {
+    let empty_range = Status::RulesRefused(LineFault {
+        line: 2,
+        kind: LineKind::EmptyRange,
+    });
+    let mixed = Status::RulesRefused(LineFault {
+        line: 1,
+        kind: LineKind::MixedFamilies,
+    });
+    let range = [ANY, b"\n@0.0.0.0/0 0.0.0.0/0 20 : 10 0:65535 0x00/0x00\n"].concat(rt.alloc())?;
+    let missing = "aclc: read fault\n";
+    let cases: [(&[&str], &[u8], Status, &str); 4] = [
+        (&["classify", "x", "c"], GUIDE, Status::ReadFault, missing),
+        (&["classify", "r", "x"], GUIDE, Status::ReadFault, missing),
+        (
+            CLASSIFY,
+            &range,
+            empty_range,
+            "aclc: rules: line 2: empty range\n",
         ),
         (
             CLASSIFY,
-            b"@0.0.0.0/0\t0.0.0.0/0\t0 : 1\t0 : 1\t0x00/0x00\n#\n",
-            second_line,
-            "aclc: rules: line 2: bad start\n",
+            b"@10.0.0.0/8 ::/0 0:65535 0:65535 0x00/0x00\n",
+            mixed,
+            "aclc: rules: line 1: mixed families\n",
         ),
     ];
     for (words, rules, status, err) in cases {
         expect(&rt, words, rules, HEADER, FAULTLESS, (status, "", err, 0))?;
     }
-
-    let too_long = vec![in rt.alloc(); b'@'; 1_048_577]?;
-    let whole_file = Status::RulesRefused(LineFault {
-        line: 0,
-        kind: LineKind::FileTooLong,
-    });
-    let outside = Outside {
-        read_piece: 2_000_000,
-        ..FAULTLESS
-    };
-    let want = (whole_file, "", "aclc: rules: line 0: file too long\n", 0);
-    expect(&rt, CLASSIFY, &too_long, HEADER, outside, want)?;
     Ok(())
 }
 
@@ -239,34 +363,24 @@ fn faults_of_the_outside_end_the_command(rt: HostRuntime) -> Result<(), Fail> {
         put_piece: 3,
         ..FAULTLESS
     };
+    let unread = Outside {
+        failing_read: 3,
+        ..slow
+    };
+    let unput = Outside {
+        failing_put: 2,
+        ..slow
+    };
     let cases = [
+        (unread, Status::ReadFault, "", "aclc: read fault\n", 1),
         (
-            Outside {
-                failing_read: 3,
-                ..slow
-            },
-            Status::ReadFault,
-            "",
-            "aclc: read fault\n",
-            1,
-        ),
-        (
-            Outside {
-                failing_put: 2,
-                ..slow
-            },
+            unput,
             Status::WriteFault,
             "1 i",
             "aclc: write fault\n",
             0,
         ),
-        (
-            slow,
-            Status::Done,
-            "1 ip4 1\n2 ip4 0\npackets 2 ip4 2 ip6 0 other 0 short 0\n",
-            "",
-            0,
-        ),
+        (slow, Status::Done, TWO_PACKETS, "", 0),
     ];
     for (outside, status, out, err, read_faults) in cases {
         expect(
@@ -281,63 +395,63 @@ fn faults_of_the_outside_end_the_command(rt: HostRuntime) -> Result<(), Fail> {
     Ok(())
 }
 
-/// A rule file of 300 rules, of which the rule of each line matches the packets from one address.
-fn many_rules(alloc: Global) -> Result<Vec<u8>, Fail> {
-    let mut rules = Vec::new(alloc);
-    for place in 0u32..300 {
-        let high = place / 256;
-        let low = place % 256;
-        let line = format!(in alloc;
-            "@10.0.{high}.{low}/32\t0.0.0.0/0\t0 : 65535\t0 : 65535\t0x00/0x00\n"
-        )?;
-        rules.extend_from_slice(line.as_bytes())?;
+/// The lines of so many packets of verdict 0.
+fn plain_lines(alloc: Global, count: u32) -> Result<String, Fail> {
+    let mut lines = String::new(alloc);
+    for place in 0..count {
+        let number = u64::from(place) + 1;
+        lines.push_str(&format!(in alloc; "{number} ip4 0\n")?)?;
     }
-    Ok(rules)
-}
-
-/// A capture of 3,000 UDP packets from 400 addresses in turn, and the report of it by the rules above.
-fn many_packets(alloc: Global) -> Result<(Vec<u8>, String), Fail> {
-    let mut capture = Vec::from_slice(alloc, HEADER)?;
-    let mut report = String::new(alloc);
-    for record in 0u32..3000 {
-        let place = record % 400;
-        let source = [
-            0x45,
-            0,
-            0,
-            24,
-            0,
-            0,
-            0,
-            0,
-            64,
-            17,
-            0,
-            0,
-            10,
-            0,
-            (place / 256) as u8,
-            (place % 256) as u8,
-        ];
-        add_record(
-            &mut capture,
-            &[IP4_FRAME, &source, &[192, 168, 2, 31, 19, 136, 4, 210]],
-        )?;
-        let number = record + 1;
-        let verdict = if place < 300 { place + 1 } else { 0 };
-        report.push_str(&format!(in alloc; "{number} ip4 {verdict}\n")?)?;
-    }
-    report.push_str("packets 3000 ip4 3000 ip6 0 other 0 short 0\n")?;
-    Ok((capture, report))
+    Ok(lines)
 }
 
 #[test]
-fn many_packets_are_reported_by_many_rules(rt: HostRuntime) -> Result<(), Fail> {
-    let rules = many_rules(rt.alloc())?;
-    let (capture, report) = many_packets(rt.alloc())?;
-    // The report is longer than what waits to be put, so that lines are put while packets are left.
-    assert!(rt; report.len() > 33_000);
-    let want = (Status::Done, report.as_str(), "", 0);
-    expect(&rt, CLASSIFY, &rules, &capture, FAULTLESS, want)?;
+fn lines_are_put_before_the_next_batch_is_read(rt: HostRuntime) -> Result<(), Fail> {
+    let mut capture = Vec::from_slice(rt.alloc(), HEADER)?;
+    for _ in 0..131u32 {
+        add_udp(&mut capture, &to_port(210))?;
+    }
+    let mut report = plain_lines(rt.alloc(), 131)?;
+    report.push_str("packets 131 ip4 131 ip6 0 other 0 short 0\n")?;
+    let batch = plain_lines(rt.alloc(), 64)?;
+    // Calls 1 and 2 open and end the empty rule file, call 3 opens the capture and call 4 reads its
+    // header. Each record takes two calls, and the 100th of them is the 50th record of the batch
+    // behind the first.
+    let unread = Outside {
+        failing_read: 4 + 128 + 100,
+        ..FAULTLESS
+    };
+    let unput = Outside {
+        failing_put: 2,
+        ..FAULTLESS
+    };
+    let some = plain_lines(rt.alloc(), 64 + 49)?;
+    let cases: [(Outside, Status, &str, &str, u64); 3] = [
+        (FAULTLESS, Status::Done, report.as_str(), "", 0),
+        (
+            unread,
+            Status::ReadFault,
+            some.as_str(),
+            "aclc: read fault\n",
+            1,
+        ),
+        (
+            unput,
+            Status::WriteFault,
+            batch.as_str(),
+            "aclc: write fault\n",
+            0,
+        ),
+    ];
+    for (outside, status, out, err, read_faults) in cases {
+        expect(
+            &rt,
+            CLASSIFY,
+            b"",
+            &capture,
+            outside,
+            (status, out, err, read_faults),
+        )?;
+    }
     Ok(())
 }

@@ -7,21 +7,22 @@ ghost use Rattle.acl_tool.specs.Message.{message};
 ghost use Rattle.acl_tool.specs.Effects.{Answers, PutsLine, Runs, outside};
 
 use crate::command_line::{Request, read_words};
-use crate::input::{read_file, read_rule_file};
-use crate::line::LINE_ROOM;
+use crate::input::read_rule_file;
 use crate::message::message_line;
-use crate::output::Output;
-use crate::print::print_report;
-use crate::record::MAX_CAPTURE;
+use crate::print::{Room, print_report};
 use crate::status::Status;
+use crate::verdicts::Classifier;
 use acl_outside::{Desk, Sink, put_all};
+use acl_report::LINE_ROOM;
+use rule_set::Categories;
 use std::alloc::Global;
 
 /// Runs the command that the words are, and tells how it ended.
 ///
-/// The words are those behind the program's name. `classify RULES CAPTURE` reads the two files through `desk`, and puts a
-/// line for each record of the capture and a line of counts to `out`. Where the status isn't `Done` a line that names
-/// its cause goes to `err`, whose failure changes nothing. All memory is taken before the first byte is put.
+/// The words are those behind the program's name. `classify RULES CAPTURE [categories=N]` reads the two files through
+/// `desk`, and puts a line for each record of the capture and a line of counts to `out`, with at most 64 records read
+/// ahead of their lines. Where the status isn't `Done` a line that names its cause goes to `err`, whose failure changes
+/// nothing. All memory is taken before the first byte is put.
 pub fn run<D: Desk, O: Sink, E: Sink>(
     alloc: Global,
     words: &[String],
@@ -59,7 +60,11 @@ fn answer_request<D: Desk, O: Sink>(
         (outside (D.view desk.new) (O.view out.new)) result }
 {
     match request {
-        Request::Classify { rules, capture } => classify(alloc, rules, capture, desk, out),
+        Request::Classify {
+            rules,
+            capture,
+            categories,
+        } => classify(alloc, rules, capture, categories, desk, out),
     }
 }
 
@@ -68,24 +73,22 @@ fn classify<D: Desk, O: Sink>(
     alloc: Global,
     rules: &str,
     capture: &str,
+    categories: Categories,
     desk: &mut D,
     out: &mut O,
 ) -> Status
-    ensures { Answers (Ok (Classify rules.now capture.now)) (outside (D.view desk.old) (O.view out.old))
-        (outside (D.view desk.new) (O.view out.new)) result }
+    ensures { Answers (Ok (Classify rules.now capture.now (record { categories = categories.count })))
+        (outside (D.view desk.old) (O.view out.old)) (outside (D.view desk.new) (O.view out.new)) result }
 {
     let rules = match read_rule_file(alloc, rules, desk) {
         Ok(rules) => rules,
         Err(status) => return status,
     };
-    let capture = match read_file(alloc, capture, MAX_CAPTURE + 1, desk) {
-        Ok(capture) => capture,
-        Err(status) => return status,
-    };
-    let Ok(mut output) = Output::new(alloc) else {
+    let Ok(mut room) = Room::new(alloc) else {
         return Status::OutOfMemory;
     };
-    print_report(&rules, &capture, &mut output, out)
+    let classifier = Classifier::new(rules, categories);
+    print_report(alloc, &classifier, capture, &mut room, desk, out)
 }
 
 /// Puts the line of a status to standard error. A failure there leaves the status as it is.

@@ -44,7 +44,7 @@ fn the_guides_example_is_printed_as_it_is_shipped(rt: HostRuntime) -> Result<(),
             &["aclc", "classify", "aclc_test.rules", "aclc_test.pcap", ""],
             2,
             "",
-            "aclc: usage: word 1: unknown command\n",
+            "aclc: usage: word 4: unknown option\n",
         ),
         (
             &["aclc", "classify", "aclc_test.rules", "aclc_no_such.pcap"],
@@ -52,7 +52,7 @@ fn the_guides_example_is_printed_as_it_is_shipped(rt: HostRuntime) -> Result<(),
             "",
             "aclc: read fault\n",
         ),
-        (&[], 2, "", "aclc: usage: word 1: unknown command\n"),
+        (&[], 2, "", "aclc: usage: word 1: missing command\n"),
     ];
     for (all, code, printed, told) in cases {
         let all = words(rt.alloc(), all)?;

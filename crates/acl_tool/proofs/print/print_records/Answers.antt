@@ -1,30 +1,81 @@
-use Rattle.std.proofs.Common.{arith}
-use Rattle.std.proofs.lemmas.Result.{err_from_is_err_and}
-use Rattle.acl_tool.proofs.Printing.{IsUnderWay-record, IsUnderWay-failed}
+-- Each batch is taken, and its lines are put before the next.
+use Rattle.std.proofs.Common.{refl, ap, arith, ◌∙◌}
+use Rattle.acl_tool.specs.Effects.{outside}
+use Rattle.acl_tool.proofs.LineLaws.{counts-none, records_add_up, counted_all-packets}
+use Rattle.acl_tool.proofs.Streaming.{IsPrinting-none, IsPrinting-batch, HasPrinted-batch, Streams-failed, Streams-ended, Streams-fault, packets_few}
 use Rattle.acl_tool.proofs.print.print_records.Goals as goal
 
-pub records-preserved : goal.records-preserved
-records-preserved g c =
-    let view = g.O.Sink.view in record {
-      under_way =
-          IsUnderWay-record c.args.rules.now.rules c.args.records.now c.records.left.now c.in-Record.captured.now c.in-Record.behind.now
-          c.records.counts c.record_line-len.new.counts c.args.output.now c.records.output c.put_line.new.self _
-          (view c.args.out.now) (view c.records.out) (view c.put_line.new.out) c.records.invariant.under_way c.in-Record.ensures
-          c.record_line-len.ensures.counts c.record_line-len.ensures.line c.in_ok-put_line.ensures.passes;
-      count = omega (arith, c.records.invariant.count, c.in_ok-put_line.ensures.count);
+pub batches-init : goal.batches-init
+batches-init g c = record {
+  printing = IsPrinting-none c.args.classifier.now c.args.capture.now.start c.default-counts.result c.args.capture.now
+      (outside (g.D.Desk.view c.args.desk.now) (g.O.Sink.view c.args.out.now)) (counts-none c.default-counts.result c.default-counts.ensures) c.requires.begun;
+  reading = c.requires.reading;
+}
+
+pub put_lines-requires-clause-classes : goal.put_lines-requires-clause-classes
+put_lines-requires-clause-classes g c =
+    let printing = c.batches.invariant.printing in
+    records_add_up printing.records c.batches.counts printing.counted
+
+pub returns-in-Err : goal.returns-in-Err
+returns-in-Err g c =
+    let desk = g.D.Desk.view in
+    let out = g.O.Sink.view in
+    Streams-failed c.args.classifier.now c.args.capture.now.start c.batches.counts c.batches.capture
+    (outside (desk c.args.desk.now) (out c.args.out.now)) (outside (desk c.batches.desk) (out c.batches.out))
+    (outside (desk c.take_batch-end.new.desk) (out c.put_lines.new.out)) c.take_batch-end.new.packets.items c.take_batch-end.result
+    c.in-Err.field-0 c.batches.invariant.printing c.take_batch-end.ensures.batch c.in-Err.ensures.puts
+
+pub batches-smaller : goal.batches-smaller
+batches-smaller g c =
+    let desk = g.D.Desk.view in
+    let out = g.O.Sink.view in
+    let packets = c.take_batch-end.new.packets.items in
+    let few =
+    packets_few c.args.classifier.now c.args.capture.now.start c.batches.counts c.batches.capture
+    (outside (desk c.args.desk.now) (out c.args.out.now)) (outside (desk c.batches.desk) (out c.batches.out))
+    (outside (desk c.take_batch-end.new.desk) (out c.put_lines.new.out)) packets _ c.batches.invariant.printing c.in-Full.ensures.batch in
+    omega (
+      arith,
+      few,
+      c.in-Full.ensures.batch.full refl,
+      ap (λ counts. counts.packets) c.in-Ok.ensures.counts,
+      counted_all-packets packets c.batches.counts,
+    )
+
+pub batches-preserved : goal.batches-preserved
+batches-preserved g c =
+    let desk = g.D.Desk.view in
+    let out = g.O.Sink.view in
+    record {
+      printing = IsPrinting-batch c.args.classifier.now c.args.capture.now.start c.batches.counts c.put_lines.new.counts c.batches.capture
+          c.take_batch-end.new.capture (outside (desk c.args.desk.now) (out c.args.out.now)) (outside (desk c.batches.desk) (out c.batches.out))
+          (outside (desk c.take_batch-end.new.desk) (out c.put_lines.new.out)) c.take_batch-end.new.packets.items c.in-Ok.field-0
+          c.batches.invariant.printing c.in-Full.ensures.batch c.in-Ok.ensures.puts c.in-Ok.ensures.counts (c.in-Full.ensures.state refl);
+      reading = rw c.in-Full.ensures.batch.took.keeps.reading c.batches.invariant.reading;
     }
 
-pub returns-in_err-put_line-clause-hands_on : goal.returns-in_err-put_line-clause-hands_on
-returns-in_err-put_line-clause-hands_on g c =
-    let view = g.O.Sink.view in
-    let failed = err_from_is_err_and c.from_residual.result c.from_residual.ensures.1 in
-    rw (failed.1)
-    record {
-      passes = tt;
-      prefix =
-          IsUnderWay-failed c.args.rules.now.rules c.args.records.now c.records.left.now c.in-Record.captured.now c.in-Record.behind.now
-          c.records.counts c.args.output.now c.records.output _ (view c.args.out.now) (view c.records.out) (view c.put_line.new.out)
-          c.records.invariant.under_way c.in-Record.ensures c.record_line-len.ensures.line c.in_err-put_line.ensures.prefix;
-      cause = omega (arith, c.records.invariant.count, c.in_err-put_line.ensures.cause);
-      count = omega (arith, c.records.invariant.count, c.in_err-put_line.ensures.count);
-    }
+pub returns-in-End : goal.returns-in-End
+returns-in-End g c =
+    let desk = g.D.Desk.view in
+    let out = g.O.Sink.view in
+    let old = outside (desk c.args.desk.now) (out c.args.out.now) in
+    let mid = outside (desk c.take_batch-end.new.desk) (out c.put_lines.new.out) in
+    Streams-ended c.args.classifier.now c.args.capture.now.start c.put_lines.new.counts old mid
+    (outside (desk c.take_batch-end.new.desk) (out c.print_counts.new.out)) c.print_counts.result
+    (HasPrinted-batch c.args.classifier.now c.args.capture.now.start c.batches.counts c.put_lines.new.counts c.batches.capture old
+    (outside (desk c.batches.desk) (out c.batches.out)) mid c.take_batch-end.new.packets.items _ c.in-Ok.field-0
+    c.batches.invariant.printing c.in-End.ensures.batch c.in-Ok.ensures.puts c.in-Ok.ensures.counts)
+    refl c.print_counts.ensures
+
+pub returns-in-Fault : goal.returns-in-Fault
+returns-in-Fault g c =
+    let desk = g.D.Desk.view in
+    let out = g.O.Sink.view in
+    let old = outside (desk c.args.desk.now) (out c.args.out.now) in
+    let new = outside (desk c.take_batch-end.new.desk) (out c.put_lines.new.out) in
+    Streams-fault c.in-Fault.fault c.args.classifier.now c.args.capture.now.start c.put_lines.new.counts old new c.refused.result
+    (HasPrinted-batch c.args.classifier.now c.args.capture.now.start c.batches.counts c.put_lines.new.counts c.batches.capture old
+    (outside (desk c.batches.desk) (out c.batches.out)) new c.take_batch-end.new.packets.items _ c.in-Ok.field-0
+    c.batches.invariant.printing c.in-Fault.ensures.batch c.in-Ok.ensures.puts c.in-Ok.ensures.counts)
+    c.refused.ensures

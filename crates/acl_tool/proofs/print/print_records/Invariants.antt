@@ -1,14 +1,19 @@
-use Rattle.std.proofs.Common.{◌≤◌, length}
-use Rattle.acl_tool.proofs.Printing.{IsUnderWay}
+-- some records were taken and their lines were put
+use Rattle.std.proofs.Common.{◌≡◌, ◌-◌, ◌+◌}
+use Rattle.std.specs.Bool.{IsTrue}
+use Rattle.pcap_reader.specs.Capture.{max_records}
+use Rattle.acl_tool.specs.Effects.{outside}
+use Rattle.acl_tool.proofs.Streaming.{IsPrinting}
 use Rattle.acl_tool.proofs.print.print_records.Given as goal
 
--- some records are printed and counted, and the rest of them is what is left
-abbrev pub invariant-records : goal.invariant-records
-invariant-records g l =
-    let view = g.O.Sink.view in record {
-      under_way : IsUnderWay l.rules.rules l.fn.records l.left l.counts l.fn.output l.output (view l.fn.out) (view l.out);
-      count : (view l.fn.out).faults ≤ (view l.out).faults;
+abbrev pub invariant-batches : goal.invariant-batches
+invariant-batches g l =
+    let desk = g.D.Desk.view in
+    let out = g.O.Sink.view in record {
+      printing : IsPrinting l.classifier l.fn.capture.start l.counts l.capture
+          (outside (desk l.fn.desk) (out l.fn.out)) (outside (desk l.desk) (out l.out));
+      reading : IsTrue (desk l.desk).reading;
     }
 
-abbrev pub decreases-records : goal.decreases-records
-decreases-records g l = length l.left
+abbrev pub decreases-batches : goal.decreases-batches
+decreases-batches g l = max_records - l.counts.packets

@@ -1,5 +1,5 @@
 use Rattle.acl_tool.specs.Effects.{outside}
-use Rattle.acl_tool.proofs.Usage.{Answers-usage}
+use Rattle.acl_tool.proofs.UsageLaws.{Answers-usage}
 use Rattle.acl_tool.proofs.tool.answer.Goals as goal
 
 pub returns-in-Err : goal.returns-in-Err

@@ -1,0 +1,14 @@
+-- the options so far were read, and the rest gives what all of the words give
+use Rattle.std.proofs.Common.{◌≡◌, ◌+◌, ◌≤◌, map, drop}
+use Rattle.std.specs.Prelude.{string_bytes}
+use Rattle.acl_tool.specs.declared.command_line.TheConstants.{FIRST_OPTION}
+use Rattle.acl_tool.specs.Command.{none_given, options_from}
+use Rattle.acl_tool.specs.CommandLine.{options_given}
+use Rattle.acl_tool.proofs.command_line.read_options.Given as goal
+
+abbrev pub invariant-loop-word : goal.invariant-loop-word
+invariant-loop-word l = record {
+  number : l.number ≤ FIRST_OPTION + options_given l.given;
+  options : options_from l.number l.given (map string_bytes (drop l.word-index l.words))
+      ≡ options_from FIRST_OPTION none_given (map string_bytes l.words);
+}

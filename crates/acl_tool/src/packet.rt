@@ -1,0 +1,67 @@
+//! The packet of a record.
+
+ghost use Rattle.std.specs.Prelude.{◌≡◌, length};
+ghost use Rattle.header_extract.specs.Class.{key_len, settled};
+ghost use Rattle.header_extract.specs.Link.{frame_class};
+
+use header_extract::{Class, KeyBuf, extract};
+use pcap_reader::Link;
+use std::marker::Model;
+
+/// How many bytes the key of an IPv4 packet has.
+const IP4_KEY: usize = 13;
+
+/// How many bytes the key of an IPv6 packet has.
+const IP6_KEY: usize = 37;
+
+/// The class of a record's frame, and the key of the packet in it. Contracts see the bytes of the
+/// key, which are none where the frame has no packet.
+#[derive(Debug, Drop)]
+pub struct Packet {
+    class: Class,
+    key: KeyBuf,
+}
+
+impl Model for Packet {
+    ghost use Rattle.std.specs.Prelude.{take};
+    ghost use Rattle.header_extract.specs.Class.{FrameClass, key_len};
+
+    ghost Value = { FrameClass };
+
+    ghost view = { λ packet. record {
+        class = packet.class;
+        key = take (key_len packet.class) packet.key.bytes;
+    } };
+}
+
+impl Packet {
+    /// The packet of a frame by its link type. It refuses nothing and takes no memory.
+    pub fn read(link: Link, frame: &[u8]) -> Packet
+        ensures { result ≡ settled (frame_class link frame.now) }
+    {
+        let mut key = KeyBuf {
+            bytes: [0; IP6_KEY],
+        };
+        let class = extract(link, frame, &mut key);
+        Packet { class, key }
+    }
+
+    /// The class of the frame.
+    pub fn class(&self) -> Class
+        ensures { result ≡ self.now.class }
+    {
+        self.class
+    }
+
+    /// The key of the packet, of 13 bytes for IPv4 and 37 for IPv6.
+    pub fn key(&self) -> &[u8]
+        ensures key { result.now ≡ self.now.key }
+        ensures len { length result.now ≡ key_len self.now.class }
+    {
+        match self.class {
+            Class::Ip4 => &self.key.bytes[..IP4_KEY],
+            Class::Ip6 => &self.key.bytes,
+            Class::Other | Class::Short => &[],
+        }
+    }
+}
