@@ -21,27 +21,36 @@ IsKnown content name old new = (told : Content) → content ≡ Some told → Is
 
 -- a file that no told content has
 abbrev IsAbsent : Option Content → List ℕ → Type 0
-IsAbsent content name = (files : List File) → option_map (λ c. c.files) content ≡ Some files → bytes_of files name ≡ None
+IsAbsent content name = (files : List File) → option_map (λ c. c.files) content ≡ Some files →
+    bytes_of files name ≡ None
 
 -- a file is there or absent, by what its name finds
-found_or_absent : (told : Content) (name : List ℕ) (found : Option (List ℕ)) → bytes_of told.files name ≡ found → IsSome (bytes_of told.files name) ⊎ IsAbsent (Some told) name
+found_or_absent : (told : Content) (name : List ℕ) (found : Option (List ℕ)) → bytes_of told.files name ≡ found →
+    IsSome (bytes_of told.files name) ⊎ IsAbsent (Some told) name
 found_or_absent told name (Some bytes) e = inl (rw e refl)
 found_or_absent told name None e = inr (λ files same. let at : told.files ≡ files = cc in rw (← at) e)
 
-known_or_absent : (content : Option Content) (name : List ℕ) (old new : DeskView) → IsKnown content name old new → Rose old.read_faults new.read_faults ⊎ IsAbsent content name
+known_or_absent : (content : Option Content) (name : List ℕ) (old new : DeskView) → IsKnown content name old new →
+    Rose old.read_faults new.read_faults ⊎ IsAbsent content name
 known_or_absent None name old new known = inr (λ files told. absurd (cc))
 known_or_absent (Some told) name old new known =
-    elim (found_or_absent told name (bytes_of told.files name) refl) [ inl found ↦ inl ((known told refl found).1) | inr absent ↦ inr absent ]
+    elim (found_or_absent told name (bytes_of told.files name) refl) [
+      | inl found ↦ inl
+          ((known told refl found).1)
+      | inr absent ↦ inr absent
+    ]
 
 -- A file that can't be opened is a fault of the desk, or it is absent.
-pub cannot_open : (name : List ℕ) (old new : DeskView) → Rose old.read_faults new.read_faults ⊎ Rose old.absent new.absent →
+pub cannot_open : (name : List ℕ) (old new : DeskView) →
+    Rose old.read_faults new.read_faults ⊎ Rose old.absent new.absent →
     IsKnown old.content name old new → CannotRead old new (λ files. bytes_of files name ≡ None)
 cannot_open name old new (inl rose) known = inl rose
 cannot_open name old new (inr rose) known =
     elim (known_or_absent old.content name old new known) [ inl fault ↦ inl fault | inr absent ↦ inr (rose, absent) ]
 
 -- the files of what is told stay
-told_files : (P : Content → Content → Type 0) → ((a b : Content) → P a b → b.files ≡ a.files) → (old new : Option Content) → Steps P old new →
+told_files : (P : Content → Content → Type 0) → ((a b : Content) → P a b → b.files ≡ a.files) →
+    (old new : Option Content) → Steps P old new →
     option_map (λ c. c.files) new ≡ option_map (λ c. c.files) old
 told_files P keeps None None step = refl
 told_files P keeps (Some old) (Some new) step = ap Some (keeps old new step)
@@ -49,14 +58,16 @@ told_files P keeps None (Some new) step = absurd step
 told_files P keeps (Some old) None step = absurd step
 
 -- where no file is opened, the files stay
-pub unopened_kept : {T E : Type 0} (name : List ℕ) (old new : DeskView) (e : E) → OpensFile {T = T} name old new (Err e) → KeepsFiles old new
+pub unopened_kept : {T E : Type 0} (name : List ℕ) (old new : DeskView) (e : E) →
+    OpensFile {T = T} name old new (Err e) → KeepsFiles old new
 unopened_kept name old new e opens = record {
   files = told_files GivesUp (λ a b step. step.files) old.content new.content opens.given_up;
   counts = opens.counts;
 }
 
 -- The file can't be opened.
-pub ReadsFile-unopened : {T E : Type 0} (name : List ℕ) (cap : ℕ) (old new : DeskView) (e : E) → OpensFile {T = T} name old new (Err e) →
+pub ReadsFile-unopened : {T E : Type 0} (name : List ℕ) (cap : ℕ) (old new : DeskView) (e : E) →
+    OpensFile {T = T} name old new (Err e) →
     ReadsFile name cap old new (Err ReadFault)
 ReadsFile-unopened name cap old new e opens = record {
   file = opening_of name false;
@@ -73,7 +84,8 @@ ReadsFile-unopened name cap old new e opens = record {
 }
 
 -- an opening with its first bytes
-begun : (name bytes : List ℕ) → with_bytes bytes (opening_of name true) ≡ record { name = name; bytes = bytes; ending = GoesOn }
+begun : (name bytes : List ℕ) →
+    with_bytes bytes (opening_of name true) ≡ record { name = name; bytes = bytes; ending = GoesOn }
 begun name [] = refl
 begun name (b ∷ bs) = refl
 
@@ -85,9 +97,11 @@ heard_file change name bytes old mid new x opens reads =
     ∙ ap (λ file. change file ∷ heard old.answers) (begun name bytes)
 
 -- what was read is a part of the told file
-pub part_told : (name bytes : List ℕ) (ending : Ending) (old mid new : Option Content) → Steps (Opens name) old mid → Steps (Gives bytes) mid new →
+pub part_told : (name bytes : List ℕ) (ending : Ending) (old mid new : Option Content) → Steps (Opens name) old mid →
+    Steps (Gives bytes) mid new →
     (ending ≡ Ended → (content : Content) → new ≡ Some content → content.left ≡ []) →
-    (files : List File) → option_map (λ c. c.files) old ≡ Some files → IsPartOf files (record { name = name; bytes = bytes; ending = ending })
+    (files : List File) → option_map (λ c. c.files) old ≡ Some files →
+    IsPartOf files (record { name = name; bytes = bytes; ending = ending })
 part_told name bytes ending None mid new opens gives ended files told = absurd (cc)
 part_told name bytes ending (Some old) None new opens gives ended files told = absurd opens
 part_told name bytes ending (Some old) (Some mid) None opens gives ended files told = absurd gives
@@ -100,7 +114,8 @@ part_told name bytes ending (Some old) (Some mid) (Some new) opens gives ended f
     }
 
 -- fewer bytes than the cap are all that was left
-ended_told : (cap : ℕ) (bytes : List ℕ) (old new : Option Content) → Steps (GivesUpTo cap bytes) old new → length bytes < cap →
+ended_told : (cap : ℕ) (bytes : List ℕ) (old new : Option Content) → Steps (GivesUpTo cap bytes) old new →
+    length bytes < cap →
     (content : Content) → new ≡ Some content → content.left ≡ []
 ended_told cap bytes None None gives few content told = absurd (cc)
 ended_told cap bytes None (Some new) gives few content told = absurd gives
@@ -110,7 +125,8 @@ ended_told cap bytes (Some old) (Some new) gives few content told =
     let short : length old.left ≤ cap = omega (arith, ap length gives.given, length-take cap old.left, few) in
     rw (← at) (gives.left ∙ drop_all cap old.left short)
 
-pub opened_told : (name bytes : List ℕ) (old mid new : Option Content) → Steps (Opens name) old mid → Steps (Gives bytes) mid new →
+pub opened_told : (name bytes : List ℕ) (old mid new : Option Content) → Steps (Opens name) old mid →
+    Steps (Gives bytes) mid new →
     (files : List File) → option_map (λ c. c.files) old ≡ Some files → option_map (λ c. c.opened) new ≡ Some (Some name)
 opened_told name bytes None mid new opens gives files told = absurd (cc)
 opened_told name bytes (Some old) None new opens gives files told = absurd opens
@@ -119,13 +135,17 @@ opened_told name bytes (Some old) (Some mid) (Some new) opens gives files told =
 
 -- an opened file was there
 pub opened_absent : (name : List ℕ) (old new : DeskView) (old_content new_content : Option Content) →
-    ((content : Content) → old_content ≡ Some content → IsSome (bytes_of content.files name) → new.absent ≡ old.absent) →
-    Steps (Opens name) old_content new_content → (files : List File) → option_map (λ c. c.files) old_content ≡ Some files → new.absent ≡ old.absent
+    ((content : Content) → old_content ≡ Some content → IsSome (bytes_of content.files name) →
+    new.absent ≡ old.absent) →
+    Steps (Opens name) old_content new_content → (files : List File) →
+    option_map (λ c. c.files) old_content ≡ Some files → new.absent ≡ old.absent
 opened_absent name old new None new_content there opens files told = absurd (cc)
 opened_absent name old new (Some content) None there opens files told = absurd opens
-opened_absent name old new (Some content) (Some after) there opens files told = there content refl (rw (opens.left) refl)
+opened_absent name old new (Some content) (Some after) there opens files told =
+    there content refl (rw (opens.left) refl)
 
-pub kept_files : {T E : Type 0} (name bytes : List ℕ) (old mid new : DeskView) (x : T) → OpensFile {E = E} name old mid (Ok x) →
+pub kept_files : {T E : Type 0} (name bytes : List ℕ) (old mid new : DeskView) (x : T) →
+    OpensFile {E = E} name old mid (Ok x) →
     Steps (Gives bytes) mid.content new.content → KeepsCounts mid new → KeepsFiles old new
 kept_files name bytes old mid new x opens gives counts = record {
   files =
@@ -144,9 +164,11 @@ ReadsFile-read name cap old mid new x bytes opens reads = go reads.heard
   where
     absent_kept : (files : List File) → files_of old ≡ Some files → new.absent ≡ old.absent
     absent_kept files told =
-        reads.absent ∙ opened_absent name old mid old.content mid.content (λ content at some. (opens.there content at some).0) opens.opened files told
+        reads.absent ∙ opened_absent name old mid old.content mid.content
+        (λ content at some. (opens.there content at some).0) opens.opened files told
 
-    go : (ReadsOn (with_ending Ended) bytes.items mid new × (length bytes.items < cap)) ⊎ (ReadsOn and_goes_on bytes.items mid new × (length bytes.items ≡ cap)) →
+    go : (ReadsOn (with_ending Ended) bytes.items mid new × (length bytes.items < cap))
+        ⊎ (ReadsOn and_goes_on bytes.items mid new × (length bytes.items ≡ cap)) →
         ReadsFile name cap old new (Ok bytes)
     go (inl (on, few)) = record {
       file = record { name = name; bytes = bytes.items; ending = Ended };
@@ -159,7 +181,8 @@ ReadsFile-read name cap old mid new x bytes opens reads = go reads.heard
       ending = inl refl;
       fault = tt;
       read_fault = λ e. absurd (cc);
-      opened = λ files told. opened_told name bytes.items old.content mid.content new.content opens.opened on.told files told;
+      opened = λ files told. opened_told name bytes.items old.content mid.content new.content opens.opened on.told files
+          told;
       absent = λ files told isnt. absent_kept files told;
       kept = kept_files name bytes.items old mid new x opens on.told reads.counts;
     }
@@ -168,19 +191,22 @@ ReadsFile-read name cap old mid new x bytes opens reads = go reads.heard
       named = refl;
       heard = heard_file and_goes_on name bytes.items old mid new x opens on;
       told = λ files told opened.
-          part_told name bytes.items GoesOn old.content mid.content new.content opens.opened on.told (λ e. absurd (cc)) files told;
+          part_told name bytes.items GoesOn old.content mid.content new.content opens.opened on.told
+          (λ e. absurd (cc)) files told;
       bytes = refl;
       ending = inr (refl, full);
       fault = tt;
       read_fault = λ e. absurd (cc);
-      opened = λ files told. opened_told name bytes.items old.content mid.content new.content opens.opened on.told files told;
+      opened = λ files told. opened_told name bytes.items old.content mid.content new.content opens.opened on.told files
+          told;
       absent = λ files told isnt. absent_kept files told;
       kept = kept_files name bytes.items old mid new x opens on.told reads.counts;
     }
 
 -- The file is opened, and a read fails.
 pub ReadsFile-broken : {T E : Type 0} (name : List ℕ) (cap : ℕ) (old mid new : DeskView) (x : T) →
-    OpensFile {E = E} name old mid (Ok x) → ReadsUpTo cap mid new (Err reading.ReadFault) → ReadsFile name cap old new (Err ReadFault)
+    OpensFile {E = E} name old mid (Ok x) → ReadsUpTo cap mid new (Err reading.ReadFault) →
+    ReadsFile name cap old new (Err ReadFault)
 ReadsFile-broken name cap old mid new x opens reads =
     let (bytes, on) = reads.lost in
     record {
@@ -188,7 +214,8 @@ ReadsFile-broken name cap old mid new x opens reads =
       named = refl;
       heard = heard_file (with_ending BrokenOff) name bytes old mid new x opens on;
       told = λ files told opened.
-          part_told name bytes BrokenOff old.content mid.content new.content opens.opened on.told (λ e. absurd (cc)) files told;
+          part_told name bytes BrokenOff old.content mid.content new.content opens.opened on.told
+          (λ e. absurd (cc)) files told;
       bytes = tt;
       ending = tt;
       fault = inr (refl, refl);
@@ -200,7 +227,8 @@ ReadsFile-broken name cap old mid new x opens reads =
 
 -- The file is opened, and there is no memory for it.
 pub ReadsFile-full : {T E : Type 0} (name : List ℕ) (cap : ℕ) (old mid new : DeskView) (x : T) →
-    OpensFile {E = E} name old mid (Ok x) → ReadsUpTo cap mid new (Err reading.OutOfMemory) → ReadsFile name cap old new (Err OutOfMemory)
+    OpensFile {E = E} name old mid (Ok x) → ReadsUpTo cap mid new (Err reading.OutOfMemory) →
+    ReadsFile name cap old new (Err OutOfMemory)
 ReadsFile-full name cap old mid new x opens reads =
     let (bytes, on) = reads.lost in
     record {
@@ -208,13 +236,15 @@ ReadsFile-full name cap old mid new x opens reads =
       named = refl;
       heard = heard_file and_goes_on name bytes old mid new x opens on;
       told = λ files told opened.
-          part_told name bytes GoesOn old.content mid.content new.content opens.opened on.told (λ e. absurd (cc)) files told;
+          part_told name bytes GoesOn old.content mid.content new.content opens.opened on.told
+          (λ e. absurd (cc)) files told;
       bytes = tt;
       ending = tt;
       fault = inl refl;
       read_fault = λ e. absurd (cc);
       opened = λ files told. tt;
       absent = λ files told isnt.
-          reads.absent ∙ opened_absent name old mid old.content mid.content (λ content at some. (opens.there content at some).0) opens.opened files told;
+          reads.absent ∙ opened_absent name old mid old.content mid.content
+          (λ content at some. (opens.there content at some).0) opens.opened files told;
       kept = kept_files name bytes old mid new x opens on.told reads.counts;
     }

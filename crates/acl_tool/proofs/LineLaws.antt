@@ -18,7 +18,8 @@ use Rattle.acl_tool.specs.Report.{line_of_packet, lines_of_packets, lines_of_rec
 lines_of_packets-append : (classifier : Classifier) (number : ℕ) (first second : List FrameClass) →
     lines_of_packets classifier number (first ++ second)
     ≡ lines_of_packets classifier number first ++ lines_of_packets classifier (number + length first) second
-lines_of_packets-append classifier number [] second = ap (λ n. lines_of_packets classifier n second) (sym (add-zero number))
+lines_of_packets-append classifier number [] second =
+    ap (λ n. lines_of_packets classifier n second) (sym (add-zero number))
 lines_of_packets-append classifier number (p ∷ ps) second =
     let line = line_of_packet classifier number p in
     let rest = lines_of_packets classifier (number + 1) ps in
@@ -28,7 +29,8 @@ lines_of_packets-append classifier number (p ∷ ps) second =
     ∙ ap (λ n. (line ++ rest) ++ lines_of_packets classifier n second) sum
 
 -- the lines of records, and then of those behind them
-pub lines_of_records-append : (classifier : Classifier) (first second : List CaptureRecord) (number : ℕ) → number ≡ length first + 1 →
+pub lines_of_records-append : (classifier : Classifier) (first second : List CaptureRecord) (number : ℕ) →
+    number ≡ length first + 1 →
     lines_of_records classifier (first ++ second)
     ≡ lines_of_records classifier first ++ lines_of_packets classifier number (map packet_of second)
 lines_of_records-append classifier first second number is =
@@ -37,17 +39,20 @@ lines_of_records-append classifier first second number is =
     ∙ lines_of_packets-append classifier 1 (map packet_of first) (map packet_of second)
     ∙ ap (λ n. lines_of_records classifier first ++ lines_of_packets classifier n (map packet_of second)) sum
 
-counts_more : (classes : List Class) (class : Class) → counts_of (classes ++ class ∷ []) ≡ counted class (counts_of classes)
+counts_more : (classes : List Class) (class : Class) →
+    counts_of (classes ++ class ∷ []) ≡ counted class (counts_of classes)
 counts_more classes Ip4 = grind (arith, common_steps)
 counts_more classes Ip6 = grind (arith, common_steps)
 counts_more classes Other = grind (arith, common_steps)
 counts_more classes Short = grind (arith, common_steps)
 
-counted_all-counts : (first second : List FrameClass) → counted_all second (counts_of (classes_of first)) ≡ counts_of (classes_of (first ++ second))
+counted_all-counts : (first second : List FrameClass) →
+    counted_all second (counts_of (classes_of first)) ≡ counts_of (classes_of (first ++ second))
 counted_all-counts first [] = ap (λ l. counts_of (classes_of l)) (sym (append-nil first))
 counted_all-counts first (p ∷ ps) =
     ap (counted_all ps)
-    (sym (ap counts_of (map-append (λ (packet : FrameClass). packet.class) first (p ∷ [])) ∙ counts_more (classes_of first) p.class))
+    (sym (ap counts_of (map-append (λ (packet : FrameClass). packet.class) first (p ∷ []))
+    ∙ counts_more (classes_of first) p.class))
     ∙ counted_all-counts (first ++ p ∷ []) ps
     ∙ ap (λ l. counts_of (classes_of l)) (append_assoc first (p ∷ []) ps)
 
@@ -72,7 +77,8 @@ one_class Other = refl
 one_class Short = refl
 
 classes_add_up : (classes : List Class) →
-    count_by is_ip4 classes + count_by is_ip6 classes + count_by is_other classes + count_by is_short classes ≡ length classes
+    count_by is_ip4 classes + count_by is_ip6 classes + count_by is_other classes + count_by is_short classes
+    ≡ length classes
 classes_add_up [] = refl
 classes_add_up (class ∷ classes) =
     omega (
@@ -98,14 +104,16 @@ ends_in_line_feed first words =
     sum_by-append f (first ++ spaced words) (line_feed ∷ []) in
     omega (arith, all, end)
 
-lines_in-packets : (classifier : Classifier) (number : ℕ) (packets : List FrameClass) → length packets ≤ lines_in (lines_of_packets classifier number packets)
+lines_in-packets : (classifier : Classifier) (number : ℕ) (packets : List FrameClass) →
+    length packets ≤ lines_in (lines_of_packets classifier number packets)
 lines_in-packets classifier number [] = omega arith
 lines_in-packets classifier number (p ∷ ps) =
     let f : ℕ → ℕ = λ byte. cond (byte == line_feed) 1 0 in
     let line = line_of_packet classifier number p in
     let ends : 1 ≤ lines_in line = ends_in_line_feed (decimal number)
     (class_word p.class ∷ answer_words p.class (map Some (verdicts_of classifier p))) in
-    let all : lines_in (line ++ lines_of_packets classifier (number + 1) ps) ≡ lines_in line + lines_in (lines_of_packets classifier (number + 1) ps) =
+    let all : lines_in (line ++ lines_of_packets classifier (number + 1) ps)
+    ≡ lines_in line + lines_in (lines_of_packets classifier (number + 1) ps) =
     sum_by-append f line (lines_of_packets classifier (number + 1) ps) in
     omega (
       arith,
@@ -119,7 +127,8 @@ pub lines_in-records : (classifier : Classifier) (records : List CaptureRecord) 
     length records ≤ lines_in (lines_of_records classifier records ++ more)
 lines_in-records classifier records more =
     let f : ℕ → ℕ = λ byte. cond (byte == line_feed) 1 0 in
-    let all : lines_in (lines_of_records classifier records ++ more) ≡ lines_in (lines_of_records classifier records) + lines_in more =
+    let all : lines_in (lines_of_records classifier records ++ more)
+    ≡ lines_in (lines_of_records classifier records) + lines_in more =
     sum_by-append f (lines_of_records classifier records) more in
     omega (
       arith,
@@ -128,18 +137,12 @@ lines_in-records classifier records more =
       length-map records packet_of,
     )
 
+-- one packet more
 pub counted-packets : (class : Class) (counts : Counts) → (counted class counts).packets ≡ counts.packets + 1
 counted-packets Ip4 counts = refl
 counted-packets Ip6 counts = refl
 counted-packets Other counts = refl
 counted-packets Short counts = refl
-
-pub counted-add_up : (class : Class) (counts : Counts) → counts.ip4 + counts.ip6 + counts.other + counts.short ≡ counts.packets →
-    let now = counted class counts in now.ip4 + now.ip6 + now.other + now.short ≡ now.packets
-counted-add_up Ip4 counts sum = omega arith
-counted-add_up Ip6 counts sum = omega arith
-counted-add_up Other counts sum = omega arith
-counted-add_up Short counts sum = omega arith
 
 -- verdicts in which no dash stands
 pub answers-plain : (n : ℕ) (verdicts : List ℕ) → length verdicts ≤ n →
@@ -149,12 +152,18 @@ answers-plain zero (v ∷ vs) few = absurd (omega (arith, few))
 answers-plain (suc n) (v ∷ vs) few = ap (λ l. Some v ∷ l) (answers-plain n vs (omega (arith, few)))
 
 -- what is written of a packet is its line
-pub line-is : (classifier : Classifier) (counts counts_new : Counts) (packet : FrameClass) (class counted_class : Class) (verdicts : List ℕ)
-    (dashes : List Bool) → counts_new ≡ counted counted_class counts → counted_class ≡ packet.class → class ≡ packet.class →
-    verdicts ≡ verdicts_of classifier packet → dashes ≡ take (length verdicts) (replicate 16 false) → length verdicts ≤ 16 →
-    packet_text counts_new.packets class (answers verdicts dashes) ≡ line_of_packet classifier (counts.packets + 1) packet
-line-is classifier counts counts_new packet class counted_class verdicts dashes is_counted is_class is_shown is_verdicts is_plain few =
-    let number : counts_new.packets ≡ counts.packets + 1 = ap (λ c. c.packets) is_counted ∙ counted-packets counted_class counts in
+pub line-is : (classifier : Classifier) (counts counts_new : Counts) (packet : FrameClass)
+    (class counted_class : Class) (verdicts : List ℕ)
+    (dashes : List Bool) → counts_new ≡ counted counted_class counts → counted_class ≡ packet.class →
+    class ≡ packet.class →
+    verdicts ≡ verdicts_of classifier packet → dashes ≡ take (length verdicts) (replicate 16 false) →
+    length verdicts ≤ 16 →
+    packet_text counts_new.packets class (answers verdicts dashes)
+    ≡ line_of_packet classifier (counts.packets + 1) packet
+line-is classifier counts counts_new packet class counted_class verdicts dashes is_counted is_class is_shown is_verdicts
+    is_plain few =
+    let number : counts_new.packets ≡ counts.packets + 1 = ap (λ c. c.packets) is_counted
+    ∙ counted-packets counted_class counts in
     let shown : answers verdicts dashes ≡ map Some (verdicts_of classifier packet) =
     ap (answers verdicts) is_plain ∙ answers-plain 16 verdicts few ∙ ap (map Some) is_verdicts in
     ap (λ n. packet_text n class (answers verdicts dashes)) number
@@ -162,14 +171,20 @@ line-is classifier counts counts_new packet class counted_class verdicts dashes 
     ∙ ap (packet_text (counts.packets + 1) packet.class) shown
 
 -- how many packets are counted with these more
-pub counted_all-packets : (packets : List FrameClass) (counts : Counts) → (counted_all packets counts).packets ≡ counts.packets + length packets
+pub counted_all-packets : (packets : List FrameClass) (counts : Counts) →
+    (counted_all packets counts).packets ≡ counts.packets + length packets
 counted_all-packets [] counts = omega arith
-counted_all-packets (p ∷ ps) counts = omega (arith, counted_all-packets ps (counted p.class counts), counted-packets p.class counts)
+counted_all-packets (p ∷ ps) counts =
+    omega (arith, counted_all-packets ps (counted p.class counts), counted-packets p.class counts)
 
 -- nothing is counted yet
 pub counts-none : (counts : Counts) →
-    (counts.packets ≡ 0) × ((counts.ip4 ≡ 0) × ((counts.ip6 ≡ 0) × ((counts.other ≡ 0) × (counts.short ≡ 0)))) → counts ≡ counts_of_records []
+    (counts.packets ≡ 0) × ((counts.ip4 ≡ 0) × ((counts.ip6 ≡ 0) × ((counts.other ≡ 0) × (counts.short ≡ 0)))) →
+    counts ≡ counts_of_records []
 counts-none counts none =
-    let with_counts : ℕ → ℕ → ℕ → ℕ → ℕ → Counts = λ p a b o s. record { packets = p; ip4 = a; ip6 = b; other = o; short = s } in
-    ap (λ n. with_counts n counts.ip4 counts.ip6 counts.other counts.short) (none.0) ∙ ap (λ n. with_counts 0 n counts.ip6 counts.other counts.short) (none.1.0)
-    ∙ ap (λ n. with_counts 0 0 n counts.other counts.short) (none.1.1.0) ∙ ap (λ n. with_counts 0 0 0 n counts.short) (none.1.1.1.0) ∙ ap (with_counts 0 0 0 0) (none.1.1.1.1)
+    let with_counts : ℕ → ℕ → ℕ → ℕ → ℕ →
+    Counts = λ p a b o s. record { packets = p; ip4 = a; ip6 = b; other = o; short = s } in
+    ap (λ n. with_counts n counts.ip4 counts.ip6 counts.other counts.short) (none.0)
+    ∙ ap (λ n. with_counts 0 n counts.ip6 counts.other counts.short) (none.1.0)
+    ∙ ap (λ n. with_counts 0 0 n counts.other counts.short) (none.1.1.0)
+    ∙ ap (λ n. with_counts 0 0 0 n counts.short) (none.1.1.1.0) ∙ ap (with_counts 0 0 0 0) (none.1.1.1.1)

@@ -31,17 +31,21 @@ KeepsFiles-then old mid new first second = record {
 pub CannotRead-because : (P Q : List File → Type 0) (old new : DeskView) →
     ((files : List File) → files_of old ≡ Some files → P files → Q files) → CannotRead old new P → CannotRead old new Q
 CannotRead-because P Q old new because (inl rose) = inl rose
-CannotRead-because P Q old new because (inr (rose, absent)) = inr (rose, λ files told. because files told (absent files told))
+CannotRead-because P Q old new because (inr (rose, absent)) =
+    inr (rose, λ files told. because files told (absent files told))
 
 -- a fault of the desk after a step that had none
-CannotRead-later : (P : List File → Type 0) (old mid new : DeskView) → KeepsFiles old mid → CannotRead mid new P → CannotRead old new P
+CannotRead-later : (P : List File → Type 0) (old mid new : DeskView) → KeepsFiles old mid → CannotRead mid new P →
+    CannotRead old new P
 CannotRead-later P old mid new kept (inl rose) = inl (omega (arith, kept.counts.read_faults, rose))
 CannotRead-later P old mid new kept (inr (rose, absent)) =
     inr (omega (arith, kept.counts.absent, rose), λ files told. absent files (kept.files ∙ told))
 
 -- enough of a file was heard where it ended, or where as much was read as tells all
-read_enough : {A : Type 0} (next : List ℕ → Plan A) (name : List ℕ) (cap : ℕ) (old new : DeskView) (bytes : Vec ℕ Global)
-    (read : ReadsFile name cap old new (Ok bytes)) → ((front more : List ℕ) → length front ≡ cap → next (front ++ more) ≡ next front) →
+read_enough : {A : Type 0} (next : List ℕ → Plan A) (name : List ℕ) (cap : ℕ) (old new : DeskView)
+    (bytes : Vec ℕ Global)
+    (read : ReadsFile name cap old new (Ok bytes)) →
+    ((front more : List ℕ) → length front ≡ cap → next (front ++ more) ≡ next front) →
     IsEnough next read.file
 read_enough next name cap old new bytes read long =
     elim read.ending [
@@ -53,7 +57,8 @@ follows_value : {A : Type 0} (told : Option (List File)) (result : Result A Stat
     result ≡ Ok value → new ≡ old → Follows told (unless_refused result) old new (Given value)
 follows_value told result value old new is same = rw is (same, refl)
 
-follows_stop : {A : Type 0} (told : Option (List File)) (result : Result A Status) (status : Status) (old new : List Heard) →
+follows_stop : {A : Type 0} (told : Option (List File)) (result : Result A Status) (status : Status)
+    (old new : List Heard) →
     result ≡ Err status → new ≡ old → Follows told (unless_refused result) old new (Stopped status)
 follows_stop told result status old new is same = rw is (same, refl)
 
@@ -68,22 +73,31 @@ said-nothing : (file : Heard) → said nothing file ≡ []
 said-nothing file = nothing_in file.ending
 
 -- A file was read, and its bytes give a value or are refused.
-pub Takes-read : {X Y : Type 0} (name : List ℕ) (cap : ℕ) (parse : List ℕ → Result Y Status) (seen : X → Y) (old new : DeskView)
-    (bytes : Vec ℕ Global) (items : List ℕ) (result : Result X Status) → ReadsFile name cap old new (Ok bytes) → items ≡ bytes.items →
+pub Takes-read : {X Y : Type 0} (name : List ℕ) (cap : ℕ) (parse : List ℕ → Result Y Status) (seen : X → Y)
+    (old new : DeskView)
+    (bytes : Vec ℕ Global) (items : List ℕ) (result : Result X Status) → ReadsFile name cap old new (Ok bytes) →
+    items ≡ bytes.items →
     ((front more : List ℕ) → length front ≡ cap → parse (front ++ more) ≡ parse front) →
-    IfOk result (λ x. parse items ≡ Ok (seen x)) → IfErr result (λ status. (parse items ≡ Err status) ⊎ (status ≡ OutOfMemory)) →
+    IfOk result (λ x. parse items ≡ Ok (seen x)) →
+    IfErr result (λ status. (parse items ≡ Err status) ⊎ (status ≡ OutOfMemory)) →
     IfErr result (λ status. status ≢ ReadFault) → IfErr result (λ status. is_reported status ≡ false) →
     IfErr result (λ status. is_usage status ≡ false) →
     Takes (reading name >>= λ front. unless_refused (parse front)) seen old new result
 Takes-read name cap parse seen old new bytes items (Ok x) read is_items long value refusal unread unreported lawful =
-    let enough = read_enough (λ front. unless_refused (parse front)) name cap old new bytes read (λ front more e. ap unless_refused (long front more e)) in
+    let enough = read_enough (λ front. unless_refused (parse front)) name cap old new bytes read
+    (λ front more e. ap unless_refused (long front more e)) in
     record {
       reached = Given (seen x);
-      follows = inr (read.file, read.named, read.told, inr (
-        enough,
-        follows_value (files_of old) (parse read.file.bytes) (seen x) (read.file ∷ heard_of old) (heard_of new)
-        (ap parse (read.bytes ∙ sym is_items) ∙ value) read.heard,
-      ));
+      follows = inr (
+        read.file,
+        read.named,
+        read.told,
+        inr (
+          enough,
+          follows_value (files_of old) (parse read.file.bytes) (seen x) (read.file ∷ heard_of old) (heard_of new)
+              (ap parse (read.bytes ∙ sym is_items) ∙ value) read.heard,
+        ),
+      );
       answer = refl;
       read_fault = λ e. absurd (cc);
       unreported = tt;
@@ -91,15 +105,22 @@ Takes-read name cap parse seen old new bytes items (Ok x) read is_items long val
       absent = λ files told isnt. read.absent files told (λ e. absurd (cc));
       kept = read.kept;
     }
-Takes-read name cap parse seen old new bytes items (Err status) read is_items long value (inl refused) unread unreported lawful =
-    let enough = read_enough (λ front. unless_refused (parse front)) name cap old new bytes read (λ front more e. ap unless_refused (long front more e)) in
+Takes-read name cap parse seen old new bytes items (Err status) read is_items long value
+    (inl refused) unread unreported lawful =
+    let enough = read_enough (λ front. unless_refused (parse front)) name cap old new bytes read
+    (λ front more e. ap unless_refused (long front more e)) in
     record {
       reached = Stopped status;
-      follows = inr (read.file, read.named, read.told, inr (
-        enough,
-        follows_stop (files_of old) (parse read.file.bytes) status (read.file ∷ heard_of old) (heard_of new)
-        (ap parse (read.bytes ∙ sym is_items) ∙ refused) read.heard,
-      ));
+      follows = inr (
+        read.file,
+        read.named,
+        read.told,
+        inr (
+          enough,
+          follows_stop (files_of old) (parse read.file.bytes) status (read.file ∷ heard_of old) (heard_of new)
+              (ap parse (read.bytes ∙ sym is_items) ∙ refused) read.heard,
+        ),
+      );
       answer = refl;
       read_fault = λ e. absurd (unread (cc));
       unreported = unreported;
@@ -107,16 +128,23 @@ Takes-read name cap parse seen old new bytes items (Err status) read is_items lo
       absent = λ files told isnt. read.absent files told (λ e. absurd (cc));
       kept = read.kept;
     }
-Takes-read name cap parse seen old new bytes items (Err status) read is_items long value (inr full) unread unreported lawful = record {
-  reached = Within read.file [];
-  follows = inr (read.file, read.named, read.told, inl (read.heard, ap (Within read.file) (sym (said-nothing read.file))));
-  answer = (refl, inl full);
-  read_fault = λ e. absurd (unread (cc));
-  unreported = unreported;
-  lawful = lawful;
-  absent = λ files told isnt. read.absent files told (λ e. absurd (cc));
-  kept = read.kept;
-}
+Takes-read name cap parse seen old new bytes items (Err status) read is_items long value
+    (inr full) unread unreported lawful = record {
+      reached = Within read.file [];
+      follows = inr (
+        read.file,
+        read.named,
+        read.told,
+        inl
+            (read.heard, ap (Within read.file) (sym (said-nothing read.file))),
+      );
+      answer = (refl, inl full);
+      read_fault = λ e. absurd (unread (cc));
+      unreported = unreported;
+      lawful = lawful;
+      absent = λ files told isnt. read.absent files told (λ e. absurd (cc));
+      kept = read.kept;
+    }
 
 unread_reported : (status other : Status) → (status ≡ OutOfMemory) ⊎ ((status ≡ ReadFault) × (status ≡ other)) →
     (is_reported status ≡ false) × (is_usage status ≡ false)
@@ -129,14 +157,22 @@ unread_cut status other (inl full) = inl full
 unread_cut status other (inr (fault, is)) = inr is
 
 -- A file wasn't read to its end.
-pub Takes-unread : {X Y : Type 0} (name : List ℕ) (cap : ℕ) (f : List ℕ → Plan Y) (seen : X → Y) (old new : DeskView) (status : Status) →
+pub Takes-unread : {X Y : Type 0} (name : List ℕ) (cap : ℕ) (f : List ℕ → Plan Y) (seen : X → Y) (old new : DeskView)
+    (status : Status) →
     ReadsFile name cap old new (Err status) → Takes (reading name >>= f) seen old new (Err status)
 Takes-unread name cap f seen old new status read = record {
   reached = Within read.file [];
-  follows = inr (read.file, read.named, read.told, inl (read.heard, ap (Within read.file) (sym (said-nothing read.file))));
+  follows = inr (
+    read.file,
+    read.named,
+    read.told,
+    inl
+        (read.heard, ap (Within read.file) (sym (said-nothing read.file))),
+  );
   answer = (refl, unread_cut status _ read.fault);
   read_fault = λ e.
-      CannotRead-because _ _ old new (λ files told none. ap (λ o. option_map_or (λ bytes. found (f bytes) files) o (Err ReadFault)) none)
+      CannotRead-because _ _ old new
+      (λ files told none. ap (λ o. option_map_or (λ bytes. found (f bytes) files) o (Err ReadFault)) none)
       (read.read_fault (ap Err (let is : status ≡ ReadFault = cc in is)));
   unreported = (unread_reported status _ read.fault).0;
   lawful = (unread_reported status _ read.fault).1;
@@ -152,7 +188,8 @@ cut_ended (Before name) status cut = inl cut
 cut_ended (Within file text) status (silent_text, inl full) = inr (inr full)
 cut_ended (Within file text) status (silent_text, inr is) = inl is
 
-cut_silent : {A : Type 0} (reached : Reached A) (status : Status) → IsCutOff reached status → (outcome_of (carried reached)).text ≡ []
+cut_silent : {A : Type 0} (reached : Reached A) (status : Status) → IsCutOff reached status →
+    (outcome_of (carried reached)).text ≡ []
 cut_silent (Given value) status cut = absurd cut
 cut_silent (Stopped refusal) status cut = refl
 cut_silent (Before name) status cut = refl
@@ -162,11 +199,13 @@ unwritten : (status : Status) → is_reported status ≡ false → status ≡ Wr
 unwritten status unreported is = false≢true (sym unreported ∙ ap is_reported is)
 
 -- A step ended the command.
-pub Ends-cut : {X Y : Type 0} (plan : Plan Y) (seen : X → Y) (f : Y → Plan Outcome) (old new : DeskView) (out : SinkView) (status : Status) →
+pub Ends-cut : {X Y : Type 0} (plan : Plan Y) (seen : X → Y) (f : Y → Plan Outcome) (old new : DeskView)
+    (out : SinkView) (status : Status) →
     Takes plan seen old new (Err status) → Ends (plan >>= f) (outside old out) (outside new out) status
 Ends-cut plan seen f old new out status step = record {
   reached = carried step.reached;
-  follows = Follows-cut plan f status (files_of old) (heard_of old) (heard_of new) step.reached step.answer step.follows;
+  follows = Follows-cut plan f status (files_of old) (heard_of old)
+      (heard_of new) step.reached step.answer step.follows;
   ended = cut_ended step.reached status step.answer;
   text = λ unwritten full. rw (cut_silent step.reached status step.answer) (Gains-none out);
   prefix = λ e. GainsPrefix-none (outcome_of (carried step.reached)).text out;
@@ -182,8 +221,10 @@ Ends-cut plan seen f old new out status step = record {
 }
 
 -- A step gave its value, and the rest ended the command.
-pub Ends-then : {X Y : Type 0} (plan : Plan Y) (seen : X → Y) (f : Y → Plan Outcome) (old mid new : DeskView) (out_old out_new : SinkView)
-    (x : X) (status : Status) → Takes plan seen old mid (Ok x) → Ends (f (seen x)) (outside mid out_old) (outside new out_new) status →
+pub Ends-then : {X Y : Type 0} (plan : Plan Y) (seen : X → Y) (f : Y → Plan Outcome) (old mid new : DeskView)
+    (out_old out_new : SinkView)
+    (x : X) (status : Status) → Takes plan seen old mid (Ok x) →
+    Ends (f (seen x)) (outside mid out_old) (outside new out_new) status →
     Ends (plan >>= f) (outside old out_old) (outside new out_new) status
 Ends-then plan seen f old mid new out_old out_new x status step rest =
     let first : Follows (files_of old) plan (heard_of old) (heard_of mid) (Given (seen x)) =
@@ -192,10 +233,12 @@ Ends-then plan seen f old mid new out_old out_new x status step rest =
     subst (λ told. Follows told (f (seen x)) (heard_of mid) (heard_of new) rest.reached) step.kept.files rest.follows in
     let same : (files : List File) → files_of old ≡ Some files → found (plan >>= f) files ≡ found (f (seen x)) files =
     λ files told. found-then plan f files
-    ∙ ap (then_found f files) (Follows-found plan (files_of old) files (heard_of old) (heard_of mid) (Given (seen x)) told first) in
+    ∙ ap (then_found f files)
+    (Follows-found plan (files_of old) files (heard_of old) (heard_of mid) (Given (seen x)) told first) in
     record {
       reached = rest.reached;
-      follows = Follows-then plan f (seen x) (files_of old) (heard_of old) (heard_of mid) (heard_of new) rest.reached first second;
+      follows = Follows-then plan f (seen x) (files_of old) (heard_of old) (heard_of mid)
+          (heard_of new) rest.reached first second;
       ended = rest.ended;
       text = rest.text;
       prefix = rest.prefix;
@@ -204,16 +247,8 @@ Ends-then plan seen f old mid new out_old out_new x status step rest =
           CannotRead-because _ _ old new (λ files told fault. ap (λ r. (settled r).status) (same files told) ∙ fault)
           (CannotRead-later _ old mid new step.kept (rest.read_fault e));
       write_fault = rest.write_fault;
-      absent = λ files told isnt. rest.absent files (step.kept.files ∙ told) isnt ∙ step.absent files told (λ e. absurd (cc));
+      absent = λ files told isnt. rest.absent files (step.kept.files ∙ told) isnt
+          ∙ step.absent files told (λ e. absurd (cc));
       kept = KeepsFiles-then old mid new step.kept rest.kept;
       count = rest.count;
     }
-
-pub write_or_not : (status : Status) → (status ≡ WriteFault) ⊎ (status ≢ WriteFault)
-write_or_not Done = inr (λ e. absurd (cc))
-write_or_not (Usage fault) = inr (λ e. absurd (cc))
-write_or_not (RulesRefused fault) = inr (λ e. absurd (cc))
-write_or_not (CaptureRefused fault) = inr (λ e. absurd (cc))
-write_or_not ReadFault = inr (λ e. absurd (cc))
-write_or_not WriteFault = inl refl
-write_or_not OutOfMemory = inr (λ e. absurd (cc))

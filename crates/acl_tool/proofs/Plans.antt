@@ -23,16 +23,20 @@ enough_opened next file (inl ended) = rw ended tt
 enough_opened next file (inr on) = rw (on.0) tt
 
 -- what was heard of a file gives what the whole file gives
-heard_enough : {A : Type 0} (next : List ℕ → Plan A) (files : List File) (file : Heard) (part : IsPartOf files file) → IsEnough next file →
+heard_enough : {A : Type 0} (next : List ℕ → Plan A) (files : List File) (file : Heard) (part : IsPartOf files file) →
+    IsEnough next file →
     found (next (file.bytes ++ part.rest)) files ≡ found (next file.bytes) files
 heard_enough next files file part (inl ended) =
-    ap (λ bytes. found (next (file.bytes ++ bytes)) files) (part.whole ended) ∙ ap (λ bytes. found (next bytes) files) (append-nil file.bytes)
+    ap (λ bytes. found (next (file.bytes ++ bytes)) files) (part.whole ended)
+    ∙ ap (λ bytes. found (next bytes) files) (append-nil file.bytes)
 heard_enough next files file part (inr on) = ap (λ plan. found plan files) ((on.1) part.rest)
 
 -- what the whole of a file comes to, of which enough was heard
-pub found_next : {A : Type 0} (told : Option (List File)) (files : List File) (name : List ℕ) (next : List ℕ → Plan A) (file : Heard) →
+pub found_next : {A : Type 0} (told : Option (List File)) (files : List File) (name : List ℕ) (next : List ℕ → Plan A)
+    (file : Heard) →
     told ≡ Some files → file.name ≡ name → IsOneOf told file → IsEnough next file →
-    option_map_or (λ bytes. found (next bytes) files) (bytes_of files name) (Err ReadFault) ≡ found (next file.bytes) files
+    option_map_or (λ bytes. found (next bytes) files) (bytes_of files name) (Err ReadFault)
+    ≡ found (next file.bytes) files
 found_next told files name next file at_files is_name one enough =
     let part = one files at_files (enough_opened next file enough) in
     ap (λ n. option_map_or (λ bytes. found (next bytes) files) (bytes_of files n) (Err ReadFault)) (sym is_name)
@@ -40,7 +44,8 @@ found_next told files name next file at_files is_name one enough =
     ∙ heard_enough next files file part enough
 
 -- Where the files are told, a plan that was followed comes to what it reached.
-pub Follows-found : {A : Type 0} (plan : Plan A) (told : Option (List File)) (files : List File) (old new : List Heard) (reached : Reached A) →
+pub Follows-found : {A : Type 0} (plan : Plan A) (told : Option (List File)) (files : List File) (old new : List Heard)
+    (reached : Reached A) →
     told ≡ Some files → Follows told plan old new reached → IsFound files reached (found plan files)
 Follows-found (Give value) told files old new reached at_files h = rw (h.1) refl
 Follows-found (Stop status) told files old new reached at_files h = rw (h.1) refl
@@ -48,7 +53,8 @@ Follows-found (Read name printed next) told files old new reached at_files (inl 
 Follows-found (Read name printed next) told files old new reached at_files (inr (file, is_name, one, inl within)) =
     rw (within.1) (λ absent. ap (λ o. option_map_or (λ bytes. found (next bytes) files) o (Err ReadFault))
     (ap (bytes_of files) (sym is_name) ∙ absent))
-Follows-found (Read name printed next) told files old new reached at_files (inr (file, is_name, one, inr (enough, rest))) =
+Follows-found (Read name printed next) told files old new reached at_files
+    (inr (file, is_name, one, inr (enough, rest))) =
     subst (IsFound files reached) (sym (found_next told files name next file at_files is_name one enough))
     (Follows-found (next file.bytes) told files (file ∷ old) new reached at_files rest)
 
@@ -78,17 +84,21 @@ enough_then next f file (inl ended) = inl ended
 enough_then next f file (inr on) = inr (on.0, λ more. ap (λ plan. plan >>= f) ((on.1) more))
 
 -- A plan was followed to its value, and then the next.
-pub Follows-then : {A B : Type 0} (plan : Plan A) (f : A → Plan B) (value : A) (told : Option (List File)) (old mid new : List Heard)
+pub Follows-then : {A B : Type 0} (plan : Plan A) (f : A → Plan B) (value : A) (told : Option (List File))
+    (old mid new : List Heard)
     (reached : Reached B) → Follows told plan old mid (Given value) → Follows told (f value) mid new reached →
     Follows told (plan >>= f) old new reached
 Follows-then (Give other) f value told old mid new reached first second =
     subst (λ v. Follows told (f v) old new reached) (ap (value_of value) (first.1))
     (subst (λ (l : List Heard). Follows told (f value) l new reached) (first.0) second)
-Follows-then (Stop status) f value told old mid new reached first second = absurd (false≢true (sym (ap is_given (first.1))))
-Follows-then (Read name printed next) f value told old mid new reached (inl before) second = absurd (false≢true (sym (ap is_given (before.1))))
+Follows-then (Stop status) f value told old mid new reached first second =
+    absurd (false≢true (sym (ap is_given (first.1))))
+Follows-then (Read name printed next) f value told old mid new reached (inl before) second =
+    absurd (false≢true (sym (ap is_given (before.1))))
 Follows-then (Read name printed next) f value told old mid new reached (inr (file, is_name, one, inl within)) second =
     absurd (false≢true (sym (ap is_given (within.1))))
-Follows-then (Read name printed next) f value told old mid new reached (inr (file, is_name, one, inr (enough, rest))) second =
+Follows-then (Read name printed next) f value told old mid new reached
+    (inr (file, is_name, one, inr (enough, rest))) second =
     inr (
       file,
       is_name,
@@ -100,11 +110,14 @@ Follows-then (Read name printed next) f value told old mid new reached (inr (fil
     )
 
 -- A plan was followed to an end short of its value, and the next never begins.
-pub Follows-cut : {A B : Type 0} (plan : Plan A) (f : A → Plan B) (status : Status) (told : Option (List File)) (old new : List Heard)
-    (reached : Reached A) → IsCutOff reached status → Follows told plan old new reached → Follows told (plan >>= f) old new (carried reached)
+pub Follows-cut : {A B : Type 0} (plan : Plan A) (f : A → Plan B) (status : Status) (told : Option (List File))
+    (old new : List Heard)
+    (reached : Reached A) → IsCutOff reached status → Follows told plan old new reached →
+    Follows told (plan >>= f) old new (carried reached)
 Follows-cut (Give value) f status told old new reached cut h = absurd (subst (λ r. IsCutOff r status) (h.1) cut)
 Follows-cut (Stop refusal) f status told old new reached cut h = (h.0, ap carried (h.1))
-Follows-cut (Read name printed next) f status told old new reached cut (inl before) = inl (before.0, ap carried (before.1))
+Follows-cut (Read name printed next) f status told old new reached cut (inl before) =
+    inl (before.0, ap carried (before.1))
 Follows-cut (Read name printed next) f status told old new reached cut (inr (file, is_name, one, inl within)) =
     inr (file, is_name, one, inl (within.0, ap carried (within.1)))
 Follows-cut (Read name printed next) f status told old new reached cut (inr (file, is_name, one, inr (enough, rest))) =
@@ -123,12 +136,14 @@ abbrev pub then_found : {A B : Type 0} → (A → Plan B) → List File → Resu
 then_found f files (Ok value) = found (f value) files
 then_found f files (Err status) = Err status
 
-pub found-then : {A B : Type 0} (plan : Plan A) (f : A → Plan B) (files : List File) → found (plan >>= f) files ≡ then_found f files (found plan files)
+pub found-then : {A B : Type 0} (plan : Plan A) (f : A → Plan B) (files : List File) →
+    found (plan >>= f) files ≡ then_found f files (found plan files)
 found-then (Give value) f files = refl
 found-then (Stop status) f files = refl
 found-then (Read name printed next) f files = go (bytes_of files name) (λ bytes. found-then (next bytes) f files)
   where
-    go : (o : Option (List ℕ)) → ((bytes : List ℕ) → found (next bytes >>= f) files ≡ then_found f files (found (next bytes) files)) →
+    go : (o : Option (List ℕ)) →
+        ((bytes : List ℕ) → found (next bytes >>= f) files ≡ then_found f files (found (next bytes) files)) →
         option_map_or (λ bytes. found (next bytes >>= f) files) o (Err ReadFault)
         ≡ then_found f files (option_map_or (λ bytes. found (next bytes) files) o (Err ReadFault))
     go None each = refl

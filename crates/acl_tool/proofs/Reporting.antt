@@ -29,7 +29,7 @@ use Rattle.acl_tool.specs.Effects.{Outside, outside, files_of, opened_of, heard_
 use Rattle.acl_tool.specs.Streams.{Reading, Whole, Part, records_read, text_of, IsUnbroken, AreRead, IsStatus, BreaksOffSoon, Streams}
 use Rattle.acl_tool.proofs.Gained.{Gains-none, GainsPrefix-none}
 use Rattle.acl_tool.proofs.Inputs.{heard_file, part_told, opened_told, opened_absent, kept_files, cannot_open, unopened_kept}
-use Rattle.acl_tool.proofs.Links.{CannotRead-because, write_or_not}
+use Rattle.acl_tool.proofs.Links.{CannotRead-because}
 use Rattle.acl_tool.proofs.WholeRecords.{start_of-more}
 
 -- an opened file, of which these bytes were heard
@@ -50,8 +50,10 @@ stood GoesOn name given = refl
 stood Ended name given = refl
 stood BrokenOff name given = refl
 
-HearsFile-read : {T E : Type 0} (name given : List ℕ) (ending : Ending) (old mid new : DeskView) (x : T) → OpensFile {E = E} name old mid (Ok x) →
-    ReadsOn (stands ending) given mid new → (ending ≡ Ended → IsAtEnd new) → KeepsReading mid new → HearsFile name given ending old new
+HearsFile-read : {T E : Type 0} (name given : List ℕ) (ending : Ending) (old mid new : DeskView) (x : T) →
+    OpensFile {E = E} name old mid (Ok x) →
+    ReadsOn (stands ending) given mid new → (ending ≡ Ended → IsAtEnd new) → KeepsReading mid new →
+    HearsFile name given ending old new
 HearsFile-read name given ending old mid new x opens reads at_end keeps = record {
   heard =
       heard_file (stands ending) name given old mid new x opens reads
@@ -60,7 +62,8 @@ HearsFile-read name given ending old mid new x opens reads at_end keeps = record
       part_told name given ending old.content mid.content new.content opens.opened reads.told at_end files told;
   opened = λ files told. opened_told name given old.content mid.content new.content opens.opened reads.told files told;
   absent = λ files told.
-      keeps.absent ∙ opened_absent name old mid old.content mid.content (λ content at some. (opens.there content at some).0) opens.opened files told;
+      keeps.absent ∙ opened_absent name old mid old.content mid.content
+      (λ content at some. (opens.there content at some).0) opens.opened files told;
   kept = kept_files name given old mid new x opens reads.told keeps.counts;
 }
 
@@ -81,14 +84,20 @@ record PutsPart (lines : List ℕ) (ending : Ending) (old new : Outside) (status
   count : old.out.faults ≤ new.out.faults
 
 Ends-part : (classifier : Classifier) (name given : List ℕ) (ending : Ending) (old new : Outside) (status : Status) →
-    HearsFile name given ending old.desk new.desk → IsOpened ending → PutsPart (lines_so_far classifier given) ending old new status →
+    HearsFile name given ending old.desk new.desk → IsOpened ending →
+    PutsPart (lines_so_far classifier given) ending old new status →
     Ends (reported classifier name) old new status
 Ends-part classifier name given ending old new status h opened p = record {
   reached = Within (file_of name given ending) (lines_so_far classifier given);
-  follows = inr (file_of name given ending, refl, h.told, inl (
-    h.heard,
-    ap (Within (file_of name given ending)) (said-opened ending (lines_so_far classifier given) opened),
-  ));
+  follows = inr (
+    file_of name given ending,
+    refl,
+    h.told,
+    inl (
+      h.heard,
+      ap (Within (file_of name given ending)) (said-opened ending (lines_so_far classifier given) opened),
+    ),
+  );
   ended = p.ended;
   text = p.text;
   prefix = p.prefix;
@@ -101,7 +110,8 @@ Ends-part classifier name given ending old new status h opened p = record {
 }
 
 enough_from : {A : Type 0} (ending : Ending) (next : List ℕ → Plan A) (name given : List ℕ) → IsUnbroken ending →
-    ((more : List ℕ) → (ending ≡ Ended → more ≡ []) → next (given ++ more) ≡ next given) → IsEnough next (file_of name given ending)
+    ((more : List ℕ) → (ending ≡ Ended → more ≡ []) → next (given ++ more) ≡ next given) →
+    IsEnough next (file_of name given ending)
 enough_from NotOpened next name given unbroken long = absurd unbroken
 enough_from GoesOn next name given unbroken long = inr (refl, λ more. long more (λ e. absurd (cc)))
 enough_from Ended next name given unbroken long = inl refl
@@ -111,7 +121,8 @@ enough_from BrokenOff next name given unbroken long = absurd unbroken
 record PutsAll (outcome : Outcome) (old new : SinkView) (status : Status) : Type 0 where
   decided : is_decided outcome.status ≡ true
   lawful : is_usage outcome.status ≡ false
-  puts : ((status ≡ outcome.status) × Gains outcome.text old new) ⊎ ((status ≡ WriteFault) × GainsPrefix outcome.text old new × Rose old.faults new.faults)
+  puts : ((status ≡ outcome.status) × Gains outcome.text old new)
+      ⊎ ((status ≡ WriteFault) × GainsPrefix outcome.text old new × Rose old.faults new.faults)
   count : old.faults ≤ new.faults
 
 all_ended : (outcome : Outcome) (old new : SinkView) (status : Status) → PutsAll outcome old new status →
@@ -119,9 +130,14 @@ all_ended : (outcome : Outcome) (old new : SinkView) (status : Status) → PutsA
 all_ended outcome old new status p = elim p.puts [ inl done ↦ inl done.0 | inr failed ↦ inr failed.0 ]
 
 -- then the status is decided, or a write fault
-all_decided : (outcome : Outcome) (old new : SinkView) (status : Status) → PutsAll outcome old new status → status ≢ WriteFault → is_decided status ≡ true
+all_decided : (outcome : Outcome) (old new : SinkView) (status : Status) → PutsAll outcome old new status →
+    status ≢ WriteFault → is_decided status ≡ true
 all_decided outcome old new status p other =
-    elim (all_ended outcome old new status p) [ inl same ↦ ap is_decided same ∙ p.decided | inr write ↦ absurd (other write) ]
+    elim (all_ended outcome old new status p) [
+      | inl same ↦ ap is_decided same
+          ∙ p.decided
+      | inr write ↦ absurd (other write)
+    ]
 
 Ends-whole : (classifier : Classifier) (name given : List ℕ) (ending : Ending) (old new : Outside) (status : Status) →
     HearsFile name given ending old.desk new.desk → IsUnbroken ending →
@@ -132,10 +148,16 @@ Ends-whole classifier name given ending old new status h unbroken long p =
     λ isnt other. false≢true (sym isnt ∙ all_decided (report classifier given) old.out new.out status p other) in
     record {
       reached = Given (report classifier given);
-      follows = inr (file_of name given ending, refl, h.told, inr (
-        enough_from ending (λ bytes. Give (report classifier bytes)) name given unbroken (λ more rest. ap Give (long more rest)),
-        (h.heard, refl),
-      ));
+      follows = inr (
+        file_of name given ending,
+        refl,
+        h.told,
+        inr (
+          enough_from ending (λ bytes. Give (report classifier bytes)) name given unbroken
+              (λ more rest. ap Give (long more rest)),
+          (h.heard, refl),
+        ),
+      );
       ended = elim p.puts [ inl done ↦ inl done.0 | inr failed ↦ inr (inl failed.0) ];
       text = λ other full. elim p.puts [ inl done ↦ done.1 | inr failed ↦ absurd (other failed.0) ];
       prefix = λ e. elim p.puts [
@@ -154,12 +176,19 @@ Ends-whole classifier name given ending old new status h unbroken long p =
     }
 
 -- the file can't be opened
-pub Reports-unopened : {T E : Type 0} (classifier : Classifier) (name : List ℕ) (old new : DeskView) (out : SinkView) (e : E) →
+pub Reports-unopened : {T E : Type 0} (classifier : Classifier) (name : List ℕ) (old new : DeskView) (out : SinkView)
+    (e : E) →
     OpensFile {T = T} name old new (Err e) → Reports classifier name (outside old out) (outside new out) ReadFault
 Reports-unopened classifier name old new out e opens = record {
   ends = record {
     reached = Within (opening_of name false) [];
-    follows = inr (opening_of name false, refl, (λ files told opened. absurd opened), inl (ap heard opens.answer, refl));
+    follows = inr (
+      opening_of name false,
+      refl,
+      (λ files told opened. absurd opened),
+      inl
+          (ap heard opens.answer, refl),
+    );
     ended = inl refl;
     text = λ other full. Gains-none out;
     prefix = λ w. absurd (cc);
@@ -167,7 +196,8 @@ Reports-unopened classifier name old new out e opens = record {
     read_fault = λ r.
         CannotRead-because _ _ old new
         (λ files told none.
-        ap (λ o. (settled (option_map_or (λ bytes. found (Give (report classifier bytes)) files) o (Err ReadFault))).status) none)
+        ap (λ o. (settled (option_map_or (λ bytes. found (Give (report classifier bytes)) files) o
+        (Err ReadFault))).status) none)
         (cannot_open name old new opens.cause opens.there);
     write_fault = λ w. absurd (cc);
     absent = λ files told isnt. absurd (isnt refl);
@@ -180,8 +210,10 @@ Reports-unopened classifier name old new out e opens = record {
 }
 
 -- there is no memory to read the file
-pub Reports-full : {T E : Type 0} (classifier : Classifier) (name : List ℕ) (old mid new : DeskView) (out : SinkView) (x : T) →
-    OpensFile {E = E} name old mid (Ok x) → new ≡ mid → Reports classifier name (outside old out) (outside new out) OutOfMemory
+pub Reports-full : {T E : Type 0} (classifier : Classifier) (name : List ℕ) (old mid new : DeskView) (out : SinkView)
+    (x : T) →
+    OpensFile {E = E} name old mid (Ok x) → new ≡ mid →
+    Reports classifier name (outside old out) (outside new out) OutOfMemory
 Reports-full {T} {E} classifier name old mid new out x opens same =
     let keeps : KeepsReading mid mid =
     record { reading = refl; absent = refl; counts = record { read_faults = omega arith; absent = omega arith } } in
@@ -204,21 +236,24 @@ Reports-full {T} {E} classifier name old mid new out x opens same =
     }
 
 -- the file header has a fault
-header_refused : {T E : Type 0} (classifier : Classifier) (name given : List ℕ) (ending : Ending) (fault : CaptureFault) (old mid new : DeskView)
+header_refused : {T E : Type 0} (classifier : Classifier) (name given : List ℕ) (ending : Ending)
+    (fault : CaptureFault) (old mid new : DeskView)
     (out : SinkView) (x : T) → OpensFile {E = E} name old mid (Ok x) → ReadsOn (stands ending) given mid new →
     (ending ≡ Ended → IsAtEnd new) → KeepsReading mid new → IsUnbroken ending →
     ((more : List ℕ) → (ending ≡ Ended → more ≡ []) → start_of (given ++ more) ≡ Err fault) →
     Reports classifier name (outside old out) (outside new out) (CaptureRefused fault)
 header_refused {T} {E} classifier name given ending fault old mid new out x opens reads at_end keeps unbroken says =
     let h = HearsFile-read {E = E} name given ending old mid new x opens reads at_end keeps in
-    let is : (more : List ℕ) → (ending ≡ Ended → more ≡ []) → report classifier (given ++ more) ≡ record { status = CaptureRefused fault; text = [] } =
+    let is : (more : List ℕ) → (ending ≡ Ended → more ≡ []) →
+    report classifier (given ++ more) ≡ record { status = CaptureRefused fault; text = [] } =
     λ more rest. (let s = says more rest in rw s refl) in
     let alone : report classifier given ≡ record { status = CaptureRefused fault; text = [] } =
     ap (report classifier) (sym (append-nil given)) ∙ is [] (λ e. refl) in
     let puts : PutsAll (record { status = CaptureRefused fault; text = [] }) out out (CaptureRefused fault) =
     record { decided = refl; lawful = refl; puts = inl (refl, Gains-none out); count = omega arith } in
     record {
-      ends = Ends-whole classifier name given ending (outside old out) (outside new out) (CaptureRefused fault) h unbroken
+      ends = Ends-whole classifier name given ending (outside old out) (outside new out)
+          (CaptureRefused fault) h unbroken
           (λ more rest. is more rest ∙ sym alone)
           (subst (λ (o : Outcome). PutsAll o out out (CaptureRefused fault)) (sym alone) puts);
       lawful = refl;
@@ -226,25 +261,32 @@ header_refused {T} {E} classifier name given ending fault old mid new out x open
       keeps_up = λ w. absurd (cc);
     }
 
-header_decided : {T E : Type 0} (classifier : Classifier) (name given : List ℕ) (fault : CaptureFault) (old mid new : DeskView) (out : SinkView) (x : T) →
-    OpensFile {E = E} name old mid (Ok x) → ReadsOn and_goes_on given mid new → KeepsReading mid new → start_of given ≡ Err fault →
+header_decided : {T E : Type 0} (classifier : Classifier) (name given : List ℕ) (fault : CaptureFault)
+    (old mid new : DeskView) (out : SinkView) (x : T) →
+    OpensFile {E = E} name old mid (Ok x) → ReadsOn and_goes_on given mid new → KeepsReading mid new →
+    start_of given ≡ Err fault →
     (fault ≡ faults.HeaderCut → ⊥) → Reports classifier name (outside old out) (outside new out) (CaptureRefused fault)
 header_decided {T} {E} classifier name given fault old mid new out x opens reads keeps says isnt =
     header_refused {E = E} classifier name given GoesOn fault old mid new out x opens reads (λ e. absurd (cc)) keeps tt
-    (λ more rest. (start_of-more given more (Err fault) says (λ e. isnt (let same : fault ≡ faults.HeaderCut = cc in same))).0)
+    (λ more rest. (start_of-more given more (Err fault) says
+    (λ e. isnt (let same : fault ≡ faults.HeaderCut = cc in same))).0)
 
-header_cut : {T E : Type 0} (classifier : Classifier) (name given : List ℕ) (fault : CaptureFault) (old mid new : DeskView) (out : SinkView) (x : T) →
-    OpensFile {E = E} name old mid (Ok x) → ReadsOn (stands Ended) given mid new → IsAtEnd new → KeepsReading mid new → start_of given ≡ Err fault →
+header_cut : {T E : Type 0} (classifier : Classifier) (name given : List ℕ) (fault : CaptureFault)
+    (old mid new : DeskView) (out : SinkView) (x : T) →
+    OpensFile {E = E} name old mid (Ok x) → ReadsOn (stands Ended) given mid new → IsAtEnd new → KeepsReading mid new →
+    start_of given ≡ Err fault →
     Reports classifier name (outside old out) (outside new out) (CaptureRefused fault)
 header_cut {T} {E} classifier name given fault old mid new out x opens reads end keeps says =
     header_refused {E = E} classifier name given Ended fault old mid new out x opens reads (λ e. end) keeps tt
     (λ more rest. ap start_of (ap (λ (l : List ℕ). given ++ l) (rest refl) ∙ append-nil given) ∙ says)
 
-pub Reports-header : {T E : Type 0} (fault : CaptureFault) (classifier : Classifier) (name : List ℕ) (old mid new : DeskView) (out : SinkView) (x : T) →
+pub Reports-header : {T E : Type 0} (fault : CaptureFault) (classifier : Classifier) (name : List ℕ)
+    (old mid new : DeskView) (out : SinkView) (x : T) →
     OpensFile {E = E} name old mid (Ok x) → (reads : ReadsStart mid new (Err fault)) →
     Reports classifier name (outside old out) (outside new out) (refusal fault)
 Reports-header {T} {E} faults.ReadFault classifier name old mid new out x opens reads =
-    let h = HearsFile-read {E = E} name reads.given BrokenOff old mid new x opens reads.reads (λ e. absurd (cc)) reads.keeps in
+    let h = HearsFile-read {E = E} name reads.given BrokenOff old mid new x opens reads.reads
+    (λ e. absurd (cc)) reads.keeps in
     let none : lines_so_far classifier reads.given ≡ [] =
     ap (lines_of_records classifier) (whole_records-none reads.given faults.ReadFault reads.answer) in
     record {
@@ -263,22 +305,31 @@ Reports-header {T} {E} faults.ReadFault classifier name old mid new out x opens 
       keeps_up = λ w. absurd (cc);
     }
 Reports-header {T} {E} faults.HeaderCut classifier name old mid new out x opens reads =
-    header_cut {E = E} classifier name reads.given faults.HeaderCut old mid new out x opens reads.reads (reads.end refl) reads.keeps reads.answer
+    header_cut {E = E} classifier name reads.given faults.HeaderCut old mid new out x opens reads.reads
+    (reads.end refl) reads.keeps reads.answer
 Reports-header {T} {E} (faults.RecordCut n) classifier name old mid new out x opens reads =
-    header_cut {E = E} classifier name reads.given (faults.RecordCut n) old mid new out x opens reads.reads (reads.end refl) reads.keeps reads.answer
+    header_cut {E = E} classifier name reads.given (faults.RecordCut n) old mid new out x opens reads.reads
+    (reads.end refl) reads.keeps reads.answer
 Reports-header {T} {E} faults.Magic classifier name old mid new out x opens reads =
-    header_decided {E = E} classifier name reads.given faults.Magic old mid new out x opens reads.reads reads.keeps reads.answer (λ e. absurd (cc))
+    header_decided {E = E} classifier name reads.given faults.Magic old mid new out x opens reads.reads reads.keeps
+    reads.answer (λ e. absurd (cc))
 Reports-header {T} {E} faults.Version classifier name old mid new out x opens reads =
-    header_decided {E = E} classifier name reads.given faults.Version old mid new out x opens reads.reads reads.keeps reads.answer (λ e. absurd (cc))
+    header_decided {E = E} classifier name reads.given faults.Version old mid new out x opens reads.reads reads.keeps
+    reads.answer (λ e. absurd (cc))
 Reports-header {T} {E} faults.LinkType classifier name old mid new out x opens reads =
-    header_decided {E = E} classifier name reads.given faults.LinkType old mid new out x opens reads.reads reads.keeps reads.answer (λ e. absurd (cc))
+    header_decided {E = E} classifier name reads.given faults.LinkType old mid new out x opens reads.reads reads.keeps
+    reads.answer (λ e. absurd (cc))
 Reports-header {T} {E} (faults.RecordTooLong n) classifier name old mid new out x opens reads =
-    header_decided {E = E} classifier name reads.given (faults.RecordTooLong n) old mid new out x opens reads.reads reads.keeps reads.answer (λ e. absurd (cc))
+    header_decided {E = E} classifier name reads.given
+    (faults.RecordTooLong n) old mid new out x opens reads.reads reads.keeps reads.answer (λ e. absurd (cc))
 Reports-header {T} {E} faults.TooManyRecords classifier name old mid new out x opens reads =
-    header_decided {E = E} classifier name reads.given faults.TooManyRecords old mid new out x opens reads.reads reads.keeps reads.answer (λ e. absurd (cc))
+    header_decided {E = E} classifier name reads.given faults.TooManyRecords old mid new out x opens reads.reads
+    reads.keeps reads.answer (λ e. absurd (cc))
 
-keeps_up_from : (name given : List ℕ) (ending : Ending) (text : List ℕ) (records : List CaptureRecord) (old new : Outside) →
-    HearsFile name given ending old.desk new.desk → whole_records given ≡ records → BreaksOffSoon text (length records) old.out new.out →
+keeps_up_from : (name given : List ℕ) (ending : Ending) (text : List ℕ) (records : List CaptureRecord)
+    (old new : Outside) →
+    HearsFile name given ending old.desk new.desk → whole_records given ≡ records →
+    BreaksOffSoon text (length records) old.out new.out →
     KeepsUp name old new
 keeps_up_from name given ending text records old new h whole b = record {
   file = file_of name given ending;
@@ -289,33 +340,46 @@ keeps_up_from name given ending text records old new h whole b = record {
   few = omega (arith, b.few, ap length whole);
 }
 
-prefix_from : (text : List ℕ) (records : ℕ) (old new : SinkView) → BreaksOffSoon text records old new → GainsPrefix text old new
+prefix_from : (text : List ℕ) (records : ℕ) (old new : SinkView) → BreaksOffSoon text records old new →
+    GainsPrefix text old new
 prefix_from text records old new b = record { prefix = b.put; rest = b.rest; parts = b.parts; gains = b.gains }
 
-fault_decided : (fault : Option CaptureFault) → (is_decided (status_of_fault fault) ≡ true) × (is_usage (status_of_fault fault) ≡ false)
+fault_decided : (fault : Option CaptureFault) →
+    (is_decided (status_of_fault fault) ≡ true) × (is_usage (status_of_fault fault) ≡ false)
 fault_decided None = (refl, refl)
 fault_decided (Some fault) = (refl, refl)
 
 -- what was streamed behind a file header
-streamed : (read : Reading) (classifier : Classifier) (name given : List ℕ) (ending : Ending) (old new : Outside) (status : Status) (start : Start)
+streamed : (read : Reading) (classifier : Classifier) (name given : List ℕ) (ending : Ending) (old new : Outside)
+    (status : Status) (start : Start)
     (behind : List ℕ) → HearsFile name given ending old.desk new.desk →
-    ((more : List ℕ) → capture_of (given ++ more) ≡ Ok (records_behind start 0 (behind ++ more))) → AreRead start behind ending read →
+    ((more : List ℕ) → capture_of (given ++ more) ≡ Ok (records_behind start 0 (behind ++ more))) →
+    AreRead start behind ending read →
     ((IsStatus ending read status × Gains (text_of classifier read) old.out new.out)
     ⊎ ((status ≡ WriteFault) × BreaksOffSoon (text_of classifier read) (length (records_read read)) old.out new.out)) →
-    (status ≡ ReadFault → Rose old.desk.read_faults new.desk.read_faults) → old.out.faults ≤ new.out.faults → IsOpened ending →
+    (status ≡ ReadFault → Rose old.desk.read_faults new.desk.read_faults) → old.out.faults ≤ new.out.faults →
+    IsOpened ending →
     Reports classifier name old new status
-streamed (Whole records fault) classifier name given ending old new status start behind h is bytes ended rose count opened =
-    let all : (more : List ℕ) → (ending ≡ Ended → more ≡ []) → capture_of (given ++ more) ≡ Ok (record { records = records; fault = fault }) =
+streamed (Whole records fault) classifier name given ending old new status start behind h is bytes ended rose count
+    opened =
+    let all : (more : List ℕ) → (ending ≡ Ended → more ≡ []) →
+    capture_of (given ++ more) ≡ Ok (record { records = records; fault = fault }) =
     λ more rest. is more ∙ ap Ok (bytes.1 more rest) in
     let alone : capture_of given ≡ Ok (record { records = records; fault = fault }) =
     ap capture_of (sym (append-nil given)) ∙ all [] (λ e. refl) in
-    let expected : Outcome = record { status = status_of_fault fault; text = text_of_records classifier records fault } in
+    let expected : Outcome =
+    record { status = status_of_fault fault; text = text_of_records classifier records fault } in
     let puts : PutsAll expected old.out new.out status = record {
       decided = (fault_decided fault).0;
       lawful = (fault_decided fault).1;
       puts = elim ended [
         | inl done ↦ inl (done.0, done.1)
-        | inr failed ↦ inr (failed.0, prefix_from (text_of_records classifier records fault) (length records) old.out new.out failed.1, failed.1.rose)
+        | inr failed ↦ inr (
+          failed.0,
+          prefix_from (text_of_records classifier records fault)
+              (length records) old.out new.out failed.1,
+          failed.1.rose,
+        )
       ];
       count = count;
     } in
@@ -332,14 +396,16 @@ streamed (Whole records fault) classifier name given ending old new status start
       keeps_up = λ w. elim ended [
         | inl done ↦ absurd (false≢true (ap is_decided (sym w ∙ done.0) ∙ (fault_decided fault).0))
         | inr failed ↦
-            keeps_up_from name given ending (text_of_records classifier records fault) records old new h (ap records_in alone) failed.1
+            keeps_up_from name given ending (text_of_records classifier records fault) records old new h
+            (ap records_in alone) failed.1
       ];
     }
 streamed (Part records) classifier name given ending old new status start behind h is bytes ended rose count opened =
     let whole : whole_records given ≡ records =
     ap (λ l. records_in (capture_of l)) (sym (append-nil given)) ∙ ap records_in (is [])
     ∙ ap (λ l. (records_behind start 0 l).records) (append-nil behind) ∙ bytes in
-    let lines : lines_so_far classifier given ≡ lines_of_records classifier records = ap (lines_of_records classifier) whole in
+    let lines : lines_so_far classifier given ≡ lines_of_records classifier records =
+    ap (lines_of_records classifier) whole in
     record {
       ends = Ends-part classifier name given ending old new status h opened
           record {
@@ -350,7 +416,8 @@ streamed (Part records) classifier name given ending old new status start behind
             text = λ other full. elim ended [ inl broken ↦ rw lines broken.1 | inr failed ↦ absurd (other failed.0) ];
             prefix = λ w. elim ended [
               | inl broken ↦ (let e : ReadFault ≡ WriteFault = sym broken.0.0 ∙ w in absurd (cc))
-              | inr failed ↦ rw lines (prefix_from (lines_of_records classifier records) (length records) old.out new.out failed.1)
+              | inr failed ↦ rw lines
+                  (prefix_from (lines_of_records classifier records) (length records) old.out new.out failed.1)
             ];
             full = λ e. elim ended [
               | inl broken ↦ (let r : ReadFault ≡ OutOfMemory = sym broken.0.0 ∙ e in absurd (cc))
@@ -367,12 +434,14 @@ streamed (Part records) classifier name given ending old new status start behind
       opened = λ files told reported. h.opened files told;
       keeps_up = λ w. elim ended [
         | inl broken ↦ (let e : ReadFault ≡ WriteFault = sym broken.0.0 ∙ w in absurd (cc))
-        | inr failed ↦ keeps_up_from name given ending (lines_of_records classifier records) records old new h whole failed.1
+        | inr failed ↦ keeps_up_from name given ending
+            (lines_of_records classifier records) records old new h whole failed.1
       ];
     }
 
 -- the records are read and printed
-pub Reports-streamed : {T E : Type 0} (classifier : Classifier) (name : List ℕ) (start : Start) (old opened mid new : DeskView) (out_old out_new : SinkView)
+pub Reports-streamed : {T E : Type 0} (classifier : Classifier) (name : List ℕ) (start : Start)
+    (old opened mid new : DeskView) (out_old out_new : SinkView)
     (x : T) (status : Status) → OpensFile {E = E} name old opened (Ok x) → ReadsStart opened mid (Ok start) →
     Streams classifier start (outside mid out_old) (outside new out_new) status →
     Reports classifier name (outside old out_old) (outside new out_new) status
@@ -382,7 +451,8 @@ Reports-streamed {T} {E} classifier name start old opened mid new out_old out_ne
     let h = HearsFile-read {E = E} name given s.ending old opened new x opens reads s.at_end
     (KeepsReading-join opened mid new header.keeps s.keeps) in
     streamed s.read classifier name given s.ending (outside old out_old) (outside new out_new) status start s.given h
-    (λ more. ap capture_of (append_assoc header.given s.given more) ∙ capture_of-read header.given (s.given ++ more) start header.answer)
+    (λ more. ap capture_of (append_assoc header.given s.given more)
+    ∙ capture_of-read header.given (s.given ++ more) start header.answer)
     s.bytes s.answer
     (λ e. omega (arith, opens.counts.read_faults, header.keeps.counts.read_faults, s.read_fault e)) s.count
     s.opened

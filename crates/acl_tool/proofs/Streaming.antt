@@ -33,7 +33,8 @@ use Rattle.acl_tool.proofs.LineLaws.{lines_of_records-append, counts_of_records-
 use Rattle.acl_tool.proofs.Gained.{Gains-none}
 
 -- some records were taken, and their lines were put
-pub record IsPrinting (classifier : Classifier) (start : Start) (counts : Counts) (state : CaptureState) (old new : Outside) : Type 0 where
+pub record IsPrinting (classifier : Classifier) (start : Start) (counts : Counts) (state : CaptureState)
+    (old new : Outside) : Type 0 where
   pub records : List CaptureRecord
   pub given : List ℕ
   pub took : Took start 0 records given old.desk new.desk Full
@@ -42,7 +43,8 @@ pub record IsPrinting (classifier : Classifier) (start : Start) (counts : Counts
   pub state_is : state ≡ state_of start (length records) progress.Reading
   pub count : old.out.faults ≤ new.out.faults
 
-pub IsPrinting-none : (classifier : Classifier) (start : Start) (counts : Counts) (state : CaptureState) (view : Outside) →
+pub IsPrinting-none : (classifier : Classifier) (start : Start) (counts : Counts) (state : CaptureState)
+    (view : Outside) →
     counts ≡ counts_of_records [] → state ≡ begun start → IsPrinting classifier start counts state view view
 IsPrinting-none classifier start counts state view none is = record {
   records = [];
@@ -55,7 +57,8 @@ IsPrinting-none classifier start counts state view none is = record {
 }
 
 -- there is room to count one batch more
-pub packets_few : (classifier : Classifier) (start : Start) (counts : Counts) (state : CaptureState) (old mid new : Outside)
+pub packets_few : (classifier : Classifier) (start : Start) (counts : Counts) (state : CaptureState)
+    (old mid new : Outside)
     (packets : List FrameClass) (stop : BatchEnd) → IsPrinting classifier start counts state old mid →
     TakesBatch state.start state.count packets mid.desk new.desk stop →
     counts.packets + length packets ≤ max_records
@@ -82,21 +85,26 @@ batch_taken classifier start counts state old mid new packets stop h batch =
     let number : state.count ≡ 0 + length h.records = omega (arith, ap (λ s. s.count) h.state_is) in
     let from : Took start (0 + length h.records) batch.records batch.given mid.desk new.desk stop =
     subst (λ (n : ℕ). Took start n batch.records batch.given mid.desk new.desk stop) number
-    (subst (λ (s : Start). Took s state.count batch.records batch.given mid.desk new.desk stop) (ap (λ s. s.start) h.state_is) batch.took) in
+    (subst (λ (s : Start). Took s state.count batch.records batch.given mid.desk new.desk stop)
+    (ap (λ s. s.start) h.state_is) batch.took) in
     Took-then start 0 h.records batch.records h.given batch.given old.desk mid.desk new.desk stop h.took from
 
 -- the lines with those of one batch more
-batch_lines : (classifier : Classifier) (start : Start) (counts : Counts) (state : CaptureState) (old mid : Outside) (packets : List FrameClass)
-    (h : IsPrinting classifier start counts state old mid) (records : List CaptureRecord) → packets ≡ map packet_of records →
+batch_lines : (classifier : Classifier) (start : Start) (counts : Counts) (state : CaptureState) (old mid : Outside)
+    (packets : List FrameClass)
+    (h : IsPrinting classifier start counts state old mid) (records : List CaptureRecord) →
+    packets ≡ map packet_of records →
     lines_of_records classifier (h.records ++ records)
     ≡ lines_of_records classifier h.records ++ lines_of_packets classifier (counts.packets + 1) packets
 batch_lines classifier start counts state old mid packets h records are =
     lines_of_records-append classifier h.records records (counts.packets + 1)
     (omega (arith, ap (λ c. c.packets) h.counted, packets_counted h.records))
-    ∙ ap (λ (l : List FrameClass). lines_of_records classifier h.records ++ lines_of_packets classifier (counts.packets + 1) l) (sym are)
+    ∙ ap (λ (l : List FrameClass). lines_of_records classifier h.records
+    ++ lines_of_packets classifier (counts.packets + 1) l) (sym are)
 
 -- one batch more was taken and printed, of which the last record may be the last of the capture
-pub record HasPrinted (classifier : Classifier) (start : Start) (counts : Counts) (old new : Outside) (stop : BatchEnd) : Type 0 where
+pub record HasPrinted (classifier : Classifier) (start : Start) (counts : Counts) (old new : Outside)
+    (stop : BatchEnd) : Type 0 where
   pub records : List CaptureRecord
   pub given : List ℕ
   pub took : Took start 0 records given old.desk new.desk stop
@@ -104,8 +112,10 @@ pub record HasPrinted (classifier : Classifier) (start : Start) (counts : Counts
   pub counted : counts ≡ counts_of_records records
   pub count : old.out.faults ≤ new.out.faults
 
-pub HasPrinted-batch : {T E : Type 0} (classifier : Classifier) (start : Start) (counts counts_new : Counts) (state : CaptureState)
-    (old mid new : Outside) (packets : List FrameClass) (stop : BatchEnd) (x : T) → IsPrinting classifier start counts state old mid →
+pub HasPrinted-batch : {T E : Type 0} (classifier : Classifier) (start : Start) (counts counts_new : Counts)
+    (state : CaptureState)
+    (old mid new : Outside) (packets : List FrameClass) (stop : BatchEnd) (x : T) →
+    IsPrinting classifier start counts state old mid →
     TakesBatch state.start state.count packets mid.desk new.desk stop →
     Puts {E = E} (lines_of_packets classifier (counts.packets + 1) packets) mid.out new.out (Ok x) →
     counts_new ≡ counted_all packets counts → HasPrinted classifier start counts_new old new stop
@@ -115,24 +125,30 @@ HasPrinted-batch classifier start counts counts_new state old mid new packets st
   took = batch_taken classifier start counts state old mid new packets stop h batch;
   printed =
       rw (batch_lines classifier start counts state old mid packets h batch.records batch.packets_are)
-      (Gains-then (lines_of_records classifier h.records) (lines_of_packets classifier (counts.packets + 1) packets) old.out mid.out new.out
+      (Gains-then (lines_of_records classifier h.records)
+      (lines_of_packets classifier (counts.packets + 1) packets) old.out mid.out new.out
       h.printed puts.whole);
   counted =
-      counted ∙ ap (λ (l : List FrameClass). counted_all l counts) batch.packets_are ∙ ap (counted_all (map packet_of batch.records)) h.counted
+      counted ∙ ap (λ (l : List FrameClass). counted_all l counts) batch.packets_are
+      ∙ ap (counted_all (map packet_of batch.records)) h.counted
       ∙ counts_of_records-append h.records batch.records;
   count = omega (arith, h.count, puts.count);
 }
 
 -- and the next batch comes
-pub IsPrinting-batch : {T E : Type 0} (classifier : Classifier) (start : Start) (counts counts_new : Counts) (state state_new : CaptureState)
+pub IsPrinting-batch : {T E : Type 0} (classifier : Classifier) (start : Start) (counts counts_new : Counts)
+    (state state_new : CaptureState)
     (old mid new : Outside) (packets : List FrameClass) (x : T) → IsPrinting classifier start counts state old mid →
     TakesBatch state.start state.count packets mid.desk new.desk Full →
     Puts {E = E} (lines_of_packets classifier (counts.packets + 1) packets) mid.out new.out (Ok x) →
-    counts_new ≡ counted_all packets counts → state_new ≡ state_of state.start (state.count + max_batch) progress.Reading →
+    counts_new ≡ counted_all packets counts →
+    state_new ≡ state_of state.start (state.count + max_batch) progress.Reading →
     IsPrinting classifier start counts_new state_new old new
 unfolding HasPrinted-batch
-IsPrinting-batch {T} {E} classifier start counts counts_new state state_new old mid new packets x h batch puts counted is =
-    let all = HasPrinted-batch {E = E} classifier start counts counts_new state old mid new packets Full x h batch puts counted in
+IsPrinting-batch {T} {E} classifier start counts counts_new state state_new old mid new packets x h batch puts counted
+    is =
+    let all = HasPrinted-batch {E = E} classifier start counts counts_new state old mid new packets Full x h batch puts
+    counted in
     let number : state.count + max_batch ≡ length (h.records ++ batch.records) =
     omega (
       arith,
@@ -177,7 +193,8 @@ unbroken_opened BrokenOff unbroken = tt
 
 -- where the lines of a batch couldn't be put
 pub Streams-failed : {T E : Type 0} (classifier : Classifier) (start : Start) (counts : Counts) (state : CaptureState)
-    (old mid new : Outside) (packets : List FrameClass) (stop : BatchEnd) (e : E) → IsPrinting classifier start counts state old mid →
+    (old mid new : Outside) (packets : List FrameClass) (stop : BatchEnd) (e : E) →
+    IsPrinting classifier start counts state old mid →
     TakesBatch state.start state.count packets mid.desk new.desk stop →
     Puts {T = T} (lines_of_packets classifier (counts.packets + 1) packets) mid.out new.out (Err e) →
     Streams classifier start old new WriteFault
@@ -194,30 +211,36 @@ Streams-failed classifier start counts state old mid new packets stop e h batch 
       at_end = took.at_end;
       keeps = took.keeps;
       bytes = AreOfBatch-part stop start (h.given ++ batch.given) (h.records ++ batch.records) took.bytes;
-      answer = inr (refl, record {
-        put = lines ++ prefix.prefix;
-        rest = prefix.rest;
-        parts =
-            batch_lines classifier start counts state old mid packets h batch.records batch.packets_are ∙ ap (λ l. lines ++ l) prefix.parts
-            ∙ sym (append_assoc lines prefix.prefix prefix.rest);
-        gains = Gains-then lines prefix.prefix old.out mid.out new.out h.printed prefix.gains;
-        few = omega (
-          arith,
-          lines_in-records classifier h.records prefix.prefix,
-          length-append h.records batch.records,
-          batch.few,
-          ap length batch.packets_are,
-          length-map batch.records packet_of,
-        );
-        rose = omega (arith, h.count, puts.cause);
-      });
+      answer = inr (
+        refl,
+        record {
+          put = lines ++ prefix.prefix;
+          rest = prefix.rest;
+          parts =
+              batch_lines classifier start counts state old mid packets h batch.records batch.packets_are
+              ∙ ap (λ l. lines ++ l) prefix.parts
+              ∙ sym (append_assoc lines prefix.prefix prefix.rest);
+          gains = Gains-then lines prefix.prefix old.out mid.out new.out h.printed prefix.gains;
+          few = omega (
+            arith,
+            lines_in-records classifier h.records prefix.prefix,
+            length-append h.records batch.records,
+            batch.few,
+            ap length batch.packets_are,
+            length-map batch.records packet_of,
+          );
+          rose = omega (arith, h.count, puts.cause);
+        },
+      );
       read_fault = λ e. absurd (cc);
       count = omega (arith, h.count, puts.count);
     }
 
 -- the capture ended, and the line of the counts was put or not
-pub Streams-ended : (classifier : Classifier) (start : Start) (counts : Counts) (old mid new : Outside) (status : Status) →
-    HasPrinted classifier start counts old mid End → new.desk ≡ mid.desk → PutsCounts (packets_text counts) mid.out new.out status →
+pub Streams-ended : (classifier : Classifier) (start : Start) (counts : Counts) (old mid new : Outside)
+    (status : Status) →
+    HasPrinted classifier start counts old mid End → new.desk ≡ mid.desk →
+    PutsCounts (packets_text counts) mid.out new.out status →
     Streams classifier start old new status
 Streams-ended classifier start counts old mid new status h same puts = record {
   given = h.given;
@@ -233,16 +256,20 @@ Streams-ended classifier start counts old mid new status h same puts = record {
       done.0,
       Gains-then (lines_of_records classifier h.records) line old.out mid.out new.out h.printed (rw is_line at done.1),
     )
-    | inr failed ↦ inr (failed.0, record {
-      put = lines_of_records classifier h.records ++ failed.1.prefix;
-      rest = failed.1.rest;
-      parts =
-          ap (λ l. lines_of_records classifier h.records ++ l) (sym is_line ∙ failed.1.parts)
-          ∙ sym (append_assoc (lines_of_records classifier h.records) failed.1.prefix failed.1.rest);
-      gains = Gains-then (lines_of_records classifier h.records) failed.1.prefix old.out mid.out new.out h.printed failed.1.gains;
-      few = omega (arith, lines_in-records classifier h.records failed.1.prefix);
-      rose = omega (arith, h.count, failed.2);
-    })
+    | inr failed ↦ inr (
+      failed.0,
+      record {
+        put = lines_of_records classifier h.records ++ failed.1.prefix;
+        rest = failed.1.rest;
+        parts =
+            ap (λ l. lines_of_records classifier h.records ++ l) (sym is_line ∙ failed.1.parts)
+            ∙ sym (append_assoc (lines_of_records classifier h.records) failed.1.prefix failed.1.rest);
+        gains = Gains-then (lines_of_records classifier h.records) failed.1.prefix old.out mid.out new.out h.printed
+            failed.1.gains;
+        few = omega (arith, lines_in-records classifier h.records failed.1.prefix);
+        rose = omega (arith, h.count, failed.2);
+      },
+    )
   ];
   read_fault = λ e. elim puts.puts [ inl done ↦ absurd (cc) | inr failed ↦ absurd (cc) ];
   count = omega (arith, h.count, puts.count);
@@ -250,31 +277,38 @@ Streams-ended classifier start counts old mid new status h same puts = record {
   where
     line : List ℕ
     line = packets_text (counts_of_records h.records)
+
     is_line : packets_text counts ≡ line
     is_line = ap packets_text h.counted
 
 -- a fault of the capture, behind all lines
-fault_whole : (classifier : Classifier) (start : Start) (old new : Outside) (given : List ℕ) (records : List CaptureRecord) (ending : Ending)
-    (fault : CaptureFault) (status : Status) → ReadsOn (stands ending) given old.desk new.desk → (ending ≡ Ended → IsAtEnd new.desk) →
+fault_whole : (classifier : Classifier) (start : Start) (old new : Outside) (given : List ℕ)
+    (records : List CaptureRecord) (ending : Ending)
+    (fault : CaptureFault) (status : Status) → ReadsOn (stands ending) given old.desk new.desk →
+    (ending ≡ Ended → IsAtEnd new.desk) →
     KeepsReading old.desk new.desk → IsUnbroken ending → AreAll start 0 given ending records (Some fault) →
-    Gains (lines_of_records classifier records) old.out new.out → old.out.faults ≤ new.out.faults → status ≡ CaptureRefused fault →
+    Gains (lines_of_records classifier records) old.out new.out → old.out.faults ≤ new.out.faults →
+    status ≡ CaptureRefused fault →
     Streams classifier start old new status
-fault_whole classifier start old new given records ending fault status reads at_end keeps unbroken all printed count is = record {
-  given = given;
-  ending = ending;
-  opened = unbroken_opened ending unbroken;
-  read = Whole records (Some fault);
-  reads = reads;
-  at_end = at_end;
-  keeps = keeps;
-  bytes = (unbroken, all);
-  answer = inl (is, rw (append-nil (lines_of_records classifier records)) printed);
-  read_fault = λ e. absurd (cc);
-  count = count;
-}
+fault_whole classifier start old new given records ending fault status reads at_end keeps unbroken all printed count
+    is = record {
+      given = given;
+      ending = ending;
+      opened = unbroken_opened ending unbroken;
+      read = Whole records (Some fault);
+      reads = reads;
+      at_end = at_end;
+      keeps = keeps;
+      bytes = (unbroken, all);
+      answer = inl (is, rw (append-nil (lines_of_records classifier records)) printed);
+      read_fault = λ e. absurd (cc);
+      count = count;
+    }
 
-pub Streams-fault : (fault : CaptureFault) (classifier : Classifier) (start : Start) (counts : Counts) (old new : Outside) (status : Status) →
-    HasPrinted classifier start counts old new (Fault fault) → status ≡ refusal fault → Streams classifier start old new status
+pub Streams-fault : (fault : CaptureFault) (classifier : Classifier) (start : Start) (counts : Counts)
+    (old new : Outside) (status : Status) →
+    HasPrinted classifier start counts old new (Fault fault) → status ≡ refusal fault →
+    Streams classifier start old new status
 Streams-fault faults.ReadFault classifier start counts old new status h is = record {
   given = h.given;
   ending = BrokenOff;
@@ -289,23 +323,30 @@ Streams-fault faults.ReadFault classifier start counts old new status h is = rec
   count = h.count;
 }
 Streams-fault faults.HeaderCut classifier start counts old new status h is =
-    fault_whole classifier start old new h.given h.records Ended faults.HeaderCut status h.took.reads h.took.at_end h.took.keeps tt h.took.bytes
+    fault_whole classifier start old new h.given h.records Ended faults.HeaderCut status h.took.reads h.took.at_end
+    h.took.keeps tt h.took.bytes
     h.printed h.count is
 Streams-fault faults.Magic classifier start counts old new status h is =
-    fault_whole classifier start old new h.given h.records GoesOn faults.Magic status h.took.reads h.took.at_end h.took.keeps tt h.took.bytes
+    fault_whole classifier start old new h.given h.records GoesOn faults.Magic status h.took.reads h.took.at_end
+    h.took.keeps tt h.took.bytes
     h.printed h.count is
 Streams-fault faults.Version classifier start counts old new status h is =
-    fault_whole classifier start old new h.given h.records GoesOn faults.Version status h.took.reads h.took.at_end h.took.keeps tt h.took.bytes
+    fault_whole classifier start old new h.given h.records GoesOn faults.Version status h.took.reads h.took.at_end
+    h.took.keeps tt h.took.bytes
     h.printed h.count is
 Streams-fault faults.LinkType classifier start counts old new status h is =
-    fault_whole classifier start old new h.given h.records GoesOn faults.LinkType status h.took.reads h.took.at_end h.took.keeps tt h.took.bytes
+    fault_whole classifier start old new h.given h.records GoesOn faults.LinkType status h.took.reads h.took.at_end
+    h.took.keeps tt h.took.bytes
     h.printed h.count is
 Streams-fault (faults.RecordCut n) classifier start counts old new status h is =
-    fault_whole classifier start old new h.given h.records Ended (faults.RecordCut n) status h.took.reads h.took.at_end h.took.keeps tt h.took.bytes
+    fault_whole classifier start old new h.given h.records Ended
+    (faults.RecordCut n) status h.took.reads h.took.at_end h.took.keeps tt h.took.bytes
     h.printed h.count is
 Streams-fault (faults.RecordTooLong n) classifier start counts old new status h is =
-    fault_whole classifier start old new h.given h.records GoesOn (faults.RecordTooLong n) status h.took.reads h.took.at_end h.took.keeps tt
+    fault_whole classifier start old new h.given h.records GoesOn
+    (faults.RecordTooLong n) status h.took.reads h.took.at_end h.took.keeps tt
     h.took.bytes h.printed h.count is
 Streams-fault faults.TooManyRecords classifier start counts old new status h is =
-    fault_whole classifier start old new h.given h.records GoesOn faults.TooManyRecords status h.took.reads h.took.at_end h.took.keeps tt
+    fault_whole classifier start old new h.given h.records GoesOn faults.TooManyRecords status h.took.reads
+    h.took.at_end h.took.keeps tt
     h.took.bytes h.printed h.count is

@@ -23,14 +23,17 @@ use Rattle.acl_tool.specs.Taken.{onto, ending_of, ending_of_fault, stands, AreRe
 onto-none : (behind : Recorded) → behind ≡ onto [] behind
 onto-none behind = refl
 
-onto-then : (first second : List CaptureRecord) (behind : Recorded) → onto first (onto second behind) ≡ onto (first ++ second) behind
+onto-then : (first second : List CaptureRecord) (behind : Recorded) →
+    onto first (onto second behind) ≡ onto (first ++ second) behind
 onto-then first second behind =
-    ap (λ records. let all : Recorded = record { records = records; fault = behind.fault } in all) (sym (append_assoc first second behind.records))
+    ap (λ records. let all : Recorded = record { records = records; fault = behind.fault } in all)
+    (sym (append_assoc first second behind.records))
 
 -- nothing was taken yet
 pub Took-none : (start : Start) (count : ℕ) (view : DeskView) → Took start count [] [] view view Full
 Took-none start count view = record {
-  bytes = λ behind. ap (λ n. records_behind start n behind) (sym (add-zero count)) ∙ onto-none (records_behind start (count + 0) behind);
+  bytes = λ behind. ap (λ n. records_behind start n behind) (sym (add-zero count))
+      ∙ onto-none (records_behind start (count + 0) behind);
   reads = ReadsOn-none view;
   at_end = λ e. absurd (cc);
   read_fault = λ e. absurd (cc);
@@ -39,21 +42,26 @@ Took-none start count view = record {
 }
 
 -- records, and then more bytes
-behind_records : (start : Start) (count : ℕ) (first : List CaptureRecord) (given more : List ℕ) → AreRecords start count given first →
+behind_records : (start : Start) (count : ℕ) (first : List CaptureRecord) (given more : List ℕ) →
+    AreRecords start count given first →
     (behind : List ℕ) →
-    records_behind start count ((given ++ more) ++ behind) ≡ onto first (records_behind start (count + length first) (more ++ behind))
+    records_behind start count ((given ++ more) ++ behind)
+    ≡ onto first (records_behind start (count + length first) (more ++ behind))
 behind_records start count first given more are behind =
     ap (records_behind start count) (append_assoc given more behind) ∙ are (more ++ behind)
 
-AreRecords-then : (start : Start) (count : ℕ) (first second : List CaptureRecord) (given more : List ℕ) → AreRecords start count given first →
+AreRecords-then : (start : Start) (count : ℕ) (first second : List CaptureRecord) (given more : List ℕ) →
+    AreRecords start count given first →
     AreRecords start (count + length first) more second → AreRecords start count (given ++ more) (first ++ second)
 AreRecords-then start count first second given more a b behind =
-    let sum : (count + length first) + length second ≡ count + length (first ++ second) = omega (arith, length-append first second) in
+    let sum : (count + length first) + length second ≡ count + length (first ++ second) =
+    omega (arith, length-append first second) in
     behind_records start count first given more a behind ∙ ap (onto first) (b behind)
     ∙ onto-then first second (records_behind start ((count + length first) + length second) behind)
     ∙ ap (λ n. onto (first ++ second) (records_behind start n behind)) sum
 
-AreAll-then : (start : Start) (count : ℕ) (first second : List CaptureRecord) (given more : List ℕ) (ending : Ending) (fault : Option CaptureFault) →
+AreAll-then : (start : Start) (count : ℕ) (first second : List CaptureRecord) (given more : List ℕ) (ending : Ending)
+    (fault : Option CaptureFault) →
     AreRecords start count given first → AreAll start (count + length first) more ending second fault →
     AreAll start count (given ++ more) ending (first ++ second) fault
 AreAll-then start count first second given more ending fault a b behind rest =
@@ -65,16 +73,23 @@ ArePart-then : (start : Start) (count : ℕ) (first second : List CaptureRecord)
 ArePart-then start count first second given more a b =
     ap (λ r. r.records) (a more) ∙ ap (λ l. first ++ l) b
 
-AreOfBatch-then : (stop : BatchEnd) (start : Start) (count : ℕ) (first second : List CaptureRecord) (given more : List ℕ) →
+AreOfBatch-then : (stop : BatchEnd) (start : Start) (count : ℕ) (first second : List CaptureRecord)
+    (given more : List ℕ) →
     AreRecords start count given first → AreOfBatch start (count + length first) more second stop →
     AreOfBatch start count (given ++ more) (first ++ second) stop
 AreOfBatch-then Full start count first second given more a b = AreRecords-then start count first second given more a b
-AreOfBatch-then End start count first second given more a b = AreAll-then start count first second given more Ended None a b
-AreOfBatch-then (Fault ReadFault) start count first second given more a b = ArePart-then start count first second given more a b
-AreOfBatch-then (Fault HeaderCut) start count first second given more a b = AreAll-then start count first second given more Ended (Some HeaderCut) a b
-AreOfBatch-then (Fault Magic) start count first second given more a b = AreAll-then start count first second given more GoesOn (Some Magic) a b
-AreOfBatch-then (Fault Version) start count first second given more a b = AreAll-then start count first second given more GoesOn (Some Version) a b
-AreOfBatch-then (Fault LinkType) start count first second given more a b = AreAll-then start count first second given more GoesOn (Some LinkType) a b
+AreOfBatch-then End start count first second given more a b =
+    AreAll-then start count first second given more Ended None a b
+AreOfBatch-then (Fault ReadFault) start count first second given more a b =
+    ArePart-then start count first second given more a b
+AreOfBatch-then (Fault HeaderCut) start count first second given more a b =
+    AreAll-then start count first second given more Ended (Some HeaderCut) a b
+AreOfBatch-then (Fault Magic) start count first second given more a b =
+    AreAll-then start count first second given more GoesOn (Some Magic) a b
+AreOfBatch-then (Fault Version) start count first second given more a b =
+    AreAll-then start count first second given more GoesOn (Some Version) a b
+AreOfBatch-then (Fault LinkType) start count first second given more a b =
+    AreAll-then start count first second given more GoesOn (Some LinkType) a b
 AreOfBatch-then (Fault (RecordCut n)) start count first second given more a b =
     AreAll-then start count first second given more Ended (Some (RecordCut n)) a b
 AreOfBatch-then (Fault (RecordTooLong n)) start count first second given more a b =
@@ -83,7 +98,8 @@ AreOfBatch-then (Fault TooManyRecords) start count first second given more a b =
     AreAll-then start count first second given more GoesOn (Some TooManyRecords) a b
 
 -- records, and then more of them
-pub Took-then : (start : Start) (count : ℕ) (first second : List CaptureRecord) (given more : List ℕ) (old mid new : DeskView) (stop : BatchEnd) →
+pub Took-then : (start : Start) (count : ℕ) (first second : List CaptureRecord) (given more : List ℕ)
+    (old mid new : DeskView) (stop : BatchEnd) →
     Took start count first given old mid Full → Took start (count + length first) second more mid new stop →
     Took start count (first ++ second) (given ++ more) old new stop
 Took-then start count first second given more old mid new stop a b = record {
@@ -95,13 +111,15 @@ Took-then start count first second given more old mid new stop a b = record {
   room = λ below. let first_few = a.room below in omega (arith, b.room first_few, length-append first second);
 }
 
-AreAll-part : (start : Start) (count : ℕ) (given : List ℕ) (ending : Ending) (records : List CaptureRecord) (fault : Option CaptureFault) →
+AreAll-part : (start : Start) (count : ℕ) (given : List ℕ) (ending : Ending) (records : List CaptureRecord)
+    (fault : Option CaptureFault) →
     AreAll start count given ending records fault → (records_behind start count given).records ≡ records
 AreAll-part start count given ending records fault all =
     ap (λ l. (records_behind start count l).records) (sym (append-nil given)) ∙ ap (λ r. r.records) (all [] (λ e. refl))
 
 -- the records are the whole ones of the bytes
-pub AreOfBatch-part : (stop : BatchEnd) (start : Start) (given : List ℕ) (records : List CaptureRecord) → AreOfBatch start 0 given records stop →
+pub AreOfBatch-part : (stop : BatchEnd) (start : Start) (given : List ℕ) (records : List CaptureRecord) →
+    AreOfBatch start 0 given records stop →
     (records_behind start 0 given).records ≡ records
 AreOfBatch-part Full start given records are =
     ap (λ l. (records_behind start 0 l).records) (sym (append-nil given)) ∙ ap (λ r. r.records) (are [])
@@ -115,12 +133,16 @@ AreOfBatch-part (Fault HeaderCut) start given records are = AreAll-part start 0 
 AreOfBatch-part (Fault Magic) start given records are = AreAll-part start 0 given GoesOn records (Some Magic) are
 AreOfBatch-part (Fault Version) start given records are = AreAll-part start 0 given GoesOn records (Some Version) are
 AreOfBatch-part (Fault LinkType) start given records are = AreAll-part start 0 given GoesOn records (Some LinkType) are
-AreOfBatch-part (Fault (RecordCut n)) start given records are = AreAll-part start 0 given Ended records (Some (RecordCut n)) are
-AreOfBatch-part (Fault (RecordTooLong n)) start given records are = AreAll-part start 0 given GoesOn records (Some (RecordTooLong n)) are
-AreOfBatch-part (Fault TooManyRecords) start given records are = AreAll-part start 0 given GoesOn records (Some TooManyRecords) are
+AreOfBatch-part (Fault (RecordCut n)) start given records are =
+    AreAll-part start 0 given Ended records (Some (RecordCut n)) are
+AreOfBatch-part (Fault (RecordTooLong n)) start given records are =
+    AreAll-part start 0 given GoesOn records (Some (RecordTooLong n)) are
+AreOfBatch-part (Fault TooManyRecords) start given records are =
+    AreAll-part start 0 given GoesOn records (Some TooManyRecords) are
 
 -- there is a record only where there may be one more
-record_few : (start : Start) (count : ℕ) (given captured behind : List ℕ) → next_of start.order count given ≡ Record captured behind → count < max_records
+record_few : (start : Start) (count : ℕ) (given captured behind : List ℕ) →
+    next_of start.order count given ≡ Record captured behind → count < max_records
 record_few start count given captured behind next =
     elim (cases_eq (length given) 0) [
       | inl none ↦
@@ -149,23 +171,30 @@ Took-record start count captured old new reads = record {
   room = λ below. omega (arith, record_few start count reads.given captured [] reads.answer);
 }
 
-AreAll-end : (start : Start) (count : ℕ) (given : List ℕ) → next_of start.order count given ≡ NoMore → AreAll start count given Ended [] None
+AreAll-end : (start : Start) (count : ℕ) (given : List ℕ) → next_of start.order count given ≡ NoMore →
+    AreAll start count given Ended [] None
 AreAll-end start count given next more rest =
-    ap (records_behind start count) (ap (λ l. given ++ l) (rest refl) ∙ append-nil given) ∙ records_behind-end start count given next
+    ap (records_behind start count) (ap (λ l. given ++ l) (rest refl) ∙ append-nil given)
+    ∙ records_behind-end start count given next
 
-AreAll-cut : (start : Start) (count : ℕ) (given : List ℕ) (fault : CaptureFault) → next_of start.order count given ≡ Failing fault →
+AreAll-cut : (start : Start) (count : ℕ) (given : List ℕ) (fault : CaptureFault) →
+    next_of start.order count given ≡ Failing fault →
     AreAll start count given Ended [] (Some fault)
 AreAll-cut start count given fault next more rest =
-    ap (records_behind start count) (ap (λ l. given ++ l) (rest refl) ∙ append-nil given) ∙ records_behind-fault start count given fault next
+    ap (records_behind start count) (ap (λ l. given ++ l) (rest refl) ∙ append-nil given)
+    ∙ records_behind-fault start count given fault next
 
-AreAll-decided : (start : Start) (count : ℕ) (given : List ℕ) (fault : CaptureFault) → next_of start.order count given ≡ Failing fault →
+AreAll-decided : (start : Start) (count : ℕ) (given : List ℕ) (fault : CaptureFault) →
+    next_of start.order count given ≡ Failing fault →
     IsDecided (Failing fault) → AreAll start count given GoesOn [] (Some fault)
 AreAll-decided start count given fault next decided more rest =
     records_behind-fault start count (given ++ more) fault
-    (next_of-append start.order count given more (subst IsDecided (sym next) decided) ∙ ap (λ n. with_behind n more) next)
+    (next_of-append start.order count given more (subst IsDecided (sym next) decided)
+    ∙ ap (λ n. with_behind n more) next)
 
 -- no record was there: the end of the capture
-pub Took-end : (start : Start) (count : ℕ) (old new : DeskView) → (reads : ReadsNext start.order count old new (Ok None)) →
+pub Took-end : (start : Start) (count : ℕ) (old new : DeskView) →
+    (reads : ReadsNext start.order count old new (Ok None)) →
     Took start count [] reads.given old new End
 Took-end start count old new reads = record {
   bytes = AreAll-end start count reads.given reads.answer.0;
@@ -177,7 +206,8 @@ Took-end start count old new reads = record {
 }
 
 -- no record was there: a fault
-pub Took-fault : (fault : CaptureFault) (start : Start) (count : ℕ) (old new : DeskView) → (reads : ReadsNext start.order count old new (Err fault)) →
+pub Took-fault : (fault : CaptureFault) (start : Start) (count : ℕ) (old new : DeskView) →
+    (reads : ReadsNext start.order count old new (Err fault)) →
     Took start count [] reads.given old new (Fault fault)
 Took-fault ReadFault start count old new reads = record {
   bytes = no_records start count reads.given (unanswered start.order count reads.given ReadFault reads.answer);

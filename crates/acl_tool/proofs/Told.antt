@@ -34,12 +34,14 @@ IsFaithful files (Read name printed next) =
     ((bytes more : List ℕ) → BeginsWith (printed bytes) (settled (found (next (bytes ++ more)) files)).text)
     × ((bytes : List ℕ) → IsFaithful files (next bytes))
 
-pub faithful_unless : {A : Type 0} (files : List File) (result : Result A Status) (f : A → Plan Outcome) → ((value : A) → IsFaithful files (f value)) →
+pub faithful_unless : {A : Type 0} (files : List File) (result : Result A Status) (f : A → Plan Outcome) →
+    ((value : A) → IsFaithful files (f value)) →
     IsFaithful files (unless_refused result >>= f)
 faithful_unless files (Ok value) f each = each value
 faithful_unless files (Err status) f each = tt
 
-part_text : (files : List File) (file : Heard) (name : List ℕ) (printed : List ℕ → List ℕ) (next : List ℕ → Plan Outcome) →
+part_text : (files : List File) (file : Heard) (name : List ℕ) (printed : List ℕ → List ℕ)
+    (next : List ℕ → Plan Outcome) →
     file.name ≡ name → IsPartOf files file →
     ((bytes more : List ℕ) → BeginsWith (printed bytes) (settled (found (next (bytes ++ more)) files)).text) →
     BeginsWith (printed file.bytes) (settled (found (Read name printed next) files)).text
@@ -48,26 +50,35 @@ part_text files file name printed next is_name part begins =
     rw there (begins file.bytes part.rest)
 
 -- the text within a file, by how its reading stands
-within_text : (ending : Ending) (files : List File) (file : Heard) (name : List ℕ) (printed : List ℕ → List ℕ) (next : List ℕ → Plan Outcome) →
+within_text : (ending : Ending) (files : List File) (file : Heard) (name : List ℕ) (printed : List ℕ → List ℕ)
+    (next : List ℕ → Plan Outcome) →
     file.ending ≡ ending → file.name ≡ name → ((files_there : IsOpened ending) → IsPartOf files file) →
     ((bytes more : List ℕ) → BeginsWith (printed bytes) (settled (found (next (bytes ++ more)) files)).text) →
     BeginsWith (said_in ending (printed file.bytes)) (settled (found (Read name printed next) files)).text
 within_text NotOpened files file name printed next is is_name part begins = BeginsWith-nothing _
-within_text GoesOn files file name printed next is is_name part begins = part_text files file name printed next is_name (part tt) begins
-within_text Ended files file name printed next is is_name part begins = part_text files file name printed next is_name (part tt) begins
-within_text BrokenOff files file name printed next is is_name part begins = part_text files file name printed next is_name (part tt) begins
+within_text GoesOn files file name printed next is is_name part begins =
+    part_text files file name printed next is_name (part tt) begins
+within_text Ended files file name printed next is is_name part begins =
+    part_text files file name printed next is_name (part tt) begins
+within_text BrokenOff files file name printed next is is_name part begins =
+    part_text files file name printed next is_name (part tt) begins
 
 -- What was printed of an outcome of what was heard is the first part of what the files give.
-Follows-text : (plan : Plan Outcome) (told : Option (List File)) (files : List File) (old new : List Heard) (reached : Reached Outcome) →
+Follows-text : (plan : Plan Outcome) (told : Option (List File)) (files : List File) (old new : List Heard)
+    (reached : Reached Outcome) →
     told ≡ Some files → IsFaithful files plan → Follows told plan old new reached →
     BeginsWith (outcome_of reached).text (settled (found plan files)).text
 Follows-text (Give value) told files old new reached at_files faithful h = rw (h.1) (BeginsWith-same value.text)
 Follows-text (Stop status) told files old new reached at_files faithful h = rw (h.1) (BeginsWith-same [])
-Follows-text (Read name printed next) told files old new reached at_files faithful (inl before) = rw (before.1) (BeginsWith-nothing _)
-Follows-text (Read name printed next) told files old new reached at_files faithful (inr (file, is_name, one, inl within)) =
+Follows-text (Read name printed next) told files old new reached at_files faithful (inl before) =
+    rw (before.1) (BeginsWith-nothing _)
+Follows-text (Read name printed next) told files old new reached at_files faithful
+    (inr (file, is_name, one, inl within)) =
     rw (within.1)
-    (within_text file.ending files file name printed next refl is_name (λ opened. one files at_files opened) (faithful.0))
-Follows-text (Read name printed next) told files old new reached at_files faithful (inr (file, is_name, one, inr (enough, rest))) =
+    (within_text file.ending files file name printed next refl is_name (λ opened. one files at_files opened)
+    (faithful.0))
+Follows-text (Read name printed next) told files old new reached at_files faithful
+    (inr (file, is_name, one, inr (enough, rest))) =
     rw (found_next told files name next file at_files is_name one enough)
     (Follows-text (next file.bytes) told files (file ∷ old) new reached at_files ((faithful.1) file.bytes) rest)
 
@@ -78,15 +89,18 @@ undecided_within Ended = refl
 undecided_within BrokenOff = refl
 
 -- a decided outcome of what was heard is that of the files
-decided_outcome : (files : List File) (reached : Reached Outcome) (result : Result Outcome Status) → IsFound files reached result →
+decided_outcome : (files : List File) (reached : Reached Outcome) (result : Result Outcome Status) →
+    IsFound files reached result →
     is_decided (outcome_of reached).status ≡ true → outcome_of reached ≡ settled result
 decided_outcome files (Given outcome) result is decided = ap settled (sym is)
 decided_outcome files (Stopped status) result is decided = ap settled (sym is)
 decided_outcome files (Before name) result is decided = absurd (false≢true decided)
-decided_outcome files (Within file text) result is decided = absurd (false≢true (sym (undecided_within file.ending) ∙ decided))
+decided_outcome files (Within file text) result is decided =
+    absurd (false≢true (sym (undecided_within file.ending) ∙ decided))
 
 -- a prefix of a first part
-prefix_of : (front text : List ℕ) (old new : SinkView) → BeginsWith front text → GainsPrefix front old new → GainsPrefix text old new
+prefix_of : (front text : List ℕ) (old new : SinkView) → BeginsWith front text → GainsPrefix front old new →
+    GainsPrefix text old new
 prefix_of front text old new begins prefix = rw begins.parts (GainsPrefix-more front begins.rest old new prefix)
 
 -- the status of a decided end is that of what was heard
@@ -101,7 +115,8 @@ pub Ends-told : (plan : Plan Outcome) (old new : Outside) (status : Status) →
     ((files : List File) → IsFaithful files plan) → Ends plan old new status →
     (files : List File) → files_of old.desk ≡ Some files → EndsAsTold (settled (found plan files)) old new status
 Ends-told plan old new status faithful ends files told =
-    let is = Follows-found plan (files_of old.desk) files (heard_of old.desk) (heard_of new.desk) ends.reached told ends.follows in
+    let is = Follows-found plan (files_of old.desk) files (heard_of old.desk)
+    (heard_of new.desk) ends.reached told ends.follows in
     let same : is_decided status ≡ true → outcome_of ends.reached ≡ settled (found plan files) =
     λ decided. decided_outcome files ends.reached (found plan files) is
     (ap is_decided (sym (decided_status status (outcome_of ends.reached).status ends.ended decided)) ∙ decided) in
@@ -110,10 +125,12 @@ Ends-told plan old new status faithful ends files told =
           decided_status status (outcome_of ends.reached).status ends.ended decided ∙ ap (λ o. o.status) (same decided);
       text = λ decided.
           subst (λ (o : Outcome). Gains o.text old.out new.out) (same decided)
-          (ends.text (λ write. false≢true (ap is_decided (sym write) ∙ decided)) (λ full. false≢true (ap is_decided (sym full) ∙ decided)));
+          (ends.text (λ write. false≢true (ap is_decided (sym write) ∙ decided))
+          (λ full. false≢true (ap is_decided (sym full) ∙ decided)));
       prefix = λ write.
           prefix_of (outcome_of ends.reached).text (settled (found plan files)).text old.out new.out
-          (Follows-text plan (files_of old.desk) files (heard_of old.desk) (heard_of new.desk) ends.reached told (faithful files) ends.follows)
+          (Follows-text plan (files_of old.desk) files (heard_of old.desk) (heard_of new.desk) ends.reached told
+          (faithful files) ends.follows)
           (ends.prefix write);
     }
 
@@ -121,7 +138,8 @@ no_read_fault : (P : List File → Type 0) (old new : Outside) → HasNoFault ol
 no_read_fault P old new none (inl rose) = none.read_faults rose
 no_read_fault P old new none (inr (rose, absent)) = none.absent rose
 
-full_within : (status : Status) (ending : Ending) → (status ≡ ReadFault → ⊥) → status ≡ status_within ending → status ≡ OutOfMemory
+full_within : (status : Status) (ending : Ending) → (status ≡ ReadFault → ⊥) → status ≡ status_within ending →
+    status ≡ OutOfMemory
 full_within status NotOpened never same = absurd (never same)
 full_within status GoesOn never same = same
 full_within status Ended never same = same
@@ -136,11 +154,15 @@ complete_reached files (Before name) result status is never same = inr same
 complete_reached files (Within file text) result status is never same = inr (full_within status file.ending never same)
 
 -- Where the outside has no fault, only memory keeps a command from its outcome.
-pub Ends-complete : (plan : Plan Outcome) (old new : Outside) (status : Status) → Ends plan old new status → HasNoFault old new →
-    (files : List File) → files_of old.desk ≡ Some files → (status ≡ (settled (found plan files)).status) ⊎ (status ≡ OutOfMemory)
+pub Ends-complete : (plan : Plan Outcome) (old new : Outside) (status : Status) → Ends plan old new status →
+    HasNoFault old new →
+    (files : List File) → files_of old.desk ≡ Some files →
+    (status ≡ (settled (found plan files)).status) ⊎ (status ≡ OutOfMemory)
 Ends-complete plan old new status ends none files told =
-    let is = Follows-found plan (files_of old.desk) files (heard_of old.desk) (heard_of new.desk) ends.reached told ends.follows in
+    let is = Follows-found plan (files_of old.desk) files (heard_of old.desk)
+    (heard_of new.desk) ends.reached told ends.follows in
     elim ends.ended [
-      | inl same ↦ complete_reached files ends.reached (found plan files) status is (λ e. no_read_fault _ old new none (ends.read_fault e)) same
+      | inl same ↦ complete_reached files ends.reached (found plan files) status is
+          (λ e. no_read_fault _ old new none (ends.read_fault e)) same
       | inr other ↦ elim other [ inl write ↦ absurd (none.faults (ends.write_fault write)) | inr full ↦ inr full ]
     ]

@@ -36,17 +36,20 @@ records_more (suc fuel) start count left more enough =
       | inl ends ↦ none_first _ _ (ap (λ r. r.records) (records_behind-end start count left ends))
       | inr (inl whole) ↦
           let shorter = subst (IsShorter left) whole.2 (next_of-shorter start.order count left) in
-          record_first whole.0 whole.1 whole.2 (records_more fuel start (count + 1) whole.1 more (omega (arith, shorter, enough)))
+          record_first whole.0 whole.1 whole.2
+          (records_more fuel start (count + 1) whole.1 more (omega (arith, shorter, enough)))
       | inr (inr fails) ↦ none_first _ _ (ap (λ r. r.records) (records_behind-fault start count left fails.0 fails.1))
     ]
   where
     record_first : (captured behind : List ℕ) → next_of start.order count left ≡ Record captured behind →
-        AreFirst (records_behind start (count + 1) behind).records (records_behind start (count + 1) (behind ++ more)).records →
+        AreFirst (records_behind start (count + 1) behind).records
+        (records_behind start (count + 1) (behind ++ more)).records →
         AreFirst (records_behind start count left).records (records_behind start count (left ++ more)).records
     record_first captured behind next later =
         let one : CaptureRecord = record { link = start.link; bytes = captured } in
         let longer : next_of start.order count (left ++ more) ≡ Record captured (behind ++ more) =
-        next_of-append start.order count left more (subst IsDecided (sym next) tt) ∙ ap (λ n. with_behind n more) next in
+        next_of-append start.order count left more (subst IsDecided (sym next) tt)
+        ∙ ap (λ n. with_behind n more) next in
         record {
           rest = later.rest;
           parts =
@@ -57,7 +60,8 @@ records_more (suc fuel) start count left more enough =
         }
 
 -- what a file header says is said by its first bytes
-pub start_of-more : (bytes more : List ℕ) (result : Result Start CaptureFault) → start_of bytes ≡ result → (result ≡ Err HeaderCut → ⊥) →
+pub start_of-more : (bytes more : List ℕ) (result : Result Start CaptureFault) → start_of bytes ≡ result →
+    (result ≡ Err HeaderCut → ⊥) →
     (start_of (bytes ++ more) ≡ result) × (file_header_len ≤ length bytes)
 start_of-more bytes more result says isnt =
     elim (cases_lt (length bytes) file_header_len) [
@@ -73,11 +77,14 @@ start_of-more bytes more result says isnt =
       )
     ]
 
-whole_first : (bytes more : List ℕ) (result : Result Start CaptureFault) → start_of bytes ≡ result → AreFirst (whole_records bytes) (whole_records (bytes ++ more))
-whole_first bytes more (Err fault) says = none_first (whole_records bytes) (whole_records (bytes ++ more)) (rw says refl)
+whole_first : (bytes more : List ℕ) (result : Result Start CaptureFault) → start_of bytes ≡ result →
+    AreFirst (whole_records bytes) (whole_records (bytes ++ more))
+whole_first bytes more (Err fault) says =
+    none_first (whole_records bytes) (whole_records (bytes ++ more)) (rw says refl)
 whole_first bytes more (Ok start) says =
     let longer = start_of-more bytes more (Ok start) says (λ e. absurd (cc)) in
-    let first = records_more (length (drop file_header_len bytes)) start 0 (drop file_header_len bytes) more (omega arith) in
+    let first = records_more (length (drop file_header_len bytes)) start 0 (drop file_header_len bytes) more
+    (omega arith) in
     let alone : whole_records bytes ≡ (records_behind start 0 (drop file_header_len bytes)).records = rw says refl in
     let all : whole_records (bytes ++ more) ≡ (records_behind start 0 (drop file_header_len bytes ++ more)).records =
     rw (longer.0, drop-append-le file_header_len bytes more longer.1) refl in
@@ -94,7 +101,8 @@ lines_first classifier front all behind first =
       rest = rest ++ behind;
       parts =
           ap (λ l. l ++ behind)
-          (ap (lines_of_records classifier) first.parts ∙ lines_of_records-append classifier front first.rest (length front + 1) refl)
+          (ap (lines_of_records classifier) first.parts
+          ∙ lines_of_records-append classifier front first.rest (length front + 1) refl)
           ∙ append_assoc (lines_of_records classifier front) rest behind;
     }
 
@@ -102,12 +110,16 @@ no_front : (front rest : List CaptureRecord) → [] ≡ front ++ rest → front 
 no_front [] rest e = refl
 no_front (r ∷ rs) rest e = absurd (cc)
 
-reported_first : (classifier : Classifier) (front : List CaptureRecord) (capture : Result Recorded CaptureFault) → AreFirst front (records_in capture) →
+reported_first : (classifier : Classifier) (front : List CaptureRecord) (capture : Result Recorded CaptureFault) →
+    AreFirst front (records_in capture) →
     BeginsWith (lines_of_records classifier front) (report_of_capture classifier capture).text
-reported_first classifier front (Ok capture) first = lines_first classifier front capture.records (last_line capture.records capture.fault) first
+reported_first classifier front (Ok capture) first =
+    lines_first classifier front capture.records (last_line capture.records capture.fault) first
 reported_first classifier front (Err fault) first = rw (no_front front first.rest first.parts) (BeginsWith-nothing [])
 
 -- The lines of the whole records of the first bytes are the first part of the report.
-pub report-begins : (classifier : Classifier) (bytes more : List ℕ) → BeginsWith (lines_so_far classifier bytes) (report classifier (bytes ++ more)).text
+pub report-begins : (classifier : Classifier) (bytes more : List ℕ) →
+    BeginsWith (lines_so_far classifier bytes) (report classifier (bytes ++ more)).text
 report-begins classifier bytes more =
-    reported_first classifier (whole_records bytes) (capture_of (bytes ++ more)) (whole_first bytes more (start_of bytes) refl)
+    reported_first classifier (whole_records bytes) (capture_of (bytes ++ more))
+    (whole_first bytes more (start_of bytes) refl)

@@ -27,33 +27,40 @@ names_like_options : command (codes "classify" ∷ codes "categories=4" ∷ code
     ≡ Ok (Classify (codes "categories=4") (codes "") (record { categories = 1 }))
 names_like_options = refl
 
-one_category : command (classify_with []) ≡ Ok (Classify (codes "r") (codes "c") (record { categories = 1 }))
+one_category : command (classify_with [])
+    ≡ Ok (Classify (codes "r") (codes "c") (record { categories = 1 }))
 one_category = refl
 
-sixteen_categories : command (classify_with (codes "categories=016" ∷ [])) ≡ Ok (Classify (codes "r") (codes "c") (record { categories = 16 }))
+sixteen_categories : command (classify_with (codes "categories=016" ∷ []))
+    ≡ Ok (Classify (codes "r") (codes "c") (record { categories = 16 }))
 sixteen_categories = refl
 
 two_categories : command (classify_with (codes "categories=2" ∷ [])) ≡ Err (fault_at 4 BadValue)
 two_categories = refl
 
-a_hexadecimal_value : command (classify_with (codes "categories=0x4" ∷ [])) ≡ Err (fault_at 4 BadValue)
+a_hexadecimal_value : command (classify_with (codes "categories=0x4" ∷ []))
+    ≡ Err (fault_at 4 BadValue)
 a_hexadecimal_value = refl
 
 no_value : command (classify_with (codes "categories=" ∷ [])) ≡ Err (fault_at 4 BadValue)
 no_value = refl
 
-an_option_without_its_sign : command (classify_with (codes "categories" ∷ [])) ≡ Err (fault_at 4 UnknownOption)
+an_option_without_its_sign : command (classify_with (codes "categories" ∷ []))
+    ≡ Err (fault_at 4 UnknownOption)
 an_option_without_its_sign = refl
 
-another_option : command (classify_with (codes "categories=4" ∷ codes "stats=on" ∷ [])) ≡ Err (fault_at 5 UnknownOption)
+another_option : command (classify_with (codes "categories=4" ∷ codes "stats=on" ∷ []))
+    ≡ Err (fault_at 5 UnknownOption)
 another_option = refl
 
 -- an option that is repeated is so whatever its value
-a_repeated_option : command (classify_with (codes "categories=4" ∷ codes "categories=x" ∷ [])) ≡ Err (fault_at 5 RepeatedOption)
+a_repeated_option : command (classify_with (codes "categories=4" ∷ codes "categories=x" ∷ []))
+    ≡ Err (fault_at 5 RepeatedOption)
 a_repeated_option = refl
 
 -- the first fault from the left is told
-two_faults : command (classify_with (codes "categories=x" ∷ codes "categories=4" ∷ [])) ≡ Err (fault_at 4 BadValue)
+two_faults : command (classify_with (codes "categories=x" ∷ codes "categories=4" ∷ []))
+    ≡ Err (fault_at 4 BadValue)
 two_faults = refl
 
 twenty_digits : number_in (replicate 18 48 ++ codes "12") ≡ Some 12

@@ -6,9 +6,12 @@ use Rattle.acl_tool.specs.declared.command_line.Request as asked
 use Rattle.acl_tool.specs.declared.command_line.Request.TheVariants as variants
 use Rattle.acl_tool.specs.Command.{Request, Classify, Given}
 
+-- the command with its names and options
 abbrev pub request_of : asked.Request → Request
-request_of (variants.Classify rules capture categories) = Classify rules.now capture.now (record { categories = categories.count })
+request_of (variants.Classify rules capture categories) =
+    Classify rules.now capture.now (record { categories = categories.count })
 
+-- the number of categories, if it was given
 abbrev pub count_of : Option Categories → Option ℕ
 count_of categories = option_map (λ c. c.count) categories
 

@@ -28,6 +28,7 @@ files_of desk = option_map (λ content. content.files) desk.content
 abbrev pub opened_of : DeskView → Option (Option (List ℕ))
 opened_of desk = option_map (λ content. content.opened) desk.content
 
+-- what was heard before the newest opening
 abbrev pub earlier_of : List Heard → List Heard
 earlier_of [] = []
 earlier_of (file ∷ files) = files
@@ -41,6 +42,7 @@ pub record Outside : Type 0 where
   pub desk : DeskView
   pub out : SinkView
 
+-- an outside with these two
 abbrev pub outside : DeskView → SinkView → Outside
 outside desk out = record { desk = desk; out = out }
 
@@ -53,23 +55,30 @@ pub record KeepsFiles (old new : DeskView) : Type 0 where
 abbrev pub CannotRead : DeskView → DeskView → (List File → Type 0) → Type 0
 CannotRead old new IsAbsentIn =
     Rose old.read_faults new.read_faults
-    ⊎ (Rose old.absent new.absent × ((files : List File) → files_of old ≡ Some files → IsAbsentIn files))
+    ⊎ (Rose old.absent new.absent
+    × ((files : List File) → files_of old ≡ Some files → IsAbsentIn files))
 
 -- Where the files are told, no file was asked for that isn't there, unless this is so.
 abbrev pub AsksForNothingAbsent : DeskView → DeskView → Type 0 → Type 0
-AsksForNothingAbsent old new IsFault = (files : List File) → files_of old ≡ Some files → ¬ IsFault → new.absent ≡ old.absent
+AsksForNothingAbsent old new IsFault = (files : List File) → files_of old ≡ Some files → ¬ IsFault →
+    new.absent ≡ old.absent
 
 -- The named file was read to its end or to the cap, and nothing else was asked for.
-pub record ReadsFile (name : List ℕ) (cap : ℕ) (old new : DeskView) (result : Result (Vec ℕ Global) Status) : Type 0 where
+pub record ReadsFile (name : List ℕ) (cap : ℕ) (old new : DeskView)
+    (result : Result (Vec ℕ Global) Status) : Type 0 where
   pub file : Heard
   pub named : file.name ≡ name
   pub heard : heard_of new ≡ file ∷ heard_of old
   pub told : IsOneOf (files_of old) file
   pub bytes : IfOk result (λ bytes. file.bytes ≡ bytes.items)
-  pub ending : IfOk result (λ bytes. (file.ending ≡ Ended) ⊎ ((file.ending ≡ GoesOn) × (length bytes.items ≡ cap)))
-  pub fault : IfErr result (λ status. (status ≡ OutOfMemory) ⊎ ((status ≡ ReadFault) × (status ≡ status_within file.ending)))
+  pub ending : IfOk result
+      (λ bytes. (file.ending ≡ Ended) ⊎ ((file.ending ≡ GoesOn) × (length bytes.items ≡ cap)))
+  pub fault : IfErr result
+      (λ status. (status ≡ OutOfMemory)
+      ⊎ ((status ≡ ReadFault) × (status ≡ status_within file.ending)))
   pub read_fault : result ≡ Err ReadFault → CannotRead old new (λ files. bytes_of files name ≡ None)
-  pub opened : (files : List File) → files_of old ≡ Some files → IfOk result (λ _. opened_of new ≡ Some (Some name))
+  pub opened : (files : List File) → files_of old ≡ Some files →
+      IfOk result (λ _. opened_of new ≡ Some (Some name))
   pub absent : AsksForNothingAbsent old new (result ≡ Err ReadFault)
   pub kept : KeepsFiles old new
 
@@ -79,34 +88,41 @@ IsAnswer seen reached (Ok x) = reached ≡ Given (seen x)
 IsAnswer seen reached (Err status) = IsCutOff reached status
 
 -- A step of a command followed its plan to a value, or to an end with nothing printed.
-pub record Takes {X Y : Type 0} (plan : Plan Y) (seen : X → Y) (old new : DeskView) (result : Result X Status) : Type 0 where
+pub record Takes {X Y : Type 0} (plan : Plan Y) (seen : X → Y) (old new : DeskView)
+    (result : Result X Status) : Type 0 where
   pub reached : Reached Y
   pub follows : Follows (files_of old) plan (heard_of old) (heard_of new) reached
   pub answer : IsAnswer seen reached result
-  pub read_fault : result ≡ Err ReadFault → CannotRead old new (λ files. found plan files ≡ Err ReadFault)
+  pub read_fault : result ≡ Err ReadFault →
+      CannotRead old new (λ files. found plan files ≡ Err ReadFault)
   pub unreported : IfErr result (λ status. is_reported status ≡ false)
   pub lawful : IfErr result (λ status. is_usage status ≡ false)
   pub absent : AsksForNothingAbsent old new (result ≡ Err ReadFault)
   pub kept : KeepsFiles old new
 
--- A command ended by its plan. So it is for every desk and sink: the status and the bytes that `out` took are those of the
--- outcome of what was heard, each file was opened once, and nothing else was asked for.
+-- A command ended by its plan. So it is for every desk and sink: the status and the bytes that
+-- `out` took are those of the outcome of what was heard, each file was opened once, and nothing
+-- else was asked for.
 pub record Ends (plan : Plan Outcome) (old new : Outside) (status : Status) : Type 0 where
   pub reached : Reached Outcome
   pub follows : Follows (files_of old.desk) plan (heard_of old.desk) (heard_of new.desk) reached
-  pub ended : (status ≡ (outcome_of reached).status) ⊎ ((status ≡ WriteFault) ⊎ (status ≡ OutOfMemory))
-  pub text : status ≢ WriteFault → status ≢ OutOfMemory → Gains (outcome_of reached).text old.out new.out
+  pub ended : (status ≡ (outcome_of reached).status)
+      ⊎ ((status ≡ WriteFault) ⊎ (status ≡ OutOfMemory))
+  pub text : status ≢ WriteFault → status ≢ OutOfMemory →
+      Gains (outcome_of reached).text old.out new.out
   pub prefix : status ≡ WriteFault → GainsPrefix (outcome_of reached).text old.out new.out
   pub out_of_memory : status ≡ OutOfMemory → Gains [] old.out new.out
   -- each fault has its cause
-  pub read_fault : status ≡ ReadFault → CannotRead old.desk new.desk (λ files. (settled (found plan files)).status ≡ ReadFault)
+  pub read_fault : status ≡ ReadFault →
+      CannotRead old.desk new.desk (λ files. (settled (found plan files)).status ≡ ReadFault)
   pub write_fault : status ≡ WriteFault → Rose old.out.faults new.out.faults
   -- in every case
   pub absent : AsksForNothingAbsent old.desk new.desk (status ≡ ReadFault)
   pub kept : KeepsFiles old.desk new.desk
   pub count : old.out.faults ≤ new.out.faults
 
--- The same against the files, where the desk tells them: status and text are those of the outcome of the files.
+-- The same against the files, where the desk tells them: status and text are those of the outcome
+-- of the files.
 pub record EndsAsTold (expected : Outcome) (old new : Outside) (status : Status) : Type 0 where
   pub decided : is_decided status ≡ true → status ≡ expected.status
   pub text : is_decided status ≡ true → Gains expected.text old.out new.out
@@ -117,7 +133,8 @@ pub record PutsLine (line : List ℕ) (old new : SinkView) : Type 0 where
   pub told : Gains line old new ⊎ (Rose old.faults new.faults × GainsPrefix line old new)
   pub count : old.faults ≤ new.faults
 
--- Of the records that were heard of the named capture at most a batch has no line in what the sink gained.
+-- Of the records that were heard of the named capture at most a batch has no line in what the sink
+-- gained.
 pub record KeepsUp (name : List ℕ) (old new : Outside) : Type 0 where
   pub file : Heard
   pub named : file.name ≡ name
@@ -127,10 +144,12 @@ pub record KeepsUp (name : List ℕ) (old new : Outside) : Type 0 where
   pub few : length (whole_records file.bytes) ≤ lines_in put + max_batch
 
 -- The report of the named capture was printed as far as its plan was followed.
-pub record Reports (classifier : Classifier) (name : List ℕ) (old new : Outside) (status : Status) : Type 0 where
+pub record Reports (classifier : Classifier) (name : List ℕ) (old new : Outside)
+    (status : Status) : Type 0 where
   pub ends : Ends (reported classifier name) old new status
   pub lawful : is_usage status ≡ false
-  pub opened : (files : List File) → files_of old.desk ≡ Some files → is_reported status ≡ true → opened_of new.desk ≡ Some (Some name)
+  pub opened : (files : List File) → files_of old.desk ≡ Some files → is_reported status ≡ true →
+      opened_of new.desk ≡ Some (Some name)
   pub keeps_up : status ≡ WriteFault → KeepsUp name old new
 
 -- No count of the desk or of the sink rose.
@@ -140,21 +159,25 @@ pub record HasNoFault (old new : Outside) : Type 0 where
   pub faults : ¬ Rose old.out.faults new.out.faults
 
 -- A request or a usage fault was answered: all that is promised of a command but its message.
-pub record Answers (request : Result Request UsageFault) (old new : Outside) (status : Status) : Type 0 where
-  -- a usage fault comes exactly of such words, whatever memory and the outside do, and then nothing is asked or printed
+pub record Answers (request : Result Request UsageFault) (old new : Outside)
+    (status : Status) : Type 0 where
+  -- a usage fault comes exactly of such words, whatever memory and the outside do, and then nothing
+  -- is asked or printed
   pub usage : IfErr request (λ fault. status ≡ Usage fault)
   pub usage_only : IfOk request (λ _. is_usage status ≡ false)
   pub usage_is_silent : IfErr request (λ _. new ≡ old)
   pub ends : Ends (plan_of request) old new status
   -- where the desk tells its files
-  pub told : (files : List File) → files_of old.desk ≡ Some files → EndsAsTold (settled (found (plan_of request) files)) old new status
+  pub told : (files : List File) → files_of old.desk ≡ Some files →
+      EndsAsTold (settled (found (plan_of request) files)) old new status
   pub opened : (files : List File) → files_of old.desk ≡ Some files → is_reported status ≡ true →
       IfOk request (λ r. opened_of new.desk ≡ Some (Some (capture_name r)))
   -- lines are put soon after their records were read
   pub keeps_up : status ≡ WriteFault → IfOk request (λ r. KeepsUp (capture_name r) old new)
 
 -- All that `run` promises.
-pub record Runs (words : List (List ℕ)) (old new : Outside) (err_old err_new : SinkView) (status : Status) : Type 0 where
+pub record Runs (words : List (List ℕ)) (old new : Outside) (err_old err_new : SinkView)
+    (status : Status) : Type 0 where
   pub answers : Answers (command words) old new status
   -- where the outside has no fault, only memory keeps the command from its outcome
   pub complete : HasNoFault old new → (files : List File) → files_of old.desk ≡ Some files →

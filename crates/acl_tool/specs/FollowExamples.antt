@@ -1,4 +1,5 @@
--- Examples of plans that were followed, each checked by evaluation: which openings they allow, and the outcome of what was heard.
+-- Examples of plans that were followed, each checked by evaluation: which openings they allow, and
+-- the outcome of what was heard.
 use Rattle.std.specs.Prelude.{◌≡◌, ℕ, List, [], ◌∷◌, Option, Some, None, ⊤, codes, refl}
 use Rattle.std.proofs.Common.{inl, inr, subst}
 use Rattle.std.specs.Fmt.{digits}
@@ -31,10 +32,11 @@ untold : (file : Heard) → IsOneOf None file
 untold file files told opened = absurd (subst IsUntold told tt)
 
 -- both files were read to their ends, in this order
-whole : Follows None classify [] (capture_file ethernet_header Ended ∷ rules_file [] Ended ∷ []) (Given (record {
-  status = Done;
-  text = codes "packets 0 ip4 0 ip6 0 other 0 short 0\n";
-}))
+whole : Follows None classify [] (capture_file ethernet_header Ended ∷ rules_file [] Ended ∷ [])
+    (Given (record {
+      status = Done;
+      text = codes "packets 0 ip4 0 ip6 0 other 0 short 0\n";
+    }))
 unfolding digits
 whole =
     inr (
@@ -43,20 +45,35 @@ whole =
       untold (rules_file [] Ended),
       inr (
         inl refl,
-        inr (capture_file ethernet_header Ended, refl, untold (capture_file ethernet_header Ended), inr (inl refl, (refl, refl))),
+        inr (
+          capture_file ethernet_header Ended,
+          refl,
+          untold
+              (capture_file ethernet_header Ended),
+          inr (inl refl, (refl, refl)),
+        ),
       ),
     )
 
 -- a refused rule file ends the command before the capture is opened
-refused : Follows None classify [] (rules_file (120 ∷ []) Ended ∷ []) (Stopped (RulesRefused (record { line = 1; kind = BadStart })))
-refused = inr (rules_file (120 ∷ []) Ended, refl, untold (rules_file (120 ∷ []) Ended), inr (inl refl, (refl, refl)))
+refused : Follows None classify [] (rules_file (120 ∷ []) Ended ∷ [])
+    (Stopped (RulesRefused (record { line = 1; kind = BadStart })))
+refused = inr (
+  rules_file (120 ∷ []) Ended,
+  refl,
+  untold (rules_file (120 ∷ []) Ended),
+  inr
+      (inl refl, (refl, refl)),
+)
 
 -- the rule file couldn't be opened
-absent : Follows None classify [] (rules_file [] NotOpened ∷ []) (Within (rules_file [] NotOpened) [])
+absent : Follows None classify [] (rules_file [] NotOpened ∷ [])
+    (Within (rules_file [] NotOpened) [])
 absent = inr (rules_file [] NotOpened, refl, untold (rules_file [] NotOpened), inl (refl, refl))
 
 -- the capture broke off
-broken : Follows None classify [] (capture_file (0xD4 ∷ []) BrokenOff ∷ rules_file [] Ended ∷ []) (Within (capture_file (0xD4 ∷ []) BrokenOff) [])
+broken : Follows None classify [] (capture_file (0xD4 ∷ []) BrokenOff ∷ rules_file [] Ended ∷ [])
+    (Within (capture_file (0xD4 ∷ []) BrokenOff) [])
 broken =
     inr (
       rules_file [] Ended,
@@ -64,7 +81,13 @@ broken =
       untold (rules_file [] Ended),
       inr (
         inl refl,
-        inr (capture_file (0xD4 ∷ []) BrokenOff, refl, untold (capture_file (0xD4 ∷ []) BrokenOff), inl (refl, refl)),
+        inr (
+          capture_file (0xD4 ∷ []) BrokenOff,
+          refl,
+          untold
+              (capture_file (0xD4 ∷ []) BrokenOff),
+          inl (refl, refl),
+        ),
       ),
     )
 
@@ -79,5 +102,6 @@ outcome_of_broken : outcome_of (Within (capture_file (0xD4 ∷ []) BrokenOff) []
 outcome_of_broken = refl
 
 -- within a file that goes on only want of memory ends a command
-outcome_of_unfinished : outcome_of (Within (capture_file (0xD4 ∷ []) GoesOn) []) ≡ silent OutOfMemory
+outcome_of_unfinished : outcome_of (Within (capture_file (0xD4 ∷ []) GoesOn) [])
+    ≡ silent OutOfMemory
 outcome_of_unfinished = refl

@@ -10,6 +10,7 @@ use Rattle.pcap_reader.specs.declared.fault.CaptureFault.{CaptureFault}
 use Rattle.pcap_reader.specs.declared.fault.CaptureFault.TheVariants.{HeaderCut, Magic, Version, LinkType, RecordCut, RecordTooLong, TooManyRecords, ReadFault as CannotRead}
 use Rattle.pcap_reader.specs.Capture.{max_records}
 
+-- what is told of a usage fault
 abbrev pub usage_text : UsageKind → List ℕ
 usage_text MissingCommand = codes "missing command"
 usage_text UnknownCommand = codes "unknown command"
@@ -18,6 +19,7 @@ usage_text UnknownOption = codes "unknown option"
 usage_text RepeatedOption = codes "repeated option"
 usage_text BadValue = codes "bad value"
 
+-- what is told of a line of a rule file
 abbrev pub line_text : LineKind → List ℕ
 line_text FileTooLong = codes "file too long"
 line_text TooManyRules = codes "too many rules"
@@ -34,6 +36,7 @@ line_text TailLeft = codes "tail left"
 line_text NoCategory = codes "no category"
 line_text PriorityRange = codes "priority range"
 
+-- what is told of a capture
 abbrev pub capture_text : CaptureFault → List ℕ
 capture_text HeaderCut = codes "header cut"
 capture_text Magic = codes "magic"
@@ -44,7 +47,8 @@ capture_text (RecordTooLong number) = codes "too long"
 capture_text TooManyRecords = codes "too many"
 capture_text CannotRead = codes "read fault"
 
--- the number of the record that a fault names: 0 for the file header, and one more than the greatest for too many
+-- the number of the record that a fault names: 0 for the file header, and one more than the
+-- greatest for too many
 abbrev pub record_of_fault : CaptureFault → ℕ
 record_of_fault HeaderCut = 0
 record_of_fault Magic = 0
@@ -57,14 +61,16 @@ record_of_fault CannotRead = 0
 
 -- what stands behind the program's name, a number and a kind
 abbrev pub numbered : List ℕ → ℕ → List ℕ → List ℕ
-numbered subject number kind = codes "aclc: " ++ subject ++ decimal number ++ codes ": " ++ kind ++ 10 ∷ []
+numbered subject number kind =
+    codes "aclc: " ++ subject ++ decimal number ++ codes ": " ++ kind ++ 10 ∷ []
 
 -- the line of a status, and nothing for `Done`
 abbrev pub message : Status → List ℕ
 message Done = []
 message (Usage fault) = numbered (codes "usage: word ") fault.word (usage_text fault.kind)
 message (RulesRefused fault) = numbered (codes "rules: line ") fault.line (line_text fault.kind)
-message (CaptureRefused fault) = numbered (codes "capture: record ") (record_of_fault fault) (capture_text fault)
+message (CaptureRefused fault) =
+    numbered (codes "capture: record ") (record_of_fault fault) (capture_text fault)
 message ReadFault = codes "aclc: read fault" ++ 10 ∷ []
 message WriteFault = codes "aclc: write fault" ++ 10 ∷ []
 message OutOfMemory = codes "aclc: out of memory" ++ 10 ∷ []

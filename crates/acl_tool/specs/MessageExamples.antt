@@ -1,4 +1,5 @@
--- Examples of the line on standard error and of the exit code, each checked by evaluation: every text that there is.
+-- Examples of the line on standard error and of the exit code, each checked by evaluation: every
+-- text that there is.
 use Rattle.std.specs.Prelude.{◌≡◌, [], ◌∷◌, codes, refl, map}
 use Rattle.std.specs.Fmt.{digits}
 use Rattle.acl_tool.specs.declared.status.Status.TheVariants.{Done, Usage, RulesRefused, CaptureRefused, ReadFault, WriteFault, OutOfMemory}
@@ -15,11 +16,13 @@ usage : message (Usage (fault_at 1 UnknownCommand)) ≡ codes "aclc: usage: word
 unfolding digits
 usage = refl
 
-bad_line : message (RulesRefused (record { line = 12; kind = BadStart })) ≡ codes "aclc: rules: line 12: bad start\n"
+bad_line : message (RulesRefused (record { line = 12; kind = BadStart }))
+    ≡ codes "aclc: rules: line 12: bad start\n"
 unfolding digits
 bad_line = refl
 
-long_rule_file : message (RulesRefused (record { line = 0; kind = FileTooLong })) ≡ codes "aclc: rules: line 0: file too long\n"
+long_rule_file : message (RulesRefused (record { line = 0; kind = FileTooLong }))
+    ≡ codes "aclc: rules: line 0: file too long\n"
 unfolding digits
 long_rule_file = refl
 
@@ -31,7 +34,8 @@ cut_record : message (CaptureRefused (RecordCut 3)) ≡ codes "aclc: capture: re
 unfolding digits
 cut_record = refl
 
-too_many_records : message (CaptureRefused TooManyRecords) ≡ codes "aclc: capture: record 1000000001: too many\n"
+too_many_records : message (CaptureRefused TooManyRecords)
+    ≡ codes "aclc: capture: record 1000000001: too many\n"
 unfolding digits
 too_many_records = refl
 
@@ -44,30 +48,38 @@ write_fault = refl
 out_of_memory : message OutOfMemory ≡ codes "aclc: out of memory\n"
 out_of_memory = refl
 
-usage_kinds : map usage_text (MissingCommand ∷ UnknownCommand ∷ MissingName ∷ UnknownOption ∷ RepeatedOption ∷ BadValue ∷ [])
-    ≡ codes "missing command" ∷ codes "unknown command" ∷ codes "missing name" ∷ codes "unknown option" ∷ codes "repeated option"
+usage_kinds : map usage_text
+    (MissingCommand ∷ UnknownCommand ∷ MissingName ∷ UnknownOption ∷ RepeatedOption ∷ BadValue ∷ [])
+    ≡ codes "missing command" ∷ codes "unknown command" ∷ codes "missing name"
+    ∷ codes "unknown option" ∷ codes "repeated option"
     ∷ codes "bad value" ∷ []
 usage_kinds = refl
 
 line_kinds : map line_text (
-    FileTooLong ∷ TooManyRules ∷ BadStart ∷ BadAddress ∷ BadPrefix ∷ MixedFamilies ∷ BadPorts ∷ EmptyRange ∷ BadProtocol ∷ BadFlags
+    FileTooLong ∷ TooManyRules ∷ BadStart ∷ BadAddress ∷ BadPrefix ∷ MixedFamilies ∷ BadPorts
+    ∷ EmptyRange ∷ BadProtocol ∷ BadFlags
     ∷ BadAttribute ∷ TailLeft ∷ NoCategory ∷ PriorityRange ∷ [])
-    ≡ codes "file too long" ∷ codes "too many rules" ∷ codes "bad start" ∷ codes "bad address" ∷ codes "bad prefix" ∷ codes "mixed families"
-    ∷ codes "bad ports" ∷ codes "empty range" ∷ codes "bad protocol" ∷ codes "bad flags" ∷ codes "bad attribute" ∷ codes "tail left"
+    ≡ codes "file too long" ∷ codes "too many rules" ∷ codes "bad start" ∷ codes "bad address"
+    ∷ codes "bad prefix" ∷ codes "mixed families"
+    ∷ codes "bad ports" ∷ codes "empty range" ∷ codes "bad protocol" ∷ codes "bad flags"
+    ∷ codes "bad attribute" ∷ codes "tail left"
     ∷ codes "no category" ∷ codes "priority range" ∷ []
 line_kinds = refl
 
 capture_kinds : map capture_text (
     HeaderCut ∷ Magic ∷ Version ∷ LinkType ∷ RecordCut 1 ∷ RecordTooLong 1 ∷ TooManyRecords ∷ [])
-    ≡ codes "header cut" ∷ codes "magic" ∷ codes "version" ∷ codes "link type" ∷ codes "cut" ∷ codes "too long" ∷ codes "too many" ∷ []
+    ≡ codes "header cut" ∷ codes "magic" ∷ codes "version" ∷ codes "link type" ∷ codes "cut"
+    ∷ codes "too long" ∷ codes "too many" ∷ []
 capture_kinds = refl
 
-long_record : message (CaptureRefused (RecordTooLong 7)) ≡ codes "aclc: capture: record 7: too long\n"
+long_record : message (CaptureRefused (RecordTooLong 7))
+    ≡ codes "aclc: capture: record 7: too long\n"
 unfolding digits
 long_record = refl
 
 -- each status has a code of its own
 all_codes : map code_of (
-    Done ∷ Usage (fault_at 1 UnknownCommand) ∷ RulesRefused (record { line = 1; kind = BadStart }) ∷ CaptureRefused Magic
+    Done ∷ Usage (fault_at 1 UnknownCommand) ∷ RulesRefused (record { line = 1; kind = BadStart })
+    ∷ CaptureRefused Magic
     ∷ ReadFault ∷ WriteFault ∷ OutOfMemory ∷ []) ≡ 0 ∷ 2 ∷ 3 ∷ 5 ∷ 7 ∷ 8 ∷ 9 ∷ []
 all_codes = refl

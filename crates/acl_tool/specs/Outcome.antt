@@ -1,4 +1,5 @@
--- How a command ends, and what it prints, as a function of its words and of the files that are there.
+-- How a command ends, and what it prints, as a function of its words and of the files that are
+-- there.
 use Rattle.std.specs.Prelude.{ℕ, List, [], ◌++◌, Bool, true, false, Option, Some, None, Result, Ok, Err}
 use Rattle.acl_outside.specs.Desk.{File}
 use Rattle.acl_report.specs.declared.counts.Counts.{Counts}
@@ -23,8 +24,10 @@ last_line records (Some fault) = []
 
 -- the lines of the records, and the last line
 abbrev pub text_of_records : Classifier → List CaptureRecord → Option CaptureFault → List ℕ
-text_of_records classifier records fault = lines_of_records classifier records ++ last_line records fault
+text_of_records classifier records fault =
+    lines_of_records classifier records ++ last_line records fault
 
+-- the status of a capture by how it ended
 abbrev pub status_of_fault : Option CaptureFault → Status
 status_of_fault None = Done
 status_of_fault (Some fault) = CaptureRefused fault
@@ -43,7 +46,11 @@ refusal CannotRead = ReadFault
 -- what a capture gives
 abbrev pub report_of_capture : Classifier → Result Recorded CaptureFault → Outcome
 report_of_capture classifier (Ok capture) =
-    record { status = status_of_fault capture.fault; text = text_of_records classifier capture.records capture.fault }
+    record {
+      status = status_of_fault capture.fault;
+      text = text_of_records classifier
+          capture.records capture.fault;
+    }
 report_of_capture classifier (Err fault) = silent (CaptureRefused fault)
 
 -- what the bytes of a capture give
@@ -54,15 +61,18 @@ report classifier bytes = report_of_capture classifier (capture_of bytes)
 abbrev pub lines_so_far : Classifier → List ℕ → List ℕ
 lines_so_far classifier bytes = lines_of_records classifier (whole_records bytes)
 
--- the report of the named capture, of which the lines of the whole records are printed while it is read
+-- the report of the named capture, of which the lines of the whole records are printed while it is
+-- read
 abbrev pub reported : Classifier → List ℕ → Plan Outcome
-reported classifier name = Read name (lines_so_far classifier) (λ bytes. Give (report classifier bytes))
+reported classifier name =
+    Read name (lines_so_far classifier) (λ bytes. Give (report classifier bytes))
 
 -- the rules of a file by family, or the status that stands for its fault
 abbrev pub refused_rules : Result RuleLists LineFault → Result RuleLists Status
 refused_rules (Ok lists) = Ok lists
 refused_rules (Err fault) = Err (RulesRefused fault)
 
+-- the rules of the bytes of a rule file
 abbrev pub rules_of_bytes : List ℕ → Result RuleLists Status
 rules_of_bytes bytes = refused_rules (rule_file_of bytes)
 

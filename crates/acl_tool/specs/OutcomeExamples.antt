@@ -17,13 +17,15 @@ classify = codes "classify" ∷ codes "r" ∷ codes "c" ∷ []
 
 -- two files of these names
 abbrev both : List ℕ → List ℕ → List File
-both rules capture = record { name = codes "r"; bytes = rules } ∷ record { name = codes "c"; bytes = capture } ∷ []
+both rules capture = record { name = codes "r"; bytes = rules }
+    ∷ record { name = codes "c"; bytes = capture } ∷ []
 
 -- the IPv4 rule of the DPDK Programmer's Guide
 abbrev guide_line : List ℕ
 guide_line = codes "@192.168.1.0/24 192.168.2.31/32 0:65535 1234:1234 0x11/0xFF\n"
 
--- a record of a frame of 38 bytes: UDP from 192.168.1.5, port 5000, to 192.168.2.31, whose port ends in the byte
+-- a record of a frame of 38 bytes: UDP from 192.168.1.5, port 5000, to 192.168.2.31, whose port
+-- ends in the byte
 abbrev udp_record : ℕ → List ℕ
 udp_record port =
     replicate 8 0 ++ 38 ∷ 0 ∷ 0 ∷ 0 ∷ 38 ∷ 0 ∷ 0 ∷ 0
@@ -31,26 +33,30 @@ udp_record port =
     ∷ 192 ∷ 168 ∷ 1 ∷ 5 ∷ 192 ∷ 168 ∷ 2 ∷ 31 ∷ 19 ∷ 136 ∷ 4 ∷ port ∷ []
 
 -- the guide's rule, a packet to port 1234 and one to port 1235
-guide : outcome classify (both guide_line (ethernet_header ++ udp_record 210 ++ udp_record 211)) ≡ record {
-  status = Done;
-  text = codes "1 ip4 1\n2 ip4 0\npackets 2 ip4 2 ip6 0 other 0 short 0\n";
-}
+guide : outcome classify (both guide_line (ethernet_header ++ udp_record 210 ++ udp_record 211))
+    ≡ record {
+      status = Done;
+      text = codes "1 ip4 1\n2 ip4 0\npackets 2 ip4 2 ip6 0 other 0 short 0\n";
+    }
 unfolding digits
 guide = refl
 
-four_categories : outcome (codes "classify" ∷ codes "r" ∷ codes "c" ∷ codes "categories=4" ∷ []) (both guide_line (ethernet_header ++ udp_record 210)) ≡ record {
-  status = Done;
-  text = codes "1 ip4 1 1 1 1\npackets 1 ip4 1 ip6 0 other 0 short 0\n";
-}
+four_categories : outcome (codes "classify" ∷ codes "r" ∷ codes "c" ∷ codes "categories=4" ∷ [])
+    (both guide_line (ethernet_header ++ udp_record 210)) ≡ record {
+      status = Done;
+      text = codes "1 ip4 1 1 1 1\npackets 1 ip4 1 ip6 0 other 0 short 0\n";
+    }
 unfolding digits
 four_categories = refl
 
-empty : outcome classify (both [] ethernet_header) ≡ record { status = Done; text = codes "packets 0 ip4 0 ip6 0 other 0 short 0\n" }
+empty : outcome classify (both [] ethernet_header)
+    ≡ record { status = Done; text = codes "packets 0 ip4 0 ip6 0 other 0 short 0\n" }
 unfolding digits
 empty = refl
 
 -- the lines before a cut record, and no line of counts
-cut : outcome classify (both guide_line (ethernet_header ++ udp_record 210 ++ 0 ∷ [])) ≡ record { status = CaptureRefused (RecordCut 2); text = codes "1 ip4 1\n" }
+cut : outcome classify (both guide_line (ethernet_header ++ udp_record 210 ++ 0 ∷ []))
+    ≡ record { status = CaptureRefused (RecordCut 2); text = codes "1 ip4 1\n" }
 unfolding digits
 cut = refl
 
@@ -61,7 +67,8 @@ no_words = refl
 no_rule_file : outcome classify (record { name = codes "c"; bytes = [] } ∷ []) ≡ silent ReadFault
 no_rule_file = refl
 
-bad_rules_and_no_capture : outcome classify (record { name = codes "r"; bytes = codes "x" } ∷ []) ≡ silent (RulesRefused (record { line = 1; kind = BadStart }))
+bad_rules_and_no_capture : outcome classify (record { name = codes "r"; bytes = codes "x" } ∷ [])
+    ≡ silent (RulesRefused (record { line = 1; kind = BadStart }))
 bad_rules_and_no_capture = refl
 
 no_capture : outcome classify (record { name = codes "r"; bytes = [] } ∷ []) ≡ silent ReadFault
@@ -71,9 +78,11 @@ no_file_header : outcome classify (both [] []) ≡ silent (CaptureRefused Header
 no_file_header = refl
 
 -- the line of the whole record in front of a part of the next, once so much was read
-so_far : lines_so_far (record { rules = record { ip4 = []; ip6 = [] }; categories = 1 }) (ethernet_header ++ udp_record 210 ++ 0 ∷ 0 ∷ []) ≡ codes "1 ip4 0\n"
+so_far : lines_so_far (record { rules = record { ip4 = []; ip6 = [] }; categories = 1 })
+    (ethernet_header ++ udp_record 210 ++ 0 ∷ 0 ∷ []) ≡ codes "1 ip4 0\n"
 unfolding digits
 so_far = refl
 
-none_so_far : lines_so_far (record { rules = record { ip4 = []; ip6 = [] }; categories = 1 }) (212 ∷ []) ≡ []
+none_so_far : lines_so_far (record { rules = record { ip4 = []; ip6 = [] }; categories = 1 })
+    (212 ∷ []) ≡ []
 none_so_far = refl

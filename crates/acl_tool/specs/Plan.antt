@@ -14,8 +14,8 @@ pub record Outcome : Type 0 where
 abbrev pub silent : Status → Outcome
 silent status = record { status = status; text = [] }
 
--- A plan gives a value, stops with a status, or reads the named file and goes on with its bytes. The text beside a reading
--- is what is printed in all once these bytes of the file were read.
+-- A plan gives a value, stops with a status, or reads the named file and goes on with its bytes.
+-- The text beside a reading is what is printed in all once these bytes of the file were read.
 pub data Plan (A : Type 0) : Type 0 where
   Give : (value : A) → Plan A
   Stop : (status : Status) → Plan A
@@ -45,7 +45,8 @@ unless_refused (Err status) = Stop status
 abbrev pub found : {A : Type 0} → Plan A → List File → Result A Status
 found (Give value) files = Ok value
 found (Stop status) files = Err status
-found (Read name printed next) files = option_map_or (λ bytes. found (next bytes) files) (bytes_of files name) (Err ReadFault)
+found (Read name printed next) files =
+    option_map_or (λ bytes. found (next bytes) files) (bytes_of files name) (Err ReadFault)
 
 -- the outcome of a result
 abbrev pub settled : Result Outcome Status → Outcome

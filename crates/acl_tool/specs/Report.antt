@@ -12,17 +12,20 @@ use Rattle.acl_tool.specs.Verdicts.{Classifier, verdicts_of}
 
 -- the line of a packet: its number, its class, and the verdict of each category
 abbrev pub line_of_packet : Classifier → ℕ → FrameClass → List ℕ
-line_of_packet classifier number packet = packet_text number packet.class (map Some (verdicts_of classifier packet))
+line_of_packet classifier number packet =
+    packet_text number packet.class (map Some (verdicts_of classifier packet))
 
 -- a line for each packet, of which the first has the number
 abbrev pub lines_of_packets : Classifier → ℕ → List FrameClass → List ℕ
 lines_of_packets classifier number [] = []
-lines_of_packets classifier number (packet ∷ packets) = line_of_packet classifier number packet ++ lines_of_packets classifier (number + 1) packets
+lines_of_packets classifier number (packet ∷ packets) =
+    line_of_packet classifier number packet ++ lines_of_packets classifier (number + 1) packets
 
 -- a line for each record, numbered from 1
 abbrev pub lines_of_records : Classifier → List CaptureRecord → List ℕ
 lines_of_records classifier records = lines_of_packets classifier 1 (map packet_of records)
 
+-- the classes of packets
 abbrev pub classes_of : List FrameClass → List Class
 classes_of packets = map (λ packet. packet.class) packets
 

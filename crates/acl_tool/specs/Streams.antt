@@ -17,11 +17,13 @@ use Rattle.acl_tool.specs.Outcome.{status_of_fault, text_of_records}
 use Rattle.acl_tool.specs.Follow.{IsOpened}
 use Rattle.acl_tool.specs.Effects.{Outside}
 
--- How far the reading came: to the ending of the capture, behind these records, or behind these whole records.
+-- How far the reading came: to the ending of the capture, behind these records, or behind these
+-- whole records.
 pub data Reading : Type 0 where
   Whole : (records : List CaptureRecord) → (fault : Option CaptureFault) → Reading
   Part : (records : List CaptureRecord) → Reading
 
+-- the whole records that were read
 abbrev pub records_read : Reading → List CaptureRecord
 records_read (Whole records fault) = records
 records_read (Part records) = records
@@ -40,7 +42,8 @@ IsUnbroken BrokenOff = ⊥
 
 -- the bytes say so
 abbrev pub AreRead : Start → List ℕ → Ending → Reading → Type 0
-AreRead start given ending (Whole records fault) = IsUnbroken ending × AreAll start 0 given ending records fault
+AreRead start given ending (Whole records fault) =
+    IsUnbroken ending × AreAll start 0 given ending records fault
 AreRead start given ending (Part records) = (records_behind start 0 given).records ≡ records
 
 -- the status that comes with it, unless the sink failed
@@ -59,11 +62,13 @@ pub record BreaksOffSoon (text : List ℕ) (records : ℕ) (old new : SinkView) 
 
 -- The line of the counts was put, or a prefix of it where the sink failed.
 pub record PutsCounts (line : List ℕ) (old new : SinkView) (status : Status) : Type 0 where
-  pub puts : ((status ≡ Done) × Gains line old new) ⊎ ((status ≡ WriteFault) × GainsPrefix line old new × Rose old.faults new.faults)
+  pub puts : ((status ≡ Done) × Gains line old new)
+      ⊎ ((status ≡ WriteFault) × GainsPrefix line old new × Rose old.faults new.faults)
   pub count : old.faults ≤ new.faults
 
 -- The records were read and printed, as far as the status says.
-pub record Streams (classifier : Classifier) (start : Start) (old new : Outside) (status : Status) : Type 0 where
+pub record Streams (classifier : Classifier) (start : Start) (old new : Outside)
+    (status : Status) : Type 0 where
   pub given : List ℕ
   pub ending : Ending
   pub opened : IsOpened ending
@@ -73,6 +78,7 @@ pub record Streams (classifier : Classifier) (start : Start) (old new : Outside)
   pub keeps : KeepsReading old.desk new.desk
   pub bytes : AreRead start given ending read
   pub answer : (IsStatus ending read status × Gains (text_of classifier read) old.out new.out)
-      ⊎ ((status ≡ WriteFault) × BreaksOffSoon (text_of classifier read) (length (records_read read)) old.out new.out)
+      ⊎ ((status ≡ WriteFault)
+      × BreaksOffSoon (text_of classifier read) (length (records_read read)) old.out new.out)
   pub read_fault : status ≡ ReadFault → Rose old.desk.read_faults new.desk.read_faults
   pub count : old.out.faults ≤ new.out.faults

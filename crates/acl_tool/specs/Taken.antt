@@ -52,7 +52,8 @@ onto records behind = record { records = records ++ behind.records; fault = behi
 abbrev pub AreRecords : Start → ℕ → List ℕ → List CaptureRecord → Type 0
 AreRecords start count given records =
     (behind : List ℕ) →
-    records_behind start count (given ++ behind) ≡ onto records (records_behind start (count + length records) behind)
+    records_behind start count (given ++ behind)
+    ≡ onto records (records_behind start (count + length records) behind)
 
 -- The bytes are all of these records and their ending, whatever else the file may have.
 abbrev pub AreAll : Start → ℕ → List ℕ → Ending → List CaptureRecord → Option CaptureFault → Type 0
@@ -64,11 +65,14 @@ AreAll start count given ending records fault =
 abbrev pub AreOfBatch : Start → ℕ → List ℕ → List CaptureRecord → BatchEnd → Type 0
 AreOfBatch start count given records Full = AreRecords start count given records
 AreOfBatch start count given records End = AreAll start count given Ended records None
-AreOfBatch start count given records (Fault ReadFault) = (records_behind start count given).records ≡ records
-AreOfBatch start count given records (Fault fault) = AreAll start count given (ending_of_fault fault) records (Some fault)
+AreOfBatch start count given records (Fault ReadFault) =
+    (records_behind start count given).records ≡ records
+AreOfBatch start count given records (Fault fault) =
+    AreAll start count given (ending_of_fault fault) records (Some fault)
 
 -- These records were read, behind so many others, and nothing else.
-pub record Took (start : Start) (count : ℕ) (records : List CaptureRecord) (given : List ℕ) (old new : DeskView) (stop : BatchEnd) : Type 0 where
+pub record Took (start : Start) (count : ℕ) (records : List CaptureRecord) (given : List ℕ)
+    (old new : DeskView) (stop : BatchEnd) : Type 0 where
   pub bytes : AreOfBatch start count given records stop
   pub reads : ReadsOn (stands (ending_of stop)) given old new
   pub at_end : ending_of stop ≡ Ended → IsAtEnd new
@@ -77,7 +81,8 @@ pub record Took (start : Start) (count : ℕ) (records : List CaptureRecord) (gi
   pub room : count ≤ max_records → count + length records ≤ max_records
 
 -- A batch of records was read, behind so many others, and these are their packets.
-pub record TakesBatch (start : Start) (count : ℕ) (packets : List FrameClass) (old new : DeskView) (stop : BatchEnd) : Type 0 where
+pub record TakesBatch (start : Start) (count : ℕ) (packets : List FrameClass) (old new : DeskView)
+    (stop : BatchEnd) : Type 0 where
   pub records : List CaptureRecord
   pub given : List ℕ
   pub packets_are : packets ≡ map packet_of records
@@ -98,7 +103,8 @@ end_of (Ok (Some captured)) = None
 end_of (Err fault) = Some (Fault fault)
 
 -- The next record was asked for, and its packet was put behind the others.
-pub record TakesRecord (state_old state_new : CaptureState) (packets_old packets_new : List FrameClass) (old new : DeskView)
+pub record TakesRecord (state_old state_new : CaptureState)
+    (packets_old packets_new : List FrameClass) (old new : DeskView)
     (result : Option BatchEnd) : Type 0 where
   pub answer : Result (Option (List ℕ)) CaptureFault
   pub takes : ReadsNext state_old.start.order state_old.count old new answer

@@ -22,12 +22,15 @@ pub record Classifier : Type 0 where
 
 -- the verdicts of rules on a key, from category 0 on
 abbrev pub verdicts_by : List FieldDef → List RuleView → List ℕ → ℕ → List ℕ
-verdicts_by layout rules key categories = map (verdict layout rules key) (range_with_len 0 categories)
+verdicts_by layout rules key categories =
+    map (verdict layout rules key) (range_with_len 0 categories)
 
 -- the verdicts on the key of a class, by the rules of its family: a frame without a packet has none
 abbrev pub verdicts_on : Class → Classifier → List ℕ → List ℕ
-verdicts_on Ip4 classifier key = verdicts_by ip4_fields classifier.rules.ip4 key classifier.categories
-verdicts_on Ip6 classifier key = verdicts_by ip6_fields classifier.rules.ip6 key classifier.categories
+verdicts_on Ip4 classifier key =
+    verdicts_by ip4_fields classifier.rules.ip4 key classifier.categories
+verdicts_on Ip6 classifier key =
+    verdicts_by ip6_fields classifier.rules.ip6 key classifier.categories
 verdicts_on Other classifier key = []
 verdicts_on Short classifier key = []
 

@@ -37,7 +37,8 @@ pub fn take_batch<D: Desk>(
     ensures batch { TakesBatch capture.old.start capture.old.count packets.new.items
         (D.view desk.old) (D.view desk.new) result }
     ensures state { result ≡ BatchEnd.Full
-        → capture.new ≡ state_of capture.old.start (capture.old.count + max_batch) progress.Reading }
+        → capture.new ≡ state_of capture.old.start
+        (capture.old.count + max_batch) progress.Reading }
     ensures capacity { vec_capacity packets.old ≤ vec_capacity packets.new }
 {
     packets.clear();

@@ -29,7 +29,8 @@ const FIRST_OPTION: u32 = 4;
 
 /// The command that the words are, or their first fault. It takes no memory.
 pub fn read_words(words: &[String]) -> Result<Request<'_>, UsageFault>
-    ensures request { IfOk result (λ request. command (map string_bytes words.now) ≡ Ok (request_of request)) }
+    ensures request { IfOk result
+        (λ request. command (map string_bytes words.now) ≡ Ok (request_of request)) }
     ensures fault { IfErr result (λ fault. command (map string_bytes words.now) ≡ Err fault) }
 {
     match words {
@@ -41,7 +42,8 @@ pub fn read_words(words: &[String]) -> Result<Request<'_>, UsageFault>
 
 /// The words behind `classify`.
 fn read_classify(words: &[String]) -> Result<Request<'_>, UsageFault>
-    ensures request { IfOk result (λ request. classify_of (map string_bytes words.now) ≡ Ok (request_of request)) }
+    ensures request { IfOk result
+        (λ request. classify_of (map string_bytes words.now) ≡ Ok (request_of request)) }
     ensures fault { IfErr result (λ fault. classify_of (map string_bytes words.now) ≡ Err fault) }
 {
     match words {
@@ -60,9 +62,11 @@ fn read_classify(words: &[String]) -> Result<Request<'_>, UsageFault>
 
 /// The options of the words behind the names.
 fn read_options(words: &[String]) -> Result<Categories, UsageFault>
-    ensures options { IfOk result (λ categories. options_from FIRST_OPTION none_given (map string_bytes words.now)
+    ensures options { IfOk result
+        (λ categories. options_from FIRST_OPTION none_given (map string_bytes words.now)
         ≡ Ok (record { categories = categories.count })) }
-    ensures fault { IfErr result (λ fault. options_from FIRST_OPTION none_given (map string_bytes words.now) ≡ Err fault) }
+    ensures fault { IfErr result
+        (λ fault. options_from FIRST_OPTION none_given (map string_bytes words.now) ≡ Err fault) }
 {
     let mut given = Given::new();
     let mut number = FIRST_OPTION;

@@ -13,8 +13,8 @@ use std::alloc::Global;
 
 /// The rules of the named file. It takes the memory of the file and of the rules.
 ///
-/// The file is read as far as one byte more than a rule file may have. A file that isn't there or can't be read is a
-/// read fault.
+/// The file is read as far as one byte more than a rule file may have. A file that isn't there or
+/// can't be read is a read fault.
 pub fn read_rule_file<D: Desk>(alloc: Global, name: &str, desk: &mut D) -> Result<RuleFile, Status>
     ensures taken { Takes (rules_in name.now) lists_of (D.view desk.old) (D.view desk.new) result }
     ensures ip4 { IfOk result (λ rules. rules.ip4.layout ≡ ip4_fields) }
@@ -29,7 +29,8 @@ pub fn read_rule_file<D: Desk>(alloc: Global, name: &str, desk: &mut D) -> Resul
 /// The rules of a file, or the status of its fault.
 fn rules_of(alloc: Global, bytes: &[u8]) -> Result<RuleFile, Status>
     ensures rules { IfOk result (λ rules. rules_of_bytes bytes.now ≡ Ok (lists_of rules)) }
-    ensures fault { IfErr result (λ status. (rules_of_bytes bytes.now ≡ Err status) ⊎ (status ≡ Status.OutOfMemory)) }
+    ensures fault { IfErr result
+        (λ status. (rules_of_bytes bytes.now ≡ Err status) ⊎ (status ≡ Status.OutOfMemory)) }
     ensures unread { IfErr result (λ status. status ≢ Status.ReadFault) }
     ensures unreported { IfErr result (λ status. is_reported status ≡ false) }
     ensures lawful { IfErr result (λ status. is_usage status ≡ false) }

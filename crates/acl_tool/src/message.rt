@@ -9,7 +9,8 @@ use acl_report::{LINE_ROOM, append, append_number};
 use classbench_reader::LineKind;
 use pcap_reader::CaptureFault;
 
-/// Writes the line of a status to the front of `into`, and gives its length with the LF that ends it. `Done` has no line.
+/// Writes the line of a status to the front of `into`, and gives its length with the LF that ends
+/// it. `Done` has no line.
 ///
 /// It takes no memory.
 pub fn message_line(status: &Status, into: &mut [u8; LINE_ROOM]) -> usize

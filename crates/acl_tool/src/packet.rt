@@ -29,8 +29,8 @@ impl Model for Packet {
     ghost Value = { FrameClass };
 
     ghost view = { λ packet. record {
-        class = packet.class;
-        key = take (key_len packet.class) packet.key.bytes;
+      class = packet.class;
+      key = take (key_len packet.class) packet.key.bytes;
     } };
 }
 

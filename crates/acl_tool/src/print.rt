@@ -42,7 +42,8 @@ impl Model for Room {
 
     ghost view = { λ room. room.packets.items };
 
-    ghost invariant = { λ room. (max_batch ≤ vec_capacity room.packets) × (BATCH_LINES ≤ vec_capacity room.lines) };
+    ghost invariant = { λ room. (max_batch ≤ vec_capacity room.packets)
+        × (BATCH_LINES ≤ vec_capacity room.lines) };
 }
 
 impl Room {
@@ -63,7 +64,8 @@ impl Room {
         counts: &mut Counts,
         out: &mut O,
     ) -> Result<(), Failed>
-        requires classes { counts.old.ip4 + counts.old.ip6 + counts.old.other + counts.old.short ≡ counts.old.packets }
+        requires classes { counts.old.ip4 + counts.old.ip6 + counts.old.other + counts.old.short
+            ≡ counts.old.packets }
         requires few { counts.old.packets + length self.old ≤ max_records }
         requires batch { length self.old ≤ max_batch }
         ensures puts { Puts (lines_of_packets classifier.now (counts.old.packets + 1) self.old)
@@ -76,12 +78,13 @@ impl Room {
     }
 }
 
-/// Prints the report of the named capture: a line for each record, and the line of the counts where the capture is whole.
+/// Prints the report of the named capture: a line for each record, and the line of the counts where
+/// the capture is whole.
 ///
-/// Lines are put before the records of the next batch are read. The memory for reading the capture is taken before the
-/// first byte of it is read, and no other call takes memory.
-/// `CaptureRefused`, `ReadFault`: the lines of the records before the fault were put. `WriteFault`: a first part of the
-/// lines was put.
+/// Lines are put before the records of the next batch are read. The memory for reading the capture
+/// is taken before the first byte of it is read, and no other call takes memory. `CaptureRefused`,
+/// `ReadFault`: the lines of the records before the fault were put. `WriteFault`: a first part of
+/// the lines was put.
 pub fn print_report<D: Desk, O: Sink>(
     alloc: Global,
     classifier: &Classifier,

@@ -373,13 +373,7 @@ fn faults_of_the_outside_end_the_command(rt: HostRuntime) -> Result<(), Fail> {
     };
     let cases = [
         (unread, Status::ReadFault, "", "aclc: read fault\n", 1),
-        (
-            unput,
-            Status::WriteFault,
-            "1 i",
-            "aclc: write fault\n",
-            0,
-        ),
+        (unput, Status::WriteFault, "1 i", "aclc: write fault\n", 0),
         (slow, Status::Done, TWO_PACKETS, "", 0),
     ];
     for (outside, status, out, err, read_faults) in cases {
@@ -395,63 +389,51 @@ fn faults_of_the_outside_end_the_command(rt: HostRuntime) -> Result<(), Fail> {
     Ok(())
 }
 
-/// The lines of so many packets of verdict 0.
-fn plain_lines(alloc: Global, count: u32) -> Result<String, Fail> {
+/// The lines of so many packets of verdict 1.
+fn lines_of(alloc: Global, count: u32) -> Result<String, Fail> {
     let mut lines = String::new(alloc);
     for place in 0..count {
         let number = u64::from(place) + 1;
-        lines.push_str(&format!(in alloc; "{number} ip4 0\n")?)?;
+        lines.push_str(&format!(in alloc; "{number} ip4 1\n")?)?;
     }
     Ok(lines)
 }
 
-#[test]
-fn lines_are_put_before_the_next_batch_is_read(rt: HostRuntime) -> Result<(), Fail> {
-    let mut capture = Vec::from_slice(rt.alloc(), HEADER)?;
-    for _ in 0..131u32 {
+/// A capture of so many packets to the port 1234.
+fn long_capture(alloc: Global, count: u32) -> Result<Vec<u8>, AllocError> {
+    let mut capture = Vec::from_slice(alloc, HEADER)?;
+    for _ in 0..count {
         add_udp(&mut capture, &to_port(210))?;
     }
-    let mut report = plain_lines(rt.alloc(), 131)?;
-    report.push_str("packets 131 ip4 131 ip6 0 other 0 short 0\n")?;
-    let batch = plain_lines(rt.alloc(), 64)?;
-    // Calls 1 and 2 open and end the empty rule file, call 3 opens the capture and call 4 reads its
-    // header. Each record takes two calls, and the 100th of them is the 50th record of the batch
-    // behind the first.
+    Ok(capture)
+}
+
+#[test]
+fn lines_are_put_before_the_next_batch_is_read(rt: HostRuntime) -> Result<(), Fail> {
+    let alloc = rt.alloc();
+    let mut capture = long_capture(alloc, 131)?;
+    capture.truncate(capture.len().saturating_sub(1));
+    // Call 1 opens the rule file, calls 2 and 3 read it to its end, call 4 opens the capture and
+    // call 5 reads its header. Each record takes two calls more, so that this one is for the 50th
+    // record of the second batch.
     let unread = Outside {
-        failing_read: 4 + 128 + 100,
+        failing_read: 5 + 2 * (64 + 50),
         ..FAULTLESS
     };
     let unput = Outside {
         failing_put: 2,
         ..FAULTLESS
     };
-    let some = plain_lines(rt.alloc(), 64 + 49)?;
-    let cases: [(Outside, Status, &str, &str, u64); 3] = [
-        (FAULTLESS, Status::Done, report.as_str(), "", 0),
-        (
-            unread,
-            Status::ReadFault,
-            some.as_str(),
-            "aclc: read fault\n",
-            1,
-        ),
-        (
-            unput,
-            Status::WriteFault,
-            batch.as_str(),
-            "aclc: write fault\n",
-            0,
-        ),
+    let cut = Status::CaptureRefused(CaptureFault::RecordCut(131));
+    let cases: [(Outside, Status, u32, &str, u64); 3] = [
+        (FAULTLESS, cut, 130, "aclc: capture: record 131: cut\n", 0),
+        (unread, Status::ReadFault, 64 + 49, "aclc: read fault\n", 1),
+        (unput, Status::WriteFault, 64, "aclc: write fault\n", 0),
     ];
-    for (outside, status, out, err, read_faults) in cases {
-        expect(
-            &rt,
-            CLASSIFY,
-            b"",
-            &capture,
-            outside,
-            (status, out, err, read_faults),
-        )?;
+    for (outside, status, count, err, read_faults) in cases {
+        let out = lines_of(alloc, count)?;
+        let want = (status, out.as_str(), err, read_faults);
+        expect(&rt, CLASSIFY, GUIDE, &capture, outside, want)?;
     }
     Ok(())
 }

@@ -19,10 +19,11 @@ use std::alloc::Global;
 
 /// Runs the command that the words are, and tells how it ended.
 ///
-/// The words are those behind the program's name. `classify RULES CAPTURE [categories=N]` reads the two files through
-/// `desk`, and puts a line for each record of the capture and a line of counts to `out`, with at most 64 records read
-/// ahead of their lines. Where the status isn't `Done` a line that names its cause goes to `err`, whose failure changes
-/// nothing. All memory is taken before the first byte is put.
+/// The words are those behind the program's name. `classify RULES CAPTURE [categories=N]` reads the
+/// two files through `desk`, and puts a line for each record of the capture and a line of counts to
+/// `out`, with at most 64 records read ahead of their lines. Where the status isn't `Done` a line
+/// that names its cause goes to `err`, whose failure changes nothing. All memory is taken before
+/// the first byte is put.
 pub fn run<D: Desk, O: Sink, E: Sink>(
     alloc: Global,
     words: &[String],
@@ -40,7 +41,8 @@ pub fn run<D: Desk, O: Sink, E: Sink>(
 
 /// The command without its message.
 fn answer<D: Desk, O: Sink>(alloc: Global, words: &[String], desk: &mut D, out: &mut O) -> Status
-    ensures { Answers (command (map string_bytes words.now)) (outside (D.view desk.old) (O.view out.old))
+    ensures { Answers (command (map string_bytes words.now))
+        (outside (D.view desk.old) (O.view out.old))
         (outside (D.view desk.new) (O.view out.new)) result }
 {
     match read_words(words) {
@@ -77,8 +79,10 @@ fn classify<D: Desk, O: Sink>(
     desk: &mut D,
     out: &mut O,
 ) -> Status
-    ensures { Answers (Ok (Classify rules.now capture.now (record { categories = categories.count })))
-        (outside (D.view desk.old) (O.view out.old)) (outside (D.view desk.new) (O.view out.new)) result }
+    ensures { Answers (Ok
+        (Classify rules.now capture.now (record { categories = categories.count })))
+        (outside (D.view desk.old) (O.view out.old))
+        (outside (D.view desk.new) (O.view out.new)) result }
 {
     let rules = match read_rule_file(alloc, rules, desk) {
         Ok(rules) => rules,

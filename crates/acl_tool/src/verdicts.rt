@@ -27,11 +27,12 @@ impl Model for Classifier {
     ghost Value = { verdicts.Classifier };
 
     ghost view = { λ c. record {
-        rules = record { ip4 = c.rules.ip4.rules; ip6 = c.rules.ip6.rules };
-        categories = c.categories.count;
+      rules = record { ip4 = c.rules.ip4.rules; ip6 = c.rules.ip6.rules };
+      categories = c.categories.count;
     } };
 
-    ghost invariant = { λ c. (c.rules.ip4.layout ≡ ip4_fields) × (c.rules.ip6.layout ≡ ip6_fields) };
+    ghost invariant = { λ c. (c.rules.ip4.layout ≡ ip4_fields)
+        × (c.rules.ip6.layout ≡ ip6_fields) };
 }
 
 impl Classifier {
@@ -40,8 +41,8 @@ impl Classifier {
         requires ip4 { rules.ip4.layout ≡ ip4_fields }
         requires ip6 { rules.ip6.layout ≡ ip6_fields }
         ensures { result ≡ record {
-            rules = record { ip4 = rules.ip4.rules; ip6 = rules.ip6.rules };
-            categories = categories.count;
+          rules = record { ip4 = rules.ip4.rules; ip6 = rules.ip6.rules };
+          categories = categories.count;
         } }
     {
         Classifier { rules, categories }
@@ -63,12 +64,7 @@ impl Classifier {
 }
 
 /// Writes the verdicts of the rules on a key.
-fn verdicts_by(
-    rules: &RuleSet,
-    key: &[u8],
-    count: usize,
-    into: &mut [u32; MAX_VERDICTS],
-) -> usize
+fn verdicts_by(rules: &RuleSet, key: &[u8], count: usize, into: &mut [u32; MAX_VERDICTS]) -> usize
     requires key { length key.now ≡ key_len_of rules.now.layout }
     requires count { count ≤ MAX_VERDICTS }
     ensures len { result ≡ count }

@@ -16,8 +16,10 @@ loop-capture-init g c = record {
 pub returns-in-Some-clause-batch : goal.returns-in-Some-clause-batch
 returns-in-Some-clause-batch g c =
     let view = g.D.Desk.view in
-    TakesBatch-stopped c.args.capture.now.start c.args.capture.now.count c.loop-capture.packets.items c.take_record.new.packets.items
-    c.loop-capture.capture c.take_record.new.capture (view c.args.desk.now) (view c.loop-capture.desk) (view c.take_record.new.desk)
+    TakesBatch-stopped c.args.capture.now.start c.args.capture.now.count c.loop-capture.packets.items
+    c.take_record.new.packets.items
+    c.loop-capture.capture c.take_record.new.capture (view c.args.desk.now) (view c.loop-capture.desk)
+    (view c.take_record.new.desk)
     c.in-Some.end c.loop-capture.invariant.taking c.in-Some.ensures.takes c.loop-capture.invariant.few
 
 pub loop-capture-preserved : goal.loop-capture-preserved
@@ -25,8 +27,10 @@ loop-capture-preserved g c =
     let view = g.D.Desk.view in
     let takes = c.in-None.ensures.takes in
     let more =
-    IsTaking-record c.args.capture.now.start c.args.capture.now.count c.loop-capture.packets.items c.take_record.new.packets.items
-    c.loop-capture.capture c.take_record.new.capture (view c.args.desk.now) (view c.loop-capture.desk) (view c.take_record.new.desk)
+    IsTaking-record c.args.capture.now.start c.args.capture.now.count c.loop-capture.packets.items
+    c.take_record.new.packets.items
+    c.loop-capture.capture c.take_record.new.capture (view c.args.desk.now) (view c.loop-capture.desk)
+    (view c.take_record.new.desk)
     c.loop-capture.invariant.taking takes in
     record {
       taking = more.0;

@@ -9,9 +9,11 @@ returns-in-Ok-clause-taken g c =
     let view = g.D.Desk.view in
     Takes-read c.args.name.now _ rules_of_bytes lists_of (view c.args.desk.now) (view c.read_file.new.desk)
     c.in-Ok.bytes c.deref.result.now c.rules_of.result c.in-Ok.ensures c.deref.ensures.value rules_of_bytes-more
-    c.rules_of.ensures.rules c.rules_of.ensures.fault c.rules_of.ensures.unread c.rules_of.ensures.unreported c.rules_of.ensures.lawful
+    c.rules_of.ensures.rules c.rules_of.ensures.fault c.rules_of.ensures.unread c.rules_of.ensures.unreported
+    c.rules_of.ensures.lawful
 
 pub returns-in-Err-clause-taken : goal.returns-in-Err-clause-taken
 returns-in-Err-clause-taken g c =
     let view = g.D.Desk.view in
-    Takes-unread c.args.name.now _ _ lists_of (view c.args.desk.now) (view c.read_file.new.desk) c.in-Err.status c.in-Err.ensures
+    Takes-unread c.args.name.now _ _ lists_of (view c.args.desk.now)
+    (view c.read_file.new.desk) c.in-Err.status c.in-Err.ensures

@@ -8,7 +8,8 @@ use Rattle.acl_tool.proofs.print.print_records.Goals as goal
 pub batches-init : goal.batches-init
 batches-init g c = record {
   printing = IsPrinting-none c.args.classifier.now c.args.capture.now.start c.default-counts.result c.args.capture.now
-      (outside (g.D.Desk.view c.args.desk.now) (g.O.Sink.view c.args.out.now)) (counts-none c.default-counts.result c.default-counts.ensures) c.requires.begun;
+      (outside (g.D.Desk.view c.args.desk.now) (g.O.Sink.view c.args.out.now))
+      (counts-none c.default-counts.result c.default-counts.ensures) c.requires.begun;
   reading = c.requires.reading;
 }
 
@@ -23,7 +24,8 @@ returns-in-Err g c =
     let out = g.O.Sink.view in
     Streams-failed c.args.classifier.now c.args.capture.now.start c.batches.counts c.batches.capture
     (outside (desk c.args.desk.now) (out c.args.out.now)) (outside (desk c.batches.desk) (out c.batches.out))
-    (outside (desk c.take_batch-end.new.desk) (out c.put_lines.new.out)) c.take_batch-end.new.packets.items c.take_batch-end.result
+    (outside (desk c.take_batch-end.new.desk) (out c.put_lines.new.out)) c.take_batch-end.new.packets.items
+    c.take_batch-end.result
     c.in-Err.field-0 c.batches.invariant.printing c.take_batch-end.ensures.batch c.in-Err.ensures.puts
 
 pub batches-smaller : goal.batches-smaller
@@ -34,7 +36,8 @@ batches-smaller g c =
     let few =
     packets_few c.args.classifier.now c.args.capture.now.start c.batches.counts c.batches.capture
     (outside (desk c.args.desk.now) (out c.args.out.now)) (outside (desk c.batches.desk) (out c.batches.out))
-    (outside (desk c.take_batch-end.new.desk) (out c.put_lines.new.out)) packets _ c.batches.invariant.printing c.in-Full.ensures.batch in
+    (outside (desk c.take_batch-end.new.desk) (out c.put_lines.new.out)) packets _ c.batches.invariant.printing
+    c.in-Full.ensures.batch in
     omega (
       arith,
       few,
@@ -48,10 +51,14 @@ batches-preserved g c =
     let desk = g.D.Desk.view in
     let out = g.O.Sink.view in
     record {
-      printing = IsPrinting-batch c.args.classifier.now c.args.capture.now.start c.batches.counts c.put_lines.new.counts c.batches.capture
-          c.take_batch-end.new.capture (outside (desk c.args.desk.now) (out c.args.out.now)) (outside (desk c.batches.desk) (out c.batches.out))
-          (outside (desk c.take_batch-end.new.desk) (out c.put_lines.new.out)) c.take_batch-end.new.packets.items c.in-Ok.field-0
-          c.batches.invariant.printing c.in-Full.ensures.batch c.in-Ok.ensures.puts c.in-Ok.ensures.counts (c.in-Full.ensures.state refl);
+      printing = IsPrinting-batch c.args.classifier.now c.args.capture.now.start c.batches.counts c.put_lines.new.counts
+          c.batches.capture
+          c.take_batch-end.new.capture (outside (desk c.args.desk.now) (out c.args.out.now))
+          (outside (desk c.batches.desk) (out c.batches.out))
+          (outside (desk c.take_batch-end.new.desk) (out c.put_lines.new.out)) c.take_batch-end.new.packets.items
+          c.in-Ok.field-0
+          c.batches.invariant.printing c.in-Full.ensures.batch c.in-Ok.ensures.puts c.in-Ok.ensures.counts
+          (c.in-Full.ensures.state refl);
       reading = rw c.in-Full.ensures.batch.took.keeps.reading c.batches.invariant.reading;
     }
 
@@ -63,7 +70,8 @@ returns-in-End g c =
     let mid = outside (desk c.take_batch-end.new.desk) (out c.put_lines.new.out) in
     Streams-ended c.args.classifier.now c.args.capture.now.start c.put_lines.new.counts old mid
     (outside (desk c.take_batch-end.new.desk) (out c.print_counts.new.out)) c.print_counts.result
-    (HasPrinted-batch c.args.classifier.now c.args.capture.now.start c.batches.counts c.put_lines.new.counts c.batches.capture old
+    (HasPrinted-batch c.args.classifier.now c.args.capture.now.start c.batches.counts c.put_lines.new.counts
+    c.batches.capture old
     (outside (desk c.batches.desk) (out c.batches.out)) mid c.take_batch-end.new.packets.items _ c.in-Ok.field-0
     c.batches.invariant.printing c.in-End.ensures.batch c.in-Ok.ensures.puts c.in-Ok.ensures.counts)
     refl c.print_counts.ensures
@@ -74,8 +82,10 @@ returns-in-Fault g c =
     let out = g.O.Sink.view in
     let old = outside (desk c.args.desk.now) (out c.args.out.now) in
     let new = outside (desk c.take_batch-end.new.desk) (out c.put_lines.new.out) in
-    Streams-fault c.in-Fault.fault c.args.classifier.now c.args.capture.now.start c.put_lines.new.counts old new c.refused.result
-    (HasPrinted-batch c.args.classifier.now c.args.capture.now.start c.batches.counts c.put_lines.new.counts c.batches.capture old
+    Streams-fault c.in-Fault.fault c.args.classifier.now c.args.capture.now.start c.put_lines.new.counts old new
+    c.refused.result
+    (HasPrinted-batch c.args.classifier.now c.args.capture.now.start c.batches.counts c.put_lines.new.counts
+    c.batches.capture old
     (outside (desk c.batches.desk) (out c.batches.out)) new c.take_batch-end.new.packets.items _ c.in-Ok.field-0
     c.batches.invariant.printing c.in-Fault.ensures.batch c.in-Ok.ensures.puts c.in-Ok.ensures.counts)
     c.refused.ensures
