@@ -1,5 +1,5 @@
 -- Laws of what is told step by step, for every relation.
-use Rattle.std.proofs.Common.{◌≡◌, Option, Some, None, refl}
+use Rattle.std.proofs.Common.{Option, Some, None}
 use Rattle.acl_outside.specs.Told.{Steps}
 
 -- two steps, one after the other
@@ -19,10 +19,3 @@ Steps-weaker P Q weaker None None step = tt
 Steps-weaker P Q weaker (Some old) (Some new) step = weaker old new step
 Steps-weaker P Q weaker None (Some new) step = absurd step
 Steps-weaker P Q weaker (Some old) None step = absurd step
-
--- what was told before the step is told after it, and the relation holds of the two
-pub Steps-told : {A : Type 0} (P : A → A → Type 0) (old : A) (told new : Option A) → told ≡ Some old →
-    Steps P told new →
-    (now : A) × (new ≡ Some now) × P old now
-Steps-told P old told None at_old step = absurd (rw at_old at step)
-Steps-told P old told (Some now) at_old step = (now, refl, rw at_old at step)

@@ -23,7 +23,7 @@ pub trait Desk {
     fn open_file(&mut self, name: &str) -> Result<(), Failed>
         ensures { OpensFile name.now (view self.old) (view self.new) result };
 
-    /// Reads the next bytes of the opened file into the front of `into`, and says how many they
+    /// Reads the next bytes of the opened file into the beginning of `into`, and says how many they
     /// are: at least one, or none at the end of the file and where `into` is empty. What stands
     /// behind them in `into` is left open.
     ///

@@ -161,7 +161,8 @@ fn left_of(files: &[MemFile], opened: Option<usize>, at: usize) -> &[u8]
     }
 }
 
-/// Copies the first bytes into the front of the slice, and says how many they are: at most `piece`.
+/// Copies the first bytes into the beginning of the slice, and says how many they are: at most
+/// `piece`.
 fn move_prefix(bytes: &[u8], into: &mut [u8], piece: usize) -> usize
     ensures moved { result ≡ min piece (min (length into.old) (length bytes.now)) }
     ensures prefix { take result into.new ≡ take result bytes.now }

@@ -68,7 +68,7 @@ impl ReadBuffer {
         Ok(())
     }
 
-    /// Moves the first bytes into the front of the slice, and says how many they are.
+    /// Moves the first bytes into the beginning of the slice, and says how many they are.
     pub(crate) fn give(&mut self, into: &mut [u8]) -> usize
         ensures moved { result ≡ min (length self.old) (length into.old) }
         ensures given { take result into.new ≡ take result self.old }
@@ -82,7 +82,7 @@ impl ReadBuffer {
     }
 }
 
-/// Reads once of the file into the front of the slice, and says how many bytes. A read that is
+/// Reads once of the file into the beginning of the slice, and says how many bytes. A read that is
 /// interrupted is made again.
 pub(crate) fn read_once<F: Read>(file: &mut F, into: &mut [u8]) -> Result<usize, Failed>
     ensures within { IfOk result (λ count. count ≤ length into.old) }

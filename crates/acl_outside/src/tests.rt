@@ -121,9 +121,9 @@ impl Write for Stubborn<'_> {
         match self.writes {
             1 => Err(io::Error::from(ErrorKind::Interrupted)),
             2 => {
-                let front = piece.get(..2).unwrap_or(piece);
-                self.taken.extend_from_slice(front)?;
-                Ok(front.len())
+                let prefix = piece.get(..2).unwrap_or(piece);
+                self.taken.extend_from_slice(prefix)?;
+                Ok(prefix.len())
             }
             3 => Ok(0),
             _ => Err(io::Error::from(ErrorKind::StorageFull)),
