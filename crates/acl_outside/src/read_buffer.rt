@@ -9,7 +9,7 @@ use std::marker::Model;
 
 /// How many bytes the buffer holds at most: one call of the system reads as many. It stands in the
 /// frame of the caller, whose stack it has to fit.
-pub(crate) const BUFFER_SIZE: usize = 16 * 1024;
+pub(crate) const BUFFER_SIZE: usize = 32 * 1024;
 
 /// Bytes that were read of a file and not given yet: those of `bytes` from `start` to `end`.
 #[derive(Drop)]

@@ -13,8 +13,8 @@ use std::rt::Files;
 
 /// Files of the system, of which it tells nothing. None of its calls takes memory.
 ///
-/// It reads through a buffer of its own of 16 KiB, or straight into a slice that is as large, so
-/// that reading a file takes one call of the system for each 16 KiB or for each slice, and one for
+/// It reads through a buffer of its own of 32 KiB, or straight into a slice that is as large, so
+/// that reading a file takes one call of the system for each 32 KiB or for each slice, and one for
 /// the end, where the system gives as much at a time. A read that is interrupted before it gives a
 /// byte is made again. Every opening that fails is a read fault, also where the file isn't there. A
 /// folder can be opened, and reading it is a fault. Its count of read faults stands still at 2^64 -
