@@ -1,14 +1,14 @@
 -- How `classify` ends, link by link.
-use Rattle.std.proofs.Common.{◌≡◌, ℕ, List, [], ◌++◌, true, false, Option, Some, None, Result, Ok, Err, inl, inr, sym, ap, ◌∙◌, refl, arith}
+use Rattle.std.proofs.Common.{◌≡◌, ℕ, List, true, false, Some, Ok, Err, inl, sym, ap, ◌∙◌, refl, arith}
 use Rattle.std.proofs.lemmas.Bool.{false≢true}
 use Rattle.acl_outside.specs.Desk.{File, DeskView}
 use Rattle.acl_outside.specs.Sink.{SinkView}
 use Rattle.acl_tool.specs.declared.status.Status.{Status}
 use Rattle.acl_tool.specs.declared.status.Status.TheVariants.{WriteFault, OutOfMemory}
-use Rattle.acl_tool.specs.Command.{Options, Request, Classify, capture_name}
+use Rattle.acl_tool.specs.Command.{Options, Classify}
 use Rattle.classbench_reader.specs.RuleFile.{RuleLists}
 use Rattle.acl_tool.specs.Verdicts.{Classifier}
-use Rattle.acl_tool.specs.Plan.{Outcome, Plan, Give, ◌>>=◌}
+use Rattle.acl_tool.specs.Plan.{Outcome, Plan}
 use Rattle.acl_tool.specs.Follow.{Before}
 use Rattle.acl_tool.specs.Outcome.{is_reported, is_usage, classifier_of, reported, rules_of_bytes, rules_in, plan_of_request}
 use Rattle.acl_tool.specs.Effects.{Outside, outside, files_of, opened_of, Takes, Ends, KeepsUp, Reports, Answers}

@@ -1,5 +1,5 @@
 -- What a sink gained that was given nothing.
-use Rattle.std.proofs.Common.{ℕ, List, [], ◌++◌, Option, Some, None, refl, sym, append-nil}
+use Rattle.std.proofs.Common.{ℕ, List, [], Option, Some, None, refl, sym, append-nil}
 use Rattle.acl_outside.specs.Told.{Steps}
 use Rattle.acl_outside.specs.Sink.{SinkView, Appends, Gains, GainsPrefix}
 

@@ -1,22 +1,20 @@
 -- The links of a command: a step and then the rest, or an end in either. They serve every command.
-use Rattle.std.proofs.Common.{◌≡◌, ◌≢◌, ◌⊎◌, ℕ, ◌+◌, ◌≤◌, List, [], ◌∷◌, ◌++◌, Bool, true, false, Option, Some, None, Result, Ok, Err, IfOk, IfErr, inl, inr, length, sym, ap, subst, ◌∙◌, refl, append-nil, arith}
+use Rattle.std.proofs.Common.{◌≡◌, ◌≢◌, ◌⊎◌, ℕ, List, [], ◌∷◌, ◌++◌, false, Option, Some, Result, Ok, Err, IfOk, IfErr, inl, inr, length, sym, ap, subst, ◌∙◌, refl, arith}
 use Rattle.std.proofs.lemmas.Bool.{false≢true}
 use Rattle.std.specs.Option.{option_map_or}
 use Rattle.std.specs.declared.vec.Vec.{Vec}
 use Rattle.std.specs.declared.alloc.Global.{Global}
-use Rattle.acl_outside.specs.Fault.{Rose}
-use Rattle.acl_outside.specs.Told.{Steps}
-use Rattle.acl_outside.specs.Desk.{File, DeskView, bytes_of}
+use Rattle.acl_outside.specs.Desk.{File, DeskView}
 use Rattle.acl_outside.specs.Heard.{Heard, Ending, NotOpened, GoesOn, Ended, BrokenOff}
-use Rattle.acl_outside.specs.Sink.{SinkView, Gains, GainsPrefix}
+use Rattle.acl_outside.specs.Sink.{SinkView}
 use Rattle.acl_tool.specs.declared.status.Status.{Status}
-use Rattle.acl_tool.specs.declared.status.Status.TheVariants.{Done, Usage, RulesRefused, CaptureRefused, ReadFault, WriteFault, OutOfMemory}
-use Rattle.acl_tool.specs.Plan.{Outcome, Plan, Give, Stop, ◌>>=◌, nothing, reading, unless_refused, found, settled}
+use Rattle.acl_tool.specs.declared.status.Status.TheVariants.{ReadFault, WriteFault, OutOfMemory}
+use Rattle.acl_tool.specs.Plan.{Outcome, Plan, ◌>>=◌, nothing, reading, unless_refused, found, settled}
 use Rattle.acl_tool.specs.Follow.{Reached, Given, Stopped, Before, Within, IsEnough, Follows, IsCutOff, said, said_in, outcome_of}
-use Rattle.acl_tool.specs.Outcome.{is_decided, is_reported, is_usage}
-use Rattle.acl_tool.specs.Effects.{files_of, heard_of, outside, KeepsFiles, CannotRead, AsksForNothingAbsent, ReadsFile, Takes, Ends}
+use Rattle.acl_tool.specs.Outcome.{is_reported, is_usage}
+use Rattle.acl_tool.specs.Effects.{files_of, heard_of, outside, KeepsFiles, CannotRead, ReadsFile, Takes, Ends}
 use Rattle.acl_tool.proofs.Gained.{Gains-none, GainsPrefix-none}
-use Rattle.acl_tool.proofs.Plans.{carried, then_found, IsFound, Follows-found, Follows-then, Follows-cut, found-then}
+use Rattle.acl_tool.proofs.Plans.{carried, then_found, Follows-found, Follows-then, Follows-cut, found-then}
 
 pub KeepsFiles-then : (old mid new : DeskView) → KeepsFiles old mid → KeepsFiles mid new → KeepsFiles old new
 KeepsFiles-then old mid new first second = record {

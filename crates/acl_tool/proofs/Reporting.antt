@@ -1,9 +1,9 @@
 -- How the report of a capture ends, by what was opened, read and put.
-use Rattle.std.proofs.Common.{◌≡◌, ◌≢◌, ◌⊎◌, ℕ, ◌+◌, ◌≤◌, List, [], ◌∷◌, ◌++◌, length, true, false, Option, Some, None, Result, Ok, Err, inl, inr, refl, sym, subst, ap, ◌∙◌, append_assoc, append-nil, arith}
+use Rattle.std.proofs.Common.{◌≡◌, ◌≢◌, ◌⊎◌, ℕ, ◌≤◌, List, [], ◌∷◌, ◌++◌, length, true, false, Option, Some, None, Ok, Err, inl, inr, refl, sym, subst, ap, ◌∙◌, append_assoc, append-nil, arith}
 use Rattle.std.proofs.lemmas.Bool.{false≢true}
 use Rattle.std.specs.Option.{option_map_or}
 use Rattle.acl_outside.specs.Fault.{Rose}
-use Rattle.acl_outside.specs.Desk.{File, DeskView, OpensFile, bytes_of}
+use Rattle.acl_outside.specs.Desk.{File, DeskView, OpensFile}
 use Rattle.acl_outside.specs.Heard.{Heard, Ending, NotOpened, GoesOn, Ended, BrokenOff, heard, opening_of}
 use Rattle.acl_outside.specs.Reading.{ReadsOn, and_goes_on}
 use Rattle.acl_outside.specs.Sink.{SinkView, Gains, GainsPrefix}
@@ -12,22 +12,22 @@ use Rattle.pcap_reader.specs.declared.fault.CaptureFault.{CaptureFault}
 use Rattle.pcap_reader.specs.declared.fault.CaptureFault.TheVariants as faults
 use Rattle.pcap_reader.specs.declared.start.Start.{Start}
 use Rattle.pcap_reader.specs.Start.{start_of}
-use Rattle.pcap_reader.specs.Capture.{CaptureRecord, Recorded, records_behind, capture_of, whole_records, records_in}
+use Rattle.pcap_reader.specs.Capture.{CaptureRecord, records_behind, capture_of, whole_records, records_in}
 use Rattle.pcap_reader.specs.Fill.{KeepsReading, IsAtEnd}
 use Rattle.pcap_reader.specs.Reader.{ReadsStart}
 use Rattle.pcap_reader.proofs.FillLaws.{KeepsReading-join}
 use Rattle.pcap_reader.proofs.AnswersLaws.{capture_of-read, whole_records-none}
 use Rattle.acl_tool.specs.declared.status.Status.{Status}
-use Rattle.acl_tool.specs.declared.status.Status.TheVariants.{Done, CaptureRefused, ReadFault, WriteFault, OutOfMemory}
+use Rattle.acl_tool.specs.declared.status.Status.TheVariants.{CaptureRefused, ReadFault, WriteFault, OutOfMemory}
 use Rattle.acl_tool.specs.Verdicts.{Classifier}
 use Rattle.acl_tool.specs.Report.{lines_of_records}
-use Rattle.acl_tool.specs.Taken.{stands, AreAll}
-use Rattle.acl_tool.specs.Plan.{Outcome, Plan, Give, Read, found, settled}
+use Rattle.acl_tool.specs.Taken.{stands}
+use Rattle.acl_tool.specs.Plan.{Outcome, Plan, Give, found, settled}
 use Rattle.acl_tool.specs.Follow.{Given, Within, IsEnough, IsOpened, IsOneOf, said_in, status_within}
-use Rattle.acl_tool.specs.Outcome.{is_decided, is_reported, is_usage, refusal, report, report_of_capture, reported, lines_so_far, status_of_fault, text_of_records}
-use Rattle.acl_tool.specs.Effects.{Outside, outside, files_of, opened_of, heard_of, earlier_of, KeepsFiles, CannotRead, Ends, KeepsUp, Reports}
+use Rattle.acl_tool.specs.Outcome.{is_decided, is_usage, refusal, report, report_of_capture, reported, lines_so_far, status_of_fault, text_of_records}
+use Rattle.acl_tool.specs.Effects.{Outside, outside, files_of, opened_of, heard_of, earlier_of, KeepsFiles, Ends, KeepsUp, Reports}
 use Rattle.acl_tool.specs.Streams.{Reading, Whole, Part, records_read, text_of, IsUnbroken, AreRead, IsStatus, BreaksOffSoon, Streams}
-use Rattle.acl_tool.proofs.Gained.{Gains-none, GainsPrefix-none}
+use Rattle.acl_tool.proofs.Gained.{Gains-none}
 use Rattle.acl_tool.proofs.Inputs.{heard_file, part_told, opened_told, opened_absent, kept_files, cannot_open, unopened_kept}
 use Rattle.acl_tool.proofs.Links.{CannotRead-because}
 use Rattle.acl_tool.proofs.WholeRecords.{start_of-more}

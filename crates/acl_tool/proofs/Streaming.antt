@@ -1,10 +1,9 @@
 -- The printing of a capture, batch by batch.
-use Rattle.std.proofs.Common.{◌≡◌, ◌≢◌, ℕ, ◌+◌, ◌≤◌, ◌⊎◌, List, [], ◌∷◌, ◌++◌, length, map, Option, Some, None, Result, Ok, Err, inl, inr, refl, sym, subst, ap, ◌∙◌, append_assoc, append-nil, add-zero, length-append, arith}
+use Rattle.std.proofs.Common.{◌≡◌, ℕ, ◌+◌, ◌≤◌, List, [], ◌++◌, length, map, Some, None, Ok, Err, inl, inr, refl, sym, subst, ap, ◌∙◌, append_assoc, append-nil, length-append, arith}
 use Rattle.std.proofs.lemmas.List.{length-map}
-use Rattle.acl_outside.specs.Fault.{Rose}
 use Rattle.acl_outside.specs.Heard.{Ending, NotOpened, GoesOn, Ended, BrokenOff}
 use Rattle.acl_outside.specs.Reading.{ReadsOn}
-use Rattle.acl_outside.specs.Sink.{SinkView, Gains, GainsPrefix, Puts}
+use Rattle.acl_outside.specs.Sink.{Gains, Puts}
 use Rattle.acl_outside.proofs.WritingLaws.{Gains-then}
 use Rattle.header_extract.specs.Class.{FrameClass}
 use Rattle.pcap_reader.specs.declared.fault.CaptureFault.{CaptureFault}
@@ -19,15 +18,15 @@ use Rattle.acl_report.specs.Counts.{packets_text}
 use Rattle.acl_tool.specs.declared.batch.BatchEnd.{BatchEnd}
 use Rattle.acl_tool.specs.declared.batch.BatchEnd.TheVariants.{Full, End, Fault}
 use Rattle.acl_tool.specs.declared.status.Status.{Status}
-use Rattle.acl_tool.specs.declared.status.Status.TheVariants.{Done, CaptureRefused, ReadFault, WriteFault}
+use Rattle.acl_tool.specs.declared.status.Status.TheVariants.{CaptureRefused, WriteFault}
 use Rattle.acl_tool.specs.Packet.{packet_of}
 use Rattle.acl_tool.specs.Verdicts.{Classifier}
-use Rattle.acl_tool.specs.Report.{counted_all, counts_of_records, lines_of_packets, lines_of_records, lines_in}
+use Rattle.acl_tool.specs.Report.{counted_all, counts_of_records, lines_of_packets, lines_of_records}
 use Rattle.acl_tool.specs.Taken.{max_batch, stands, ending_of, AreAll, Took, TakesBatch}
-use Rattle.acl_tool.specs.Outcome.{refusal, text_of_records}
+use Rattle.acl_tool.specs.Outcome.{refusal}
 use Rattle.acl_tool.specs.Follow.{IsOpened}
 use Rattle.acl_tool.specs.Effects.{Outside}
-use Rattle.acl_tool.specs.Streams.{Reading, Whole, Part, IsUnbroken, PutsCounts, BreaksOffSoon, Streams}
+use Rattle.acl_tool.specs.Streams.{Whole, Part, IsUnbroken, PutsCounts, Streams}
 use Rattle.acl_tool.proofs.Taking.{Took-none, Took-then, AreOfBatch-part}
 use Rattle.acl_tool.proofs.LineLaws.{lines_of_records-append, counts_of_records-append, packets_counted, lines_in-records}
 use Rattle.acl_tool.proofs.Gained.{Gains-none}

@@ -1,12 +1,9 @@
 -- Records that were taken, and then more.
-use Rattle.std.proofs.Common.{◌≡◌, ℕ, ◌+◌, ◌≤◌, ◌<◌, List, [], ◌∷◌, ◌++◌, length, map, Option, Some, None, Result, Ok, Err, inl, inr, refl, sym, subst, ap, ◌∙◌, append_assoc, append-nil, add-zero, length-append, arith}
-use Rattle.std.proofs.lemmas.Bool.{cases_eq, cases_lt, eq-eqb, false≢true}
-use Rattle.std.proofs.lemmas.List.{length-map}
+use Rattle.std.proofs.Common.{◌≡◌, ℕ, ◌+◌, ◌<◌, List, [], ◌∷◌, ◌++◌, length, Option, Some, None, Ok, Err, inl, inr, refl, sym, subst, ap, ◌∙◌, append_assoc, append-nil, add-zero, length-append, arith}
+use Rattle.std.proofs.lemmas.Bool.{cases_eq, cases_lt, eq-eqb}
 use Rattle.acl_outside.specs.Desk.{DeskView}
-use Rattle.acl_outside.specs.Heard.{Ending, Ended, GoesOn, BrokenOff}
-use Rattle.acl_outside.specs.Reading.{ReadsOn, and_goes_on}
+use Rattle.acl_outside.specs.Heard.{Ending, Ended, GoesOn}
 use Rattle.acl_outside.proofs.HeardLaws.{ReadsOn-none, ReadsOn-then}
-use Rattle.header_extract.specs.Class.{FrameClass}
 use Rattle.pcap_reader.specs.declared.fault.CaptureFault.{CaptureFault}
 use Rattle.pcap_reader.specs.declared.fault.CaptureFault.TheVariants.{HeaderCut, Magic, Version, LinkType, RecordCut, RecordTooLong, TooManyRecords, ReadFault}
 use Rattle.pcap_reader.specs.declared.start.Start.{Start}
@@ -18,7 +15,7 @@ use Rattle.pcap_reader.proofs.CaptureLaws.{records_behind-record, records_behind
 use Rattle.pcap_reader.proofs.AnswersLaws.{no_records, unanswered}
 use Rattle.acl_tool.specs.declared.batch.BatchEnd.{BatchEnd}
 use Rattle.acl_tool.specs.declared.batch.BatchEnd.TheVariants.{Full, End, Fault}
-use Rattle.acl_tool.specs.Taken.{onto, ending_of, ending_of_fault, stands, AreRecords, AreAll, AreOfBatch, Took, end_of}
+use Rattle.acl_tool.specs.Taken.{onto, ending_of, stands, AreRecords, AreAll, AreOfBatch, Took}
 
 onto-none : (behind : Recorded) → behind ≡ onto [] behind
 onto-none behind = refl

@@ -1,16 +1,15 @@
 -- What holds of a command against the files, where the desk tells them.
-use Rattle.std.proofs.Common.{◌≡◌, ◌⊎◌, ℕ, List, [], ◌∷◌, ◌++◌, true, false, Option, Some, None, Result, Ok, Err, inl, inr, sym, ap, subst, ◌∙◌, refl, append-nil}
+use Rattle.std.proofs.Common.{◌≡◌, ◌⊎◌, ℕ, List, [], ◌∷◌, ◌++◌, true, false, Option, Some, Result, Ok, Err, inl, inr, sym, ap, subst, ◌∙◌, refl, append-nil}
 use Rattle.std.proofs.lemmas.Bool.{false≢true}
 use Rattle.std.specs.Prelude.{⊤}
-use Rattle.acl_outside.specs.Fault.{Rose}
 use Rattle.acl_outside.specs.Desk.{File, bytes_of}
 use Rattle.acl_outside.specs.Heard.{Heard, Ending, NotOpened, GoesOn, Ended, BrokenOff}
 use Rattle.acl_outside.specs.Sink.{SinkView, Gains, GainsPrefix}
 use Rattle.acl_outside.proofs.WritingLaws.{GainsPrefix-more}
 use Rattle.acl_tool.specs.declared.status.Status.{Status}
 use Rattle.acl_tool.specs.declared.status.Status.TheVariants.{ReadFault, WriteFault, OutOfMemory}
-use Rattle.acl_tool.specs.Plan.{Outcome, Plan, Give, Stop, Read, ◌>>=◌, unless_refused, found, settled, silent}
-use Rattle.acl_tool.specs.Follow.{Reached, Given, Stopped, Before, Within, IsOpened, IsPartOf, IsOneOf, Follows, said, said_in, outcome_of, status_within}
+use Rattle.acl_tool.specs.Plan.{Outcome, Plan, Give, Stop, Read, ◌>>=◌, unless_refused, found, settled}
+use Rattle.acl_tool.specs.Follow.{Reached, Given, Stopped, Before, Within, IsOpened, IsPartOf, Follows, said_in, outcome_of, status_within}
 use Rattle.acl_tool.specs.Outcome.{is_decided}
 use Rattle.acl_tool.specs.Effects.{Outside, files_of, heard_of, CannotRead, HasNoFault, Ends, EndsAsTold}
 use Rattle.acl_tool.proofs.Plans.{IsFound, Follows-found, found_next}

@@ -1,12 +1,12 @@
 -- The whole records of the first bytes of a capture are the first of its records.
-use Rattle.std.proofs.Common.{◌≡◌, ℕ, zero, suc, ◌+◌, ◌≤◌, List, [], ◌∷◌, ◌++◌, length, take, drop, Option, Some, None, Result, Ok, Err, inl, inr, refl, sym, subst, ap, ◌∙◌, append_assoc, length-append, arith}
+use Rattle.std.proofs.Common.{◌≡◌, ℕ, zero, suc, ◌+◌, ◌≤◌, List, [], ◌∷◌, ◌++◌, length, drop, Result, Ok, Err, inl, inr, refl, sym, subst, ap, ◌∙◌, append_assoc, length-append, arith}
 use Rattle.std.proofs.lemmas.Bool.{cases_lt, lt-leb, le-leb}
 use Rattle.std.proofs.lemmas.List.{take-append-le, drop-append-le}
 use Rattle.pcap_reader.specs.declared.fault.CaptureFault.{CaptureFault}
 use Rattle.pcap_reader.specs.declared.fault.CaptureFault.TheVariants.{HeaderCut}
 use Rattle.pcap_reader.specs.declared.start.Start.{Start}
 use Rattle.pcap_reader.specs.Start.{start_of, file_header_len}
-use Rattle.pcap_reader.specs.Capture.{CaptureRecord, Recorded, End, Record, Fault, next_of, record_header_len, records_behind, capture_of, whole_records, records_in}
+use Rattle.pcap_reader.specs.Capture.{CaptureRecord, Recorded, Record, next_of, records_behind, capture_of, whole_records, records_in}
 use Rattle.pcap_reader.proofs.NextLaws.{IsDecided, with_behind, next_of-append}
 use Rattle.pcap_reader.proofs.CaptureLaws.{IsShorter, next_of-shorter, next_cases, records_behind-record, records_behind-end, records_behind-fault}
 use Rattle.acl_tool.specs.Verdicts.{Classifier}

@@ -31,13 +31,20 @@ pub fn add_lines(
     ensures counts { counts.new ≡ counted_all packets.now counts.old }
     ensures capacity { vec_capacity lines.old ≤ vec_capacity lines.new }
 {
+    let mut line = [0; LINE_ROOM];
     for packet in packets {
-        add_line(classifier, packet, counts, lines);
+        add_line(classifier, packet, counts, &mut line, lines);
     }
 }
 
-/// Puts the line of a packet behind the others, and counts the packet.
-fn add_line(classifier: &Classifier, packet: &Packet, counts: &mut Counts, lines: &mut Vec<u8>)
+/// Puts the line of a packet behind the others, by way of `line`, and counts the packet.
+fn add_line(
+    classifier: &Classifier,
+    packet: &Packet,
+    counts: &mut Counts,
+    line: &mut [u8; LINE_ROOM],
+    lines: &mut Vec<u8>,
+)
     requires fit { CountsFit counts.old }
     requires room { vec_len lines.old + LINE_ROOM ≤ vec_capacity lines.old }
     ensures lines { lines.new.items ≡ lines.old.items
@@ -49,13 +56,12 @@ fn add_line(classifier: &Classifier, packet: &Packet, counts: &mut Counts, lines
     let mut verdicts = [0; MAX_VERDICTS];
     let count = classifier.verdicts(packet, &mut verdicts);
     counts.add(packet.class());
-    let mut line = [0; LINE_ROOM];
     let len = packet_line(
         counts.packets,
         packet.class(),
         &verdicts[..count],
         &NO_DASHES[..count],
-        &mut line,
+        line,
     );
     extend_reserved(lines, &line[..len]);
 }

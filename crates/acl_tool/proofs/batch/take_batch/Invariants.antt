@@ -1,7 +1,7 @@
 -- some records were taken, of the batch that is asked for
 use Rattle.std.proofs.Common.{◌≤◌, ◌-◌, length}
 use Rattle.std.specs.Bool.{IsTrue}
-use Rattle.std.specs.Prelude.{vec_len, vec_capacity}
+use Rattle.std.specs.Prelude.{vec_capacity}
 use Rattle.acl_tool.specs.Taken.{max_batch}
 use Rattle.acl_tool.proofs.Batches.{IsTaking}
 use Rattle.acl_tool.proofs.batch.take_batch.Given as goal

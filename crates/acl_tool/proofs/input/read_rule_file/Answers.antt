@@ -1,5 +1,5 @@
 use Rattle.acl_tool.specs.Verdicts.{lists_of}
-use Rattle.acl_tool.specs.Outcome.{rules_of_bytes, refused_rules}
+use Rattle.acl_tool.specs.Outcome.{rules_of_bytes}
 use Rattle.acl_tool.proofs.Links.{Takes-read, Takes-unread}
 use Rattle.acl_tool.proofs.RuleFiles.{rules_of_bytes-more}
 use Rattle.acl_tool.proofs.input.read_rule_file.Goals as goal

@@ -1,5 +1,5 @@
 -- the lines of some packets stand behind the others, and those of the rest are to come
-use Rattle.std.proofs.Common.{◌≡◌, ◌+◌, ◌*◌, ◌-◌, ◌≤◌, ◌++◌, length, drop}
+use Rattle.std.proofs.Common.{◌≡◌, ◌+◌, ◌*◌, ◌≤◌, ◌++◌, length, drop}
 use Rattle.std.specs.Prelude.{vec_len, vec_capacity}
 use Rattle.acl_report.specs.declared.line.TheConstants.{LINE_ROOM}
 use Rattle.pcap_reader.specs.Capture.{max_records}

@@ -1,5 +1,5 @@
 -- Each batch is taken, and its lines are put before the next.
-use Rattle.std.proofs.Common.{refl, ap, arith, ◌∙◌}
+use Rattle.std.proofs.Common.{refl, ap, arith}
 use Rattle.acl_tool.specs.Effects.{outside}
 use Rattle.acl_tool.proofs.LineLaws.{counts-none, records_add_up, counted_all-packets}
 use Rattle.acl_tool.proofs.Streaming.{IsPrinting-none, IsPrinting-batch, HasPrinted-batch, Streams-failed, Streams-ended, Streams-fault, packets_few}

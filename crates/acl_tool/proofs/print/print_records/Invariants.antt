@@ -1,5 +1,5 @@
 -- some records were taken and their lines were put
-use Rattle.std.proofs.Common.{◌≡◌, ◌-◌, ◌+◌}
+use Rattle.std.proofs.Common.{◌-◌}
 use Rattle.std.specs.Bool.{IsTrue}
 use Rattle.pcap_reader.specs.Capture.{max_records}
 use Rattle.acl_tool.specs.Effects.{outside}
