@@ -5,3 +5,4 @@ pub mod PrintedParts
 pub mod PrintedLines
 pub mod PrintedFiles
 pub mod PrintedRules
+pub mod JoinedParts

@@ -41,9 +41,9 @@ use Rattle.classbench_reader.proofs.PrintedParts.{protocol_text-word, protocol_o
 use Rattle.classbench_reader.proofs.PrintedParts.{network_text-some}
 
 -- the word that stands next in a text, and what follows it
-record NextWord (text word rest : List ℕ) : Type 0 where
-  first : first_word (after_blanks text) ≡ word
-  behind : after_word (after_blanks text) ≡ rest
+pub record NextWord (text word rest : List ℕ) : Type 0 where
+  pub first : first_word (after_blanks text) ≡ word
+  pub behind : after_word (after_blanks text) ≡ rest
 
 next_word : (word rest : List ℕ) → IsWord word → 0 < length word → EndsWord rest → NextWord (word ++ rest) word rest
 next_word word rest is some ends =
@@ -128,7 +128,7 @@ tag_of-numbers : (ordinal p c u : ℕ) → (c % 65536 ≡ 0 → ⊥) → p ≤ m
 tag_of-numbers ordinal p c u some within = rw (ne_eqb (c % 65536) 0 some, le-ltb max_priority p within) refl
 
 -- what a line says, part by part: each part is read, and the rest goes on
-abbrev made : Network → Network → FieldValue → FieldValue → FieldValue → RuleTag → Result RuleLine LineKind
+abbrev pub made : Network → Network → FieldValue → FieldValue → FieldValue → RuleTag → Result RuleLine LineKind
 made from to ports others proto its_tag = Ok (record {
   source = from;
   destination = to;
@@ -138,37 +138,37 @@ made from to ports others proto its_tag = Ok (record {
   tag = its_tag;
 })
 
-abbrev with_attributes : ℕ → Network → Network → FieldValue → FieldValue → FieldValue → Attributes
+abbrev pub with_attributes : ℕ → Network → Network → FieldValue → FieldValue → FieldValue → Attributes
     → Result RuleLine LineKind
 with_attributes ordinal from to ports others proto attributes =
     tag_of ordinal attributes >>= made from to ports others proto
 
-abbrev with_words : ℕ → Network → Network → FieldValue → FieldValue → FieldValue → List (List ℕ)
+abbrev pub with_words : ℕ → Network → Network → FieldValue → FieldValue → FieldValue → List (List ℕ)
     → Result RuleLine LineKind
 with_words ordinal from to ports others proto words =
     attributes_of words >>= with_attributes ordinal from to ports others proto
 
-abbrev with_protocol : ℕ → Network → Network → FieldValue → FieldValue → Read FieldValue → Result RuleLine LineKind
+abbrev pub with_protocol : ℕ → Network → Network → FieldValue → FieldValue → Read FieldValue → Result RuleLine LineKind
 with_protocol ordinal from to ports others proto =
     after_flags (words_of proto.rest) >>= with_words ordinal from to ports others proto.value
 
-abbrev with_others : ℕ → Network → Network → FieldValue → Read FieldValue → Result RuleLine LineKind
+abbrev pub with_others : ℕ → Network → Network → FieldValue → Read FieldValue → Result RuleLine LineKind
 with_others ordinal from to ports others =
     next_protocol others.rest >>= with_protocol ordinal from to ports others.value
 
-abbrev with_ports : ℕ → Network → Network → Read FieldValue → Result RuleLine LineKind
+abbrev pub with_ports : ℕ → Network → Network → Read FieldValue → Result RuleLine LineKind
 with_ports ordinal from to ports = ports_of ports.rest >>= with_others ordinal from to ports.value
 
-abbrev with_destination : ℕ → Network → Read Network → Result RuleLine LineKind
+abbrev pub with_destination : ℕ → Network → Read Network → Result RuleLine LineKind
 with_destination ordinal from to = ports_of to.rest >>= with_ports ordinal from to.value
 
-abbrev with_another : ℕ → Network → Read Network → Result RuleLine LineKind
+abbrev pub with_another : ℕ → Network → Read Network → Result RuleLine LineKind
 with_another ordinal from another = beside_source from another >>= with_destination ordinal from
 
-abbrev with_source : ℕ → Read Network → Result RuleLine LineKind
+abbrev pub with_source : ℕ → Read Network → Result RuleLine LineKind
 with_source ordinal from = next_network from.rest >>= with_another ordinal from.value
 
-abbrev with_text : ℕ → List ℕ → Result RuleLine LineKind
+abbrev pub with_text : ℕ → List ℕ → Result RuleLine LineKind
 with_text ordinal text = next_network text >>= with_source ordinal
 
 -- the bounds of the numbers of a line

@@ -125,7 +125,7 @@ pub bind : {A B K : Type 0} (read : Result A K) (value : A) (next : A → Result
 bind read value next is = ap (λ r. r >>= next) is
 
 -- a port, after a blank, before something that ends it
-abbrev port_at : List ℕ → Result (Read ℕ) LineKind
+abbrev pub port_at : List ℕ → Result (Read ℕ) LineKind
 port_at rest =
     if begins_numeral max_port rest then Ok
     (read_of (numeral_value rest) (drop (numeral_len rest) rest)) else Err BadPorts
@@ -150,13 +150,13 @@ ends_at_space : (rest : List ℕ) → EndsNumber (space ∷ rest)
 ends_at_space rest = (refl, (λ same. omega arith, λ same. omega arith))
 
 -- the two ports of a range
-abbrev after_high : ℕ → Read ℕ → Result (Read FieldValue) LineKind
+abbrev pub after_high : ℕ → Read ℕ → Result (Read FieldValue) LineKind
 after_high low high = range_of low high.value high.rest
 
-abbrev after_colon : ℕ → List ℕ → Result (Read FieldValue) LineKind
+abbrev pub after_colon : ℕ → List ℕ → Result (Read FieldValue) LineKind
 after_colon low text = port_of text >>= after_high low
 
-abbrev after_low : Read ℕ → Result (Read FieldValue) LineKind
+abbrev pub after_low : Read ℕ → Result (Read FieldValue) LineKind
 after_low low = after_colon_of (after_blanks low.rest) >>= after_colon low.value
 
 range_of-text : (low high : ℕ) (rest : List ℕ) → low ≤ high

@@ -11,3 +11,4 @@ pub mod RuleFileExamples
 pub mod Files
 pub mod Print
 pub mod PrintExamples
+pub mod Joined

@@ -3,6 +3,7 @@
 
 ghost use Rattle.std.specs.Prelude.{◌≡◌, [], ◌∷◌, ◌++◌, Ok};
 ghost use Rattle.text_scan.specs.Parts.{line_feed};
+ghost use Rattle.classbench_reader.specs.Joined.{JoinedPartsAreRead};
 ghost use Rattle.classbench_reader.specs.Lawful.{IsLawfulLine};
 ghost use Rattle.classbench_reader.specs.Line.{family_of_line, rule_line_of, rule_of};
 ghost use Rattle.classbench_reader.specs.Print.{line_text, rule_alone};
@@ -21,4 +22,11 @@ pub fn printed_lines_are_files(line: RuleLine)
     requires { IsLawfulLine line }
     ensures { rule_file_of (line_text line ++ line_feed ∷ [])
         ≡ Ok (rule_alone (family_of_line line) (rule_of line)) }
+{}
+
+/// A line is its parts, joined: blanks, `@`, a source, a gap, and so on to the last attribute,
+/// where each gap is blanks alone and each number is in any spelling. Such a line is read as what
+/// its parts say.
+pub fn joined_parts_are_read()
+    ensures { JoinedPartsAreRead }
 {}
