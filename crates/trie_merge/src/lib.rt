@@ -32,6 +32,8 @@ mod merge;
 mod number;
 mod row;
 mod run;
+#[cfg(test)]
+mod tests;
 
 pub use build::count_capped;
 pub use levels::Levels;
