@@ -1,5 +1,6 @@
 -- A walk on its way through a sound table: where it stands after so many bytes, and that it can go on.
-use Rattle.std.proofs.Common.{◌≡◌, ℕ, zero, suc, ◌+◌, ◌<◌, ◌≤◌, Bool, true, false, None, List, refl, sym, ap, ◌∙◌, arith, inl, inr, subst, length, filter, get_or}
+use Rattle.std.proofs.Common.{◌≡◌, ℕ, zero, suc, ◌+◌, ◌<◌, ◌≤◌, Bool, true, false, None, List, refl, sym, ap, ◌∙◌}
+use Rattle.std.proofs.Common.{arith, inl, inr, subst, length, filter, get_or}
 use Rattle.std.specs.Prelude.{if◌then◌else◌, slice_index}
 use Rattle.std.specs.List.{range_with_len}
 use Rattle.std.proofs.lemmas.Bool.{cases_Bool}
@@ -16,13 +17,19 @@ use Rattle.flat_table.proofs.Safe.{root_leads, node_is_no_match, next_leads_on, 
 use Rattle.flat_table.proofs.Taken.{row_is, steps_is, word_more, step_more}
 
 -- the kept places are places of the key
-filter-range-below : (p : ℕ → Bool) (a n k : ℕ) → k < length (filter p (range_with_len a n)) → get_or (filter p (range_with_len a n)) k 0 < a + n
+filter-range-below : (p : ℕ → Bool) (a n k : ℕ) → k < length (filter p (range_with_len a n)) →
+    get_or (filter p (range_with_len a n)) k 0 < a + n
 filter-range-below p a zero k h = absurd (omega arith)
 filter-range-below p a (suc n) zero h =
-    elim (cases_Bool (p a)) [ inl w ↦ rw w (omega arith) | inr w ↦ rw w (omega (arith, filter-range-below p (a + 1) n zero (rw w at h))) ]
+    elim (cases_Bool (p a)) [
+      | inl w ↦ rw w (omega arith)
+      | inr w ↦ rw w
+          (omega (arith, filter-range-below p (a + 1) n zero (rw w at h)))
+    ]
 filter-range-below p a (suc n) (suc k) h =
     elim (cases_Bool (p a)) [
-      | inl w ↦ let h' : suc k < suc (length (filter p (range_with_len (a + 1) n))) = rw w at h in rw w (omega (arith, filter-range-below p (a + 1) n k (omega arith)))
+      | inl w ↦ let h' : suc k < suc (length (filter p (range_with_len (a + 1) n))) =
+          rw w at h in rw w (omega (arith, filter-range-below p (a + 1) n k (omega arith)))
       | inr w ↦ rw w (omega (arith, filter-range-below p (a + 1) n (suc k) (rw w at h)))
     ]
 
@@ -30,7 +37,12 @@ filter-range-below p a (suc n) (suc k) h =
 pub places_bound : (table : TableView) (trie : ℕ) → length (places_of table trie) ≤ table.key_len
 places_bound table trie =
     let kept : ℕ → Bool = is_kept (get_or table.kept trie 0) in
-    omega (arith, length-filter kept (range_with_len 0 table.key_len), count_by-le-length kept (range_with_len 0 table.key_len), length-range_with_len 0 table.key_len)
+    omega (
+      arith,
+      length-filter kept (range_with_len 0 table.key_len),
+      count_by-le-length kept (range_with_len 0 table.key_len),
+      length-range_with_len 0 table.key_len,
+    )
 
 -- the walk of the key through the trie stands at the word after so many bytes: it names a row, or leads on
 pub record Stands (table : TableView) (trie : ℕ) (key : List ℕ) (n word : ℕ) : Type 0 where
@@ -49,7 +61,8 @@ pub record Goes (table : TableView) (trie : ℕ) (key : List ℕ) (n word byte :
   pub next : Stands table trie key (n + 1) (moved table.words word byte)
   pub steps : steps_after table trie key (n + 1) ≡ steps_after table trie key n + (if is_match word then 0 else 1)
 
-module _ (table : TableView) (trie : ℕ) (key : List ℕ) (sound : sound_fault table ≡ None) (lt : trie < length table.roots) where
+module _ (table : TableView) (trie : ℕ) (key : List ℕ) (sound : sound_fault table ≡ None)
+    (lt : trie < length table.roots) where
   pub place_below : (n : ℕ) → n < length (places_of table trie) → slice_index (places_of table trie) n < table.key_len
   place_below n h = omega (arith, filter-range-below (is_kept (get_or table.kept trie 0)) 0 table.key_len n h)
 
@@ -60,10 +73,12 @@ module _ (table : TableView) (trie : ℕ) (key : List ℕ) (sound : sound_fault 
     level = λ _. root_leads table trie sound lt;
   }
 
-  moves : (word byte n : ℕ) → Stands table trie key n word → byte < 256 → word_after table trie key (n + 1) ≡ moved table.words (word_after table trie key n) byte →
+  moves : (word byte n : ℕ) → Stands table trie key n word → byte < 256 →
+      word_after table trie key (n + 1) ≡ moved table.words (word_after table trie key n) byte →
       Stands table trie key (n + 1) (moved table.words word byte)
   moves word byte n s small more =
-      let is : moved table.words word byte ≡ word_after table trie key (n + 1) = ap (λ (w : ℕ). moved table.words w byte) s.is ∙ sym more in
+      let is : moved table.words word byte ≡ word_after table trie key (n + 1) =
+      ap (λ (w : ℕ). moved table.words w byte) s.is ∙ sym more in
       elim (cases_Bool (is_match word)) [
         | inl w ↦
             let stays : moved table.words word byte ≡ word = rw w refl in
@@ -77,18 +92,23 @@ module _ (table : TableView) (trie : ℕ) (key : List ℕ) (sound : sound_fault 
             let next : moved table.words word byte ≡ next_word table.words word byte = rw w refl in
             record {
               is = is;
-              row = λ match. subst (λ (v : ℕ). index_of v < length table.rows) (sym next) (on.row (ap (λ (v : ℕ). is_match v) (sym next) ∙ match));
-              level = λ no_match. subst (λ (v : ℕ). leads_into (level_of table trie (n + 1)) v ≡ true) (sym next) (on.level (ap (λ (v : ℕ). is_match v) (sym next) ∙ no_match));
+              row = λ match. subst (λ (v : ℕ). index_of v < length table.rows) (sym next)
+                  (on.row (ap (λ (v : ℕ). is_match v) (sym next) ∙ match));
+              level = λ no_match. subst (λ (v : ℕ). leads_into (level_of table trie (n + 1)) v ≡ true) (sym next)
+                  (on.level (ap (λ (v : ℕ). is_match v) (sym next) ∙ no_match));
             }
       ]
 
-  pub goes : (n place byte word : ℕ) → n < length (places_of table trie) → place ≡ slice_index (places_of table trie) n → byte ≡ slice_index key place → byte < 256 →
+  pub goes : (n place byte word : ℕ) → n < length (places_of table trie) →
+      place ≡ slice_index (places_of table trie) n → byte ≡ slice_index key place → byte < 256 →
       Stands table trie key n word → Goes table trie key n word byte
   goes n place byte word h e b small s = record {
     node = λ no_match. node_of (level_of table trie n) word (s.level no_match);
     there = λ no_match. (next_leads_on table trie sound lt n word byte small (s.level no_match)).there;
-    next = moves word byte n s small (word_more table trie key n place h e ∙ ap (λ (x : ℕ). moved table.words (word_after table trie key n) x) (sym b));
-    steps = step_more table trie key n h ∙ ap (λ (w : ℕ). steps_after table trie key n + (if is_match w then 0 else 1)) (sym s.is);
+    next = moves word byte n s small (word_more table trie key n place h e
+        ∙ ap (λ (x : ℕ). moved table.words (word_after table trie key n) x) (sym b));
+    steps = step_more table trie key n h ∙ ap (λ (w : ℕ). steps_after table trie key n + (if is_match w then 0 else 1))
+        (sym s.is);
   }
 
   -- at the end a match stands

@@ -1,5 +1,6 @@
 -- Where the levels of a table lie, trie by trie.
-use Rattle.std.proofs.Common.{◌≡◌, ℕ, zero, suc, ◌+◌, ◌<◌, ◌≤◌, List, [], ◌∷◌, refl, sym, ap, ◌∙◌, arith, add-one, map, take, drop, length, sum, get_or}
+use Rattle.std.proofs.Common.{◌≡◌, ℕ, zero, suc, ◌+◌, ◌<◌, ◌≤◌, List, [], ◌∷◌, refl, sym, ap, ◌∙◌, arith, add-one, map}
+use Rattle.std.proofs.Common.{take, drop, length, sum, get_or}
 use Rattle.std.proofs.lemmas.List.Sums.{sum_by-cons, sum_by-take-drop}
 use Rattle.std.proofs.Common.{drop-cons, ◌-◌}
 use Rattle.std.proofs.lemmas.List.{drop-drop}
@@ -10,20 +11,24 @@ use Rattle.flat_table.specs.Groups.{depth_of}
 use Rattle.flat_table.specs.Table.{TableView, levels_from, portions, trie_levels}
 
 -- the levels behind the first few begin where those end
-pub levels-drop : (n place : ℕ) (lens : List ℕ) → drop n (levels_from place lens) ≡ levels_from (place + sum (take n lens)) (drop n lens)
+pub levels-drop : (n place : ℕ) (lens : List ℕ) → drop n (levels_from place lens)
+    ≡ levels_from (place + sum (take n lens)) (drop n lens)
 levels-drop zero place lens = ap (λ (k : ℕ). levels_from k lens) (omega arith)
 levels-drop (suc n) place [] = refl
-levels-drop (suc n) place (len ∷ lens) = levels-drop n (place + len) lens ∙ ap (λ (k : ℕ). levels_from k (drop n lens)) (omega (arith, sum_by-cons (λ (x : ℕ). x) len (take n lens)))
+levels-drop (suc n) place (len ∷ lens) = levels-drop n (place + len) lens
+    ∙ ap (λ (k : ℕ). levels_from k (drop n lens)) (omega (arith, sum_by-cons (λ (x : ℕ). x) len (take n lens)))
 
 pub levels-take : (n place : ℕ) (lens : List ℕ) → take n (levels_from place lens) ≡ levels_from place (take n lens)
 levels-take zero place lens = refl
 levels-take (suc n) place [] = refl
-levels-take (suc n) place (len ∷ lens) = ap (λ (levels : List Level). record { from = place; len = len } ∷ levels) (levels-take n (place + len) lens)
+levels-take (suc n) place (len ∷ lens) = ap (λ (levels : List Level). record { from = place; len = len } ∷ levels)
+    (levels-take n (place + len) lens)
 
--- A loop over the tries stands at one of them: its levels are the first of those left, and they begin at these places of
--- the lengths and of the words.
+-- A loop over the tries stands at one of them: its levels are the first of those left, and they begin at these places
+-- of the lengths and of the words.
 pub record AtTrie (table : TableView) (trie first from : ℕ) : Type 0 where
-  pub rest : portions (map (depth_of table.key_len) (drop trie table.kept)) (levels_from from (drop first table.level_lens)) ≡ drop trie (trie_levels table)
+  pub rest : portions (map (depth_of table.key_len) (drop trie table.kept))
+      (levels_from from (drop first table.level_lens)) ≡ drop trie (trie_levels table)
   pub levels : first + sum (map (depth_of table.key_len) (drop trie table.kept)) ≡ length table.level_lens
   pub words : from + sum (drop first table.level_lens) ≡ length table.words
 
@@ -31,19 +36,15 @@ pub record AtTrie (table : TableView) (trie first from : ℕ) : Type 0 where
 pub record Turn (table : TableView) (trie first from end : ℕ) : Type 0 where
   pub bound : end ≤ length table.level_lens
   pub fits : from + sum (take (end - first) (drop first table.level_lens)) ≤ length table.words
-  pub here : drop trie (trie_levels table) ≡ levels_from from (take (end - first) (drop first table.level_lens)) ∷ drop (trie + 1) (trie_levels table)
+  pub here : drop trie (trie_levels table) ≡ levels_from from (take (end - first) (drop first table.level_lens)) ∷ drop
+      (trie + 1) (trie_levels table)
   pub next : AtTrie table (trie + 1) end (from + sum (take (end - first) (drop first table.level_lens)))
-
-pub first_trie : (table : TableView) → IsShaped table → AtTrie table 0 0 0
-first_trie table s = record {
-  rest = refl;
-  levels = omega (arith, s.levels);
-  words = omega (arith, s.words);
-}
 
 -- the levels of the first of the tries left, and behind them those of the others
 tries_step : (depth : ℕ → ℕ) (kept : ℕ) (others : List ℕ) (from : ℕ) (lens : List ℕ) →
-    portions (map depth (kept ∷ others)) (levels_from from lens) ≡ levels_from from (take (depth kept) lens) ∷ portions (map depth others) (levels_from (from + sum (take (depth kept) lens)) (drop (depth kept) lens))
+    portions (map depth (kept ∷ others)) (levels_from from lens)
+    ≡ levels_from from (take (depth kept) lens) ∷ portions (map depth others)
+    (levels_from (from + sum (take (depth kept) lens)) (drop (depth kept) lens))
 tries_step depth kept others from lens =
     let front = levels-take (depth kept) from lens in
     let back = levels-drop (depth kept) from lens in
@@ -53,7 +54,8 @@ tries_step depth kept others from lens =
 tail_of : {A : Type 0} (n : ℕ) (xs : List A) (x : A) (rest : List A) → x ∷ rest ≡ drop n xs → rest ≡ drop (n + 1) xs
 tail_of n xs x rest e = ap (λ (ys : List _). drop 1 ys) e ∙ drop-drop 1 n xs
 
-pub turn : (table : TableView) (trie first from end : ℕ) → trie < length table.kept → end ≡ first + depth_of table.key_len (get_or table.kept trie 0) →
+pub turn : (table : TableView) (trie first from end : ℕ) → trie < length table.kept →
+    end ≡ first + depth_of table.key_len (get_or table.kept trie 0) →
     AtTrie table trie first from → Turn table trie first from end
 turn table trie first from end lt ends at =
     let kept : ℕ = get_or table.kept trie 0 in
@@ -61,27 +63,29 @@ turn table trie first from end lt ends at =
     let d : ℕ = end - first in
     let lens : List ℕ = drop first table.level_lens in
     let len : depth kept ≡ d = omega arith in
-    let now : drop trie table.kept ≡ kept ∷ drop (trie + 1) table.kept = rw (add-one trie) (drop-cons table.kept trie 0 lt) in
-    let more : sum (map depth (drop trie table.kept)) ≡ depth kept + sum (map depth (drop (trie + 1) table.kept)) = ap (λ (xs : List ℕ). sum (map depth xs)) now ∙ sum_by-cons (λ (x : ℕ). x) (depth kept) (map depth (drop (trie + 1) table.kept)) in
-    let behind : drop d lens ≡ drop end table.level_lens = drop-drop d first table.level_lens ∙ ap (λ (n : ℕ). drop n table.level_lens) (omega arith) in
+    let now : drop trie table.kept ≡ kept ∷ drop (trie + 1) table.kept =
+    rw (add-one trie) (drop-cons table.kept trie 0 lt) in
+    let more : sum (map depth (drop trie table.kept)) ≡ depth kept + sum (map depth (drop (trie + 1) table.kept)) =
+    ap (λ (xs : List ℕ). sum (map depth xs)) now ∙ sum_by-cons (λ (x : ℕ). x) (depth kept)
+    (map depth (drop (trie + 1) table.kept)) in
+    let behind : drop d lens ≡ drop end table.level_lens = drop-drop d first table.level_lens
+    ∙ ap (λ (n : ℕ). drop n table.level_lens) (omega arith) in
     let parts : sum (take d lens) + sum (drop d lens) ≡ sum lens = sum_by-take-drop (λ (x : ℕ). x) lens d in
     let left : sum (drop d lens) ≡ sum (drop end table.level_lens) = ap sum behind in
-    let whole : levels_from from (take d lens) ∷ portions (map depth (drop (trie + 1) table.kept)) (levels_from (from + sum (take d lens)) (drop d lens)) ≡ drop trie (trie_levels table) =
-    rw len at (sym (ap (λ (xs : List ℕ). portions (map depth xs) (levels_from from lens)) now ∙ tries_step depth kept (drop (trie + 1) table.kept) from lens) ∙ at.rest) in
-    let rest : portions (map depth (drop (trie + 1) table.kept)) (levels_from (from + sum (take d lens)) (drop d lens)) ≡ drop (trie + 1) (trie_levels table) = tail_of trie (trie_levels table) _ _ whole in
+    let whole : levels_from from (take d lens) ∷ portions (map depth (drop (trie + 1) table.kept))
+    (levels_from (from + sum (take d lens)) (drop d lens)) ≡ drop trie (trie_levels table) =
+    rw len at (sym (ap (λ (xs : List ℕ). portions (map depth xs) (levels_from from lens)) now
+    ∙ tries_step depth kept (drop (trie + 1) table.kept) from lens) ∙ at.rest) in
+    let rest : portions (map depth (drop (trie + 1) table.kept)) (levels_from (from + sum (take d lens)) (drop d lens))
+    ≡ drop (trie + 1) (trie_levels table) = tail_of trie (trie_levels table) _ _ whole in
     record {
       bound = omega arith;
       fits = omega arith;
       here = sym whole ∙ ap (λ (ys : List (List Level)). levels_from from (take d lens) ∷ ys) rest;
       next = record {
-        rest = ap (λ (xs : List ℕ). portions (map depth (drop (trie + 1) table.kept)) (levels_from (from + sum (take d lens)) xs)) (sym behind) ∙ rest;
+        rest = ap (λ (xs : List ℕ). portions (map depth (drop (trie + 1) table.kept))
+            (levels_from (from + sum (take d lens)) xs)) (sym behind) ∙ rest;
         levels = omega arith;
         words = omega arith;
       };
     }
-
--- behind the last trie there are no levels
-pub last_trie : (table : TableView) (trie first from : ℕ) → length table.kept ≤ trie → AtTrie table trie first from → drop trie (trie_levels table) ≡ []
-last_trie table trie first from le at =
-    let none : drop trie table.kept ≡ [] = drop_of_length-le table.kept le in
-    sym at.rest ∙ ap (λ (xs : List ℕ). portions (map (depth_of table.key_len) xs) (levels_from from (drop first table.level_lens))) none

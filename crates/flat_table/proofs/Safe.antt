@@ -1,5 +1,6 @@
 -- A walk through a sound table stays in it: each word that it takes is there, and leads on or names a row.
-use Rattle.std.proofs.Common.{◌≡◌, ℕ, zero, suc, ◌+◌, ◌<◌, ◌≤◌, Bool, true, false, not, Option, Some, None, List, [], ◌∷◌, refl, sym, ap, ◌∙◌, arith, map, take, drop, length, sum, get_or}
+use Rattle.std.proofs.Common.{◌≡◌, ℕ, zero, suc, ◌+◌, ◌<◌, ◌≤◌, Bool, true, false, not, Option, Some, None, List, []}
+use Rattle.std.proofs.Common.{◌∷◌, refl, sym, ap, ◌∙◌, arith, map, take, drop, length, sum, get_or}
 use Rattle.std.specs.Prelude.{slice_index}
 use Rattle.std.specs.List.{zip, position_from}
 use Rattle.std.specs.Option.{option_or}
@@ -14,8 +15,10 @@ use Rattle.std.proofs.Common.{inl, inr, add-one}
 use Rattle.flat_table.specs.declared.level.Level.{Level}
 use Rattle.flat_table.specs.Word.{index_of, is_match, node_len, offset_of, next_place}
 use Rattle.flat_table.specs.Groups.{depth_of}
-use Rattle.flat_table.specs.Table.{TableView, levels_from, portions, depths_of, trie_levels, no_level, level_of, places_of}
-use Rattle.flat_table.specs.Sound.{leads_into, is_sound_word, first_level, words_in, unsound_word, first_some, sound_fault}
+use Rattle.flat_table.specs.Table.{TableView, levels_from, portions, depths_of, trie_levels, no_level, level_of}
+use Rattle.flat_table.specs.Table.{places_of}
+use Rattle.flat_table.specs.Sound.{leads_into, is_sound_word, first_level, words_in, unsound_word, first_some}
+use Rattle.flat_table.specs.Sound.{sound_fault}
 use Rattle.flat_table.specs.Walk.{root_of}
 use Rattle.flat_table.proofs.Shape.{IsShaped, sound_parts}
 use Rattle.flat_table.specs.Laws.{LeadsOn}
@@ -23,13 +26,16 @@ use Rattle.std.proofs.lemmas.Slice.Zip.{get_or-zip}
 use Rattle.flat_table.proofs.Unsound.{is_unsound_root}
 
 -- where a search finds nothing, nothing passes
-position_none : {A : Type 0} (p : A → Bool) (place : ℕ) (xs : List A) (k : ℕ) (d : A) → position_from p place xs ≡ None → k < length xs → p (get_or xs k d) ≡ false
+position_none : {A : Type 0} (p : A → Bool) (place : ℕ) (xs : List A) (k : ℕ) (d : A) →
+    position_from p place xs ≡ None → k < length xs → p (get_or xs k d) ≡ false
 position_none p place [] k d e h = absurd (omega arith)
 position_none p place (x ∷ xs) zero d e h = elim (cases_Bool (p x)) [ inl w ↦ cc (rw w at e) | inr w ↦ w ]
-position_none p place (x ∷ xs) (suc k) d e h = elim (cases_Bool (p x)) [ inl w ↦ cc (rw w at e) | inr w ↦ position_none p (place + 1) xs k d (rw w at e) (omega arith) ]
+position_none p place (x ∷ xs) (suc k) d e h = elim (cases_Bool (p x))
+    [ inl w ↦ cc (rw w at e) | inr w ↦ position_none p (place + 1) xs k d (rw w at e) (omega arith) ]
 
 -- where the first that is there isn't, none is
-first_none : (answers : List (Option ℕ)) (k : ℕ) → first_some answers ≡ None → k < length answers → get_or answers k None ≡ None
+first_none : (answers : List (Option ℕ)) (k : ℕ) → first_some answers ≡ None → k < length answers →
+    get_or answers k None ≡ None
 first_none [] k e h = absurd (omega arith)
 first_none (None ∷ answers) zero e h = refl
 first_none (None ∷ answers) (suc k) e h = first_none answers k e (omega arith)
@@ -45,21 +51,31 @@ not_false true e = refl
 not_false false e = cc
 
 -- the words of each level are sound for the next one
-level_sound : (rows : ℕ) (words : List ℕ) (levels : List Level) (depth : ℕ) (k : ℕ) → unsound_word rows words levels ≡ None →
+level_sound : (rows : ℕ) (words : List ℕ) (levels : List Level) (depth : ℕ) (k : ℕ) →
+    unsound_word rows words levels ≡ None →
     k < length (words_in words (get_or levels depth no_level)) →
-    is_sound_word rows (get_or levels (depth + 1) no_level) (get_or (words_in words (get_or levels depth no_level)) k 0) ≡ true
+    is_sound_word rows (get_or levels (depth + 1) no_level) (get_or (words_in words (get_or levels depth no_level)) k 0)
+    ≡ true
 level_sound rows words [] depth k e h = absurd (omega arith)
 level_sound rows words (level ∷ []) zero k e h =
-    not_false _ (position_none (λ (word : ℕ). not (is_sound_word rows no_level word)) level.from (words_in words level) k 0 (both_none _ _ e).0 h)
+    not_false _ (position_none (λ (word : ℕ). not (is_sound_word rows no_level word)) level.from (words_in words level)
+    k 0 (both_none _ _ e).0 h)
 level_sound rows words (level ∷ next ∷ levels) zero k e h =
-    not_false _ (position_none (λ (word : ℕ). not (is_sound_word rows next word)) level.from (words_in words level) k 0 (both_none _ _ e).0 h)
-level_sound rows words (level ∷ levels) (suc depth) k e h = rw (add-one (suc depth)) (rw (add-one depth) at (level_sound rows words levels depth k (both_none _ _ e).1 h))
+    not_false _ (position_none (λ (word : ℕ). not (is_sound_word rows next word)) level.from (words_in words level) k 0
+    (both_none _ _ e).0 h)
+level_sound rows words (level ∷ levels) (suc depth) k e h =
+    rw (add-one (suc depth)) (rw (add-one depth) at (level_sound rows words levels depth k (both_none _ _ e).1 h))
 
 -- no level reaches behind all words
-level-bound : (place : ℕ) (lens : List ℕ) (n : ℕ) → (get_or (levels_from place lens) n no_level).from + (get_or (levels_from place lens) n no_level).len ≤ place + sum lens
+level-bound : (place : ℕ) (lens : List ℕ) (n : ℕ) → (get_or (levels_from place lens) n no_level).from +
+    (get_or (levels_from place lens) n no_level).len ≤ place + sum lens
 level-bound place [] n = omega arith
 level-bound place (len ∷ lens) zero = omega (arith, sum_by-cons (λ (x : ℕ). x) len lens)
-level-bound place (len ∷ lens) (suc n) = omega (arith, level-bound (place + len) lens n, sum_by-cons (λ (x : ℕ). x) len lens)
+level-bound place (len ∷ lens) (suc n) = omega (
+  arith,
+  level-bound (place + len) lens n,
+  sum_by-cons (λ (x : ℕ). x) len lens,
+)
 
 -- the first level is that at depth 0
 first-is : (levels : List Level) → first_level levels ≡ get_or levels 0 no_level
@@ -73,7 +89,8 @@ offset-below word byte h = grind (arith, nat_tests)
 node_is_no_match_of : (level : Level) (word : ℕ) → leads_into level word ≡ true → is_match word ≡ false
 node_is_no_match_of level word e = grind (arith, nat_tests)
 
-leads_within : (level : Level) (word : ℕ) → leads_into level word ≡ true → (level.from ≤ index_of word) × (index_of word + node_len word ≤ level.from + level.len)
+leads_within : (level : Level) (word : ℕ) → leads_into level word ≡ true →
+    (level.from ≤ index_of word) × (index_of word + node_len word ≤ level.from + level.len)
 leads_within level word e = (grind (arith, nat_tests), grind (arith, nat_tests))
 
 nowhere : (word : ℕ) → leads_into no_level word ≡ false
@@ -83,7 +100,11 @@ nowhere word = grind (arith, nat_tests)
 sound_word : (rows word : ℕ) (next : Level) → is_sound_word rows next word ≡ true →
     (is_match word ≡ true → index_of word < rows) × (is_match word ≡ false → leads_into next word ≡ true)
 sound_word rows word next e =
-    elim (cases_Bool (is_match word)) [ inl w ↦ (λ _. grind (arith, nat_tests, rw w at e), λ no_match. cc) | inr w ↦ (λ match. cc, λ _. rw w at e) ]
+    elim (cases_Bool (is_match word)) [
+      | inl w ↦ (λ _. grind (arith, nat_tests, rw w at e), λ no_match. cc)
+      | inr w ↦
+          (λ match. cc, λ _. rw w at e)
+    ]
 
 -- two lists side by side
 
@@ -128,27 +149,35 @@ module _ (table : TableView) (trie : ℕ) (sound : sound_fault table ≡ None) (
   levels : List Level
   levels = get_or (trie_levels table) trie []
 
-  levels_cut : get_or (trie_levels table) trie [] ≡ take (length (places_of table trie)) (drop (sum (take trie (depths_of table))) (levels_from 0 table.level_lens))
+  levels_cut : get_or (trie_levels table) trie [] ≡ take (length (places_of table trie))
+      (drop (sum (take trie (depths_of table))) (levels_from 0 table.level_lens))
   levels_cut = portion-at (depths_of table) trie (levels_from 0 table.level_lens) lt_depths
       ∙ ap (λ (n : ℕ). take n (drop (sum (take trie (depths_of table))) (levels_from 0 table.level_lens))) depth_is
 
   pub root_leads : leads_into (level_of table trie 0) (root_of table trie) ≡ true
   root_leads =
-      let lens : trie < length (zip table.roots (trie_levels table)) = omega (arith, length-zip table.roots (trie_levels table) (sym levels_len)) in
-      let none = position_none is_unsound_root 0 (zip table.roots (trie_levels table)) trie (0, []) (sound_parts table sound).roots lens in
+      let lens : trie < length (zip table.roots (trie_levels table)) =
+      omega (arith, length-zip table.roots (trie_levels table) (sym levels_len)) in
+      let none = position_none is_unsound_root 0 (zip table.roots (trie_levels table)) trie (0, [])
+      (sound_parts table sound).roots lens in
       let at = get_or-zip table.roots (trie_levels table) trie (0, []) lt lt_levels in
-      ap (λ (level : Level). leads_into level (root_of table trie)) (sym (first-is (get_or (trie_levels table) trie [])))
+      ap (λ (level : Level). leads_into level (root_of table trie))
+      (sym (first-is (get_or (trie_levels table) trie [])))
       ∙ not_false _ (rw at at none)
 
-  pub none_behind : (depth word : ℕ) → length (places_of table trie) ≤ depth → leads_into (level_of table trie depth) word ≡ false
+  pub none_behind : (depth word : ℕ) → length (places_of table trie) ≤ depth →
+      leads_into (level_of table trie depth) word ≡ false
   none_behind depth word le =
-      let past : length (get_or (trie_levels table) trie []) ≤ depth = omega (arith, ap (λ (ls : List Level). length ls) levels_cut, length-take {A = Level}) in
-      ap (λ (level : Level). leads_into level word) (get_or_past (get_or (trie_levels table) trie []) depth no_level past) ∙ nowhere word
+      let past : length (get_or (trie_levels table) trie []) ≤ depth =
+      omega (arith, ap (λ (ls : List Level). length ls) levels_cut, length-take {A = Level}) in
+      ap (λ (level : Level). leads_into level word) (get_or_past (get_or (trie_levels table) trie []) depth no_level
+      past) ∙ nowhere word
 
   sound_levels : unsound_word (length table.rows) table.words (get_or (trie_levels table) trie []) ≡ None
   sound_levels =
       sym (get_or-map (unsound_word (length table.rows) table.words) (trie_levels table) trie [] None lt_levels)
-      ∙ first_none (map (unsound_word (length table.rows) table.words) (trie_levels table)) trie (sound_parts table sound).words
+      ∙ first_none (map (unsound_word (length table.rows) table.words) (trie_levels table)) trie
+      (sound_parts table sound).words
       (omega (arith, lt_levels, length-map (trie_levels table) (unsound_word (length table.rows) table.words)))
 
   level_within : (depth : ℕ) → (level_of table trie depth).from + (level_of table trie depth).len ≤ length table.words
@@ -157,14 +186,16 @@ module _ (table : TableView) (trie : ℕ) (sound : sound_fault table ≡ None) (
       let d : ℕ = length (places_of table trie) in
       let lens : List ℕ = take d (drop n table.level_lens) in
       let is : get_or (trie_levels table) trie [] ≡ levels_from (0 + sum (take n table.level_lens)) lens =
-      levels_cut ∙ ap (λ (ls : List Level). take d ls) (levels-drop n 0 table.level_lens) ∙ levels-take d (0 + sum (take n table.level_lens)) (drop n table.level_lens) in
+      levels_cut ∙ ap (λ (ls : List Level). take d ls) (levels-drop n 0 table.level_lens)
+      ∙ levels-take d (0 + sum (take n table.level_lens)) (drop n table.level_lens) in
       let bound = level-bound (0 + sum (take n table.level_lens)) lens depth in
       let one = sum_by-take-drop (λ (x : ℕ). x) table.level_lens n in
       let two = sum_by-take-drop (λ (x : ℕ). x) (drop n table.level_lens) d in
       let l = ap (λ (ls : List Level). (get_or ls depth no_level).from + (get_or ls depth no_level).len) is in
       omega (arith, bound, one, two, l, shape.words)
 
-  pub next_leads_on : (depth word byte : ℕ) → byte < 256 → leads_into (level_of table trie depth) word ≡ true → LeadsOn table trie (depth + 1) (next_place word byte)
+  pub next_leads_on : (depth word byte : ℕ) → byte < 256 → leads_into (level_of table trie depth) word ≡ true →
+      LeadsOn table trie (depth + 1) (next_place word byte)
   next_leads_on depth word byte small leads =
       let level : Level = level_of table trie depth in
       let within = leads_within level word leads in
@@ -173,13 +204,26 @@ module _ (table : TableView) (trie : ℕ) (sound : sound_fault table ≡ None) (
       let k : ℕ = next_place word byte - level.from in
       let there : next_place word byte < length table.words = omega (arith, within.0, within.1, off, bound) in
       let in_level : k < level.len = omega (arith, within.0, within.1, off) in
-      let in_words : k < length (words_in table.words level) = omega (arith, length-take level.len (drop level.from table.words), length-drop level.from table.words, there, in_level, within.0) in
+      let in_words : k < length (words_in table.words level) =
+      omega (
+        arith,
+        length-take level.len (drop level.from table.words),
+        length-drop level.from table.words,
+        there,
+        in_level,
+        within.0,
+      ) in
       let back : level.from + k ≡ next_place word byte = omega (arith, within.0) in
-      let e = level_sound (length table.rows) table.words (get_or (trie_levels table) trie []) depth k sound_levels in_words in
+      let e = level_sound (length table.rows) table.words (get_or (trie_levels table) trie []) depth k sound_levels
+      in_words in
       let at : get_or (words_in table.words level) k 0 ≡ slice_index table.words (next_place word byte) =
-      get_or-take level.len (drop level.from table.words) k 0 in_level ∙ get_or-drop level.from table.words k 0 ∙ ap (λ (n : ℕ). get_or table.words n 0) back in
-      let s = sound_word (length table.rows) (slice_index table.words (next_place word byte)) (level_of table trie (depth + 1)) (ap (λ (w : ℕ). is_sound_word (length table.rows) (level_of table trie (depth + 1)) w) (sym at) ∙ e) in
+      get_or-take level.len (drop level.from table.words) k 0 in_level ∙ get_or-drop level.from table.words k 0
+      ∙ ap (λ (n : ℕ). get_or table.words n 0) back in
+      let s = sound_word (length table.rows) (slice_index table.words (next_place word byte))
+      (level_of table trie (depth + 1)) (ap (λ (w : ℕ). is_sound_word (length table.rows)
+      (level_of table trie (depth + 1)) w) (sym at) ∙ e) in
       record { there = there; row = s.0; level = s.1 }
 
-pub node_is_no_match : (table : TableView) (trie depth word : ℕ) → leads_into (level_of table trie depth) word ≡ true → is_match word ≡ false
+pub node_is_no_match : (table : TableView) (trie depth word : ℕ) → leads_into (level_of table trie depth) word ≡ true →
+    is_match word ≡ false
 node_is_no_match table trie depth word e = node_is_no_match_of (level_of table trie depth) word e

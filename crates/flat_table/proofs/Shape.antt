@@ -4,7 +4,8 @@ use Rattle.std.specs.List.{list_all}
 use Rattle.std.proofs.lemmas.Bool.Decides.{nat_tests}
 use Rattle.flat_table.specs.Groups.{longest_key, is_key_len, is_kept_word}
 use Rattle.flat_table.specs.Table.{TableView, depths_of}
-use Rattle.flat_table.specs.Sound.{most_tries, most_words, row_len, begins_with_zeros, is_shaped, first_unsound_root, first_unsound_word, sound_fault}
+use Rattle.flat_table.specs.Sound.{most_tries, most_words, row_len, begins_with_zeros, is_shaped, first_unsound_root}
+use Rattle.flat_table.specs.Sound.{first_unsound_word, sound_fault}
 use Rattle.std.specs.Option.{option_or}
 use Rattle.std.specs.Prelude.{Option, Some, None, option_map, if◌then◌else◌, refl}
 use Rattle.flat_table.specs.declared.sound.SoundFault.TheVariants.{Shape, Root, Word}
@@ -41,7 +42,9 @@ pub record IsSound (table : TableView) : Type 0 where
   pub roots : first_unsound_root table ≡ None
   pub words : first_unsound_word table ≡ None
 
-parts_of_none : (b : Bool) (root word : Option ℕ) → (if b then option_or (option_map Root root) (option_map Word word) else Some Shape) ≡ None → (b ≡ true) × (root ≡ None) × (word ≡ None)
+parts_of_none : (b : Bool) (root word : Option ℕ) →
+    (if b then option_or (option_map Root root) (option_map Word word) else Some Shape) ≡ None →
+    (b ≡ true) × (root ≡ None) × (word ≡ None)
 parts_of_none false root word e = cc
 parts_of_none true None None e = (refl, refl, refl)
 parts_of_none true None (Some place) e = cc

@@ -1,12 +1,14 @@
 -- A walk goes step by step.
-use Rattle.std.proofs.Common.{◌≡◌, ℕ, zero, suc, ◌+◌, ◌<◌, ◌≤◌, Bool, true, false, cond, List, [], ◌∷◌, ◌++◌, refl, sym, ap, ◌∙◌, arith, inl, inr, add-one, fold, map, take, drop, length, length-take, get_or}
+use Rattle.std.proofs.Common.{◌≡◌, ℕ, zero, suc, ◌+◌, ◌<◌, ◌≤◌, Bool, true, false, cond, List, [], ◌∷◌, ◌++◌, refl, sym}
+use Rattle.std.proofs.Common.{ap, ◌∙◌, arith, inl, inr, add-one, fold, map, take, drop, length, length-take, get_or}
 use Rattle.std.specs.Prelude.{if◌then◌else◌, slice_index}
 use Rattle.std.proofs.lemmas.Bool.{cases_Bool}
 use Rattle.std.proofs.lemmas.List.{length-map, get_or-map, map_more, take-map, take_all, take-append-drop}
 use Rattle.std.proofs.lemmas.List.Sums.{fold-append}
 use Rattle.flat_table.specs.Word.{index_of, is_match, next_word}
 use Rattle.flat_table.specs.Table.{TableView, places_of}
-use Rattle.flat_table.specs.Walk.{taken, moved, last_word, root_of, bytes_of, word_after, steps_after, walk, walk_row, walk_steps}
+use Rattle.flat_table.specs.Walk.{taken, moved, last_word, root_of, bytes_of, word_after, steps_after, walk, walk_row}
+use Rattle.flat_table.specs.Walk.{walk_steps}
 
 -- a match stays, whatever bytes follow
 match_stays : (words : List ℕ) (word : ℕ) (bytes : List ℕ) → is_match word ≡ true → fold (moved words) word bytes ≡ word
@@ -14,17 +16,23 @@ match_stays words word [] e = refl
 match_stays words word (byte ∷ bytes) e = rw e (match_stays words word bytes e)
 
 -- the last word taken is the one that stands after all bytes
-last_taken : (words : List ℕ) (word : ℕ) (bytes : List ℕ) → last_word word (taken words word bytes) ≡ fold (moved words) word bytes
+last_taken : (words : List ℕ) (word : ℕ) (bytes : List ℕ) →
+    last_word word (taken words word bytes) ≡ fold (moved words) word bytes
 last_taken words word [] = refl
 last_taken words word (byte ∷ bytes) =
-    elim (cases_Bool (is_match word)) [ inl w ↦ rw w (sym (match_stays words word bytes w)) | inr w ↦ rw w (last_taken words (next_word words word byte) bytes) ]
+    elim (cases_Bool (is_match word)) [
+      | inl w ↦ rw w (sym (match_stays words word bytes w))
+      | inr w ↦ rw w
+          (last_taken words (next_word words word byte) bytes)
+    ]
 
 suc_plus : (m n : ℕ) → suc (m + n) ≡ suc m + n
 suc_plus m n = omega arith
 
 -- one more byte costs a step where no match stands
 taken_push : (words : List ℕ) (word byte : ℕ) (bytes : List ℕ) →
-    length (taken words word (bytes ++ byte ∷ [])) ≡ length (taken words word bytes) + (if is_match (fold (moved words) word bytes) then 0 else 1)
+    length (taken words word (bytes ++ byte ∷ [])) ≡ length (taken words word bytes) +
+    (if is_match (fold (moved words) word bytes) then 0 else 1)
 taken_push words word byte [] = elim (cases_Bool (is_match word)) [ inl w ↦ rw w refl | inr w ↦ rw w refl ]
 taken_push words word byte (first ∷ bytes) =
     elim (cases_Bool (is_match word)) [
@@ -36,7 +44,11 @@ taken_push words word byte (first ∷ bytes) =
 taken_bound : (words : List ℕ) (word : ℕ) (bytes : List ℕ) → length (taken words word bytes) ≤ length bytes
 taken_bound words word [] = omega arith
 taken_bound words word (byte ∷ bytes) =
-    elim (cases_Bool (is_match word)) [ inl w ↦ rw w (omega arith) | inr w ↦ rw w (omega (arith, taken_bound words (next_word words word byte) bytes)) ]
+    elim (cases_Bool (is_match word)) [
+      | inl w ↦ rw w (omega arith)
+      | inr w ↦ rw w
+          (omega (arith, taken_bound words (next_word words word byte) bytes))
+    ]
 
 module _ (table : TableView) (trie : ℕ) (key : List ℕ) where
   pub bytes_len : length (bytes_of table trie key) ≡ length (places_of table trie)
@@ -46,7 +58,8 @@ module _ (table : TableView) (trie : ℕ) (key : List ℕ) where
   all_bytes = take_all (length (places_of table trie)) (bytes_of table trie key) (omega (arith, bytes_len))
 
   pub row_is : walk_row table trie key ≡ index_of (word_after table trie key (length (places_of table trie)))
-  row_is = ap index_of (last_taken table.words (root_of table trie) (bytes_of table trie key) ∙ ap (λ (bytes : List ℕ). fold (moved table.words) (root_of table trie) bytes) (sym all_bytes))
+  row_is = ap index_of (last_taken table.words (root_of table trie) (bytes_of table trie key)
+      ∙ ap (λ (bytes : List ℕ). fold (moved table.words) (root_of table trie) bytes) (sym all_bytes))
 
   pub steps_is : walk_steps table trie key ≡ steps_after table trie key (length (places_of table trie))
   steps_is = ap (λ (bytes : List ℕ). length (taken table.words (root_of table trie) bytes)) (sym all_bytes)
@@ -55,46 +68,59 @@ module _ (table : TableView) (trie : ℕ) (key : List ℕ) where
   steps_bound = omega (arith, taken_bound table.words (root_of table trie) (bytes_of table trie key), bytes_len)
 
   bytes_more : (n : ℕ) → n < length (places_of table trie) →
-      take (n + 1) (bytes_of table trie key) ≡ take n (bytes_of table trie key) ++ slice_index key (slice_index (places_of table trie) n) ∷ []
+      take (n + 1) (bytes_of table trie key) ≡ take n (bytes_of table trie key) ++ slice_index key
+      (slice_index (places_of table trie) n) ∷ []
   bytes_more n lt =
       take-map (λ place. slice_index key place) (n + 1) (places_of table trie)
       ∙ map_more (λ place. slice_index key place) (places_of table trie) n 0 lt
-      ∙ ap (λ (bytes : List ℕ). bytes ++ slice_index key (slice_index (places_of table trie) n) ∷ []) (sym (take-map (λ place. slice_index key place) n (places_of table trie)))
+      ∙ ap (λ (bytes : List ℕ). bytes ++ slice_index key (slice_index (places_of table trie) n) ∷ [])
+      (sym (take-map (λ place. slice_index key place) n (places_of table trie)))
 
   pub word_more : (n place : ℕ) → n < length (places_of table trie) → place ≡ slice_index (places_of table trie) n →
       word_after table trie key (n + 1) ≡ moved table.words (word_after table trie key n) (slice_index key place)
   word_more n place lt e =
       ap (λ (bytes : List ℕ). fold (moved table.words) (root_of table trie) bytes) (bytes_more n lt)
-      ∙ fold-append (moved table.words) (root_of table trie) (take n (bytes_of table trie key)) (slice_index key (slice_index (places_of table trie) n) ∷ [])
+      ∙ fold-append (moved table.words) (root_of table trie) (take n (bytes_of table trie key))
+      (slice_index key (slice_index (places_of table trie) n) ∷ [])
       ∙ ap (λ (p : ℕ). moved table.words (word_after table trie key n) (slice_index key p)) (sym e)
 
   pub step_more : (n : ℕ) → n < length (places_of table trie) →
-      steps_after table trie key (n + 1) ≡ steps_after table trie key n + (if is_match (word_after table trie key n) then 0 else 1)
+      steps_after table trie key (n + 1) ≡ steps_after table trie key n +
+      (if is_match (word_after table trie key n) then 0 else 1)
   step_more n lt =
       ap (λ (bytes : List ℕ). length (taken table.words (root_of table trie) bytes)) (bytes_more n lt)
-      ∙ taken_push table.words (root_of table trie) (slice_index key (slice_index (places_of table trie) n)) (take n (bytes_of table trie key))
+      ∙ taken_push table.words (root_of table trie) (slice_index key (slice_index (places_of table trie) n))
+      (take n (bytes_of table trie key))
 
 -- behind a match nothing more is taken
-taken_rest : (words : List ℕ) (word : ℕ) (bytes more : List ℕ) → is_match (fold (moved words) word bytes) ≡ true → length (taken words word (bytes ++ more)) ≡ length (taken words word bytes)
+taken_rest : (words : List ℕ) (word : ℕ) (bytes more : List ℕ) → is_match (fold (moved words) word bytes) ≡ true →
+    length (taken words word (bytes ++ more)) ≡ length (taken words word bytes)
 taken_rest words word [] [] e = refl
 taken_rest words word [] (byte ∷ more) e = rw e refl
 taken_rest words word (byte ∷ bytes) more e =
-    elim (cases_Bool (is_match word)) [ inl w ↦ rw w refl | inr w ↦ rw w (ap suc (taken_rest words (next_word words word byte) bytes more (rw w at e))) ]
+    elim (cases_Bool (is_match word)) [
+      | inl w ↦ rw w refl
+      | inr w ↦ rw w
+          (ap suc (taken_rest words (next_word words word byte) bytes more (rw w at e)))
+    ]
 
 -- where a match stands after some bytes, the walk has ended there
-module _ (table : TableView) (trie : ℕ) (key : List ℕ) (n : ℕ) (match : is_match (word_after table trie key n) ≡ true) where
-  cut_bytes : take n (bytes_of table trie key) ++ drop n (bytes_of table trie key) ≡ bytes_of table trie key
-  cut_bytes = take-append-drop n (bytes_of table trie key)
+module _ (table : TableView) (trie : ℕ) (key : List ℕ) (n : ℕ) (match : is_match (word_after table trie key n) ≡ true)
+  where
+    cut_bytes : take n (bytes_of table trie key) ++ drop n (bytes_of table trie key) ≡ bytes_of table trie key
+    cut_bytes = take-append-drop n (bytes_of table trie key)
 
-  pub steps_at_match : walk_steps table trie key ≡ steps_after table trie key n
-  steps_at_match =
-      ap (λ (bytes : List ℕ). length (taken table.words (root_of table trie) bytes)) (sym cut_bytes)
-      ∙ taken_rest table.words (root_of table trie) (take n (bytes_of table trie key)) (drop n (bytes_of table trie key)) match
+    pub steps_at_match : walk_steps table trie key ≡ steps_after table trie key n
+    steps_at_match =
+        ap (λ (bytes : List ℕ). length (taken table.words (root_of table trie) bytes)) (sym cut_bytes)
+        ∙ taken_rest table.words (root_of table trie) (take n (bytes_of table trie key))
+        (drop n (bytes_of table trie key)) match
 
-  pub row_at_match : walk_row table trie key ≡ index_of (word_after table trie key n)
-  row_at_match =
-      ap index_of
-      (last_taken table.words (root_of table trie) (bytes_of table trie key)
-      ∙ ap (λ (bytes : List ℕ). fold (moved table.words) (root_of table trie) bytes) (sym cut_bytes)
-      ∙ fold-append (moved table.words) (root_of table trie) (take n (bytes_of table trie key)) (drop n (bytes_of table trie key))
-      ∙ match_stays table.words (word_after table trie key n) (drop n (bytes_of table trie key)) match)
+    pub row_at_match : walk_row table trie key ≡ index_of (word_after table trie key n)
+    row_at_match =
+        ap index_of
+        (last_taken table.words (root_of table trie) (bytes_of table trie key)
+        ∙ ap (λ (bytes : List ℕ). fold (moved table.words) (root_of table trie) bytes) (sym cut_bytes)
+        ∙ fold-append (moved table.words) (root_of table trie) (take n (bytes_of table trie key))
+        (drop n (bytes_of table trie key))
+        ∙ match_stays table.words (word_after table trie key n) (drop n (bytes_of table trie key)) match)

@@ -1,5 +1,6 @@
 -- Batches of keys: the keys stand one after the other, and so do the verdicts of each.
-use Rattle.std.specs.Prelude.{◌≡◌, ℕ, ◌+◌, ◌*◌, ◌/◌, ◌≤◌, List, map, take, drop, length, fold, flat_map}
+use Rattle.std.specs.Prelude.{◌≡◌, ℕ, ◌+◌, ◌*◌, ◌/◌, ◌≤◌, List, map, take, drop, length, fold}
+use Rattle.std.specs.Prelude.{flat_map}
 use Rattle.std.specs.List.{range_with_len}
 use Rattle.flat_table.specs.Table.{TableView}
 use Rattle.flat_table.specs.Walk.{table_verdict, key_steps}
@@ -24,11 +25,13 @@ pub record LengthsFit (table : TableView) (keys : List ℕ) (count room : ℕ) :
 
 -- the verdicts of a key in the categories from 0 on
 abbrev pub key_verdicts : TableView → ℕ → List ℕ → List ℕ
-key_verdicts table count key = map (λ category. table_verdict table key category) (range_with_len 0 count)
+key_verdicts table count key = map (λ category. table_verdict table key category)
+    (range_with_len 0 count)
 
 -- the verdicts of the first n keys
 abbrev pub first_verdicts : TableView → ℕ → List ℕ → ℕ → List ℕ
-first_verdicts table count keys n = flat_map (λ k. key_verdicts table count (key_at table keys k)) (range_with_len 0 n)
+first_verdicts table count keys n = flat_map (λ k. key_verdicts table count (key_at table keys k))
+    (range_with_len 0 n)
 
 -- the verdicts of all keys
 abbrev pub batch_verdicts : TableView → ℕ → List ℕ → List ℕ
@@ -36,7 +39,8 @@ batch_verdicts table count keys = first_verdicts table count keys (keys_in table
 
 -- how many words the walks of the first n keys take
 abbrev pub first_steps : TableView → List ℕ → ℕ → ℕ
-first_steps table keys n = fold (λ total k. total + key_steps table (key_at table keys k)) 0 (range_with_len 0 n)
+first_steps table keys n = fold (λ total k. total + key_steps table (key_at table keys k)) 0
+    (range_with_len 0 n)
 
 -- how many words the walks of all keys take
 abbrev pub batch_steps : TableView → List ℕ → ℕ

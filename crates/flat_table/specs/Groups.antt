@@ -1,7 +1,8 @@
--- Groups of key bytes (DPDK Programmer's Guide, "Packet Classification and Access Control": the first field is one byte,
--- and all later input comes in groups of four consecutive bytes). A trie reads the groups that it keeps and passes over
--- the others.
-use Rattle.std.specs.Prelude.{ℕ, ◌+◌, ◌-◌, ◌/◌, ◌%◌, ◌^◌, ◌==◌, nat_lt, List, length, filter, Bool, ◌&&◌}
+-- Groups of key bytes (DPDK Programmer's Guide, "Packet Classification and Access Control": the
+-- first field is one byte, and all later input comes in groups of four consecutive bytes). A trie
+-- reads the groups that it keeps and passes over the others.
+use Rattle.std.specs.Prelude.{ℕ, ◌+◌, ◌-◌, ◌/◌, ◌%◌, ◌^◌, ◌==◌, nat_lt, List, length, filter, Bool}
+use Rattle.std.specs.Prelude.{◌&&◌}
 use Rattle.std.specs.List.{range_with_len}
 use Rattle.std.specs.Int.{bit_at}
 

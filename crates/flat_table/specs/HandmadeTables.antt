@@ -3,10 +3,11 @@ use Rattle.std.specs.Prelude.{ℕ, ◌+◌, List, [], ◌∷◌, replicate}
 use Rattle.std.specs.List.{concat}
 use Rattle.flat_table.specs.Table.{TableView}
 
--- a match of the row, and a single node at the place
+-- a match of the row
 abbrev pub match_of : ℕ → ℕ
 match_of row = 0x80000000 + row
 
+-- a single node at the place
 abbrev pub single_at : ℕ → ℕ
 single_at place = 0x20000000 + place
 
@@ -21,11 +22,29 @@ two_rows = row_of 0 ∷ row_of 0x100000001 ∷ []
 -- a table of keys of 13 bytes, one rule and one trie
 abbrev pub table_of : ℕ → ℕ → List ℕ → List ℕ → TableView
 table_of kept root level_lens words =
-    record { key_len = 13; rules = 1; kept = kept ∷ []; roots = root ∷ []; level_lens = level_lens; words = words; rows = two_rows }
+    record {
+      key_len = 13;
+      rules = 1;
+      kept = kept ∷ [];
+      roots = root ∷ [];
+      level_lens =
+          level_lens;
+      words = words;
+      rows = two_rows;
+    }
 
 -- no tries
 abbrev pub empty_table : TableView
-empty_table = record { key_len = 13; rules = 0; kept = []; roots = []; level_lens = []; words = []; rows = row_of 0 ∷ [] }
+empty_table = record {
+  key_len = 13;
+  rules = 0;
+  kept = [];
+  roots = [];
+  level_lens = [];
+  words =
+      [];
+  rows = row_of 0 ∷ [];
+}
 
 -- of a rule that every key matches: one node, at the first byte
 abbrev pub wild_table : TableView
@@ -34,12 +53,14 @@ wild_table = table_of 1 (single_at 0) (1 ∷ []) (match_of 1 ∷ [])
 -- of a rule on the source address 10.0.0.0/8: runs of bytes up to 9, of 10 alone, and from 11 on
 abbrev pub source_table : TableView
 source_table = table_of 2 0xFFFF0A09_60000000 (5 ∷ 1 ∷ 1 ∷ 1 ∷ [])
-    (match_of 0 ∷ single_at 5 ∷ match_of 0 ∷ match_of 0 ∷ match_of 0 ∷ single_at 6 ∷ single_at 7 ∷ match_of 1 ∷ [])
+    (match_of 0 ∷ single_at 5 ∷ match_of 0 ∷ match_of 0 ∷ match_of 0 ∷ single_at 6 ∷ single_at 7 ∷
+    match_of 1 ∷ [])
 
 -- of a rule on the destination ports from 1024 on: runs of high bytes up to 3, and from 4 on
 abbrev pub port_table : TableView
 port_table = table_of 8 (single_at 0) (1 ∷ 1 ∷ 5 ∷ 1 ∷ [])
-    (single_at 1 ∷ 0xFFFFFF03_60000002 ∷ match_of 0 ∷ single_at 7 ∷ match_of 0 ∷ match_of 0 ∷ match_of 0 ∷ match_of 1 ∷ [])
+    (single_at 1 ∷ 0xFFFFFF03_60000002 ∷ match_of 0 ∷ single_at 7 ∷ match_of 0 ∷ match_of 0 ∷
+    match_of 0 ∷ match_of 1 ∷ [])
 
 -- of a rule on the lowest bit of the protocol: a full node
 abbrev pub bit_table : TableView
@@ -53,6 +74,7 @@ two_tries = record {
   kept = 1 ∷ 2 ∷ [];
   roots = single_at 0 ∷ 0xFFFF0A09_60000001 ∷ [];
   level_lens = 1 ∷ 5 ∷ 1 ∷ 1 ∷ 1 ∷ [];
-  words = match_of 1 ∷ match_of 0 ∷ single_at 6 ∷ match_of 0 ∷ match_of 0 ∷ match_of 0 ∷ single_at 7 ∷ single_at 8 ∷ match_of 2 ∷ [];
+  words = match_of 1 ∷ match_of 0 ∷ single_at 6 ∷ match_of 0 ∷ match_of 0 ∷ match_of 0 ∷ single_at 7
+      ∷ single_at 8 ∷ match_of 2 ∷ [];
   rows = row_of 0 ∷ row_of 0x100000005 ∷ row_of 0x200000000 ∷ [];
 }

@@ -38,7 +38,8 @@ no_level = record { from = 0; len = 0 }
 
 -- the level of the trie at the depth
 abbrev pub level_of : TableView → ℕ → ℕ → Level
-level_of table trie depth = slice_index_or (slice_index_or (trie_levels table) trie []) depth no_level
+level_of table trie depth = slice_index_or (slice_index_or (trie_levels table) trie []) depth
+    no_level
 
 -- the places of a key whose bytes a walk through the trie reads
 abbrev pub places_of : TableView → ℕ → List ℕ

@@ -8,4 +8,5 @@ use Rattle.flat_table.specs.Sound.{sound_fault}
 -- the parts are sound, and for each trie the places of its kept groups stand beside them
 pub record IsTable (table : TableView) (places : List (ArrayVec ℕ)) : Type 0 where
   pub sound : sound_fault table ≡ None
-  pub read : map (λ (trie : ArrayVec ℕ). trie.items) places ≡ map (kept_places table.key_len) table.kept
+  pub read : map (λ (trie : ArrayVec ℕ). trie.items) places
+      ≡ map (kept_places table.key_len) table.kept

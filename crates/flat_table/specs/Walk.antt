@@ -1,5 +1,6 @@
 -- The walk of a key through a trie, and the verdicts of a table.
-use Rattle.std.specs.Prelude.{ℕ, ◌+◌, ◌%◌, ◌^◌, max, List, [], ◌∷◌, map, take, length, fold, slice_index, slice_index_or, if◌then◌else◌}
+use Rattle.std.specs.Prelude.{ℕ, ◌+◌, ◌%◌, ◌^◌, max, List, [], ◌∷◌, map, take, length, fold}
+use Rattle.std.specs.Prelude.{slice_index, slice_index_or, if◌then◌else◌}
 use Rattle.std.specs.List.{range_with_len}
 use Rattle.flat_table.specs.Word.{index_of, is_match, next_word}
 use Rattle.flat_table.specs.Table.{TableView, places_of}
@@ -8,7 +9,8 @@ use Rattle.flat_table.specs.Table.{TableView, places_of}
 abbrev pub taken : List ℕ → ℕ → List ℕ → List ℕ
 taken words word [] = []
 taken words word (byte ∷ bytes) =
-    if is_match word then [] else next_word words word byte ∷ taken words (next_word words word byte) bytes
+    if is_match word then [] else next_word words word byte ∷ taken words
+    (next_word words word byte) bytes
 
 -- the word that stands after one more byte: a match stays
 abbrev pub moved : List ℕ → ℕ → ℕ → ℕ
@@ -31,12 +33,15 @@ bytes_of table trie key = map (λ place. slice_index key place) (places_of table
 abbrev pub walk : TableView → ℕ → List ℕ → List ℕ
 walk table trie key = taken table.words (root_of table trie) (bytes_of table trie key)
 
--- the word that a walk through the trie stands at after so many bytes, and how many words it took for them
+-- the word that a walk through the trie stands at after so many bytes
 abbrev pub word_after : TableView → ℕ → List ℕ → ℕ → ℕ
-word_after table trie key n = fold (moved table.words) (root_of table trie) (take n (bytes_of table trie key))
+word_after table trie key n = fold (moved table.words) (root_of table trie)
+    (take n (bytes_of table trie key))
 
+-- how many words it took for them
 abbrev pub steps_after : TableView → ℕ → List ℕ → ℕ → ℕ
-steps_after table trie key n = length (taken table.words (root_of table trie) (take n (bytes_of table trie key)))
+steps_after table trie key n = length (taken table.words (root_of table trie)
+    (take n (bytes_of table trie key)))
 
 -- how many words it takes
 abbrev pub walk_steps : TableView → ℕ → List ℕ → ℕ
@@ -52,7 +57,8 @@ tries_of table = range_with_len 0 (length table.roots)
 
 -- the rows that the walks through all tries reach
 abbrev pub reached : TableView → List ℕ → List (List ℕ)
-reached table key = map (λ trie. slice_index_or table.rows (walk_row table trie key) []) (tries_of table)
+reached table key = map (λ trie. slice_index_or table.rows (walk_row table trie key) [])
+    (tries_of table)
 
 -- the greatest of the numbers, or 0 where there is none
 abbrev pub greatest : List ℕ → ℕ

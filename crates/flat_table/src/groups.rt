@@ -1,8 +1,8 @@
 //! Groups of key bytes: which places of a key a trie reads.
 //!
-//! Group 0 of a key is its first byte, and group g from 1 on the four bytes at the places 4g - 3 to 4g. A trie
-//! keeps some groups, bit g of its word for group g, and its walks pass over the bytes of the others: a group
-//! in which every rule of the trie lets every byte through decides nothing.
+//! Group 0 of a key is its first byte, and group g from 1 on the four bytes at the places 4g - 3 to
+//! 4g. A trie keeps some groups, bit g of its word for group g, and its walks pass over the bytes
+//! of the others: a group in which every rule of the trie lets every byte through decides nothing.
 
 ghost use Rattle.std.specs.Prelude.{◌≡◌, ◌+◌, ◌-◌, ◌*◌, ◌/◌, ◌%◌, ◌^◌, ◌<◌, ◌≤◌, IsTrue};
 ghost use Rattle.flat_table.specs.Groups.{longest_key, is_key_len, groups_of, group_of, is_kept, is_kept_word, kept_places, depth_of};

@@ -1,10 +1,10 @@
 //! Words and rows in, a sound table or the first fault with the parts back out.
 //!
-//! A table is what the rules of one family are made into: tries, whose nodes are words of 64 bits in one list, and
-//! rows, which say for each category which rule wins. A walk begins with the root of a trie and takes one word for
-//! each key byte that the trie reads, until a word names a row. Here is what the words mean, which parts make a
-//! table that every key can be walked through, and what a walk and a verdict are. Other crates fill tables, walk
-//! them, save and load them.
+//! A table is what the rules of one family are made into: tries, whose nodes are words of 64 bits
+//! in one list, and rows, which say for each category which rule wins. A walk begins with the root
+//! of a trie and takes one word for each key byte that the trie reads, until a word names a row.
+//! Here is what the words mean, which parts make a table that every key can be walked through, and
+//! what a walk and a verdict are. Other crates fill tables, walk them, save and load them.
 //!
 //! ```text
 //!     Parts ── check_sound ──► Table::from_parts ──► Table: words, rows, places, roots

@@ -15,7 +15,7 @@ pub struct Parts {
     pub level_lens: Vec<u32>,
     /// The words, trie by trie and level by level.
     pub words: Vec<u64>,
-    /// For each row a word for each category: 0 where no rule wins, or else the winner's rank in its high half
-    /// and its userdata in its low half. Row 0 has sixteen zeros.
+    /// For each row a word for each category: 0 where no rule wins, or else the winner's rank in
+    /// its high half and its userdata in its low half. Row 0 has sixteen zeros.
     pub rows: Vec<[u64; 16]>,
 }

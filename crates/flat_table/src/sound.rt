@@ -1,8 +1,9 @@
 //! Which parts make a table that every key can be walked through.
 //!
-//! The levels of a trie lie one behind the other, and each word of a level leads to a node that lies whole in the
-//! next one, or names a row. So a walk goes one level down with each byte, and can't leave the table. No order of
-//! a node's boundaries is asked, since each of them gives some word of the node.
+//! The levels of a trie lie one behind the other, and each word of a level leads to a node that
+//! lies whole in the next one, or names a row. So a walk goes one level down with each byte, and
+//! can't leave the table. No order of a node's boundaries is asked, since each of them gives some
+//! word of the node.
 
 ghost use Rattle.std.specs.Prelude.{◌≡◌, ◌==◌, ◌+◌, ◌*◌, ◌^◌, ◌<◌, ◌≤◌, map, length, sum, nat_le, not, IsTrue, IfSome};
 ghost use Rattle.std.specs.List.{list_all, position_from};
@@ -29,18 +30,20 @@ pub const ROW_LEN: usize = 16;
 /// Why parts make no table.
 #[derive(Clone, Copy, Debug, PartialEq, Eq, Error)]
 pub enum SoundFault {
-    /// At least one of these holds: there are more or fewer kept words than roots; there are more than 8 roots;
-    /// the key length isn't 1 and a multiple of 4, or is above 505; a kept word is 0 or has the bit of a group
-    /// that a key hasn't; there aren't as many level lengths as kept places, or as many words as these lengths
-    /// say; row 0 is missing or isn't all 0; the words, with sixteen for each row, are more than 67,108,864.
+    /// At least one of these holds: there are more or fewer kept words than roots; there are more
+    /// than 8 roots; the key length isn't 1 and a multiple of 4, or is above 505; a kept word is 0
+    /// or has the bit of a group that a key hasn't; there aren't as many level lengths as kept
+    /// places, or as many words as these lengths say; row 0 is missing or isn't all 0; the words,
+    /// with sixteen for each row, are more than 67,108,864.
     #[error("the parts don't fit together")]
     Shape,
-    /// The parts fit together, and this is the first root that isn't lawful or doesn't lead to a node that lies
-    /// whole in the first level of its trie.
+    /// The parts fit together, and this is the first root that isn't lawful or doesn't lead to a
+    /// node that lies whole in the first level of its trie.
     #[error("root {0} doesn't lead into the first level of its trie")]
     Root(u32),
-    /// The parts fit together, the roots are sound, and this is the place of the first word that isn't lawful,
-    /// or that names no row of the table and leads to no node that lies whole in the next level of its trie.
+    /// The parts fit together, the roots are sound, and this is the place of the first word that
+    /// isn't lawful, or that names no row of the table and leads to no node that lies whole in the
+    /// next level of its trie.
     #[error("word {0} leads to no row and to no node of the next level")]
     Word(u32),
 }
@@ -112,7 +115,8 @@ fn is_sound_word(rows: usize, next: Level, word: u64) -> bool
 fn unsound_in_level(rows: usize, next: Level, from: usize, words: &[u64]) -> Option<usize>
     requires next { next.from + next.len < 2 ^ 64 }
     requires from { from + length words.now < 2 ^ 64 }
-    ensures place { result ≡ position_from (λ word. not (is_sound_word rows next word)) from words.now }
+    ensures place { result
+        ≡ position_from (λ word. not (is_sound_word rows next word)) from words.now }
     ensures bound { IfSome result (λ place. place < from + length words.now) }
 {
     for (i, word) in words.iter().enumerate() {
@@ -123,7 +127,8 @@ fn unsound_in_level(rows: usize, next: Level, from: usize, words: &[u64]) -> Opt
     None
 }
 
-/// The place of the first unsound word in the levels of one trie, of these lengths, from a place on.
+/// The place of the first unsound word in the levels of one trie, of these lengths, from a place
+/// on.
 fn unsound_word(rows: usize, words: &[u64], from: usize, lens: &[u32]) -> Option<usize>
     requires words { from + sum lens.now ≤ length words.now }
     requires few { length words.now ≤ most_words }
@@ -205,7 +210,8 @@ fn is_small(words: usize, rows: usize) -> bool
     rows <= MAX_WORDS / ROW_LEN && words <= MAX_WORDS - ROW_LEN * rows
 }
 
-/// What is wrong with the parts first, if anything is: their shape, then the roots, then the words, in order.
+/// What is wrong with the parts first, if anything is: their shape, then the roots, then the words,
+/// in order.
 ///
 /// It takes no memory, and looks at each word once.
 #[tactic(auto, unfolding(crate::specs::Sound::sound_fault))]

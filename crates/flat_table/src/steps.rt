@@ -7,8 +7,8 @@ use std::sync::ledger::{Blank, Book, Ledger, Share};
 
 /// How many steps were taken, as contracts see it. No count is kept when the program runs.
 ///
-/// Only [`Steps::raise`] raises it, by one for each step, and nothing lowers it, so it can't be made to say
-/// less or more than what was done. It is the total of a ledger, and the ledger is any.
+/// Only [`Steps::raise`] raises it, by one for each step, and nothing lowers it, so it can't be
+/// made to say less or more than what was done. It is the total of a ledger, and the ledger is any.
 #[derive(Drop)]
 pub struct Steps<L: Ledger> {
     book: Book<L>,

@@ -26,8 +26,8 @@ pub struct NotSound {
 #[derive(Drop)]
 pub struct Table {
     parts: Parts,
-    /// For each trie the places of its kept groups, which are worked out once. They lie in the table itself,
-    /// so that a table takes no memory besides its parts.
+    /// For each trie the places of its kept groups, which are worked out once. They lie in the
+    /// table itself, so that a table takes no memory besides its parts.
     places: ArrayVec<Places, MAX_TRIES>,
 }
 
@@ -61,7 +61,8 @@ impl Table {
     /// It takes no memory.
     pub fn from_parts(parts: Parts) -> Result<Table, NotSound>
         ensures table { IfOk result (λ table. table ≡ view_of parts) }
-        ensures fault { option_map (λ refused. refused.fault) (result_err result) ≡ sound_fault (view_of parts) }
+        ensures fault { option_map (λ refused. refused.fault) (result_err result)
+            ≡ sound_fault (view_of parts) }
         ensures parts { IfErr result (λ refused. refused.parts ≡ parts) }
     {
         match check_sound(&parts) {
@@ -177,8 +178,8 @@ impl Table {
         self.parts.words[i]
     }
 
-    /// The row: for each category a word with the winner's rank in its high half and its userdata in its low
-    /// half, or 0 for none.
+    /// The row: for each category a word with the winner's rank in its high half and its userdata
+    /// in its low half, or 0 for none.
     pub fn row(&self, r: usize) -> &[u64; ROW_LEN]
         requires { r < length self.now.rows }
         ensures { slice_get self.now.rows r ≡ Some result.now }

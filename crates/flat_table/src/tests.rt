@@ -4,7 +4,8 @@ use crate::{NotSound, Parts, SoundFault, Table};
 use std::alloc::Global;
 use std::test::Fail;
 
-/// The parts of the table of a rule on the lowest bit of the last of five bytes, with its match in the last word.
+/// The parts of the table of a rule on the lowest bit of the last of five bytes, with its match in
+/// the last word.
 fn parts(alloc: Global, last: u64) -> Result<Parts, Fail> {
     Ok(Parts {
         key_len: 5,

@@ -5,13 +5,13 @@
 //!
 //!     kind 0 full         256 words at index: that of byte b is index + b
 //!     kind 1 single       1 word at index, for every byte
-//!     kind 3 quad-range   5 words at index: that of byte b is index + (how many boundaries are below b)
+//!     kind 3 quad-range   5 words at index: that of byte b is index + the boundaries below b
 //!     kind 4 match        no words; index is a row of the table, and the walk ends
 //! ```
 //!
-//! The boundaries are four bytes, the first in bits 32 to 39, and 0 unless the kind is quad-range. After
-//! DPDK's `lib/acl/acl.h`, whose DFA node shares groups of 64 words; our full node has one word for each
-//! byte value.
+//! The boundaries are four bytes, the first in bits 32 to 39, and 0 unless the kind is quad-range.
+//! After DPDK's `lib/acl/acl.h`, whose DFA node shares groups of 64 words; our full node has one
+//! word for each byte value.
 
 ghost use Rattle.std.specs.Prelude.{◌≡◌, ◌+◌, ◌*◌, ◌/◌, ◌%◌, ◌^◌, ◌<◌, ◌≤◌, nat_lt, count_by};
 ghost use Rattle.flat_table.specs.Word.{indexes, full_len, index_of, kind_of, boundaries_of, is_match, is_node, is_unbounded, node_len, offset_of, next_place};

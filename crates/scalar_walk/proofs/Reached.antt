@@ -1,5 +1,7 @@
 -- The rows that the walks of a key reach, trie by trie.
-use Rattle.std.proofs.Common.{◌≡◌, ℕ, zero, suc, ◌≢◌, ◌+◌, ◌%◌, ◌<◌, ◌≤◌, List, [], ◌∷◌, refl, sym, ap, ◌∙◌, arith, subst, length, map, take, fold, get_or, set, All, length-take, get_or-set_same, get_or-set_other}
+use Rattle.std.proofs.Common.{◌≡◌, ℕ, zero, suc, ◌≢◌, ◌+◌, ◌%◌, ◌<◌, ◌≤◌, List, [], ◌∷◌, refl, sym, ap, ◌∙◌, arith}
+use Rattle.std.proofs.Common.{subst, length, map, take, fold, get_or, set, All, length-take, get_or-set_same}
+use Rattle.std.proofs.Common.{get_or-set_other}
 use Rattle.std.specs.List.{range_with_len}
 use Rattle.std.proofs.lemmas.List.{get_or-take, length-map}
 use Rattle.std.proofs.lemmas.List.Sums.{fold-append}
@@ -10,27 +12,29 @@ use borrow.Author.Count.{below_more}
 use Rattle.std.specs.Prelude.{slice_index, Bool, false, not, ◌==◌}
 use Rattle.flat_table.specs.Sound.{row_len}
 use Rattle.flat_table.specs.Table.{TableView}
-use Rattle.flat_table.specs.Walk.{walk_row, walk_steps, tries_of, reached, joined, greatest, table_verdict, key_steps, userdatas}
+use Rattle.flat_table.specs.Walk.{walk_row, walk_steps, tries_of, reached, joined, greatest, table_verdict, key_steps}
+use Rattle.flat_table.specs.Walk.{userdatas}
 use Rattle.flat_table.specs.Batch.{key_verdicts}
 use Rattle.flat_table.proofs.Ranges.{range-push}
 use Rattle.scalar_walk.specs.Rows.{Reaches, joined_rows, winners_of}
 
-pub reaches_none : (table : TableView) (key rows : List ℕ) → length rows ≡ 8 → Reaches table key 0 rows
-reaches_none table key rows e = record { len = e; each = λ k h. absurd (omega arith); there = λ k h. absurd (omega arith) }
-
-pub reaches_more : (table : TableView) (key rows : List ℕ) (n row : ℕ) → Reaches table key n rows → n < 8 → row ≡ walk_row table n key → row < length table.rows →
+pub reaches_more : (table : TableView) (key rows : List ℕ) (n row : ℕ) → Reaches table key n rows → n < 8 →
+    row ≡ walk_row table n key → row < length table.rows →
     Reaches table key (n + 1) (set rows n row)
 reaches_more table key rows n row r few e there = record {
   len = omega (arith, length-set rows n row, r.len);
-  each = below_more _ _ (λ k h. let ne : k ≢ n = omega arith in get_or-set_other rows n k row 0 ne ∙ r.each k h) (get_or-set_same rows n row 0 (omega (arith, r.len)) ∙ e);
-  there = below_more _ _ (λ k h. let ne : k ≢ n = omega arith in rw get_or-set_other (r.there k h)) (let at : n < length rows = omega (arith, r.len) in rw get_or-set_same there);
+  each = below_more _ _ (λ k h. let ne : k ≢ n = omega arith in get_or-set_other rows n k row 0 ne
+      ∙ r.each k h) (get_or-set_same rows n row 0 (omega (arith, r.len)) ∙ e);
+  there = below_more _ _ (λ k h. let ne : k ≢ n = omega arith in rw get_or-set_other (r.there k h))
+      (let at : n < length rows = omega (arith, r.len) in rw get_or-set_same there);
 }
 
 -- the words that the walks through the first tries take
 abbrev pub first_tries_steps : TableView → List ℕ → ℕ → ℕ
 first_tries_steps table key n = fold (λ total trie. total + walk_steps table trie key) 0 (range_with_len 0 n)
 
-pub first_tries_more : (table : TableView) (key : List ℕ) (n : ℕ) → first_tries_steps table key (n + 1) ≡ first_tries_steps table key n + walk_steps table n key
+pub first_tries_more : (table : TableView) (key : List ℕ) (n : ℕ) →
+    first_tries_steps table key (n + 1) ≡ first_tries_steps table key n + walk_steps table n key
 first_tries_more table key n =
     ap (λ (tries : List ℕ). fold (λ total trie. total + walk_steps table trie key) 0 tries) (range-push 0 n)
     ∙ fold-append (λ total trie. total + walk_steps table trie key) 0 (range_with_len 0 n) ((0 + n) ∷ [])
@@ -46,7 +50,8 @@ get_or_any (x ∷ xs) zero d e h = refl
 get_or_any (x ∷ xs) (suc k) d e h = get_or_any xs k d e (omega arith)
 
 -- of all tries
-module _ (table : TableView) (key rows : List ℕ) (r : Reaches table key (length table.roots) rows) (few : length table.roots ≤ 8) where
+module _ (table : TableView) (key rows : List ℕ) (r : Reaches table key (length table.roots) rows)
+    (few : length table.roots ≤ 8) where
   pub rows_there : All (λ row. row < length table.rows) (take (length table.roots) rows)
   rows_there = λ k d h.
       let lt : k < length table.roots = omega (arith, h, length-take {A = ℕ}) in
@@ -56,20 +61,29 @@ module _ (table : TableView) (key rows : List ℕ) (r : Reaches table key (lengt
 
   rows_are : take (length table.roots) rows ≡ map (λ trie. walk_row table trie key) (tries_of table)
   rows_are =
-      fill_by_all (λ trie. walk_row table trie key) (take (length table.roots) rows) (length table.roots) 0 (omega (arith, length-take {A = ℕ}, r.len))
+      fill_by_all (λ trie. walk_row table trie key) (take (length table.roots) rows) (length table.roots) 0
+      (omega (arith, length-take {A = ℕ}, r.len))
       (λ k h. get_or-take (length table.roots) rows k 0 h ∙ r.each k h)
 
-  pub joined_is : (category : ℕ) → joined_rows table.rows (take (length table.roots) rows) category ≡ joined table key category
+  pub joined_is : (category : ℕ) → joined_rows table.rows (take (length table.roots) rows) category
+      ≡ joined table key category
   joined_is category =
       ap (λ (numbers : List ℕ). joined_rows table.rows numbers category) rows_are
       ∙ ap greatest
-      (map-map (λ row. slice_index (get_or table.rows row []) category) (λ trie. walk_row table trie key) (tries_of table)
-      ∙ sym (map-map (λ row. slice_index row category) (λ trie. get_or table.rows (walk_row table trie key) []) (tries_of table)))
+      (map-map (λ row. slice_index (get_or table.rows row []) category) (λ trie. walk_row table trie key)
+      (tries_of table)
+      ∙ sym (map-map (λ row. slice_index row category) (λ trie. get_or table.rows (walk_row table trie key) [])
+      (tries_of table)))
 
-  pub verdicts_are : (count : ℕ) → map (λ category. joined_rows table.rows (take (length table.roots) rows) category % userdatas) (range_with_len 0 count) ≡ key_verdicts table count key
-  verdicts_are count = map_same _ _ (range_with_len 0 count) (λ category. ap (λ (word : ℕ). word % userdatas) (joined_is category))
+  pub verdicts_are : (count : ℕ) →
+      map (λ category. joined_rows table.rows (take (length table.roots) rows) category % userdatas)
+      (range_with_len 0 count) ≡ key_verdicts table count key
+  verdicts_are count = map_same _ _ (range_with_len 0 count)
+      (λ category. ap (λ (word : ℕ). word % userdatas) (joined_is category))
 
   pub won_are : (won : List Bool) → length won ≡ row_len →
-      ((k : ℕ) → k < row_len → get_or won k false ≡ not (joined_rows table.rows (take (length table.roots) rows) k == 0)) → won ≡ winners_of table key
+      ((k : ℕ) → k < row_len → get_or won k false ≡ not (joined_rows table.rows (take (length table.roots) rows) k ==
+      0)) → won ≡ winners_of table key
   unfolding winners_of
-  won_are won len each = fill_by_all (λ category. not (joined table key category == 0)) won row_len false len (λ k h. each k h ∙ ap (λ (word : ℕ). not (word == 0)) (joined_is k))
+  won_are won len each = fill_by_all (λ category. not (joined table key category == 0)) won row_len false len
+      (λ k h. each k h ∙ ap (λ (word : ℕ). not (word == 0)) (joined_is k))

@@ -1,5 +1,6 @@
 -- What rows that were reached say of a category.
-use Rattle.std.specs.Prelude.{◌≡◌, ℕ, ◌<◌, List, [], map, length, slice_index, slice_index_or, Bool, not, ◌==◌}
+use Rattle.std.specs.Prelude.{◌≡◌, ℕ, ◌<◌, List, [], map, length, slice_index, slice_index_or, Bool}
+use Rattle.std.specs.Prelude.{not, ◌==◌}
 use Rattle.std.specs.List.{range_with_len}
 use Rattle.flat_table.specs.Table.{TableView}
 use Rattle.flat_table.specs.Sound.{most_tries, row_len}
@@ -7,9 +8,11 @@ use Rattle.flat_table.specs.Walk.{greatest, joined, walk_row}
 
 -- the greatest word of the category over the rows of these numbers
 abbrev pub joined_rows : List (List ℕ) → List ℕ → ℕ → ℕ
-joined_rows rows reached category = greatest (map (λ row. slice_index (slice_index_or rows row []) category) reached)
+joined_rows rows reached category = greatest (map
+    (λ row. slice_index (slice_index_or rows row []) category) reached)
 
--- the first numbers of the list are the rows that the walks through the first tries reach, and these rows are there
+-- the first numbers of the list are the rows that the walks through the first tries reach, and
+-- these rows are there
 pub record Reaches (table : TableView) (key : List ℕ) (n : ℕ) (rows : List ℕ) : Type 0 where
   pub len : length rows ≡ most_tries
   pub each : (k : ℕ) → k < n → slice_index rows k ≡ walk_row table k key
@@ -17,7 +20,8 @@ pub record Reaches (table : TableView) (key : List ℕ) (n : ℕ) (rows : List �
 
 -- for each category whether some rule wins the key in it
 unfoldable pub winners_of : TableView → List ℕ → List Bool
-winners_of table key = map (λ category. not (joined table key category == 0)) (range_with_len 0 row_len)
+winners_of table key = map (λ category. not (joined table key category == 0))
+    (range_with_len 0 row_len)
 
 -- the walk of the key through the trie ends at the row, which is there
 pub record EndsAt (table : TableView) (trie : ℕ) (key : List ℕ) (row : ℕ) : Type 0 where

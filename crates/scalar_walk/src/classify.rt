@@ -31,7 +31,8 @@ fn greatest_word(rows: &[[u64; ROW_LEN]], reached: &[u32], category: usize) -> u
     greatest
 }
 
-/// Writes for so many categories from 0 on the userdata of the greatest word over the rows of these numbers.
+/// Writes for so many categories from 0 on the userdata of the greatest word over the rows of these
+/// numbers.
 fn write_verdicts(rows: &[[u64; ROW_LEN]], reached: &[u32], count: usize, verdicts: &mut [u32])
     requires rows { All (λ row. row < length rows.now) reached.now }
     requires few { count ≤ row_len }
@@ -94,7 +95,8 @@ fn classify_one<L: Ledger>(
     reached.taken
 }
 
-/// The rows that the walks of four keys reach, one for each trie, and how many words they took together.
+/// The rows that the walks of four keys reach, one for each trie, and how many words they took
+/// together.
 #[derive(Clone, Copy)]
 struct FourReached {
     first: [u32; MAX_TRIES],
@@ -189,9 +191,10 @@ fn classify_four<L: Ledger>(
 
 /// Writes the verdicts of the keys of a batch, and says how many words their walks took.
 ///
-/// `keys` has the bytes of at most 65,536 keys of the table, one after the other, and `out` has room for the verdicts of
-/// each: the categories from 0 on of the first key, then those of the second. A verdict is the userdata of the winner,
-/// or 0 where no rule wins. It refuses nothing and takes no memory.
+/// `keys` has the bytes of at most 65,536 keys of the table, one after the other, and `out` has
+/// room for the verdicts of each: the categories from 0 on of the first key, then those of the
+/// second. A verdict is the userdata of the winner, or 0 where no rule wins. It refuses nothing and
+/// takes no memory.
 pub fn classify_scalar<L: Ledger>(
     table: &Table,
     keys: &[u8],
@@ -223,8 +226,8 @@ pub fn classify_scalar<L: Ledger>(
 
 /// Marks the categories in which some rule wins the key.
 ///
-/// `key` has the bytes of a key of the table. Entry c of `won` says whether a rule wins in category c, also where its
-/// userdata is 0. It refuses nothing, takes no memory and counts no steps.
+/// `key` has the bytes of a key of the table. Entry c of `won` says whether a rule wins in category
+/// c, also where its userdata is 0. It refuses nothing, takes no memory and counts no steps.
 pub fn winners(table: &Table, key: &[u8], won: &mut [bool; ROW_LEN])
     requires { length key.now ≡ table.now.key_len }
     ensures { won.new ≡ winners_of table.now key.now }

@@ -1,17 +1,19 @@
 //! A table and keys in, the row that each walk reaches and the verdicts of each key out.
 //!
-//! A key is walked through each trie of the table, and each walk reaches a row. Of these rows the greatest word of a
-//! category decides: its low half is the verdict, the userdata of the rule that wins.
+//! A key is walked through each trie of the table, and each walk reaches a row. Of these rows the
+//! greatest word of a category decides: its low half is the verdict, the userdata of the rule that
+//! wins.
 //!
 //! ```text
-//!     key ── walk ──► a row for each trie ── greatest word of a category ──► verdict, or whether a rule wins
+//!     key ── walk ──► a row for each trie ── greatest word of a category ──► verdict, winner
 //! ```
 //!
 //! - `walk`: one key through one trie.
 //! - `in_step`: four keys through one trie, in step.
 //! - `classify`: the rows, the verdicts of a batch and the winners.
 //!
-//! The definitions of a walk, of a verdict and of a batch stand in `flat_table`. After DPDK's `lib/acl/acl_run_scalar.c`.
+//! The definitions of a walk, of a verdict and of a batch stand in `flat_table`. After DPDK's
+//! `lib/acl/acl_run_scalar.c`.
 #![tactic(auto)]
 
 mod classify;

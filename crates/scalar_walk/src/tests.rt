@@ -35,7 +35,8 @@ fn table(
     Ok(Table::from_parts(parts)?)
 }
 
-/// The verdicts of the keys in category 0 and how many words their walks took, or nothing where the keys don't fit.
+/// The verdicts of the keys in category 0 and how many words their walks took, or nothing where the
+/// keys don't fit.
 fn classified<L: Ledger>(blank: Blank, table: &Table, keys: &[u8], out: &mut [u32]) -> u64
     requires name { blank.name ≡ L.name }
     requires parts { blank.parts ≡ L.parts }
@@ -52,7 +53,8 @@ fn classified<L: Ledger>(blank: Blank, table: &Table, keys: &[u8], out: &mut [u3
     classify_scalar(table, keys, cats, out, &mut steps)
 }
 
-/// Checks the verdicts of five keys of protocol, source address, destination port, and how many words they take.
+/// Checks the verdicts of five keys of protocol, source address, destination port, and how many
+/// words they take.
 fn expect(rt: &impl Abort, table: &Table, expected: &[u32; 5], taken: u64) {
     let keys = [
         6, 10, 0, 0, 1, 5, 6, 7, 8, 0, 9, 0, 10, 6, 11, 0, 0, 1, 5, 6, 7, 8, 0, 9, 0, 10, 17, 10,
@@ -68,7 +70,7 @@ fn expect(rt: &impl Abort, table: &Table, expected: &[u32; 5], taken: u64) {
 }
 
 #[test]
-fn each_kind_of_node_is_walked(rt: HostRuntime) -> Result<(), Fail> {
+fn runs_of_bytes_are_walked(rt: HostRuntime) -> Result<(), Fail> {
     let alloc = rt.alloc();
     // Every key, by a node of one word.
     let wild = table(alloc, 1, 0x2000_0000, &[1], &[RULE])?;
@@ -99,6 +101,12 @@ fn each_kind_of_node_is_walked(rt: HostRuntime) -> Result<(), Fail> {
     ];
     let port = table(alloc, 8, 0x2000_0000, &[1, 1, 5, 1], &port)?;
     expect(&rt, &port, &[0, 0, 0, 1, 1], 17);
+    Ok(())
+}
+
+#[test]
+fn a_word_for_each_byte_is_walked(rt: HostRuntime) -> Result<(), Fail> {
+    let alloc = rt.alloc();
     // Of an odd protocol, by a word for each byte.
     let mut bits = Vec::new(alloc);
     for _ in 0..128 {

@@ -8,4 +8,8 @@ use Rattle.flat_table.proofs.groups.kept_places.Goals.{then-is_kept, else-is_kep
 pub loop-place-preserved : goal.loop-place-preserved
 loop-place-preserved c =
     let more = filter-range-push (is_kept c.args.kept) c.loop-place.place in
-    elim c.if-is_kept.branch [ then-is_kept w ↦ grind (arith, common_steps, more) | else-is_kept w ↦ grind (arith, common_steps, more) ]
+    elim c.if-is_kept.branch [
+      | then-is_kept w ↦ grind (arith, common_steps, more)
+      | else-is_kept w ↦ grind
+          (arith, common_steps, more)
+    ]

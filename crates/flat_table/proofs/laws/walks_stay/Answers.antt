@@ -5,6 +5,7 @@ pub returns : goal.returns
 returns c = record {
   root = root_leads;
   node = node_is_no_match;
-  next = λ table trie depth word byte sound lt small leads. next_leads_on table trie sound lt depth word byte small leads;
+  next = λ table trie depth word byte sound lt small leads. next_leads_on table trie sound lt depth word byte small
+      leads;
   last = λ table trie depth word le lt sound. none_behind table trie sound lt depth word le;
 }

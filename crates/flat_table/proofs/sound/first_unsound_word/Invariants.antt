@@ -9,4 +9,5 @@ abbrev pub invariant-loop-kept : goal.invariant-loop-kept
 invariant-loop-kept l =
     let table = view_of l.parts in
     AtTrie table l.kept-index l.first l.from
-    × (first_some (map (unsound_word (length table.rows) table.words) (drop l.kept-index (trie_levels table))) ≡ first_unsound_word table)
+    × (first_some (map (unsound_word (length table.rows) table.words) (drop l.kept-index (trie_levels table)))
+    ≡ first_unsound_word table)

@@ -6,4 +6,5 @@ use Rattle.flat_table.proofs.sound.unsound_in_level.Given as goal
 
 abbrev pub invariant-loop-i : goal.invariant-loop-i
 invariant-loop-i l =
-    position_from (λ word. not (is_sound_word l.rows l.next word)) (l.from + l.i) (drop l.i l.words) ≡ position_from (λ word. not (is_sound_word l.rows l.next word)) l.from l.words
+    position_from (λ word. not (is_sound_word l.rows l.next word)) (l.from + l.i) (drop l.i l.words)
+    ≡ position_from (λ word. not (is_sound_word l.rows l.next word)) l.from l.words

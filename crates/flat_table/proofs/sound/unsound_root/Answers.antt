@@ -12,12 +12,19 @@ returns-then-not-holds_node_of-clause-place c =
     let table = view_of c.args.parts.now in
     let l = c.loop-trie in
     let s = shaped table c.requires in
-    let lt : l.trie < length table.roots = omega (arith, c.loop-trie-test.true, ap (λ (xs : List ℕ). length xs) c.deref-root-items.ensures.value) in
+    let lt : l.trie < length table.roots = omega (
+      arith,
+      c.loop-trie-test.true,
+      ap (λ (xs : List ℕ). length xs) c.deref-root-items.ensures.value,
+    ) in
     let lt_kept : l.trie < length table.kept = omega (arith, s.same) in
     let end = l.first + c.depth_of.result in
-    let ends = ap (λ (d : ℕ). l.first + d) c.depth_of.ensures.value ∙ ap (λ (kept : ℕ). l.first + depth_of table.key_len kept) (get_or_read table.kept _ _ lt_kept c.index.ensures 0) in
+    let ends = ap (λ (d : ℕ). l.first + d) c.depth_of.ensures.value
+    ∙ ap (λ (kept : ℕ). l.first + depth_of table.key_len kept)
+    (get_or_read table.kept _ _ lt_kept c.index.ensures 0) in
     let t = turn table l.trie l.first l.from end lt_kept ends l.invariant.0 in
-    let e = rw (c.first.ensures.level, c.deref.ensures.value, c.deref-root-items.ensures.value) at c.holds_node_of.ensures in
+    let e = rw (c.first.ensures.level, c.deref.ensures.value, c.deref-root-items.ensures.value) at
+    c.holds_node_of.ensures in
     root_here table l.trie l.first l.from end lt c.holds_node_of.result e l.invariant.1 t c.if-not-holds_node_of.true
 
 pub loop-trie-preserved : goal.loop-trie-preserved
@@ -25,11 +32,22 @@ loop-trie-preserved c =
     let table = view_of c.args.parts.now in
     let l = c.loop-trie in
     let s = shaped table c.requires in
-    let lt : l.trie < length table.roots = omega (arith, c.loop-trie-test.true, ap (λ (xs : List ℕ). length xs) c.deref-root-items.ensures.value) in
+    let lt : l.trie < length table.roots = omega (
+      arith,
+      c.loop-trie-test.true,
+      ap (λ (xs : List ℕ). length xs) c.deref-root-items.ensures.value,
+    ) in
     let lt_kept : l.trie < length table.kept = omega (arith, s.same) in
     let end = l.first + c.depth_of.result in
-    let ends = ap (λ (d : ℕ). l.first + d) c.depth_of.ensures.value ∙ ap (λ (kept : ℕ). l.first + depth_of table.key_len kept) (get_or_read table.kept _ _ lt_kept c.index.ensures 0) in
+    let ends = ap (λ (d : ℕ). l.first + d) c.depth_of.ensures.value
+    ∙ ap (λ (kept : ℕ). l.first + depth_of table.key_len kept)
+    (get_or_read table.kept _ _ lt_kept c.index.ensures 0) in
     let t = turn table l.trie l.first l.from end lt_kept ends l.invariant.0 in
-    let e = rw (c.first.ensures.level, c.deref.ensures.value, c.deref-root-items.ensures.value) at c.holds_node_of.ensures in
-    let words : c.sum_of-from.result ≡ sum (take (end - l.first) (drop l.first table.level_lens)) = rw c.deref.ensures.value at c.sum_of-from.ensures.value in
-    (subst (λ (n : ℕ). AtTrie table (l.trie + 1) end (l.from + n)) (sym words) t.next, no_root_here table l.trie l.first l.from end lt c.holds_node_of.result e l.invariant.1 t c.if-not-holds_node_of.false)
+    let e = rw (c.first.ensures.level, c.deref.ensures.value, c.deref-root-items.ensures.value) at
+    c.holds_node_of.ensures in
+    let words : c.sum_of-from.result ≡ sum (take (end - l.first) (drop l.first table.level_lens)) =
+    rw c.deref.ensures.value at c.sum_of-from.ensures.value in (
+      subst (λ (n : ℕ). AtTrie table (l.trie + 1) end (l.from + n)) (sym words) t.next,
+      no_root_here table l.trie l.first l.from end lt c.holds_node_of.result e l.invariant.1 t
+          c.if-not-holds_node_of.false,
+    )

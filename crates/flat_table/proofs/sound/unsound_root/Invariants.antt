@@ -10,4 +10,5 @@ abbrev pub invariant-loop-trie : goal.invariant-loop-trie
 invariant-loop-trie l =
     let table = view_of l.parts in
     AtTrie table l.trie l.first l.from
-    × (position_from (λ trie. not (leads_into (first_level trie.1) trie.0)) l.trie (zip (drop l.trie table.roots) (drop l.trie (trie_levels table))) ≡ first_unsound_root table)
+    × (position_from (λ trie. not (leads_into (first_level trie.1) trie.0)) l.trie
+    (zip (drop l.trie table.roots) (drop l.trie (trie_levels table))) ≡ first_unsound_root table)

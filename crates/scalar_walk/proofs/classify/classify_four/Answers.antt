@@ -11,16 +11,30 @@ returns-clause-verdicts g c =
     let count = c.args.count in
     let r = c.reach_four-reached in
     let few : length table.roots ≤ 8 = omega (arith, c.tries-tries.ensures.bound, c.tries-tries.ensures.value) in
-    let y0 : c.write_verdicts.new.verdicts ≡ key_verdicts table count (key_at table keys 0) = rw (c.rows-rows.ensures, c.tries-tries.ensures.value) at c.write_verdicts.ensures ∙ verdicts_are table (key_at table keys 0) r.result.first r.ensures.first few count in
+    let y0 : c.write_verdicts.new.verdicts ≡ key_verdicts table count (key_at table keys 0) =
+    rw (c.rows-rows.ensures, c.tries-tries.ensures.value) at c.write_verdicts.ensures
+    ∙ verdicts_are table (key_at table keys 0) r.result.first r.ensures.first few count in
     let l0 = ap length y0 ∙ verdicts_len table count keys 0 in
-    let y1 : c.write_verdicts-2.new.verdicts ≡ key_verdicts table count (key_at table keys 1) = rw (c.rows-rows.ensures, c.tries-tries.ensures.value) at c.write_verdicts-2.ensures ∙ verdicts_are table (key_at table keys 1) r.result.second r.ensures.second few count in
+    let y1 : c.write_verdicts-2.new.verdicts ≡ key_verdicts table count (key_at table keys 1) =
+    rw (c.rows-rows.ensures, c.tries-tries.ensures.value) at c.write_verdicts-2.ensures
+    ∙ verdicts_are table (key_at table keys 1) r.result.second r.ensures.second few count in
     let l1 = ap length y1 ∙ verdicts_len table count keys 1 in
-    let y2 : c.write_verdicts-3.new.verdicts ≡ key_verdicts table count (key_at table keys 2) = rw (c.rows-rows.ensures, c.tries-tries.ensures.value) at c.write_verdicts-3.ensures ∙ verdicts_are table (key_at table keys 2) r.result.third r.ensures.third few count in
+    let y2 : c.write_verdicts-3.new.verdicts ≡ key_verdicts table count (key_at table keys 2) =
+    rw (c.rows-rows.ensures, c.tries-tries.ensures.value) at c.write_verdicts-3.ensures
+    ∙ verdicts_are table (key_at table keys 2) r.result.third r.ensures.third few count in
     let l2 = ap length y2 ∙ verdicts_len table count keys 2 in
-    let y3 : c.write_verdicts-4.new.verdicts ≡ key_verdicts table count (key_at table keys 3) = rw (c.rows-rows.ensures, c.tries-tries.ensures.value) at c.write_verdicts-4.ensures ∙ verdicts_are table (key_at table keys 3) r.result.fourth r.ensures.fourth few count in
+    let y3 : c.write_verdicts-4.new.verdicts ≡ key_verdicts table count (key_at table keys 3) =
+    rw (c.rows-rows.ensures, c.tries-tries.ensures.value) at c.write_verdicts-4.ensures
+    ∙ verdicts_are table (key_at table keys 3) r.result.fourth r.ensures.fourth few count in
     let l3 = ap length y3 ∙ verdicts_len table count keys 3 in
-    four_written c.args.verdicts.now c.write_verdicts.new.verdicts c.write_verdicts-2.new.verdicts c.write_verdicts-3.new.verdicts c.write_verdicts-4.new.verdicts count c.requires.room l0 l1 l2 l3
-    ∙ ap (λ (ys : List ℕ). ys ++ (c.write_verdicts-2.new.verdicts ++ (c.write_verdicts-3.new.verdicts ++ (c.write_verdicts-4.new.verdicts ++ [])))) y0
-    ∙ ap (λ (ys : List ℕ). key_verdicts table count (key_at table keys 0) ++ (ys ++ (c.write_verdicts-3.new.verdicts ++ (c.write_verdicts-4.new.verdicts ++ [])))) y1
-    ∙ ap (λ (ys : List ℕ). key_verdicts table count (key_at table keys 0) ++ (key_verdicts table count (key_at table keys 1) ++ (ys ++ (c.write_verdicts-4.new.verdicts ++ [])))) y2
-    ∙ ap (λ (ys : List ℕ). key_verdicts table count (key_at table keys 0) ++ (key_verdicts table count (key_at table keys 1) ++ (key_verdicts table count (key_at table keys 2) ++ (ys ++ [])))) y3
+    four_written c.args.verdicts.now c.write_verdicts.new.verdicts c.write_verdicts-2.new.verdicts
+    c.write_verdicts-3.new.verdicts c.write_verdicts-4.new.verdicts count c.requires.room l0 l1 l2 l3
+    ∙ ap (λ (ys : List ℕ). ys ++ (c.write_verdicts-2.new.verdicts ++
+    (c.write_verdicts-3.new.verdicts ++ (c.write_verdicts-4.new.verdicts ++ [])))) y0
+    ∙ ap (λ (ys : List ℕ). key_verdicts table count (key_at table keys 0) ++
+    (ys ++ (c.write_verdicts-3.new.verdicts ++ (c.write_verdicts-4.new.verdicts ++ [])))) y1
+    ∙ ap (λ (ys : List ℕ). key_verdicts table count (key_at table keys 0) ++
+    (key_verdicts table count (key_at table keys 1) ++ (ys ++ (c.write_verdicts-4.new.verdicts ++ [])))) y2
+    ∙ ap (λ (ys : List ℕ). key_verdicts table count (key_at table keys 0) ++
+    (key_verdicts table count (key_at table keys 1) ++
+    (key_verdicts table count (key_at table keys 2) ++ (ys ++ [])))) y3

@@ -7,5 +7,7 @@ pub returns : goal.returns
 returns g c =
     let table = c.args.table.now in
     let rows = c.reach-reached.result.rows in
-    won_are table c.args.key.now rows c.reach-reached.ensures.rows (omega (arith, c.tries.ensures.bound, c.tries.ensures.value)) c.loop-category.won c.loop-category.invariant.0
-    (λ k h. c.loop-category.invariant.1 k (omega arith) ∙ ap (λ (n : ℕ). not (joined_rows table.rows (take n rows) k == 0)) c.tries.ensures.value)
+    won_are table c.args.key.now rows c.reach-reached.ensures.rows
+    (omega (arith, c.tries.ensures.bound, c.tries.ensures.value)) c.loop-category.won c.loop-category.invariant.0
+    (λ k h. c.loop-category.invariant.1 k (omega arith)
+    ∙ ap (λ (n : ℕ). not (joined_rows table.rows (take n rows) k == 0)) c.tries.ensures.value)

@@ -12,6 +12,8 @@ invariant-loop-trie g l =
     × Reaches l.table (key_at l.table l.keys 1) l.trie l.second
     × Reaches l.table (key_at l.table l.keys 2) l.trie l.third
     × Reaches l.table (key_at l.table l.keys 3) l.trie l.fourth
-    × (l.taken ≡ first_tries_steps l.table (key_at l.table l.keys 0) l.trie + first_tries_steps l.table (key_at l.table l.keys 1) l.trie + first_tries_steps l.table (key_at l.table l.keys 2) l.trie + first_tries_steps l.table (key_at l.table l.keys 3) l.trie)
+    × (l.taken ≡ first_tries_steps l.table (key_at l.table l.keys 0) l.trie + first_tries_steps l.table
+    (key_at l.table l.keys 1) l.trie + first_tries_steps l.table (key_at l.table l.keys 2) l.trie +
+    first_tries_steps l.table (key_at l.table l.keys 3) l.trie)
     × (l.taken ≤ l.trie * (4 * longest_key))
     × (l.steps ≡ l.initial.steps + l.taken)

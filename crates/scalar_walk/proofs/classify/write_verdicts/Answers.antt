@@ -6,5 +6,6 @@ use Rattle.scalar_walk.proofs.classify.write_verdicts.Goals as goal
 
 pub returns : goal.returns
 returns c =
-    fill_by_all (λ k. joined_rows c.args.rows.now c.args.reached.now k % userdatas) c.loop-category.verdicts c.args.count 0 (omega arith)
+    fill_by_all (λ k. joined_rows c.args.rows.now c.args.reached.now k % userdatas) c.loop-category.verdicts
+    c.args.count 0 (omega arith)
     (λ k h. c.loop-category.invariant k (omega (arith, c.loop-category-test.false)))

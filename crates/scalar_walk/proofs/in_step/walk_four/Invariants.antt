@@ -11,6 +11,8 @@ invariant-loop-place g l =
     × Stands l.table l.trie (key_at l.table l.keys 1) l.place-index l.second
     × Stands l.table l.trie (key_at l.table l.keys 2) l.place-index l.third
     × Stands l.table l.trie (key_at l.table l.keys 3) l.place-index l.fourth
-    × (l.taken ≡ steps_after l.table l.trie (key_at l.table l.keys 0) l.place-index + steps_after l.table l.trie (key_at l.table l.keys 1) l.place-index + steps_after l.table l.trie (key_at l.table l.keys 2) l.place-index + steps_after l.table l.trie (key_at l.table l.keys 3) l.place-index)
+    × (l.taken ≡ steps_after l.table l.trie (key_at l.table l.keys 0) l.place-index + steps_after l.table l.trie
+    (key_at l.table l.keys 1) l.place-index + steps_after l.table l.trie (key_at l.table l.keys 2) l.place-index +
+    steps_after l.table l.trie (key_at l.table l.keys 3) l.place-index)
     × (l.taken ≤ 4 * l.place-index)
     × (l.steps ≡ l.initial.steps + l.taken)

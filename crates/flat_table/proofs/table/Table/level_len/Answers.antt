@@ -25,7 +25,8 @@ overflow_add-result c =
     let s = shape_of _ c.args.self.now c.self.view_is c.self.invariant.sound in
     let lens = c.as_slice-lens.ensures.value ∙ ap (λ (t : TableView). t.level_lens) c.self.view_is in
     let at : c.loop-earlier.earlier ≡ c.args.trie = omega arith in
-    let first : c.loop-earlier.first ≡ sum (take c.args.trie (depths_of c.args.self.now)) = c.loop-earlier.invariant.0 ∙ ap (λ (n : ℕ). sum (take n (depths_of c.args.self.now))) at in
+    let first : c.loop-earlier.first ≡ sum (take c.args.trie (depths_of c.args.self.now)) = c.loop-earlier.invariant.0
+    ∙ ap (λ (n : ℕ). sum (take n (depths_of c.args.self.now))) at in
     let bound = level_bound c.args.self.now s c.args.trie c.args.depth c.requires.trie c.requires.depth in
     omega (arith, bound, ap (λ (xs : List ℕ). length xs) lens)
 
@@ -34,7 +35,8 @@ offset_bounds-lens-first c =
     let s = shape_of _ c.args.self.now c.self.view_is c.self.invariant.sound in
     let lens = c.as_slice-lens.ensures.value ∙ ap (λ (t : TableView). t.level_lens) c.self.view_is in
     let at : c.loop-earlier.earlier ≡ c.args.trie = omega arith in
-    let first : c.loop-earlier.first ≡ sum (take c.args.trie (depths_of c.args.self.now)) = c.loop-earlier.invariant.0 ∙ ap (λ (n : ℕ). sum (take n (depths_of c.args.self.now))) at in
+    let first : c.loop-earlier.first ≡ sum (take c.args.trie (depths_of c.args.self.now)) = c.loop-earlier.invariant.0
+    ∙ ap (λ (n : ℕ). sum (take n (depths_of c.args.self.now))) at in
     let bound = level_bound c.args.self.now s c.args.trie c.args.depth c.requires.trie c.requires.depth in
     omega (arith, bound, ap (λ (xs : List ℕ). length xs) lens)
 
@@ -43,7 +45,8 @@ bounds-lens-first c =
     let s = shape_of _ c.args.self.now c.self.view_is c.self.invariant.sound in
     let lens = c.as_slice-lens.ensures.value ∙ ap (λ (t : TableView). t.level_lens) c.self.view_is in
     let at : c.loop-earlier.earlier ≡ c.args.trie = omega arith in
-    let first : c.loop-earlier.first ≡ sum (take c.args.trie (depths_of c.args.self.now)) = c.loop-earlier.invariant.0 ∙ ap (λ (n : ℕ). sum (take n (depths_of c.args.self.now))) at in
+    let first : c.loop-earlier.first ≡ sum (take c.args.trie (depths_of c.args.self.now)) = c.loop-earlier.invariant.0
+    ∙ ap (λ (n : ℕ). sum (take n (depths_of c.args.self.now))) at in
     let bound = level_bound c.args.self.now s c.args.trie c.args.depth c.requires.trie c.requires.depth in
     omega (arith, bound, ap (λ (xs : List ℕ). length xs) lens)
 
@@ -52,7 +55,8 @@ returns c =
     let s = shape_of _ c.args.self.now c.self.view_is c.self.invariant.sound in
     let lens = c.as_slice-lens.ensures.value ∙ ap (λ (t : TableView). t.level_lens) c.self.view_is in
     let at : c.loop-earlier.earlier ≡ c.args.trie = omega arith in
-    let first : c.loop-earlier.first ≡ sum (take c.args.trie (depths_of c.args.self.now)) = c.loop-earlier.invariant.0 ∙ ap (λ (n : ℕ). sum (take n (depths_of c.args.self.now))) at in
+    let first : c.loop-earlier.first ≡ sum (take c.args.trie (depths_of c.args.self.now)) = c.loop-earlier.invariant.0
+    ∙ ap (λ (n : ℕ). sum (take n (depths_of c.args.self.now))) at in
     ap (λ (xs : List ℕ). get_or xs (c.loop-earlier.first + c.args.depth) 0) lens
     ∙ ap (λ (n : ℕ). get_or c.args.self.now.level_lens (n + c.args.depth) 0) first
     ∙ sym (level_len_is c.args.self.now s c.args.trie c.args.depth c.requires.trie c.requires.depth)
