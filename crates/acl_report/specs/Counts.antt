@@ -18,24 +18,28 @@ counted Ip6 counts = record counts { packets = counts.packets + 1; ip6 = counts.
 counted Other counts = record counts { packets = counts.packets + 1; other = counts.other + 1 }
 counted Short counts = record counts { packets = counts.packets + 1; short = counts.short + 1 }
 
+-- a frame that holds an IPv4 packet
 abbrev pub is_ip4 : Class → Bool
 is_ip4 Ip4 = true
 is_ip4 Ip6 = false
 is_ip4 Other = false
 is_ip4 Short = false
 
+-- a frame that holds an IPv6 packet
 abbrev pub is_ip6 : Class → Bool
 is_ip6 Ip4 = false
 is_ip6 Ip6 = true
 is_ip6 Other = false
 is_ip6 Short = false
 
+-- a frame of another type, or one whose IP header is faulty
 abbrev pub is_other : Class → Bool
 is_other Ip4 = false
 is_other Ip6 = false
 is_other Other = true
 is_other Short = false
 
+-- a frame with too few bytes to tell
 abbrev pub is_short : Class → Bool
 is_short Ip4 = false
 is_short Ip6 = false

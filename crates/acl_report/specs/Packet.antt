@@ -6,6 +6,7 @@ use Rattle.header_extract.specs.declared.class.Class.{Class}
 use Rattle.header_extract.specs.declared.class.Class.TheVariants.{Ip4, Ip6, Other, Short}
 use Rattle.acl_report.specs.Line.{line_of}
 
+-- how a packet's line names the class of its frame
 abbrev pub class_word : Class → List ℕ
 class_word Ip4 = codes "ip4"
 class_word Ip6 = codes "ip6"

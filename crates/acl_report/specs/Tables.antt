@@ -4,6 +4,7 @@ use Rattle.field_defs.specs.declared.field.Family.{Family}
 use Rattle.field_defs.specs.declared.field.Family.TheVariants.{Ip4, Ip6}
 use Rattle.acl_report.specs.Line.{line_of}
 
+-- how the line of a table names the family of its addresses
 abbrev pub family_word : Family → List ℕ
 family_word Ip4 = codes "ip4"
 family_word Ip6 = codes "ip6"

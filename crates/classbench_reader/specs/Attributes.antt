@@ -44,6 +44,7 @@ abbrev pub with_cut : Attributes → Option (List ℕ × List ℕ) → Result At
 with_cut found None = Err TailLeft
 with_cut found (Some cut) = ok_or (with_named found cut.0 cut.1) BadAttribute
 
+-- the attributes with the one that a word spells, which has to have a `=`
 abbrev pub with_word : Attributes → List ℕ → Result Attributes LineKind
 with_word found word = with_cut found (cut_at equals_sign word)
 
@@ -53,17 +54,20 @@ with_words found [] = found
 with_words found (word ∷ words) =
     with_words (found >>= λ attributes. with_word attributes word) words
 
+-- the attributes that the words of a line spell, of each name at most one
 abbrev pub attributes_of : List (List ℕ) → Result Attributes LineKind
 attributes_of words = with_words (Ok no_attributes) words
 
--- The tag of the rule of an ordinal, from 1. What isn't said is a priority that falls with each
--- rule, all categories, and the ordinal as userdata.
+-- The tag of these parts. It has to name one of the sixteen categories, and its priority has to be
+-- one that a rule may have.
 abbrev pub tag_with : ℕ → ℕ → ℕ → Result RuleTag LineKind
 tag_with priority categories userdata =
     if categories % 65536 == 0 then Err NoCategory
     else (if nat_lt max_priority priority then Err PriorityRange
     else Ok (record { category_mask = categories; priority = pos priority; userdata = userdata }))
 
+-- The tag of the rule of an ordinal, from 1. What isn't said is a priority that falls with each
+-- rule, all categories, and the ordinal as userdata.
 abbrev pub tag_of : ℕ → Attributes → Result RuleTag LineKind
 tag_of ordinal attributes = tag_with
     (unwrap_or attributes.priority (max_priority - ordinal))

@@ -13,10 +13,11 @@ use Rattle.classbench_reader.specs.Columns.{protocol_of, after_flags}
 use Rattle.classbench_reader.specs.Attributes.{attributes_of, tag_of}
 use Rattle.classbench_reader.specs.Line.{same_family, rule_line_of}
 
--- blanks alone, and at least one of them
+-- blanks alone, or nothing
 abbrev pub IsBlanks : List ℕ → Type 0
 IsBlanks text = list_all is_blank text ≡ true
 
+-- what separates two columns: blanks alone, and at least one of them
 pub record IsGap (text : List ℕ) : Type 0 where
   pub blanks : IsBlanks text
   pub some : 0 < length text
@@ -28,6 +29,7 @@ pub record PortTexts : Type 0 where
   pub after_colon : List ℕ
   pub high : List ℕ
 
+-- the column of two ports: their texts on both sides of the `:`
 abbrev pub port_text : PortTexts → List ℕ
 port_text ports = ports.low ++ (ports.before_colon ++ colon ∷ (ports.after_colon ++ ports.high))
 

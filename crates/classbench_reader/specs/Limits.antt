@@ -5,10 +5,11 @@ use Rattle.std.specs.Prelude.{ℕ}
 abbrev pub max_rule_file : ℕ
 max_rule_file = 16777216
 
--- the greatest port, and the greatest number of a flags word
+-- the greatest port
 abbrev pub max_port : ℕ
 max_port = 65535
 
+-- the greatest number of a flags word
 abbrev pub max_flags : ℕ
 max_flags = 65535
 
@@ -16,13 +17,15 @@ max_flags = 65535
 abbrev pub max_protocol : ℕ
 max_protocol = 255
 
--- the greatest numbers of the attributes
+-- the greatest number of `pri`: what a signed number of 32 bits may be
 abbrev pub max_written_priority : ℕ
 max_written_priority = 2147483647
 
+-- the greatest number of `cat`, a mask of 32 bits
 abbrev pub max_categories : ℕ
 max_categories = 4294967295
 
+-- the greatest number of `data`, a userdata of 32 bits
 abbrev pub max_userdata : ℕ
 max_userdata = 4294967295
 
@@ -30,12 +33,14 @@ max_userdata = 4294967295
 abbrev pub all_categories : ℕ
 all_categories = 0xFFFF
 
--- `@` begins a rule, `#` a comment, and `=` stands after the name of an attribute
+-- `@`, which begins a rule
 abbrev pub at_sign : ℕ
 at_sign = 64
 
+-- `#`, which begins a comment
 abbrev pub number_sign : ℕ
 number_sign = 35
 
+-- `=`, which stands after the name of an attribute
 abbrev pub equals_sign : ℕ
 equals_sign = 61

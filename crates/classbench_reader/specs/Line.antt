@@ -22,11 +22,12 @@ use Rattle.classbench_reader.specs.Network.{family_of, network_of}
 use Rattle.classbench_reader.specs.Columns.{ports_of, protocol_of, after_flags}
 use Rattle.classbench_reader.specs.Attributes.{attributes_of, tag_of}
 
--- a line of blanks alone, and one whose first byte that is no blank is `#`
+-- nothing, or a text that begins with `#`
 abbrev pub is_comment : List ℕ → Bool
 is_comment [] = true
 is_comment (c ∷ cs) = c == number_sign
 
+-- a line that is no rule: of blanks alone, or with `#` as its first byte that is no blank
 abbrev pub is_skipped : List ℕ → Bool
 is_skipped line = is_comment (after_blanks line)
 
@@ -88,6 +89,7 @@ address_values (Ip4 address) bits = Mask address bits ∷ []
 address_values (Ip6 address) bits =
     Mask (address / 2 ^ 64) (min bits 64) ∷ Mask (address % 2 ^ 64) (max bits 64 - 64) ∷ []
 
+-- the values of a network's fields: one for IPv4, and two for IPv6
 abbrev pub network_values : Network → List FieldValue
 network_values network = address_values network.address network.bits
 
@@ -97,9 +99,10 @@ values_of line =
     line.protocol ∷ network_values line.source ++ network_values line.destination
     ++ line.source_ports ∷ line.destination_ports ∷ []
 
--- the rule of a line, and its family
+-- the rule of a line: its tag, and a value for each field of the layout
 abbrev pub rule_of : RuleLine → RuleView
 rule_of line = record { tag = line.tag; fields = values_of line }
 
+-- the family of a line, by its source: the destination is of the same
 abbrev pub family_of_line : RuleLine → Family
 family_of_line line = family_of line.source

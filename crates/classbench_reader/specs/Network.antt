@@ -17,11 +17,12 @@ use Rattle.classbench_reader.specs.declared.fault.LineKind.{LineKind}
 use Rattle.classbench_reader.specs.declared.fault.LineKind.TheVariants.{BadAddress, BadPrefix}
 use Rattle.classbench_reader.specs.Reading.{◌>>=◌}
 
--- the family of a network
+-- the family of an address
 abbrev pub family_of_address : Address → Family
 family_of_address (Ip4 address) = family.Ip4
 family_of_address (Ip6 address) = family.Ip6
 
+-- the family of a network, which is that of its address
 abbrev pub family_of : Network → Family
 family_of network = family_of_address network.address
 
@@ -49,19 +50,21 @@ network_without_prefix word = do
   address ← ok_or (address_of word) BadAddress
   Err BadPrefix
 
--- the network that a word spells, cut at its first `/`
+-- the network that a word spells, by what stands around its first `/`, if it has one
 abbrev pub network_of_cut : List ℕ → Option (List ℕ × List ℕ) → Result Network LineKind
 network_of_cut word None = network_without_prefix word
 network_of_cut word (Some cut) = network_with_prefix cut.0 cut.1
 
+-- the network that a word spells: an address, `/` and a prefix length
 abbrev pub network_of : List ℕ → Result Network LineKind
 network_of word = network_of_cut word (cut_at slash word)
 
--- an address as a number of its bits, and at most as many leading bits as it has
+-- the number that the bits of an address spell
 abbrev pub address_number : Address → ℕ
 address_number (Ip4 address) = address
 address_number (Ip6 address) = address
 
+-- The address fits in the bits of its family, and the prefix has at most as many bits.
 pub record IsLawfulNetwork (network : Network) : Type 0 where
   pub fits : address_number network.address < 2 ^ most_bits network.address
   pub within : network.bits ≤ most_bits network.address

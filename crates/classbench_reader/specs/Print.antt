@@ -44,11 +44,12 @@ pub record IsPrintable (its : Family) (rule : RuleView) : Type 0 where
   pub lawful : rule_fault (fields_of its) rule.tag rule.fields ≡ None
   pub prefixes : IsTrue (has_prefixes its rule.fields)
 
--- the network of a value, or of two
+-- the network of an IPv4 address field, whose value is a prefix
 abbrev pub ip4_network : FieldValue → Network
 ip4_network (Mask value bits) = record { address = Ip4 value; bits = bits }
 ip4_network _ = record { address = Ip4 0; bits = 0 }
 
+-- the network of an IPv6 address, of which two fields hold one half each
 abbrev pub ip6_network : FieldValue → FieldValue → Network
 ip6_network (Mask high high_bits) (Mask low low_bits) =
     record { address = Ip6 (high * 2 ^ 64 + low); bits = high_bits + low_bits }
@@ -82,14 +83,16 @@ line_of_values _ its_tag _ = record {
   tag = its_tag;
 }
 
+-- what the line of a rule says, by its tag and its values
 abbrev pub line_of_rule : Family → RuleView → RuleLine
 line_of_rule its rule = line_of_values its rule.tag rule.fields
 
--- an address, `/` and its prefix length
+-- the spelling of an address of either family
 abbrev pub address_text : Address → List ℕ
 address_text (Ip4 address) = ip4_spelling address
 address_text (Ip6 address) = ip6_spelling address
 
+-- an address, `/` and its prefix length
 abbrev pub network_text : Network → List ℕ
 network_text network = address_text network.address ++ slash ∷ decimal network.bits
 
@@ -102,15 +105,17 @@ ports_text _ = []
 abbrev pub byte_text : ℕ → List ℕ
 byte_text byte = codes "0x" ++ digit_glyph true (byte / 16) ∷ digit_glyph true (byte % 16) ∷ []
 
+-- a protocol number, `/` and the mask of its bits that count
 abbrev pub protocol_text : FieldValue → List ℕ
 protocol_text (Bitmask value mask) = byte_text value ++ slash ∷ byte_text mask
 protocol_text _ = []
 
--- all three attributes
+-- a priority as a natural number, as a lawful one isn't below 0
 abbrev pub magnitude : ℤ → ℕ
 magnitude (pos n) = n
 magnitude (negsuc n) = 0
 
+-- all three attributes, each with its name
 abbrev pub tag_text : RuleTag → List ℕ
 tag_text its_tag =
     codes "pri=" ++ (decimal (magnitude its_tag.priority)

@@ -13,5 +13,6 @@ pub record Read (A : Type 0) : Type 0 where
   pub value : A
   pub rest : List ℕ
 
+-- what a part says, beside the text that it leaves for the next part
 abbrev pub read_of : {A : Type 0} → A → List ℕ → Read A
 read_of value rest = record { value = value; rest = rest }

@@ -117,5 +117,6 @@ pub record IsAsItsRange (value : FieldValue) (size : ℕ) : Type 0 where
   pub cut : (place byte : ℕ) (edge : Edge) →
       is_cut (as_range value size) size place edge byte ≡ is_cut value size place edge byte
 
+-- Every value of a field, of whatever size, may be taken as its range.
 abbrev pub ValuesAreTheirRanges : Type 0
 ValuesAreTheirRanges = (value : FieldValue) (size : ℕ) → IsAsItsRange value size

@@ -51,10 +51,11 @@ gap_place (c ∷ cs) = if starts_with nat_eq (c ∷ cs) (codes "::") then 0 else
 abbrev pub has_gap : List ℕ → Bool
 has_gap text = nat_lt (gap_place text) (length text)
 
--- the groups before the first `::`, and those behind it
+-- the groups before the first `::`
 abbrev pub groups_before : List ℕ → List (List ℕ)
 groups_before text = groups_of (take (gap_place text) text)
 
+-- the groups behind the first `::`, which itself has two bytes
 abbrev pub groups_behind : List ℕ → List (List ℕ)
 groups_behind text = groups_of (drop (gap_place text + 2) text)
 
@@ -73,6 +74,7 @@ is_shortened text = are_groups (groups_before text) && are_last_groups (groups_b
 abbrev pub filled_pieces : List ℕ → List ℕ → List ℕ
 filled_pieces before behind = before ++ replicate (8 - (length before + length behind)) 0 ++ behind
 
+-- the eight pieces that a text with `::` spells
 abbrev pub shortened_pieces : List ℕ → List ℕ
 shortened_pieces text =
     filled_pieces (pieces_of_all (groups_before text)) (pieces_of_all (groups_behind text))

@@ -5,30 +5,35 @@ use Rattle.std.specs.Prelude.{map, filter, Option, Some, None}
 use Rattle.std.specs.List.{slice_split, take_while, list_any, before_first, after_first}
 use Rattle.std.specs.Str.Lines.{strip_carriage_return}
 
--- the separators of IPv4 and IPv6 addresses, `.` and `:`, and `/`, which stands before a prefix
--- length or a mask
+-- `.`, which separates the bytes of an IPv4 address
 abbrev pub dot : ℕ
 dot = 46
 
+-- `:`, which separates the groups of an IPv6 address
 abbrev pub colon : ℕ
 colon = 58
 
+-- `/`, which stands before a prefix length or a mask
 abbrev pub slash : ℕ
 slash = 47
 
--- what ends a line, and the blanks within one
+-- LF, which ends a line
 abbrev pub line_feed : ℕ
 line_feed = 10
 
+-- CR, which may stand before the LF of a line
 abbrev pub carriage_return : ℕ
 carriage_return = 13
 
+-- TAB, one of the two blanks within a line
 abbrev pub tab : ℕ
 tab = 9
 
+-- the space, the other blank
 abbrev pub space : ℕ
 space = 32
 
+-- a byte that separates the words of a line
 abbrev pub is_blank : ℕ → Bool
 is_blank c = c == space || c == tab
 

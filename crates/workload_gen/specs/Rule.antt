@@ -6,13 +6,15 @@ use Rattle.field_defs.specs.declared.field.FieldValue.TheVariants.{Mask, Range, 
 use Rattle.rule_set.specs.declared.rule.RuleTag.{RuleTag}
 use Rattle.rule_set.specs.Rule.{RuleView}
 
--- protocol numbers (IANA), and the bits of one of them
+-- the protocol number of TCP (IANA)
 abbrev pub tcp : ℕ
 tcp = 6
 
+-- the protocol number of UDP (IANA)
 abbrev pub udp : ℕ
 udp = 17
 
+-- the mask under which all eight bits of a protocol number count
 abbrev pub whole_protocol : ℕ
 whole_protocol = 0xFF
 
