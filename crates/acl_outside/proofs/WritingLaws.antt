@@ -19,17 +19,6 @@ Gains-then first second old mid new a b = record {
       old.written mid.written new.written a.written b.written;
 }
 
--- a text, and then a prefix of another
-pub GainsPrefix-then : (first second : List ℕ) (old mid new : SinkView) → Gains first old mid →
-    GainsPrefix second mid new →
-    GainsPrefix (first ++ second) old new
-GainsPrefix-then first second old mid new a b = record {
-  prefix = first ++ b.prefix;
-  rest = b.rest;
-  parts = ap (λ xs. first ++ xs) b.parts ∙ sym (append_assoc first b.prefix b.rest);
-  gains = Gains-then first b.prefix old mid new a b.gains;
-}
-
 -- a prefix of a text is one of a longer text
 pub GainsPrefix-more : (text more : List ℕ) (old new : SinkView) → GainsPrefix text old new →
     GainsPrefix (text ++ more) old new

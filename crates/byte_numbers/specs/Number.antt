@@ -1,5 +1,6 @@
--- Numbers that are spelled by bytes. Network order is that of RFC 791, appendix B: the most significant byte stands
--- first. The mirror order is that of a capture written on a little-endian machine (libpcap savefile format 2.4).
+-- Numbers that are spelled by bytes. Network order is that of RFC 791, appendix B: the most
+-- significant byte stands first. The mirror order is that of a capture written on a little-endian
+-- machine (libpcap savefile format 2.4).
 use Rattle.std.specs.Prelude.{ℕ, ◌+◌, ◌*◌, List, fold, take, drop, reverse}
 
 -- the number that bytes spell in network order

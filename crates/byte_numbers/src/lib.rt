@@ -4,8 +4,9 @@
 //! |---|---|
 //! | `reads` | the number of 2, 4 or 8 bytes at a place, and of a whole text of at most 8 bytes |
 //!
-//! The definitions stand in `specs/Number.antt`, with examples in `specs/NumberExamples.antt`. Network order is that of
-//! RFC 791, appendix B: the most significant byte stands first. The mirror order has the least significant byte first.
+//! The definitions stand in `specs/Number.antt`, with examples in `specs/NumberExamples.antt`.
+//! Network order is that of RFC 791, appendix B: the most significant byte stands first. The mirror
+//! order has the least significant byte first.
 #![tactic(auto)]
 
 mod reads;

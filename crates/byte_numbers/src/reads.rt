@@ -1,7 +1,7 @@
 //! Numbers that stand at a place of some bytes.
 //!
-//! All calls take no memory and refuse nothing. The order of a generic call is one of byteorder's, as `BigEndian` for
-//! network order; the calls named for an order are for callers that know it.
+//! All calls take no memory and refuse nothing. The order of a generic call is one of byteorder's,
+//! as `BigEndian` for network order; the calls named for an order are for callers that know it.
 
 ghost use Rattle.std.specs.Prelude.{◌≡◌, ◌+◌, ◌<◌, ◌≤◌, ◌^◌, length, drop};
 ghost use Rattle.byte_numbers.specs.Number.{mirrored_number_at, number_at, number_of};

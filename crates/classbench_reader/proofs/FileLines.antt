@@ -63,11 +63,7 @@ IsReadUpTo-none bytes file four six = record {
   joined = sym (after_lines-nil (rule_lines_from 1 (numbered_from 1 (lines_of bytes))));
 }
 
--- a line that is skipped has no number among the rules, and another line is the next one
-numbered-skipped : (number : ℕ) (line : List ℕ) (lines : List (List ℕ)) → is_skipped line ≡ true
-    → numbered_from number (line ∷ lines) ≡ numbered_from (number + 1) lines
-numbered-skipped number line lines skipped = rw skipped refl
-
+-- a line that is not skipped is the next one that has a number among the rules
 numbered-rule : (number : ℕ) (line : List ℕ) (lines : List (List ℕ)) → is_skipped line ≡ false
     → numbered_from number (line ∷ lines) ≡ (number, line) ∷ numbered_from (number + 1) lines
 numbered-rule number line lines kept = rw kept refl
@@ -78,23 +74,6 @@ pub record IsNextLine (bytes : List ℕ) (file : RuleFile) (number ordinal : ℕ
   pub read : IsReadUpTo bytes file number ordinal left
   pub cut : lines_of left ≡ line ∷ lines_of rest
   pub shorter : length rest < length left
-
--- a line was skipped
-pub IsReadUpTo-skipped : (bytes : List ℕ) (file : RuleFile) (number ordinal : ℕ) (left line rest : List ℕ)
-    → IsNextLine bytes file number ordinal left line rest → is_skipped line ≡ true
-    → IsReadUpTo bytes file (number + 1) ordinal rest
-IsReadUpTo-skipped bytes file number ordinal left line rest next skipped =
-    let read = next.read in
-    record {
-      lines = read.lines;
-      counted = read.counted;
-      few = read.few;
-      long = omega (arith, read.long, next.shorter);
-      ip4 = read.ip4;
-      ip6 = read.ip6;
-      joined = read.joined ∙ ap (λ numbered. after_lines read.lines (rule_lines_from ordinal numbered))
-          (ap (numbered_from (number + 1)) next.cut ∙ numbered-skipped (number + 1) line (lines_of rest) skipped);
-    }
 
 -- there are no more rules than there may be
 within_limit : (ordinal : ℕ) (line : List ℕ) (says : RuleLine) → counted_line_of ordinal line ≡ Ok says

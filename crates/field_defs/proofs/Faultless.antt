@@ -105,11 +105,13 @@ lawful_sizes defs lawful =
     (λ place below. passes_each (is_sized defs) (length defs) place (no_number BadSize _ sizes) below)
 
 -- fields of lawful sizes have at most eight bytes each
-sum_of_sizes : (defs : List FieldDef) → list_all (λ (def : FieldDef). is_size def.size) defs ≡ true → key_len_of defs ≤ 8 * length defs
+sum_of_sizes : (defs : List FieldDef) → list_all (λ (def : FieldDef). is_size def.size) defs ≡ true
+    → key_len_of defs ≤ 8 * length defs
 sum_of_sizes [] sizes = omega arith
 sum_of_sizes (def ∷ defs) sizes =
     let parts = and_parts (is_size def.size) (list_all (λ (d : FieldDef). is_size d.size) defs) sizes in
-    omega (arith, sum_by-cons (λ (d : FieldDef). d.size) def defs, size_at_most_8 def.size parts.0, sum_of_sizes defs parts.1)
+    let whole = sum_by-cons (λ (d : FieldDef). d.size) def defs in
+    omega (arith, whole, size_at_most_8 def.size parts.0, sum_of_sizes defs parts.1)
 
 -- a layout has a first field
 some_first : (defs : List FieldDef) → layout_fault defs ≡ None → 0 < length defs
@@ -127,7 +129,8 @@ first_size def defs none =
 pub short_keys : LawfulLayoutsHaveShortKeys
 short_keys [] lawful = absurd (omega (arith, some_first [] lawful.faultless))
 short_keys (def ∷ defs) lawful =
-    let sizes = and_parts (is_size def.size) (list_all (λ (d : FieldDef). is_size d.size) defs) (lawful_sizes (def ∷ defs) lawful) in
+    let sizes = and_parts (is_size def.size) (list_all (λ (d : FieldDef). is_size d.size) defs)
+    (lawful_sizes (def ∷ defs) lawful) in
     let whole = sum_by-cons (λ (d : FieldDef). d.size) def defs in
     let first = first_size def defs lawful.faultless in
     let others = sum_of_sizes defs sizes.1 in

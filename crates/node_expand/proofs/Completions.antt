@@ -89,7 +89,8 @@ range_holds low high size place prefix within =
             closed.1 (holds.live.1 (w.0, w.1, within.0, within.1))),
       );
       interval = λ first last h number below.
-          let meaning = holds.interval first last (closing_interval left found first last (sym is ∙ h)) number below in (
+          let meaning = holds.interval first last
+          (closing_interval left found first last (sym is ∙ h)) number below in (
             λ m. meaning.0 (match_in_range low high size _ m),
             λ w. (let within = meaning.1 w in range_match low high size _ within.0 within.1),
           );

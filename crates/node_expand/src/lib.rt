@@ -8,7 +8,7 @@
 //! of DPDK's `lib/acl` (`acl_bld.c`), which make a range and a mask into nodes byte by byte.
 //!
 //! - `edge`: how what is left of a field is bounded
-//! - `expand`: the edge before the first byte and after one more, cuts, and the range that a mask is
+//! - `expand`: the edge before the first byte and after one more, cuts, and the range of a mask
 //! - `allowed`: the bytes that a value allows at one place, and what each of them leaves
 //! - `laws`: rests by completions and steps, edges and cuts by rests, free edges, masks as ranges
 #![tactic(auto)]

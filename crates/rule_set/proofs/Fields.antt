@@ -11,8 +11,8 @@ use Rattle.rule_set.specs.Rule.{CanMatchAll}
 use Rattle.rule_set.specs.Winner.{rule_match}
 
 -- a relation at each place holds of lists of one length
-pub length-AllZip : (R : FieldDef → FieldValue → Type 0) (defs : List FieldDef) (values : List FieldValue) → AllZip R defs values →
-    length values ≡ length defs
+pub length-AllZip : (R : FieldDef → FieldValue → Type 0) (defs : List FieldDef) (values : List FieldValue)
+    → AllZip R defs values → length values ≡ length defs
 length-AllZip R [] [] all = refl
 length-AllZip R [] (value ∷ values) all = absurd all
 length-AllZip R (def ∷ defs) [] all = absurd all

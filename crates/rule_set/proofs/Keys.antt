@@ -113,7 +113,8 @@ lawful_priorities set held place d below =
 pub length-keys_of : (rules : List RuleView) → length (keys_of rules) ≡ length rules
 unfolding keys_of
 length-keys_of rules =
-    length-map (range_with_len 0 (length rules)) (λ p. order_key (priority_at rules p) p) ∙ length-range_with_len 0 (length rules)
+    length-map (range_with_len 0 (length rules)) (λ p. order_key (priority_at rules p) p)
+    ∙ length-range_with_len 0 (length rules)
 
 -- one more rank, which was found in another order of the keys
 pub ranks_more : (keys sorted ranks : List ℕ) (rank i d : ℕ) → i < length keys → IsPermutation keys sorted →

@@ -41,9 +41,6 @@ record Begins (text : List ℕ) : Type 0 where
   whole : slice_split is_blank text ≡ first_word text ∷ parts
   words : filter is_filled parts ≡ words_of (after_word text)
 
-word_of : List ℕ → ℕ
-word_of text = prefix_len (λ c. not (is_blank c)) text
-
 first_word-blank : (c : ℕ) (cs : List ℕ) → is_blank c ≡ true → first_word (c ∷ cs) ≡ []
 first_word-blank c cs blank = rw blank refl
 

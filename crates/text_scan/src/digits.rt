@@ -34,8 +34,8 @@ fn run_len(text: &[u8], base: u32) -> usize
         .count()
 }
 
-/// What a text of digits of the base spells, and 0 for an empty text. None where another byte stands
-/// in it, or where the value is above 64 bits.
+/// What a text of digits of the base spells, and 0 for an empty text. None where another byte
+/// stands in it, or where the value is above 64 bits.
 ///
 /// The base is 2 to 16. It takes no memory.
 pub fn digits_value(text: &[u8], base: u32) -> Option<u64>

@@ -65,6 +65,7 @@ pub returns : goal.returns
 returns c =
     let all = zip_end c.args.defs.now c.args.values.now c.loop-def.yielded c.into_iter-def-iterator.result _
     c.next.new.self _ (cc) (cc) c.loop-def.yielded_by c.in-None.is c.next.ensures.steps in
-    let same = length-AllZip (λ (def : FieldDef) value. CanMatch value def.size) c.args.defs.now c.args.values.now c.requires.values in
+    let same = length-AllZip (λ (def : FieldDef) value. CanMatch value def.size) c.args.defs.now
+    c.args.values.now c.requires.values in
     sym (c.loop-def.invariant.1 ∙ rule_match-drop_all c.args.defs.now c.args.values.now c.loop-def.rest.now
     (length c.loop-def.yielded) (omega arith) (omega arith))

@@ -44,7 +44,8 @@ bounds-into-place t c =
             ap length
                 (digits_more c.args.base c.args.value (omega arith) w.if-value-base.false (omega arith)),
             length_push
-                (digits c.args.base false (c.args.value / c.args.base)) (digit_glyph false (c.args.value % c.args.base)),
+                (digits c.args.base false (c.args.value / c.args.base))
+                (digit_glyph false (c.args.value % c.args.base)),
           )
     ]
 
@@ -59,7 +60,8 @@ returns-clause-len t c =
             ap length
                 (digits_more c.args.base c.args.value (omega arith) w.if-value-base.false (omega arith)),
             length_push
-                (digits c.args.base false (c.args.value / c.args.base)) (digit_glyph false (c.args.value % c.args.base)),
+                (digits c.args.base false (c.args.value / c.args.base))
+                (digit_glyph false (c.args.value % c.args.base)),
           )
     ]
 
