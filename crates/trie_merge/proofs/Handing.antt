@@ -1,12 +1,14 @@
 -- Handing the entries of a state out to the lists of its intervals.
-use Rattle.std.proofs.Common.{◌≡◌, ◌≢◌, ℕ, ◌+◌, ◌<◌, ◌≤◌, List, [], ◌∷◌, ◌++◌, length, take, get_or, set, Option, Some, None, option_to_list, refl, sym, ◌∙◌, ap, inl, inr, arith}
+use Rattle.std.proofs.Common.{◌≡◌, ◌≢◌, ℕ, ◌+◌, ◌<◌, ◌≤◌, List, [], ◌∷◌, ◌++◌, length, take, get_or, set, Bool, Option, Some, None, option_to_list, refl, sym, ◌∙◌, ap, inl, inr, ◌⊎◌, arith}
 use Rattle.std.specs.List.{filter_map, cons_option}
 use Rattle.std.proofs.lemmas.List.{map-set, get_or-set_same, get_or-set_other, get_or-map, length-map, take_more, append-nil}
 use Rattle.std.proofs.lemmas.List.Elements.{filter_map-append}
-use Rattle.std.proofs.lemmas.Bool.{cases_eq}
+use Rattle.std.proofs.lemmas.Bool.{cases_eq, cases_lt}
 use Rattle.smallvec.specs.SmallVec.{SmallVec}
 use Rattle.trie_merge.specs.Entry.{ColumnView, entry_step, entries_step}
 use Rattle.trie_merge.specs.Lists.{lists_of, list_at}
+use Rattle.trie_merge.specs.Intervals.{AreIntervals}
+use Rattle.trie_merge.proofs.Marks.{interval_rises}
 
 -- after a write the place has what was written
 pub list_at-set_same : (lists : List (SmallVec ℕ)) (k : ℕ) (v : SmallVec ℕ) → k < length lists → list_at (set lists k v) k ≡ v.items
@@ -24,32 +26,98 @@ pub list_at-read : (lists : List (SmallVec ℕ)) (k : ℕ) (v : SmallVec ℕ) �
 list_at-read lists k v within is =
     get_or-map (λ (u : SmallVec ℕ). u.items) lists k v [] within ∙ ap (λ (u : SmallVec ℕ). u.items) (sym is)
 
--- The lists before k have the entry handed out, and the others don't.
-pub record Handed (column : ColumnView) (entry : ℕ) (firsts : List ℕ) (old lists : List (SmallVec ℕ)) (k : ℕ) : Type 0 where
-  pub done : (j : ℕ) → j < k → list_at lists j ≡ list_at old j ++ option_to_list (entry_step column entry (get_or firsts j 0))
-  pub left : (j : ℕ) → k ≤ j → list_at lists j ≡ list_at old j
+-- The lists from one place to before k have what is given, and the others what they had.
+pub record Handed (given : ℕ → Option ℕ) (from : ℕ) (old lists : List (SmallVec ℕ)) (k : ℕ) : Type 0 where
+  pub done : (j : ℕ) → from ≤ j → j < k → list_at lists j ≡ list_at old j ++ option_to_list (given j)
+  pub left : (j : ℕ) → j < from ⊎ k ≤ j → list_at lists j ≡ list_at old j
 
-module _ (column : ColumnView) (entry : ℕ) (firsts : List ℕ) (old lists : List (SmallVec ℕ)) (k : ℕ) (so_far : Handed column entry firsts old lists k) where
-  -- one more list, where the entry has a step
-  pub handed_some : (v w : SmallVec ℕ) (after : ℕ) → k < length lists → v ≡ get_or lists k v → w.items ≡ (get_or lists k v).items ++ after ∷ [] →
-      Some after ≡ entry_step column entry (get_or firsts k 0) → Handed column entry firsts old (set lists k w) (k + 1)
+pub none_handed : (given : ℕ → Option ℕ) (from : ℕ) (old : List (SmallVec ℕ)) → Handed given from old old from
+none_handed given from old = record { done = λ j above below. absurd (omega arith); left = λ j out. refl }
+
+module _ (given : ℕ → Option ℕ) (from : ℕ) (old lists : List (SmallVec ℕ)) (k : ℕ) (begun : from ≤ k)
+    (so_far : Handed given from old lists k) where
+  there_left : (j : ℕ) → j < from ⊎ k + 1 ≤ j → (j ≢ k) × (j < from ⊎ k ≤ j)
+  there_left j (inl before) = (omega arith, inl before)
+  there_left j (inr behind) = (omega arith, inr (omega arith))
+
+  -- one more list, where there is something to give
+  pub handed_some : (v w : SmallVec ℕ) (after : ℕ) → k < length lists → v ≡ get_or lists k v →
+      w.items ≡ (get_or lists k v).items ++ after ∷ [] → Some after ≡ given k → Handed given from old (set lists k w) (k + 1)
   handed_some v w after within read written is = record {
-    done = λ j below. elim (cases_eq j k) [
-      | inl e ↦ rw (e, list_at-set_same lists k w within, written, ← read, ← list_at-read lists k v within read, so_far.left k (omega arith), ← is) refl
-      | inr other ↦ rw (list_at-set_other lists k j w other) (so_far.done j (omega (arith, other)))
+    done = λ j above below. elim (cases_eq j k) [
+      | inl e ↦
+          rw (e, list_at-set_same lists k w within, written, ← read, ← list_at-read lists k v within read, so_far.left k (inr (omega arith)), ← is)
+          refl
+      | inr other ↦ rw (list_at-set_other lists k j w other) (so_far.done j above (omega (arith, other)))
     ];
-    left = λ j above. (let other : j ≢ k = omega arith in list_at-set_other lists k j w other ∙ so_far.left j (omega arith));
+    left = λ j out. (let there = there_left j out in list_at-set_other lists k j w there.0 ∙ so_far.left j there.1);
   }
 
-  -- and where it has none
-  pub handed_none : None ≡ entry_step column entry (get_or firsts k 0) → Handed column entry firsts old lists (k + 1)
+  -- and where there is nothing
+  pub handed_none : None ≡ given k → Handed given from old lists (k + 1)
   handed_none is = record {
-    done = λ j below. elim (cases_eq j k) [
-      | inl e ↦ rw (e, so_far.left k (omega arith), ← is) (sym (append-nil (list_at old k)))
-      | inr other ↦ so_far.done j (omega (arith, other))
+    done = λ j above below. elim (cases_eq j k) [
+      | inl e ↦ rw (e, so_far.left k (inr (omega arith)), ← is) (sym (append-nil (list_at old k)))
+      | inr other ↦ so_far.done j above (omega (arith, other))
     ];
-    left = λ j above. so_far.left j (omega arith);
+    left = λ j out. so_far.left j (there_left j out).1;
   }
+
+-- an entry is nothing after the bytes outside of its first and last, so that it goes to all lists of a run of intervals
+module _ (column : ColumnView) (entry : ℕ) (marks : List Bool) (firsts of_bytes : List ℕ) (count first last : ℕ)
+    (are : AreIntervals marks firsts of_bytes count) (last_below : last < 256) (ordered : first ≤ last)
+    (none_below : (byte : ℕ) → byte < first → entry_step column entry byte ≡ None)
+    (none_above : (byte : ℕ) → last < byte → byte < 256 → entry_step column entry byte ≡ None) where
+  abbrev its_first : ℕ → ℕ
+  its_first k = get_or firsts k 0
+
+  abbrev from : ℕ
+  from = get_or of_bytes first 0
+
+  abbrev until : ℕ
+  until = get_or of_bytes last 0 + 1
+
+  pub run_of_ends : (from ≤ until) × (until ≤ count)
+  run_of_ends =
+      let low = are.interval first (omega arith) in
+      let high = are.interval last last_below in
+      let rises = interval_rises marks are.long first last ordered last_below in
+      let most = interval_rises marks are.long last 255 (omega arith) (omega arith) in
+      (omega (arith, low, high, rises), omega (arith, high, most, are.last))
+
+  none_before : (k : ℕ) → k < count → k < from → entry_step column entry (its_first k) ≡ None
+  none_before k within before =
+      let at = are.first k within in
+      elim (cases_lt (its_first k) first) [
+        | inl lt ↦ none_below (its_first k) lt
+        | inr le ↦
+            (let rises = interval_rises marks are.long first (its_first k) le at.below in
+            absurd (omega (arith, before, rises, at.inside, are.interval first (omega arith))))
+      ]
+
+  none_behind : (k : ℕ) → k < count → until ≤ k → entry_step column entry (its_first k) ≡ None
+  none_behind k within behind =
+      let at = are.first k within in
+      elim (cases_lt last (its_first k)) [
+        | inl lt ↦ none_above (its_first k) lt at.below
+        | inr le ↦
+            (let rises = interval_rises marks are.long (its_first k) last le last_below in
+            absurd (omega (arith, behind, rises, at.inside, are.interval last last_below)))
+      ]
+
+  -- so the lists of the run are all that it changes
+  pub handed_by_run : (old lists : List (SmallVec ℕ)) →
+      ((k : ℕ) → from ≤ k → k < until → list_at lists k ≡ list_at old k ++ option_to_list (entry_step column entry (its_first k))) →
+      ((k : ℕ) → k < from ⊎ until ≤ k → list_at lists k ≡ list_at old k) →
+      (k : ℕ) → k < count → list_at lists k ≡ list_at old k ++ option_to_list (entry_step column entry (its_first k))
+  handed_by_run old lists within outside k below = elim (cases_lt k from) [
+    | inl before ↦
+        rw (none_before k below before) (outside k (inl before) ∙ sym (append-nil (list_at old k)))
+    | inr above ↦ elim (cases_lt k until) [
+      | inl inside ↦ within k above inside
+      | inr behind ↦ rw (none_behind k below behind) (outside k (inr behind) ∙ sym (append-nil (list_at old k)))
+    ]
+  ]
 
 one_option : {Y : Type 0} (found : Option Y) → cons_option found [] ≡ option_to_list found
 one_option None = refl

@@ -1,3 +1,4 @@
+pub mod Ends
 pub mod Finds
 pub mod Handing
 pub mod Marks

@@ -1,9 +1,10 @@
 -- Which interval has a byte, and where the intervals begin.
-use Rattle.std.proofs.Common.{◌≡◌, ◌≢◌, ℕ, ◌+◌, ◌-◌, ◌<◌, ◌≤◌, List, length, drop, get_or, set, Bool, true, false, refl, sym, ◌∙◌, ap, inl, inr, arith}
+use Rattle.std.proofs.Common.{◌≡◌, ℕ, zero, suc, ◌+◌, ◌-◌, ◌<◌, ◌≤◌, List, length, drop, get_or, set, Bool, true, false, cond, ltb, refl, sym, ◌∙◌, ap, inl, inr, arith}
 use Rattle.std.proofs.lemmas.List.{length-drop, get_or-drop, get_or-set_same, get_or-set_other, length-set}
 use Rattle.std.proofs.lemmas.List.Sums.{count_by_more_yes, count_by_more_no}
-use Rattle.std.proofs.lemmas.Bool.{cases_eq}
+use Rattle.std.proofs.lemmas.Bool.{cases_Bool, cases_eq, cases_lt, lt-ltb, le-ltb}
 use Rattle.trie_merge.specs.Lists.{interval_at}
+use Rattle.trie_merge.specs.Intervals.{IsFirst, AreIntervals}
 
 -- before the first mark
 pub interval_first : (marks : List Bool) → interval_at marks 0 ≡ 0
@@ -27,79 +28,192 @@ module _ (marks : List Bool) (byte : ℕ) (within : byte + 1 < length marks) whe
   unfolding interval_at
   interval_unmarked is = count_by_more_no (λ mark. mark) (drop 1 marks) byte false short (mark_at ∙ is)
 
--- The first bytes of the intervals that begin before a byte.
-pub record Begun (marks : List Bool) (firsts : List ℕ) (count byte : ℕ) : Type 0 where
+-- The intervals that begin before a byte, of which the last has the byte before it.
+pub record Parted (marks : List Bool) (firsts of_bytes : List ℕ) (last byte : ℕ) : Type 0 where
   pub long : length firsts ≡ 256
-  pub size : count ≡ interval_at marks (byte - 1) + 1
-  pub few : count ≤ byte
-  pub within : (b : ℕ) → b < byte → interval_at marks b < count
-  pub small : (b : ℕ) → b < byte → get_or firsts (interval_at marks b) 0 < 256
-  pub first : (b : ℕ) → b < byte → interval_at marks (get_or firsts (interval_at marks b) 0) ≡ interval_at marks b
+  pub as_long : length of_bytes ≡ 256
+  pub latest : last ≡ interval_at marks (byte - 1)
+  pub few : last < byte
+  pub zero_first : get_or firsts 0 0 ≡ 0
+  pub first : (k : ℕ) → k ≤ last → IsFirst marks (get_or firsts k 0) k
+  pub interval : (b : ℕ) → b < byte → get_or of_bytes b 0 ≡ interval_at marks b
 
-pub begun_start : (marks : List Bool) (firsts : List ℕ) → length firsts ≡ 256 → get_or firsts 0 0 ≡ 0 → Begun marks firsts 1 1
-begun_start marks firsts long zero_first = record {
-  long = long;
-  size = rw (interval_first marks) refl;
-  few = omega arith;
-  within = λ b below. (let is : b ≡ 0 = omega arith in rw (is, interval_first marks) (omega arith));
-  small = λ b below. (let is : b ≡ 0 = omega arith in rw (is, interval_first marks, zero_first) (omega arith));
-  first = λ b below. (let is : b ≡ 0 = omega arith in rw (is, interval_first marks, zero_first, interval_first marks) refl);
+zero_is_first : (marks : List Bool) → IsFirst marks 0 0
+zero_is_first marks = record {
+  below = omega arith;
+  inside = interval_first marks;
+  begins = λ h. absurd (omega arith);
 }
 
-module _ (marks : List Bool) (firsts : List ℕ) (count byte : ℕ) (long : length marks ≡ 256) (some : 0 < byte) (below : byte < 256)
-    (so_far : Begun marks firsts count byte) where
+pub parted_start : (marks : List Bool) (firsts of_bytes : List ℕ) → length firsts ≡ 256 → length of_bytes ≡ 256 →
+    get_or firsts 0 0 ≡ 0 → get_or of_bytes 0 0 ≡ 0 → Parted marks firsts of_bytes 0 1
+parted_start marks firsts of_bytes long as_long zero_first zero_in = record {
+  long = long;
+  as_long = as_long;
+  latest = sym (interval_first marks);
+  few = omega arith;
+  zero_first = zero_first;
+  first = λ k below. (let is : k ≡ 0 = omega arith in rw (is, zero_first) (zero_is_first marks));
+  interval = λ b below. (let is : b ≡ 0 = omega arith in rw (is, zero_in) (sym (interval_first marks)));
+}
+
+module _ (marks : List Bool) (firsts of_bytes : List ℕ) (last byte : ℕ) (long : length marks ≡ 256) (some : 0 < byte)
+    (below : byte < 256) (so_far : Parted marks firsts of_bytes last byte) where
   at_byte : byte - 1 + 1 ≡ byte
   at_byte = omega arith
 
-  pub begun_marked : get_or marks byte false ≡ true → Begun marks (set firsts count byte) (count + 1) (byte + 1)
-  begun_marked is =
-      let here : interval_at marks byte ≡ count =
-      rw at_byte at (interval_marked marks (byte - 1) (omega (arith, long)) (rw at_byte is)) ∙ sym so_far.size in
+  behind : byte + 1 - 1 ≡ byte
+  behind = omega arith
+
+  -- the byte is in an interval that begins with it
+  pub parted_marked : get_or marks byte false ≡ true →
+      Parted marks (set firsts (last + 1) byte) (set of_bytes byte (last + 1)) (last + 1) (byte + 1)
+  parted_marked is =
+      let here : interval_at marks byte ≡ last + 1 =
+      rw at_byte at (interval_marked marks (byte - 1) (omega (arith, long)) (rw at_byte is))
+      ∙ ap (λ n. n + 1) (sym so_far.latest) in
+      let within : last + 1 < length firsts = omega (arith, so_far.few, so_far.long) in
       record {
-        long = length_set ∙ so_far.long;
-        size = (let e : byte + 1 - 1 ≡ byte = omega arith in rw (e, here) refl);
+        long = length-set firsts (last + 1) byte ∙ so_far.long;
+        as_long = length-set of_bytes byte (last + 1) ∙ so_far.as_long;
+        latest = rw behind (sym here);
         few = omega (arith, so_far.few);
-        within = λ b under. elim (cases_eq b byte) [
-          | inl e ↦ rw (e, here) (omega arith)
-          | inr other ↦ (let w = so_far.within b (omega (arith, other)) in omega arith)
-        ];
-        small = λ b under. elim (cases_eq b byte) [
-          | inl e ↦ rw (e, here, get_or-set_same firsts count byte 0 (omega (arith, so_far.few, so_far.long))) below
+        zero_first = get_or-set_other firsts (last + 1) 0 byte 0 (omega arith) ∙ so_far.zero_first;
+        first = λ k under. elim (cases_eq k (last + 1)) [
+          | inl e ↦
+              rw (e, get_or-set_same firsts (last + 1) byte 0 within)
+              (record {
+                below = below;
+                inside = here;
+                begins = λ h. (some, ap (λ n. n + 1) (sym so_far.latest));
+              })
           | inr other ↦
-              let w = so_far.within b (omega (arith, other)) in
-              let apart : interval_at marks b ≢ count = omega arith in
-              rw (get_or-set_other firsts count (interval_at marks b) byte 0 apart) (so_far.small b (omega (arith, other)))
+              rw (get_or-set_other firsts (last + 1) k byte 0 other) (so_far.first k (omega (arith, other)))
         ];
-        first = λ b under. elim (cases_eq b byte) [
-          | inl e ↦ rw (e, here, get_or-set_same firsts count byte 0 (omega (arith, so_far.few, so_far.long))) here
+        interval = λ b under. elim (cases_eq b byte) [
+          | inl e ↦
+              rw (e, get_or-set_same of_bytes byte (last + 1) 0 (omega (arith, so_far.as_long))) (sym here)
           | inr other ↦
-              let w = so_far.within b (omega (arith, other)) in
-              let apart : interval_at marks b ≢ count = omega arith in
-              rw (get_or-set_other firsts count (interval_at marks b) byte 0 apart) (so_far.first b (omega (arith, other)))
+              get_or-set_other of_bytes byte b (last + 1) 0 other ∙ so_far.interval b (omega (arith, other))
         ];
       }
-    where
-      length_set : length (set firsts count byte) ≡ length firsts
-      length_set = length-set firsts count byte
 
-  pub begun_unmarked : get_or marks byte false ≡ false → Begun marks firsts count (byte + 1)
-  begun_unmarked is =
-      let here : interval_at marks byte ≡ interval_at marks (byte - 1) =
-      rw at_byte at (interval_unmarked marks (byte - 1) (omega (arith, long)) (rw at_byte is)) in
+  -- or in that of the byte before
+  pub parted_unmarked : get_or marks byte false ≡ false →
+      Parted marks firsts (set of_bytes byte last) last (byte + 1)
+  parted_unmarked is =
+      let here : interval_at marks byte ≡ last =
+      rw at_byte at (interval_unmarked marks (byte - 1) (omega (arith, long)) (rw at_byte is)) ∙ sym so_far.latest in
       record {
         long = so_far.long;
-        size = (let e : byte + 1 - 1 ≡ byte = omega arith in rw (e, here) so_far.size);
+        as_long = length-set of_bytes byte last ∙ so_far.as_long;
+        latest = rw behind (sym here);
         few = omega (arith, so_far.few);
-        within = λ b under. elim (cases_eq b byte) [
-          | inl e ↦ rw (e, here) (so_far.within (byte - 1) (omega arith))
-          | inr other ↦ so_far.within b (omega (arith, other))
-        ];
-        small = λ b under. elim (cases_eq b byte) [
-          | inl e ↦ rw (e, here) (so_far.small (byte - 1) (omega arith))
-          | inr other ↦ so_far.small b (omega (arith, other))
-        ];
-        first = λ b under. elim (cases_eq b byte) [
-          | inl e ↦ rw (e, here) (so_far.first (byte - 1) (omega arith))
-          | inr other ↦ so_far.first b (omega (arith, other))
+        zero_first = so_far.zero_first;
+        first = so_far.first;
+        interval = λ b under. elim (cases_eq b byte) [
+          | inl e ↦ rw (e, get_or-set_same of_bytes byte last 0 (omega (arith, so_far.as_long))) (sym here)
+          | inr other ↦
+              get_or-set_other of_bytes byte b last 0 other ∙ so_far.interval b (omega (arith, other))
         ];
       }
+
+-- all bytes
+pub all_parted : (marks : List Bool) (firsts of_bytes : List ℕ) (last byte : ℕ) → length marks ≡ 256 → byte ≡ 256 →
+    Parted marks firsts of_bytes last byte → AreIntervals marks firsts of_bytes (last + 1)
+all_parted marks firsts of_bytes last byte long all parted =
+    let before : byte - 1 ≡ 255 = omega arith in
+    record {
+      long = long;
+      few = omega (arith, parted.few);
+      last = ap (λ n. n + 1) (ap (interval_at marks) (sym before) ∙ sym parted.latest);
+      zero = parted.zero_first;
+      first = λ k below. parted.first k (omega arith);
+      interval = λ b below. parted.interval b (omega arith);
+    }
+
+-- ---- intervals rise
+
+module _ (marks : List Bool) (long : length marks ≡ 256) where
+  interval_step : (byte : ℕ) → byte + 1 < 256 →
+      (interval_at marks byte ≤ interval_at marks (byte + 1)) × (interval_at marks (byte + 1) ≤ interval_at marks byte + 1)
+  interval_step byte below = elim (cases_Bool (get_or marks (byte + 1) false)) [
+    | inl marked ↦ (let e = interval_marked marks byte (omega (arith, long)) marked in (omega (arith, e), omega (arith, e)))
+    | inr unmarked ↦
+        (let e = interval_unmarked marks byte (omega (arith, long)) unmarked in (omega (arith, e), omega (arith, e)))
+  ]
+
+  pub interval_rises_by : (byte n : ℕ) → byte + n < 256 → interval_at marks byte ≤ interval_at marks (byte + n)
+  interval_rises_by byte zero below = let here : byte + 0 ≡ byte = omega arith in rw here (omega arith)
+  interval_rises_by byte (suc n) below =
+      let next : byte + suc n ≡ byte + n + 1 = omega arith in
+      let before = interval_rises_by byte n (omega arith) in
+      let step = interval_step (byte + n) (omega arith) in
+      rw next (omega (arith, before, step.0))
+
+  pub interval_rises : (one other : ℕ) → one ≤ other → other < 256 → interval_at marks one ≤ interval_at marks other
+  interval_rises one other above below =
+      let there : one + (other - one) ≡ other = omega arith in
+      rw there at (interval_rises_by one (other - one) (omega arith))
+
+-- ---- where an interval ends
+
+-- the byte behind those of the first k intervals
+abbrev pub end_by : List ℕ → ℕ → ℕ → ℕ
+end_by firsts count k = cond (ltb k count) (get_or firsts k 0) 256
+
+pub end_first : (firsts : List ℕ) (count k : ℕ) → k < count → end_by firsts count k ≡ get_or firsts k 0
+end_first firsts count k below = ap (λ b. cond b (get_or firsts k 0) 256) (lt-ltb k count below)
+
+pub end_all : (firsts : List ℕ) (count : ℕ) → end_by firsts count count ≡ 256
+end_all firsts count = ap (λ b. cond b (get_or firsts count 0) 256) (le-ltb count count (omega arith))
+
+module _ (marks : List Bool) (firsts of_bytes : List ℕ) (count : ℕ)
+    (are : AreIntervals marks firsts of_bytes count) where
+  abbrev end_of : ℕ → ℕ
+  end_of k = end_by firsts count k
+
+  ends_with : (k : ℕ) → 0 < k → k ≤ count → (0 < end_of k) × (end_of k ≤ 256) × (interval_at marks (end_of k - 1) + 1 ≡ k)
+  ends_with k some within = elim (cases_lt k count) [
+    | inl below ↦
+        (let at = are.first k below in
+        let begins = at.begins some in
+        rw (end_first firsts count k below) (begins.0, omega (arith, at.below), begins.1))
+    | inr above ↦
+        (let all : k ≡ count = omega arith in
+        rw (all, end_all firsts count) (omega arith, omega arith, are.last))
+  ]
+
+  -- an interval has all bytes from its first one to that before its end
+  pub all_inside : (k : ℕ) → k < count → (b : ℕ) → get_or firsts k 0 ≤ b → b < end_of (k + 1) → interval_at marks b ≡ k
+  all_inside k below b from until =
+      let at = are.first k below in
+      let ends = ends_with (k + 1) (omega arith) (omega arith) in
+      let low = interval_rises marks are.long (get_or firsts k 0) b from (omega (arith, until, ends.1)) in
+      let high = interval_rises marks are.long b (end_of (k + 1) - 1) (omega (arith, until)) (omega (arith, ends.0, ends.1)) in
+      omega (arith, low, high, at.inside, ends.2)
+
+  -- and its first byte is before its end
+  pub first_before_end : (k : ℕ) → k < count → (get_or firsts k 0 < end_of (k + 1)) × (end_of (k + 1) ≤ 256)
+  first_before_end k below =
+      let at = are.first k below in
+      let ends = ends_with (k + 1) (omega arith) (omega arith) in (
+        (elim (cases_lt (k + 1) count) [
+          | inl next ↦
+              (let behind = are.first (k + 1) next in
+              elim (cases_lt (get_or firsts k 0) (get_or firsts (k + 1) 0)) [
+                | inl lt ↦ rw (end_first firsts count (k + 1) next) lt
+                | inr le ↦
+                    (let rises = interval_rises marks are.long (get_or firsts (k + 1) 0) (get_or firsts k 0) le at.below in
+                    absurd (omega (arith, rises, at.inside, behind.inside)))
+              ])
+          | inr last ↦ (let all : k + 1 ≡ count = omega arith in rw (all, end_all firsts count) at.below)
+        ]),
+        ends.1,
+      )
+
+  -- each byte is in one of the intervals
+  pub byte_within : (byte : ℕ) → byte < 256 → interval_at marks byte < count
+  byte_within byte below =
+      let rises = interval_rises marks are.long byte 255 (omega arith) (omega arith) in
+      omega (arith, rises, are.last)

@@ -1,7 +1,7 @@
 -- Numbering the successors of one state, byte by byte.
-use Rattle.std.proofs.Common.{◌≡◌, ℕ, zero, suc, ◌+◌, ◌-◌, ◌<◌, ◌≤◌, ◌==◌, List, [], ◌∷◌, ◌++◌, length, map, fold, take, filter, get_or, set, Bool, true, false, cond, not, ◌||◌, true≢false, refl, sym, ◌∙◌, ap, inl, inr, arith}
+use Rattle.std.proofs.Common.{◌≡◌, ℕ, zero, suc, ◌+◌, ◌-◌, ◌<◌, ◌≤◌, ◌==◌, List, [], ◌∷◌, ◌++◌, length, map, fold, take, filter, get_or, Bool, true, false, cond, not, ◌||◌, refl, sym, ◌∙◌, ap, inl, inr, arith}
 use Rattle.std.specs.Str.{bytes_eq}
-use Rattle.std.proofs.lemmas.List.{take_more, map_push, append_assoc, append-nil, length-map, get_or-set_same, get_or-set_other, length-set, map-append, take_all, length-append}
+use Rattle.std.proofs.lemmas.List.{take_more, map_push, append_assoc, append-nil, length-map, map-append, take_all, length-append}
 use Rattle.std.proofs.lemmas.List.FromFn.{length-range_with_len, get_or-range_with_len}
 use Rattle.std.proofs.lemmas.List.Sums.{fold-append}
 use Rattle.std.proofs.lemmas.List.Elements.{filter-append}
@@ -9,14 +9,15 @@ use Rattle.std.proofs.lemmas.Bool.{cases_Bool, cases_eq, ne_eqb, eq-eqb}
 use Rattle.smallvec.specs.SmallVec.{SmallVec}
 use Rattle.trie_merge.specs.declared.run.Run.{Run}
 use Rattle.trie_merge.specs.declared.run.Succ.{Succ}
-use Rattle.trie_merge.specs.declared.run.Succ.TheVariants.{Dead}
+use Rattle.trie_merge.specs.declared.run.Succ.TheVariants.{Dead, State, Row}
 use Rattle.trie_merge.specs.State.{is_live}
 use Rattle.trie_merge.specs.Found.{all_bytes}
 use Rattle.trie_merge.specs.Levels.{same_succ, is_end, runs_of}
 use Rattle.trie_merge.specs.Lists.{lists_of, list_at, list_of_byte, lists_with, succ_in, interval_at}
+use Rattle.trie_merge.specs.Intervals.{AreIntervals}
+use Rattle.trie_merge.proofs.Marks.{end_by, all_inside, first_before_end}
 use Rattle.trie_merge.proofs.Finds.{is_new, found_grows, stays_found, goes_behind, old_once_found}
 use Rattle.trie_merge.proofs.Numbers.{bytes_eq_refl, succ_stays}
-use Rattle.trie_merge.proofs.Marks.{interval_first, interval_marked, interval_unmarked}
 
 pub length-all_bytes : length all_bytes ≡ 256
 unfolding all_bytes
@@ -36,94 +37,6 @@ with_length found list = elim (cases_Bool (is_new bytes_eq is_live found list)) 
   | inl new ↦ rw (goes_behind bytes_eq is_live found list new, length-append found (list ∷ [])) (omega arith)
   | inr old ↦ rw (stays_found bytes_eq is_live found list old) (omega arith)
 ]
-
--- The lists of the bytes before one are found, and each of these bytes has its successor.
-pub record Numbered (is_last : Bool) (marks : List Bool) (lists old keys : List (SmallVec ℕ)) (next : ℕ) (succ : Succ) (succs : List Succ) (byte : ℕ) : Type 0 where
-  pub found : lists_of keys ≡ fold lists_with (lists_of old) (map (list_of_byte marks lists) (take byte all_bytes))
-  pub first : byte ≡ 0 → next ≡ 0
-  pub later : 0 < byte → next ≡ interval_at marks (byte - 1) + 1
-  pub known : 0 < byte → is_new bytes_eq is_live (lists_of keys) (list_of_byte marks lists (byte - 1)) ≡ false
-  pub same : 0 < byte → succ ≡ succ_in is_last (lists_of keys) (list_of_byte marks lists (byte - 1))
-  pub before : (more : List (List ℕ)) (b : ℕ) → b < byte → get_or succs b Dead ≡ succ_in is_last (lists_of keys ++ more) (list_of_byte marks lists b)
-  pub room : length keys ≤ length old + byte
-  pub long : length succs ≡ 256
-
-pub none_numbered : (is_last : Bool) (marks : List Bool) (lists old : List (SmallVec ℕ)) (succs : List Succ) → length succs ≡ 256 → Numbered is_last marks lists old old 0 Dead succs 0
-none_numbered is_last marks lists old succs long = record {
-  found = refl;
-  first = λ _. refl;
-  later = λ h. absurd (omega arith);
-  known = λ h. absurd (omega arith);
-  same = λ h. absurd (omega arith);
-  before = λ more b h. absurd (omega arith);
-  room = omega arith;
-  long = long;
-}
-
-module _ (is_last : Bool) (marks : List Bool) (lists old keys : List (SmallVec ℕ)) (next : ℕ) (succ : Succ) (succs : List Succ) (byte : ℕ) (below : byte < 256)
-    (so_far : Numbered is_last marks lists old keys next succ succs byte) where
-  -- one more byte, whose list is found now or was before
-  pub one_numbered : (keys' : List (SmallVec ℕ)) (next' : ℕ) (succ' : Succ) → lists_of keys' ≡ lists_with (lists_of keys) (list_of_byte marks lists byte) →
-      next' ≡ interval_at marks byte + 1 → succ' ≡ succ_in is_last (lists_of keys') (list_of_byte marks lists byte) →
-      Numbered is_last marks lists old keys' next' succ' (set succs byte succ') (byte + 1)
-  one_numbered keys' next' succ' found' later' same' =
-      let list : List ℕ = list_of_byte marks lists byte in
-      let here : byte + 1 - 1 ≡ byte = omega arith in
-      let known' : is_new bytes_eq is_live (lists_of keys') list ≡ false =
-      ap (λ f. is_new bytes_eq is_live f list) found' ∙ old_once_found bytes_eq is_live bytes_eq_refl (lists_of keys) list in
-      let grown = found_grows bytes_eq is_live (lists_of keys) (list ∷ []) in
-      let is_grown : lists_of keys' ≡ lists_of keys ++ grown.0 = found' ∙ grown.1 in
-      let long' : length (lists_of keys') ≤ length (lists_of keys) + 1 = rw found' (with_length (lists_of keys) list) in
-      record {
-        found =
-            found' ∙ ap (λ f. lists_with f list) so_far.found
-            ∙ sym (ap (λ bytes. fold lists_with (lists_of old) (map (list_of_byte marks lists) bytes)) (one_more_byte byte below)
-            ∙ ap (fold lists_with (lists_of old)) (map_push (list_of_byte marks lists) (take byte all_bytes) byte)
-            ∙ fold-append lists_with (lists_of old) (map (list_of_byte marks lists) (take byte all_bytes)) (list ∷ []));
-        first = λ h. absurd (omega arith);
-        later = λ h. rw here later';
-        known = λ h. rw here known';
-        same = λ h. rw here same';
-        before = λ more b under. elim (cases_eq b byte) [
-          | inl e ↦ rw (e, get_or-set_same succs byte succ' Dead (omega (arith, so_far.long))) (same' ∙ sym (succ_stays is_last list (lists_of keys') more known'))
-          | inr other ↦
-              rw (get_or-set_other succs byte b succ' Dead other)
-              (so_far.before (grown.0 ++ more) b (omega (arith, other))
-              ∙ ap (λ f. succ_in is_last f (list_of_byte marks lists b)) (sym (append_assoc (lists_of keys) grown.0 more) ∙ ap (λ f. f ++ more) (sym is_grown)))
-        ];
-        room = omega (arith, so_far.room, long', length-map keys' (λ (v : SmallVec ℕ). v.items), length-map keys (λ (v : SmallVec ℕ). v.items));
-        long = length-set succs byte succ' ∙ so_far.long;
-      }
-
-  -- the byte begins an interval
-  pub begins_at : length marks ≡ 256 → (byte == 0 || get_or marks byte false) ≡ true → interval_at marks byte ≡ next
-  begins_at long begins = elim (cases_eq byte 0) [
-    | inl e ↦ rw (e, interval_first marks) (sym (so_far.first e))
-    | inr other ↦
-        let back : byte - 1 + 1 ≡ byte = omega (arith, other) in
-        let mark : get_or marks byte false ≡ true = sym (ap (λ b. b || get_or marks byte false) (ne_eqb byte 0 other)) ∙ begins in
-        rw back at (interval_marked marks (byte - 1) (omega (arith, long)) (rw back mark)) ∙ sym (so_far.later (omega (arith, other)))
-  ]
-
-  -- or it is in that of the byte before
-  pub one_more_of_interval : length marks ≡ 256 → (byte == 0 || get_or marks byte false) ≡ false → Numbered is_last marks lists old keys next succ (set succs byte succ) (byte + 1)
-  one_more_of_interval long not_begins =
-      let some : 0 < byte = elim (cases_eq byte 0) [
-        | inl e ↦ absurd (true≢false (sym (ap (λ b. b || get_or marks byte false) (eq-eqb byte 0 e)) ∙ not_begins))
-        | inr other ↦ omega (arith, other)
-      ] in
-      let back : byte - 1 + 1 ≡ byte = omega arith in
-      let none : get_or marks byte false ≡ false = or_false_right (byte == 0) (get_or marks byte false) not_begins in
-      let same_interval : interval_at marks byte ≡ interval_at marks (byte - 1) = rw back at (interval_unmarked marks (byte - 1) (omega (arith, long)) (rw back none)) in
-      let same_list : list_of_byte marks lists byte ≡ list_of_byte marks lists (byte - 1) = ap (list_at lists) same_interval in
-      one_numbered keys next succ
-      (sym (ap (lists_with (lists_of keys)) same_list ∙ stays_found bytes_eq is_live (lists_of keys) (list_of_byte marks lists (byte - 1)) (so_far.known some)))
-      (so_far.later some ∙ ap (λ n. n + 1) (sym same_interval))
-      (so_far.same some ∙ ap (succ_in is_last (lists_of keys)) (sym same_list))
-    where
-      or_false_right : (a b : Bool) → (a || b) ≡ false → b ≡ false
-      or_false_right true b h = absurd (true≢false h)
-      or_false_right false b h = h
 
 -- the runs so far, and one more byte
 run_at : (ℕ → Succ) → ℕ → Run
@@ -155,6 +68,192 @@ module _ (succ : ℕ → Succ) (byte : ℕ) (below : byte < 256) where
 
   pub run_goes_on : is_end succ byte ≡ false → some_runs succ (byte + 1) ≡ some_runs succ byte
   run_goes_on is = both ∙ ap (λ b. some_runs succ byte ++ map (run_at succ) (cond b (byte ∷ []) [])) is ∙ append-nil (some_runs succ byte)
+
+-- no run ends where the next byte has the same successor
+no_end : (succ : ℕ → Succ) (byte : ℕ) → byte < 255 → same_succ (succ byte) (succ (byte + 1)) ≡ true → is_end succ byte ≡ false
+no_end succ byte below same =
+    (λ i. ne_eqb byte 255 (omega arith) i || not (same i))
+
+an_end : (succ : ℕ → Succ) (byte : ℕ) → same_succ (succ byte) (succ (byte + 1)) ≡ false → is_end succ byte ≡ true
+an_end succ byte other = ap (λ b. byte == 255 || not b) other ∙ or_true (byte == 255)
+  where
+    or_true : (a : Bool) → (a || true) ≡ true
+    or_true true = refl
+    or_true false = refl
+
+-- a run more where the next byte has another successor, and else none
+one_more_run : (f : ℕ → Succ) (old_runs runs : List Run) (byte : ℕ) (succ : Succ) (same : Bool) → byte < 255 →
+    runs ≡ old_runs ++ some_runs f byte → f byte ≡ succ → same_succ (f byte) (f (byte + 1)) ≡ same →
+    cond same runs (runs ++ record { last = byte; to = succ } ∷ []) ≡ old_runs ++ some_runs f (byte + 1)
+one_more_run f old_runs runs byte succ true below before is test =
+    before ∙ ap (λ ends. old_runs ++ ends) (sym (run_goes_on f byte (omega arith) (no_end f byte below test)))
+one_more_run f old_runs runs byte succ false below before is test =
+    (λ i. before i ++ record { last = byte; to = sym is i } ∷ [])
+    ∙ append_assoc old_runs (some_runs f byte) (record { last = byte; to = f byte } ∷ [])
+    ∙ ap (λ ends. old_runs ++ ends) (sym (run_ends f byte (omega arith) (an_end f byte test)))
+
+-- ---- joining the runs of a state's intervals
+
+same_as_itself : (succ : Succ) → same_succ succ succ ≡ true
+same_as_itself Dead = refl
+same_as_itself (State number) = eq-eqb number number refl
+same_as_itself (Row number) = eq-eqb number number refl
+
+module _ (is_last : Bool) (marks : List Bool) (lists old : List (SmallVec ℕ)) (old_runs : List Run) where
+  -- what a byte is reached as, among those found
+  abbrev reached_in : List (List ℕ) → ℕ → Succ
+  reached_in found byte = succ_in is_last found (list_of_byte marks lists byte)
+
+  -- The lists of the bytes before one are found, and the runs that end before the last of these bytes are there.
+  pub record Joined (keys : List (SmallVec ℕ)) (runs : List Run) (succ : Succ) (byte : ℕ) : Type 0 where
+    pub found : lists_of keys ≡ fold lists_with (lists_of old) (map (list_of_byte marks lists) (take byte all_bytes))
+    pub known : is_new bytes_eq is_live (lists_of keys) (list_of_byte marks lists (byte - 1)) ≡ false
+    pub same : succ ≡ succ_in is_last (lists_of keys) (list_of_byte marks lists (byte - 1))
+    pub ended : (more : List (List ℕ)) → runs ≡ old_runs ++ some_runs (reached_in (lists_of keys ++ more)) (byte - 1)
+    pub room : length keys ≤ length old + byte
+
+  -- the first list
+  pub first_joined : (keys : List (SmallVec ℕ)) (succ : Succ) →
+      lists_of keys ≡ lists_with (lists_of old) (list_of_byte marks lists 0) →
+      succ ≡ succ_in is_last (lists_of keys) (list_of_byte marks lists 0) → Joined keys old_runs succ 1
+  first_joined keys succ is same = record {
+    found =
+        is ∙ sym (ap (λ bytes. fold lists_with (lists_of old) (map (list_of_byte marks lists) bytes)) (one_more_byte 0 (omega arith)));
+    known =
+        ap (λ f. is_new bytes_eq is_live f (list_of_byte marks lists 0)) is
+        ∙ old_once_found bytes_eq is_live bytes_eq_refl (lists_of old) (list_of_byte marks lists 0);
+    same = same;
+    ended = λ more. sym (ap (λ runs. old_runs ++ runs) (no_runs (reached_in (lists_of keys ++ more))) ∙ append-nil old_runs);
+    room = omega (
+      arith,
+      ap length is,
+      with_length (lists_of old) (list_of_byte marks lists 0),
+      length-map keys (λ (v : SmallVec ℕ). v.items),
+      length-map old (λ (v : SmallVec ℕ). v.items),
+    );
+  }
+
+  module _ (keys : List (SmallVec ℕ)) (runs : List Run) (succ : Succ) (byte : ℕ) (some : 0 < byte) (below : byte < 256)
+      (so_far : Joined keys runs succ byte) where
+    at_byte : byte - 1 + 1 ≡ byte
+    at_byte = omega arith
+
+    behind : byte + 1 - 1 ≡ byte
+    behind = omega arith
+
+    -- the byte before has the last successor, whatever is found behind
+    last_is : (more : List (List ℕ)) → reached_in (lists_of keys ++ more) (byte - 1) ≡ succ
+    last_is more =
+        succ_stays is_last (list_of_byte marks lists (byte - 1)) (lists_of keys) more so_far.known ∙ sym so_far.same
+
+    more_found : fold lists_with (lists_of old) (map (list_of_byte marks lists) (take (byte + 1) all_bytes))
+        ≡ lists_with (lists_of keys) (list_of_byte marks lists byte)
+    more_found =
+        ap (λ bytes. fold lists_with (lists_of old) (map (list_of_byte marks lists) bytes)) (one_more_byte byte below)
+        ∙ ap (fold lists_with (lists_of old)) (map_push (list_of_byte marks lists) (take byte all_bytes) byte)
+        ∙ fold-append lists_with (lists_of old) (map (list_of_byte marks lists) (take byte all_bytes)) (list_of_byte marks lists byte ∷ [])
+        ∙ ap (λ f. lists_with f (list_of_byte marks lists byte)) (sym so_far.found)
+
+    -- a byte of the same interval
+    pub stays_joined : interval_at marks byte ≡ interval_at marks (byte - 1) → Joined keys runs succ (byte + 1)
+    stays_joined inside =
+        let list : list_of_byte marks lists byte ≡ list_of_byte marks lists (byte - 1) = ap (list_at lists) inside in
+        let old_list : is_new bytes_eq is_live (lists_of keys) (list_of_byte marks lists byte) ≡ false =
+        ap (is_new bytes_eq is_live (lists_of keys)) list ∙ so_far.known in
+        record {
+          found = sym (more_found ∙ stays_found bytes_eq is_live (lists_of keys) (list_of_byte marks lists byte) old_list);
+          known = rw behind old_list;
+          same = rw behind (so_far.same ∙ ap (succ_in is_last (lists_of keys)) (sym list));
+          ended = λ more.
+              let f : ℕ → Succ = reached_in (lists_of keys ++ more) in
+              let goes : is_end f (byte - 1) ≡ false =
+              no_end f (byte - 1) (omega arith) (rw at_byte (ap (λ l. same_succ (f (byte - 1)) (succ_in is_last (lists_of keys ++ more) l)) list ∙ same_as_itself (f (byte - 1)))) in
+              so_far.ended more ∙ ap (λ ends. old_runs ++ ends) (rw behind (sym (rw at_byte at (run_goes_on f (byte - 1) (omega arith) goes))));
+          room = omega (arith, so_far.room);
+        }
+
+    -- the first byte of the next interval
+    pub next_joined : (keys' : List (SmallVec ℕ)) (succ' : Succ) (runs' : List Run) →
+        lists_of keys' ≡ lists_with (lists_of keys) (list_of_byte marks lists byte) →
+        succ' ≡ succ_in is_last (lists_of keys') (list_of_byte marks lists byte) →
+        runs' ≡ cond (same_succ succ succ') runs (runs ++ record { last = byte - 1; to = succ } ∷ []) →
+        Joined keys' runs' succ' (byte + 1)
+    next_joined keys' succ' runs' found' same' joined =
+        let list : List ℕ = list_of_byte marks lists byte in
+        let known' : is_new bytes_eq is_live (lists_of keys') list ≡ false =
+        ap (λ f. is_new bytes_eq is_live f list) found' ∙ old_once_found bytes_eq is_live bytes_eq_refl (lists_of keys) list in
+        let grown = found_grows bytes_eq is_live (lists_of keys) (list ∷ []) in
+        let is_grown : lists_of keys' ≡ lists_of keys ++ grown.0 = found' ∙ grown.1 in
+        record {
+          found = found' ∙ sym more_found;
+          known = rw behind known';
+          same = rw behind same';
+          ended = λ more.
+              let same_found : lists_of keys ++ (grown.0 ++ more) ≡ lists_of keys' ++ more =
+              sym (append_assoc (lists_of keys) grown.0 more) ∙ ap (λ f. f ++ more) (sym is_grown) in
+              let f : ℕ → Succ = reached_in (lists_of keys' ++ more) in
+              let last' : f (byte - 1) ≡ succ = ap (λ found. reached_in found (byte - 1)) (sym same_found) ∙ last_is (grown.0 ++ more) in
+              let here : f byte ≡ succ' = succ_stays is_last list (lists_of keys') more known' ∙ sym same' in
+              let before : runs ≡ old_runs ++ some_runs f (byte - 1) =
+              so_far.ended (grown.0 ++ more) ∙ ap (λ found. old_runs ++ some_runs (reached_in found) (byte - 1)) same_found in
+              let test : same_succ (f (byte - 1)) (f (byte - 1 + 1)) ≡ same_succ succ succ' =
+              rw at_byte (λ i. same_succ (last' i) (here i)) in
+              joined ∙ one_more_run f old_runs runs (byte - 1) succ (same_succ succ succ') (omega arith) before last' test
+              ∙ ap (λ n. old_runs ++ some_runs f n) (at_byte ∙ sym behind);
+          room = omega (
+            arith,
+            so_far.room,
+            ap length found',
+            with_length (lists_of keys) list,
+            length-map keys' (λ (v : SmallVec ℕ). v.items),
+            length-map keys (λ (v : SmallVec ℕ). v.items),
+          );
+        }
+
+  -- all bytes of an interval
+  pub on_joined : (keys : List (SmallVec ℕ)) (runs : List Run) (succ : Succ) (byte n : ℕ) → 0 < byte → byte + n ≤ 256 →
+      ((b : ℕ) → byte ≤ b → b < byte + n → interval_at marks b ≡ interval_at marks (byte - 1)) →
+      Joined keys runs succ byte → Joined keys runs succ (byte + n)
+  on_joined keys runs succ byte zero some within inside so_far = let e : byte + 0 ≡ byte = omega arith in rw e so_far
+  on_joined keys runs succ byte (suc n) some within inside so_far =
+      let e : byte + suc n ≡ byte + n + 1 = omega arith in
+      let before = on_joined keys runs succ byte n some (omega arith) (λ b from below. inside b from (omega arith)) so_far in
+      rw e (stays_joined keys runs succ (byte + n) (omega arith) (omega arith) before
+      (inside (byte + n) (omega arith) (omega arith) ∙ sym (last_inside n (omega arith))))
+    where
+      last_inside : (m : ℕ) → m ≤ n → interval_at marks (byte + m - 1) ≡ interval_at marks (byte - 1)
+      last_inside zero few = let e : byte + 0 - 1 ≡ byte - 1 = omega arith in rw e refl
+      last_inside (suc m) few = let e : byte + suc m - 1 ≡ byte + m = omega arith in rw e (inside (byte + m) (omega arith) (omega arith))
+
+  -- the bytes of one more interval, of which the first is joined
+  pub interval_joined : (firsts of_bytes : List ℕ) (count : ℕ)
+      (are : AreIntervals marks firsts of_bytes count) (keys : List (SmallVec ℕ)) (runs : List Run) (succ : Succ) (k : ℕ) → k < count →
+      Joined keys runs succ (get_or firsts k 0 + 1) → Joined keys runs succ (end_by firsts count (k + 1))
+  interval_joined firsts of_bytes count are keys runs succ k below joined =
+      let first : ℕ = get_or firsts k 0 in
+      let end : ℕ = end_by firsts count (k + 1) in
+      let ends = first_before_end marks firsts of_bytes count are k below in
+      let there : first + 1 + (end - (first + 1)) ≡ end = omega (arith, ends.0) in
+      let behind : first + 1 - 1 ≡ first = omega arith in
+      rw there at (on_joined keys runs succ (first + 1) (end - (first + 1)) (omega arith) (omega (arith, there, ends.1))
+      (λ b from until.
+      all_inside marks firsts of_bytes count are k below b (omega arith) (rw there at until)
+      ∙ sym (ap (interval_at marks) behind ∙ (are.first k below).inside)) joined)
+
+  -- the last run
+  pub all_joined : (keys : List (SmallVec ℕ)) (runs : List Run) (succ : Succ) → Joined keys runs succ 256 →
+      (lists_of keys ≡ fold lists_with (lists_of old) (map (list_of_byte marks lists) all_bytes))
+      × ((more : List (List ℕ)) → runs ++ record { last = 255; to = succ } ∷ [] ≡ old_runs ++ runs_of (reached_in (lists_of keys ++ more)))
+  all_joined keys runs succ joined = (
+    joined.found ∙ ap (λ bytes. fold lists_with (lists_of old) (map (list_of_byte marks lists) bytes)) (take_all 256 all_bytes (omega (arith, length-all_bytes))),
+    λ more.
+        let f : ℕ → Succ = reached_in (lists_of keys ++ more) in
+        let last' : f 255 ≡ succ = succ_stays is_last (list_of_byte marks lists 255) (lists_of keys) more joined.known ∙ sym joined.same in
+        ap (λ rs. rs ++ record { last = 255; to = succ } ∷ []) (joined.ended more)
+        ∙ append_assoc old_runs (some_runs f 255) (record { last = 255; to = succ } ∷ [])
+        ∙ ap (λ rs. old_runs ++ rs)
+        (ap (λ s. some_runs f 255 ++ record { last = 255; to = s } ∷ []) (sym last') ∙ sym (run_ends f 255 (omega arith) refl) ∙ all_runs f 256 (omega arith)),
+  )
 
 -- successors that agree on bytes have the same runs
 module _ (f g : ℕ → Succ) (same : (byte : ℕ) → byte < 256 → f byte ≡ g byte) where

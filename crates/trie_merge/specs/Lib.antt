@@ -1,6 +1,7 @@
 pub mod Entry
 pub mod Follow
 pub mod Found
+pub mod Intervals
 pub mod Kept
 pub mod Laws
 pub mod Levels

@@ -1,14 +1,15 @@
 //! What one place of the key asks of the rules.
 
-ghost use Rattle.std.specs.Prelude.{◌≡◌, ◌<◌, length, map, slice_index_or, IfOk};
+ghost use Rattle.std.specs.Prelude.{◌≡◌, ◌<◌, ◌&&◌, not, length, map, slice_index_or, IfOk};
 ghost use Rattle.field_defs.specs.declared.field.FieldValue.TheVariants.{Mask};
 ghost use Rattle.field_defs.specs.Lawful.{IsLayout};
 ghost use Rattle.field_defs.specs.Layout.{key_len_of};
+ghost use Rattle.node_expand.specs.Edges.{same_edge, is_bitmask};
 ghost use Rattle.trie_merge.specs.Entry.{field_at};
 
 use crate::entry::{edge_in, entry_of, number_in};
-use field_defs::{FieldDef, FieldValue};
-use node_expand::{Edge, cuts, start_edge, step_edge};
+use field_defs::{FieldDef, FieldKind, FieldValue};
+use node_expand::{Edge, cuts, first_and_last, start_edge, step_edge};
 use rule_set::RuleSet;
 use std::alloc::{AllocError, Global};
 use std::marker::Model;
@@ -69,6 +70,13 @@ fn values_of_field(
     Ok(values)
 }
 
+/// Whether the edge leaves all numbers of the rest of the field, and so does each byte after it.
+fn leaves_all(value: &FieldValue, edge: Edge) -> bool
+    ensures { result ≡ (same_edge edge Edge.Free && not (is_bitmask value.now)) }
+{
+    edge == Edge::Free && value.kind() != FieldKind::Bitmask
+}
+
 impl Model for Column {
     ghost use Rattle.trie_merge.specs.Entry.{ColumnView};
 
@@ -78,9 +86,9 @@ impl Model for Column {
 }
 
 impl Column {
-    ghost use Rattle.std.specs.Prelude.{◌≡◌, ℕ, ◌<◌, ◌||◌, false, slice_index_or, IfOk};
+    ghost use Rattle.std.specs.Prelude.{◌≡◌, ℕ, ◌<◌, ◌≤◌, ◌||◌, false, length, Some, None, slice_index_or, IfOk, IfSome};
     ghost use Rattle.field_defs.specs.Layout.{key_len_of};
-    ghost use Rattle.trie_merge.specs.Entry.{column_at, edge_before, entry_step, is_entry_cut, CanStep};
+    ghost use Rattle.trie_merge.specs.Entry.{column_at, number_in, value_in, edge_before, entry_step, is_entry_cut, CanStep};
 
     /// What the place of the key has of each rule.
     ///
@@ -99,13 +107,21 @@ impl Column {
         })
     }
 
+    /// The value of the entry's rule.
+    fn value(&self, entry: u32) -> &FieldValue
+        requires { number_in entry < length self.now.values }
+        ensures { result.now ≡ value_in self.now entry }
+    {
+        &self.values[number_in(entry) as usize]
+    }
+
     /// The edge of the entry before the place.
     fn edge_before(&self, entry: u32) -> Edge
         requires { CanStep self.now entry }
         ensures { result ≡ edge_before self.now entry }
     {
         if self.place == 0 {
-            start_edge(&self.values[number_in(entry) as usize], self.size)
+            start_edge(self.value(entry), self.size)
         } else {
             edge_in(entry)
         }
@@ -119,14 +135,34 @@ impl Column {
     {
         let number = number_in(entry);
         let edge = self.edge_before(entry);
-        let after = step_edge(
-            &self.values[number as usize],
-            self.size,
-            self.place,
-            edge,
-            byte,
-        )?;
+        let after = step_edge(self.value(entry), self.size, self.place, edge, byte)?;
         Some(entry_of(number, after))
+    }
+
+    /// The entry after any byte, where every byte leaves the entry's rule all numbers of the field.
+    pub(crate) fn step_free(&self, entry: u32) -> Option<u32>
+        requires { CanStep self.now entry }
+        ensures { IfSome result (λ after. (byte : ℕ) → byte < 256 → entry_step self.now entry byte ≡ Some after) }
+    {
+        let number = number_in(entry);
+        let edge = self.edge_before(entry);
+        if leaves_all(self.value(entry), edge) {
+            Some(entry_of(number, Edge::Free))
+        } else {
+            None
+        }
+    }
+
+    /// The first and the last byte after which the entry's rule has a rest.
+    pub(crate) fn ends(&self, entry: u32) -> (u8, u8)
+        requires { CanStep self.now entry }
+        ensures ordered { result.0 ≤ result.1 }
+        ensures last { result.1 < 256 }
+        ensures below { (byte : ℕ) → byte < result.0 → entry_step self.now entry byte ≡ None }
+        ensures above { (byte : ℕ) → result.1 < byte → byte < 256 → entry_step self.now entry byte ≡ None }
+    {
+        let edge = self.edge_before(entry);
+        first_and_last(self.value(entry), self.size, self.place, edge)
     }
 
     /// Sets the marks of the bytes at which the entry after them changes.
@@ -137,12 +173,6 @@ impl Column {
             slice_index_or marks.new byte false ≡ (is_entry_cut self.now entry byte || slice_index_or marks.old byte false) }
     {
         let edge = self.edge_before(entry);
-        cuts(
-            &self.values[number_in(entry) as usize],
-            self.size,
-            self.place,
-            edge,
-            marks,
-        );
+        cuts(self.value(entry), self.size, self.place, edge, marks);
     }
 }

@@ -1,11 +1,13 @@
 //! What a state becomes after each byte of a place.
 
-ghost use Rattle.std.specs.Prelude.{◌≡◌, ℕ, ◌<◌, ◌≤◌, ◌||◌, ◌++◌, [], length, map, slice_index_or, take, true, false, All, OnOk, IfOk, option_to_list};
+ghost use Rattle.std.specs.Prelude.{◌≡◌, ℕ, ◌<◌, ◌≤◌, ◌||◌, ◌++◌, ◌∷◌, [], ◌⊎◌, length, slice_index_or, false, All, OnOk, IfOk, option_to_list};
 ghost use Rattle.std.specs.List.{list_any};
 ghost use Rattle.trie_merge.specs.Entry.{entry_step, entries_step, is_entry_cut, CanStep};
 ghost use Rattle.trie_merge.specs.Lists.{list_at, list_of_byte, interval_at};
+ghost use Rattle.trie_merge.specs.Intervals.{AreIntervals};
 
 use crate::column::Column;
+use crate::intervals::Intervals;
 use smallvec::SmallVec;
 use std::alloc::{AllocError, Global};
 
@@ -24,56 +26,51 @@ pub(crate) fn mark_cuts(column: &Column, entries: &[u32], marks: &mut [bool; 256
     }
 }
 
-/// The first bytes of the intervals that the marks make, and how many there are.
-#[derive(Drop)]
-pub(crate) struct Firsts {
-    bytes: [u8; 256],
+/// The intervals of bytes after which all entries are the same.
+fn intervals_of(column: &Column, entries: &[u32]) -> Intervals
+    requires { All (CanStep column.now) entries.now }
+    ensures intervals { AreIntervals result.marks result.firsts result.of_bytes result.count }
+    ensures same { (one other : ℕ) → one < 256 → other < 256 → interval_at result.marks one ≡ interval_at result.marks other →
+        entries_step column.now entries.now one ≡ entries_step column.now entries.now other }
+{
+    let mut marks = [false; 256];
+    mark_cuts(column, entries, &mut marks);
+    Intervals::new(&marks)
+}
+
+/// Puts the entry behind each of the first lists.
+fn hand_to_all(
+    after: u32,
     count: usize,
+    lists: &mut [SmallVec<u32, INLINE_ENTRIES, Global>],
+) -> Result<(), AllocError>
+    requires { count ≤ length lists.old }
+    ensures { OnOk result ((k : ℕ) → k < count → list_at lists.new k ≡ list_at lists.old k ++ after ∷ []) }
+{
+    for k in 0..count {
+        lists[k].push(after)?;
+    }
+    Ok(())
 }
 
-impl Firsts {
-    /// The first bytes of the intervals, of which each mark from byte 1 on begins one.
-    pub(crate) fn new(marks: &[bool; 256]) -> Self
-        ensures count { result.count ≤ 256 }
-        ensures within { (byte : ℕ) → byte < 256 → interval_at marks.now byte < result.count }
-        ensures small { (byte : ℕ) → byte < 256 → slice_index_or result.bytes (interval_at marks.now byte) 0 < 256 }
-        ensures first { (byte : ℕ) → byte < 256 →
-            interval_at marks.now (slice_index_or result.bytes (interval_at marks.now byte) 0) ≡ interval_at marks.now byte }
-    {
-        let mut bytes = [0; 256];
-        let mut count = 1;
-        for byte in 1..256usize {
-            if marks[byte] {
-                bytes[count] = byte as u8;
-                count += 1;
-            }
-        }
-        Firsts { bytes, count }
-    }
-
-    /// The first bytes.
-    pub(crate) fn bytes(&self) -> &[u8]
-        requires { self.now.count ≤ 256 }
-        ensures bytes { result.now ≡ take self.now.count self.now.bytes }
-        ensures len { length result.now ≡ self.now.count }
-    {
-        &self.bytes[..self.count]
-    }
-}
-
-/// Puts what one entry is after the first byte of each interval behind the interval's list.
-fn hand_out(
+/// Puts what one entry is after the first byte of each interval from one to another behind the interval's list.
+fn hand_to_run(
     column: &Column,
     entry: u32,
-    firsts: &[u8],
+    firsts: &[u8; 256],
+    from: usize,
+    until: usize,
     lists: &mut [SmallVec<u32, INLINE_ENTRIES, Global>],
 ) -> Result<(), AllocError>
     requires entry { CanStep column.now entry }
-    requires lists { length firsts.now ≤ length lists.old }
-    ensures { OnOk result ((k : ℕ) → k < length firsts.now →
+    requires run { from ≤ until }
+    requires few { until ≤ 256 }
+    requires lists { until ≤ length lists.old }
+    ensures within { OnOk result ((k : ℕ) → from ≤ k → k < until →
         list_at lists.new k ≡ list_at lists.old k ++ option_to_list (entry_step column.now entry (slice_index_or firsts.now k 0))) }
+    ensures outside { OnOk result ((k : ℕ) → k < from ⊎ until ≤ k → list_at lists.new k ≡ list_at lists.old k) }
 {
-    for k in 0..firsts.len() {
+    for k in from..until {
         if let Some(after) = column.step(entry, firsts[k]) {
             lists[k].push(after)?;
         }
@@ -81,47 +78,68 @@ fn hand_out(
     Ok(())
 }
 
+/// Puts what one entry is after the first byte of each interval behind the interval's list.
+///
+/// An entry that every byte leaves goes to all lists, and any other is asked only in the run of intervals that it can survive in.
+fn hand_out(
+    column: &Column,
+    entry: u32,
+    intervals: &Intervals,
+    lists: &mut [SmallVec<u32, INLINE_ENTRIES, Global>],
+) -> Result<(), AllocError>
+    requires entry { CanStep column.now entry }
+    requires intervals { AreIntervals intervals.now.marks intervals.now.firsts intervals.now.of_bytes intervals.now.count }
+    requires lists { intervals.now.count ≤ length lists.old }
+    ensures { OnOk result ((k : ℕ) → k < intervals.now.count →
+        list_at lists.new k ≡ list_at lists.old k ++ option_to_list (entry_step column.now entry (slice_index_or intervals.now.firsts k 0))) }
+{
+    if let Some(after) = column.step_free(entry) {
+        return hand_to_all(after, intervals.count, lists);
+    }
+    let (first, last) = column.ends(entry);
+    let from = usize::from(intervals.of_bytes[usize::from(first)]);
+    let until = usize::from(intervals.of_bytes[usize::from(last)]) + 1;
+    hand_to_run(column, entry, &intervals.firsts, from, until, lists)?;
+    Ok(())
+}
+
 /// Makes the lists those of the entries after the first byte of each interval.
-pub(crate) fn hand_out_all(
+fn hand_out_all(
     column: &Column,
     entries: &[u32],
-    firsts: &[u8],
+    intervals: &Intervals,
     lists: &mut [SmallVec<u32, INLINE_ENTRIES, Global>],
 ) -> Result<(), AllocError>
     requires entries { All (CanStep column.now) entries.now }
-    requires lists { length firsts.now ≤ length lists.old }
-    ensures { OnOk result ((k : ℕ) → k < length firsts.now →
-        list_at lists.new k ≡ entries_step column.now entries.now (slice_index_or firsts.now k 0)) }
+    requires intervals { AreIntervals intervals.now.marks intervals.now.firsts intervals.now.of_bytes intervals.now.count }
+    requires lists { intervals.now.count ≤ length lists.old }
+    ensures { OnOk result ((k : ℕ) → k < intervals.now.count →
+        list_at lists.new k ≡ entries_step column.now entries.now (slice_index_or intervals.now.firsts k 0)) }
 {
-    for k in 0..firsts.len() {
+    for k in 0..intervals.count {
         lists[k].clear();
     }
     for entry in entries {
-        hand_out(column, *entry, firsts, lists)?;
+        hand_out(column, *entry, intervals, lists)?;
     }
     Ok(())
 }
 
-/// Makes the lists those of the state's entries after each interval of bytes, and the marks those of the intervals. Gives how
-/// many intervals there are.
+/// Makes the lists those of the state's entries after each interval of bytes, and gives the intervals.
 pub(crate) fn fill_lists(
     column: &Column,
     entries: &[u32],
-    marks: &mut [bool; 256],
     lists: &mut [SmallVec<u32, INLINE_ENTRIES, Global>],
-) -> Result<usize, AllocError>
+) -> Result<Intervals, AllocError>
     requires entries { All (CanStep column.now) entries.now }
-    requires marks { (byte : ℕ) → byte < 256 → slice_index_or marks.old byte false ≡ false }
     requires lists { 256 ≤ length lists.old }
-    ensures count { IfOk result (λ count. (count ≤ 256) × ((byte : ℕ) → byte < 256 → interval_at marks.new byte < count)) }
-    ensures some { IfOk result (λ count. (k : ℕ) → k < count →
+    ensures intervals { IfOk result (λ its. AreIntervals its.marks its.firsts its.of_bytes its.count) }
+    ensures some { IfOk result (λ its. (k : ℕ) → k < its.count →
         (first : ℕ) × (list_at lists.new k ≡ entries_step column.now entries.now first)) }
-    ensures lists { OnOk result ((byte : ℕ) → byte < 256 →
-        list_of_byte marks.new lists.new byte ≡ entries_step column.now entries.now byte) }
+    ensures lists { IfOk result (λ its. (byte : ℕ) → byte < 256 →
+        list_of_byte its.marks lists.new byte ≡ entries_step column.now entries.now byte) }
 {
-    mark_cuts(column, entries, marks);
-    let firsts = Firsts::new(marks);
-    let bytes = firsts.bytes();
-    hand_out_all(column, entries, bytes, lists)?;
-    Ok(bytes.len())
+    let intervals = intervals_of(column, entries);
+    hand_out_all(column, entries, &intervals, lists)?;
+    Ok(intervals)
 }

@@ -12,7 +12,8 @@
 //!
 //! - `entry`: a rule of a state and the edge of its rest as one number.
 //! - `column`: what a place of the key has of each rule, and what a byte makes of an entry there.
-//! - `expand`: the cuts of a state's entries, and the list of entries after each interval of bytes between them.
+//! - `intervals`: the intervals of bytes that the cuts of a state's entries make.
+//! - `expand`: the list of entries after each interval, to which each entry is handed out where it has a rest.
 //! - `row`: the row of the entries after a whole key.
 //! - `number`: lists numbered in the order in which they are found, and the runs of bytes.
 //! - `merge`: the states of one place, one after the other, with their words against the cap.
@@ -25,6 +26,7 @@ mod build;
 mod column;
 mod entry;
 mod expand;
+mod intervals;
 mod kept;
 pub mod laws;
 mod levels;

@@ -1,18 +1,17 @@
 //! The states of one kept place, one after the other: their runs, their words, and the states or rows that they lead to.
 
 ghost use Rattle.std.specs.Prelude.{◌≡◌, ℕ, ◌<◌, ◌+◌, ◌*◌, ◌^◌, ◌≤◌, ◌++◌, ◌∷◌, [], List, length, map, fold, slice_index_or, All, OnOk, IfOk, if◌then◌else◌};
-ghost use Rattle.trie_merge.specs.declared.run.Succ.TheVariants.{Dead};
 ghost use Rattle.trie_merge.specs.Entry.{number_in, CanStep};
 ghost use Rattle.trie_merge.specs.Found.{all_bytes};
 ghost use Rattle.trie_merge.specs.Levels.{cost_of, max_cap};
-ghost use Rattle.trie_merge.specs.Lists.{lists_of, list_at, lists_with, succ_in, row_list, successor, state_runs, least_cost, least_words, IsMergedWithin};
+ghost use Rattle.trie_merge.specs.Lists.{lists_of, list_at, lists_with, row_list, successor, state_runs, least_cost, least_words, IsMergedWithin};
 ghost use Rattle.trie_merge.specs.Pieces.{pieces_of, IsPieces};
 
 use crate::column::Column;
 use crate::expand::{INLINE_ENTRIES, fill_lists};
-use crate::number::{number_successors, push_runs};
+use crate::number::join_runs;
 use crate::row::make_rows;
-use crate::run::{Run, Succ};
+use crate::run::Run;
 use indexmap::IndexSet;
 use rule_set::RuleSet;
 use smallvec::SmallVec;
@@ -49,7 +48,7 @@ fn make_successors(
     Ok(())
 }
 
-/// Numbers what each byte leads to from one state.
+/// Numbers what one state leads to, and puts its runs behind the others.
 fn expand_state(
     alloc: Global,
     rules: &RuleSet,
@@ -58,7 +57,7 @@ fn expand_state(
     entries: &[u32],
     lists: &mut [SmallVec<u32, INLINE_ENTRIES, Global>],
     found: &mut IndexSet<SmallVec<u32, INLINE_ENTRIES, Global>>,
-    succs: &mut [Succ; 256],
+    runs: &mut Vec<Run>,
 ) -> Result<(), AllocError>
     requires entries { All (CanStep column.now) entries.now }
     requires rules { length column.now.values ≡ length rules.now.rules }
@@ -66,13 +65,12 @@ fn expand_state(
     requires room { length found.old.keys + 256 < 2 ^ 32 }
     ensures found { OnOk result (lists_of found.new.keys
         ≡ fold lists_with (lists_of found.old.keys) (map (successor rules.now column.now is_last entries.now) all_bytes)) }
-    ensures succs { OnOk result ((more : List (List ℕ)) (byte : ℕ) → byte < 256 → slice_index_or succs.new byte Dead
-        ≡ succ_in is_last (lists_of found.new.keys ++ more) (successor rules.now column.now is_last entries.now byte)) }
+    ensures runs { OnOk result ((more : List (List ℕ)) → runs.new.items
+        ≡ runs.old.items ++ state_runs rules.now column.now is_last (lists_of found.new.keys ++ more) entries.now) }
 {
-    let mut marks = [false; 256];
-    let count = fill_lists(column, entries, &mut marks, lists)?;
-    make_successors(alloc, rules, is_last, count, lists)?;
-    number_successors(alloc, is_last, &marks, lists, found, succs)?;
+    let intervals = fill_lists(column, entries, lists)?;
+    make_successors(alloc, rules, is_last, intervals.count, lists)?;
+    join_runs(alloc, is_last, &intervals, lists, found, runs)?;
     Ok(())
 }
 
@@ -110,12 +108,17 @@ fn merge_state(
         words ≡ cost_of (length (state_runs rules.now column.now is_last (lists_of found.new.keys ++ more) entries.now))) }
     ensures some { IfOk result (λ words. (0 < words) × (words ≤ 256)) }
 {
-    let mut succs = [Succ::Dead; 256];
-    expand_state(
-        alloc, rules, column, is_last, entries, lists, found, &mut succs,
-    )?;
     let start = pieces.runs.len();
-    push_runs(&succs, &mut pieces.runs)?;
+    expand_state(
+        alloc,
+        rules,
+        column,
+        is_last,
+        entries,
+        lists,
+        found,
+        &mut pieces.runs,
+    )?;
     let end = pieces.runs.len();
     pieces.ends.push(end)?;
     Ok(cost_of(end - start))
