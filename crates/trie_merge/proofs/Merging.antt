@@ -1,8 +1,11 @@
 -- Merging the states of a place, one after the other.
-use Rattle.std.proofs.Common.{◌≡◌, ℕ, ◌+◌, ◌*◌, ◌<◌, ◌≤◌, List, [], ◌∷◌, ◌++◌, length, map, fold, Bool, true, false, refl, sym, ◌∙◌, ap, arith, length-append}
-use Rattle.std.specs.List.{flat_map}
+use Rattle.std.proofs.Common.{◌≡◌, ℕ, ◌+◌, ◌*◌, ◌<◌, ◌≤◌, ◌==◌, List, [], ◌∷◌, ◌++◌, length, map, filter, take, fold, Bool, true, false, cond, Option, Some, None, get_or, refl, sym, ◌∙◌, ap, subst, arith, length-append}
+use Rattle.std.specs.Prelude.{nat_le, IfSome}
+use Rattle.std.specs.List.{flat_map, sum_by, AllByRecursion}
 use Rattle.std.specs.Str.{bytes_eq}
-use Rattle.std.proofs.lemmas.List.{map-append, append_assoc, append-nil, length-map, map_push}
+use Rattle.std.proofs.lemmas.List.{map-append, append_assoc, append-nil, length-map, map_push, take-map, take_more}
+use Rattle.std.proofs.Math.Seq.{take-append_seam}
+use Rattle.std.proofs.lemmas.List.Elements.{recursion_from_All, All-from_recursion}
 use Rattle.std.proofs.lemmas.List.Concat.{flat_map-append}
 use Rattle.std.proofs.lemmas.List.Sums.{fold-append, sum_by-append, sum_by-cons}
 use Rattle.smallvec.specs.SmallVec.{SmallVec}
@@ -11,21 +14,81 @@ use Rattle.trie_merge.specs.declared.run.Run.{Run}
 use Rattle.trie_merge.specs.State.{is_live}
 use Rattle.trie_merge.specs.Found.{found_in, all_bytes}
 use Rattle.trie_merge.specs.Entry.{ColumnView}
-use Rattle.trie_merge.specs.Levels.{cost_of}
+use Rattle.trie_merge.specs.Levels.{cost_of, few_runs, many_runs, row_words}
 use Rattle.trie_merge.specs.Pieces.{pieces_of, IsPieces}
-use Rattle.trie_merge.specs.Lists.{lists_of, lists_with, successor, level_found, state_runs, states_words, least_cost, least_words, IsMergedWithin}
+use Rattle.trie_merge.specs.Lists.{lists_of, lists_with, successor, level_found, state_runs, states_words, is_change, cost_ahead, price, least_cost, least_words, CanCount, AllCanCount, IsMergedWithin}
 use Rattle.trie_merge.proofs.Finds.{found_grows}
+use Rattle.trie_merge.proofs.Handing.{list_at-read}
 use Rattle.trie_merge.proofs.Successors.{with_length, length-all_bytes}
 
 -- The states so far: what they lead to is found, their runs stand whatever is found behind, and the words are within the cap.
-pub record MergedSoFar (set : RuleSetView) (column : ColumnView) (is_last : Bool) (cap before : ℕ) (states : List (SmallVec ℕ)) (its_runs : List Run) (ends : List ℕ) (keys : List (SmallVec ℕ)) (words : ℕ) : Type 0 where
+pub record MergedSoFar (set : RuleSetView) (column : ColumnView) (next : Option ColumnView) (is_last : Bool) (cap before : ℕ)
+    (states : List (SmallVec ℕ)) (its_runs : List Run) (ends : List ℕ) (keys : List (SmallVec ℕ)) (words least : ℕ) : Type 0 where
   pub found : lists_of keys ≡ level_found set column is_last (lists_of states)
   pub runs : (more : List (List ℕ)) → pieces_of its_runs 0 ends ≡ map (state_runs set column is_last (lists_of keys ++ more)) (lists_of states)
   pub pieces : IsPieces 0 ends (length its_runs)
   pub sum : words ≡ before + states_words (pieces_of its_runs 0 ends)
-  pub within : words + least_cost is_last (length keys) ≤ cap
+  pub priced : least ≡ least_cost next is_last (lists_of keys)
+  pub within : words + least ≤ cap
 
-module _ (set : RuleSetView) (column : ColumnView) (is_last : Bool) where
+-- a list takes a word at least, and no more than 256
+cost_some : (count : ℕ) → (0 < cost_of count) × (cost_of count ≤ 256)
+cost_some count = by (count == 1) (nat_le count few_runs)
+  where
+    by : (a b : Bool) → (0 < cond a 1 (cond b few_runs many_runs)) × (cond a 1 (cond b few_runs many_runs) ≤ 256)
+    by true b = (omega arith, omega arith)
+    by false true = (omega arith, omega arith)
+    by false false = (omega arith, omega arith)
+
+price_some : (next : Option ColumnView) (is_last : Bool) (list : List ℕ) → 0 < price next is_last list
+unfolding cost_ahead
+price_some (Some column) is_last list = (cost_some (length (filter (is_change column list) all_bytes))).0
+price_some None true list = omega arith
+price_some None false list = omega arith
+
+pub least_cost_none : (next : Option ColumnView) (is_last : Bool) → least_cost next is_last [] ≡ 0
+unfolding least_cost
+least_cost_none next is_last = refl
+
+pub least_cost_more : (next : Option ColumnView) (is_last : Bool) (lists more : List (List ℕ)) →
+    least_cost next is_last (lists ++ more) ≡ least_cost next is_last lists + least_cost next is_last more
+unfolding least_cost
+least_cost_more next is_last lists more = sum_by-append (price next is_last) lists more
+
+pub least_cost_one : (next : Option ColumnView) (is_last : Bool) (list : List ℕ) →
+    least_cost next is_last (list ∷ []) ≡ price next is_last list
+unfolding least_cost
+least_cost_one next is_last list = sum_by-cons (price next is_last) list [] ∙ omega arith
+
+pub least_cost_some : (next : Option ColumnView) (is_last : Bool) (lists : List (List ℕ)) → length lists ≤ least_cost next is_last lists
+unfolding least_cost
+least_cost_some next is_last [] = omega arith
+least_cost_some next is_last (list ∷ lists) =
+    omega (arith, sum_by-cons (price next is_last) list lists, price_some next is_last list, least_cost_some next is_last lists)
+
+-- with a place behind, it is the words of the states there
+pub least_cost_known : (next : ColumnView) (is_last : Bool) (lists : List (List ℕ)) →
+    least_cost (Some next) is_last lists ≡ sum_by (cost_ahead next) lists
+unfolding least_cost
+least_cost_known next is_last [] = refl
+least_cost_known next is_last (list ∷ lists) =
+    omega (
+      arith,
+      sum_by-cons (price (Some next) is_last) list lists,
+      sum_by-cons (cost_ahead next) list lists,
+      least_cost_known next is_last lists,
+    )
+
+-- without a place behind, each list takes as much as any other
+pub least_cost_flat : (is_last : Bool) (lists : List (List ℕ)) →
+    least_cost None is_last lists ≡ (cond is_last row_words 1) * length lists
+unfolding least_cost
+least_cost_flat true [] = omega arith
+least_cost_flat false [] = omega arith
+least_cost_flat true (list ∷ lists) = omega (arith, sum_by-cons (price None true) list lists, least_cost_flat true lists)
+least_cost_flat false (list ∷ lists) = omega (arith, sum_by-cons (price None false) list lists, least_cost_flat false lists)
+
+module _ (set : RuleSetView) (column : ColumnView) (next : Option ColumnView) (is_last : Bool) where
   -- one more state's finds come behind the others'
   found_more : (states : List (List ℕ)) (state : List ℕ) → level_found set column is_last (states ++ state ∷ [])
       ≡ fold lists_with (level_found set column is_last states) (map (successor set column is_last state) all_bytes)
@@ -43,32 +106,22 @@ module _ (set : RuleSetView) (column : ColumnView) (is_last : Bool) where
       let grown = found_grows bytes_eq is_live (fold lists_with [] (flat_map after states)) (flat_map after more) in
       (grown.0, ap (fold lists_with []) (flat_map-append after states more) ∙ fold-append lists_with [] (flat_map after states) (flat_map after more) ∙ grown.1)
 
-  least_cost_grows : (count more : ℕ) → least_cost is_last count ≤ least_cost is_last (count + more)
-  least_cost_grows count more = by is_last
-    where
-      by : (b : Bool) → least_cost b count ≤ least_cost b (count + more)
-      by true = omega arith
-      by false = omega arith
-
   none_found : [] ≡ level_found set column is_last []
   unfolding level_found found_in
   none_found = refl
 
-  pub none_merged : (cap before : ℕ) → before ≤ cap → MergedSoFar set column is_last cap before [] [] [] [] before
+  pub none_merged : (cap before : ℕ) → before ≤ cap → MergedSoFar set column next is_last cap before [] [] [] [] before 0
   none_merged cap before within = record {
     found = none_found;
     runs = λ more. refl;
     pieces = refl;
     sum = omega arith;
-    within = by is_last;
+    priced = sym (least_cost_none next is_last);
+    within = omega arith;
   }
-    where
-      by : (b : Bool) → before + least_cost b 0 ≤ cap
-      by true = omega arith
-      by false = omega arith
 
-  module _ (cap before : ℕ) (states : List (SmallVec ℕ)) (its_runs : List Run) (ends : List ℕ) (keys : List (SmallVec ℕ)) (words : ℕ)
-      (so_far : MergedSoFar set column is_last cap before states its_runs ends keys words)
+  module _ (cap before : ℕ) (states : List (SmallVec ℕ)) (its_runs : List Run) (ends : List ℕ) (keys : List (SmallVec ℕ)) (words least : ℕ)
+      (so_far : MergedSoFar set column next is_last cap before states its_runs ends keys words least)
       (state : SmallVec ℕ) (runs' : List Run) (ends' : List ℕ) (keys' : List (SmallVec ℕ)) (cost : ℕ)
       (found' : lists_of keys' ≡ fold lists_with (lists_of keys) (map (successor set column is_last state.items) all_bytes))
       (pieces' : (more : List (List ℕ)) → pieces_of runs' 0 ends' ≡ pieces_of its_runs 0 ends ++ state_runs set column is_last (lists_of keys' ++ more) state.items ∷ [])
@@ -99,34 +152,87 @@ module _ (set : RuleSetView) (column : ColumnView) (is_last : Bool) where
         ∙ ap (λ n. states_words (pieces_of its_runs 0 ends) + n) (sum_by-cons (λ (runs : List Run). cost_of (length runs)) last [] ∙ omega arith) in
         omega (arith, so_far.sum, more, cost' [])
 
-    -- one more state within the cap
-    pub one_merged : words + cost + least_cost is_last (length keys') ≤ cap → MergedSoFar set column is_last cap before (states ++ state ∷ []) runs' ends' keys' (words + cost)
-    one_merged within = record { found = found_is; runs = runs_are; pieces = are_pieces; sum = sum_is; within = within }
+    -- what was found before stands first among what is found now
+    pub still_first : lists_of (take (length keys) keys') ≡ lists_of keys
+    still_first =
+        let grown = found_grows bytes_eq is_live (lists_of keys) (map (successor set column is_last state.items) all_bytes) in
+        let long : length (lists_of keys) ≡ length keys = length-map keys (λ (v : SmallVec ℕ). v.items) in
+        sym (take-map (λ (v : SmallVec ℕ). v.items) (length keys) keys')
+        ∙ ap (take (length keys)) (found' ∙ grown.1)
+        ∙ ap (λ n. take n (lists_of keys ++ grown.0)) (sym long)
+        ∙ take-append_seam (lists_of keys) grown.0
 
-    -- or past it
-    pub past_cap : (more : List (SmallVec ℕ)) → cap < words + cost + least_cost is_last (length keys') → cap < least_words set column is_last before (lists_of ((states ++ state ∷ []) ++ more))
-    past_cap more over =
+    pub no_fewer : length keys ≤ length keys'
+    no_fewer =
+        let grown = found_grows bytes_eq is_live (lists_of keys) (map (successor set column is_last state.items) all_bytes) in
+        omega (
+          arith,
+          ap length (found' ∙ grown.1),
+          length-append (lists_of keys) grown.0,
+          length-map keys (λ (v : SmallVec ℕ). v.items),
+          length-map keys' (λ (v : SmallVec ℕ). v.items),
+        )
+
+    -- the lists found are the first of all that will be found
+    pub first_of_all : (more : List (SmallVec ℕ)) → (extra : List (List ℕ))
+        × (level_found set column is_last (lists_of ((states ++ state ∷ []) ++ more)) ≡ lists_of keys' ++ extra)
+    first_of_all more =
         let done : List (List ℕ) = lists_of (states ++ state ∷ []) in
-        let all : lists_of ((states ++ state ∷ []) ++ more) ≡ done ++ lists_of more = map-append (λ (v : SmallVec ℕ). v.items) (states ++ state ∷ []) more in
-        let on = found_on done (lists_of more) in
-        let found_all : level_found set column is_last (done ++ lists_of more) ≡ lists_of keys' ++ on.0 = on.1 ∙ ap (λ f. f ++ on.0) (sym found_is) in
-        let f : List ℕ → List Run = state_runs set column is_last (lists_of keys' ++ on.0) in
-        let split : states_words (map f (done ++ lists_of more)) ≡ states_words (map f done) + states_words (map f (lists_of more)) =
-        ap states_words (map-append f done (lists_of more)) ∙ sum_by-append (λ (runs : List Run). cost_of (length runs)) (map f done) (map f (lists_of more)) in
-        let first : states_words (map f done) ≡ states_words (pieces_of runs' 0 ends') = sym (ap states_words (runs_are on.0)) in
-        let long : length (lists_of keys' ++ on.0) ≡ length keys' + length on.0 = length-append (lists_of keys') on.0 ∙ ap (λ n. n + length on.0) (length-map keys' (λ (v : SmallVec ℕ). v.items)) in
-        rw (all, found_all, long) (omega (arith, over, sum_is, split, first, least_cost_grows (length keys') (length on.0)))
+        let on = found_on done (lists_of more) in (
+          on.0,
+          ap (level_found set column is_last) (map-append (λ (v : SmallVec ℕ). v.items) (states ++ state ∷ []) more)
+              ∙ on.1 ∙ ap (λ f. f ++ on.0) (sym found_is),
+        )
+
+    module _ (least' : ℕ) (priced' : least' ≡ least_cost next is_last (lists_of keys')) where
+      -- one more state within the cap
+      pub one_merged : words + cost + least' ≤ cap →
+          MergedSoFar set column next is_last cap before (states ++ state ∷ []) runs' ends' keys' (words + cost) least'
+      one_merged within = record {
+        found = found_is;
+        runs = runs_are;
+        pieces = are_pieces;
+        sum = sum_is;
+        priced = priced';
+        within = within;
+      }
+
+      -- or past it
+      pub past_cap : (more : List (SmallVec ℕ)) → cap < words + cost + least' →
+          cap < least_words set column next is_last before (lists_of ((states ++ state ∷ []) ++ more))
+      past_cap more over =
+          let done : List (List ℕ) = lists_of (states ++ state ∷ []) in
+          let all : lists_of ((states ++ state ∷ []) ++ more) ≡ done ++ lists_of more = map-append (λ (v : SmallVec ℕ). v.items) (states ++ state ∷ []) more in
+          let on = found_on done (lists_of more) in
+          let found_all : level_found set column is_last (done ++ lists_of more) ≡ lists_of keys' ++ on.0 = on.1 ∙ ap (λ f. f ++ on.0) (sym found_is) in
+          let f : List ℕ → List Run = state_runs set column is_last (lists_of keys' ++ on.0) in
+          let split : states_words (map f (done ++ lists_of more)) ≡ states_words (map f done) + states_words (map f (lists_of more)) =
+          ap states_words (map-append f done (lists_of more)) ∙ sum_by-append (λ (runs : List Run). cost_of (length runs)) (map f done) (map f (lists_of more)) in
+          let first : states_words (map f done) ≡ states_words (pieces_of runs' 0 ends') = sym (ap states_words (runs_are on.0)) in
+          rw (all, found_all)
+          (omega (arith, over, sum_is, split, first, priced', least_cost_more next is_last (lists_of keys') on.0))
 
   -- all states
-  pub all_merged : (cap before : ℕ) (states : List (SmallVec ℕ)) (its_runs : List Run) (ends : List ℕ) (keys : List (SmallVec ℕ)) (words : ℕ) →
-      MergedSoFar set column is_last cap before states its_runs ends keys words →
-      IsMergedWithin set column is_last cap before (lists_of states) (pieces_of its_runs 0 ends) (lists_of keys) words
-  all_merged cap before states its_runs ends keys words so_far = record {
+  pub all_merged : (cap before : ℕ) (states : List (SmallVec ℕ)) (its_runs : List Run) (ends : List ℕ) (keys : List (SmallVec ℕ)) (words least : ℕ) →
+      MergedSoFar set column next is_last cap before states its_runs ends keys words least →
+      IsMergedWithin set column next is_last cap before (lists_of states) (pieces_of its_runs 0 ends) (lists_of keys) words
+  all_merged cap before states its_runs ends keys words least so_far = record {
     lists = so_far.found;
     its_runs = so_far.runs [] ∙ ap (λ f. map (state_runs set column is_last f) (lists_of states)) (append-nil (lists_of keys));
     sum = so_far.sum;
-    within = rw (length-map keys (λ (v : SmallVec ℕ). v.items)) so_far.within;
+    within = rw (← so_far.priced) so_far.within;
   }
+
+  -- so the cap bounds how many lists there are
+  pub few_found : (cap before : ℕ) (states : List (SmallVec ℕ)) (its_runs : List Run) (ends : List ℕ) (keys : List (SmallVec ℕ)) (words least : ℕ) →
+      MergedSoFar set column next is_last cap before states its_runs ends keys words least →
+      (length keys ≤ cap) × (words ≤ cap) × (least ≤ cap)
+  few_found cap before states its_runs ends keys words least so_far =
+      let some = least_cost_some next is_last (lists_of keys) in (
+        omega (arith, some, so_far.priced, so_far.within, length-map keys (λ (v : SmallVec ℕ). v.items)),
+        omega (arith, so_far.within),
+        omega (arith, so_far.within),
+      )
 
 -- a state finds no more than one list for each byte
 finds_few : (found lists : List (List ℕ)) → length (fold lists_with found lists) ≤ length found + length lists
@@ -141,15 +247,30 @@ grown_by set column is_last entries keys keys' is =
     let few : length (lists_of keys') ≤ length (lists_of keys) + length (map (successor set column is_last entries) all_bytes) = rw is (finds_few (lists_of keys) (map (successor set column is_last entries) all_bytes)) in
     omega (arith, few, length-map keys' (λ (v : SmallVec ℕ). v.items), length-map keys (λ (v : SmallVec ℕ). v.items), length-map all_bytes (successor set column is_last entries), length-all_bytes)
 
--- so the cap bounds how many there are
-pub few_found : (set : RuleSetView) (column : ColumnView) (is_last : Bool) (cap before : ℕ) (states : List (SmallVec ℕ)) (its_runs : List Run) (ends : List ℕ) (keys : List (SmallVec ℕ)) (words : ℕ) →
-    MergedSoFar set column is_last cap before states its_runs ends keys words → (length keys ≤ cap) × (words ≤ cap)
-few_found set column is_last cap before states its_runs ends keys words so_far = by is_last so_far.within
+-- the first of some lists can be counted where all can
+pub first_can_count : (next : Option ColumnView) (lists more : List (List ℕ)) → AllCanCount next (lists ++ more) → AllCanCount next lists
+first_can_count None lists more all = tt
+first_can_count (Some column) lists more all =
+    All-from_recursion (CanCount column) lists (by lists (recursion_from_All (CanCount column) (lists ++ more) all))
   where
-    by : (b : Bool) → words + least_cost b (length keys) ≤ cap → (length keys ≤ cap) × (words ≤ cap)
-    by true within = (omega arith, omega arith)
-    by false within = (omega arith, omega arith)
+    by : (xs : List (List ℕ)) → AllByRecursion (CanCount column) (xs ++ more) → AllByRecursion (CanCount column) xs
+    by [] h = tt
+    by (x ∷ xs) h = (h.0, by xs h.1)
 
-pub least_cost_small : (is_last : Bool) (count : ℕ) → least_cost is_last count ≤ 16 * count
-least_cost_small true count = omega arith
-least_cost_small false count = omega arith
+-- so each can
+pub one_can_count : (next : Option ColumnView) (keys : List (SmallVec ℕ)) (k : ℕ) (v : SmallVec ℕ) → AllCanCount next (lists_of keys) →
+    k < length keys → v ≡ get_or keys k v → IfSome next (λ column. CanCount column v.items)
+one_can_count None keys k v all within read = tt
+one_can_count (Some column) keys k v all within read =
+    subst (CanCount column) (list_at-read keys k v within read)
+    (all k [] (rw (length-map keys (λ (u : SmallVec ℕ). u.items)) within))
+
+-- one more list is counted
+pub one_more_price : (next : Option ColumnView) (is_last : Bool) (keys : List (SmallVec ℕ)) (k : ℕ) (v : SmallVec ℕ) →
+    k < length keys → v ≡ get_or keys k v →
+    least_cost next is_last (lists_of (take (k + 1) keys)) ≡ least_cost next is_last (lists_of (take k keys)) + price next is_last v.items
+one_more_price next is_last keys k v within read =
+    ap (λ ks. least_cost next is_last (lists_of ks)) (take_more keys k v within ∙ ap (λ u. take k keys ++ u ∷ []) (sym read))
+    ∙ ap (least_cost next is_last) (map_push (λ (u : SmallVec ℕ). u.items) (take k keys) v)
+    ∙ least_cost_more next is_last (lists_of (take k keys)) (v.items ∷ [])
+    ∙ ap (λ n. least_cost next is_last (lists_of (take k keys)) + n) (least_cost_one next is_last v.items)

@@ -22,7 +22,7 @@ entry_uncut column entry byte uncut =
     ap (option_map (entry_of (number_in entry))) (same ∙ ap (edge_step (value_in column entry) column.size column.place (edge_before column entry)) back)
 
 -- and so does a list of them
-entries_uncut : (column : ColumnView) (entries : List ℕ) (byte : ℕ) → list_any (λ entry. is_entry_cut column entry (byte + 1)) entries ≡ false →
+pub entries_uncut : (column : ColumnView) (entries : List ℕ) (byte : ℕ) → list_any (λ entry. is_entry_cut column entry (byte + 1)) entries ≡ false →
     entries_step column entries (byte + 1) ≡ entries_step column entries byte
 unfolding entries_step
 entries_uncut column [] byte uncut = refl

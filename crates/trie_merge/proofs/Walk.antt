@@ -1,9 +1,12 @@
 -- Merging the kept places of a group, one after the other.
-use Rattle.std.proofs.Common.{◌≡◌, ℕ, zero, suc, ◌+◌, ◌-◌, ◌*◌, ◌<◌, ◌≤◌, ◌==◌, List, [], ◌∷◌, ◌++◌, length, map, drop, get_or, Bool, true, false, cond, true≢false, refl, sym, ◌∙◌, ap, subst, inl, inr, arith}
+use Rattle.std.proofs.Common.{◌≡◌, ℕ, zero, suc, ◌+◌, ◌-◌, ◌*◌, ◌<◌, ◌≤◌, ◌==◌, List, [], ◌∷◌, ◌++◌, length, map, drop, get_or, Bool, true, false, cond, Option, Some, None, true≢false, refl, sym, ◌∙◌, ap, subst, inl, inr, arith}
 use Rattle.std.specs.Prelude.{All, nat_le}
-use Rattle.std.specs.List.{AllByRecursion}
+use Rattle.std.specs.List.{AllByRecursion, cons_option}
+use Rattle.std.specs.List.Sorted.{IsStrictlyIncreasing}
+use Rattle.std.specs.Option.{option_map}
+use Rattle.node_expand.specs.declared.edge.Edge.{Edge}
 use Rattle.std.specs.Str.{bytes_eq}
-use Rattle.std.proofs.lemmas.Bool.{cases_eq, eq-eqb, ne_eqb}
+use Rattle.std.proofs.lemmas.Bool.{cases_eq, cases_lt, eq-eqb, ne_eqb, lt-ltb, le-ltb}
 use Rattle.std.proofs.lemmas.List.{drop_more, drop_all, length-map, length-drop, append-nil, append_assoc, get_or-drop}
 use Rattle.std.proofs.lemmas.List.Elements.{recursion_from_All, All-from_recursion}
 use Rattle.std.proofs.lemmas.List.Sums.{sum_by-cons}
@@ -20,11 +23,14 @@ use Rattle.trie_merge.specs.Found.{found_with, found_in, prefixes}
 use Rattle.trie_merge.specs.Kept.{is_wild_place, kept_places}
 use Rattle.trie_merge.specs.Row.{row_of, final_row, rows_of}
 use Rattle.trie_merge.specs.Levels.{states_at, level_runs, cost_of, words_of, few_runs, many_runs, row_words, levels_of}
-use Rattle.trie_merge.specs.Walk.{IsWalk}
+use Rattle.trie_merge.specs.Walk.{next_of, IsWalk}
 use Rattle.trie_merge.specs.RuleRest.{values_of}
-use Rattle.trie_merge.specs.Entry.{entry_of, field_at, column_at, CanStep}
-use Rattle.trie_merge.specs.Lists.{lists_of, level_found, state_runs, states_words, least_cost, least_words, IsMergedWithin}
-use Rattle.trie_merge.proofs.Packed.{Stands, packed_stands}
+use Rattle.trie_merge.specs.Entry.{ColumnView, entry_of, field_at, column_at, CanStep}
+use Rattle.trie_merge.specs.Lists.{lists_of, level_found, state_runs, states_words, least_cost, least_words, RisesFrom, CanCount, AllCanCount, IsMergedWithin}
+use Rattle.trie_merge.proofs.Ahead.{rises_lower, words_are_ahead}
+use Rattle.trie_merge.proofs.Merging.{least_cost_flat, least_cost_known}
+use Rattle.trie_merge.proofs.Uncut.{number_in-entry_of}
+use Rattle.trie_merge.proofs.Packed.{packed_edge, Stands, packed_stands}
 use Rattle.trie_merge.proofs.PackedState.{IsHeld, IsEntryAt, packed_state, packed_state_start, packed_entries, decoded, is_held, entry_can_step}
 use Rattle.trie_merge.proofs.Reached.{IsPrefix, packed_at, packed_next, packed_past_all, runs_next, runs_last, rows_are, states_are, all_packed, all_weaker, all-map, prefixes_are}
 use Rattle.trie_merge.proofs.Finds.{All-found_in}
@@ -36,19 +42,73 @@ pub group_held : (set : RuleSetView) (group : List ℕ) → IsRuleSet set → Is
 group_held set group held layout within =
     all_weaker (λ number. number < length set.rules) (IsHeld set) group (λ number h. is_held set number held layout h) (recursion_from_All (λ number. number < length set.rules) group within)
 
+-- ---- a state's rules are in the order of their numbers
+
+-- The numbers rise, the first of them from a number on.
+abbrev pub NumbersRise : ℕ → List ℕ → Type 0
+NumbersRise least [] = Unit {0}
+NumbersRise least (number ∷ numbers) = (least ≤ number) × NumbersRise (number + 1) numbers
+
+numbers_rise_from : (numbers : List ℕ) (least : ℕ) → (0 < length numbers → least ≤ get_or numbers 0 0) →
+    IsStrictlyIncreasing numbers → NumbersRise least numbers
+numbers_rise_from [] least first rise = tt
+numbers_rise_from (number ∷ numbers) least first rise = (
+  first (omega arith),
+  numbers_rise_from numbers (number + 1) (λ some. (let step = rise 0 (omega arith) in omega (arith, step)))
+      (λ k below. (let next : k + 1 + 1 < length (number ∷ numbers) = omega arith in shift k (rise (k + 1) next))),
+)
+  where
+    shift : (k : ℕ) → get_or (number ∷ numbers) (k + 1) 0 < get_or (number ∷ numbers) (k + 1 + 1) 0 →
+        get_or numbers k 0 < get_or numbers (k + 1) 0
+    shift k h =
+        let all : List ℕ = number ∷ numbers in
+        let one : get_or numbers k 0 ≡ get_or all (k + 1) 0 = get_or-drop 1 all k 0 ∙ ap (λ n. get_or all n 0) (omega arith) in
+        let two : get_or numbers (k + 1) 0 ≡ get_or all (k + 1 + 1) 0 = get_or-drop 1 all (k + 1) 0 ∙ ap (λ n. get_or all n 0) (omega arith) in
+        rw (one, two) h
+
+pub numbers_rise : (numbers : List ℕ) → IsStrictlyIncreasing numbers → NumbersRise 0 numbers
+numbers_rise numbers rise = numbers_rise_from numbers 0 (λ some. omega arith) rise
+
+packed_rise : (set : RuleSetView) (key : List ℕ) (least : ℕ) (group : List ℕ) → NumbersRise least group → RisesFrom least (packed_state set group key)
+unfolding packed_state
+packed_rise set key least [] rise = tt
+packed_rise set key least (number ∷ group) rise =
+    by (packed_edge set.layout (values_of set number) key) (packed_rise set key (number + 1) group rise.1)
+  where
+    by : (found : Option Edge) → RisesFrom (number + 1) (packed_state set group key) →
+        RisesFrom least (cons_option (option_map (entry_of number) found) (packed_state set group key))
+    by None rest = rises_lower least (number + 1) (packed_state set group key) (omega (arith, rise.0)) rest
+    by (Some edge) rest = (rw (number_in-entry_of number edge) rise.0, rw (number_in-entry_of number edge) rest)
+
 module _ (set : RuleSetView) (group : List ℕ) (held : AllByRecursion (IsHeld set) group) where
-  -- all entries of a place can be asked about its bytes
-  pub all_can_step : (place : ℕ) → place < key_len_of set.layout → AllByRecursion (AllByRecursion (CanStep (column_at set place))) (packed_at set group place)
-  all_can_step place within =
-      all_packed set group place (AllByRecursion (CanStep (column_at set place)))
-      (λ key is. all_weaker (IsEntryAt set place) (CanStep (column_at set place)) (packed_state set group key) (one key is) (subst (λ n. AllByRecursion (IsEntryAt set n) (packed_state set group key)) is.1 (packed_entries set group key held is.0)))
+  -- all entries after a prefix of a place can be asked about its bytes
+  key_can_step : (place : ℕ) → place < key_len_of set.layout → (key : List ℕ) → IsPrefix place key →
+      AllByRecursion (CanStep (column_at set place)) (packed_state set group key)
+  key_can_step place within key is =
+      all_weaker (IsEntryAt set place) (CanStep (column_at set place)) (packed_state set group key) one
+      (subst (λ n. AllByRecursion (IsEntryAt set n) (packed_state set group key)) is.1 (packed_entries set group key held is.0))
     where
-      one : (key : List ℕ) → IsPrefix place key → (entry : ℕ) → IsEntryAt set place entry → CanStep (column_at set place) entry
-      one key is entry at =
+      one : (entry : ℕ) → IsEntryAt set place entry → CanStep (column_at set place) entry
+      one entry at =
           subst (CanStep (column_at set place)) (sym at.is)
           (entry_can_step set place at.number at.held at.edge
           (subst (λ n. Stands (values_of set at.number) (field_at set.layout n) at.edge) at.long
           (packed_stands set.layout (values_of set at.number) at.key at.edge at.held.lawful at.bytes (omega (arith, at.long, within)) at.packed)))
+
+  -- so can all of the place's states
+  pub all_can_step : (place : ℕ) → place < key_len_of set.layout → AllByRecursion (AllByRecursion (CanStep (column_at set place))) (packed_at set group place)
+  all_can_step place within =
+      all_packed set group place (AllByRecursion (CanStep (column_at set place))) (key_can_step place within)
+
+  -- and they can be counted
+  pub all_can_count : NumbersRise 0 group → (place : ℕ) → place < key_len_of set.layout →
+      AllByRecursion (CanCount (column_at set place)) (packed_at set group place)
+  all_can_count rise place within =
+      all_packed set group place (CanCount (column_at set place))
+      (λ key is. record {
+        ask = All-from_recursion (CanStep (column_at set place)) (packed_state set group key) (key_can_step place within key is);
+        rise = packed_rise set key 0 group rise;
+      })
 
   -- so can those that are kept of the states
   pub keys_can_step : (place : ℕ) (keys : List (SmallVec ℕ)) → place < key_len_of set.layout → lists_of keys ≡ packed_at set group place → All (λ (state : SmallVec ℕ). All (CanStep (column_at set place)) state.items) keys
@@ -170,7 +230,7 @@ module _ (set : RuleSetView) (group : List ℕ) (held : AllByRecursion (IsHeld s
   gap_within place [] gap = gap.rises
   gap_within place (q ∷ ps) gaps = omega (arith, gaps.0.rises, gaps.0.within)
 
-  module _ (cap place : ℕ) (levels : List (List (List Run))) (keys : List (SmallVec ℕ)) (words : ℕ) (so_far : Walked set group cap place levels keys words) (below : place < length places) where
+  module _ (place : ℕ) (below : place < length places) where
     at_place : ℕ
     at_place = get_or places place 0
 
@@ -180,11 +240,8 @@ module _ (set : RuleSetView) (group : List ℕ) (held : AllByRecursion (IsHeld s
     gaps_here : Gaps set group (get_or places place 0 ∷ drop (place + 1) places)
     gaps_here = subst (Gaps set group) rest_is (gaps_behind places place (kept_places_first set group key).gaps)
 
-    pub place_within : get_or places place 0 < key_len_of set.layout
-    place_within = gap_within (get_or places place 0) (drop (place + 1) places) gaps_here
-
-    pub states_can_step : All (λ (state : SmallVec ℕ). All (CanStep (column_at set (get_or places place 0))) state.items) keys
-    states_can_step = keys_can_step set group held (get_or places place 0) keys place_within (so_far.states below)
+    pub place_inside : get_or places place 0 < key_len_of set.layout
+    place_inside = gap_within (get_or places place 0) (drop (place + 1) places) gaps_here
 
     level_here : LevelIs set group held (get_or places place 0) (drop (place + 1) places) (place + 1 == length places)
     level_here =
@@ -212,9 +269,109 @@ module _ (set : RuleSetView) (group : List ℕ) (held : AllByRecursion (IsHeld s
         ∙ ap (λ levels. words_of levels (rows_of set group)) level_here.runs
         ∙ sum
 
+  module _ (place : ℕ) (below : place < length places) where
+    abbrev column_here : ColumnView
+    column_here = column_at set (get_or places place 0)
+
+    abbrev next_place : ℕ
+    next_place = get_or places (place + 1) 0
+
+    -- what is found here
+    abbrev found_here : List (List ℕ)
+    found_here = level_found set (column_at set (get_or places place 0)) (place + 1 == length places) (packed_at set group (get_or places place 0))
+
+    none_behind : length places ≤ place + 2 → next_of set places place ≡ None
+    none_behind end = ap (λ b. cond b (Some (column_at set next_place)) None) (le-ltb (place + 2) (length places) end)
+
+    one_behind : place + 2 < length places → next_of set places place ≡ Some (column_at set next_place)
+    one_behind more = ap (λ b. cond b (Some (column_at set next_place)) None) (lt-ltb (place + 2) (length places) more)
+
+    -- before the last place these are the states of the next
+    found_next : place + 1 < length places → found_here ≡ packed_at set group next_place
+    found_next more =
+        (level_here place below).next (omega (arith, more, length-drop (place + 1) places))
+        ∙ ap (packed_at set group) (get_or-drop (place + 1) places 0 0 ∙ ap (λ k. get_or places k 0) (omega arith))
+
+    -- which can be counted
+    pub found_can_count : NumbersRise 0 group → AllCanCount (next_of set places place) found_here
+    found_can_count rise = elim (cases_lt (place + 2) (length places)) [
+      | inl more ↦
+          rw (one_behind more, found_next (omega arith))
+          (All-from_recursion (CanCount (column_at set next_place)) (packed_at set group next_place)
+          (all_can_count set group held rise next_place (place_inside (place + 1) (omega arith))))
+      | inr end ↦ subst (λ next. AllCanCount next found_here) (sym (none_behind end)) tt
+    ]
+
+    more_rest : (ps : List ℕ) → 0 < length ps → length (packed_at set group (get_or ps 0 0)) ≤ words_of (runs_from ps) (rows_of set group)
+    more_rest [] h = absurd (omega arith)
+    more_rest (q ∷ qs) h =
+        let level = first_level set group q qs in
+        let count : length (states_at set group q) ≡ length (packed_at set group q) = ap length (states_are set group held q) ∙ length-map (packed_at set group q) (map (decoded set q)) in
+        let sum : words_of (level.0 ∷ level.1) (rows_of set group) ≡ states_words level.0 + words_of level.1 (rows_of set group) =
+        omega (arith, sum_by-cons (λ states. states_words states) level.0 level.1) in
+        let whole : words_of (runs_from (q ∷ qs)) (rows_of set group) ≡ states_words level.0 + words_of level.1 (rows_of set group) = ap (λ levels. words_of levels (rows_of set group)) level.2 ∙ sum in
+        omega (arith, whole, states_some level.0, level.3, count)
+
+    abbrev words_behind : ℕ
+    words_behind = words_of (runs_from (drop (place + 1) places)) (rows_of set group)
+
+    -- the rows take all words behind the last place
+    last_rest : place + 1 ≡ length places → least_cost (next_of set places place) (place + 1 == length places) found_here ≤ words_behind
+    last_rest e =
+        let long = length-drop (place + 1) places in
+        let found : found_here ≡ rows_of set group = (level_here place below).rows (omega (arith, long, e)) in
+        let next = none_behind (omega (arith, e)) in
+        let last = eq-eqb (place + 1) (length places) e in
+        let cost : least_cost (next_of set places place) (place + 1 == length places) found_here ≡ row_words * length (rows_of set group) =
+        (λ i. least_cost (next i) (last i) (found i)) ∙ least_cost_flat true (rows_of set group) in
+        omega (arith, cost)
+
+    -- the states of the last place take a word each
+    one_rest : place + 2 ≡ length places → least_cost (next_of set places place) (place + 1 == length places) found_here ≤ words_behind
+    one_rest e =
+        let long = length-drop (place + 1) places in
+        let found = (level_here place below).next (omega (arith, long, e)) in
+        let next = none_behind (omega (arith, e)) in
+        let last = ne_eqb (place + 1) (length places) (λ same. omega (arith, same, e)) in
+        let cost : least_cost (next_of set places place) (place + 1 == length places) found_here
+        ≡ 1 * length (packed_at set group (get_or (drop (place + 1) places) 0 0)) =
+        (λ i. least_cost (next i) (last i) (found i)) ∙ least_cost_flat false (packed_at set group (get_or (drop (place + 1) places) 0 0)) in
+        omega (arith, cost, more_rest (drop (place + 1) places) (omega (arith, long, e)))
+
+    -- those of any other place take their words, which are known ahead
+    known_rest : place + 2 < length places → least_cost (next_of set places place) (place + 1 == length places) found_here ≤ words_behind
+    known_rest more =
+        let found = found_next (omega (arith, more)) in
+        let next = one_behind more in
+        let last = ne_eqb (place + 1) (length places) (λ same. omega (arith, same, more)) in
+        let states : List (List ℕ) = packed_at set group next_place in
+        let words : Bool → ℕ = λ b. states_words (map (state_runs set (column_at set next_place) b (level_found set (column_at set next_place) b states)) states) in
+        let cost : least_cost (next_of set places place) (place + 1 == length places) found_here ≡ words false =
+        (λ i. least_cost (next i) (last i) (found i)) ∙ least_cost_known (column_at set next_place) false states
+        ∙ words_are_ahead set (column_at set next_place) states in
+        let split = words_split (place + 1) (omega (arith, more)) in
+        let last_behind = ap words (ne_eqb (place + 1 + 1) (length places) (λ same. omega (arith, same, more))) in
+        omega (arith, cost, split, last_behind)
+
+    pub least_rest : least_cost (next_of set places place) (place + 1 == length places) found_here ≤ words_behind
+    least_rest = elim (cases_eq (place + 1) (length places)) [
+      | inl e ↦ last_rest e
+      | inr other ↦ elim (cases_eq (place + 2) (length places)) [
+        | inl e ↦ one_rest e
+        | inr more ↦ known_rest (omega (arith, other, more, below))
+      ]
+    ]
+
+  module _ (cap place : ℕ) (levels : List (List (List Run))) (keys : List (SmallVec ℕ)) (words : ℕ) (so_far : Walked set group cap place levels keys words) (below : place < length places) where
+    pub place_within : get_or places place 0 < key_len_of set.layout
+    place_within = place_inside place below
+
+    pub states_can_step : All (λ (state : SmallVec ℕ). All (CanStep (column_at set (get_or places place 0))) state.items) keys
+    states_can_step = keys_can_step set group held (get_or places place 0) keys (place_inside place below) (so_far.states below)
+
     -- the next place
     pub walk_on : (its_runs : List (List Run)) (found : List (SmallVec ℕ)) (words' : ℕ) →
-        IsMergedWithin set (column_at set (get_or places place 0)) (place + 1 == length places) cap words (lists_of keys) its_runs (lists_of found) words' →
+        IsMergedWithin set (column_at set (get_or places place 0)) (next_of set places place) (place + 1 == length places) cap words (lists_of keys) its_runs (lists_of found) words' →
         Walked set group cap (place + 1) (levels ++ its_runs ∷ []) found words'
     walk_on its_runs found words' merged =
         let states = so_far.states below in
@@ -227,57 +384,28 @@ module _ (set : RuleSetView) (group : List ℕ) (held : AllByRecursion (IsHeld s
         record {
           runs =
               append_assoc levels (its_runs ∷ []) (runs_from (drop (place + 1) places))
-              ∙ ap (λ l. levels ++ l) (ap (λ r. r ∷ runs_from (drop (place + 1) places)) runs_are ∙ sym level_here.runs ∙ ap runs_from (sym rest_is))
+              ∙ ap (λ l. levels ++ l) (ap (λ r. r ∷ runs_from (drop (place + 1) places)) runs_are ∙ sym (level_here place below).runs ∙ ap runs_from (sym (rest_is place below)))
               ∙ so_far.runs;
-          states = λ h. lists ∙ level_here.next (omega (arith, h, long)) ∙ ap (packed_at set group) (get_or-drop (place + 1) places 0 0 ∙ ap (λ k. get_or places k 0) (omega arith));
-          rows = λ h. lists ∙ level_here.rows (omega (arith, h, long));
-          sum = omega (arith, so_far.sum, words_split, merged.sum, ap states_words runs_are);
+          states = λ h. lists ∙ (level_here place below).next (omega (arith, h, long)) ∙ ap (packed_at set group) (get_or-drop (place + 1) places 0 0 ∙ ap (λ k. get_or places k 0) (omega arith));
+          rows = λ h. lists ∙ (level_here place below).rows (omega (arith, h, long));
+          sum = omega (arith, so_far.sum, words_split place below, merged.sum, ap states_words runs_are);
           within = omega (arith, merged.within);
           whole = λ h. (
-              let cost : least_cost (place + 1 == length places) (length (lists_of found)) ≡ row_words * length found =
-              ap (λ b. least_cost b (length (lists_of found))) (eq-eqb (place + 1) (length places) (omega (arith, h, below)))
+              let last = eq-eqb (place + 1) (length places) (omega (arith, h, below)) in
+              let next = none_behind place below (omega (arith, h)) in
+              let cost : least_cost (next_of set places place) (place + 1 == length places) (lists_of found) ≡ row_words * length found =
+              (λ i. least_cost (next i) (last i) (lists_of found)) ∙ least_cost_flat true (lists_of found)
               ∙ ap (λ n. row_words * n) (length-map found (λ (v : SmallVec ℕ). v.items)) in
               omega (arith, merged.within, cost));
         }
 
     -- or too many words
-    pub walk_over : cap < least_words set (column_at set (get_or places place 0)) (place + 1 == length places) words (lists_of keys) → cap < words_of (runs_from places) (rows_of set group)
+    pub walk_over : cap < least_words set (column_at set (get_or places place 0)) (next_of set places place) (place + 1 == length places) words (lists_of keys) → cap < words_of (runs_from places) (rows_of set group)
     walk_over over =
         let states = so_far.states below in
-        let over_packed : cap < least_words set (column_at set (get_or places place 0)) (place + 1 == length places) words (packed_at set group (get_or places place 0)) =
-        subst (λ s. cap < least_words set (column_at set (get_or places place 0)) (place + 1 == length places) words s) states over in
-        omega (arith, over_packed, so_far.sum, words_split, least_rest)
-      where
-        long : length (drop (place + 1) places) ≡ length places - (place + 1)
-        long = length-drop (place + 1) places
-
-        last_rest : place + 1 ≡ length places → row_words * length (rows_of set group) ≤ words_of (runs_from (drop (place + 1) places)) (rows_of set group)
-        last_rest e = omega arith
-
-        more_rest : (ps : List ℕ) → 0 < length ps → length (packed_at set group (get_or ps 0 0)) ≤ words_of (runs_from ps) (rows_of set group)
-        more_rest [] h = absurd (omega arith)
-        more_rest (q ∷ qs) h =
-            let level = first_level set group q qs in
-            let count : length (states_at set group q) ≡ length (packed_at set group q) = ap length (states_are set group held q) ∙ length-map (packed_at set group q) (map (decoded set q)) in
-            let sum : words_of (level.0 ∷ level.1) (rows_of set group) ≡ states_words level.0 + words_of level.1 (rows_of set group) =
-            omega (arith, sum_by-cons (λ states. states_words states) level.0 level.1) in
-            let whole : words_of (runs_from (q ∷ qs)) (rows_of set group) ≡ states_words level.0 + words_of level.1 (rows_of set group) = ap (λ levels. words_of levels (rows_of set group)) level.2 ∙ sum in
-            omega (arith, whole, states_some level.0, level.3, count)
-
-        least_rest : least_cost (place + 1 == length places) (length (level_found set (column_at set (get_or places place 0)) (place + 1 == length places) (packed_at set group (get_or places place 0))))
-            ≤ words_of (runs_from (drop (place + 1) places)) (rows_of set group)
-        least_rest = elim (cases_eq (place + 1) (length places)) [
-          | inl e ↦
-              let found = level_here.rows (omega (arith, long, e)) in
-              let cost : least_cost (place + 1 == length places) (length (level_found set (column_at set (get_or places place 0)) (place + 1 == length places) (packed_at set group (get_or places place 0)))) ≡ row_words * length (rows_of set group) =
-              (λ i. least_cost (place + 1 == length places) (length (found i))) ∙ ap (λ b. least_cost b (length (rows_of set group))) (eq-eqb (place + 1) (length places) e) in
-              omega (arith, cost, last_rest e)
-          | inr other ↦
-              let found = level_here.next (omega (arith, long, other, below)) in
-              let cost : least_cost (place + 1 == length places) (length (level_found set (column_at set (get_or places place 0)) (place + 1 == length places) (packed_at set group (get_or places place 0)))) ≡ length (packed_at set group (get_or (drop (place + 1) places) 0 0)) =
-              (λ i. least_cost (place + 1 == length places) (length (found i))) ∙ ap (λ b. least_cost b (length (packed_at set group (get_or (drop (place + 1) places) 0 0)))) (ne_eqb (place + 1) (length places) other) in
-              omega (arith, cost, more_rest (drop (place + 1) places) (omega (arith, long, other, below)))
-        ]
+        let over_packed : cap < least_words set (column_at set (get_or places place 0)) (next_of set places place) (place + 1 == length places) words (packed_at set group (get_or places place 0)) =
+        subst (λ s. cap < least_words set (column_at set (get_or places place 0)) (next_of set places place) (place + 1 == length places) words s) states over in
+        omega (arith, over_packed, so_far.sum, words_split place below, least_rest place below)
 
   -- after the last place all is merged
   pub walk_end : (cap place : ℕ) (levels : List (List (List Run))) (keys : List (SmallVec ℕ)) (words : ℕ) → Walked set group cap place levels keys words → length places ≤ place →

@@ -1,5 +1,5 @@
 -- The lists of the intervals of one state's bytes, and the lists found.
-use Rattle.std.specs.Prelude.{◌≡◌, ℕ, ◌+◌, ◌*◌, ◌≤◌, List, [], map, length, slice_index_or, take, drop, count_by, Bool, if◌then◌else◌}
+use Rattle.std.specs.Prelude.{◌≡◌, ℕ, ◌+◌, ◌≤◌, ◌==◌, List, [], ◌∷◌, All, map, filter, length, slice_index_or, take, drop, count_by, Bool, not, ◌||◌, Option, Some, None, if◌then◌else◌}
 use Rattle.std.specs.List.{position_or_len, flat_map, sum_by}
 use Rattle.std.specs.Str.{bytes_eq}
 use Rattle.smallvec.specs.SmallVec.{SmallVec}
@@ -7,11 +7,11 @@ use Rattle.rule_set.specs.Rule.{RuleSetView}
 use Rattle.trie_merge.specs.declared.run.Run.{Run}
 use Rattle.trie_merge.specs.declared.run.Succ.{Succ}
 use Rattle.trie_merge.specs.declared.run.Succ.TheVariants.{Dead, State, Row}
-use Rattle.trie_merge.specs.Entry.{ColumnView, entries_step, number_in}
+use Rattle.trie_merge.specs.Entry.{ColumnView, entries_step, number_in, CanStep}
 use Rattle.trie_merge.specs.State.{is_live}
 use Rattle.trie_merge.specs.Found.{found_with, found_in, all_bytes}
 use Rattle.trie_merge.specs.Row.{row_of}
-use Rattle.trie_merge.specs.Levels.{runs_of, cost_of, row_words}
+use Rattle.trie_merge.specs.Levels.{runs_of, cost_of, row_words, last_byte}
 
 -- the elements of each list
 abbrev pub lists_of : List (SmallVec ℕ) → List (List ℕ)
@@ -56,24 +56,55 @@ level_found set column is_last states =
 abbrev pub state_runs : RuleSetView → ColumnView → Bool → List (List ℕ) → List ℕ → List Run
 state_runs set column is_last found entries = runs_of (λ byte. succ_in is_last found (successor set column is_last entries byte))
 
--- how many words so many states or rows take at least
-abbrev pub least_cost : Bool → ℕ → ℕ
-least_cost is_last count = if is_last then row_words * count else count
+-- a run of bytes with the same entries ends with the byte: the entries after the next byte are others, or there is none
+unfoldable pub is_change : ColumnView → List ℕ → ℕ → Bool
+is_change column entries byte =
+    byte == last_byte || not (bytes_eq (entries_step column entries byte) (entries_step column entries (byte + 1)))
+
+-- the words of a state before the last place, which its entries tell before it is merged
+unfoldable pub cost_ahead : ColumnView → List ℕ → ℕ
+cost_ahead column entries = cost_of (length (filter (is_change column entries) all_bytes))
+
+-- How many words a list that is found takes at least. Where the place behind it is given, they are the words of the state;
+-- else a row takes its words, and a state one or more.
+abbrev pub price : Option ColumnView → Bool → List ℕ → ℕ
+price (Some next) is_last list = cost_ahead next list
+price None is_last list = if is_last then row_words else 1
+
+-- the same for lists
+unfoldable pub least_cost : Option ColumnView → Bool → List (List ℕ) → ℕ
+least_cost next is_last lists = sum_by (price next is_last) lists
 
 -- the words of the states
 abbrev pub states_words : List (List Run) → ℕ
 states_words states = sum_by (λ (runs : List Run). cost_of (length runs)) states
 
 -- the words of some states, those before them, and the least that what they lead to takes
-abbrev pub least_words : RuleSetView → ColumnView → Bool → ℕ → List (List ℕ) → ℕ
-least_words set column is_last before states =
+abbrev pub least_words : RuleSetView → ColumnView → Option ColumnView → Bool → ℕ → List (List ℕ) → ℕ
+least_words set column next is_last before states =
     let found = level_found set column is_last states in
-    before + states_words (map (state_runs set column is_last found) states) + least_cost is_last (length found)
+    before + states_words (map (state_runs set column is_last found) states) + least_cost next is_last found
+
+-- The numbers of the entries' rules rise, the first of them from a number on.
+abbrev pub RisesFrom : ℕ → List ℕ → Type 0
+RisesFrom least [] = Unit {0}
+RisesFrom least (entry ∷ entries) = (least ≤ number_in entry) × RisesFrom (number_in entry + 1) entries
+
+-- The entries can be asked at the place, and the numbers of their rules rise.
+pub record CanCount (column : ColumnView) (entries : List ℕ) : Type 0 where
+  pub ask : All (CanStep column) entries
+  pub rise : RisesFrom 0 entries
+
+-- The lists can be counted, where the place behind them is given.
+abbrev pub AllCanCount : Option ColumnView → List (List ℕ) → Type 0
+AllCanCount None lists = Unit {0}
+AllCanCount (Some next) lists = All (CanCount next) lists
 
 -- The runs, the lists found and the words are those of the states, and the words and the least that the lists take are
 -- within the cap.
-pub record IsMergedWithin (set : RuleSetView) (column : ColumnView) (is_last : Bool) (cap before : ℕ) (states : List (List ℕ)) (runs : List (List Run)) (found : List (List ℕ)) (words : ℕ) : Type 0 where
+pub record IsMergedWithin (set : RuleSetView) (column : ColumnView) (next : Option ColumnView) (is_last : Bool) (cap before : ℕ)
+    (states : List (List ℕ)) (runs : List (List Run)) (found : List (List ℕ)) (words : ℕ) : Type 0 where
   pub lists : found ≡ level_found set column is_last states
   pub its_runs : runs ≡ map (state_runs set column is_last found) states
   pub sum : words ≡ before + states_words runs
-  pub within : words + least_cost is_last (length found) ≤ cap
+  pub within : words + least_cost next is_last found ≤ cap

@@ -1,11 +1,16 @@
 -- What all kept places of a group come to.
-use Rattle.std.specs.Prelude.{◌≡◌, ℕ, ◌+◌, ◌*◌, ◌≤◌, List, length}
+use Rattle.std.specs.Prelude.{◌≡◌, ℕ, ◌+◌, ◌*◌, ◌≤◌, List, length, nat_lt, slice_index_or, Option, Some, None, if◌then◌else◌}
 use Rattle.smallvec.specs.SmallVec.{SmallVec}
 use Rattle.rule_set.specs.Rule.{RuleSetView}
 use Rattle.trie_merge.specs.declared.run.Run.{Run}
+use Rattle.trie_merge.specs.Entry.{ColumnView, column_at}
 use Rattle.trie_merge.specs.Row.{rows_of}
 use Rattle.trie_merge.specs.Levels.{levels_of, row_words}
 use Rattle.trie_merge.specs.Lists.{lists_of}
+
+-- what the place behind the one of that number has of each rule, where it isn't the last one
+abbrev pub next_of : RuleSetView → List ℕ → ℕ → Option ColumnView
+next_of set places j = if nat_lt (j + 2) (length places) then Some (column_at set (slice_index_or places (j + 1) 0)) else None
 
 -- The runs are those of the merged states, what is found are the rows, and the words are those of the states.
 pub record IsWalk (set : RuleSetView) (group : List ℕ) (cap : ℕ) (levels : List (List (List Run))) (found : List (SmallVec ℕ)) (words : ℕ) : Type 0 where

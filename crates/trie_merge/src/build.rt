@@ -1,22 +1,22 @@
 //! From the rules of a group to its merged states.
 
-ghost use Rattle.std.specs.Prelude.{◌≡◌, ◌<◌, ◌≤◌, ◌^◌, ◌+◌, ◌*◌, ◌∷◌, [], min, map, length, All, IfOk};
+ghost use Rattle.std.specs.Prelude.{◌≡◌, ℕ, ◌<◌, ◌≤◌, ◌^◌, ◌+◌, ◌*◌, ◌==◌, ◌∷◌, [], min, map, length, slice_index_or, All, IfOk};
 ghost use Rattle.node_expand.specs.declared.edge.Edge.TheVariants.{Free};
-ghost use Rattle.rule_set.specs.RuleSet.{IsRuleSet};
-ghost use Rattle.field_defs.specs.Lawful.{IsLayout};
-ghost use Rattle.trie_merge.specs.Entry.{entry_of};
+ghost use Rattle.field_defs.specs.Layout.{key_len_of};
+ghost use Rattle.trie_merge.specs.Entry.{entry_of, column_at};
+ghost use Rattle.trie_merge.specs.Laws.{IsGrouped};
 ghost use Rattle.trie_merge.specs.Kept.{kept_places, kept_bits};
 ghost use Rattle.trie_merge.specs.Levels.{IsGroup, max_cap, levels_of, row_words};
 ghost use Rattle.trie_merge.specs.Row.{rows_of};
 ghost use Rattle.trie_merge.specs.Lists.{lists_of};
-ghost use Rattle.trie_merge.specs.Walk.{IsWalk};
+ghost use Rattle.trie_merge.specs.Walk.{next_of, IsWalk};
 
 use crate::column::Column;
 use crate::entry::entry_of;
 use crate::expand::INLINE_ENTRIES;
 use crate::kept::Kept;
 use crate::levels::{Level, Levels};
-use crate::merge::{MergeFault, ROW_WORDS, merge_states};
+use crate::merge::{MergeFault, Place, ROW_WORDS, merge_states};
 use crate::row::CATEGORIES;
 use indexmap::IndexSet;
 use node_expand::Edge;
@@ -72,6 +72,42 @@ struct Walked {
     words: u64,
 }
 
+/// The next kept place, where that isn't the last one.
+fn next_column(
+    alloc: Global,
+    rules: &RuleSet,
+    places: &[usize],
+    j: usize,
+) -> Result<Option<Column>, AllocError>
+    requires places { (k : ℕ) → k < length places.now → slice_index_or places.now k 0 < key_len_of rules.now.layout }
+    requires j { j < length places.now }
+    ensures { IfOk result (λ next. next ≡ next_of rules.now places.now j) }
+{
+    if j + 2 < places.len() {
+        let next = Column::new(alloc, rules, places[j + 1])?;
+        Ok(Some(next))
+    } else {
+        Ok(None)
+    }
+}
+
+/// The kept place of that number.
+fn place_at(alloc: Global, rules: &RuleSet, places: &[usize], j: usize) -> Result<Place, AllocError>
+    requires places { (k : ℕ) → k < length places.now → slice_index_or places.now k 0 < key_len_of rules.now.layout }
+    requires j { j < length places.now }
+    ensures column { IfOk result (λ place. place.column ≡ column_at rules.now (slice_index_or places.now j 0)) }
+    ensures is_last { IfOk result (λ place. place.is_last ≡ (j + 1 == length places.now)) }
+    ensures next { IfOk result (λ place. place.next ≡ next_of rules.now places.now j) }
+{
+    let column = Column::new(alloc, rules, places[j])?;
+    let next = next_column(alloc, rules, places, j)?;
+    Ok(Place {
+        column,
+        is_last: j + 1 == places.len(),
+        next,
+    })
+}
+
 /// Merges the states of the places, one place after the other.
 fn walk(
     alloc: Global,
@@ -82,9 +118,7 @@ fn walk(
     start: IndexSet<SmallVec<u32, INLINE_ENTRIES, Global>>,
     lists: &mut [SmallVec<u32, INLINE_ENTRIES, Global>],
 ) -> Result<Walked, MergeFault>
-    requires rules { IsRuleSet rules.now }
-    requires layout { IsLayout rules.now.layout }
-    requires group { IsGroup rules.now group.now }
+    requires group { IsGrouped rules.now group.now }
     requires cap { cap ≤ max_cap }
     requires places { places.now ≡ kept_places rules.now group.now }
     requires start { lists_of start.keys ≡ map (λ number. entry_of number Free) group.now ∷ [] }
@@ -96,21 +130,12 @@ fn walk(
     let mut found = start;
     let mut words = 0;
     for j in 0..places.len() {
-        let column = match Column::new(alloc, rules, places[j]) {
-            Ok(column) => column,
+        let place = match place_at(alloc, rules, places, j) {
+            Ok(place) => place,
             Err(_) => return Err(MergeFault::OutOfMemory),
         };
-        let is_last = j + 1 == places.len();
-        let merged = match merge_states(
-            alloc,
-            rules,
-            &column,
-            is_last,
-            cap,
-            words,
-            found.as_slice(),
-            lists,
-        ) {
+        let states = found.as_slice();
+        let merged = match merge_states(alloc, rules, &place, cap, words, states, lists) {
             Ok(merged) => merged,
             Err(fault) => return Err(fault),
         };
@@ -186,8 +211,7 @@ struct Prepared {
 /// The kept places, the state before the first byte, and a list for each value of a byte.
 fn prepare(alloc: Global, rules: &RuleSet, group: &[u32]) -> Result<Prepared, AllocError>
     requires { IsGroup rules.now group.now }
-    ensures rules { IsRuleSet rules.now }
-    ensures layout { IsLayout rules.now.layout }
+    ensures group { IsGrouped rules.now group.now }
     ensures places { IfOk result (λ prepared. prepared.kept.places.items ≡ kept_places rules.now group.now) }
     ensures bits { IfOk result (λ prepared. prepared.kept.bits ≡ kept_bits rules.now group.now) }
     ensures start { IfOk result (λ prepared. lists_of prepared.start.keys ≡ map (λ number. entry_of number Free) group.now ∷ []) }

@@ -1,9 +1,10 @@
 //! What a state becomes after each byte of a place.
 
-ghost use Rattle.std.specs.Prelude.{◌≡◌, ℕ, ◌<◌, ◌≤◌, ◌||◌, ◌++◌, ◌∷◌, [], ◌⊎◌, length, slice_index_or, false, All, OnOk, IfOk, option_to_list};
+ghost use Rattle.std.specs.Prelude.{◌≡◌, ℕ, ◌<◌, ◌≤◌, ◌||◌, ◌++◌, ◌∷◌, [], ◌⊎◌, filter, length, slice_index_or, false, All, OnOk, IfOk, option_to_list};
 ghost use Rattle.std.specs.List.{list_any};
 ghost use Rattle.trie_merge.specs.Entry.{entry_step, entries_step, is_entry_cut, CanStep};
-ghost use Rattle.trie_merge.specs.Lists.{list_at, list_of_byte, interval_at};
+ghost use Rattle.trie_merge.specs.Found.{all_bytes};
+ghost use Rattle.trie_merge.specs.Lists.{list_at, list_of_byte, interval_at, is_change, CanCount};
 ghost use Rattle.trie_merge.specs.Intervals.{AreIntervals};
 
 use crate::column::Column;
@@ -30,12 +31,22 @@ pub(crate) fn mark_cuts(column: &Column, entries: &[u32], marks: &mut [bool; 256
 fn intervals_of(column: &Column, entries: &[u32]) -> Intervals
     requires { All (CanStep column.now) entries.now }
     ensures intervals { AreIntervals result.marks result.firsts result.of_bytes result.count }
+    ensures marks { (byte : ℕ) → byte < 256 →
+        slice_index_or result.marks byte false ≡ list_any (λ entry. is_entry_cut column.now entry byte) entries.now }
     ensures same { (one other : ℕ) → one < 256 → other < 256 → interval_at result.marks one ≡ interval_at result.marks other →
         entries_step column.now entries.now one ≡ entries_step column.now entries.now other }
 {
     let mut marks = [false; 256];
     mark_cuts(column, entries, &mut marks);
     Intervals::new(&marks)
+}
+
+/// How many runs of bytes leave the same entries: as many as a state before the last place has.
+pub(crate) fn count_runs(column: &Column, entries: &[u32]) -> usize
+    requires { CanCount column.now entries.now }
+    ensures { result ≡ length (filter (is_change column.now entries.now) all_bytes) }
+{
+    intervals_of(column, entries).count
 }
 
 /// Puts the entry behind each of the first lists.

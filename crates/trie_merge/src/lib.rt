@@ -16,7 +16,8 @@
 //! - `expand`: the list of entries after each interval, to which each entry is handed out where it has a rest.
 //! - `row`: the row of the entries after a whole key.
 //! - `number`: lists numbered in the order in which they are found, and the runs of bytes.
-//! - `merge`: the states of one place, one after the other, with their words against the cap.
+//! - `merge`: the states of one place, one after the other, with their words, and those that the states found take at
+//!   least, against the cap.
 //! - `kept`: the places of the kept input groups.
 //! - `build`: all kept places, one after the other; [`Levels::build`] and [`count_capped`].
 //! - `levels`, `run`: what comes out.

@@ -1,14 +1,14 @@
 //! The states of one kept place, one after the other: their runs, their words, and the states or rows that they lead to.
 
-ghost use Rattle.std.specs.Prelude.{◌≡◌, ℕ, ◌<◌, ◌+◌, ◌*◌, ◌^◌, ◌≤◌, ◌++◌, ◌∷◌, [], List, length, map, fold, slice_index_or, All, OnOk, IfOk, if◌then◌else◌};
+ghost use Rattle.std.specs.Prelude.{◌≡◌, ℕ, ◌<◌, ◌+◌, ◌*◌, ◌^◌, ◌≤◌, ◌++◌, ◌∷◌, [], List, length, map, fold, slice_index_or, take, All, OnOk, IfOk, IfSome, if◌then◌else◌};
 ghost use Rattle.trie_merge.specs.Entry.{number_in, CanStep};
 ghost use Rattle.trie_merge.specs.Found.{all_bytes};
 ghost use Rattle.trie_merge.specs.Levels.{cost_of, max_cap};
-ghost use Rattle.trie_merge.specs.Lists.{lists_of, list_at, lists_with, row_list, successor, state_runs, least_cost, least_words, IsMergedWithin};
+ghost use Rattle.trie_merge.specs.Lists.{lists_of, list_at, lists_with, row_list, successor, state_runs, level_found, price, least_cost, least_words, CanCount, AllCanCount, IsMergedWithin};
 ghost use Rattle.trie_merge.specs.Pieces.{pieces_of, IsPieces};
 
 use crate::column::Column;
-use crate::expand::{INLINE_ENTRIES, fill_lists};
+use crate::expand::{INLINE_ENTRIES, count_runs, fill_lists};
 use crate::number::join_runs;
 use crate::row::make_rows;
 use crate::run::Run;
@@ -144,26 +144,69 @@ pub enum MergeFault {
     OutOfMemory,
 }
 
+/// A kept place.
+#[derive(Drop)]
+pub(crate) struct Place {
+    /// What it has of each rule.
+    pub(crate) column: Column,
+    /// Whether it is the last one.
+    pub(crate) is_last: bool,
+    /// The kept place behind it, where that isn't the last one: there a state's words are known when it is found.
+    pub(crate) next: Option<Column>,
+}
+
+/// How many words a list that was found takes at least.
+#[tactic(auto, unfolding(crate::specs::Lists::cost_ahead))]
+fn price(place: &Place, list: &[u32]) -> u64
+    requires { IfSome place.now.next (λ next. CanCount next list.now) }
+    ensures price { result ≡ price place.now.next place.now.is_last list.now }
+    ensures bound { (0 < result) × (result ≤ 256) }
+{
+    match &place.next {
+        Some(next) => cost_of(count_runs(next, list)),
+        None => { if place.is_last { ROW_WORDS } else { 1 } }
+    }
+}
+
+/// How many words the lists from a place on take at least.
+fn price_all(place: &Place, found: &[SmallVec<u32, INLINE_ENTRIES, Global>], seen: usize) -> u64
+    requires lists { AllCanCount place.now.next (lists_of found.now) }
+    requires seen { seen ≤ length found.now }
+    requires few { length found.now ≤ seen + 256 }
+    ensures price { least_cost place.now.next place.now.is_last (lists_of (take seen found.now)) + result
+        ≡ least_cost place.now.next place.now.is_last (lists_of found.now) }
+    ensures bound { result ≤ 65536 }
+{
+    let mut words = 0;
+    for k in seen..found.len() {
+        words += price(place, found[k].as_slice());
+    }
+    words
+}
+
 /// Merges the states of one place. There are as many words before them as `before` says.
+///
+/// It ends as soon as the words so far, and what the lists found take at least, exceed the cap.
 pub(crate) fn merge_states(
     alloc: Global,
     rules: &RuleSet,
-    column: &Column,
-    is_last: bool,
+    place: &Place,
     cap: u64,
     before: u64,
     states: &[SmallVec<u32, INLINE_ENTRIES, Global>],
     lists: &mut [SmallVec<u32, INLINE_ENTRIES, Global>],
 ) -> Result<Merged, MergeFault>
-    requires states { All (λ state. All (CanStep column.now) state.items) states.now }
-    requires rules { length column.now.values ≡ length rules.now.rules }
+    requires states { All (λ state. All (CanStep place.now.column) state.items) states.now }
+    requires next { AllCanCount place.now.next (level_found rules.now place.now.column place.now.is_last (lists_of states.now)) }
+    requires rules { length place.now.column.values ≡ length rules.now.rules }
     requires lists { 256 ≤ length lists.old }
     requires cap { cap ≤ max_cap }
     requires before { before ≤ cap }
-    ensures merged { IfOk result (λ merged. IsMergedWithin rules.now column.now is_last cap before (lists_of states.now)
-        (pieces_of merged.pieces.runs.items 0 merged.pieces.ends.items) (lists_of merged.found.keys) merged.words) }
+    ensures merged { IfOk result (λ merged. IsMergedWithin rules.now place.now.column place.now.next place.now.is_last cap before
+        (lists_of states.now) (pieces_of merged.pieces.runs.items 0 merged.pieces.ends.items) (lists_of merged.found.keys) merged.words) }
     ensures pieces { IfOk result (λ merged. IsPieces 0 merged.pieces.ends.items (length merged.pieces.runs.items)) }
-    ensures over { (result ≡ Err MergeFault.OverCap) → cap < least_words rules.now column.now is_last before (lists_of states.now) }
+    ensures over { (result ≡ Err MergeFault.OverCap) →
+        cap < least_words rules.now place.now.column place.now.next place.now.is_last before (lists_of states.now) }
 {
     let mut pieces = Pieces {
         runs: Vec::new(alloc),
@@ -171,13 +214,16 @@ pub(crate) fn merge_states(
     };
     let mut found = IndexSet::new(alloc);
     let mut words = before;
+    let mut least = 0;
     for state in states {
+        let seen = found.len();
+        let entries = state.as_slice();
         let cost = match merge_state(
             alloc,
             rules,
-            column,
-            is_last,
-            state.as_slice(),
+            &place.column,
+            place.is_last,
+            entries,
             lists,
             &mut found,
             &mut pieces,
@@ -186,7 +232,9 @@ pub(crate) fn merge_states(
             Err(_) => return Err(MergeFault::OutOfMemory),
         };
         words += cost;
-        if words + least_cost(is_last, found.len()) > cap {
+        let keys = found.as_slice();
+        least += price_all(place, keys, seen);
+        if words + least > cap {
             return Err(MergeFault::OverCap);
         }
     }
@@ -195,15 +243,6 @@ pub(crate) fn merge_states(
         found,
         words,
     })
-}
-
-/// How many words so many states or rows take at least: 1 for each state, and 16 for each row.
-fn least_cost(is_last: bool, count: usize) -> u64
-    requires { count < 2 ^ 40 }
-    ensures { result ≡ least_cost is_last count }
-{
-    let count = count as u64;
-    if is_last { ROW_WORDS * count } else { count }
 }
 
 /// The greatest cap: 512 MiB of words.

@@ -17,6 +17,7 @@ returns c =
     ∙ or-false (list_any (λ entry. is_entry_cut column entry byte) entries) in
     record {
       intervals = rw c.new.ensures.marks c.new.ensures.intervals;
+      marks = rw c.new.ensures.marks cuts;
       same = λ one other one_below other_below same.
           same_interval column entries marks c.mark_cuts.array_long cuts one other one_below other_below
           (rw c.new.ensures.marks at same);
