@@ -1,15 +1,18 @@
 -- The winner among some numbered rules, as one more comes to the end of the list.
-use Rattle.std.proofs.Common.{◌≡◌, ℕ, ℤ, pos, ◌+◌, List, [], ◌∷◌, ◌++◌, filter, Bool, true, false, not, ◌&&◌, cond, Option, Some, None, slice_get, refl, sym, ap, ◌∙◌, inl, inr, true≢false, arith}
+use Rattle.std.proofs.Common.{◌≡◌, ℕ, ℤ, pos, ◌+◌, List, [], ◌∷◌, ◌++◌, filter, Bool, true, false, not, ◌&&◌, cond, Option, Some, None, slice_get, get_or, set, length, map, replicate, ◌≢◌, ◌<◌, ◌≤◌, refl, sym, ap, ◌∙◌, inl, inr, true≢false, arith}
 use Rattle.std.specs.List.{find, list_all}
 use Rattle.std.specs.Option.{option_map_or}
 use Rattle.std.specs.Int.Signed.{le_z}
-use Rattle.std.proofs.lemmas.Bool.{cases_Bool, and_parts, and_from, and_left, and_right, not-true, not-false}
+use Rattle.std.proofs.lemmas.Bool.{cases_Bool, cases_eq, and_parts, and_from, and_left, and_right, not-true, not-false}
 use Rattle.std.proofs.lemmas.Int.{ints}
-use Rattle.std.proofs.lemmas.List.{append-nil}
+use Rattle.std.proofs.lemmas.List.{append-nil, length-set, get_or-set_same, get_or-set_other, get_or-replicate, get_or-map, length-map, ext_get_or}
 use Rattle.std.proofs.lemmas.List.Elements.{filter-append}
 use Rattle.std.proofs.lemmas.List.Folds.{list_all-append}
 use Rattle.rule_set.specs.declared.rule.RuleTag.{RuleTag}
-use Rattle.rule_set.specs.Rule.{RuleView}
+use Rattle.rule_set.specs.Rule.{RuleView, RuleSetView}
+use Rattle.rule_set.specs.Fault.{categories}
+use Rattle.trie_merge.specs.Row.{is_better, winner_of, row_of}
+use Rattle.trie_merge.proofs.Categories.{length-categories, category_at}
 use Rattle.rule_set.specs.Winner.{is_in_category}
 use Rattle.rule_set.specs.Among.{passes_at, priority_at, is_greatest_at, best_among}
 use Rattle.rule_set.proofs.Find.{find-append_some, find-append_none, find_agree, list_all_weaker}
@@ -197,3 +200,128 @@ module _ (rules : List RuleView) (category : ℕ) (places : List ℕ) (more : �
         record { number = h.number; rule = h.rule; there = h.there; tag = h.tag; plus_one = h.plus_one; best = best_stays rules (λ (r : RuleView). is_in_category r.tag category) places more h.number h.best below }
     | inr e ↦ record { number = h.number; rule = h.rule; there = h.there; tag = h.tag; plus_one = h.plus_one; best = best_skips rules (λ (r : RuleView). is_in_category r.tag category) places more (in_it ∙ e) ∙ h.best }
   ]
+
+-- ---- all categories at once
+
+-- The rule is named in the categories before one where it is better, and the others are as they were.
+pub record Named (its_tag : RuleTag) (number : ℕ) (old_best : List (Option RuleTag)) (old_row : List ℕ)
+    (best : List (Option RuleTag)) (row : List ℕ) (k : ℕ) : Type 0 where
+  pub long : length best ≡ 16
+  pub as_long : length row ≡ 16
+  pub best_done : (c : ℕ) → c < k → get_or best c None
+      ≡ cond (is_better its_tag (get_or old_best c None) c) (Some its_tag) (get_or old_best c None)
+  pub row_done : (c : ℕ) → c < k → get_or row c 0
+      ≡ cond (is_better its_tag (get_or old_best c None) c) (number + 1) (get_or old_row c 0)
+  pub best_left : (c : ℕ) → k ≤ c → get_or best c None ≡ get_or old_best c None
+  pub row_left : (c : ℕ) → k ≤ c → get_or row c 0 ≡ get_or old_row c 0
+
+pub none_named : (tag : RuleTag) (number : ℕ) (best : List (Option RuleTag)) (row : List ℕ) → length best ≡ 16 → length row ≡ 16 →
+    Named tag number best row best row 0
+none_named tag number best row long as_long = record {
+  long = long;
+  as_long = as_long;
+  best_done = λ c below. absurd (omega arith);
+  row_done = λ c below. absurd (omega arith);
+  best_left = λ c above. refl;
+  row_left = λ c above. refl;
+}
+
+module _ (tag : RuleTag) (number : ℕ) (old_best : List (Option RuleTag)) (old_row : List ℕ) (best : List (Option RuleTag)) (row : List ℕ)
+    (k : ℕ) (below : k < 16) (so_far : Named tag number old_best old_row best row k) where
+  here : is_better tag (get_or best k None) k ≡ is_better tag (get_or old_best k None) k
+  here = ap (λ b. is_better tag b k) (so_far.best_left k (omega arith))
+
+  pub named_better : is_better tag (get_or best k None) k ≡ true →
+      Named tag number old_best old_row (set best k (Some tag)) (set row k (number + 1)) (k + 1)
+  named_better is =
+      let old_is : is_better tag (get_or old_best k None) k ≡ true = sym here ∙ is in
+      record {
+        long = length-set best k (Some tag) ∙ so_far.long;
+        as_long = length-set row k (number + 1) ∙ so_far.as_long;
+        best_done = λ c under. elim (cases_eq c k) [
+          | inl e ↦
+              rw e (get_or-set_same best k (Some tag) None (omega (arith, so_far.long))
+              ∙ sym (ap (λ b. cond b (Some tag) (get_or old_best k None)) old_is))
+          | inr other ↦ get_or-set_other best k c (Some tag) None other ∙ so_far.best_done c (omega (arith, other))
+        ];
+        row_done = λ c under. elim (cases_eq c k) [
+          | inl e ↦
+              rw e (get_or-set_same row k (number + 1) 0 (omega (arith, so_far.as_long))
+              ∙ sym (ap (λ b. cond b (number + 1) (get_or old_row k 0)) old_is))
+          | inr other ↦ get_or-set_other row k c (number + 1) 0 other ∙ so_far.row_done c (omega (arith, other))
+        ];
+        best_left = λ c above. (let other : c ≢ k = omega arith in
+            get_or-set_other best k c (Some tag) None other ∙ so_far.best_left c (omega arith));
+        row_left = λ c above. (let other : c ≢ k = omega arith in
+            get_or-set_other row k c (number + 1) 0 other ∙ so_far.row_left c (omega arith));
+      }
+
+  pub named_other : is_better tag (get_or best k None) k ≡ false → Named tag number old_best old_row best row (k + 1)
+  named_other is =
+      let old_is : is_better tag (get_or old_best k None) k ≡ false = sym here ∙ is in
+      record {
+        long = so_far.long;
+        as_long = so_far.as_long;
+        best_done = λ c under. elim (cases_eq c k) [
+          | inl e ↦
+              rw e (so_far.best_left k (omega arith)
+              ∙ sym (ap (λ b. cond b (Some tag) (get_or old_best k None)) old_is))
+          | inr other ↦ so_far.best_done c (omega (arith, other))
+        ];
+        row_done = λ c under. elim (cases_eq c k) [
+          | inl e ↦
+              rw e (so_far.row_left k (omega arith)
+              ∙ sym (ap (λ b. cond b (number + 1) (get_or old_row k 0)) old_is))
+          | inr other ↦ so_far.row_done c (omega (arith, other))
+        ];
+        best_left = λ c above. so_far.best_left c (omega arith);
+        row_left = λ c above. so_far.row_left c (omega arith);
+      }
+
+-- In each category the tag and the number are those of the winner so far.
+pub record AllLead (rules : List RuleView) (places : List ℕ) (best : List (Option RuleTag)) (row : List ℕ) : Type 0 where
+  pub long : length best ≡ 16
+  pub as_long : length row ≡ 16
+  pub each : (category : ℕ) → category < 16 → Leads rules category places (get_or best category None) (get_or row category 0)
+
+pub none_lead : (rules : List RuleView) → AllLead rules [] (replicate 16 None) (replicate 16 0)
+none_lead rules = record {
+  long = refl;
+  as_long = refl;
+  each = λ category below.
+      let nothing : Option RuleTag = None in
+      let nought : ℕ = 0 in
+      rw (get_or-replicate 16 category nothing nothing below, get_or-replicate 16 category nought nought below) (refl, refl);
+}
+
+-- one more rule is named
+pub one_more_named : (rules : List RuleView) (places : List ℕ) (more : ℕ) (rule : RuleView) → slice_get rules more ≡ Some rule →
+    (best best' : List (Option RuleTag)) (row row' : List ℕ) → length best' ≡ 16 → length row' ≡ 16 → AllLead rules places best row →
+    ((c : ℕ) → c < 16 → get_or best' c None ≡ cond (is_better rule.tag (get_or best c None) c) (Some rule.tag) (get_or best c None)) →
+    ((c : ℕ) → c < 16 → get_or row' c 0 ≡ cond (is_better rule.tag (get_or best c None) c) (more + 1) (get_or row c 0)) →
+    AllLead rules (places ++ more ∷ []) best' row'
+one_more_named rules places more rule there best best' row row' long as_long so_far best_is row_is = record {
+  long = long;
+  as_long = as_long;
+  each = λ c below. elim (cases_Bool (is_better rule.tag (get_or best c None) c)) [
+    | inl is ↦
+        rw (best_is c below, row_is c below, is)
+        (better_leads rules c places more rule there (get_or best c None) (get_or row c 0) (so_far.each c below) is)
+    | inr is ↦
+        rw (best_is c below, row_is c below, is)
+        (other_follows rules c places more rule there (get_or best c None) (get_or row c 0) (so_far.each c below) is)
+  ];
+}
+
+-- at the end the row names the winners
+pub all_lead_to : (set : RuleSetView) (numbers : List ℕ) (best : List (Option RuleTag)) (row : List ℕ) →
+    AllLead set.rules numbers best row → row ≡ row_of set numbers
+unfolding row_of
+all_lead_to set numbers best row lead =
+    let f : ℕ → ℕ = λ category. option_map_or (λ number. number + 1) (winner_of set category numbers) 0 in
+    let long : length (map f categories) ≡ 16 = length-map categories f ∙ length-categories in
+    ext_get_or 0 row (map f categories) (lead.as_long ∙ sym long)
+    (λ c within.
+    let below : c < 16 = omega (arith, within, lead.as_long) in
+    leads_to set.rules c numbers (get_or best c None) (get_or row c 0) (lead.each c below)
+    ∙ sym (get_or-map f categories c 0 0 (omega (arith, below, length-categories)) ∙ ap f (category_at c 0 below)))

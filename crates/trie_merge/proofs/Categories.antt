@@ -8,7 +8,7 @@ pub length-categories : length categories ≡ 16
 unfolding categories
 length-categories = length-range_with_len 0 16
 
-category_at : (category d : ℕ) → category < 16 → get_or categories category d ≡ category
+pub category_at : (category d : ℕ) → category < 16 → get_or categories category d ≡ category
 unfolding categories
 category_at category d below = get_or-range_with_len 0 16 category d below ∙ omega arith
 

@@ -31,7 +31,6 @@ pub(crate) fn cost_of(count: usize) -> u64
 
 /// Makes the list of each interval what its bytes lead to: its row at the last place.
 fn make_successors(
-    alloc: Global,
     rules: &RuleSet,
     is_last: bool,
     count: usize,
@@ -43,7 +42,7 @@ fn make_successors(
         list_at lists.new k ≡ (if is_last then row_list rules.now (list_at lists.old k) else list_at lists.old k)) }
 {
     if is_last {
-        make_rows(alloc, rules, count, lists)?;
+        make_rows(rules, count, lists)?;
     }
     Ok(())
 }
@@ -69,7 +68,7 @@ fn expand_state(
         ≡ runs.old.items ++ state_runs rules.now column.now is_last (lists_of found.new.keys ++ more) entries.now) }
 {
     let intervals = fill_lists(column, entries, lists)?;
-    make_successors(alloc, rules, is_last, intervals.count, lists)?;
+    make_successors(rules, is_last, intervals.count, lists)?;
     join_runs(alloc, is_last, &intervals, lists, found, runs)?;
     Ok(())
 }

@@ -1,11 +1,8 @@
 //! The row at the end of a key: for each category the rule that wins.
 
-ghost use Rattle.std.specs.Prelude.{◌≡◌, ℕ, ◌+◌, ◌<◌, ◌≤◌, ◌&&◌, not, true, length, map, All, OnOk};
-ghost use Rattle.std.specs.Option.{option_map_or};
-ghost use Rattle.std.specs.Int.Signed.{le_z};
-ghost use Rattle.rule_set.specs.Winner.{is_in_category};
+ghost use Rattle.std.specs.Prelude.{◌≡◌, ℕ, ◌+◌, ◌<◌, ◌≤◌, ◌^◌, Some, None, slice_index_or, length, map, All, OnOk, if◌then◌else◌};
 ghost use Rattle.trie_merge.specs.Entry.{number_in};
-ghost use Rattle.trie_merge.specs.Row.{winner_of, row_of};
+ghost use Rattle.trie_merge.specs.Row.{is_better, row_of};
 ghost use Rattle.trie_merge.specs.Lists.{list_at, row_list};
 
 use crate::entry::number_in;
@@ -20,7 +17,7 @@ pub(crate) const CATEGORIES: usize = 16;
 /// Whether the rule of the tag takes part in the category and has a greater priority than the best so far, if there is one.
 fn is_better(tag: &RuleTag, best: &Option<RuleTag>, category: u32) -> bool
     requires { category < 16 }
-    ensures { result ≡ (is_in_category tag.now category && option_map_or (λ other. not (le_z tag.now.priority other.priority)) best.now true) }
+    ensures { result ≡ is_better tag.now best.now category }
 {
     tag.category_mask >> category & 1 == 1
         && match best {
@@ -29,40 +26,46 @@ fn is_better(tag: &RuleTag, best: &Option<RuleTag>, category: u32) -> bool
         }
 }
 
-/// The winner's number plus 1 in the category, or 0 for none.
-fn winner(rules: &RuleSet, entries: &[u32], category: u32) -> u32
-    requires category { category < 16 }
-    requires numbers { All (λ entry. number_in entry < length rules.now.rules) entries.now }
-    ensures { result ≡ option_map_or (λ number. number + 1) (winner_of rules.now category (map number_in entries.now)) 0 }
+/// Names the rule of the tag in each category in which it is better than the best so far.
+fn name_rule(
+    tag: &RuleTag,
+    number: u32,
+    best: &mut [Option<RuleTag>; CATEGORIES],
+    row: &mut [u32; CATEGORIES],
+)
+    requires { number + 1 < 2 ^ 32 }
+    ensures best { (category : ℕ) → category < 16 → slice_index_or best.new category None
+        ≡ (if is_better tag.now (slice_index_or best.old category None) category then Some tag.now
+        else slice_index_or best.old category None) }
+    ensures row { (category : ℕ) → category < 16 → slice_index_or row.new category 0
+        ≡ (if is_better tag.now (slice_index_or best.old category None) category then number + 1
+        else slice_index_or row.old category 0) }
 {
-    let mut best = None;
-    let mut winner = 0;
-    for entry in entries {
-        let number = number_in(*entry);
-        let tag = rules.at(number as usize).tag();
-        if is_better(&tag, &best, category) {
-            best = Some(tag);
-            winner = number + 1;
+    for category in 0..CATEGORIES {
+        if is_better(tag, &best[category], category as u32) {
+            best[category] = Some(*tag);
+            row[category] = number + 1;
         }
     }
-    winner
 }
 
-/// The row of the entries after a whole key.
+/// The row of the entries after a whole key: for each category the winner's number plus 1, or 0 for none.
 fn row_of(rules: &RuleSet, entries: &[u32]) -> [u32; CATEGORIES]
     requires { All (λ entry. number_in entry < length rules.now.rules) entries.now }
     ensures { result ≡ row_of rules.now (map number_in entries.now) }
 {
+    let mut best = [None; CATEGORIES];
     let mut row = [0; CATEGORIES];
-    for category in 0..CATEGORIES {
-        row[category] = winner(rules, entries, category as u32);
+    for entry in entries {
+        let number = number_in(*entry);
+        let tag = rules.at(number as usize).tag();
+        name_rule(&tag, number, &mut best, &mut row);
     }
     row
 }
 
 /// Makes the list, of entries after a whole key, their row, and leaves an empty one empty.
 fn make_row(
-    alloc: Global,
     rules: &RuleSet,
     list: &mut SmallVec<u32, INLINE_ENTRIES, Global>,
 ) -> Result<(), AllocError>
@@ -71,14 +74,14 @@ fn make_row(
 {
     if !list.is_empty() {
         let row = row_of(rules, list.as_slice());
-        *list = SmallVec::from_slice(alloc, &row)?;
+        list.clear();
+        list.extend_from_slice(&row)?;
     }
     Ok(())
 }
 
 /// Makes the first lists, of entries after a whole key, their rows.
 pub(crate) fn make_rows(
-    alloc: Global,
     rules: &RuleSet,
     count: usize,
     lists: &mut [SmallVec<u32, INLINE_ENTRIES, Global>],
@@ -88,7 +91,7 @@ pub(crate) fn make_rows(
     ensures { OnOk result ((k : ℕ) → k < count → list_at lists.new k ≡ row_list rules.now (list_at lists.old k)) }
 {
     for k in 0..count {
-        make_row(alloc, rules, &mut lists[k])?;
+        make_row(rules, &mut lists[k])?;
     }
     Ok(())
 }

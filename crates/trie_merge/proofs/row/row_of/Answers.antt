@@ -1,28 +1,31 @@
-use Rattle.std.proofs.Common.{ℕ, ◌+◌, ◌++◌, ◌∷◌, [], take, map, refl, sym, ◌∙◌, ap, arith}
-use Rattle.std.specs.Option.{option_map_or}
-use Rattle.std.proofs.lemmas.List.{length-set, take_more_set, map_push, take_all}
-use Rattle.rule_set.specs.Fault.{categories}
+use Rattle.std.proofs.Common.{◌≡◌, ℕ, List, ◌+◌, ◌++◌, ◌∷◌, [], take, map, slice_get, Some, get_or, sym, ◌∙◌, ap, arith}
+use Rattle.std.proofs.lemmas.List.{take_more, map_push, take_all}
 use Rattle.trie_merge.specs.Entry.{number_in}
-use Rattle.trie_merge.specs.Row.{winner_of, row_of}
-use Rattle.trie_merge.proofs.Categories.{length-categories, one_more_category}
+use Rattle.trie_merge.specs.Row.{row_of}
+use Rattle.trie_merge.proofs.Best.{none_lead, one_more_named, all_lead_to}
 use Rattle.trie_merge.proofs.row.row_of.Goals as goal
 
-pub loop-category-init : goal.loop-category-init
-loop-category-init c = (refl, refl)
+pub loop-entry-init : goal.loop-entry-init
+loop-entry-init c = none_lead c.args.rules.now.rules
 
-pub loop-category-preserved : goal.loop-category-preserved
-loop-category-preserved c =
-    let f : ℕ → ℕ = λ category. option_map_or (λ number. number + 1) (winner_of c.args.rules.now category (map number_in c.args.entries.now)) 0 in (
-      length-set c.loop-category.row c.loop-category.category c.winner.result ∙ c.loop-category.invariant.0,
-      take_more_set c.loop-category.row c.loop-category.category c.winner.result (omega (arith, c.loop-category.invariant.0))
-          ∙ (λ i. c.loop-category.invariant.1 i ++ c.winner.ensures i ∷ [])
-          ∙ sym (ap (map f) (one_more_category c.loop-category.category (omega arith)) ∙ map_push f (take c.loop-category.category categories) c.loop-category.category),
-    )
+pub loop-entry-preserved : goal.loop-entry-preserved
+loop-entry-preserved c =
+    let rules = c.args.rules.now.rules in
+    let numbers : List ℕ = map number_in (take c.loop-entry.entry-index c.args.entries.now) in
+    let entry : ℕ = get_or c.args.entries.now c.loop-entry.entry-index 0 in
+    let more : map number_in (take (c.loop-entry.entry-index + 1) c.args.entries.now) ≡ numbers ++ number_in entry ∷ [] =
+    ap (map number_in) (take_more c.args.entries.now c.loop-entry.entry-index 0 (omega arith))
+    ∙ map_push number_in (take c.loop-entry.entry-index c.args.entries.now) entry in
+    let there : slice_get rules (number_in entry) ≡ Some c.at.result.now =
+    ap (slice_get rules) (sym c.number_in-number.ensures) ∙ c.at.ensures.rule in
+    let best = rw (c.tag-tag.ensures) at c.name_rule.ensures.best in
+    let row = rw (c.tag-tag.ensures, c.number_in-number.ensures) at c.name_rule.ensures.row in
+    rw more
+    (one_more_named rules numbers (number_in entry) c.at.result.now there c.loop-entry.best c.name_rule.new.best c.loop-entry.row
+    c.name_rule.new.row c.name_rule.array_long c.name_rule.array_long2 c.loop-entry.invariant best row)
 
 pub returns : goal.returns
-unfolding row_of
 returns c =
-    let f : ℕ → ℕ = λ category. option_map_or (λ number. number + 1) (winner_of c.args.rules.now category (map number_in c.args.entries.now)) 0 in
-    sym (take_all c.loop-category.category c.loop-category.row (omega (arith, c.loop-category.invariant.0)))
-    ∙ c.loop-category.invariant.1
-    ∙ ap (map f) (take_all c.loop-category.category categories (omega (arith, length-categories)))
+    all_lead_to c.args.rules.now (map number_in (take c.loop-entry.entry-index c.args.entries.now)) c.loop-entry.best c.loop-entry.row
+    c.loop-entry.invariant
+    ∙ ap (λ (entries : List ℕ). row_of c.args.rules.now (map number_in entries)) (take_all c.loop-entry.entry-index c.args.entries.now (omega arith))
