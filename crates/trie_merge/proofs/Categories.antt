@@ -11,7 +11,3 @@ length-categories = length-range_with_len 0 16
 pub category_at : (category d : ℕ) → category < 16 → get_or categories category d ≡ category
 unfolding categories
 category_at category d below = get_or-range_with_len 0 16 category d below ∙ omega arith
-
-pub one_more_category : (category : ℕ) → category < 16 → take (category + 1) categories ≡ take category categories ++ category ∷ []
-one_more_category category below =
-    take_more categories category 0 (rw length-categories below) ∙ ap (λ b. take category categories ++ b ∷ []) (category_at category 0 below)

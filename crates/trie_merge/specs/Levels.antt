@@ -64,10 +64,11 @@ level_runs set states rows (place ∷ next ∷ places) =
     map (λ before. runs_of (λ byte. state_succ (states next) (reached set place next before byte))) (states place)
     ∷ level_runs set states rows (next ∷ places)
 
--- how many words a node of few runs takes, and one of many
+-- how many words a node of few runs takes
 abbrev pub few_runs : ℕ
 few_runs = 5
 
+-- and one of many
 abbrev pub many_runs : ℕ
 many_runs = 256
 

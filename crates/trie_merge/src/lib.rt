@@ -33,6 +33,8 @@ pub mod laws;
 mod levels;
 mod merge;
 mod number;
+#[cfg(test)]
+mod plain;
 mod row;
 mod run;
 #[cfg(test)]

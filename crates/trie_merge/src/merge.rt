@@ -108,16 +108,8 @@ fn merge_state(
     ensures some { IfOk result (λ words. (0 < words) × (words ≤ 256)) }
 {
     let start = pieces.runs.len();
-    expand_state(
-        alloc,
-        rules,
-        column,
-        is_last,
-        entries,
-        lists,
-        found,
-        &mut pieces.runs,
-    )?;
+    let runs = &mut pieces.runs;
+    expand_state(alloc, rules, column, is_last, entries, lists, found, runs)?;
     let end = pieces.runs.len();
     pieces.ends.push(end)?;
     Ok(cost_of(end - start))
