@@ -1,6 +1,6 @@
 //! From the rules of a group to its merged states.
 
-ghost use Rattle.std.specs.Prelude.{◌≡◌, ℕ, ◌<◌, ◌≤◌, ◌^◌, ◌+◌, ◌*◌, ◌==◌, ◌∷◌, [], min, map, length, slice_index_or, All, IfOk};
+ghost use Rattle.std.specs.Prelude.{◌≡◌, ℕ, ◌<◌, ◌≤◌, ◌^◌, ◌+◌, ◌*◌, ◌==◌, ◌∷◌, [], ◌++◌, ◌≢◌, min, map, length, slice_index_or, All, OnOk, IfOk};
 ghost use Rattle.node_expand.specs.declared.edge.Edge.TheVariants.{Free};
 ghost use Rattle.field_defs.specs.Layout.{key_len_of};
 ghost use Rattle.trie_merge.specs.Entry.{entry_of, column_at};
@@ -10,13 +10,14 @@ ghost use Rattle.trie_merge.specs.Levels.{IsGroup, max_cap, levels_of, row_words
 ghost use Rattle.trie_merge.specs.Row.{rows_of};
 ghost use Rattle.trie_merge.specs.Lists.{lists_of};
 ghost use Rattle.trie_merge.specs.Walk.{next_of, IsWalk};
+ghost use Rattle.trie_merge.specs.Pieces.{pieces_of, IsPieces};
 
 use crate::column::Column;
 use crate::entry::entry_of;
 use crate::expand::INLINE_ENTRIES;
 use crate::kept::Kept;
 use crate::levels::{Level, Levels};
-use crate::merge::{MergeFault, Place, ROW_WORDS, merge_states};
+use crate::merge::{MergeFault, Pieces, Place, ROW_WORDS, merge_states};
 use crate::row::CATEGORIES;
 use indexmap::IndexSet;
 use node_expand::Edge;
@@ -108,6 +109,19 @@ fn place_at(alloc: Global, rules: &RuleSet, places: &[usize], j: usize) -> Resul
     })
 }
 
+/// Puts the level of the pieces behind the others.
+fn push_level(levels: &mut Vec<Level>, pieces: Pieces) -> Result<(), MergeFault>
+    requires { IsPieces 0 pieces.ends.items (length pieces.runs.items) }
+    ensures level { OnOk result (levels.new.items
+        ≡ levels.old.items ++ pieces_of pieces.runs.items 0 pieces.ends.items ∷ []) }
+    ensures fault { result ≢ Err MergeFault.OverCap }
+{
+    match levels.push(Level::new(pieces)) {
+        Ok(()) => Ok(()),
+        Err(_) => Err(MergeFault::OutOfMemory),
+    }
+}
+
 /// Merges the states of the places, one place after the other.
 fn walk(
     alloc: Global,
@@ -130,9 +144,8 @@ fn walk(
     let mut found = start;
     let mut words = 0;
     for j in 0..places.len() {
-        let place = match place_at(alloc, rules, places, j) {
-            Ok(place) => place,
-            Err(_) => return Err(MergeFault::OutOfMemory),
+        let Ok(place) = place_at(alloc, rules, places, j) else {
+            return Err(MergeFault::OutOfMemory)
         };
         let states = found.as_slice();
         let merged = match merge_states(alloc, rules, &place, cap, words, states, lists) {
@@ -141,10 +154,7 @@ fn walk(
         };
         words = merged.words;
         found = merged.found;
-        match levels.push(Level::new(merged.pieces)) {
-            Ok(()) => {}
-            Err(_) => return Err(MergeFault::OutOfMemory),
-        }
+        push_level(&mut levels, merged.pieces)?;
     }
     Ok(Walked {
         levels,
