@@ -1,5 +1,7 @@
 -- The words of a state before the last place are told by its entries.
-use Rattle.std.proofs.Common.{◌≡◌, ℕ, zero, suc, ◌+◌, ◌-◌, ◌<◌, ◌≤◌, ◌==◌, List, [], ◌∷◌, ◌++◌, length, map, filter, take, get_or, fold, Bool, true, false, cond, not, ◌||◌, true≢false, Option, Some, None, refl, sym, ◌∙◌, ap, subst, inl, inr, arith, length-append}
+use Rattle.std.proofs.Common.{◌≡◌, ℕ, zero, suc, ◌+◌, ◌-◌, ◌<◌, ◌≤◌, ◌==◌, List, [], ◌∷◌, ◌++◌, length, map, filter}
+use Rattle.std.proofs.Common.{take, get_or, fold, Bool, true, false, cond, not, ◌||◌, true≢false, Option, Some, None}
+use Rattle.std.proofs.Common.{refl, sym, ◌∙◌, ap, subst, inl, inr, arith, length-append}
 use Rattle.std.specs.List.{list_any, cons_option, flat_map, AllByRecursion, position_or_len, range_with_len, sum_by}
 use Rattle.std.specs.Option.{option_map}
 use Rattle.std.specs.Str.{bytes_eq}
@@ -13,10 +15,12 @@ use Rattle.node_expand.proofs.Changes.{cuts_are_changes}
 use Rattle.rule_set.specs.Rule.{RuleSetView}
 use Rattle.trie_merge.specs.declared.run.Run.{Run}
 use Rattle.trie_merge.specs.State.{is_live}
-use Rattle.trie_merge.specs.Entry.{ColumnView, entry_of, number_in, edge_in, edge_before, value_in, entry_step, entries_step, is_entry_cut}
+use Rattle.trie_merge.specs.Entry.{ColumnView, entry_of, number_in, edge_in, edge_before, value_in, entry_step}
+use Rattle.trie_merge.specs.Entry.{entries_step, is_entry_cut}
 use Rattle.trie_merge.specs.Found.{all_bytes, found_in}
 use Rattle.trie_merge.specs.Levels.{same_succ, is_end, runs_of, cost_of}
-use Rattle.trie_merge.specs.Lists.{interval_at, is_change, cost_ahead, RisesFrom, succ_in, successor, level_found, state_runs, states_words}
+use Rattle.trie_merge.specs.Lists.{interval_at, is_change, cost_ahead, RisesFrom, succ_in, successor, level_found}
+use Rattle.trie_merge.specs.Lists.{state_runs, states_words}
 use Rattle.trie_merge.proofs.Finds.{is_new, none_new_once_found}
 use Rattle.trie_merge.proofs.Marks.{interval_first, interval_marked, interval_unmarked}
 use Rattle.trie_merge.proofs.Numbers.{bytes_eq_refl, bytes_eq_sound}
@@ -37,7 +41,8 @@ module _ (column : ColumnView) where
   step_number entry byte after is =
       by (edge_step (value_in column entry) column.size column.place (edge_before column entry) byte) is
     where
-      by : (found : Option Edge) → option_map (entry_of (number_in entry)) found ≡ Some after → number_in after ≡ number_in entry
+      by : (found : Option Edge) → option_map (entry_of (number_in entry)) found ≡ Some after
+          → number_in after ≡ number_in entry
       by None e = absurd cc
       by (Some edge) e =
           let made : entry_of (number_in entry) edge ≡ after = cc in
@@ -52,11 +57,13 @@ module _ (column : ColumnView) where
       let same : number_in after ≡ number_in entry = keeps after refl in
       (rw same above, rw same rise)
 
-  pub steps_rise : (least : ℕ) (entries : List ℕ) (byte : ℕ) → RisesFrom least entries → RisesFrom least (entries_step column entries byte)
+  pub steps_rise : (least : ℕ) (entries : List ℕ) (byte : ℕ) → RisesFrom least entries
+      → RisesFrom least (entries_step column entries byte)
   unfolding entries_step
   steps_rise least [] byte rise = tt
   steps_rise least (entry ∷ entries) byte rise =
-      rises_with least entry (entry_step column entry byte) (entries_step column entries byte) rise.0 (step_number entry byte)
+      rises_with least entry (entry_step column entry byte) (entries_step column entries byte) rise.0
+      (step_number entry byte)
       (steps_rise (number_in entry + 1) entries byte rise.1)
 
   -- each entry becomes the same
@@ -66,7 +73,8 @@ module _ (column : ColumnView) where
   unfolding entries_step
   each_alike one other least [] rise same = tt
   each_alike one other least (entry ∷ entries) rise same =
-      by (each_alike one other (number_in entry + 1) entries rise.1) (entry_step column entry one) (entry_step column entry other) refl refl same
+      by (each_alike one other (number_in entry + 1) entries rise.1) (entry_step column entry one)
+      (entry_step column entry other) refl refl same
     where
       by : (entries_step column entries one ≡ entries_step column entries other →
           AllByRecursion (λ e. entry_step column e one ≡ entry_step column e other) entries) →
@@ -80,13 +88,16 @@ module _ (column : ColumnView) where
           let tails : entries_step column entries one ≡ entries_step column entries other = cc in
           (is_a ∙ ap Some heads ∙ sym is_b, rest tails)
       by rest (Some a) None is_a is_b e =
-          let behind = subst (RisesFrom (number_in entry + 1)) (sym e) (steps_rise (number_in entry + 1) entries other rise.1) in
+          let behind = subst (RisesFrom (number_in entry + 1)) (sym e)
+          (steps_rise (number_in entry + 1) entries other rise.1) in
           absurd (omega (arith, behind.0, step_number entry one a is_a))
       by rest None (Some b) is_a is_b e =
-          let behind = subst (RisesFrom (number_in entry + 1)) e (steps_rise (number_in entry + 1) entries one rise.1) in
+          let behind = subst (RisesFrom (number_in entry + 1)) e
+          (steps_rise (number_in entry + 1) entries one rise.1) in
           absurd (omega (arith, behind.0, step_number entry other b is_b))
 
-  same_edges : (number : ℕ) (one other : Option Edge) → option_map (entry_of number) one ≡ option_map (entry_of number) other → one ≡ other
+  same_edges : (number : ℕ) (one other : Option Edge)
+      → option_map (entry_of number) one ≡ option_map (entry_of number) other → one ≡ other
   same_edges number None None same = refl
   same_edges number (Some a) (Some b) same =
       let made : entry_of number a ≡ entry_of number b = cc in
@@ -100,7 +111,8 @@ module _ (column : ColumnView) where
   unfolding entry_step is_entry_cut
   alike_uncut entry byte same =
       let back : byte + 1 - 1 ≡ byte = omega arith in
-      (cuts_are_changes (value_in column entry) column.size column.place (edge_before column entry) (byte + 1) (omega arith)).1
+      (cuts_are_changes (value_in column entry) column.size column.place (edge_before column entry) (byte + 1)
+      (omega arith)).1
       (sym (same_edges (number_in entry) _ _ same)
       ∙ ap (edge_step (value_in column entry) column.size column.place (edge_before column entry)) (sym back))
 
@@ -115,40 +127,48 @@ module _ (column : ColumnView) where
   pub marked_where_changed : (entries : List ℕ) (byte : ℕ) → RisesFrom 0 entries →
       list_any (λ entry. is_entry_cut column entry (byte + 1)) entries
       ≡ not (bytes_eq (entries_step column entries byte) (entries_step column entries (byte + 1)))
-  marked_where_changed entries byte rise = elim (cases_Bool (list_any (λ entry. is_entry_cut column entry (byte + 1)) entries)) [
-    | inr unmarked ↦
-        unmarked
-        ∙ ap not (sym (ap (λ list. bytes_eq (entries_step column entries byte) list) (entries_uncut column entries byte unmarked)
-        ∙ bytes_eq_refl (entries_step column entries byte)))
-    | inl marked ↦ elim (cases_Bool (bytes_eq (entries_step column entries byte) (entries_step column entries (byte + 1)))) [
-      | inr other ↦ marked ∙ ap not (sym other)
-      | inl same ↦
-          absurd (true≢false (sym marked ∙ none_cut byte entries (each_alike byte (byte + 1) 0 entries rise
-          (bytes_eq_sound (entries_step column entries byte) (entries_step column entries (byte + 1)) same))))
-    ]
-  ]
+  marked_where_changed entries byte rise =
+      elim (cases_Bool (list_any (λ entry. is_entry_cut column entry (byte + 1)) entries)) [
+        | inr unmarked ↦
+            unmarked
+            ∙ ap not (sym (ap (λ list. bytes_eq (entries_step column entries byte) list)
+            (entries_uncut column entries byte unmarked)
+            ∙ bytes_eq_refl (entries_step column entries byte)))
+        | inl marked ↦ elim (cases_Bool
+            (bytes_eq (entries_step column entries byte) (entries_step column entries (byte + 1)))) [
+              | inr other ↦ marked ∙ ap not (sym other)
+              | inl same ↦
+                  absurd (true≢false (sym marked ∙ none_cut byte entries (each_alike byte (byte + 1) 0 entries rise
+                  (bytes_eq_sound (entries_step column entries byte) (entries_step column entries (byte + 1)) same))))
+            ]
+      ]
 
   -- so there is a mark for each change, and one interval more
-  module _ (entries : List ℕ) (marks : List Bool) (long : length marks ≡ 256) (cuts : AreCuts column entries marks) (rise : RisesFrom 0 entries) where
+  module _ (entries : List ℕ) (marks : List Bool) (long : length marks ≡ 256) (cuts : AreCuts column entries marks)
+      (rise : RisesFrom 0 entries) where
     change_at : (byte : ℕ) → byte < 255 → is_change column entries byte ≡ get_or marks (byte + 1) false
     unfolding is_change
     change_at byte below =
-        ap (λ b. b || not (bytes_eq (entries_step column entries byte) (entries_step column entries (byte + 1)))) (ne_eqb byte 255 (omega arith))
+        ap (λ b. b || not (bytes_eq (entries_step column entries byte) (entries_step column entries (byte + 1))))
+        (ne_eqb byte 255 (omega arith))
         ∙ sym (cuts (byte + 1) (omega arith) ∙ marked_where_changed entries byte rise)
 
     changes_of : List ℕ → List ℕ
     changes_of bytes = filter (is_change column entries) bytes
 
-    changes_before : (byte : ℕ) → byte < 256 → length (filter (is_change column entries) (take byte all_bytes)) ≡ interval_at marks byte
+    changes_before : (byte : ℕ) → byte < 256
+        → length (filter (is_change column entries) (take byte all_bytes)) ≡ interval_at marks byte
     changes_before zero below = sym (interval_first marks)
     changes_before (suc byte) below =
         let next : suc byte ≡ byte + 1 = omega arith in
         let before = changes_before byte (omega arith) in
         let split : length (filter (is_change column entries) (take (byte + 1) all_bytes))
-        ≡ length (filter (is_change column entries) (take byte all_bytes)) + length (filter (is_change column entries) (byte ∷ [])) =
+        ≡ length (filter (is_change column entries) (take byte all_bytes)) + length
+        (filter (is_change column entries) (byte ∷ [])) =
         ap (λ bytes. length (filter (is_change column entries) bytes)) (one_more_byte byte (omega arith))
         ∙ ap length (filter-append (is_change column entries) (take byte all_bytes) (byte ∷ []))
-        ∙ length-append (filter (is_change column entries) (take byte all_bytes)) (filter (is_change column entries) (byte ∷ [])) in
+        ∙ length-append (filter (is_change column entries) (take byte all_bytes))
+        (filter (is_change column entries) (byte ∷ [])) in
         rw next (elim (cases_Bool (get_or marks (byte + 1) false)) [
           | inl marked ↦
               (let one : length (filter (is_change column entries) (byte ∷ [])) ≡ 1 =
@@ -168,12 +188,15 @@ module _ (column : ColumnView) where
     changes_are_intervals =
         let whole : take (255 + 1) all_bytes ≡ all_bytes = take_all 256 all_bytes (omega (arith, length-all_bytes)) in
         let last : List ℕ = 255 ∷ [] in
-        let one : length (filter (is_change column entries) (255 ∷ [])) ≡ 1 = ap (λ b. length (cond b last [])) last_changes in
+        let one : length (filter (is_change column entries) (255 ∷ [])) ≡ 1 =
+        ap (λ b. length (cond b last [])) last_changes in
         let split : length (filter (is_change column entries) (take (255 + 1) all_bytes))
-        ≡ length (filter (is_change column entries) (take 255 all_bytes)) + length (filter (is_change column entries) (255 ∷ [])) =
+        ≡ length (filter (is_change column entries) (take 255 all_bytes)) + length
+        (filter (is_change column entries) (255 ∷ [])) =
         ap (λ bytes. length (filter (is_change column entries) bytes)) (one_more_byte 255 (omega arith))
         ∙ ap length (filter-append (is_change column entries) (take 255 all_bytes) (255 ∷ []))
-        ∙ length-append (filter (is_change column entries) (take 255 all_bytes)) (filter (is_change column entries) (255 ∷ [])) in
+        ∙ length-append (filter (is_change column entries) (take 255 all_bytes))
+        (filter (is_change column entries) (255 ∷ [])) in
         ap (λ bytes. length (filter (is_change column entries) bytes)) (sym whole)
         ∙ omega (arith, split, one, changes_before 255 (omega arith))
 
@@ -190,7 +213,8 @@ found_at list (x ∷ xs) there = elim (cases_Bool (bytes_eq list x)) [
 ]
 
 pub apart_where_lists_are : (found : List (List ℕ)) (one other : List ℕ) → is_new bytes_eq is_live found one ≡ false →
-    is_new bytes_eq is_live found other ≡ false → same_succ (succ_in false found one) (succ_in false found other) ≡ bytes_eq one other
+    is_new bytes_eq is_live found other ≡ false
+    → same_succ (succ_in false found one) (succ_in false found other) ≡ bytes_eq one other
 apart_where_lists_are found [] [] known known' = refl
 apart_where_lists_are found [] (y ∷ ys) known known' = refl
 apart_where_lists_are found (x ∷ xs) [] known known' = refl
@@ -203,7 +227,8 @@ apart_where_lists_are found (x ∷ xs) (y ∷ ys) known known' =
           ne_eqb (position_or_len (bytes_eq (x ∷ xs)) found) (position_or_len (bytes_eq (y ∷ ys)) found)
           (λ e.
           let is : x ∷ xs ≡ y ∷ ys =
-          sym (found_at (x ∷ xs) found (not-false _ known)) ∙ ap (λ k. get_or found k []) e ∙ found_at (y ∷ ys) found (not-false _ known') in
+          sym (found_at (x ∷ xs) found (not-false _ known)) ∙ ap (λ k. get_or found k []) e
+          ∙ found_at (y ∷ ys) found (not-false _ known') in
           true≢false (sym (ap (λ list. bytes_eq (x ∷ xs) list) (sym is) ∙ bytes_eq_refl (x ∷ xs)) ∙ apart)) ∙ sym apart
     ]
 
@@ -213,7 +238,8 @@ filter_same : (p q : ℕ → Bool) (first count : ℕ) → first + count ≤ 256
     filter p (range_with_len first count) ≡ filter q (range_with_len first count)
 filter_same p q first zero within same = refl
 filter_same p q first (suc count) within same =
-    λ i. cond (same first (omega arith) i) (first ∷ filter_same p q (first + 1) count (omega arith) same i) (filter_same p q (first + 1) count (omega arith) same i)
+    λ i. cond (same first (omega arith) i) (first ∷ filter_same p q (first + 1) count (omega arith) same i)
+    (filter_same p q (first + 1) count (omega arith) same i)
 
 bytes_same : (p q : ℕ → Bool) → ((byte : ℕ) → byte < 256 → p byte ≡ q byte) → filter p all_bytes ≡ filter q all_bytes
 unfolding all_bytes
@@ -226,11 +252,14 @@ module _ (set : RuleSetView) (column : ColumnView) (found : List (List ℕ)) (en
   unfolding is_change successor
   ends_where_changed byte below = elim (cases_eq byte 255) [
     | inl last ↦
-        ap (λ b. b || not (same_succ (succ_in false found (entries_step column entries byte)) (succ_in false found (entries_step column entries (byte + 1))))) (eq-eqb byte 255 last)
-        ∙ sym (ap (λ b. b || not (bytes_eq (entries_step column entries byte) (entries_step column entries (byte + 1)))) (eq-eqb byte 255 last))
+        ap (λ b. b || not (same_succ (succ_in false found (entries_step column entries byte))
+        (succ_in false found (entries_step column entries (byte + 1))))) (eq-eqb byte 255 last)
+        ∙ sym (ap (λ b. b || not (bytes_eq (entries_step column entries byte) (entries_step column entries (byte + 1))))
+        (eq-eqb byte 255 last))
     | inr other ↦
         ap (λ b. byte == 255 || not b)
-        (apart_where_lists_are found (entries_step column entries byte) (entries_step column entries (byte + 1)) (known byte below)
+        (apart_where_lists_are found (entries_step column entries byte) (entries_step column entries (byte + 1))
+        (known byte below)
         (known (byte + 1) (omega (arith, other))))
   ]
 
@@ -238,7 +267,8 @@ module _ (set : RuleSetView) (column : ColumnView) (found : List (List ℕ)) (en
   unfolding cost_ahead runs_of
   cost_is_ahead =
       ap cost_of (ap length (sym (bytes_same _ _ ends_where_changed))
-      ∙ sym (length-map (filter (is_end (λ b. succ_in false found (successor set column false entries b))) all_bytes) _))
+      ∙ sym (length-map (filter (is_end (λ b. succ_in false found (successor set column false entries b))) all_bytes)
+      _))
 
 -- ---- all that the states of a place lead to is found
 
@@ -249,11 +279,13 @@ all_of_parts P f (x ∷ xs) all =
     let parts = split (f x) all in
     (parts.0, all_of_parts P f xs parts.1)
   where
-    split : (ys : List _) → AllByRecursion P (ys ++ flat_map f xs) → AllByRecursion P ys × AllByRecursion P (flat_map f xs)
+    split : (ys : List _) → AllByRecursion P (ys ++ flat_map f xs)
+        → AllByRecursion P ys × AllByRecursion P (flat_map f xs)
     split [] rest = (tt, rest)
     split (y ∷ ys) rest = (let more = split ys rest.1 in ((rest.0, more.0), more.1))
 
-all_of_bytes : {Y : Type 0} (P : Y → Type 0) (g : ℕ → Y) (first count : ℕ) → AllByRecursion P (map g (range_with_len first count)) →
+all_of_bytes : {Y : Type 0} (P : Y → Type 0) (g : ℕ → Y) (first count : ℕ)
+    → AllByRecursion P (map g (range_with_len first count)) →
     (byte : ℕ) → first ≤ byte → byte < first + count → P (g byte)
 all_of_bytes P g first zero all byte from until = absurd (omega (arith, from, until))
 all_of_bytes P g first (suc count) all byte from until = elim (cases_eq byte first) [
@@ -261,7 +293,8 @@ all_of_bytes P g first (suc count) all byte from until = elim (cases_eq byte fir
   | inr other ↦ all_of_bytes P g (first + 1) count all.1 byte (omega (arith, from, other)) (omega (arith, until))
 ]
 
-each_of_bytes : {Y : Type 0} (P : Y → Type 0) (g : ℕ → Y) → AllByRecursion P (map g all_bytes) → (byte : ℕ) → byte < 256 → P (g byte)
+each_of_bytes : {Y : Type 0} (P : Y → Type 0) (g : ℕ → Y) → AllByRecursion P (map g all_bytes) → (byte : ℕ) → byte < 256
+    → P (g byte)
 unfolding all_bytes
 each_of_bytes P g all byte below = all_of_bytes P g 0 256 all byte (omega arith) (omega arith)
 
@@ -273,16 +306,19 @@ module _ (set : RuleSetView) (column : ColumnView) (states : List (List ℕ)) wh
       is_new bytes_eq is_live (level_found set column false states) (entries_step column entries byte) ≡ false) states
   unfolding level_found found_in successor
   all_known =
-      weaker states (all_of_parts (λ list. is_new bytes_eq is_live (fold _ [] (flat_map finds states)) list ≡ false) finds states
+      weaker states (all_of_parts (λ list. is_new bytes_eq is_live (fold _ [] (flat_map finds states)) list ≡ false)
+      finds states
       (none_new_once_found bytes_eq is_live bytes_eq_refl [] (flat_map finds states)))
     where
       weaker : (xs : List (List ℕ)) →
-          AllByRecursion (λ entries. AllByRecursion (λ list. is_new bytes_eq is_live (level_found set column false states) list ≡ false) (finds entries)) xs →
+          AllByRecursion (λ entries. AllByRecursion
+          (λ list. is_new bytes_eq is_live (level_found set column false states) list ≡ false) (finds entries)) xs →
           AllByRecursion (λ entries. (byte : ℕ) → byte < 256 →
           is_new bytes_eq is_live (level_found set column false states) (entries_step column entries byte) ≡ false) xs
       weaker [] all = tt
       weaker (x ∷ xs) all = (
-        each_of_bytes (λ list. is_new bytes_eq is_live (level_found set column false states) list ≡ false) (successor set column false x) all.0,
+        each_of_bytes (λ list. is_new bytes_eq is_live (level_found set column false states) list ≡ false)
+            (successor set column false x) all.0,
         weaker xs all.1,
       )
 
@@ -294,13 +330,15 @@ module _ (set : RuleSetView) (column : ColumnView) (states : List (List ℕ)) wh
       by : (xs : List (List ℕ)) →
           AllByRecursion (λ entries. (byte : ℕ) → byte < 256 →
           is_new bytes_eq is_live (level_found set column false states) (entries_step column entries byte) ≡ false) xs →
-          sum_by (cost_ahead column) xs ≡ states_words (map (state_runs set column false (level_found set column false states)) xs)
+          sum_by (cost_ahead column) xs
+          ≡ states_words (map (state_runs set column false (level_found set column false states)) xs)
       by [] all = refl
       by (x ∷ xs) all =
           omega (
             arith,
             sum_by-cons (cost_ahead column) x xs,
-            sum_by-cons (λ (runs : List Run). cost_of (length runs)) (state_runs set column false (level_found set column false states) x)
+            sum_by-cons (λ (runs : List Run). cost_of (length runs))
+                (state_runs set column false (level_found set column false states) x)
                 (map (state_runs set column false (level_found set column false states)) xs),
             cost_is_ahead set column (level_found set column false states) x all.0,
             by xs all.1,

@@ -1,5 +1,7 @@
 -- Between the kept places all rules are wild.
-use Rattle.std.proofs.Common.{◌≡◌, ◌≢◌, ℕ, zero, suc, ◌+◌, ◌<◌, ◌≤◌, ◌==◌, List, [], ◌∷◌, length, filter, get_or, Bool, true, false, cond, not, ◌&&◌, ◌||◌, true≢false, refl, sym, ◌∙◌, ap, subst, inl, inr, ◌⊎◌, arith}
+use Rattle.std.proofs.Common.{◌≡◌, ◌≢◌, ℕ, zero, suc, ◌+◌, ◌<◌, ◌≤◌, ◌==◌, List, [], ◌∷◌, length, filter, get_or, Bool}
+use Rattle.std.proofs.Common.{true, false, cond, not, ◌&&◌, ◌||◌, true≢false, refl, sym, ◌∙◌, ap, subst, inl, inr, ◌⊎◌}
+use Rattle.std.proofs.Common.{arith}
 use Rattle.std.specs.List.{range_with_len, list_all}
 use Rattle.std.proofs.lemmas.Bool.{cases_Bool, cases_eq, eq-eqb, and_parts}
 use Rattle.field_defs.specs.Layout.{key_len_of}
@@ -8,7 +10,8 @@ use Rattle.trie_merge.specs.Kept.{group_of, is_wild_place, is_idle, is_kept, key
 use Rattle.trie_merge.proofs.Reached.{IsGap}
 
 -- what holds of all numbers of a range holds of each
-pub each : (p : ℕ → Bool) (first count : ℕ) → list_all p (range_with_len first count) ≡ true → (k : ℕ) → first ≤ k → k < first + count → p k ≡ true
+pub each : (p : ℕ → Bool) (first count : ℕ) → list_all p (range_with_len first count) ≡ true → (k : ℕ) → first ≤ k
+    → k < first + count → p k ≡ true
 each p first zero all k from below = absurd (omega arith)
 each p first (suc count) all k from below =
     let parts = and_parts (p first) (list_all p (range_with_len (first + 1) count)) all in
@@ -18,7 +21,8 @@ each p first (suc count) all k from below =
     ]
 
 -- or there is one of which it doesn't hold
-some_not : (p : ℕ → Bool) (first count : ℕ) → (list_all p (range_with_len first count) ≡ true) ⊎ ((k : ℕ) × (first ≤ k) × (k < first + count) × (p k ≡ false))
+some_not : (p : ℕ → Bool) (first count : ℕ)
+    → (list_all p (range_with_len first count) ≡ true) ⊎ ((k : ℕ) × (first ≤ k) × (k < first + count) × (p k ≡ false))
 some_not p first zero = inl refl
 some_not p first (suc count) = elim (cases_Bool (p first)) [
   | inr fails ↦ inr (first, omega arith, omega arith, fails)
@@ -35,8 +39,10 @@ module _ (set : RuleSetView) (group : List ℕ) where
   Gaps (place ∷ []) = IsGap set group place (key_len_of set.layout)
   Gaps (place ∷ next ∷ places) = IsGap set group place next × Gaps (next ∷ places)
 
-  gaps_from : (test : ℕ → Bool) (wild : (k : ℕ) → k < key_len_of set.layout → test k ≡ false → is_wild_place set group k ≡ true)
-      (place first count : ℕ) → place < first → first + count ≡ key_len_of set.layout → ((k : ℕ) → place < k → k < first → is_wild_place set group k ≡ true) →
+  gaps_from : (test : ℕ → Bool)
+      (wild : (k : ℕ) → k < key_len_of set.layout → test k ≡ false → is_wild_place set group k ≡ true)
+      (place first count : ℕ) → place < first → first + count ≡ key_len_of set.layout
+      → ((k : ℕ) → place < k → k < first → is_wild_place set group k ≡ true) →
       Gaps (place ∷ filter test (range_with_len first count))
   gaps_from test wild place first zero rises whole between = record {
     rises = omega (arith, whole);
@@ -45,12 +51,15 @@ module _ (set : RuleSetView) (group : List ℕ) where
   }
   gaps_from test wild place first (suc count) rises whole between = elim (cases_Bool (test first)) [
     | inl kept ↦
-        subst (λ b. Gaps (place ∷ cond b (first ∷ filter test (range_with_len (first + 1) count)) (filter test (range_with_len (first + 1) count)))) (sym kept) (
+        subst (λ b. Gaps (place ∷ cond b (first ∷ filter test (range_with_len (first + 1) count))
+        (filter test (range_with_len (first + 1) count)))) (sym kept) (
           record { rises = rises; within = omega (arith, whole); wild = between },
-          gaps_from test wild first (first + 1) count (omega arith) (omega (arith, whole)) (λ k from below. absurd (omega arith)),
+          gaps_from test wild first (first + 1) count (omega arith) (omega (arith, whole))
+              (λ k from below. absurd (omega arith)),
         )
     | inr left_out ↦
-        subst (λ b. Gaps (place ∷ cond b (first ∷ filter test (range_with_len (first + 1) count)) (filter test (range_with_len (first + 1) count)))) (sym left_out)
+        subst (λ b. Gaps (place ∷ cond b (first ∷ filter test (range_with_len (first + 1) count))
+        (filter test (range_with_len (first + 1) count)))) (sym left_out)
         (gaps_from test wild place (first + 1) count (omega arith) (omega (arith, whole))
         (λ k from below. elim (cases_eq k first) [
           | inl e ↦ ap (is_wild_place set group) e ∙ wild first (omega (arith, whole)) left_out
@@ -65,22 +74,28 @@ module _ (set : RuleSetView) (group : List ℕ) where
     pub within : get_or places 0 0 ≤ key_len_of set.layout
     pub gaps : Gaps places
 
-  first_from : (test : ℕ → Bool) (wild : (k : ℕ) → k < key_len_of set.layout → test k ≡ false → is_wild_place set group k ≡ true)
-      (first count : ℕ) → first + count ≡ key_len_of set.layout → ((k : ℕ) → k < first → is_wild_place set group k ≡ true) →
-      ((k : ℕ) × (first ≤ k) × (k < first + count) × (test k ≡ true)) → HasFirst (filter test (range_with_len first count))
+  first_from : (test : ℕ → Bool)
+      (wild : (k : ℕ) → k < key_len_of set.layout → test k ≡ false → is_wild_place set group k ≡ true)
+      (first count : ℕ) → first + count ≡ key_len_of set.layout
+      → ((k : ℕ) → k < first → is_wild_place set group k ≡ true) →
+      ((k : ℕ) × (first ≤ k) × (k < first + count) × (test k ≡ true))
+      → HasFirst (filter test (range_with_len first count))
   first_from test wild first zero whole before one = absurd (omega (arith, one.1, one.2))
   first_from test wild first (suc count) whole before one = elim (cases_Bool (test first)) [
     | inl kept ↦
-        subst (λ b. HasFirst (cond b (first ∷ filter test (range_with_len (first + 1) count)) (filter test (range_with_len (first + 1) count)))) (sym kept)
+        subst (λ b. HasFirst (cond b (first ∷ filter test (range_with_len (first + 1) count))
+        (filter test (range_with_len (first + 1) count)))) (sym kept)
         (record {
           some = omega arith;
           before = before;
           within = omega (arith, whole);
-          gaps = gaps_from test wild first (first + 1) count (omega arith) (omega (arith, whole)) (λ k from below. absurd (omega arith));
+          gaps = gaps_from test wild first (first + 1) count (omega arith) (omega (arith, whole))
+              (λ k from below. absurd (omega arith));
         })
     | inr left_out ↦
         let other : one.0 ≢ first = λ e. true≢false (sym one.3 ∙ ap test e ∙ left_out) in
-        subst (λ b. HasFirst (cond b (first ∷ filter test (range_with_len (first + 1) count)) (filter test (range_with_len (first + 1) count)))) (sym left_out)
+        subst (λ b. HasFirst (cond b (first ∷ filter test (range_with_len (first + 1) count))
+        (filter test (range_with_len (first + 1) count)))) (sym left_out)
         (first_from test wild (first + 1) count (omega (arith, whole))
         (λ k below. elim (cases_eq k first) [
           | inl e ↦ ap (is_wild_place set group) e ∙ wild first (omega (arith, whole)) left_out
@@ -90,12 +105,16 @@ module _ (set : RuleSetView) (group : List ℕ) where
   ]
 
   -- a place of a group that isn't kept is wild
-  left_out_is_wild : (place : ℕ) → place < key_len_of set.layout → is_kept set group (group_of place) ≡ false → is_wild_place set group place ≡ true
+  left_out_is_wild : (place : ℕ) → place < key_len_of set.layout → is_kept set group (group_of place) ≡ false
+      → is_wild_place set group place ≡ true
   unfolding is_kept is_idle
   left_out_is_wild place within left_out =
-      let idle : list_all (λ k. not (group_of k == group_of place) || is_wild_place set group k) (key_places set) ≡ true =
-      of_or (list_all (λ k. not (group_of k == group_of place) || is_wild_place set group k) (key_places set)) (group_of place == 0 && list_all (is_wild_place set group) (key_places set)) left_out in
-      let here = each (λ k. not (group_of k == group_of place) || is_wild_place set group k) 0 (key_len_of set.layout) idle place (omega arith) (omega arith) in
+      let idle : list_all (λ k. not (group_of k == group_of place) || is_wild_place set group k) (key_places set)
+      ≡ true =
+      of_or (list_all (λ k. not (group_of k == group_of place) || is_wild_place set group k) (key_places set))
+      (group_of place == 0 && list_all (is_wild_place set group) (key_places set)) left_out in
+      let here = each (λ k. not (group_of k == group_of place) || is_wild_place set group k) 0 (key_len_of set.layout)
+      idle place (omega arith) (omega arith) in
       sym (ap (λ b. not b || is_wild_place set group place) (eq-eqb (group_of place) (group_of place) refl)) ∙ here
     where
       of_or : (a b : Bool) → (not a || b) ≡ false → a ≡ true
@@ -103,22 +122,26 @@ module _ (set : RuleSetView) (group : List ℕ) where
       of_or false b h = absurd (true≢false h)
 
   -- some place is kept
-  some_kept : 0 < key_len_of set.layout → (k : ℕ) × (0 ≤ k) × (k < 0 + key_len_of set.layout) × (is_kept set group (group_of k) ≡ true)
+  some_kept : 0 < key_len_of set.layout
+      → (k : ℕ) × (0 ≤ k) × (k < 0 + key_len_of set.layout) × (is_kept set group (group_of k) ≡ true)
   unfolding is_kept is_idle
   some_kept some = elim (some_not (is_wild_place set group) 0 (key_len_of set.layout)) [
     | inl all ↦ (
       0,
       omega arith,
       omega arith,
-      ap (λ b. not (list_all (λ k. not (group_of k == 0) || is_wild_place set group k) (key_places set)) || (true && b)) all
+      ap (λ b. not (list_all (λ k. not (group_of k == 0) || is_wild_place set group k) (key_places set)) || (true && b))
+          all
           ∙ or_true (not (list_all (λ k. not (group_of k == 0) || is_wild_place set group k) (key_places set))),
     )
     | inr one ↦ (
       one.0,
       one.1,
       one.2,
-      (let not_idle : list_all (λ k. not (group_of k == group_of one.0) || is_wild_place set group k) (key_places set) ≡ false =
-          not_all (λ k. not (group_of k == group_of one.0) || is_wild_place set group k) 0 (key_len_of set.layout) one.0 one.1 one.2
+      (let not_idle : list_all (λ k. not (group_of k == group_of one.0) || is_wild_place set group k) (key_places set)
+          ≡ false =
+          not_all (λ k. not (group_of k == group_of one.0) || is_wild_place set group k) 0 (key_len_of set.layout) one.0
+          one.1 one.2
           (ap (λ b. not b || is_wild_place set group one.0) (eq-eqb (group_of one.0) (group_of one.0) refl) ∙ one.3) in
           ap (λ b. not b || (group_of one.0 == 0 && list_all (is_wild_place set group) (key_places set))) not_idle),
     )
@@ -128,7 +151,8 @@ module _ (set : RuleSetView) (group : List ℕ) where
       or_true true = refl
       or_true false = refl
 
-      not_all : (p : ℕ → Bool) (first count k : ℕ) → first ≤ k → k < first + count → p k ≡ false → list_all p (range_with_len first count) ≡ false
+      not_all : (p : ℕ → Bool) (first count k : ℕ) → first ≤ k → k < first + count → p k ≡ false
+          → list_all p (range_with_len first count) ≡ false
       not_all p first count k from below fails = elim (cases_Bool (list_all p (range_with_len first count))) [
         | inl all ↦ absurd (true≢false (sym (each p first count all k from below) ∙ fails))
         | inr h ↦ h
@@ -137,4 +161,5 @@ module _ (set : RuleSetView) (group : List ℕ) where
   pub kept_places_first : 0 < key_len_of set.layout → HasFirst (kept_places set group)
   unfolding kept_places
   kept_places_first some =
-      first_from (λ place. is_kept set group (group_of place)) left_out_is_wild 0 (key_len_of set.layout) (omega arith) (λ k below. absurd (omega arith)) (some_kept some)
+      first_from (λ place. is_kept set group (group_of place)) left_out_is_wild 0 (key_len_of set.layout) (omega arith)
+      (λ k below. absurd (omega arith)) (some_kept some)

@@ -1,7 +1,9 @@
 -- Handing the entries of a state out to the lists of its intervals.
-use Rattle.std.proofs.Common.{◌≡◌, ◌≢◌, ℕ, ◌+◌, ◌<◌, ◌≤◌, List, [], ◌∷◌, ◌++◌, length, take, get_or, set, Bool, Option, Some, None, option_to_list, refl, sym, ◌∙◌, ap, inl, inr, ◌⊎◌, arith}
+use Rattle.std.proofs.Common.{◌≡◌, ◌≢◌, ℕ, ◌+◌, ◌<◌, ◌≤◌, List, [], ◌∷◌, ◌++◌, length, take, get_or, set, Bool, Option}
+use Rattle.std.proofs.Common.{Some, None, option_to_list, refl, sym, ◌∙◌, ap, inl, inr, ◌⊎◌, arith}
 use Rattle.std.specs.List.{filter_map, cons_option}
-use Rattle.std.proofs.lemmas.List.{map-set, get_or-set_same, get_or-set_other, get_or-map, length-map, take_more, append-nil}
+use Rattle.std.proofs.lemmas.List.{map-set, get_or-set_same, get_or-set_other, get_or-map, length-map, take_more}
+use Rattle.std.proofs.lemmas.List.{append-nil}
 use Rattle.std.proofs.lemmas.List.Elements.{filter_map-append}
 use Rattle.std.proofs.lemmas.Bool.{cases_eq, cases_lt}
 use Rattle.smallvec.specs.SmallVec.{SmallVec}
@@ -11,18 +13,23 @@ use Rattle.trie_merge.specs.Intervals.{AreIntervals}
 use Rattle.trie_merge.proofs.Marks.{interval_rises}
 
 -- after a write the place has what was written
-pub list_at-set_same : (lists : List (SmallVec ℕ)) (k : ℕ) (v : SmallVec ℕ) → k < length lists → list_at (set lists k v) k ≡ v.items
+pub list_at-set_same : (lists : List (SmallVec ℕ)) (k : ℕ) (v : SmallVec ℕ) → k < length lists
+    → list_at (set lists k v) k ≡ v.items
 list_at-set_same lists k v within =
     let fits : k < length (lists_of lists) = rw (length-map lists (λ (u : SmallVec ℕ). u.items)) within in
-    ap (λ xs. get_or xs k []) (map-set (λ (u : SmallVec ℕ). u.items) lists k v) ∙ get_or-set_same (lists_of lists) k v.items [] fits
+    ap (λ xs. get_or xs k []) (map-set (λ (u : SmallVec ℕ). u.items) lists k v)
+    ∙ get_or-set_same (lists_of lists) k v.items [] fits
 
 -- and each other place what it had
-pub list_at-set_other : (lists : List (SmallVec ℕ)) (k j : ℕ) (v : SmallVec ℕ) → j ≢ k → list_at (set lists k v) j ≡ list_at lists j
+pub list_at-set_other : (lists : List (SmallVec ℕ)) (k j : ℕ) (v : SmallVec ℕ) → j ≢ k
+    → list_at (set lists k v) j ≡ list_at lists j
 list_at-set_other lists k j v other =
-    ap (λ xs. get_or xs j []) (map-set (λ (u : SmallVec ℕ). u.items) lists k v) ∙ get_or-set_other (lists_of lists) k j v.items [] other
+    ap (λ xs. get_or xs j []) (map-set (λ (u : SmallVec ℕ). u.items) lists k v)
+    ∙ get_or-set_other (lists_of lists) k j v.items [] other
 
 -- what is read at a place
-pub list_at-read : (lists : List (SmallVec ℕ)) (k : ℕ) (v : SmallVec ℕ) → k < length lists → v ≡ get_or lists k v → list_at lists k ≡ v.items
+pub list_at-read : (lists : List (SmallVec ℕ)) (k : ℕ) (v : SmallVec ℕ) → k < length lists → v ≡ get_or lists k v
+    → list_at lists k ≡ v.items
 list_at-read lists k v within is =
     get_or-map (λ (u : SmallVec ℕ). u.items) lists k v [] within ∙ ap (λ (u : SmallVec ℕ). u.items) (sym is)
 
@@ -42,11 +49,21 @@ module _ (given : ℕ → Option ℕ) (from : ℕ) (old lists : List (SmallVec �
 
   -- one more list, where there is something to give
   pub handed_some : (v w : SmallVec ℕ) (after : ℕ) → k < length lists → v ≡ get_or lists k v →
-      w.items ≡ (get_or lists k v).items ++ after ∷ [] → Some after ≡ given k → Handed given from old (set lists k w) (k + 1)
+      w.items ≡ (get_or lists k v).items ++ after ∷ [] → Some after ≡ given k
+      → Handed given from old (set lists k w) (k + 1)
   handed_some v w after within read written is = record {
     done = λ j above below. elim (cases_eq j k) [
       | inl e ↦
-          rw (e, list_at-set_same lists k w within, written, ← read, ← list_at-read lists k v within read, so_far.left k (inr (omega arith)), ← is)
+          rw (
+            e,
+            list_at-set_same lists k w within,
+            written,
+            ← read,
+            ← list_at-read lists k v within read,
+            so_far.left k
+                (inr (omega arith)),
+            ← is,
+          )
           refl
       | inr other ↦ rw (list_at-set_other lists k j w other) (so_far.done j above (omega (arith, other)))
     ];
@@ -107,7 +124,8 @@ module _ (column : ColumnView) (entry : ℕ) (marks : List Bool) (firsts of_byte
 
   -- so the lists of the run are all that it changes
   pub handed_by_run : (old lists : List (SmallVec ℕ)) →
-      ((k : ℕ) → from ≤ k → k < until → list_at lists k ≡ list_at old k ++ option_to_list (entry_step column entry (its_first k))) →
+      ((k : ℕ) → from ≤ k → k < until
+      → list_at lists k ≡ list_at old k ++ option_to_list (entry_step column entry (its_first k))) →
       ((k : ℕ) → k < from ⊎ until ≤ k → list_at lists k ≡ list_at old k) →
       (k : ℕ) → k < count → list_at lists k ≡ list_at old k ++ option_to_list (entry_step column entry (its_first k))
   handed_by_run old lists within outside k below = elim (cases_lt k from) [
@@ -125,11 +143,14 @@ one_option (Some y) = refl
 
 -- the entries handed out so far, and one more
 pub entries_step_more : (column : ColumnView) (entries : List ℕ) (i d byte : ℕ) → i < length entries →
-    entries_step column (take (i + 1) entries) byte ≡ entries_step column (take i entries) byte ++ option_to_list (entry_step column (get_or entries i d) byte)
+    entries_step column (take (i + 1) entries) byte
+    ≡ entries_step column (take i entries) byte ++ option_to_list (entry_step column (get_or entries i d) byte)
 unfolding entries_step
 entries_step_more column entries i d byte within =
-    ap (filter_map (λ entry. entry_step column entry byte)) (take_more entries i d within) ∙ filter_map-append (λ entry. entry_step column entry byte) (take i entries) (get_or entries i d ∷ [])
-    ∙ ap (λ l. filter_map (λ entry. entry_step column entry byte) (take i entries) ++ l) (one_option (entry_step column (get_or entries i d) byte))
+    ap (filter_map (λ entry. entry_step column entry byte)) (take_more entries i d within)
+    ∙ filter_map-append (λ entry. entry_step column entry byte) (take i entries) (get_or entries i d ∷ [])
+    ∙ ap (λ l. filter_map (λ entry. entry_step column entry byte) (take i entries) ++ l)
+    (one_option (entry_step column (get_or entries i d) byte))
 
 -- none handed out yet
 pub entries_step_none : (column : ColumnView) (byte : ℕ) → entries_step column [] byte ≡ []

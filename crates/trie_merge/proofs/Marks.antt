@@ -1,5 +1,6 @@
 -- Which interval has a byte, and where the intervals begin.
-use Rattle.std.proofs.Common.{◌≡◌, ℕ, zero, suc, ◌+◌, ◌-◌, ◌<◌, ◌≤◌, List, length, drop, get_or, set, Bool, true, false, cond, ltb, refl, sym, ◌∙◌, ap, inl, inr, arith}
+use Rattle.std.proofs.Common.{◌≡◌, ℕ, zero, suc, ◌+◌, ◌-◌, ◌<◌, ◌≤◌, List, length, drop, get_or, set, Bool, true, false}
+use Rattle.std.proofs.Common.{cond, ltb, refl, sym, ◌∙◌, ap, inl, inr, arith}
 use Rattle.std.proofs.lemmas.List.{length-drop, get_or-drop, get_or-set_same, get_or-set_other, length-set}
 use Rattle.std.proofs.lemmas.List.Sums.{count_by_more_yes, count_by_more_no}
 use Rattle.std.proofs.lemmas.Bool.{cases_Bool, cases_eq, cases_lt, lt-ltb, le-ltb}
@@ -136,9 +137,11 @@ all_parted marks firsts of_bytes last byte long all parted =
 
 module _ (marks : List Bool) (long : length marks ≡ 256) where
   interval_step : (byte : ℕ) → byte + 1 < 256 →
-      (interval_at marks byte ≤ interval_at marks (byte + 1)) × (interval_at marks (byte + 1) ≤ interval_at marks byte + 1)
+      (interval_at marks byte ≤ interval_at marks (byte + 1))
+      × (interval_at marks (byte + 1) ≤ interval_at marks byte + 1)
   interval_step byte below = elim (cases_Bool (get_or marks (byte + 1) false)) [
-    | inl marked ↦ (let e = interval_marked marks byte (omega (arith, long)) marked in (omega (arith, e), omega (arith, e)))
+    | inl marked ↦ (let e = interval_marked marks byte (omega (arith, long)) marked in
+        (omega (arith, e), omega (arith, e)))
     | inr unmarked ↦
         (let e = interval_unmarked marks byte (omega (arith, long)) unmarked in (omega (arith, e), omega (arith, e)))
   ]
@@ -173,7 +176,8 @@ module _ (marks : List Bool) (firsts of_bytes : List ℕ) (count : ℕ)
   abbrev end_of : ℕ → ℕ
   end_of k = end_by firsts count k
 
-  ends_with : (k : ℕ) → 0 < k → k ≤ count → (0 < end_of k) × (end_of k ≤ 256) × (interval_at marks (end_of k - 1) + 1 ≡ k)
+  ends_with : (k : ℕ) → 0 < k → k ≤ count
+      → (0 < end_of k) × (end_of k ≤ 256) × (interval_at marks (end_of k - 1) + 1 ≡ k)
   ends_with k some within = elim (cases_lt k count) [
     | inl below ↦
         (let at = are.first k below in
@@ -190,7 +194,8 @@ module _ (marks : List Bool) (firsts of_bytes : List ℕ) (count : ℕ)
       let at = are.first k below in
       let ends = ends_with (k + 1) (omega arith) (omega arith) in
       let low = interval_rises marks are.long (get_or firsts k 0) b from (omega (arith, until, ends.1)) in
-      let high = interval_rises marks are.long b (end_of (k + 1) - 1) (omega (arith, until)) (omega (arith, ends.0, ends.1)) in
+      let high = interval_rises marks are.long b (end_of (k + 1) - 1) (omega (arith, until))
+      (omega (arith, ends.0, ends.1)) in
       omega (arith, low, high, at.inside, ends.2)
 
   -- and its first byte is before its end
@@ -204,7 +209,8 @@ module _ (marks : List Bool) (firsts of_bytes : List ℕ) (count : ℕ)
               elim (cases_lt (get_or firsts k 0) (get_or firsts (k + 1) 0)) [
                 | inl lt ↦ rw (end_first firsts count (k + 1) next) lt
                 | inr le ↦
-                    (let rises = interval_rises marks are.long (get_or firsts (k + 1) 0) (get_or firsts k 0) le at.below in
+                    (let rises = interval_rises marks are.long (get_or firsts (k + 1) 0) (get_or firsts k 0) le
+                    at.below in
                     absurd (omega (arith, rises, at.inside, behind.inside)))
               ])
           | inr last ↦ (let all : k + 1 ≡ count = omega arith in rw (all, end_all firsts count) at.below)

@@ -1,5 +1,6 @@
 -- States place by place: what is found by all prefixes is found from the states before, byte by byte.
-use Rattle.std.proofs.Common.{◌≡◌, ℕ, zero, suc, ◌+◌, ◌-◌, ◌<◌, ◌≤◌, List, [], ◌∷◌, ◌++◌, length, map, fold, replicate, Bool, true, false, cond, true≢false, refl, sym, ◌∙◌, ap, subst, arith, length-append}
+use Rattle.std.proofs.Common.{◌≡◌, ℕ, zero, suc, ◌+◌, ◌-◌, ◌<◌, ◌≤◌, List, [], ◌∷◌, ◌++◌, length, map, fold, replicate}
+use Rattle.std.proofs.Common.{Bool, true, false, cond, true≢false, refl, sym, ◌∙◌, ap, subst, arith, length-append}
 use Rattle.std.specs.List.{AllByRecursion, flat_map, range_with_len}
 use Rattle.std.specs.Str.{bytes_eq}
 use Rattle.std.proofs.lemmas.List.{map-append, append_assoc, append-nil, length-replicate}
@@ -17,11 +18,13 @@ use Rattle.trie_merge.specs.Row.{row_of, final_row, rows_of}
 use Rattle.trie_merge.specs.Levels.{states_at, reached, state_succ, row_succ, runs_of}
 use Rattle.trie_merge.specs.Entry.{ColumnView, entries_step, column_at}
 use Rattle.trie_merge.specs.Lists.{row_list, successor, level_found, succ_in, state_runs}
-use Rattle.trie_merge.proofs.Finds.{is_new, NoneNew, all_stays, old_once_found, found_behind_found, found_in-map, position-map, All-found_in}
+use Rattle.trie_merge.proofs.Finds.{is_new, NoneNew, all_stays, old_once_found, found_behind_found, found_in-map}
+use Rattle.trie_merge.proofs.Finds.{position-map, All-found_in}
 use Rattle.trie_merge.proofs.Numbers.{bytes_eq_refl, bytes_eq_sound}
 use Rattle.trie_merge.proofs.Successors.{same_runs, length-all_bytes}
 use Rattle.trie_merge.proofs.Packed.{AreBytes}
-use Rattle.trie_merge.proofs.PackedState.{IsHeld, IsEntryAt, packed_state, packed_state_steps, packed_state_wild, packed_entries, decoded, state_is, compared_alike, alive_alike}
+use Rattle.trie_merge.proofs.PackedState.{IsHeld, IsEntryAt, packed_state, packed_state_steps, packed_state_wild}
+use Rattle.trie_merge.proofs.PackedState.{packed_entries, decoded, state_is, compared_alike, alive_alike}
 use Rattle.trie_merge.proofs.RestSteps.{state_goes_through}
 
 -- ---- lists
@@ -31,7 +34,8 @@ module _ {X Y : Type 0} where
   map_same f g [] same = refl
   map_same f g (x ∷ xs) same = λ i. same.0 i ∷ map_same f g xs same.1 i
 
-  pub flat_map_same : (f g : X → List Y) (xs : List X) → AllByRecursion (λ x. f x ≡ g x) xs → flat_map f xs ≡ flat_map g xs
+  pub flat_map_same : (f g : X → List Y) (xs : List X) → AllByRecursion (λ x. f x ≡ g x) xs
+      → flat_map f xs ≡ flat_map g xs
   flat_map_same f g [] same = refl
   flat_map_same f g (x ∷ xs) same = λ i. same.0 i ++ flat_map_same f g xs same.1 i
 
@@ -70,18 +74,23 @@ bytes_push : (key : List ℕ) (byte : ℕ) → AreBytes key → byte < 256 → A
 bytes_push [] byte small below = (below, tt)
 bytes_push (k ∷ ks) byte small below = (small.0, bytes_push ks byte small.1 below)
 
-pub prefix_push : (place : ℕ) (key : List ℕ) (byte : ℕ) → IsPrefix place key → byte < 256 → IsPrefix (place + 1) (key ++ byte ∷ [])
-prefix_push place key byte is below = (bytes_push key byte is.0 below, length-append key (byte ∷ []) ∙ ap (λ n. n + 1) is.1)
+pub prefix_push : (place : ℕ) (key : List ℕ) (byte : ℕ) → IsPrefix place key → byte < 256
+    → IsPrefix (place + 1) (key ++ byte ∷ [])
+prefix_push place key byte is below =
+    (bytes_push key byte is.0 below, length-append key (byte ∷ []) ∙ ap (λ n. n + 1) is.1)
 
-pub all-append : {X : Type 0} (P : X → Type 0) (xs ys : List X) → AllByRecursion P xs → AllByRecursion P ys → AllByRecursion P (xs ++ ys)
+pub all-append : {X : Type 0} (P : X → Type 0) (xs ys : List X) → AllByRecursion P xs → AllByRecursion P ys
+    → AllByRecursion P (xs ++ ys)
 all-append P [] ys all more = more
 all-append P (x ∷ xs) ys all more = (all.0, all-append P xs ys all.1 more)
 
-pub all-flat_map : {X Y : Type 0} (P : Y → Type 0) (f : X → List Y) (xs : List X) → AllByRecursion (λ x. AllByRecursion P (f x)) xs → AllByRecursion P (flat_map f xs)
+pub all-flat_map : {X Y : Type 0} (P : Y → Type 0) (f : X → List Y) (xs : List X)
+    → AllByRecursion (λ x. AllByRecursion P (f x)) xs → AllByRecursion P (flat_map f xs)
 all-flat_map P f [] all = tt
 all-flat_map P f (x ∷ xs) all = all-append P (f x) (flat_map f xs) all.0 (all-flat_map P f xs all.1)
 
-pub all-map : {X Y : Type 0} (P : Y → Type 0) (f : X → Y) (xs : List X) → AllByRecursion (λ x. P (f x)) xs → AllByRecursion P (map f xs)
+pub all-map : {X Y : Type 0} (P : Y → Type 0) (f : X → Y) (xs : List X) → AllByRecursion (λ x. P (f x)) xs
+    → AllByRecursion P (map f xs)
 all-map P f [] all = tt
 all-map P f (x ∷ xs) all = (all.0, all-map P f xs all.1)
 
@@ -89,23 +98,33 @@ pub prefixes_are : (place : ℕ) → AllByRecursion (IsPrefix place) (prefixes p
 unfolding prefixes
 prefixes_are zero = ((tt, refl), tt)
 prefixes_are (suc place) =
-    all-flat_map (IsPrefix (suc place)) (λ before. flat_map (λ byte. (before ++ byte ∷ []) ∷ []) all_bytes) (prefixes place)
-    (all_weaker (IsPrefix place) (λ before. AllByRecursion (IsPrefix (suc place)) (flat_map (λ byte. (before ++ byte ∷ []) ∷ []) all_bytes)) (prefixes place)
+    all-flat_map (IsPrefix (suc place)) (λ before. flat_map (λ byte. (before ++ byte ∷ []) ∷ []) all_bytes)
+    (prefixes place)
+    (all_weaker (IsPrefix place)
+    (λ before. AllByRecursion (IsPrefix (suc place)) (flat_map (λ byte. (before ++ byte ∷ []) ∷ []) all_bytes))
+    (prefixes place)
     (λ before is. all-flat_map (IsPrefix (suc place)) (λ byte. (before ++ byte ∷ []) ∷ []) all_bytes
     (all_weaker (λ byte. byte < 256) (λ byte. IsPrefix (suc place) (before ++ byte ∷ []) × Unit {0}) all_bytes
-    (λ byte below. (let e : place + 1 ≡ suc place = omega arith in subst (λ n. IsPrefix n (before ++ byte ∷ [])) e (prefix_push place before byte is below), tt))
+    (λ byte below. (
+      let e : place + 1 ≡ suc place = omega arith in
+          subst (λ n. IsPrefix n (before ++ byte ∷ [])) e (prefix_push place before byte is below),
+      tt,
+    ))
     bytes_below))
     (prefixes_are place))
 
 -- a function of the prefixes that are one byte longer
-pub of_longer : {X : Type 0} (f : List ℕ → X) (place : ℕ) → map f (prefixes (place + 1)) ≡ flat_map (λ key. map (λ byte. f (key ++ byte ∷ [])) all_bytes) (prefixes place)
+pub of_longer : {X : Type 0} (f : List ℕ → X) (place : ℕ)
+    → map f (prefixes (place + 1)) ≡ flat_map (λ key. map (λ byte. f (key ++ byte ∷ [])) all_bytes) (prefixes place)
 unfolding prefixes
 of_longer f place =
     let e : place + 1 ≡ suc place = omega arith in
     ap (λ n. map f (prefixes n)) e
     ∙ map-flat_map f (λ before. flat_map (λ byte. (before ++ byte ∷ []) ∷ []) all_bytes) (prefixes place)
-    ∙ flat_map_same (λ before. map f (flat_map (λ byte. (before ++ byte ∷ []) ∷ []) all_bytes)) (λ before. map (λ byte. f (before ++ byte ∷ [])) all_bytes) (prefixes place)
-    (all_weaker (IsPrefix place) _ (prefixes place) (λ before is. map-singles f (λ byte. before ++ byte ∷ []) all_bytes) (prefixes_are place))
+    ∙ flat_map_same (λ before. map f (flat_map (λ byte. (before ++ byte ∷ []) ∷ []) all_bytes))
+    (λ before. map (λ byte. f (before ++ byte ∷ [])) all_bytes) (prefixes place)
+    (all_weaker (IsPrefix place) _ (prefixes place) (λ before is. map-singles f (λ byte. before ++ byte ∷ []) all_bytes)
+    (prefixes_are place))
 
 -- ---- the entries of all prefixes
 
@@ -113,23 +132,29 @@ unfoldable pub packed_at : RuleSetView → List ℕ → ℕ → List (List ℕ)
 packed_at set group place = found_in bytes_eq is_live (map (packed_state set group) (prefixes place))
 
 -- what holds of the entries of each prefix holds of each that is found
-pub all_packed : (set : RuleSetView) (group : List ℕ) (place : ℕ) (P : List ℕ → Type 0) → ((key : List ℕ) → IsPrefix place key → P (packed_state set group key)) → AllByRecursion P (packed_at set group place)
+pub all_packed : (set : RuleSetView) (group : List ℕ) (place : ℕ) (P : List ℕ → Type 0)
+    → ((key : List ℕ) → IsPrefix place key → P (packed_state set group key))
+    → AllByRecursion P (packed_at set group place)
 unfolding packed_at
 all_packed set group place P holds =
     All-found_in bytes_eq is_live P (map (packed_state set group) (prefixes place))
     (all-map (λ entries. is_live entries ≡ true → P entries) (packed_state set group) (prefixes place)
-    (all_weaker (IsPrefix place) (λ key. is_live (packed_state set group key) ≡ true → P (packed_state set group key)) (prefixes place) (λ key is live. holds key is) (prefixes_are place)))
+    (all_weaker (IsPrefix place) (λ key. is_live (packed_state set group key) ≡ true → P (packed_state set group key))
+    (prefixes place) (λ key is live. holds key is) (prefixes_are place)))
 
 module _ (set : RuleSetView) (column : ColumnView) (is_last : Bool) where
   abbrev pub successors : List ℕ → List (List ℕ)
   successors entries = map (successor set column is_last entries) all_bytes
 
   -- no entries lead to nothing
-  dead_leads_nowhere : (entries : List ℕ) → is_live entries ≡ false → (found : List (List ℕ)) → NoneNew bytes_eq is_live found (successors entries)
+  dead_leads_nowhere : (entries : List ℕ) → is_live entries ≡ false → (found : List (List ℕ))
+      → NoneNew bytes_eq is_live found (successors entries)
   unfolding successor row_list entries_step
   dead_leads_nowhere [] dead found = by is_last all_bytes
     where
-      by : (b : Bool) (bytes : List ℕ) → NoneNew bytes_eq is_live found (map (λ byte. cond b (row_list set (entries_step column [] byte)) (entries_step column [] byte)) bytes)
+      by : (b : Bool) (bytes : List ℕ)
+          → NoneNew bytes_eq is_live found
+          (map (λ byte. cond b (row_list set (entries_step column [] byte)) (entries_step column [] byte)) bytes)
       by true [] = tt
       by false [] = tt
       by true (byte ∷ bytes) = (refl, by true bytes)
@@ -137,30 +162,38 @@ module _ (set : RuleSetView) (column : ColumnView) (is_last : Bool) where
   dead_leads_nowhere (entry ∷ entries) dead found = absurd (let e : true ≡ false = dead in true≢false e)
 
   -- what is found behind those found is what is found behind all
-  pub level_of_all : (all : List (List ℕ)) → level_found set column is_last (found_in bytes_eq is_live all) ≡ found_in bytes_eq is_live (flat_map successors all)
+  pub level_of_all : (all : List (List ℕ))
+      → level_found set column is_last (found_in bytes_eq is_live all)
+      ≡ found_in bytes_eq is_live (flat_map successors all)
   unfolding level_found
-  level_of_all all = found_behind_found bytes_eq is_live bytes_eq_sound bytes_eq is_live bytes_eq_refl successors dead_leads_nowhere all
+  level_of_all all = found_behind_found bytes_eq is_live bytes_eq_sound bytes_eq is_live bytes_eq_refl successors
+      dead_leads_nowhere all
 
 module _ (set : RuleSetView) (group : List ℕ) (held : AllByRecursion (IsHeld set) group) where
   -- the entries one byte on are found from those before
-  pub packed_one_on : (place : ℕ) → place < key_len_of set.layout → level_found set (column_at set place) false (packed_at set group place) ≡ packed_at set group (place + 1)
+  pub packed_one_on : (place : ℕ) → place < key_len_of set.layout
+      → level_found set (column_at set place) false (packed_at set group place) ≡ packed_at set group (place + 1)
   unfolding packed_at successor
   packed_one_on place within =
       let column : ColumnView = column_at set place in
       level_of_all set column false (map (packed_state set group) (prefixes place))
       ∙ ap (found_in bytes_eq is_live)
       (flat_map-map (successors set column false) (packed_state set group) (prefixes place)
-      ∙ flat_map_same (λ key. successors set column false (packed_state set group key)) (λ key. map (λ byte. packed_state set group (key ++ byte ∷ [])) all_bytes) (prefixes place)
+      ∙ flat_map_same (λ key. successors set column false (packed_state set group key))
+      (λ key. map (λ byte. packed_state set group (key ++ byte ∷ [])) all_bytes) (prefixes place)
       (all_weaker (IsPrefix place) _ (prefixes place)
-      (λ key is. map_same (entries_step column (packed_state set group key)) (λ byte. packed_state set group (key ++ byte ∷ [])) all_bytes
+      (λ key is. map_same (entries_step column (packed_state set group key))
+      (λ byte. packed_state set group (key ++ byte ∷ [])) all_bytes
       (all_weaker (λ byte. byte < 256) _ all_bytes
-      (λ byte below. ap (λ n. entries_step (column_at set n) (packed_state set group key) byte) (sym is.1) ∙ sym (packed_state_steps set group key byte held (omega (arith, is.1)) below))
+      (λ byte below. ap (λ n. entries_step (column_at set n) (packed_state set group key) byte) (sym is.1)
+      ∙ sym (packed_state_steps set group key byte held (omega (arith, is.1)) below))
       bytes_below))
       (prefixes_are place))
       ∙ sym (of_longer (packed_state set group) place))
 
   -- copies of an element are found once
-  copies : (found : List (List ℕ)) (entries : List ℕ) (bytes : List ℕ) → is_new bytes_eq is_live found entries ≡ false → fold (found_with bytes_eq is_live) found (map (λ (byte : ℕ). entries) bytes) ≡ found
+  copies : (found : List (List ℕ)) (entries : List ℕ) (bytes : List ℕ) → is_new bytes_eq is_live found entries ≡ false
+      → fold (found_with bytes_eq is_live) found (map (λ (byte : ℕ). entries) bytes) ≡ found
   copies found entries bytes old = all_stays bytes_eq is_live found (map (λ (byte : ℕ). entries) bytes) (none bytes)
     where
       none : (bs : List ℕ) → NoneNew bytes_eq is_live found (map (λ (byte : ℕ). entries) bs)
@@ -168,39 +201,47 @@ module _ (set : RuleSetView) (group : List ℕ) (held : AllByRecursion (IsHeld s
       none (b ∷ bs) = (old, none bs)
 
   found_once : (bytes : List ℕ) → 0 < length bytes → (found : List (List ℕ)) (all : List (List ℕ)) →
-      fold (found_with bytes_eq is_live) found (flat_map (λ entries. map (λ (byte : ℕ). entries) bytes) all) ≡ fold (found_with bytes_eq is_live) found all
+      fold (found_with bytes_eq is_live) found (flat_map (λ entries. map (λ (byte : ℕ). entries) bytes) all)
+      ≡ fold (found_with bytes_eq is_live) found all
   found_once [] some found all = absurd (omega arith)
   found_once (b ∷ bs) some found [] = refl
   found_once (b ∷ bs) some found (entries ∷ all) =
       let next : List (List ℕ) = found_with bytes_eq is_live found entries in
-      fold-append (found_with bytes_eq is_live) next (map (λ (byte : ℕ). entries) bs) (flat_map (λ e. map (λ (byte : ℕ). e) (b ∷ bs)) all)
+      fold-append (found_with bytes_eq is_live) next (map (λ (byte : ℕ). entries) bs)
+      (flat_map (λ e. map (λ (byte : ℕ). e) (b ∷ bs)) all)
       ∙ ap (λ f. fold (found_with bytes_eq is_live) f (flat_map (λ e. map (λ (byte : ℕ). e) (b ∷ bs)) all))
       (copies next entries bs (old_once_found bytes_eq is_live bytes_eq_refl found entries))
       ∙ found_once (b ∷ bs) some next all
 
   -- a place at which all rules are wild changes nothing
-  pub packed_past_wild : (place : ℕ) → place < key_len_of set.layout → is_wild_place set group place ≡ true → packed_at set group (place + 1) ≡ packed_at set group place
+  pub packed_past_wild : (place : ℕ) → place < key_len_of set.layout → is_wild_place set group place ≡ true
+      → packed_at set group (place + 1) ≡ packed_at set group place
   unfolding packed_at found_in
   packed_past_wild place within wild =
       ap (fold (found_with bytes_eq is_live) [])
       (of_longer (packed_state set group) place
-      ∙ flat_map_same (λ key. map (λ byte. packed_state set group (key ++ byte ∷ [])) all_bytes) (λ key. map (λ (byte : ℕ). packed_state set group key) all_bytes) (prefixes place)
+      ∙ flat_map_same (λ key. map (λ byte. packed_state set group (key ++ byte ∷ [])) all_bytes)
+      (λ key. map (λ (byte : ℕ). packed_state set group key) all_bytes) (prefixes place)
       (all_weaker (IsPrefix place) _ (prefixes place)
-      (λ key is. map_same (λ byte. packed_state set group (key ++ byte ∷ [])) (λ (byte : ℕ). packed_state set group key) all_bytes
+      (λ key is. map_same (λ byte. packed_state set group (key ++ byte ∷ [])) (λ (byte : ℕ). packed_state set group key)
+      all_bytes
       (all_weaker (λ byte. byte < 256) _ all_bytes
-      (λ byte below. packed_state_wild set group key byte held is.0 below (omega (arith, is.1)) (ap (is_wild_place set group) is.1 ∙ wild))
+      (λ byte below. packed_state_wild set group key byte held is.0 below (omega (arith, is.1))
+      (ap (is_wild_place set group) is.1 ∙ wild))
       bytes_below))
       (prefixes_are place))
       ∙ sym (flat_map-map (λ entries. map (λ (byte : ℕ). entries) all_bytes) (packed_state set group) (prefixes place)))
       ∙ found_once all_bytes (rw length-all_bytes (omega arith)) [] (map (packed_state set group) (prefixes place))
 
   -- and neither do some such places, one after the other
-  pub packed_past_all : (place count : ℕ) → place + count ≤ key_len_of set.layout → ((gap : ℕ) → gap < count → is_wild_place set group (place + gap) ≡ true) →
+  pub packed_past_all : (place count : ℕ) → place + count ≤ key_len_of set.layout
+      → ((gap : ℕ) → gap < count → is_wild_place set group (place + gap) ≡ true) →
       packed_at set group (place + count) ≡ packed_at set group place
   packed_past_all place zero within wild = ap (packed_at set group) (omega arith)
   packed_past_all place (suc count) within wild =
       let next : place + suc count ≡ place + count + 1 = omega arith in
-      ap (packed_at set group) next ∙ packed_past_wild (place + count) (omega arith) (wild count (omega arith)) ∙ packed_past_all place count (omega arith) (λ gap below. wild gap (omega arith))
+      ap (packed_at set group) next ∙ packed_past_wild (place + count) (omega arith) (wild count (omega arith))
+      ∙ packed_past_all place count (omega arith) (λ gap below. wild gap (omega arith))
 
   -- the states of a place are what the entries stand for
   pub states_are : (place : ℕ) → states_at set group place ≡ map (map (decoded set place)) (packed_at set group place)
@@ -209,11 +250,17 @@ module _ (set : RuleSetView) (group : List ℕ) (held : AllByRecursion (IsHeld s
       let entries : List (List ℕ) = map (packed_state set group) (prefixes place) in
       ap (found_in same_state is_live)
       (map_same (state set group) (λ key. map (decoded set place) (packed_state set group key)) (prefixes place)
-      (all_weaker (IsPrefix place) _ (prefixes place) (λ key is. state_is set group key held ∙ ap (λ n. map (decoded set n) (packed_state set group key)) is.1) (prefixes_are place))
+      (all_weaker (IsPrefix place) _ (prefixes place)
+      (λ key is. state_is set group key held ∙ ap (λ n. map (decoded set n) (packed_state set group key)) is.1)
+      (prefixes_are place))
       ∙ sym (map-map (map (decoded set place)) (packed_state set group) (prefixes place)))
-      ∙ found_in-map bytes_eq is_live same_state is_live (map (decoded set place)) (AllByRecursion (IsEntryAt set place)) (compared_alike set place) (λ xs _. alive_alike (decoded set place) xs) entries
+      ∙ found_in-map bytes_eq is_live same_state is_live (map (decoded set place))
+      (AllByRecursion (IsEntryAt set place)) (compared_alike set place) (λ xs _. alive_alike (decoded set place) xs)
+      entries
       (all-map (AllByRecursion (IsEntryAt set place)) (packed_state set group) (prefixes place)
-      (all_weaker (IsPrefix place) _ (prefixes place) (λ key is. subst (λ n. AllByRecursion (IsEntryAt set n) (packed_state set group key)) is.1 (packed_entries set group key held is.0)) (prefixes_are place)))
+      (all_weaker (IsPrefix place) _ (prefixes place)
+      (λ key is. subst (λ n. AllByRecursion (IsEntryAt set n) (packed_state set group key)) is.1
+      (packed_entries set group key held is.0)) (prefixes_are place)))
 
 -- ---- successors
 
@@ -230,14 +277,18 @@ pub record IsGap (set : RuleSetView) (group : List ℕ) (place next : ℕ) : Typ
 module _ (set : RuleSetView) (group : List ℕ) (held : AllByRecursion (IsHeld set) group) where
   -- bytes 0 at places at which all rules are wild leave the entries as they are
   zeros_on : (key : List ℕ) (count : ℕ) → AreBytes key → length key + count ≤ key_len_of set.layout →
-      ((gap : ℕ) → gap < count → is_wild_place set group (length key + gap) ≡ true) → packed_state set group (key ++ replicate count 0) ≡ packed_state set group key
+      ((gap : ℕ) → gap < count → is_wild_place set group (length key + gap) ≡ true)
+      → packed_state set group (key ++ replicate count 0) ≡ packed_state set group key
   zeros_on key zero small within wild = ap (packed_state set group) (append-nil key)
   zeros_on key (suc count) small within wild =
       let long : length (key ++ 0 ∷ []) ≡ length key + 1 = length-append key (0 ∷ []) in
       ap (packed_state set group) (sym (append_assoc key (0 ∷ []) (replicate count 0)))
       ∙ zeros_on (key ++ 0 ∷ []) count (bytes_push key 0 small (omega arith)) (omega (arith, long))
-      (λ gap below. (let e : length (key ++ 0 ∷ []) + gap ≡ length key + suc gap = omega (arith, long) in ap (is_wild_place set group) e ∙ wild (suc gap) (omega arith)))
-      ∙ packed_state_wild set group key 0 held small (omega arith) (omega arith) ((let e : length key + 0 ≡ length key = omega arith in ap (is_wild_place set group) (sym e)) ∙ wild 0 (omega arith))
+      (λ gap below. (let e : length (key ++ 0 ∷ []) + gap ≡ length key + suc gap = omega (arith, long) in
+      ap (is_wild_place set group) e ∙ wild (suc gap) (omega arith)))
+      ∙ packed_state_wild set group key 0 held small (omega arith) (omega arith)
+      ((let e : length key + 0 ≡ length key = omega arith in ap (is_wild_place set group) (sym e))
+      ∙ wild 0 (omega arith))
 
   module _ (place next : ℕ) (gap : IsGap set group place next) where
     gap_len : ℕ
@@ -245,16 +296,21 @@ module _ (set : RuleSetView) (group : List ℕ) (held : AllByRecursion (IsHeld s
 
     -- the entries after a byte at the place stand for what its state reaches
     pub reached_is : (key : List ℕ) (byte : ℕ) → IsPrefix place key → byte < 256 →
-        reached set place next (map (decoded set place) (packed_state set group key)) byte ≡ map (decoded set next) (entries_step (column_at set place) (packed_state set group key) byte)
+        reached set place next (map (decoded set place) (packed_state set group key)) byte
+        ≡ map (decoded set next) (entries_step (column_at set place) (packed_state set group key) byte)
     unfolding reached
     reached_is key byte is below =
         let zeros : List ℕ = replicate (next - place - 1) 0 in
         let longer : List ℕ = key ++ byte ∷ [] in
         let long : length longer ≡ place + 1 = (prefix_push place key byte is below).1 in
-        let whole : length (longer ++ zeros) ≡ next = length-append longer zeros ∙ omega (arith, long, length-replicate {A = ℕ} (next - place - 1) 0, gap.rises) in
-        let end : length key + length (byte ∷ zeros) ≤ key_len_of set.layout = omega (arith, is.1, length-replicate {A = ℕ} (next - place - 1) 0, gap.rises, gap.within) in
-        let same : packed_state set group (longer ++ zeros) ≡ entries_step (column_at set place) (packed_state set group key) byte =
-        zeros_on longer (next - place - 1) (prefix_push place key byte is below).0 (omega (arith, long, gap.rises, gap.within))
+        let whole : length (longer ++ zeros) ≡ next = length-append longer zeros
+        ∙ omega (arith, long, length-replicate {A = ℕ} (next - place - 1) 0, gap.rises) in
+        let end : length key + length (byte ∷ zeros) ≤ key_len_of set.layout =
+        omega (arith, is.1, length-replicate {A = ℕ} (next - place - 1) 0, gap.rises, gap.within) in
+        let same : packed_state set group (longer ++ zeros)
+        ≡ entries_step (column_at set place) (packed_state set group key) byte =
+        zeros_on longer (next - place - 1) (prefix_push place key byte is below).0
+        (omega (arith, long, gap.rises, gap.within))
         (λ g under. gap.wild (length longer + g) (omega (arith, long)) (omega (arith, long)))
         ∙ packed_state_steps set group key byte held (omega (arith, is.1, gap.rises, gap.within)) below
         ∙ ap (λ n. entries_step (column_at set n) (packed_state set group key) byte) is.1 in
@@ -268,36 +324,46 @@ module _ (set : RuleSetView) (group : List ℕ) (held : AllByRecursion (IsHeld s
         start k is = sym (state_is set group k held ∙ ap (λ n. map (decoded set n) (packed_state set group k)) is.1)
 
     -- and are those of some prefix of the next place
-    pub entries_next : (key : List ℕ) (byte : ℕ) → IsPrefix place key → byte < 256 → AllByRecursion (IsEntryAt set next) (entries_step (column_at set place) (packed_state set group key) byte)
+    pub entries_next : (key : List ℕ) (byte : ℕ) → IsPrefix place key → byte < 256
+        → AllByRecursion (IsEntryAt set next) (entries_step (column_at set place) (packed_state set group key) byte)
     entries_next key byte is below =
         let zeros : List ℕ = replicate (next - place - 1) 0 in
         let longer : List ℕ = key ++ byte ∷ [] in
         let long : length longer ≡ place + 1 = (prefix_push place key byte is below).1 in
-        let whole : length (longer ++ zeros) ≡ next = length-append longer zeros ∙ omega (arith, long, length-replicate {A = ℕ} (next - place - 1) 0, gap.rises) in
-        let same : packed_state set group (longer ++ zeros) ≡ entries_step (column_at set place) (packed_state set group key) byte =
-        zeros_on longer (next - place - 1) (prefix_push place key byte is below).0 (omega (arith, long, gap.rises, gap.within))
+        let whole : length (longer ++ zeros) ≡ next = length-append longer zeros
+        ∙ omega (arith, long, length-replicate {A = ℕ} (next - place - 1) 0, gap.rises) in
+        let same : packed_state set group (longer ++ zeros)
+        ≡ entries_step (column_at set place) (packed_state set group key) byte =
+        zeros_on longer (next - place - 1) (prefix_push place key byte is below).0
+        (omega (arith, long, gap.rises, gap.within))
         (λ g under. gap.wild (length longer + g) (omega (arith, long)) (omega (arith, long)))
         ∙ packed_state_steps set group key byte held (omega (arith, is.1, gap.rises, gap.within)) below
         ∙ ap (λ n. entries_step (column_at set n) (packed_state set group key) byte) is.1 in
         subst (AllByRecursion (IsEntryAt set next)) same
         (subst (λ n. AllByRecursion (IsEntryAt set n) (packed_state set group (longer ++ zeros))) whole
-        (packed_entries set group (longer ++ zeros) held (all-append (λ b. b < 256) longer zeros (prefix_push place key byte is below).0 (zeros_small (next - place - 1)))))
+        (packed_entries set group (longer ++ zeros) held
+        (all-append (λ b. b < 256) longer zeros (prefix_push place key byte is below).0
+        (zeros_small (next - place - 1)))))
 
     -- the entries of the next kept place are found from those of the place
     pub packed_next : level_found set (column_at set place) false (packed_at set group place) ≡ packed_at set group next
     packed_next =
         let e : place + 1 + (next - place - 1) ≡ next = omega (arith, gap.rises) in
         packed_one_on set group held place (omega (arith, gap.rises, gap.within))
-        ∙ sym (packed_past_all set group held (place + 1) (next - place - 1) (omega (arith, gap.rises, gap.within)) (λ g under. gap.wild (place + 1 + g) (omega arith) (omega (arith, gap.rises))))
+        ∙ sym (packed_past_all set group held (place + 1) (next - place - 1) (omega (arith, gap.rises, gap.within))
+        (λ g under. gap.wild (place + 1 + g) (omega arith) (omega (arith, gap.rises))))
         ∙ ap (packed_at set group) e
 
     -- the runs of the entries are those of their states
-    pub runs_next : map (state_runs set (column_at set place) false (packed_at set group next)) (packed_at set group place)
-        ≡ map (λ before. runs_of (λ byte. state_succ (states_at set group next) (reached set place next before byte))) (states_at set group place)
+    pub runs_next : map (state_runs set (column_at set place) false (packed_at set group next))
+        (packed_at set group place)
+        ≡ map (λ before. runs_of (λ byte. state_succ (states_at set group next) (reached set place next before byte)))
+        (states_at set group place)
     unfolding successor
     runs_next =
         let after : List ℕ → List Run = state_runs set (column_at set place) false (packed_at set group next) in
-        let runs : List Held → List Run = λ before. runs_of (λ byte. state_succ (states_at set group next) (reached set place next before byte)) in
+        let runs : List Held → List Run =
+        λ before. runs_of (λ byte. state_succ (states_at set group next) (reached set place next before byte)) in
         map_same after (λ entries. runs (map (decoded set place) entries)) (packed_at set group place)
         (all_packed set group place (λ entries. after entries ≡ runs (map (decoded set place) entries))
         (λ key is. same_runs _ _ (λ byte below. succ_is key byte is below)))
@@ -305,18 +371,24 @@ module _ (set : RuleSetView) (group : List ℕ) (held : AllByRecursion (IsHeld s
         ∙ ap (map runs) (sym (states_are set group held place))
       where
         all_entries : AllByRecursion (AllByRecursion (IsEntryAt set next)) (packed_at set group next)
-        all_entries = all_packed set group next (AllByRecursion (IsEntryAt set next)) (λ key is. subst (λ n. AllByRecursion (IsEntryAt set n) (packed_state set group key)) is.1 (packed_entries set group key held is.0))
+        all_entries = all_packed set group next (AllByRecursion (IsEntryAt set next))
+            (λ key is. subst (λ n. AllByRecursion (IsEntryAt set n) (packed_state set group key)) is.1
+            (packed_entries set group key held is.0))
 
         succ_is : (key : List ℕ) (byte : ℕ) → IsPrefix place key → byte < 256 →
-            succ_in false (packed_at set group next) (entries_step (column_at set place) (packed_state set group key) byte)
-            ≡ state_succ (states_at set group next) (reached set place next (map (decoded set place) (packed_state set group key)) byte)
+            succ_in false (packed_at set group next)
+            (entries_step (column_at set place) (packed_state set group key) byte)
+            ≡ state_succ (states_at set group next)
+            (reached set place next (map (decoded set place) (packed_state set group key)) byte)
         succ_is key byte is below =
             let entries : List ℕ = entries_step (column_at set place) (packed_state set group key) byte in
             sym (
             ap (state_succ (states_at set group next)) (reached_is key byte is below)
             ∙ ap (λ states. state_succ states (map (decoded set next) entries)) (states_are set group held next)
             ∙ (λ i. cond (alive_alike (decoded set next) entries i)
-            (State (position-map bytes_eq is_live same_state is_live (map (decoded set next)) (AllByRecursion (IsEntryAt set next)) (compared_alike set next) (λ xs _. alive_alike (decoded set next) xs)
+            (State (position-map bytes_eq is_live same_state is_live (map (decoded set next))
+            (AllByRecursion (IsEntryAt set next)) (compared_alike set next)
+            (λ xs _. alive_alike (decoded set next) xs)
             entries (packed_at set group next) (entries_next key byte is below) all_entries i))
             Dead)
             )
@@ -324,13 +396,17 @@ module _ (set : RuleSetView) (group : List ℕ) (held : AllByRecursion (IsHeld s
 -- ---- the end of the key
 
 -- the final row of a state is the row of its entries
-row_is : (set : RuleSetView) (place : ℕ) (entries : List ℕ) → final_row set (map (decoded set place) entries) ≡ row_list set entries
+row_is : (set : RuleSetView) (place : ℕ) (entries : List ℕ)
+    → final_row set (map (decoded set place) entries) ≡ row_list set entries
 unfolding final_row row_list decoded
 row_is set place [] = refl
-row_is set place (entry ∷ entries) = ap (row_of set) (map-map (λ (h : Held). h.number) (decoded set place) (entry ∷ entries))
+row_is set place (entry ∷ entries) =
+    ap (row_of set) (map-map (λ (h : Held). h.number) (decoded set place) (entry ∷ entries))
 
-module _ (set : RuleSetView) (group : List ℕ) (held : AllByRecursion (IsHeld set) group) (place : ℕ) (gap : IsGap set group place (key_len_of set.layout)) where
-  dead_row : (entries : List ℕ) → is_live entries ≡ false → (found : List (List ℕ)) → NoneNew bytes_eq is_live found (row_list set entries ∷ [])
+module _ (set : RuleSetView) (group : List ℕ) (held : AllByRecursion (IsHeld set) group) (place : ℕ)
+    (gap : IsGap set group place (key_len_of set.layout)) where
+  dead_row : (entries : List ℕ) → is_live entries ≡ false → (found : List (List ℕ))
+      → NoneNew bytes_eq is_live found (row_list set entries ∷ [])
   unfolding row_list
   dead_row [] dead found = (refl, tt)
   dead_row (entry ∷ entries) dead found = absurd (let e : true ≡ false = dead in true≢false e)
@@ -338,23 +414,34 @@ module _ (set : RuleSetView) (group : List ℕ) (held : AllByRecursion (IsHeld s
   abbrev one_row : List ℕ → List (List ℕ)
   one_row entries = row_list set entries ∷ []
 
-  rows_behind : (all : List (List ℕ)) → found_in bytes_eq is_live (flat_map one_row (found_in bytes_eq is_live all)) ≡ found_in bytes_eq is_live (flat_map one_row all)
-  rows_behind all = found_behind_found bytes_eq is_live bytes_eq_sound bytes_eq is_live bytes_eq_refl one_row dead_row all
+  rows_behind : (all : List (List ℕ))
+      → found_in bytes_eq is_live (flat_map one_row (found_in bytes_eq is_live all))
+      ≡ found_in bytes_eq is_live (flat_map one_row all)
+  rows_behind all = found_behind_found bytes_eq is_live bytes_eq_sound bytes_eq is_live bytes_eq_refl one_row dead_row
+      all
 
-  flat_map-flat_map : {X Y Z : Type 0} (f : Y → List Z) (g : X → List Y) (xs : List X) → flat_map f (flat_map g xs) ≡ flat_map (λ x. flat_map f (g x)) xs
+  flat_map-flat_map : {X Y Z : Type 0} (f : Y → List Z) (g : X → List Y) (xs : List X)
+      → flat_map f (flat_map g xs) ≡ flat_map (λ x. flat_map f (g x)) xs
   flat_map-flat_map f g [] = refl
-  flat_map-flat_map f g (x ∷ xs) = flat_map-append f (g x) (flat_map g xs) ∙ ap (λ l. flat_map f (g x) ++ l) (flat_map-flat_map f g xs)
+  flat_map-flat_map f g (x ∷ xs) = flat_map-append f (g x) (flat_map g xs)
+      ∙ ap (λ l. flat_map f (g x) ++ l) (flat_map-flat_map f g xs)
 
   -- rows over bytes
-  rows_after : (entries bytes : List ℕ) → flat_map one_row (map (successor set (column_at set place) false entries) bytes) ≡ map (successor set (column_at set place) true entries) bytes
+  rows_after : (entries bytes : List ℕ)
+      → flat_map one_row (map (successor set (column_at set place) false entries) bytes)
+      ≡ map (successor set (column_at set place) true entries) bytes
   unfolding successor
   rows_after entries [] = refl
-  rows_after entries (byte ∷ bytes) = ap (λ l. row_list set (entries_step (column_at set place) entries byte) ∷ l) (rows_after entries bytes)
+  rows_after entries (byte ∷ bytes) =
+      ap (λ l. row_list set (entries_step (column_at set place) entries byte) ∷ l) (rows_after entries bytes)
 
-  all_rows_after : (all : List (List ℕ)) → flat_map one_row (flat_map (successors set (column_at set place) false) all) ≡ flat_map (successors set (column_at set place) true) all
+  all_rows_after : (all : List (List ℕ))
+      → flat_map one_row (flat_map (successors set (column_at set place) false) all)
+      ≡ flat_map (successors set (column_at set place) true) all
   all_rows_after [] = refl
   all_rows_after (entries ∷ all) =
-      flat_map-append one_row (successors set (column_at set place) false entries) (flat_map (successors set (column_at set place) false) all)
+      flat_map-append one_row (successors set (column_at set place) false entries)
+      (flat_map (successors set (column_at set place) false) all)
       ∙ (λ i. rows_after entries all_bytes i ++ all_rows_after all i)
 
   -- the rows are found from the entries of the last kept place
@@ -364,9 +451,13 @@ module _ (set : RuleSetView) (group : List ℕ) (held : AllByRecursion (IsHeld s
       let whole : ℕ = key_len_of set.layout in
       let found : List (List ℕ) → List (List ℕ) = found_in bytes_eq is_live in
       let entries : List (List ℕ) = map (packed_state set group) (prefixes whole) in
-      let rows_by_entries : map (λ key. final_row set (state set group key)) (prefixes whole) ≡ flat_map one_row entries =
-      map_same (λ key. final_row set (state set group key)) (λ key. row_list set (packed_state set group key)) (prefixes whole)
-      (all_weaker (IsPrefix whole) _ (prefixes whole) (λ key is. ap (final_row set) (state_is set group key held) ∙ row_is set (length key) (packed_state set group key)) (prefixes_are whole))
+      let rows_by_entries : map (λ key. final_row set (state set group key)) (prefixes whole)
+      ≡ flat_map one_row entries =
+      map_same (λ key. final_row set (state set group key)) (λ key. row_list set (packed_state set group key))
+      (prefixes whole)
+      (all_weaker (IsPrefix whole) _ (prefixes whole)
+      (λ key is. ap (final_row set) (state_is set group key held)
+      ∙ row_is set (length key) (packed_state set group key)) (prefixes_are whole))
       ∙ sym (flat_map_single (λ key. row_list set (packed_state set group key)) (prefixes whole))
       ∙ sym (flat_map-map one_row (packed_state set group) (prefixes whole)) in
       let before : List (List ℕ) = packed_at set group place in
@@ -380,16 +471,21 @@ module _ (set : RuleSetView) (group : List ℕ) (held : AllByRecursion (IsHeld s
 
   -- the runs of the entries are those of their states
   pub runs_last : map (state_runs set (column_at set place) true (rows_of set group)) (packed_at set group place)
-      ≡ map (λ before. runs_of (λ byte. row_succ (rows_of set group) (final_row set (reached set place (key_len_of set.layout) before byte)))) (states_at set group place)
+      ≡ map (λ before. runs_of (λ byte. row_succ (rows_of set group)
+      (final_row set (reached set place (key_len_of set.layout) before byte)))) (states_at set group place)
   unfolding successor
   runs_last =
       let rows : List (List ℕ) = rows_of set group in
       let after : List ℕ → List Run = state_runs set (column_at set place) true rows in
-      let runs : List Held → List Run = λ before. runs_of (λ byte. row_succ rows (final_row set (reached set place (key_len_of set.layout) before byte))) in
+      let runs : List Held → List Run =
+      λ before. runs_of (λ byte. row_succ rows
+      (final_row set (reached set place (key_len_of set.layout) before byte))) in
       map_same after (λ entries. runs (map (decoded set place) entries)) (packed_at set group place)
       (all_packed set group place (λ entries. after entries ≡ runs (map (decoded set place) entries))
       (λ key is. same_runs _ _ (λ byte below.
-      sym (ap (λ whole. row_succ rows (final_row set whole)) (reached_is set group held place (key_len_of set.layout) gap key byte is below)
-      ∙ ap (row_succ rows) (row_is set (key_len_of set.layout) (entries_step (column_at set place) (packed_state set group key) byte))))))
+      sym (ap (λ whole. row_succ rows (final_row set whole))
+      (reached_is set group held place (key_len_of set.layout) gap key byte is below)
+      ∙ ap (row_succ rows) (row_is set (key_len_of set.layout)
+      (entries_step (column_at set place) (packed_state set group key) byte))))))
       ∙ sym (map-map runs (map (decoded set place)) (packed_at set group place))
       ∙ ap (map runs) (sym (states_are set group held place))

@@ -5,7 +5,8 @@ use Rattle.trie_merge.specs.Entry.{number_in}
 use Rattle.trie_merge.specs.Row.{row_of}
 use Rattle.trie_merge.specs.Lists.{row_list}
 
-pub row_of_some : (set : RuleSetView) (entries : List ℕ) → length entries ≢ 0 → row_list set entries ≡ row_of set (map number_in entries)
+pub row_of_some : (set : RuleSetView) (entries : List ℕ) → length entries ≢ 0
+    → row_list set entries ≡ row_of set (map number_in entries)
 unfolding row_list
 row_of_some set [] some = absurd (some refl)
 row_of_some set (entry ∷ entries) some = refl

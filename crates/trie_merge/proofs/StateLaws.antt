@@ -1,5 +1,6 @@
 -- The laws of states.
-use Rattle.std.proofs.Common.{◌≡◌, ℕ, ◌+◌, ◌<◌, ◌==◌, List, [], ◌∷◌, ◌++◌, length, map, take, drop, get_or, Bool, true, false, cond, not, ◌&&◌, ◌||◌, Some, None, refl, sym, ◌∙◌, ap, subst, arith, length-append}
+use Rattle.std.proofs.Common.{◌≡◌, ℕ, ◌+◌, ◌<◌, ◌==◌, List, [], ◌∷◌, ◌++◌, length, map, take, drop, get_or, Bool, true}
+use Rattle.std.proofs.Common.{false, cond, not, ◌&&◌, ◌||◌, Some, None, refl, sym, ◌∙◌, ap, subst, arith, length-append}
 use Rattle.std.specs.List.{AllByRecursion, flat_map}
 use Rattle.std.specs.Str.{bytes_eq}
 use Rattle.std.proofs.lemmas.Bool.{cond-false, le-ltb, eq-eqb}
@@ -22,11 +23,15 @@ use Rattle.trie_merge.specs.Kept.{group_of, is_wild_place, is_idle, kept_places}
 use Rattle.trie_merge.specs.Levels.{states_at, reached}
 use Rattle.trie_merge.specs.Entry.{column_at, entries_step}
 use Rattle.trie_merge.specs.Lists.{level_found, successor}
-use Rattle.trie_merge.specs.Laws.{IsGrouped, WholeKeysAreLiveWhereTheyMatch, StatesGoByteByByte, NextStatesAreReached, IdleBytesLeadToOneState}
+use Rattle.trie_merge.specs.Laws.{IsGrouped, WholeKeysAreLiveWhereTheyMatch, StatesGoByteByByte, NextStatesAreReached}
+use Rattle.trie_merge.specs.Laws.{IdleBytesLeadToOneState}
 use Rattle.trie_merge.proofs.Finds.{found_in-map}
-use Rattle.trie_merge.proofs.PackedState.{IsHeld, IsEntryAt, packed_state, packed_state_wild, decoded, state_is, compared_alike, alive_alike}
+use Rattle.trie_merge.proofs.PackedState.{IsHeld, IsEntryAt, packed_state, packed_state_wild, decoded, state_is}
+use Rattle.trie_merge.proofs.PackedState.{compared_alike, alive_alike}
 use Rattle.trie_merge.proofs.RestSteps.{state_goes_on}
-use Rattle.trie_merge.proofs.Reached.{IsGap, IsPrefix, packed_at, packed_next, states_are, all_packed, all_weaker, all-map, all-flat_map, map_same, flat_map_same, map-map, map-flat_map, bytes_below, reached_is, entries_next}
+use Rattle.trie_merge.proofs.Reached.{IsGap, IsPrefix, packed_at, packed_next, states_are, all_packed, all_weaker}
+use Rattle.trie_merge.proofs.Reached.{all-map, all-flat_map, map_same, flat_map_same, map-map, map-flat_map}
+use Rattle.trie_merge.proofs.Reached.{bytes_below, reached_is, entries_next}
 use Rattle.trie_merge.proofs.Gaps.{Gaps, each, kept_places_first}
 use Rattle.trie_merge.proofs.Walk.{group_held, gaps_behind}
 
@@ -38,9 +43,11 @@ whole_keys_are_live_where_they_match (def ∷ defs) (value ∷ values) key long 
     let whole = sum_by-cons (λ (d : FieldDef). d.size) def defs in
     let rest : length (drop def.size key) ≡ key_len_of defs = omega (arith, length-drop def.size key, long, whole) in
     cond-false _ _ _ (le-ltb (length key) def.size (omega (arith, long, whole)))
-    ∙ by (field_match value def.size (number_of (take def.size key))) (rule_match defs values (drop def.size key)) (whole_keys_are_live_where_they_match defs values (drop def.size key) rest)
+    ∙ by (field_match value def.size (number_of (take def.size key))) (rule_match defs values (drop def.size key))
+    (whole_keys_are_live_where_they_match defs values (drop def.size key) rest)
   where
-    by : (a b : Bool) → values_rest defs values (drop def.size key) ≡ cond b (Some Live) None → cond a (values_rest defs values (drop def.size key)) None ≡ cond (a && b) (Some Live) None
+    by : (a b : Bool) → values_rest defs values (drop def.size key) ≡ cond b (Some Live) None
+        → cond a (values_rest defs values (drop def.size key)) None ≡ cond (a && b) (Some Live) None
     by true b is = is
     by false b is = refl
 
@@ -48,34 +55,47 @@ pub held_of : (set : RuleSetView) (group : List ℕ) → IsGrouped set group →
 held_of set group is = group_held set group is.rules is.layout is.group.within
 
 pub states_go_byte_by_byte : StatesGoByteByByte
-states_go_byte_by_byte set group key byte is within below = state_goes_on set group key byte (held_of set group is) within below
+states_go_byte_by_byte set group key byte is within below =
+    state_goes_on set group key byte (held_of set group is) within below
 
-module _ (set : RuleSetView) (group : List ℕ) (held : AllByRecursion (IsHeld set) group) (place next : ℕ) (gap : IsGap set group place next) where
+module _ (set : RuleSetView) (group : List ℕ) (held : AllByRecursion (IsHeld set) group) (place next : ℕ)
+    (gap : IsGap set group place next) where
   -- the states of the next place by those of the place
-  states_next : states_at set group next ≡ found_in same_state is_live (flat_map (λ before. map (reached set place next before) all_bytes) (states_at set group place))
+  states_next : states_at set group next
+      ≡ found_in same_state is_live
+      (flat_map (λ before. map (reached set place next before) all_bytes) (states_at set group place))
   unfolding level_found successor
   states_next =
       let column = column_at set place in
       let packed : List (List ℕ) = packed_at set group place in
       let after : List ℕ → List (List ℕ) = λ entries. map (entries_step column entries) all_bytes in
-      let known : AllByRecursion (λ entries. AllByRecursion (AllByRecursion (IsEntryAt set next)) (after entries)) packed =
+      let known : AllByRecursion (λ entries. AllByRecursion (AllByRecursion (IsEntryAt set next)) (after entries))
+      packed =
       all_packed set group place (λ entries. AllByRecursion (AllByRecursion (IsEntryAt set next)) (after entries))
-      (λ key is. all-map (AllByRecursion (IsEntryAt set next)) (entries_step column (packed_state set group key)) all_bytes
-      (all_weaker (λ byte. byte < 256) (λ byte. AllByRecursion (IsEntryAt set next) (entries_step column (packed_state set group key) byte)) all_bytes
+      (λ key is. all-map (AllByRecursion (IsEntryAt set next)) (entries_step column (packed_state set group key))
+      all_bytes
+      (all_weaker (λ byte. byte < 256)
+      (λ byte. AllByRecursion (IsEntryAt set next) (entries_step column (packed_state set group key) byte))
+      all_bytes
       (λ byte below. entries_next set group held place next gap key byte is below) bytes_below)) in
       let to : List ℕ → List Held = map (decoded set next) in
       let from : List ℕ → List Held = map (decoded set place) in
       states_are set group held next
       ∙ ap (map to) (sym (packed_next set group held place next gap))
-      ∙ sym (found_in-map bytes_eq is_live same_state is_live to (AllByRecursion (IsEntryAt set next)) (compared_alike set next) (λ xs _. alive_alike (decoded set next) xs)
+      ∙ sym (found_in-map bytes_eq is_live same_state is_live to (AllByRecursion (IsEntryAt set next))
+      (compared_alike set next) (λ xs _. alive_alike (decoded set next) xs)
       (flat_map after packed) (all-flat_map (AllByRecursion (IsEntryAt set next)) after packed known))
       ∙ ap (found_in same_state is_live)
       (map-flat_map to after packed
-      ∙ flat_map_same (λ entries. map to (after entries)) (λ entries. map (reached set place next (from entries)) all_bytes) packed
-      (all_packed set group place (λ entries. map to (after entries) ≡ map (reached set place next (from entries)) all_bytes)
+      ∙ flat_map_same (λ entries. map to (after entries))
+      (λ entries. map (reached set place next (from entries)) all_bytes) packed
+      (all_packed set group place
+      (λ entries. map to (after entries) ≡ map (reached set place next (from entries)) all_bytes)
       (λ key is. map-map to (entries_step column (packed_state set group key)) all_bytes
-      ∙ map_same (λ byte. to (entries_step column (packed_state set group key) byte)) (reached set place next (from (packed_state set group key))) all_bytes
-      (all_weaker (λ byte. byte < 256) _ all_bytes (λ byte below. sym (reached_is set group held place next gap key byte is below)) bytes_below)))
+      ∙ map_same (λ byte. to (entries_step column (packed_state set group key) byte))
+      (reached set place next (from (packed_state set group key))) all_bytes
+      (all_weaker (λ byte. byte < 256) _ all_bytes
+      (λ byte below. sym (reached_is set group held place next gap key byte is below)) bytes_below)))
       ∙ sym (flat_map-map (λ before. map (reached set place next before) all_bytes) from packed)
       ∙ ap (flat_map (λ before. map (reached set place next before) all_bytes)) (sym (states_are set group held place)))
 
@@ -86,14 +106,17 @@ next_states_are_reached set group k is below =
     let first = kept_places_first set group (short_keys set.layout is.layout).0 in
     let rest : drop k places ≡ get_or places k 0 ∷ get_or places (k + 1) 0 ∷ drop (k + 1 + 1) places =
     drop_more places k 0 (omega arith) ∙ ap (λ ps. get_or places k 0 ∷ ps) (drop_more places (k + 1) 0 below) in
-    let gaps = subst (Gaps set group) rest (gaps_behind set group held is.group.some (short_keys set.layout is.layout).0 places k first.gaps) in
+    let gaps = subst (Gaps set group) rest
+    (gaps_behind set group held is.group.some (short_keys set.layout is.layout).0 places k first.gaps) in
     states_next set group held (get_or places k 0) (get_or places (k + 1) 0) gaps.0
 
 -- a place of an idle group is wild
-idle_is_wild : (set : RuleSetView) (group : List ℕ) (place : ℕ) → place < key_len_of set.layout → is_idle set group (group_of place) ≡ true → is_wild_place set group place ≡ true
+idle_is_wild : (set : RuleSetView) (group : List ℕ) (place : ℕ) → place < key_len_of set.layout
+    → is_idle set group (group_of place) ≡ true → is_wild_place set group place ≡ true
 unfolding is_idle
 idle_is_wild set group place within idle =
-    let here = each (λ k. not (group_of k == group_of place) || is_wild_place set group k) 0 (key_len_of set.layout) idle place (omega arith) (omega arith) in
+    let here = each (λ k. not (group_of k == group_of place) || is_wild_place set group k) 0 (key_len_of set.layout)
+    idle place (omega arith) (omega arith) in
     sym (ap (λ b. not b || is_wild_place set group place) (eq-eqb (group_of place) (group_of place) refl)) ∙ here
 
 pub idle_bytes_lead_to_one_state : IdleBytesLeadToOneState
@@ -108,13 +131,17 @@ idle_bytes_lead_to_one_state set group place one other is within idle one_below 
     (λ key key_is. step_to key key_is one one_below ∙ sym (step_to key key_is other other_below)))))
   where
     step_to : (key : List ℕ) → IsPrefix place key → (byte : ℕ) → byte < 256 →
-        state_step set place (map (decoded set place) (packed_state set group key)) byte ≡ map (decoded set (place + 1)) (packed_state set group key)
+        state_step set place (map (decoded set place) (packed_state set group key)) byte
+        ≡ map (decoded set (place + 1)) (packed_state set group key)
     step_to key key_is byte below =
         let held = held_of set group is in
         let wild = idle_is_wild set group place within idle in
-        let start : map (decoded set place) (packed_state set group key) ≡ state set group key = sym (state_is set group key held ∙ ap (λ n. map (decoded set n) (packed_state set group key)) key_is.1) in
+        let start : map (decoded set place) (packed_state set group key) ≡ state set group key =
+        sym (state_is set group key held ∙ ap (λ n. map (decoded set n) (packed_state set group key)) key_is.1) in
         let long : length (key ++ byte ∷ []) ≡ place + 1 = length-append key (byte ∷ []) ∙ ap (λ n. n + 1) key_is.1 in
         (λ i. state_step set (sym key_is.1 i) (start i) byte)
         ∙ sym (state_goes_on set group key byte held (omega (arith, key_is.1)) below)
         ∙ state_is set group (key ++ byte ∷ []) held
-        ∙ (λ i. map (decoded set (long i)) (packed_state_wild set group key byte held key_is.0 below (omega (arith, key_is.1)) (ap (is_wild_place set group) key_is.1 ∙ wild) i))
+        ∙ (λ i. map (decoded set (long i))
+        (packed_state_wild set group key byte held key_is.0 below (omega (arith, key_is.1))
+        (ap (is_wild_place set group) key_is.1 ∙ wild) i))

@@ -1,5 +1,6 @@
 -- Bytes of one interval make the same of a state.
-use Rattle.std.proofs.Common.{◌≡◌, ℕ, zero, suc, ◌+◌, ◌-◌, ◌<◌, ◌≤◌, List, [], ◌∷◌, length, get_or, Bool, true, false, ◌||◌, true≢false, Option, Some, None, refl, sym, ◌∙◌, ap, subst, inl, inr, ◌⊎◌, arith}
+use Rattle.std.proofs.Common.{◌≡◌, ℕ, zero, suc, ◌+◌, ◌-◌, ◌<◌, ◌≤◌, List, [], ◌∷◌, length, get_or, Bool, true, false}
+use Rattle.std.proofs.Common.{◌||◌, true≢false, Option, Some, None, refl, sym, ◌∙◌, ap, subst, inl, inr, ◌⊎◌, arith}
 use Rattle.std.specs.Prelude.{All}
 use Rattle.std.specs.List.{list_any, cons_option, AllByRecursion}
 use Rattle.std.specs.Option.{option_map}
@@ -9,26 +10,33 @@ use Rattle.node_expand.specs.declared.edge.Edge.{Edge}
 use Rattle.node_expand.specs.declared.edge.Edge.TheVariants.{Free, Low, High, Both}
 use Rattle.node_expand.specs.Edges.{edge_step}
 use Rattle.node_expand.proofs.Changes.{cuts_are_changes}
-use Rattle.trie_merge.specs.Entry.{ColumnView, number_in, entry_of, edge_before, value_in, entry_step, entries_step, is_entry_cut}
+use Rattle.trie_merge.specs.Entry.{ColumnView, number_in, entry_of, edge_before, value_in, entry_step, entries_step}
+use Rattle.trie_merge.specs.Entry.{is_entry_cut}
 use Rattle.trie_merge.specs.Lists.{interval_at}
 use Rattle.trie_merge.proofs.Marks.{interval_marked, interval_unmarked}
 
 -- an entry without a cut at a byte becomes what it becomes after the byte before
-entry_uncut : (column : ColumnView) (entry byte : ℕ) → is_entry_cut column entry (byte + 1) ≡ false → entry_step column entry (byte + 1) ≡ entry_step column entry byte
+entry_uncut : (column : ColumnView) (entry byte : ℕ) → is_entry_cut column entry (byte + 1) ≡ false
+    → entry_step column entry (byte + 1) ≡ entry_step column entry byte
 unfolding entry_step is_entry_cut
 entry_uncut column entry byte uncut =
     let back : byte + 1 - 1 ≡ byte = omega arith in
-    let same = (cuts_are_changes (value_in column entry) column.size column.place (edge_before column entry) (byte + 1) (omega arith)).0 uncut in
-    ap (option_map (entry_of (number_in entry))) (same ∙ ap (edge_step (value_in column entry) column.size column.place (edge_before column entry)) back)
+    let same = (cuts_are_changes (value_in column entry) column.size column.place (edge_before column entry) (byte + 1)
+    (omega arith)).0 uncut in
+    ap (option_map (entry_of (number_in entry)))
+    (same ∙ ap (edge_step (value_in column entry) column.size column.place (edge_before column entry)) back)
 
 -- and so does a list of them
-pub entries_uncut : (column : ColumnView) (entries : List ℕ) (byte : ℕ) → list_any (λ entry. is_entry_cut column entry (byte + 1)) entries ≡ false →
+pub entries_uncut : (column : ColumnView) (entries : List ℕ) (byte : ℕ)
+    → list_any (λ entry. is_entry_cut column entry (byte + 1)) entries ≡ false →
     entries_step column entries (byte + 1) ≡ entries_step column entries byte
 unfolding entries_step
 entries_uncut column [] byte uncut = refl
 entries_uncut column (entry ∷ entries) byte uncut =
-    let here : is_entry_cut column entry (byte + 1) ≡ false = left (is_entry_cut column entry (byte + 1)) (list_any (λ e. is_entry_cut column e (byte + 1)) entries) uncut in
-    let rest : list_any (λ e. is_entry_cut column e (byte + 1)) entries ≡ false = right (is_entry_cut column entry (byte + 1)) (list_any (λ e. is_entry_cut column e (byte + 1)) entries) uncut in
+    let here : is_entry_cut column entry (byte + 1) ≡ false =
+    left (is_entry_cut column entry (byte + 1)) (list_any (λ e. is_entry_cut column e (byte + 1)) entries) uncut in
+    let rest : list_any (λ e. is_entry_cut column e (byte + 1)) entries ≡ false =
+    right (is_entry_cut column entry (byte + 1)) (list_any (λ e. is_entry_cut column e (byte + 1)) entries) uncut in
     λ i. cons_option (entry_uncut column entry byte here i) (entries_uncut column entries byte rest i)
   where
     left : (a b : Bool) → (a || b) ≡ false → a ≡ false
@@ -41,11 +49,14 @@ entries_uncut column (entry ∷ entries) byte uncut =
 
 -- the marks are the cuts of the entries
 abbrev pub AreCuts : ColumnView → List ℕ → List Bool → Type 0
-AreCuts column entries marks = (byte : ℕ) → byte < 256 → get_or marks byte false ≡ list_any (λ entry. is_entry_cut column entry byte) entries
+AreCuts column entries marks = (byte : ℕ) → byte < 256
+    → get_or marks byte false ≡ list_any (λ entry. is_entry_cut column entry byte) entries
 
-module _ (column : ColumnView) (entries : List ℕ) (marks : List Bool) (long : length marks ≡ 256) (cuts : AreCuts column entries marks) where
+module _ (column : ColumnView) (entries : List ℕ) (marks : List Bool) (long : length marks ≡ 256)
+    (cuts : AreCuts column entries marks) where
   one_step : (byte : ℕ) → byte + 1 < 256 →
-      ((interval_at marks (byte + 1) ≡ interval_at marks byte) × (entries_step column entries (byte + 1) ≡ entries_step column entries byte))
+      ((interval_at marks (byte + 1) ≡ interval_at marks byte)
+      × (entries_step column entries (byte + 1) ≡ entries_step column entries byte))
       ⊎ (interval_at marks (byte + 1) ≡ interval_at marks byte + 1)
   one_step byte below = elim (cases_Bool (get_or marks (byte + 1) false)) [
     | inl marked ↦ inr (interval_marked marks byte (omega (arith, long)) marked)
@@ -58,7 +69,8 @@ module _ (column : ColumnView) (entries : List ℕ) (marks : List Bool) (long : 
   -- intervals rise, and as long as they stay the entries do
   going_on : (first n : ℕ) → first + n < 256 →
       (interval_at marks first ≤ interval_at marks (first + n))
-      × (interval_at marks (first + n) ≤ interval_at marks first → entries_step column entries (first + n) ≡ entries_step column entries first)
+      × (interval_at marks (first + n) ≤ interval_at marks first
+      → entries_step column entries (first + n) ≡ entries_step column entries first)
   going_on first zero below = let here : first + 0 ≡ first = omega arith in (rw here (omega arith), λ _. rw here refl)
   going_on first (suc n) below =
       let next : first + suc n ≡ first + n + 1 = omega arith in
@@ -69,7 +81,8 @@ module _ (column : ColumnView) (entries : List ℕ) (marks : List Bool) (long : 
       ])
 
   -- two bytes of one interval
-  pub same_interval : (one other : ℕ) → one < 256 → other < 256 → interval_at marks one ≡ interval_at marks other → entries_step column entries one ≡ entries_step column entries other
+  pub same_interval : (one other : ℕ) → one < 256 → other < 256 → interval_at marks one ≡ interval_at marks other
+      → entries_step column entries one ≡ entries_step column entries other
   same_interval one other one_below other_below same = elim (cases_lt other one) [
     | inl gt ↦
         let there : other + (one - other) ≡ one = omega arith in
@@ -89,17 +102,24 @@ number_in-entry_of number High = omega arith
 number_in-entry_of number Both = omega arith
 
 -- a step keeps the number
-made_by : (number : ℕ) (found : Option Edge) (P : ℕ → Type 0) → P number → (entries : List ℕ) → AllByRecursion (λ entry. P (number_in entry)) entries →
+made_by : (number : ℕ) (found : Option Edge) (P : ℕ → Type 0) → P number → (entries : List ℕ)
+    → AllByRecursion (λ entry. P (number_in entry)) entries →
     AllByRecursion (λ entry. P (number_in entry)) (cons_option (option_map (entry_of number) found) entries)
 made_by number None P p entries all = all
 made_by number (Some edge) P p entries all = (subst P (sym (number_in-entry_of number edge)) p, all)
 
-keep : (column : ColumnView) (entries : List ℕ) (byte : ℕ) (P : ℕ → Type 0) → AllByRecursion (λ entry. P (number_in entry)) entries → AllByRecursion (λ entry. P (number_in entry)) (entries_step column entries byte)
+keep : (column : ColumnView) (entries : List ℕ) (byte : ℕ) (P : ℕ → Type 0)
+    → AllByRecursion (λ entry. P (number_in entry)) entries
+    → AllByRecursion (λ entry. P (number_in entry)) (entries_step column entries byte)
 unfolding entries_step entry_step
 keep column [] byte P all = tt
 keep column (entry ∷ entries) byte P all =
-    made_by (number_in entry) (edge_step (value_in column entry) column.size column.place (edge_before column entry) byte) P all.0 (entries_step column entries byte) (keep column entries byte P all.1)
+    made_by (number_in entry)
+    (edge_step (value_in column entry) column.size column.place (edge_before column entry) byte) P all.0
+    (entries_step column entries byte) (keep column entries byte P all.1)
 
-pub steps_keep_numbers : (column : ColumnView) (entries : List ℕ) (byte : ℕ) (P : ℕ → Type 0) → All (λ entry. P (number_in entry)) entries → All (λ entry. P (number_in entry)) (entries_step column entries byte)
+pub steps_keep_numbers : (column : ColumnView) (entries : List ℕ) (byte : ℕ) (P : ℕ → Type 0)
+    → All (λ entry. P (number_in entry)) entries → All (λ entry. P (number_in entry)) (entries_step column entries byte)
 steps_keep_numbers column entries byte P all =
-    All-from_recursion (λ entry. P (number_in entry)) (entries_step column entries byte) (keep column entries byte P (recursion_from_All (λ entry. P (number_in entry)) entries all))
+    All-from_recursion (λ entry. P (number_in entry)) (entries_step column entries byte)
+    (keep column entries byte P (recursion_from_All (λ entry. P (number_in entry)) entries all))

@@ -1,5 +1,7 @@
 -- Merging the kept places of a group, one after the other.
-use Rattle.std.proofs.Common.{◌≡◌, ℕ, zero, suc, ◌+◌, ◌-◌, ◌*◌, ◌<◌, ◌≤◌, ◌==◌, List, [], ◌∷◌, ◌++◌, length, map, drop, get_or, Bool, true, false, cond, Option, Some, None, true≢false, refl, sym, ◌∙◌, ap, subst, inl, inr, arith}
+use Rattle.std.proofs.Common.{◌≡◌, ℕ, zero, suc, ◌+◌, ◌-◌, ◌*◌, ◌<◌, ◌≤◌, ◌==◌, List, [], ◌∷◌, ◌++◌, length, map, drop}
+use Rattle.std.proofs.Common.{get_or, Bool, true, false, cond, Option, Some, None, true≢false, refl, sym, ◌∙◌, ap}
+use Rattle.std.proofs.Common.{subst, inl, inr, arith}
 use Rattle.std.specs.Prelude.{All, nat_le}
 use Rattle.std.specs.List.{AllByRecursion, cons_option}
 use Rattle.std.specs.List.Sorted.{IsStrictlyIncreasing}
@@ -26,21 +28,26 @@ use Rattle.trie_merge.specs.Levels.{states_at, level_runs, cost_of, words_of, fe
 use Rattle.trie_merge.specs.Walk.{next_of, IsWalk}
 use Rattle.trie_merge.specs.RuleRest.{values_of}
 use Rattle.trie_merge.specs.Entry.{ColumnView, entry_of, field_at, column_at, CanStep}
-use Rattle.trie_merge.specs.Lists.{lists_of, level_found, state_runs, states_words, least_cost, least_words, RisesFrom, CanCount, AllCanCount, IsMergedWithin}
+use Rattle.trie_merge.specs.Lists.{lists_of, level_found, state_runs, states_words, least_cost, least_words, RisesFrom}
+use Rattle.trie_merge.specs.Lists.{CanCount, AllCanCount, IsMergedWithin}
 use Rattle.trie_merge.proofs.Ahead.{rises_lower, words_are_ahead}
 use Rattle.trie_merge.proofs.Merging.{least_cost_flat, least_cost_known}
 use Rattle.trie_merge.proofs.Uncut.{number_in-entry_of}
 use Rattle.trie_merge.proofs.Packed.{packed_edge, Stands, packed_stands}
-use Rattle.trie_merge.proofs.PackedState.{IsHeld, IsEntryAt, packed_state, packed_state_start, packed_entries, decoded, is_held, entry_can_step}
-use Rattle.trie_merge.proofs.Reached.{IsPrefix, packed_at, packed_next, packed_past_all, runs_next, runs_last, rows_are, states_are, all_packed, all_weaker, all-map, prefixes_are}
+use Rattle.trie_merge.proofs.PackedState.{IsHeld, IsEntryAt, packed_state, packed_state_start, packed_entries, decoded}
+use Rattle.trie_merge.proofs.PackedState.{is_held, entry_can_step}
+use Rattle.trie_merge.proofs.Reached.{IsPrefix, packed_at, packed_next, packed_past_all, runs_next, runs_last, rows_are}
+use Rattle.trie_merge.proofs.Reached.{states_are, all_packed, all_weaker, all-map, prefixes_are}
 use Rattle.trie_merge.proofs.Finds.{All-found_in}
 use Rattle.trie_merge.proofs.Categories.{length-categories}
 use Rattle.trie_merge.proofs.Gaps.{Gaps, kept_places_first}
 
 -- the rules of a group are held
-pub group_held : (set : RuleSetView) (group : List ℕ) → IsRuleSet set → IsLayout set.layout → All (λ number. number < length set.rules) group → AllByRecursion (IsHeld set) group
+pub group_held : (set : RuleSetView) (group : List ℕ) → IsRuleSet set → IsLayout set.layout
+    → All (λ number. number < length set.rules) group → AllByRecursion (IsHeld set) group
 group_held set group held layout within =
-    all_weaker (λ number. number < length set.rules) (IsHeld set) group (λ number h. is_held set number held layout h) (recursion_from_All (λ number. number < length set.rules) group within)
+    all_weaker (λ number. number < length set.rules) (IsHeld set) group (λ number h. is_held set number held layout h)
+    (recursion_from_All (λ number. number < length set.rules) group within)
 
 -- ---- a state's rules are in the order of their numbers
 
@@ -62,14 +69,17 @@ numbers_rise_from (number ∷ numbers) least first rise = (
         get_or numbers k 0 < get_or numbers (k + 1) 0
     shift k h =
         let all : List ℕ = number ∷ numbers in
-        let one : get_or numbers k 0 ≡ get_or all (k + 1) 0 = get_or-drop 1 all k 0 ∙ ap (λ n. get_or all n 0) (omega arith) in
-        let two : get_or numbers (k + 1) 0 ≡ get_or all (k + 1 + 1) 0 = get_or-drop 1 all (k + 1) 0 ∙ ap (λ n. get_or all n 0) (omega arith) in
+        let one : get_or numbers k 0 ≡ get_or all (k + 1) 0 = get_or-drop 1 all k 0
+        ∙ ap (λ n. get_or all n 0) (omega arith) in
+        let two : get_or numbers (k + 1) 0 ≡ get_or all (k + 1 + 1) 0 = get_or-drop 1 all (k + 1) 0
+        ∙ ap (λ n. get_or all n 0) (omega arith) in
         rw (one, two) h
 
 pub numbers_rise : (numbers : List ℕ) → IsStrictlyIncreasing numbers → NumbersRise 0 numbers
 numbers_rise numbers rise = numbers_rise_from numbers 0 (λ some. omega arith) rise
 
-packed_rise : (set : RuleSetView) (key : List ℕ) (least : ℕ) (group : List ℕ) → NumbersRise least group → RisesFrom least (packed_state set group key)
+packed_rise : (set : RuleSetView) (key : List ℕ) (least : ℕ) (group : List ℕ) → NumbersRise least group
+    → RisesFrom least (packed_state set group key)
 unfolding packed_state
 packed_rise set key least [] rise = tt
 packed_rise set key least (number ∷ group) rise =
@@ -86,17 +96,20 @@ module _ (set : RuleSetView) (group : List ℕ) (held : AllByRecursion (IsHeld s
       AllByRecursion (CanStep (column_at set place)) (packed_state set group key)
   key_can_step place within key is =
       all_weaker (IsEntryAt set place) (CanStep (column_at set place)) (packed_state set group key) one
-      (subst (λ n. AllByRecursion (IsEntryAt set n) (packed_state set group key)) is.1 (packed_entries set group key held is.0))
+      (subst (λ n. AllByRecursion (IsEntryAt set n) (packed_state set group key)) is.1
+      (packed_entries set group key held is.0))
     where
       one : (entry : ℕ) → IsEntryAt set place entry → CanStep (column_at set place) entry
       one entry at =
           subst (CanStep (column_at set place)) (sym at.is)
           (entry_can_step set place at.number at.held at.edge
           (subst (λ n. Stands (values_of set at.number) (field_at set.layout n) at.edge) at.long
-          (packed_stands set.layout (values_of set at.number) at.key at.edge at.held.lawful at.bytes (omega (arith, at.long, within)) at.packed)))
+          (packed_stands set.layout (values_of set at.number) at.key at.edge at.held.lawful at.bytes
+          (omega (arith, at.long, within)) at.packed)))
 
   -- so can all of the place's states
-  pub all_can_step : (place : ℕ) → place < key_len_of set.layout → AllByRecursion (AllByRecursion (CanStep (column_at set place))) (packed_at set group place)
+  pub all_can_step : (place : ℕ) → place < key_len_of set.layout
+      → AllByRecursion (AllByRecursion (CanStep (column_at set place))) (packed_at set group place)
   all_can_step place within =
       all_packed set group place (AllByRecursion (CanStep (column_at set place))) (key_can_step place within)
 
@@ -106,34 +119,44 @@ module _ (set : RuleSetView) (group : List ℕ) (held : AllByRecursion (IsHeld s
   all_can_count rise place within =
       all_packed set group place (CanCount (column_at set place))
       (λ key is. record {
-        ask = All-from_recursion (CanStep (column_at set place)) (packed_state set group key) (key_can_step place within key is);
+        ask = All-from_recursion (CanStep (column_at set place)) (packed_state set group key)
+            (key_can_step place within key is);
         rise = packed_rise set key 0 group rise;
       })
 
   -- so can those that are kept of the states
-  pub keys_can_step : (place : ℕ) (keys : List (SmallVec ℕ)) → place < key_len_of set.layout → lists_of keys ≡ packed_at set group place → All (λ (state : SmallVec ℕ). All (CanStep (column_at set place)) state.items) keys
+  pub keys_can_step : (place : ℕ) (keys : List (SmallVec ℕ)) → place < key_len_of set.layout
+      → lists_of keys ≡ packed_at set group place
+      → All (λ (state : SmallVec ℕ). All (CanStep (column_at set place)) state.items) keys
   keys_can_step place keys within is =
       All-from_recursion (λ (state : SmallVec ℕ). All (CanStep (column_at set place)) state.items) keys
-      (of_lists keys (subst (AllByRecursion (AllByRecursion (CanStep (column_at set place)))) (sym is) (all_can_step place within)))
+      (of_lists keys (subst (AllByRecursion (AllByRecursion (CanStep (column_at set place)))) (sym is)
+      (all_can_step place within)))
     where
-      of_lists : (ks : List (SmallVec ℕ)) → AllByRecursion (AllByRecursion (CanStep (column_at set place))) (lists_of ks) → AllByRecursion (λ (state : SmallVec ℕ). All (CanStep (column_at set place)) state.items) ks
+      of_lists : (ks : List (SmallVec ℕ))
+          → AllByRecursion (AllByRecursion (CanStep (column_at set place))) (lists_of ks)
+          → AllByRecursion (λ (state : SmallVec ℕ). All (CanStep (column_at set place)) state.items) ks
       of_lists [] all = tt
       of_lists (k ∷ ks) all = (All-from_recursion (CanStep (column_at set place)) k.items all.0, of_lists ks all.1)
 
-  packed_at_zero : (entry : ℕ) (entries : List ℕ) → packed_state set group [] ≡ entry ∷ entries → packed_at set group 0 ≡ (entry ∷ entries) ∷ []
+  packed_at_zero : (entry : ℕ) (entries : List ℕ) → packed_state set group [] ≡ entry ∷ entries
+      → packed_at set group 0 ≡ (entry ∷ entries) ∷ []
   unfolding packed_at found_in prefixes
   packed_at_zero entry entries is = ap (λ e. found_with bytes_eq is_live [] e) is
 
   -- before the first kept place there is one state, of all rules
-  pub packed_start : 0 < length group → (place : ℕ) → place ≤ key_len_of set.layout → ((k : ℕ) → k < place → is_wild_place set group k ≡ true) →
+  pub packed_start : 0 < length group → (place : ℕ) → place ≤ key_len_of set.layout
+      → ((k : ℕ) → k < place → is_wild_place set group k ≡ true) →
       packed_at set group place ≡ map (λ number. entry_of number Free) group ∷ []
   packed_start some place within wild =
       let e : 0 + place ≡ place = omega arith in
       ap (packed_at set group) (sym e)
-      ∙ packed_past_all set group held 0 place (omega arith) (λ gap below. ap (is_wild_place set group) (omega arith) ∙ wild gap below)
+      ∙ packed_past_all set group held 0 place (omega arith)
+      (λ gap below. ap (is_wild_place set group) (omega arith) ∙ wild gap below)
       ∙ at_zero group some (packed_state_start set group held)
     where
-      at_zero : (g : List ℕ) → 0 < length g → packed_state set group [] ≡ map (λ number. entry_of number Free) g → packed_at set group 0 ≡ map (λ number. entry_of number Free) g ∷ []
+      at_zero : (g : List ℕ) → 0 < length g → packed_state set group [] ≡ map (λ number. entry_of number Free) g
+          → packed_at set group 0 ≡ map (λ number. entry_of number Free) g ∷ []
       at_zero [] some is = absurd (omega arith)
       at_zero (n ∷ g) some is = packed_at_zero (entry_of n Free) (map (λ number. entry_of number Free) g) is
 
@@ -143,16 +166,24 @@ module _ (set : RuleSetView) (group : List ℕ) (held : AllByRecursion (IsHeld s
   -- what is found at a place, and its runs
   pub record LevelIs (place : ℕ) (places : List ℕ) (is_last : Bool) : Type 0 where
     pub runs : tail_runs (place ∷ places)
-        ≡ map (state_runs set (column_at set place) is_last (level_found set (column_at set place) is_last (packed_at set group place))) (packed_at set group place) ∷ tail_runs places
-    pub next : 0 < length places → level_found set (column_at set place) is_last (packed_at set group place) ≡ packed_at set group (get_or places 0 0)
-    pub rows : length places ≡ 0 → level_found set (column_at set place) is_last (packed_at set group place) ≡ rows_of set group
+        ≡ map (state_runs set (column_at set place) is_last
+        (level_found set (column_at set place) is_last (packed_at set group place))) (packed_at set group place)
+        ∷ tail_runs places
+    pub next : 0 < length places
+        → level_found set (column_at set place) is_last (packed_at set group place)
+        ≡ packed_at set group (get_or places 0 0)
+    pub rows : length places ≡ 0
+        → level_found set (column_at set place) is_last (packed_at set group place) ≡ rows_of set group
 
-  pub level_is : (place : ℕ) (places : List ℕ) → Gaps set group (place ∷ places) → LevelIs place places (length places == 0)
+  pub level_is : (place : ℕ) (places : List ℕ) → Gaps set group (place ∷ places)
+      → LevelIs place places (length places == 0)
   unfolding level_runs
   level_is place [] gap =
       let found = rows_are set group held place gap in
       record {
-        runs = ap (λ runs. runs ∷ []) (sym (runs_last set group held place gap) ∙ ap (λ f. map (state_runs set (column_at set place) true f) (packed_at set group place)) (sym found));
+        runs = ap (λ runs. runs ∷ [])
+            (sym (runs_last set group held place gap)
+            ∙ ap (λ f. map (state_runs set (column_at set place) true f) (packed_at set group place)) (sym found));
         next = λ h. absurd (omega arith);
         rows = λ _. found;
       }
@@ -161,7 +192,9 @@ module _ (set : RuleSetView) (group : List ℕ) (held : AllByRecursion (IsHeld s
       let other : (length (next ∷ places) == 0) ≡ false = ne_eqb (length (next ∷ places)) 0 (λ e. omega arith) in
       subst (LevelIs place (next ∷ places)) (sym other)
       (record {
-        runs = ap (λ runs. runs ∷ tail_runs (next ∷ places)) (sym (runs_next set group held place next gaps.0) ∙ ap (λ f. map (state_runs set (column_at set place) false f) (packed_at set group place)) (sym found));
+        runs = ap (λ runs. runs ∷ tail_runs (next ∷ places))
+            (sym (runs_next set group held place next gaps.0)
+            ∙ ap (λ f. map (state_runs set (column_at set place) false f) (packed_at set group place)) (sym found));
         next = λ _. found;
         rows = λ h. absurd (omega arith);
       })
@@ -177,34 +210,50 @@ cost_some count = by (count == 1) (nat_le count few_runs)
 
 states_some : (states : List (List Run)) → length states ≤ states_words states
 states_some [] = omega arith
-states_some (runs ∷ states) = omega (arith, states_some states, cost_some (length runs), sum_by-cons (λ (r : List Run). cost_of (length r)) runs states)
+states_some (runs ∷ states) =
+    omega (
+      arith,
+      states_some states,
+      cost_some (length runs),
+      sum_by-cons (λ (r : List Run). cost_of (length r)) runs
+          states,
+    )
 
 -- the first level has the runs of the states of its place
-first_level : (set : RuleSetView) (group : List ℕ) (place : ℕ) (places : List ℕ) → (first : List (List Run)) × (rest : List (List (List Run)))
-    × (level_runs set (states_at set group) (rows_of set group) (place ∷ places) ≡ first ∷ rest) × (length first ≡ length (states_at set group place))
+first_level : (set : RuleSetView) (group : List ℕ) (place : ℕ) (places : List ℕ)
+    → (first : List (List Run)) × (rest : List (List (List Run)))
+    × (level_runs set (states_at set group) (rows_of set group) (place ∷ places) ≡ first ∷ rest)
+    × (length first ≡ length (states_at set group place))
 unfolding level_runs
 first_level set group place [] = (_, _, refl, length-map (states_at set group place) _)
 first_level set group place (next ∷ places) = (_, _, refl, length-map (states_at set group place) _)
 
 -- The places before one are merged: their runs stand before those of the others, what is found is what the place begins
 -- with or the rows at the end, and the words are those so far.
-pub record Walked (set : RuleSetView) (group : List ℕ) (cap place : ℕ) (levels : List (List (List Run))) (keys : List (SmallVec ℕ)) (words : ℕ) : Type 0 where
-  pub runs : levels ++ level_runs set (states_at set group) (rows_of set group) (drop place (kept_places set group)) ≡ level_runs set (states_at set group) (rows_of set group) (kept_places set group)
-  pub states : place < length (kept_places set group) → lists_of keys ≡ packed_at set group (get_or (kept_places set group) place 0)
+pub record Walked (set : RuleSetView) (group : List ℕ) (cap place : ℕ) (levels : List (List (List Run)))
+    (keys : List (SmallVec ℕ)) (words : ℕ) : Type 0 where
+  pub runs : levels ++ level_runs set (states_at set group) (rows_of set group) (drop place (kept_places set group))
+      ≡ level_runs set (states_at set group) (rows_of set group) (kept_places set group)
+  pub states : place < length (kept_places set group)
+      → lists_of keys ≡ packed_at set group (get_or (kept_places set group) place 0)
   pub rows : length (kept_places set group) ≤ place → lists_of keys ≡ rows_of set group
-  pub sum : words + words_of (level_runs set (states_at set group) (rows_of set group) (drop place (kept_places set group))) (rows_of set group)
+  pub sum : words + words_of
+      (level_runs set (states_at set group) (rows_of set group) (drop place (kept_places set group)))
+      (rows_of set group)
       ≡ words_of (level_runs set (states_at set group) (rows_of set group) (kept_places set group)) (rows_of set group)
   pub within : words ≤ cap
   pub whole : length (kept_places set group) ≤ place → words + row_words * length keys ≤ cap
 
-module _ (set : RuleSetView) (group : List ℕ) (held : AllByRecursion (IsHeld set) group) (some : 0 < length group) (key : 0 < key_len_of set.layout) where
+module _ (set : RuleSetView) (group : List ℕ) (held : AllByRecursion (IsHeld set) group) (some : 0 < length group)
+    (key : 0 < key_len_of set.layout) where
   abbrev places : List ℕ
   places = kept_places set group
 
   abbrev runs_from : List ℕ → List (List (List Run))
   runs_from ps = level_runs set (states_at set group) (rows_of set group) ps
 
-  pub walk_start : (cap : ℕ) (keys : List (SmallVec ℕ)) → lists_of keys ≡ map (λ number. entry_of number Free) group ∷ [] → Walked set group cap 0 [] keys 0
+  pub walk_start : (cap : ℕ) (keys : List (SmallVec ℕ))
+      → lists_of keys ≡ map (λ number. entry_of number Free) group ∷ [] → Walked set group cap 0 [] keys 0
   walk_start cap keys is =
       let first = kept_places_first set group key in
       record {
@@ -247,7 +296,8 @@ module _ (set : RuleSetView) (group : List ℕ) (held : AllByRecursion (IsHeld s
     level_here =
         let long : length (drop (place + 1) places) ≡ length places - (place + 1) = length-drop (place + 1) places in
         subst (LevelIs set group held (get_or places place 0) (drop (place + 1) places))
-        (same_tests (length (drop (place + 1) places)) 0 (place + 1) (length places) (λ e. omega (arith, long, e, below)) (λ e. omega (arith, long, e)))
+        (same_tests (length (drop (place + 1) places)) 0 (place + 1) (length places)
+        (λ e. omega (arith, long, e, below)) (λ e. omega (arith, long, e)))
         (level_is set group held (get_or places place 0) (drop (place + 1) places) gaps_here)
       where
         same_tests : (a b c d : ℕ) → (a ≡ b → c ≡ d) → (c ≡ d → a ≡ b) → (a == b) ≡ (c == d)
@@ -258,12 +308,16 @@ module _ (set : RuleSetView) (group : List ℕ) (held : AllByRecursion (IsHeld s
 
     words_split : words_of (runs_from (drop place places)) (rows_of set group)
         ≡ states_words (map (state_runs set (column_at set (get_or places place 0)) (place + 1 == length places)
-        (level_found set (column_at set (get_or places place 0)) (place + 1 == length places) (packed_at set group (get_or places place 0)))) (packed_at set group (get_or places place 0)))
+        (level_found set (column_at set (get_or places place 0)) (place + 1 == length places)
+        (packed_at set group (get_or places place 0)))) (packed_at set group (get_or places place 0)))
         + words_of (runs_from (drop (place + 1) places)) (rows_of set group)
     words_split =
-        let here : List (List Run) = map (state_runs set (column_at set (get_or places place 0)) (place + 1 == length places)
-        (level_found set (column_at set (get_or places place 0)) (place + 1 == length places) (packed_at set group (get_or places place 0)))) (packed_at set group (get_or places place 0)) in
-        let sum : words_of (here ∷ runs_from (drop (place + 1) places)) (rows_of set group) ≡ states_words here + words_of (runs_from (drop (place + 1) places)) (rows_of set group) =
+        let here : List (List Run) =
+        map (state_runs set (column_at set (get_or places place 0)) (place + 1 == length places)
+        (level_found set (column_at set (get_or places place 0)) (place + 1 == length places)
+        (packed_at set group (get_or places place 0)))) (packed_at set group (get_or places place 0)) in
+        let sum : words_of (here ∷ runs_from (drop (place + 1) places)) (rows_of set group)
+        ≡ states_words here + words_of (runs_from (drop (place + 1) places)) (rows_of set group) =
         omega (arith, sum_by-cons (λ states. states_words states) here (runs_from (drop (place + 1) places))) in
         ap (λ ps. words_of (runs_from ps) (rows_of set group)) rest_is
         ∙ ap (λ levels. words_of levels (rows_of set group)) level_here.runs
@@ -278,7 +332,8 @@ module _ (set : RuleSetView) (group : List ℕ) (held : AllByRecursion (IsHeld s
 
     -- what is found here
     abbrev found_here : List (List ℕ)
-    found_here = level_found set (column_at set (get_or places place 0)) (place + 1 == length places) (packed_at set group (get_or places place 0))
+    found_here = level_found set (column_at set (get_or places place 0)) (place + 1 == length places)
+        (packed_at set group (get_or places place 0))
 
     none_behind : length places ≤ place + 2 → next_of set places place ≡ None
     none_behind end = ap (λ b. cond b (Some (column_at set next_place)) None) (le-ltb (place + 2) (length places) end)
@@ -302,32 +357,40 @@ module _ (set : RuleSetView) (group : List ℕ) (held : AllByRecursion (IsHeld s
       | inr end ↦ subst (λ next. AllCanCount next found_here) (sym (none_behind end)) tt
     ]
 
-    more_rest : (ps : List ℕ) → 0 < length ps → length (packed_at set group (get_or ps 0 0)) ≤ words_of (runs_from ps) (rows_of set group)
+    more_rest : (ps : List ℕ) → 0 < length ps
+        → length (packed_at set group (get_or ps 0 0)) ≤ words_of (runs_from ps) (rows_of set group)
     more_rest [] h = absurd (omega arith)
     more_rest (q ∷ qs) h =
         let level = first_level set group q qs in
-        let count : length (states_at set group q) ≡ length (packed_at set group q) = ap length (states_are set group held q) ∙ length-map (packed_at set group q) (map (decoded set q)) in
-        let sum : words_of (level.0 ∷ level.1) (rows_of set group) ≡ states_words level.0 + words_of level.1 (rows_of set group) =
+        let count : length (states_at set group q) ≡ length (packed_at set group q) =
+        ap length (states_are set group held q) ∙ length-map (packed_at set group q) (map (decoded set q)) in
+        let sum : words_of (level.0 ∷ level.1) (rows_of set group)
+        ≡ states_words level.0 + words_of level.1 (rows_of set group) =
         omega (arith, sum_by-cons (λ states. states_words states) level.0 level.1) in
-        let whole : words_of (runs_from (q ∷ qs)) (rows_of set group) ≡ states_words level.0 + words_of level.1 (rows_of set group) = ap (λ levels. words_of levels (rows_of set group)) level.2 ∙ sum in
+        let whole : words_of (runs_from (q ∷ qs)) (rows_of set group)
+        ≡ states_words level.0 + words_of level.1 (rows_of set group) =
+        ap (λ levels. words_of levels (rows_of set group)) level.2 ∙ sum in
         omega (arith, whole, states_some level.0, level.3, count)
 
     abbrev words_behind : ℕ
     words_behind = words_of (runs_from (drop (place + 1) places)) (rows_of set group)
 
     -- the rows take all words behind the last place
-    last_rest : place + 1 ≡ length places → least_cost (next_of set places place) (place + 1 == length places) found_here ≤ words_behind
+    last_rest : place + 1 ≡ length places
+        → least_cost (next_of set places place) (place + 1 == length places) found_here ≤ words_behind
     last_rest e =
         let long = length-drop (place + 1) places in
         let found : found_here ≡ rows_of set group = (level_here place below).rows (omega (arith, long, e)) in
         let next = none_behind (omega (arith, e)) in
         let last = eq-eqb (place + 1) (length places) e in
-        let cost : least_cost (next_of set places place) (place + 1 == length places) found_here ≡ row_words * length (rows_of set group) =
+        let cost : least_cost (next_of set places place) (place + 1 == length places) found_here
+        ≡ row_words * length (rows_of set group) =
         (λ i. least_cost (next i) (last i) (found i)) ∙ least_cost_flat true (rows_of set group) in
         omega (arith, cost)
 
     -- the states of the last place take a word each
-    one_rest : place + 2 ≡ length places → least_cost (next_of set places place) (place + 1 == length places) found_here ≤ words_behind
+    one_rest : place + 2 ≡ length places
+        → least_cost (next_of set places place) (place + 1 == length places) found_here ≤ words_behind
     one_rest e =
         let long = length-drop (place + 1) places in
         let found = (level_here place below).next (omega (arith, long, e)) in
@@ -335,17 +398,21 @@ module _ (set : RuleSetView) (group : List ℕ) (held : AllByRecursion (IsHeld s
         let last = ne_eqb (place + 1) (length places) (λ same. omega (arith, same, e)) in
         let cost : least_cost (next_of set places place) (place + 1 == length places) found_here
         ≡ 1 * length (packed_at set group (get_or (drop (place + 1) places) 0 0)) =
-        (λ i. least_cost (next i) (last i) (found i)) ∙ least_cost_flat false (packed_at set group (get_or (drop (place + 1) places) 0 0)) in
+        (λ i. least_cost (next i) (last i) (found i))
+        ∙ least_cost_flat false (packed_at set group (get_or (drop (place + 1) places) 0 0)) in
         omega (arith, cost, more_rest (drop (place + 1) places) (omega (arith, long, e)))
 
     -- those of any other place take their words, which are known ahead
-    known_rest : place + 2 < length places → least_cost (next_of set places place) (place + 1 == length places) found_here ≤ words_behind
+    known_rest : place + 2 < length places
+        → least_cost (next_of set places place) (place + 1 == length places) found_here ≤ words_behind
     known_rest more =
         let found = found_next (omega (arith, more)) in
         let next = one_behind more in
         let last = ne_eqb (place + 1) (length places) (λ same. omega (arith, same, more)) in
         let states : List (List ℕ) = packed_at set group next_place in
-        let words : Bool → ℕ = λ b. states_words (map (state_runs set (column_at set next_place) b (level_found set (column_at set next_place) b states)) states) in
+        let words : Bool → ℕ = λ b. states_words
+        (map (state_runs set (column_at set next_place) b (level_found set (column_at set next_place) b states))
+        states) in
         let cost : least_cost (next_of set places place) (place + 1 == length places) found_here ≡ words false =
         (λ i. least_cost (next i) (last i) (found i)) ∙ least_cost_known (column_at set next_place) false states
         ∙ words_are_ahead set (column_at set next_place) states in
@@ -362,62 +429,83 @@ module _ (set : RuleSetView) (group : List ℕ) (held : AllByRecursion (IsHeld s
       ]
     ]
 
-  module _ (cap place : ℕ) (levels : List (List (List Run))) (keys : List (SmallVec ℕ)) (words : ℕ) (so_far : Walked set group cap place levels keys words) (below : place < length places) where
+  module _ (cap place : ℕ) (levels : List (List (List Run))) (keys : List (SmallVec ℕ)) (words : ℕ)
+      (so_far : Walked set group cap place levels keys words) (below : place < length places) where
     pub place_within : get_or places place 0 < key_len_of set.layout
     place_within = place_inside place below
 
-    pub states_can_step : All (λ (state : SmallVec ℕ). All (CanStep (column_at set (get_or places place 0))) state.items) keys
-    states_can_step = keys_can_step set group held (get_or places place 0) keys (place_inside place below) (so_far.states below)
+    pub states_can_step : All
+        (λ (state : SmallVec ℕ). All (CanStep (column_at set (get_or places place 0))) state.items) keys
+    states_can_step = keys_can_step set group held (get_or places place 0) keys (place_inside place below)
+        (so_far.states below)
 
     -- the next place
     pub walk_on : (its_runs : List (List Run)) (found : List (SmallVec ℕ)) (words' : ℕ) →
-        IsMergedWithin set (column_at set (get_or places place 0)) (next_of set places place) (place + 1 == length places) cap words (lists_of keys) its_runs (lists_of found) words' →
+        IsMergedWithin set (column_at set (get_or places place 0)) (next_of set places place)
+        (place + 1 == length places) cap words (lists_of keys) its_runs (lists_of found) words' →
         Walked set group cap (place + 1) (levels ++ its_runs ∷ []) found words'
     walk_on its_runs found words' merged =
         let states = so_far.states below in
-        let lists : lists_of found ≡ level_found set (column_at set (get_or places place 0)) (place + 1 == length places) (packed_at set group (get_or places place 0)) =
-        merged.lists ∙ ap (level_found set (column_at set (get_or places place 0)) (place + 1 == length places)) states in
-        let runs_are : its_runs ≡ map (state_runs set (column_at set (get_or places place 0)) (place + 1 == length places)
-        (level_found set (column_at set (get_or places place 0)) (place + 1 == length places) (packed_at set group (get_or places place 0)))) (packed_at set group (get_or places place 0)) =
-        merged.its_runs ∙ (λ i. map (state_runs set (column_at set (get_or places place 0)) (place + 1 == length places) (lists i)) (states i)) in
+        let lists : lists_of found
+        ≡ level_found set (column_at set (get_or places place 0)) (place + 1 == length places)
+        (packed_at set group (get_or places place 0)) =
+        merged.lists ∙ ap (level_found set (column_at set (get_or places place 0)) (place + 1 == length places))
+        states in
+        let runs_are : its_runs ≡ map
+        (state_runs set (column_at set (get_or places place 0)) (place + 1 == length places)
+        (level_found set (column_at set (get_or places place 0)) (place + 1 == length places)
+        (packed_at set group (get_or places place 0)))) (packed_at set group (get_or places place 0)) =
+        merged.its_runs ∙ (λ i. map
+        (state_runs set (column_at set (get_or places place 0)) (place + 1 == length places) (lists i))
+        (states i)) in
         let long : length (drop (place + 1) places) ≡ length places - (place + 1) = length-drop (place + 1) places in
         record {
           runs =
               append_assoc levels (its_runs ∷ []) (runs_from (drop (place + 1) places))
-              ∙ ap (λ l. levels ++ l) (ap (λ r. r ∷ runs_from (drop (place + 1) places)) runs_are ∙ sym (level_here place below).runs ∙ ap runs_from (sym (rest_is place below)))
+              ∙ ap (λ l. levels ++ l) (ap (λ r. r ∷ runs_from (drop (place + 1) places)) runs_are
+              ∙ sym (level_here place below).runs ∙ ap runs_from (sym (rest_is place below)))
               ∙ so_far.runs;
-          states = λ h. lists ∙ (level_here place below).next (omega (arith, h, long)) ∙ ap (packed_at set group) (get_or-drop (place + 1) places 0 0 ∙ ap (λ k. get_or places k 0) (omega arith));
+          states = λ h. lists ∙ (level_here place below).next (omega (arith, h, long))
+              ∙ ap (packed_at set group)
+              (get_or-drop (place + 1) places 0 0 ∙ ap (λ k. get_or places k 0) (omega arith));
           rows = λ h. lists ∙ (level_here place below).rows (omega (arith, h, long));
           sum = omega (arith, so_far.sum, words_split place below, merged.sum, ap states_words runs_are);
           within = omega (arith, merged.within);
           whole = λ h. (
               let last = eq-eqb (place + 1) (length places) (omega (arith, h, below)) in
               let next = none_behind place below (omega (arith, h)) in
-              let cost : least_cost (next_of set places place) (place + 1 == length places) (lists_of found) ≡ row_words * length found =
+              let cost : least_cost (next_of set places place) (place + 1 == length places) (lists_of found)
+              ≡ row_words * length found =
               (λ i. least_cost (next i) (last i) (lists_of found)) ∙ least_cost_flat true (lists_of found)
               ∙ ap (λ n. row_words * n) (length-map found (λ (v : SmallVec ℕ). v.items)) in
               omega (arith, merged.within, cost));
         }
 
     -- or too many words
-    pub walk_over : cap < least_words set (column_at set (get_or places place 0)) (next_of set places place) (place + 1 == length places) words (lists_of keys) → cap < words_of (runs_from places) (rows_of set group)
+    pub walk_over : cap < least_words set (column_at set (get_or places place 0)) (next_of set places place)
+        (place + 1 == length places) words (lists_of keys) → cap < words_of (runs_from places) (rows_of set group)
     walk_over over =
         let states = so_far.states below in
-        let over_packed : cap < least_words set (column_at set (get_or places place 0)) (next_of set places place) (place + 1 == length places) words (packed_at set group (get_or places place 0)) =
-        subst (λ s. cap < least_words set (column_at set (get_or places place 0)) (next_of set places place) (place + 1 == length places) words s) states over in
+        let over_packed : cap < least_words set (column_at set (get_or places place 0)) (next_of set places place)
+        (place + 1 == length places) words (packed_at set group (get_or places place 0)) =
+        subst (λ s. cap < least_words set (column_at set (get_or places place 0)) (next_of set places place)
+        (place + 1 == length places) words s) states over in
         omega (arith, over_packed, so_far.sum, words_split place below, least_rest place below)
 
   -- after the last place all is merged
-  pub walk_end : (cap place : ℕ) (levels : List (List (List Run))) (keys : List (SmallVec ℕ)) (words : ℕ) → Walked set group cap place levels keys words → length places ≤ place →
+  pub walk_end : (cap place : ℕ) (levels : List (List (List Run))) (keys : List (SmallVec ℕ)) (words : ℕ)
+      → Walked set group cap place levels keys words → length places ≤ place →
       IsWalk set group cap levels keys words
   unfolding level_runs levels_of
   walk_end cap place levels keys words so_far end =
       let none : drop place places ≡ [] = drop_all place places end in
-      let count : length keys ≡ length (rows_of set group) = sym (length-map keys (λ (v : SmallVec ℕ). v.items)) ∙ ap length (so_far.rows end) in
+      let count : length keys ≡ length (rows_of set group) = sym (length-map keys (λ (v : SmallVec ℕ). v.items))
+      ∙ ap length (so_far.rows end) in
       record {
         runs = sym (append-nil levels) ∙ ap (λ ps. levels ++ runs_from ps) (sym none) ∙ so_far.runs;
         rows = so_far.rows end;
-        sum = ap (λ n. words + n) (sym (ap (λ ps. words_of (runs_from ps) (rows_of set group)) none ∙ nothing)) ∙ so_far.sum;
+        sum = ap (λ n. words + n) (sym (ap (λ ps. words_of (runs_from ps) (rows_of set group)) none ∙ nothing))
+            ∙ so_far.sum;
         within = omega (arith, so_far.whole end, count);
       }
     where
@@ -428,20 +516,28 @@ module _ (set : RuleSetView) (group : List ℕ) (held : AllByRecursion (IsHeld s
 pub rows_long : (set : RuleSetView) (group : List ℕ) → AllByRecursion (λ row. length row ≡ 16) (rows_of set group)
 unfolding rows_of final_row row_of
 rows_long set group =
-    All-found_in bytes_eq is_live (λ row. length row ≡ 16) (map (λ key. final_row set (state set group key)) (prefixes (key_len_of set.layout)))
-    (all-map (λ row. is_live row ≡ true → length row ≡ 16) (λ key. final_row set (state set group key)) (prefixes (key_len_of set.layout))
-    (all_weaker (IsPrefix (key_len_of set.layout)) (λ key. is_live (final_row set (state set group key)) ≡ true → length (final_row set (state set group key)) ≡ 16) (prefixes (key_len_of set.layout))
-    (λ key is. by (is_live (state set group key)) (row_of set (map (λ (h : Held). h.number) (state set group key))) (length-map categories _ ∙ length-categories))
+    All-found_in bytes_eq is_live (λ row. length row ≡ 16)
+    (map (λ key. final_row set (state set group key)) (prefixes (key_len_of set.layout)))
+    (all-map (λ row. is_live row ≡ true → length row ≡ 16) (λ key. final_row set (state set group key))
+    (prefixes (key_len_of set.layout))
+    (all_weaker (IsPrefix (key_len_of set.layout))
+    (λ key. is_live (final_row set (state set group key)) ≡ true
+    → length (final_row set (state set group key)) ≡ 16) (prefixes (key_len_of set.layout))
+    (λ key is. by (is_live (state set group key)) (row_of set (map (λ (h : Held). h.number) (state set group key)))
+    (length-map categories _ ∙ length-categories))
     (prefixes_are (key_len_of set.layout))))
   where
     by : (b : Bool) (row : List ℕ) → length row ≡ 16 → is_live (cond b row []) ≡ true → length (cond b row []) ≡ 16
     by true row long live = long
     by false row long live = absurd (true≢false (sym live))
 
-pub found_rows_long : (set : RuleSetView) (group : List ℕ) (keys : List (SmallVec ℕ)) → lists_of keys ≡ rows_of set group → All (λ (row : SmallVec ℕ). length row.items ≡ 16) keys
+pub found_rows_long : (set : RuleSetView) (group : List ℕ) (keys : List (SmallVec ℕ))
+    → lists_of keys ≡ rows_of set group → All (λ (row : SmallVec ℕ). length row.items ≡ 16) keys
 found_rows_long set group keys is =
-    All-from_recursion (λ (row : SmallVec ℕ). length row.items ≡ 16) keys (of_lists keys (subst (AllByRecursion (λ row. length row ≡ 16)) (sym is) (rows_long set group)))
+    All-from_recursion (λ (row : SmallVec ℕ). length row.items ≡ 16) keys
+    (of_lists keys (subst (AllByRecursion (λ row. length row ≡ 16)) (sym is) (rows_long set group)))
   where
-    of_lists : (ks : List (SmallVec ℕ)) → AllByRecursion (λ row. length row ≡ 16) (lists_of ks) → AllByRecursion (λ (row : SmallVec ℕ). length row.items ≡ 16) ks
+    of_lists : (ks : List (SmallVec ℕ)) → AllByRecursion (λ row. length row ≡ 16) (lists_of ks)
+        → AllByRecursion (λ (row : SmallVec ℕ). length row.items ≡ 16) ks
     of_lists [] all = tt
     of_lists (k ∷ ks) all = (all.0, of_lists ks all.1)

@@ -1,5 +1,6 @@
 -- The value of the field that has a place.
-use Rattle.std.proofs.Common.{◌≡◌, ℕ, suc, ◌-◌, ◌<◌, List, [], ◌∷◌, length, get_or, refl, sym, ◌∙◌, ap, subst, inl, inr, arith}
+use Rattle.std.proofs.Common.{◌≡◌, ℕ, suc, ◌-◌, ◌<◌, List, [], ◌∷◌, length, get_or, refl, sym, ◌∙◌, ap, subst, inl, inr}
+use Rattle.std.proofs.Common.{arith}
 use Rattle.std.specs.List.{AllZip}
 use Rattle.std.proofs.lemmas.List.Sums.{sum_by-cons}
 use Rattle.std.proofs.lemmas.Bool.{cases_lt, cond-true, cond-false, lt-ltb, le-ltb}
@@ -14,7 +15,8 @@ use Rattle.trie_merge.specs.Entry.{FieldPlace, field_at}
 use Rattle.trie_merge.proofs.Packed.{field_at_in, field_at_behind, further_value}
 
 -- there are as many values as fields
-pub length-zipped : (defs : List FieldDef) (values : List FieldValue) → AllZip IsLawfulValue defs values → length values ≡ length defs
+pub length-zipped : (defs : List FieldDef) (values : List FieldValue) → AllZip IsLawfulValue defs values
+    → length values ≡ length defs
 length-zipped [] [] lawful = refl
 length-zipped [] (v ∷ vs) lawful = absurd lawful
 length-zipped (d ∷ ds) [] lawful = absurd lawful
@@ -26,7 +28,8 @@ pub record IsValueAt (defs : List FieldDef) (values : List FieldValue) (place : 
   pub can : CanMatch (get_or values at.field (Mask 0 0)) at.size
   pub wild : is_wild_at defs values place ≡ is_wild (get_or values at.field (Mask 0 0)) at.size
 
-pub value_at_place : (defs : List FieldDef) (values : List FieldValue) (place : ℕ) → AllZip IsLawfulValue defs values → place < key_len_of defs → IsValueAt defs values place (field_at defs place)
+pub value_at_place : (defs : List FieldDef) (values : List FieldValue) (place : ℕ) → AllZip IsLawfulValue defs values
+    → place < key_len_of defs → IsValueAt defs values place (field_at defs place)
 value_at_place [] values place lawful within = absurd (omega arith)
 value_at_place (def ∷ defs) [] place lawful within = absurd lawful
 value_at_place (def ∷ defs) (value ∷ values) place lawful within = elim (cases_lt place def.size) [
@@ -34,7 +37,8 @@ value_at_place (def ∷ defs) (value ∷ values) place lawful within = elim (cas
       subst (IsValueAt (def ∷ defs) (value ∷ values) place) (sym (field_at_in def defs place begun))
       (record { within = omega arith; can = lawful.0.can_match; wild = cond-true _ _ _ (lt-ltb place def.size begun) })
   | inr behind ↦
-      let there = value_at_place defs values (place - def.size) lawful.1 (omega (arith, within, sum_by-cons (λ (d : FieldDef). d.size) def defs)) in
+      let there = value_at_place defs values (place - def.size) lawful.1
+      (omega (arith, within, sum_by-cons (λ (d : FieldDef). d.size) def defs)) in
       let at : FieldPlace = field_at defs (place - def.size) in
       let same = further_value value values at.field in
       subst (IsValueAt (def ∷ defs) (value ∷ values) place) (sym (field_at_behind def defs place behind))

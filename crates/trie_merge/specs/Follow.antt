@@ -1,5 +1,6 @@
 -- Where the bytes of a key lead along the runs of merged states.
-use Rattle.std.specs.Prelude.{◌≡◌, ℕ, ◌<◌, List, [], ◌∷◌, length, filter, slice_get, slice_index_or, nat_le, Some}
+use Rattle.std.specs.Prelude.{◌≡◌, ℕ, ◌<◌, List, [], ◌∷◌, length, filter, slice_get, slice_index_or}
+use Rattle.std.specs.Prelude.{nat_le, Some}
 use Rattle.std.specs.List.{find}
 use Rattle.std.specs.Option.{option_map_or}
 use Rattle.rule_set.specs.Rule.{RuleSetView}
@@ -20,12 +21,14 @@ on_from next Dead = Dead
 on_from next (State number) = next number
 on_from next (Row number) = Row number
 
--- what the bytes of a key at the places lead to from a state of the first place, by the runs of each place
+-- what the bytes of a key at the places lead to from a state of the first place, by the runs of
+-- each place
 abbrev pub followed : List (List (List Run)) → List ℕ → List ℕ → ℕ → Succ
 followed [] places key number = Dead
 followed (states ∷ levels) [] key number = Dead
 followed (states ∷ levels) (place ∷ places) key number =
-    on_from (λ next. followed levels places key next) (run_to (slice_index_or states number []) (slice_index_or key place 0))
+    on_from (λ next. followed levels places key next)
+    (run_to (slice_index_or states number []) (slice_index_or key place 0))
 
 -- the rules of the group that match the key, ascending
 abbrev pub matching : RuleSetView → List ℕ → List ℕ → List ℕ
@@ -34,5 +37,6 @@ matching set group key = filter (λ number. rule_match set.layout (values_of set
 -- The answer is the row of the matching rules, or that there is none where no rule matches.
 abbrev pub IsAnswer : RuleSetView → List (List ℕ) → List ℕ → Succ → Type 0
 IsAnswer set rows matches Dead = matches ≡ []
-IsAnswer set rows matches (Row number) = (0 < length matches) × (slice_get rows number ≡ Some (row_of set matches))
+IsAnswer set rows matches (Row number) =
+    (0 < length matches) × (slice_get rows number ≡ Some (row_of set matches))
 IsAnswer set rows matches (State number) = ⊥

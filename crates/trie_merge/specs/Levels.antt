@@ -1,6 +1,9 @@
--- The merged states of a group of rules, place by place, and how many words a table of them takes (DPDK's `lib/acl`,
--- `acl_gen.c`: a node of one target takes one word, of a few ranges one for each of five, and any other one for each byte).
-use Rattle.std.specs.Prelude.{ℕ, ◌+◌, ◌-◌, ◌*◌, ◌<◌, ◌==◌, All, List, [], ◌∷◌, length, map, filter, replicate, nat_le, Bool, true, false, not, ◌||◌, if◌then◌else◌}
+-- The merged states of a group of rules, place by place, and how many words a table of them takes
+-- (DPDK's `lib/acl`,
+-- `acl_gen.c`: a node of one target takes one word, of a few ranges one for each of five, and any
+-- other one for each byte).
+use Rattle.std.specs.Prelude.{ℕ, ◌+◌, ◌-◌, ◌*◌, ◌<◌, ◌==◌, All, List, [], ◌∷◌, length, map, filter}
+use Rattle.std.specs.Prelude.{replicate, nat_le, Bool, true, false, not, ◌||◌, if◌then◌else◌}
 use Rattle.std.specs.List.{position_or_len, sum_by}
 use Rattle.std.specs.List.Sorted.{IsStrictlyIncreasing}
 use Rattle.std.specs.Str.{bytes_eq}
@@ -24,13 +27,16 @@ pub record IsGroup (set : RuleSetView) (group : List ℕ) : Type 0 where
   pub ascending : IsStrictlyIncreasing group
   pub within : All (λ number. number < length set.rules) group
 
--- what a state before a place reaches by a byte there, and then bytes 0 at all places before the next kept one
+-- what a state before a place reaches by a byte there, and then bytes 0 at all places before the
+-- next kept one
 unfoldable pub reached : RuleSetView → ℕ → ℕ → List Held → ℕ → List Held
-reached set place next before byte = state_through set place before (byte ∷ replicate (next - place - 1) 0)
+reached set place next before byte =
+    state_through set place before (byte ∷ replicate (next - place - 1) 0)
 
 -- the successor: the number of the state among those of the next kept place
 abbrev pub state_succ : List (List Held) → List Held → Succ
-state_succ states after = if is_live after then State (position_or_len (same_state after) states) else Dead
+state_succ states after =
+    if is_live after then State (position_or_len (same_state after) states) else Dead
 
 -- the successor at the last place: the number of the row among the rows
 abbrev pub row_succ : List (List ℕ) → List ℕ → Succ
@@ -56,12 +62,16 @@ unfoldable pub runs_of : (ℕ → Succ) → List Run
 runs_of succ = map (λ byte. record { last = byte; to = succ byte }) (filter (is_end succ) all_bytes)
 
 -- the runs of each state, kept place by kept place. The states of a place and the rows are given.
-unfoldable pub level_runs : RuleSetView → (ℕ → List (List Held)) → List (List ℕ) → List ℕ → List (List (List Run))
+unfoldable pub level_runs : RuleSetView → (ℕ → List (List Held)) → List (List ℕ) → List ℕ
+    → List (List (List Run))
 level_runs set states rows [] = []
 level_runs set states rows (place ∷ []) =
-    map (λ before. runs_of (λ byte. row_succ rows (final_row set (reached set place (key_len_of set.layout) before byte)))) (states place) ∷ []
+    map (λ before. runs_of (λ byte. row_succ rows
+    (final_row set (reached set place (key_len_of set.layout) before byte)))) (states place)
+    ∷ []
 level_runs set states rows (place ∷ next ∷ places) =
-    map (λ before. runs_of (λ byte. state_succ (states next) (reached set place next before byte))) (states place)
+    map (λ before. runs_of (λ byte. state_succ (states next) (reached set place next before byte)))
+    (states place)
     ∷ level_runs set states rows (next ∷ places)
 
 -- how many words a node of few runs takes
@@ -86,10 +96,11 @@ cost_of count = if count == 1 then 1 else (if nat_le count few_runs then few_run
 
 -- the words of a group: the costs of all states, and the rows
 abbrev pub words_of : List (List (List Run)) → List (List ℕ) → ℕ
-words_of levels rows = sum_by (λ states. sum_by (λ (runs : List Run). cost_of (length runs)) states) levels + row_words * length rows
+words_of levels rows = sum_by (λ states. sum_by (λ (runs : List Run). cost_of (length runs)) states)
+    levels + row_words * length rows
 
--- Merged states as contracts see them: the kept groups, the group of rules, the runs of each state at each kept place, the
--- rows, and the words.
+-- Merged states as contracts see them: the kept groups, the group of rules, the runs of each state
+-- at each kept place, the rows, and the words.
 pub record LevelsView : Type 0 where
   pub kept : ℕ
   pub group : List ℕ
@@ -101,7 +112,14 @@ pub record LevelsView : Type 0 where
 abbrev pub levels_by : RuleSetView → List ℕ → (ℕ → List (List Held)) → List (List ℕ) → LevelsView
 levels_by set group states rows =
     let levels = level_runs set states rows (kept_places set group) in
-    record { kept = kept_bits set group; group = group; levels = levels; rows = rows; words = words_of levels rows }
+    record {
+      kept = kept_bits set group;
+      group = group;
+      levels = levels;
+      rows = rows;
+      words =
+          words_of levels rows;
+    }
 
 -- the merged states of the group
 unfoldable pub levels_of : RuleSetView → List ℕ → LevelsView

@@ -1,5 +1,7 @@
 -- The lists of the intervals of one state's bytes, and the lists found.
-use Rattle.std.specs.Prelude.{◌≡◌, ℕ, ◌+◌, ◌≤◌, ◌==◌, List, [], ◌∷◌, All, map, filter, length, slice_index_or, take, drop, count_by, Bool, not, ◌||◌, Option, Some, None, if◌then◌else◌}
+use Rattle.std.specs.Prelude.{◌≡◌, ℕ, ◌+◌, ◌≤◌, ◌==◌, List, [], ◌∷◌, All, map, filter, length}
+use Rattle.std.specs.Prelude.{slice_index_or, take, drop, count_by, Bool, not, ◌||◌, Option, Some}
+use Rattle.std.specs.Prelude.{None, if◌then◌else◌}
 use Rattle.std.specs.List.{position_or_len, flat_map, sum_by}
 use Rattle.std.specs.Str.{bytes_eq}
 use Rattle.smallvec.specs.SmallVec.{SmallVec}
@@ -36,7 +38,8 @@ lists_with found list = found_with bytes_eq is_live found list
 -- what a list is reached as, among those found: a row at the last place, and else a state
 abbrev pub succ_in : Bool → List (List ℕ) → List ℕ → Succ
 succ_in is_last found list =
-    if is_live list then (if is_last then Row (position_or_len (bytes_eq list) found) else State (position_or_len (bytes_eq list) found)) else Dead
+    if is_live list then (if is_last then Row (position_or_len (bytes_eq list) found) else State
+    (position_or_len (bytes_eq list) found)) else Dead
 
 -- the row of the entries after a whole key, and none where there is no entry
 unfoldable pub row_list : RuleSetView → List ℕ → List ℕ
@@ -45,28 +48,33 @@ row_list set entries = if is_live entries then row_of set (map number_in entries
 -- what the byte makes of the entries: their row at the last place, and else the entries after it
 unfoldable pub successor : RuleSetView → ColumnView → Bool → List ℕ → ℕ → List ℕ
 successor set column is_last entries byte =
-    if is_last then row_list set (entries_step column entries byte) else entries_step column entries byte
+    if is_last then row_list set (entries_step column entries byte) else entries_step column entries
+    byte
 
 -- the lists found from the states of a place, state by state and byte by byte
 unfoldable pub level_found : RuleSetView → ColumnView → Bool → List (List ℕ) → List (List ℕ)
 level_found set column is_last states =
-    found_in bytes_eq is_live (flat_map (λ entries. map (successor set column is_last entries) all_bytes) states)
+    found_in bytes_eq is_live
+    (flat_map (λ entries. map (successor set column is_last entries) all_bytes) states)
 
 -- the runs of one state among the lists found
 abbrev pub state_runs : RuleSetView → ColumnView → Bool → List (List ℕ) → List ℕ → List Run
-state_runs set column is_last found entries = runs_of (λ byte. succ_in is_last found (successor set column is_last entries byte))
+state_runs set column is_last found entries =
+    runs_of (λ byte. succ_in is_last found (successor set column is_last entries byte))
 
--- a run of bytes with the same entries ends with the byte: the entries after the next byte are others, or there is none
+-- a run of bytes with the same entries ends with the byte: the entries after the next byte are
+-- others, or there is none
 unfoldable pub is_change : ColumnView → List ℕ → ℕ → Bool
 is_change column entries byte =
-    byte == last_byte || not (bytes_eq (entries_step column entries byte) (entries_step column entries (byte + 1)))
+    byte == last_byte || not (bytes_eq (entries_step column entries byte)
+    (entries_step column entries (byte + 1)))
 
 -- the words of a state before the last place, which its entries tell before it is merged
 unfoldable pub cost_ahead : ColumnView → List ℕ → ℕ
 cost_ahead column entries = cost_of (length (filter (is_change column entries) all_bytes))
 
--- How many words a list that is found takes at least. Where the place behind it is given, they are the words of the state;
--- else a row takes its words, and a state one or more.
+-- How many words a list that is found takes at least. Where the place behind it is given, they are
+-- the words of the state; else a row takes its words, and a state one or more.
 abbrev pub price : Option ColumnView → Bool → List ℕ → ℕ
 price (Some next) is_last list = cost_ahead next list
 price None is_last list = if is_last then row_words else 1
@@ -83,12 +91,14 @@ states_words states = sum_by (λ (runs : List Run). cost_of (length runs)) state
 abbrev pub least_words : RuleSetView → ColumnView → Option ColumnView → Bool → ℕ → List (List ℕ) → ℕ
 least_words set column next is_last before states =
     let found = level_found set column is_last states in
-    before + states_words (map (state_runs set column is_last found) states) + least_cost next is_last found
+    before + states_words (map (state_runs set column is_last found) states) + least_cost next
+    is_last found
 
 -- The numbers of the entries' rules rise, the first of them from a number on.
 abbrev pub RisesFrom : ℕ → List ℕ → Type 0
 RisesFrom least [] = Unit {0}
-RisesFrom least (entry ∷ entries) = (least ≤ number_in entry) × RisesFrom (number_in entry + 1) entries
+RisesFrom least (entry ∷ entries) =
+    (least ≤ number_in entry) × RisesFrom (number_in entry + 1) entries
 
 -- The entries can be asked at the place, and the numbers of their rules rise.
 pub record CanCount (column : ColumnView) (entries : List ℕ) : Type 0 where
@@ -100,11 +110,13 @@ abbrev pub AllCanCount : Option ColumnView → List (List ℕ) → Type 0
 AllCanCount None lists = Unit {0}
 AllCanCount (Some next) lists = All (CanCount next) lists
 
--- The runs, the lists found and the words are those of the states, and the words and the least that the lists take are
--- within the cap.
-pub record IsMergedWithin (set : RuleSetView) (column : ColumnView) (next : Option ColumnView) (is_last : Bool) (cap before : ℕ)
-    (states : List (List ℕ)) (runs : List (List Run)) (found : List (List ℕ)) (words : ℕ) : Type 0 where
-  pub lists : found ≡ level_found set column is_last states
-  pub its_runs : runs ≡ map (state_runs set column is_last found) states
-  pub sum : words ≡ before + states_words runs
-  pub within : words + least_cost next is_last found ≤ cap
+-- The runs, the lists found and the words are those of the states, and the words and the least that
+-- the lists take are within the cap.
+pub record IsMergedWithin (set : RuleSetView) (column : ColumnView) (next : Option ColumnView)
+    (is_last : Bool) (cap before : ℕ)
+    (states : List (List ℕ)) (runs : List (List Run)) (found : List (List ℕ)) (words : ℕ) : Type 0
+  where
+    pub lists : found ≡ level_found set column is_last states
+    pub its_runs : runs ≡ map (state_runs set column is_last found) states
+    pub sum : words ≡ before + states_words runs
+    pub within : words + least_cost next is_last found ≤ cap

@@ -1,5 +1,5 @@
--- Examples of rests, states, rows and words, each checked by evaluation. Keys are cut down to one or two bytes, so that all
--- prefixes are gone through.
+-- Examples of rests, states, rows and words, each checked by evaluation. Keys are cut down to one
+-- or two bytes, so that all prefixes are gone through.
 use Rattle.std.specs.Prelude.{◌≡◌, ℕ, pos, List, [], ◌∷◌, map, Some, None, refl}
 use Rattle.field_defs.specs.declared.field.FieldKind.TheVariants as kinds
 use Rattle.field_defs.specs.declared.field.FieldDef.{FieldDef}
@@ -35,24 +35,32 @@ two_rules = record {
 }
 
 -- rests of the first rule: before the first byte, after each of two, and after whole keys
-before_a_byte : map (rule_rest two_rules 0) ([] ∷ (16 ∷ []) ∷ (17 ∷ []) ∷ (17 ∷ 9 ∷ []) ∷ (17 ∷ 10 ∷ []) ∷ []) ≡ Some Live ∷ None ∷ Some (Interval 10 20) ∷ None ∷ Some Live ∷ []
+before_a_byte : map (rule_rest two_rules 0)
+    ([] ∷ (16 ∷ []) ∷ (17 ∷ []) ∷ (17 ∷ 9 ∷ []) ∷ (17 ∷ 10 ∷ []) ∷ [])
+    ≡ Some Live ∷ None ∷ Some (Interval 10 20) ∷ None ∷ Some Live ∷ []
 unfolding rule_rest rest_after part
 before_a_byte = refl
 
 -- the step over a field's last byte leads to the next field's rest
-steps_over_a_field : map (rule_step two_rules 0 0 Live) (16 ∷ 17 ∷ []) ≡ None ∷ Some (Interval 10 20) ∷ []
+steps_over_a_field : map (rule_step two_rules 0 0 Live) (16 ∷ 17 ∷ [])
+    ≡ None ∷ Some (Interval 10 20) ∷ []
 unfolding rule_step rest_step rest_after part
 steps_over_a_field = refl
 
 -- states name the rules by their numbers
-states_of_prefixes : map (state two_rules (0 ∷ 1 ∷ [])) ((16 ∷ []) ∷ (17 ∷ 12 ∷ []) ∷ (17 ∷ 15 ∷ []) ∷ (16 ∷ 12 ∷ []) ∷ [])
-    ≡ (record { number = 1; rest = Interval 15 255 } ∷ []) ∷ (record { number = 0; rest = Live } ∷ []) ∷ (record { number = 0; rest = Live } ∷ record { number = 1; rest = Live } ∷ []) ∷ [] ∷ []
+states_of_prefixes : map (state two_rules (0 ∷ 1 ∷ []))
+    ((16 ∷ []) ∷ (17 ∷ 12 ∷ []) ∷ (17 ∷ 15 ∷ []) ∷ (16 ∷ 12 ∷ []) ∷ [])
+    ≡ (record { number = 1; rest = Interval 15 255 } ∷ [])
+    ∷ (record { number = 0; rest = Live } ∷ [])
+    ∷ (record { number = 0; rest = Live } ∷ record { number = 1; rest = Live } ∷ []) ∷ [] ∷ []
 unfolding state rule_rest rest_after part
 states_of_prefixes = refl
 
 -- after one byte there are two states: that of protocol 0 comes first
 states_after_a_byte : states_at two_rules (0 ∷ 1 ∷ []) 1
-    ≡ (record { number = 1; rest = Interval 15 255 } ∷ []) ∷ (record { number = 0; rest = Interval 10 20 } ∷ record { number = 1; rest = Interval 15 255 } ∷ []) ∷ []
+    ≡ (record { number = 1; rest = Interval 15 255 } ∷ [])
+    ∷ (record { number = 0; rest = Interval 10 20 } ∷ record
+    { number = 1; rest = Interval 15 255 } ∷ []) ∷ []
 unfolding states_at state rule_rest rest_after part found_in prefixes all_bytes
 states_after_a_byte = refl
 

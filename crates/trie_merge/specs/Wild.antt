@@ -1,11 +1,14 @@
 -- The kept groups, where it is given of each place of a key whether it is wild.
-use Rattle.std.specs.Prelude.{ℕ, ◌+◌, ◌-◌, ◌^◌, ◌==◌, List, length, filter, slice_index_or, Bool, true, not, ◌&&◌, ◌||◌}
+use Rattle.std.specs.Prelude.{ℕ, ◌+◌, ◌-◌, ◌^◌, ◌==◌, List, length, filter, slice_index_or, Bool}
+use Rattle.std.specs.Prelude.{true, not, ◌&&◌, ◌||◌}
 use Rattle.std.specs.List.{list_all, range_with_len, sum_by}
 use Rattle.trie_merge.specs.Kept.{group_of}
 
 -- each place of the input group is wild
 unfoldable pub is_idle_by : List Bool → ℕ → Bool
-is_idle_by wild input = list_all (λ place. not (group_of place == input) || slice_index_or wild place true) (range_with_len 0 (length wild))
+is_idle_by wild input = list_all
+    (λ place. not (group_of place == input) || slice_index_or wild place true)
+    (range_with_len 0 (length wild))
 
 -- an input group is kept where it isn't idle, and group 0 also where all are idle
 unfoldable pub is_kept_by : List Bool → ℕ → Bool
@@ -17,4 +20,5 @@ places_by wild = filter (λ place. is_kept_by wild (group_of place)) (range_with
 
 -- the kept groups as bits
 unfoldable pub bits_by : List Bool → ℕ
-bits_by wild = sum_by (λ input. 2 ^ input) (filter (is_kept_by wild) (range_with_len 0 (1 + group_of (length wild - 1))))
+bits_by wild = sum_by (λ input. 2 ^ input)
+    (filter (is_kept_by wild) (range_with_len 0 (1 + group_of (length wild - 1))))

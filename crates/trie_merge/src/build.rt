@@ -1,6 +1,7 @@
 //! From the rules of a group to its merged states.
 
-ghost use Rattle.std.specs.Prelude.{◌≡◌, ℕ, ◌<◌, ◌≤◌, ◌^◌, ◌+◌, ◌*◌, ◌==◌, ◌∷◌, [], ◌++◌, ◌≢◌, min, map, length, slice_index_or, All, OnOk, IfOk};
+ghost use Rattle.std.specs.Prelude.{◌≡◌, ℕ, ◌<◌, ◌≤◌, ◌^◌, ◌+◌, ◌*◌, ◌==◌, ◌∷◌, [], ◌++◌, ◌≢◌, min};
+ghost use Rattle.std.specs.Prelude.{map, length, slice_index_or, All, OnOk, IfOk};
 ghost use Rattle.node_expand.specs.declared.edge.Edge.TheVariants.{Free};
 ghost use Rattle.field_defs.specs.Layout.{key_len_of};
 ghost use Rattle.trie_merge.specs.Entry.{entry_of, column_at};
@@ -31,7 +32,8 @@ fn start_entries(
     group: &[u32],
 ) -> Result<SmallVec<u32, INLINE_ENTRIES, Global>, AllocError>
     requires { All (λ number. number < 2 ^ 30) group.now }
-    ensures { IfOk result (λ entries. entries.items ≡ map (λ number. entry_of number Free) group.now) }
+    ensures { IfOk result (λ entries. entries.items
+        ≡ map (λ number. entry_of number Free) group.now) }
 {
     let mut entries = SmallVec::new(alloc);
     for number in group {
@@ -46,7 +48,8 @@ fn start_states(
     group: &[u32],
 ) -> Result<IndexSet<SmallVec<u32, INLINE_ENTRIES, Global>>, AllocError>
     requires { All (λ number. number < 2 ^ 30) group.now }
-    ensures { IfOk result (λ states. lists_of states.keys ≡ map (λ number. entry_of number Free) group.now ∷ []) }
+    ensures { IfOk result (λ states. lists_of states.keys
+        ≡ map (λ number. entry_of number Free) group.now ∷ []) }
 {
     let entries = start_entries(alloc, group)?;
     let mut states = IndexSet::new(alloc);
@@ -65,7 +68,8 @@ fn lists_of_bytes(alloc: Global) -> Result<Vec<SmallVec<u32, INLINE_ENTRIES, Glo
     Ok(lists)
 }
 
-/// What the kept places come to: the runs of their states, the rows at the end and the words of the states.
+/// What the kept places come to: the runs of their states, the rows at the end and the words of the
+/// states.
 #[derive(Drop)]
 struct Walked {
     levels: Vec<Level>,
@@ -80,7 +84,8 @@ fn next_column(
     places: &[usize],
     j: usize,
 ) -> Result<Option<Column>, AllocError>
-    requires places { (k : ℕ) → k < length places.now → slice_index_or places.now k 0 < key_len_of rules.now.layout }
+    requires places { (k : ℕ) → k < length places.now
+        → slice_index_or places.now k 0 < key_len_of rules.now.layout }
     requires j { j < length places.now }
     ensures { IfOk result (λ next. next ≡ next_of rules.now places.now j) }
 {
@@ -94,9 +99,11 @@ fn next_column(
 
 /// The kept place of that number.
 fn place_at(alloc: Global, rules: &RuleSet, places: &[usize], j: usize) -> Result<Place, AllocError>
-    requires places { (k : ℕ) → k < length places.now → slice_index_or places.now k 0 < key_len_of rules.now.layout }
+    requires places { (k : ℕ) → k < length places.now
+        → slice_index_or places.now k 0 < key_len_of rules.now.layout }
     requires j { j < length places.now }
-    ensures column { IfOk result (λ place. place.column ≡ column_at rules.now (slice_index_or places.now j 0)) }
+    ensures column { IfOk result
+        (λ place. place.column ≡ column_at rules.now (slice_index_or places.now j 0)) }
     ensures is_last { IfOk result (λ place. place.is_last ≡ (j + 1 == length places.now)) }
     ensures next { IfOk result (λ place. place.next ≡ next_of rules.now places.now j) }
 {
@@ -137,7 +144,8 @@ fn walk(
     requires places { places.now ≡ kept_places rules.now group.now }
     requires start { lists_of start.keys ≡ map (λ number. entry_of number Free) group.now ∷ [] }
     requires lists { 256 ≤ length lists.old }
-    ensures walked { IfOk result (λ walk. IsWalk rules.now group.now cap walk.levels.items walk.found.keys walk.words) }
+    ensures walked { IfOk result
+        (λ walk. IsWalk rules.now group.now cap walk.levels.items walk.found.keys walk.words) }
     ensures over { (result ≡ Err MergeFault.OverCap) → cap < (levels_of rules.now group.now).words }
 {
     let mut levels = Vec::new(alloc);
@@ -169,10 +177,11 @@ impl Levels {
 
     /// The merged states of the group.
     ///
-    /// The group has numbers of rules of the set, ascending, and at least one; the cap is at most [`MAX_CAP`]. `OverCap` comes
-    /// exactly where the words exceed the cap, unless memory ran out before that was known. It takes memory for the states of
-    /// two places, for the runs and for the rows, and gives it back after a refusal.
-    /// Source: DPDK Programmer's Guide, "Packet Classification and Access Control", and `lib/acl`, `acl_bld.c`.
+    /// The group has numbers of rules of the set, ascending, and at least one; the cap is at most
+    /// [`MAX_CAP`]. `OverCap` comes exactly where the words exceed the cap, unless memory ran out
+    /// before that was known. It takes memory for the states of two places, for the runs and for
+    /// the rows, and gives it back after a refusal. Source: DPDK Programmer's Guide, "Packet
+    /// Classification and Access Control", and `lib/acl`, `acl_bld.c`.
     pub fn build(
         alloc: Global,
         rules: &RuleSet,
@@ -183,7 +192,8 @@ impl Levels {
         requires cap { cap ≤ max_cap }
         ensures levels { IfOk result (λ levels. levels ≡ levels_of rules.now group.now) }
         ensures within { IfOk result (λ levels. levels.words ≤ cap) }
-        ensures over { (result ≡ Err MergeFault.OverCap) → cap < (levels_of rules.now group.now).words }
+        ensures over { (result ≡ Err MergeFault.OverCap)
+            → cap < (levels_of rules.now group.now).words }
     {
         let prepared = match prepare(alloc, rules, group) {
             Ok(prepared) => prepared,
@@ -222,9 +232,12 @@ struct Prepared {
 fn prepare(alloc: Global, rules: &RuleSet, group: &[u32]) -> Result<Prepared, AllocError>
     requires { IsGroup rules.now group.now }
     ensures group { IsGrouped rules.now group.now }
-    ensures places { IfOk result (λ prepared. prepared.kept.places.items ≡ kept_places rules.now group.now) }
+    ensures places { IfOk result
+        (λ prepared. prepared.kept.places.items ≡ kept_places rules.now group.now) }
     ensures bits { IfOk result (λ prepared. prepared.kept.bits ≡ kept_bits rules.now group.now) }
-    ensures start { IfOk result (λ prepared. lists_of prepared.start.keys ≡ map (λ number. entry_of number Free) group.now ∷ []) }
+    ensures start { IfOk result
+        (λ prepared. lists_of prepared.start.keys
+        ≡ map (λ number. entry_of number Free) group.now ∷ []) }
     ensures lists { IfOk result (λ prepared. 256 ≤ length prepared.lists.items) }
 {
     let _rules = rules.all();
@@ -279,7 +292,8 @@ fn finish(alloc: Global, group: &[u32], kept: u128, walked: Walked) -> Result<Le
 
 /// How many words the merged states of the group take, or the cap plus 1 where that is less.
 ///
-/// The group and the cap are as for [`Levels::build`]. It takes memory, and gives it back before it returns.
+/// The group and the cap are as for [`Levels::build`]. It takes memory, and gives it back before it
+/// returns.
 pub fn count_capped(
     alloc: Global,
     rules: &RuleSet,

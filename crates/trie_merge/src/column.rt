@@ -14,8 +14,8 @@ use rule_set::RuleSet;
 use std::alloc::{AllocError, Global};
 use std::marker::Model;
 
-/// The values of all rules of the set for the field that has the place, by the number of the rule, the size of the field in
-/// bytes, and the place in the field. Contracts see the three.
+/// The values of all rules of the set for the field that has the place, by the number of the rule,
+/// the size of the field in bytes, and the place in the field. Contracts see the three.
 #[derive(Drop)]
 pub(crate) struct Column {
     values: Vec<FieldValue>,
@@ -34,7 +34,8 @@ pub(crate) struct FieldPlace {
 /// The field of a place of the key, its size, and the place in the field.
 pub(crate) fn field_at(defs: &[FieldDef], place: usize) -> FieldPlace
     requires { place < key_len_of defs.now }
-    ensures at { record { field = result.field; size = result.size; place = result.place } ≡ field_at defs.now place }
+    ensures at { record { field = result.field; size = result.size; place = result.place }
+        ≡ field_at defs.now place }
     ensures field { result.field < length defs.now }
     ensures place { result.place < result.size }
 {
@@ -61,7 +62,8 @@ fn values_of_field(
 ) -> Result<Vec<FieldValue>, AllocError>
     requires layout { IsLayout rules.now.layout }
     requires field { field < length rules.now.layout }
-    ensures { IfOk result (λ values. values.items ≡ map (λ rule. slice_index_or rule.fields field (Mask 0 0)) rules.now.rules) }
+    ensures { IfOk result (λ values. values.items
+        ≡ map (λ rule. slice_index_or rule.fields field (Mask 0 0)) rules.now.rules) }
 {
     let mut values = Vec::with_capacity(alloc, rules.len())?;
     for i in 0..rules.len() {
@@ -86,9 +88,11 @@ impl Model for Column {
 }
 
 impl Column {
-    ghost use Rattle.std.specs.Prelude.{◌≡◌, ℕ, ◌<◌, ◌≤◌, ◌||◌, false, length, Some, None, slice_index_or, IfOk, IfSome};
+    ghost use Rattle.std.specs.Prelude.{◌≡◌, ℕ, ◌<◌, ◌≤◌, ◌||◌, false, length, Some, None};
+    ghost use Rattle.std.specs.Prelude.{slice_index_or, IfOk, IfSome};
     ghost use Rattle.field_defs.specs.Layout.{key_len_of};
-    ghost use Rattle.trie_merge.specs.Entry.{column_at, number_in, value_in, edge_before, entry_step, is_entry_cut, CanStep};
+    ghost use Rattle.trie_merge.specs.Entry.{column_at, number_in, value_in, edge_before};
+    ghost use Rattle.trie_merge.specs.Entry.{entry_step, is_entry_cut, CanStep};
 
     /// What the place of the key has of each rule.
     ///
@@ -142,7 +146,8 @@ impl Column {
     /// The entry after any byte, where every byte leaves the entry's rule all numbers of the field.
     pub(crate) fn step_free(&self, entry: u32) -> Option<u32>
         requires { CanStep self.now entry }
-        ensures { IfSome result (λ after. (byte : ℕ) → byte < 256 → entry_step self.now entry byte ≡ Some after) }
+        ensures { IfSome result (λ after. (byte : ℕ) → byte < 256
+            → entry_step self.now entry byte ≡ Some after) }
     {
         let number = number_in(entry);
         let edge = self.edge_before(entry);
@@ -159,7 +164,8 @@ impl Column {
         ensures ordered { result.0 ≤ result.1 }
         ensures last { result.1 < 256 }
         ensures below { (byte : ℕ) → byte < result.0 → entry_step self.now entry byte ≡ None }
-        ensures above { (byte : ℕ) → result.1 < byte → byte < 256 → entry_step self.now entry byte ≡ None }
+        ensures above { (byte : ℕ) → result.1 < byte → byte < 256
+            → entry_step self.now entry byte ≡ None }
     {
         let edge = self.edge_before(entry);
         first_and_last(self.value(entry), self.size, self.place, edge)
@@ -170,7 +176,8 @@ impl Column {
     pub(crate) fn mark(&self, entry: u32, marks: &mut [bool; 256])
         requires { CanStep self.now entry }
         ensures { (byte : ℕ) → byte < 256 →
-            slice_index_or marks.new byte false ≡ (is_entry_cut self.now entry byte || slice_index_or marks.old byte false) }
+            slice_index_or marks.new byte false
+            ≡ (is_entry_cut self.now entry byte || slice_index_or marks.old byte false) }
     {
         let edge = self.edge_before(entry);
         cuts(self.value(entry), self.size, self.place, edge, marks);

@@ -1,6 +1,7 @@
 //! What a state becomes after each byte of a place.
 
-ghost use Rattle.std.specs.Prelude.{◌≡◌, ℕ, ◌<◌, ◌≤◌, ◌||◌, ◌++◌, ◌∷◌, [], ◌⊎◌, filter, length, slice_index_or, false, All, OnOk, IfOk, option_to_list};
+ghost use Rattle.std.specs.Prelude.{◌≡◌, ℕ, ◌<◌, ◌≤◌, ◌||◌, ◌++◌, ◌∷◌, [], ◌⊎◌, filter, length};
+ghost use Rattle.std.specs.Prelude.{slice_index_or, false, All, OnOk, IfOk, option_to_list};
 ghost use Rattle.std.specs.List.{list_any};
 ghost use Rattle.trie_merge.specs.Entry.{entry_step, entries_step, is_entry_cut, CanStep};
 ghost use Rattle.trie_merge.specs.Found.{all_bytes};
@@ -20,7 +21,8 @@ pub(crate) fn mark_cuts(column: &Column, entries: &[u32], marks: &mut [bool; 256
     requires { All (CanStep column.now) entries.now }
     ensures { (byte : ℕ) → byte < 256 →
         slice_index_or marks.new byte false
-        ≡ (list_any (λ entry. is_entry_cut column.now entry byte) entries.now || slice_index_or marks.old byte false) }
+        ≡ (list_any (λ entry. is_entry_cut column.now entry byte) entries.now || slice_index_or
+        marks.old byte false) }
 {
     for entry in entries {
         column.mark(*entry, marks);
@@ -32,8 +34,10 @@ fn intervals_of(column: &Column, entries: &[u32]) -> Intervals
     requires { All (CanStep column.now) entries.now }
     ensures intervals { AreIntervals result.marks result.firsts result.of_bytes result.count }
     ensures marks { (byte : ℕ) → byte < 256 →
-        slice_index_or result.marks byte false ≡ list_any (λ entry. is_entry_cut column.now entry byte) entries.now }
-    ensures same { (one other : ℕ) → one < 256 → other < 256 → interval_at result.marks one ≡ interval_at result.marks other →
+        slice_index_or result.marks byte false
+        ≡ list_any (λ entry. is_entry_cut column.now entry byte) entries.now }
+    ensures same { (one other : ℕ) → one < 256 → other < 256
+        → interval_at result.marks one ≡ interval_at result.marks other →
         entries_step column.now entries.now one ≡ entries_step column.now entries.now other }
 {
     let mut marks = [false; 256];
@@ -56,7 +60,8 @@ fn hand_to_all(
     lists: &mut [SmallVec<u32, INLINE_ENTRIES, Global>],
 ) -> Result<(), AllocError>
     requires { count ≤ length lists.old }
-    ensures { OnOk result ((k : ℕ) → k < count → list_at lists.new k ≡ list_at lists.old k ++ after ∷ []) }
+    ensures { OnOk result ((k : ℕ) → k < count
+        → list_at lists.new k ≡ list_at lists.old k ++ after ∷ []) }
 {
     for k in 0..count {
         lists[k].push(after)?;
@@ -64,7 +69,8 @@ fn hand_to_all(
     Ok(())
 }
 
-/// Puts what one entry is after the first byte of each interval from one to another behind the interval's list.
+/// Puts what one entry is after the first byte of each interval from one to another behind the
+/// interval's list.
 fn hand_to_run(
     column: &Column,
     entry: u32,
@@ -78,8 +84,10 @@ fn hand_to_run(
     requires few { until ≤ 256 }
     requires lists { until ≤ length lists.old }
     ensures within { OnOk result ((k : ℕ) → from ≤ k → k < until →
-        list_at lists.new k ≡ list_at lists.old k ++ option_to_list (entry_step column.now entry (slice_index_or firsts.now k 0))) }
-    ensures outside { OnOk result ((k : ℕ) → k < from ⊎ until ≤ k → list_at lists.new k ≡ list_at lists.old k) }
+        list_at lists.new k ≡ list_at lists.old k ++ option_to_list
+        (entry_step column.now entry (slice_index_or firsts.now k 0))) }
+    ensures outside { OnOk result
+        ((k : ℕ) → k < from ⊎ until ≤ k → list_at lists.new k ≡ list_at lists.old k) }
 {
     for k in from..until {
         if let Some(after) = column.step(entry, firsts[k]) {
@@ -91,7 +99,8 @@ fn hand_to_run(
 
 /// Puts what one entry is after the first byte of each interval behind the interval's list.
 ///
-/// An entry that every byte leaves goes to all lists, and any other is asked only in the run of intervals that it can survive in.
+/// An entry that every byte leaves goes to all lists, and any other is asked only in the run of
+/// intervals that it can survive in.
 fn hand_out(
     column: &Column,
     entry: u32,
@@ -99,10 +108,12 @@ fn hand_out(
     lists: &mut [SmallVec<u32, INLINE_ENTRIES, Global>],
 ) -> Result<(), AllocError>
     requires entry { CanStep column.now entry }
-    requires intervals { AreIntervals intervals.now.marks intervals.now.firsts intervals.now.of_bytes intervals.now.count }
+    requires intervals { AreIntervals intervals.now.marks intervals.now.firsts
+        intervals.now.of_bytes intervals.now.count }
     requires lists { intervals.now.count ≤ length lists.old }
     ensures { OnOk result ((k : ℕ) → k < intervals.now.count →
-        list_at lists.new k ≡ list_at lists.old k ++ option_to_list (entry_step column.now entry (slice_index_or intervals.now.firsts k 0))) }
+        list_at lists.new k ≡ list_at lists.old k ++ option_to_list
+        (entry_step column.now entry (slice_index_or intervals.now.firsts k 0))) }
 {
     if let Some(after) = column.step_free(entry) {
         return hand_to_all(after, intervals.count, lists);
@@ -122,10 +133,12 @@ fn hand_out_all(
     lists: &mut [SmallVec<u32, INLINE_ENTRIES, Global>],
 ) -> Result<(), AllocError>
     requires entries { All (CanStep column.now) entries.now }
-    requires intervals { AreIntervals intervals.now.marks intervals.now.firsts intervals.now.of_bytes intervals.now.count }
+    requires intervals { AreIntervals intervals.now.marks intervals.now.firsts
+        intervals.now.of_bytes intervals.now.count }
     requires lists { intervals.now.count ≤ length lists.old }
     ensures { OnOk result ((k : ℕ) → k < intervals.now.count →
-        list_at lists.new k ≡ entries_step column.now entries.now (slice_index_or intervals.now.firsts k 0)) }
+        list_at lists.new k ≡ entries_step column.now entries.now
+        (slice_index_or intervals.now.firsts k 0)) }
 {
     for k in 0..intervals.count {
         lists[k].clear();
@@ -136,7 +149,8 @@ fn hand_out_all(
     Ok(())
 }
 
-/// Makes the lists those of the state's entries after each interval of bytes, and gives the intervals.
+/// Makes the lists those of the state's entries after each interval of bytes, and gives the
+/// intervals.
 pub(crate) fn fill_lists(
     column: &Column,
     entries: &[u32],
@@ -144,7 +158,8 @@ pub(crate) fn fill_lists(
 ) -> Result<Intervals, AllocError>
     requires entries { All (CanStep column.now) entries.now }
     requires lists { 256 ≤ length lists.old }
-    ensures intervals { IfOk result (λ its. AreIntervals its.marks its.firsts its.of_bytes its.count) }
+    ensures intervals { IfOk result
+        (λ its. AreIntervals its.marks its.firsts its.of_bytes its.count) }
     ensures some { IfOk result (λ its. (k : ℕ) → k < its.count →
         (first : ℕ) × (list_at lists.new k ≡ entries_step column.now entries.now first)) }
     ensures lists { IfOk result (λ its. (byte : ℕ) → byte < 256 →

@@ -1,6 +1,7 @@
 //! The input groups of a key that a trie keeps.
 
-ghost use Rattle.std.specs.Prelude.{◌≡◌, ◌==◌, ◌^◌, ◌<◌, ◌≤◌, ◌||◌, not, true, map, length, slice_index_or, All, IfOk};
+ghost use Rattle.std.specs.Prelude.{◌≡◌, ◌==◌, ◌^◌, ◌<◌, ◌≤◌, ◌||◌, not, true, map, length};
+ghost use Rattle.std.specs.Prelude.{slice_index_or, All, IfOk};
 ghost use Rattle.std.specs.List.{list_all, AllZip};
 ghost use Rattle.rule_set.specs.Lawful.{IsLawfulValue};
 ghost use Rattle.field_defs.specs.Layout.{key_len_of};
@@ -81,7 +82,8 @@ fn is_wild_place(rules: &RuleSet, group: &[u32], place: usize) -> bool
 /// Whether each place of a key is wild in all rules of the group.
 fn wild_places(alloc: Global, rules: &RuleSet, group: &[u32]) -> Result<Vec<bool>, AllocError>
     requires { All (λ number. number < length rules.now.rules) group.now }
-    ensures { IfOk result (λ wild. wild.items ≡ map (is_wild_place rules.now group.now) (key_places rules.now)) }
+    ensures { IfOk result (λ wild. wild.items
+        ≡ map (is_wild_place rules.now group.now) (key_places rules.now)) }
 {
     let mut wild = Vec::new(alloc);
     for place in 0..rules.layout().key_len() {

@@ -14,7 +14,8 @@ pub fn states_go_byte_by_byte()
     ensures { StatesGoByteByByte }
 {}
 
-/// The states of the next kept place are what those of a kept place reach, in order and without repeats.
+/// The states of the next kept place are what those of a kept place reach, in order and without
+/// repeats.
 pub fn next_states_are_reached()
     ensures { NextStatesAreReached }
 {}
@@ -24,7 +25,8 @@ pub fn idle_bytes_lead_to_one_state()
     ensures { IdleBytesLeadToOneState }
 {}
 
-/// For every key the runs lead to the row of the group's rules that match it, or to nothing where none does.
+/// For every key the runs lead to the row of the group's rules that match it, or to nothing where
+/// none does.
 pub fn runs_lead_to_the_row_of_the_matching_rules()
     ensures { RunsLeadToTheRowOfTheMatchingRules }
 {}

@@ -77,8 +77,8 @@ fn piece<'a>(runs: &'a [Run], ends: &[usize], k: usize) -> &'a [Run]
     piece
 }
 
-/// The merged states of a group of rules, kept place by kept place. Contracts see the kept groups, the group, the runs of each
-/// state at each place, the rows and the words.
+/// The merged states of a group of rules, kept place by kept place. Contracts see the kept groups,
+/// the group, the runs of each state at each place, the rows and the words.
 #[derive(Drop)]
 pub struct Levels {
     pub(crate) kept: u128,
@@ -93,7 +93,14 @@ impl Model for Levels {
 
     ghost Value = { LevelsView };
 
-    ghost view = { λ l. record { kept = l.kept; group = l.group.items; levels = l.levels.items; rows = l.rows.items; words = l.words } };
+    ghost view = { λ l. record {
+      kept = l.kept;
+      group = l.group.items;
+      levels = l.levels.items;
+      rows =
+          l.rows.items;
+      words = l.words;
+    } };
 }
 
 impl Levels {
@@ -120,7 +127,8 @@ impl Levels {
         self.levels.len()
     }
 
-    /// How many states there are at the kept place of that number, which is below [`Levels::depths`].
+    /// How many states there are at the kept place of that number, which is below
+    /// [`Levels::depths`].
     pub fn states(&self, depth: usize) -> usize
         requires { depth < length self.now.levels }
         ensures { result ≡ length (slice_index_or self.now.levels depth []) }
@@ -146,7 +154,8 @@ impl Levels {
         self.rows.len()
     }
 
-    /// The row of that number, which is below [`Levels::rows`]: for each category the winner's number plus 1, or 0 for none.
+    /// The row of that number, which is below [`Levels::rows`]: for each category the winner's
+    /// number plus 1, or 0 for none.
     pub fn row(&self, r: usize) -> &[u32; CATEGORIES]
         requires { r < length self.now.rows }
         ensures { result.now ≡ slice_index_or self.now.rows r [] }

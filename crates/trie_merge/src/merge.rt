@@ -1,10 +1,15 @@
-//! The states of one kept place, one after the other: their runs, their words, and the states or rows that they lead to.
+//! The states of one kept place, one after the other: their runs, their words, and the states or
+//! rows that they lead to.
 
-ghost use Rattle.std.specs.Prelude.{◌≡◌, ℕ, ◌<◌, ◌+◌, ◌*◌, ◌^◌, ◌≤◌, ◌++◌, ◌∷◌, [], List, length, map, fold, slice_index_or, take, All, OnOk, IfOk, IfSome, if◌then◌else◌};
+ghost use Rattle.std.specs.Prelude.{◌≡◌, ℕ, ◌<◌, ◌+◌, ◌*◌, ◌^◌, ◌≤◌, ◌++◌, ◌∷◌, [], List, length};
+ghost use Rattle.std.specs.Prelude.{map, fold, slice_index_or, take, All, OnOk, IfOk, IfSome};
+ghost use Rattle.std.specs.Prelude.{if◌then◌else◌};
 ghost use Rattle.trie_merge.specs.Entry.{number_in, CanStep};
 ghost use Rattle.trie_merge.specs.Found.{all_bytes};
 ghost use Rattle.trie_merge.specs.Levels.{cost_of, max_cap};
-ghost use Rattle.trie_merge.specs.Lists.{lists_of, list_at, lists_with, row_list, successor, state_runs, level_found, price, least_cost, least_words, CanCount, AllCanCount, IsMergedWithin};
+ghost use Rattle.trie_merge.specs.Lists.{lists_of, list_at, lists_with, row_list, successor};
+ghost use Rattle.trie_merge.specs.Lists.{state_runs, level_found, price, least_cost, least_words};
+ghost use Rattle.trie_merge.specs.Lists.{CanCount, AllCanCount, IsMergedWithin};
 ghost use Rattle.trie_merge.specs.Pieces.{pieces_of, IsPieces};
 
 use crate::column::Column;
@@ -37,9 +42,11 @@ fn make_successors(
     lists: &mut [SmallVec<u32, INLINE_ENTRIES, Global>],
 ) -> Result<(), AllocError>
     requires count { count ≤ length lists.old }
-    requires numbers { (k : ℕ) → k < count → All (λ entry. number_in entry < length rules.now.rules) (list_at lists.old k) }
+    requires numbers { (k : ℕ) → k < count
+        → All (λ entry. number_in entry < length rules.now.rules) (list_at lists.old k) }
     ensures { OnOk result ((k : ℕ) → k < count →
-        list_at lists.new k ≡ (if is_last then row_list rules.now (list_at lists.old k) else list_at lists.old k)) }
+        list_at lists.new k ≡ (if is_last then row_list rules.now (list_at lists.old k) else list_at
+        lists.old k)) }
 {
     if is_last {
         make_rows(rules, count, lists)?;
@@ -63,9 +70,11 @@ fn expand_state(
     requires lists { 256 ≤ length lists.old }
     requires room { length found.old.keys + 256 < 2 ^ 32 }
     ensures found { OnOk result (lists_of found.new.keys
-        ≡ fold lists_with (lists_of found.old.keys) (map (successor rules.now column.now is_last entries.now) all_bytes)) }
+        ≡ fold lists_with (lists_of found.old.keys)
+        (map (successor rules.now column.now is_last entries.now) all_bytes)) }
     ensures runs { OnOk result ((more : List (List ℕ)) → runs.new.items
-        ≡ runs.old.items ++ state_runs rules.now column.now is_last (lists_of found.new.keys ++ more) entries.now) }
+        ≡ runs.old.items ++ state_runs rules.now column.now is_last
+        (lists_of found.new.keys ++ more) entries.now) }
 {
     let intervals = fill_lists(column, entries, lists)?;
     make_successors(rules, is_last, intervals.count, lists)?;
@@ -97,14 +106,17 @@ fn merge_state(
     requires room { length found.old.keys + 256 < 2 ^ 32 }
     requires pieces { IsPieces 0 pieces.old.ends.items (length pieces.old.runs.items) }
     ensures found { OnOk result (lists_of found.new.keys
-        ≡ fold lists_with (lists_of found.old.keys) (map (successor rules.now column.now is_last entries.now) all_bytes)) }
+        ≡ fold lists_with (lists_of found.old.keys)
+        (map (successor rules.now column.now is_last entries.now) all_bytes)) }
     ensures runs { OnOk result ((more : List (List ℕ)) →
         pieces_of pieces.new.runs.items 0 pieces.new.ends.items
         ≡ pieces_of pieces.old.runs.items 0 pieces.old.ends.items
-        ++ state_runs rules.now column.now is_last (lists_of found.new.keys ++ more) entries.now ∷ []) }
+        ++ state_runs rules.now column.now is_last (lists_of found.new.keys ++ more) entries.now
+        ∷ []) }
     ensures pieces { OnOk result (IsPieces 0 pieces.new.ends.items (length pieces.new.runs.items)) }
     ensures words { IfOk result (λ words. (more : List (List ℕ)) →
-        words ≡ cost_of (length (state_runs rules.now column.now is_last (lists_of found.new.keys ++ more) entries.now))) }
+        words ≡ cost_of (length (state_runs rules.now column.now is_last
+        (lists_of found.new.keys ++ more) entries.now))) }
     ensures some { IfOk result (λ words. (0 < words) × (words ≤ 256)) }
 {
     let start = pieces.runs.len();
@@ -142,7 +154,8 @@ pub(crate) struct Place {
     pub(crate) column: Column,
     /// Whether it is the last one.
     pub(crate) is_last: bool,
-    /// The kept place behind it, where that isn't the last one: there a state's words are known when it is found.
+    /// The kept place behind it, where that isn't the last one: there a state's words are known
+    /// when it is found.
     pub(crate) next: Option<Column>,
 }
 
@@ -164,7 +177,8 @@ fn price_all(place: &Place, found: &[SmallVec<u32, INLINE_ENTRIES, Global>], see
     requires lists { AllCanCount place.now.next (lists_of found.now) }
     requires seen { seen ≤ length found.now }
     requires few { length found.now ≤ seen + 256 }
-    ensures price { least_cost place.now.next place.now.is_last (lists_of (take seen found.now)) + result
+    ensures price { least_cost place.now.next place.now.is_last (lists_of (take seen found.now))
+        + result
         ≡ least_cost place.now.next place.now.is_last (lists_of found.now) }
     ensures bound { result ≤ 65536 }
 {
@@ -188,16 +202,22 @@ pub(crate) fn merge_states(
     lists: &mut [SmallVec<u32, INLINE_ENTRIES, Global>],
 ) -> Result<Merged, MergeFault>
     requires states { All (λ state. All (CanStep place.now.column) state.items) states.now }
-    requires next { AllCanCount place.now.next (level_found rules.now place.now.column place.now.is_last (lists_of states.now)) }
+    requires next { AllCanCount place.now.next
+        (level_found rules.now place.now.column place.now.is_last (lists_of states.now)) }
     requires rules { length place.now.column.values ≡ length rules.now.rules }
     requires lists { 256 ≤ length lists.old }
     requires cap { cap ≤ max_cap }
     requires before { before ≤ cap }
-    ensures merged { IfOk result (λ merged. IsMergedWithin rules.now place.now.column place.now.next place.now.is_last cap before
-        (lists_of states.now) (pieces_of merged.pieces.runs.items 0 merged.pieces.ends.items) (lists_of merged.found.keys) merged.words) }
-    ensures pieces { IfOk result (λ merged. IsPieces 0 merged.pieces.ends.items (length merged.pieces.runs.items)) }
+    ensures merged { IfOk result
+        (λ merged. IsMergedWithin rules.now place.now.column place.now.next place.now.is_last cap
+        before
+        (lists_of states.now) (pieces_of merged.pieces.runs.items 0 merged.pieces.ends.items)
+        (lists_of merged.found.keys) merged.words) }
+    ensures pieces { IfOk result
+        (λ merged. IsPieces 0 merged.pieces.ends.items (length merged.pieces.runs.items)) }
     ensures over { (result ≡ Err MergeFault.OverCap) →
-        cap < least_words rules.now place.now.column place.now.next place.now.is_last before (lists_of states.now) }
+        cap < least_words rules.now place.now.column place.now.next place.now.is_last before
+        (lists_of states.now) }
 {
     let mut pieces = Pieces {
         runs: Vec::new(alloc),

@@ -1,6 +1,7 @@
 //! Numbers of states and rows, in the order in which they are found.
 
-ghost use Rattle.std.specs.Prelude.{◌≡◌, ℕ, ◌<◌, ◌≤◌, ◌+◌, ◌^◌, ◌++◌, List, length, map, fold, OnOk, IfOk};
+ghost use Rattle.std.specs.Prelude.{◌≡◌, ℕ, ◌<◌, ◌≤◌, ◌+◌, ◌^◌, ◌++◌, List, length, map, fold};
+ghost use Rattle.std.specs.Prelude.{OnOk, IfOk};
 ghost use Rattle.std.specs.List.{position_or_len};
 ghost use Rattle.std.specs.Str.{bytes_eq};
 ghost use Rattle.indexmap.specs.IndexSet.{insert_key};
@@ -24,8 +25,10 @@ fn reach(
     found: &mut IndexSet<SmallVec<u32, INLINE_ENTRIES, Global>>,
 ) -> Result<Succ, AllocError>
     requires { length found.old.keys + 1 < 2 ^ 32 }
-    ensures found { OnOk result (lists_of found.new.keys ≡ lists_with (lists_of found.old.keys) list.now.items) }
-    ensures succ { IfOk result (λ succ. succ ≡ succ_in is_last (lists_of found.new.keys) list.now.items) }
+    ensures found { OnOk result
+        (lists_of found.new.keys ≡ lists_with (lists_of found.old.keys) list.now.items) }
+    ensures succ { IfOk result
+        (λ succ. succ ≡ succ_in is_last (lists_of found.new.keys) list.now.items) }
 {
     if list.is_empty() {
         return Ok(Succ::Dead);
@@ -45,8 +48,10 @@ fn number_of(
     found: &mut IndexSet<SmallVec<u32, INLINE_ENTRIES, Global>>,
 ) -> Result<u32, AllocError>
     requires { length found.old.keys + 1 < 2 ^ 32 }
-    ensures found { OnOk result (lists_of found.new.keys ≡ insert_key bytes_eq (lists_of found.old.keys) list.now.items) }
-    ensures number { IfOk result (λ number. number ≡ position_or_len (bytes_eq list.now.items) (lists_of found.new.keys)) }
+    ensures found { OnOk result
+        (lists_of found.new.keys ≡ insert_key bytes_eq (lists_of found.old.keys) list.now.items) }
+    ensures number { IfOk result
+        (λ number. number ≡ position_or_len (bytes_eq list.now.items) (lists_of found.new.keys)) }
 {
     if let Some(number) = found.get_index_of(list) {
         return Ok(number as u32);
@@ -56,7 +61,8 @@ fn number_of(
     Ok(number as u32)
 }
 
-/// Numbers what the intervals lead to, in order, and puts the runs of bytes with one successor behind the others.
+/// Numbers what the intervals lead to, in order, and puts the runs of bytes with one successor
+/// behind the others.
 ///
 /// Intervals that lead to one successor are one run.
 pub(crate) fn join_runs(
@@ -68,12 +74,15 @@ pub(crate) fn join_runs(
     runs: &mut Vec<Run>,
 ) -> Result<(), AllocError>
     requires room { length found.old.keys + 256 < 2 ^ 32 }
-    requires intervals { AreIntervals intervals.now.marks intervals.now.firsts intervals.now.of_bytes intervals.now.count }
+    requires intervals { AreIntervals intervals.now.marks intervals.now.firsts
+        intervals.now.of_bytes intervals.now.count }
     requires lists { intervals.now.count ≤ length lists.now }
     ensures found { OnOk result (lists_of found.new.keys
-        ≡ fold lists_with (lists_of found.old.keys) (map (list_of_byte intervals.now.marks lists.now) all_bytes)) }
+        ≡ fold lists_with (lists_of found.old.keys)
+        (map (list_of_byte intervals.now.marks lists.now) all_bytes)) }
     ensures runs { OnOk result ((more : List (List ℕ)) → runs.new.items ≡ runs.old.items
-        ++ runs_of (λ byte. succ_in is_last (lists_of found.new.keys ++ more) (list_of_byte intervals.now.marks lists.now byte))) }
+        ++ runs_of (λ byte. succ_in is_last (lists_of found.new.keys ++ more)
+        (list_of_byte intervals.now.marks lists.now byte))) }
 {
     let mut succ = reach(alloc, is_last, &lists[0], found)?;
     for k in 1..intervals.count {

@@ -1,4 +1,5 @@
-//! Merged states worked out anew, byte by byte and by arithmetic on intervals alone, against those that were built.
+//! Merged states worked out anew, byte by byte and by arithmetic on intervals alone, against those
+//! that were built.
 
 ghost use Rattle.std.specs.Prelude.{◌<◌};
 
@@ -7,8 +8,8 @@ use std::alloc::{AllocError, Global};
 use std::process::Abort;
 use std::test::Fail;
 
-/// A rule of five fields: the value and the mask of the protocol, the value and the bits of each address, and the first and
-/// the last number of each port.
+/// A rule of five fields: the value and the mask of the protocol, the value and the bits of each
+/// address, and the first and the last number of each port.
 pub(crate) type Row = [(u64, u64); 5];
 
 /// A rule, its category mask and its priority.

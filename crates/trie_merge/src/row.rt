@@ -1,6 +1,7 @@
 //! The row at the end of a key: for each category the rule that wins.
 
-ghost use Rattle.std.specs.Prelude.{◌≡◌, ℕ, ◌+◌, ◌<◌, ◌≤◌, ◌^◌, Some, None, slice_index_or, length, map, All, OnOk, if◌then◌else◌};
+ghost use Rattle.std.specs.Prelude.{◌≡◌, ℕ, ◌+◌, ◌<◌, ◌≤◌, ◌^◌, Some, None, slice_index_or, length};
+ghost use Rattle.std.specs.Prelude.{map, All, OnOk, if◌then◌else◌};
 ghost use Rattle.trie_merge.specs.Entry.{number_in};
 ghost use Rattle.trie_merge.specs.Row.{is_better, row_of};
 ghost use Rattle.trie_merge.specs.Lists.{list_at, row_list};
@@ -14,7 +15,8 @@ use std::alloc::{AllocError, Global};
 /// How many categories there are.
 pub(crate) const CATEGORIES: usize = 16;
 
-/// Whether the rule of the tag takes part in the category and has a greater priority than the best so far, if there is one.
+/// Whether the rule of the tag takes part in the category and has a greater priority than the best
+/// so far, if there is one.
 fn is_better(tag: &RuleTag, best: &Option<RuleTag>, category: u32) -> bool
     requires { category < 16 }
     ensures { result ≡ is_better tag.now best.now category }
@@ -49,7 +51,8 @@ fn name_rule(
     }
 }
 
-/// The row of the entries after a whole key: for each category the winner's number plus 1, or 0 for none.
+/// The row of the entries after a whole key: for each category the winner's number plus 1, or 0 for
+/// none.
 fn row_of(rules: &RuleSet, entries: &[u32]) -> [u32; CATEGORIES]
     requires { All (λ entry. number_in entry < length rules.now.rules) entries.now }
     ensures { result ≡ row_of rules.now (map number_in entries.now) }
@@ -87,8 +90,10 @@ pub(crate) fn make_rows(
     lists: &mut [SmallVec<u32, INLINE_ENTRIES, Global>],
 ) -> Result<(), AllocError>
     requires count { count ≤ length lists.old }
-    requires numbers { (k : ℕ) → k < count → All (λ entry. number_in entry < length rules.now.rules) (list_at lists.old k) }
-    ensures { OnOk result ((k : ℕ) → k < count → list_at lists.new k ≡ row_list rules.now (list_at lists.old k)) }
+    requires numbers { (k : ℕ) → k < count
+        → All (λ entry. number_in entry < length rules.now.rules) (list_at lists.old k) }
+    ensures { OnOk result ((k : ℕ) → k < count
+        → list_at lists.new k ≡ row_list rules.now (list_at lists.old k)) }
 {
     for k in 0..count {
         make_row(rules, &mut lists[k])?;

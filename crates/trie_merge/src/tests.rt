@@ -106,7 +106,8 @@ fn words_are_counted_to_the_cap(rt: HostRuntime) -> Result<(), Fail> {
     Ok(())
 }
 
-/// Rules of all kinds: whole and partial masks, ranges, wild fields, categories, and priorities that rise and fall.
+/// Rules of all kinds: whole and partial masks, ranges, wild fields, categories, and priorities
+/// that rise and fall.
 const RULES: [PlainRule; 7] = [
     PlainRule {
         row: [(6, 255), (0x0A00_0000, 8), (0, 0), (0, 65535), (80, 80)],

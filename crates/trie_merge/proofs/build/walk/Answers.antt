@@ -7,7 +7,8 @@ use Rattle.trie_merge.specs.Lists.{level_found, AllCanCount}
 use Rattle.trie_merge.specs.Levels.{levels_of}
 use Rattle.trie_merge.specs.Walk.{next_of}
 use Rattle.trie_merge.proofs.PackedState.{length-column}
-use Rattle.trie_merge.proofs.Walk.{group_held, numbers_rise, walk_start, place_inside, states_can_step, found_can_count, walk_on, walk_over, walk_end}
+use Rattle.trie_merge.proofs.Walk.{group_held, numbers_rise, walk_start, place_inside, states_can_step, found_can_count}
+use Rattle.trie_merge.proofs.Walk.{walk_on, walk_over, walk_end}
 use Rattle.trie_merge.proofs.build.walk.Goals as goal
 
 pub loop-j-init : goal.loop-j-init
@@ -16,7 +17,8 @@ loop-j-init c =
     let group = c.args.group.now in
     let its = c.requires.group in
     rw c.new-levels.ensures.items
-    (walk_start set group (group_held set group its.rules its.layout its.group.within) its.group.some (short_keys set.layout its.layout).0
+    (walk_start set group (group_held set group its.rules its.layout its.group.within) its.group.some
+    (short_keys set.layout its.layout).0
     c.args.cap c.args.start.keys c.requires.start)
 
 pub place_at-requires-clause-places : goal.place_at-requires-clause-places
@@ -25,7 +27,8 @@ place_at-requires-clause-places c = λ k below.
     let group = c.args.group.now in
     let its = c.requires.group in
     rw c.requires.places
-    (place_inside set group (group_held set group its.rules its.layout its.group.within) its.group.some (short_keys set.layout its.layout).0
+    (place_inside set group (group_held set group its.rules its.layout its.group.within) its.group.some
+    (short_keys set.layout its.layout).0
     k (rw (← c.requires.places) below))
 
 pub merge_states-requires-clause-states : goal.merge_states-requires-clause-states
@@ -35,7 +38,8 @@ merge_states-requires-clause-states c =
     let its = c.requires.group in
     let below : c.loop-j.j < length (kept_places set group) = rw (← c.requires.places) c.loop-j-test.true in
     rw (c.as_slice-states.ensures.keys, c.in-Ok.ensures.column, c.requires.places)
-    (states_can_step set group (group_held set group its.rules its.layout its.group.within) its.group.some (short_keys set.layout its.layout).0
+    (states_can_step set group (group_held set group its.rules its.layout its.group.within) its.group.some
+    (short_keys set.layout its.layout).0
     c.args.cap c.loop-j.j c.loop-j.levels.items c.loop-j.found.keys c.loop-j.words c.loop-j.invariant below)
 
 pub merge_states-requires-clause-next : goal.merge_states-requires-clause-next
@@ -45,10 +49,18 @@ merge_states-requires-clause-next c =
     let its = c.requires.group in
     let below : c.loop-j.j < length (kept_places set group) = rw (← c.requires.places) c.loop-j-test.true in
     let states = c.loop-j.invariant.states below in
-    rw (c.as_slice-states.ensures.keys, c.in-Ok.ensures.column, c.in-Ok.ensures.next, c.in-Ok.ensures.is_last, c.requires.places)
+    rw (
+      c.as_slice-states.ensures.keys,
+      c.in-Ok.ensures.column,
+      c.in-Ok.ensures.next,
+      c.in-Ok.ensures.is_last,
+      c.requires.places,
+    )
     (subst (λ s. AllCanCount (next_of set (kept_places set group) c.loop-j.j)
-    (level_found set (column_at set (get_or (kept_places set group) c.loop-j.j 0)) (c.loop-j.j + 1 == length (kept_places set group)) s)) (sym states)
-    (found_can_count set group (group_held set group its.rules its.layout its.group.within) its.group.some (short_keys set.layout its.layout).0
+    (level_found set (column_at set (get_or (kept_places set group) c.loop-j.j 0))
+    (c.loop-j.j + 1 == length (kept_places set group)) s)) (sym states)
+    (found_can_count set group (group_held set group its.rules its.layout its.group.within) its.group.some
+    (short_keys set.layout its.layout).0
     c.loop-j.j below (numbers_rise group its.group.ascending)))
 
 pub merge_states-requires-clause-rules : goal.merge_states-requires-clause-rules
@@ -61,19 +73,29 @@ loop-j-preserved c =
     let group = c.args.group.now in
     let its = c.requires.group in
     let below : c.loop-j.j < length (kept_places set group) = rw (← c.requires.places) c.loop-j-test.true in
-    let merged = rw (c.as_slice-states.ensures.keys, c.in-Ok.ensures.column, c.in-Ok.ensures.next, c.in-Ok.ensures.is_last, c.requires.places) at
+    let merged = rw (
+      c.as_slice-states.ensures.keys,
+      c.in-Ok.ensures.column,
+      c.in-Ok.ensures.next,
+      c.in-Ok.ensures.is_last,
+      c.requires.places,
+    ) at
     c.in-Ok-merge_states.ensures.merged in
     rw c.in_ok-push_level.ensures.level
-    (walk_on set group (group_held set group its.rules its.layout its.group.within) its.group.some (short_keys set.layout its.layout).0
-    c.args.cap c.loop-j.j c.loop-j.levels.items c.loop-j.found.keys c.loop-j.words c.loop-j.invariant below _ _ _ merged)
+    (walk_on set group (group_held set group its.rules its.layout its.group.within) its.group.some
+    (short_keys set.layout its.layout).0
+    c.args.cap c.loop-j.j c.loop-j.levels.items c.loop-j.found.keys c.loop-j.words c.loop-j.invariant below _ _ _
+    merged)
 
 pub returns-clause-walked : goal.returns-clause-walked
 returns-clause-walked c =
     let set = c.args.rules.now in
     let group = c.args.group.now in
     let its = c.requires.group in
-    walk_end set group (group_held set group its.rules its.layout its.group.within) its.group.some (short_keys set.layout its.layout).0
-    c.args.cap c.loop-j.j c.loop-j.levels.items c.loop-j.found.keys c.loop-j.words c.loop-j.invariant (rw (← c.requires.places) c.loop-j-test.false)
+    walk_end set group (group_held set group its.rules its.layout its.group.within) its.group.some
+    (short_keys set.layout its.layout).0
+    c.args.cap c.loop-j.j c.loop-j.levels.items c.loop-j.found.keys c.loop-j.words c.loop-j.invariant
+    (rw (← c.requires.places) c.loop-j-test.false)
 
 pub returns-in-Err-clause-over : goal.returns-in-Err-clause-over
 unfolding levels_of
@@ -83,7 +105,14 @@ returns-in-Err-clause-over c = λ over.
     let its = c.requires.group in
     let below : c.loop-j.j < length (kept_places set group) = rw (← c.requires.places) c.loop-j-test.true in
     let is : c.in-Err.fault ≡ OverCap = cc in
-    let past = rw (c.as_slice-states.ensures.keys, c.in-Ok.ensures.column, c.in-Ok.ensures.next, c.in-Ok.ensures.is_last, c.requires.places) at
+    let past = rw (
+      c.as_slice-states.ensures.keys,
+      c.in-Ok.ensures.column,
+      c.in-Ok.ensures.next,
+      c.in-Ok.ensures.is_last,
+      c.requires.places,
+    ) at
     (c.in-Err.ensures.over (ap Err is)) in
-    walk_over set group (group_held set group its.rules its.layout its.group.within) its.group.some (short_keys set.layout its.layout).0
+    walk_over set group (group_held set group its.rules its.layout its.group.within) its.group.some
+    (short_keys set.layout its.layout).0
     c.args.cap c.loop-j.j c.loop-j.levels.items c.loop-j.found.keys c.loop-j.words c.loop-j.invariant below past

@@ -6,4 +6,6 @@ use Rattle.trie_merge.proofs.column.field_at.Given as goal
 abbrev pub invariant-loop-field : goal.invariant-loop-field
 invariant-loop-field l =
     (l.left < key_len_of (drop l.field l.defs))
-    × (field_at l.defs l.place ≡ record (field_at (drop l.field l.defs) l.left) { field = (field_at (drop l.field l.defs) l.left).field + l.field })
+    × (field_at l.defs l.place
+    ≡ record (field_at (drop l.field l.defs) l.left)
+    { field = (field_at (drop l.field l.defs) l.left).field + l.field })

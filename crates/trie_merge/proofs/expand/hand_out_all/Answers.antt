@@ -8,7 +8,8 @@ pub loop-k-preserved : goal.loop-k-preserved
 loop-k-preserved c = λ k below. elim (cases_eq k c.loop-k.k) [
   | inl e ↦ rw (e, list_at-set_same c.loop-k.lists c.loop-k.k c.clear.new.self (omega arith)) c.clear.ensures.items
   | inr other ↦
-      rw (list_at-set_other c.loop-k.lists c.loop-k.k k c.clear.new.self other) (c.loop-k.invariant k (omega (arith, other)))
+      rw (list_at-set_other c.loop-k.lists c.loop-k.k k c.clear.new.self other)
+      (c.loop-k.invariant k (omega (arith, other)))
 ]
 
 pub loop-entry-init : goal.loop-entry-init
@@ -18,7 +19,8 @@ pub loop-entry-preserved : goal.loop-entry-preserved
 loop-entry-preserved c = λ k below.
     c.in_ok-hand_out.ensures k below
     ∙ ap (λ (list : List ℕ). list ++ option_to_list
-    (entry_step c.args.column.now (get_or c.args.entries.now c.loop-entry.entry-index 0) (get_or c.args.intervals.now.firsts k 0)))
+    (entry_step c.args.column.now (get_or c.args.entries.now c.loop-entry.entry-index 0)
+    (get_or c.args.intervals.now.firsts k 0)))
     (c.loop-entry.invariant k below)
     ∙ sym (entries_step_more c.args.column.now c.args.entries.now c.loop-entry.entry-index 0
     (get_or c.args.intervals.now.firsts k 0) (omega arith))

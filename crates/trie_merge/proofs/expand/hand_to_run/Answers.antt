@@ -6,18 +6,22 @@ use Rattle.trie_merge.proofs.expand.hand_to_run.Goals.{in-Some+in_ok-push, in_de
 
 pub loop-k-init : goal.loop-k-init
 loop-k-init c =
-    none_handed (λ k. entry_step c.args.column.now c.args.entry (get_or c.args.firsts.now k 0)) c.args.from c.args.lists.now
+    none_handed (λ k. entry_step c.args.column.now c.args.entry (get_or c.args.firsts.now k 0)) c.args.from
+    c.args.lists.now
 
 pub loop-k-preserved : goal.loop-k-preserved
 loop-k-preserved c =
     elim c.match-step.branch [
       | in-Some+in_ok-push w ↦
           rw w.lists-is
-          (handed_some (λ k. entry_step c.args.column.now c.args.entry (get_or c.args.firsts.now k 0)) c.args.from c.args.lists.now
-          c.loop-k.lists c.loop-k.k (omega arith) c.loop-k.invariant w.index-lists-k.result w.push.new.self w.in-Some.after
+          (handed_some (λ k. entry_step c.args.column.now c.args.entry (get_or c.args.firsts.now k 0)) c.args.from
+          c.args.lists.now
+          c.loop-k.lists c.loop-k.k (omega arith) c.loop-k.invariant w.index-lists-k.result w.push.new.self
+          w.in-Some.after
           (omega arith) w.index-lists-k.is w.in_ok-push.ensures.ok w.in-Some.ensures)
       | in_default w ↦
           rw w.lists-is
-          (handed_none (λ k. entry_step c.args.column.now c.args.entry (get_or c.args.firsts.now k 0)) c.args.from c.args.lists.now
+          (handed_none (λ k. entry_step c.args.column.now c.args.entry (get_or c.args.firsts.now k 0)) c.args.from
+          c.args.lists.now
           c.loop-k.lists c.loop-k.k (omega arith) c.loop-k.invariant w.in_default.ensures)
     ]

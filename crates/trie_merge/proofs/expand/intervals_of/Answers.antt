@@ -13,7 +13,8 @@ returns c =
     let marks = c.mark_cuts.new.marks in
     let cuts : AreCuts column entries marks = λ byte below.
     c.mark_cuts.ensures byte below
-    ∙ ap (λ b. list_any (λ entry. is_entry_cut column entry byte) entries || b) (get_or-replicate 256 byte false false below)
+    ∙ ap (λ b. list_any (λ entry. is_entry_cut column entry byte) entries || b)
+    (get_or-replicate 256 byte false false below)
     ∙ or-false (list_any (λ entry. is_entry_cut column entry byte) entries) in
     record {
       intervals = rw c.new.ensures.marks c.new.ensures.intervals;

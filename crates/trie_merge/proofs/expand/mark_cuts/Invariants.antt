@@ -7,4 +7,5 @@ abbrev pub invariant-loop-entry : goal.invariant-loop-entry
 invariant-loop-entry l =
     (byte : ℕ) → byte < 256 →
     slice_index_or l.marks byte false
-    ≡ (list_any (λ entry. is_entry_cut l.column entry byte) (take l.entry-index l.entries) || slice_index_or l.fn.marks byte false)
+    ≡ (list_any (λ entry. is_entry_cut l.column entry byte) (take l.entry-index l.entries) || slice_index_or l.fn.marks
+    byte false)

@@ -9,12 +9,14 @@ pub returns-then-not-decides_nothing : goal.returns-then-not-decides_nothing
 unfolding is_idle_by
 returns-then-not-decides_nothing c =
     let test : ℕ → Bool = λ place. not (group_of place == c.args.input) || get_or c.args.wild.now place true in
-    sym (not_all_numbers test (length c.args.wild.now) c.loop-place.place (omega arith) (sym c.decides_nothing.ensures ∙ c.if-not-decides_nothing.true))
+    sym (not_all_numbers test (length c.args.wild.now) c.loop-place.place (omega arith)
+    (sym c.decides_nothing.ensures ∙ c.if-not-decides_nothing.true))
 
 pub loop-place-preserved : goal.loop-place-preserved
 loop-place-preserved c =
     let test : ℕ → Bool = λ place. not (group_of place == c.args.input) || get_or c.args.wild.now place true in
-    all_more_numbers test c.loop-place.place c.loop-place.invariant (sym c.decides_nothing.ensures ∙ c.if-not-decides_nothing.false)
+    all_more_numbers test c.loop-place.place c.loop-place.invariant
+    (sym c.decides_nothing.ensures ∙ c.if-not-decides_nothing.false)
 
 pub returns : goal.returns
 unfolding is_idle_by

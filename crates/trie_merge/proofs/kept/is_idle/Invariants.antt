@@ -4,4 +4,5 @@ use Rattle.trie_merge.specs.Kept.{group_of}
 use Rattle.trie_merge.proofs.kept.is_idle.Given as goal
 
 abbrev pub invariant-loop-place : goal.invariant-loop-place
-invariant-loop-place l = list_all (λ place. not (group_of place == l.input) || get_or l.wild place true) (range_with_len 0 l.place) ≡ true
+invariant-loop-place l = list_all (λ place. not (group_of place == l.input) || get_or l.wild place true)
+    (range_with_len 0 l.place) ≡ true

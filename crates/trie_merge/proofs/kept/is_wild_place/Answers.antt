@@ -16,7 +16,8 @@ pub is_wild_at-requires-clause-values : goal.is_wild_at-requires-clause-values
 is_wild_at-requires-clause-values c =
     let layout : IsLayout c.args.rules.now.layout = rw c.layout.ensures at c.fields-defs.ensures.lawful in
     let rule = c.at.result.now in
-    rw (c.fields-defs.ensures.fields, c.layout.ensures) ((faultless_rules c.args.rules.now.layout rule.tag rule.fields layout).0 c.at.ensures.lawful).values
+    rw (c.fields-defs.ensures.fields, c.layout.ensures)
+    ((faultless_rules c.args.rules.now.layout rule.tag rule.fields layout).0 c.at.ensures.lawful).values
 
 pub returns-then-not-is_wild_at : goal.returns-then-not-is_wild_at
 unfolding is_wild_place
@@ -26,7 +27,8 @@ returns-then-not-is_wild_at c =
     let number : ℕ = get_or c.args.group.now c.loop-number.number-index 0 in
     let fails : test number ≡ false =
     ap (λ values. is_wild_at set.layout values c.args.place) (values_there set number c.at.result.now c.at.ensures.rule)
-    ∙ ap (λ defs. is_wild_at defs c.at.result.now.fields c.args.place) (sym (c.fields-defs.ensures.fields ∙ c.layout.ensures))
+    ∙ ap (λ defs. is_wild_at defs c.at.result.now.fields c.args.place)
+    (sym (c.fields-defs.ensures.fields ∙ c.layout.ensures))
     ∙ sym c.is_wild_at.ensures ∙ c.if-not-is_wild_at.true in
     sym (list_all_at test c.args.group.now c.loop-number.number-index 0 (omega arith) fails)
 
@@ -38,10 +40,13 @@ loop-number-preserved c =
     let number : ℕ = get_or c.args.group.now c.loop-number.number-index 0 in
     let holds : test number ≡ true =
     ap (λ values. is_wild_at set.layout values c.args.place) (values_there set number c.at.result.now c.at.ensures.rule)
-    ∙ ap (λ defs. is_wild_at defs c.at.result.now.fields c.args.place) (sym (c.fields-defs.ensures.fields ∙ c.layout.ensures))
+    ∙ ap (λ defs. is_wild_at defs c.at.result.now.fields c.args.place)
+    (sym (c.fields-defs.ensures.fields ∙ c.layout.ensures))
     ∙ sym c.is_wild_at.ensures ∙ c.if-not-is_wild_at.false in
-    list_all_more test c.args.group.now c.loop-number.number-index 0 (omega arith) ∙ (λ i. c.loop-number.invariant i && holds i)
+    list_all_more test c.args.group.now c.loop-number.number-index 0 (omega arith)
+    ∙ (λ i. c.loop-number.invariant i && holds i)
 
 pub returns : goal.returns
 returns c =
-    sym (ap (λ (group : List ℕ). is_wild_place c.args.rules.now group c.args.place) (sym (take_all c.loop-number.number-index c.args.group.now (omega arith))) ∙ c.loop-number.invariant)
+    sym (ap (λ (group : List ℕ). is_wild_place c.args.rules.now group c.args.place)
+    (sym (take_all c.loop-number.number-index c.args.group.now (omega arith))) ∙ c.loop-number.invariant)

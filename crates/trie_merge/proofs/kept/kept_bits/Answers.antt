@@ -23,13 +23,16 @@ loop-input-preserved c =
       | then-is_kept w ↦ rw w.bits-is (
         (let more = filter_more_yes test c.loop-input.input (sym c.is_kept.ensures ∙ w.if-is_kept.true) in
             let sum = ap (sum_by (λ input. 2 ^ input)) more
-            ∙ sum_by-append (λ input. 2 ^ input) (filter test (range_with_len 0 c.loop-input.input)) (c.loop-input.input ∷ [])
-            ∙ ap (λ n. sum_by (λ input. 2 ^ input) (filter test (range_with_len 0 c.loop-input.input)) + n) (sum_by-cons (λ input. 2 ^ input) c.loop-input.input []) in
+            ∙ sum_by-append (λ input. 2 ^ input) (filter test (range_with_len 0 c.loop-input.input))
+            (c.loop-input.input ∷ [])
+            ∙ ap (λ n. sum_by (λ input. 2 ^ input) (filter test (range_with_len 0 c.loop-input.input)) + n)
+            (sum_by-cons (λ input. 2 ^ input) c.loop-input.input []) in
             omega (arith, sum, c.loop-input.invariant.0, w.bit-bits.ensures)),
         omega (arith, twice, c.loop-input.invariant.1, w.bit-bits.ensures),
       )
       | else-is_kept w ↦ rw w.bits-is (
-        c.loop-input.invariant.0 ∙ ap (sum_by (λ input. 2 ^ input)) (sym (filter_more_no test c.loop-input.input (sym c.is_kept.ensures ∙ w.if-is_kept.false))),
+        c.loop-input.invariant.0 ∙ ap (sum_by (λ input. 2 ^ input))
+            (sym (filter_more_no test c.loop-input.input (sym c.is_kept.ensures ∙ w.if-is_kept.false))),
         omega (arith, twice, c.loop-input.invariant.1),
       )
     ]
@@ -37,5 +40,7 @@ loop-input-preserved c =
 pub returns : goal.returns
 unfolding bits_by
 returns c =
-    let end : c.loop-input.input ≡ 1 + group_of (length c.args.wild.now - 1) = omega (arith, c.group_of-input-end.ensures) in
-    c.loop-input.invariant.0 ∙ ap (λ n. sum_by (λ input. 2 ^ input) (filter (is_kept_by c.args.wild.now) (range_with_len 0 n))) end
+    let end : c.loop-input.input ≡ 1 + group_of (length c.args.wild.now - 1) =
+    omega (arith, c.group_of-input-end.ensures) in
+    c.loop-input.invariant.0 ∙ ap
+    (λ n. sum_by (λ input. 2 ^ input) (filter (is_kept_by c.args.wild.now) (range_with_len 0 n))) end

@@ -5,4 +5,5 @@ use Rattle.trie_merge.specs.Wild.{is_kept_by}
 use Rattle.trie_merge.proofs.kept.kept_places.Given as goal
 
 abbrev pub invariant-loop-place : goal.invariant-loop-place
-invariant-loop-place l = l.places.items ≡ filter (λ place. is_kept_by l.wild (group_of place)) (range_with_len 0 l.place)
+invariant-loop-place l = l.places.items
+    ≡ filter (λ place. is_kept_by l.wild (group_of place)) (range_with_len 0 l.place)

@@ -4,12 +4,21 @@ use Rattle.trie_merge.proofs.Pieces.{piece_at, piece_within}
 use Rattle.trie_merge.proofs.levels.piece.Goals as goal
 
 pub split_at-requires : goal.split_at-requires
-split_at-requires c = (piece_within 0 c.args.ends.now (length c.args.runs.now) c.args.k c.requires.pieces c.requires.k).1
+split_at-requires c = (piece_within 0 c.args.ends.now (length c.args.runs.now) c.args.k c.requires.pieces
+    c.requires.k).1
 
 pub split_at-requires-2 : goal.split_at-requires-2
 split_at-requires-2 c =
     let within = piece_within 0 c.args.ends.now (length c.args.runs.now) c.args.k c.requires.pieces c.requires.k in
-    omega (arith, within.0, within.1, c.start_of.ensures, ap length c.split_at.ensures.front, length-take-le (get_or c.args.ends.now c.args.k 0) c.args.runs.now within.1)
+    omega (
+      arith,
+      within.0,
+      within.1,
+      c.start_of.ensures,
+      ap length c.split_at.ensures.front,
+      length-take-le
+          (get_or c.args.ends.now c.args.k 0) c.args.runs.now within.1,
+    )
 
 pub returns : goal.returns
 returns c =

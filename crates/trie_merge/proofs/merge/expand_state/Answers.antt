@@ -34,11 +34,14 @@ returns c =
       found =
           c.in_ok-join_runs.ensures.found
           ∙ ap (fold lists_with (lists_of c.args.found.now.keys))
-          (same_over_bytes (list_of_byte its.marks c.make_successors.new.lists) (successor set column is_last entries) reached);
+          (same_over_bytes (list_of_byte its.marks c.make_successors.new.lists) (successor set column is_last entries)
+          reached);
       runs = λ more.
           c.in_ok-join_runs.ensures.runs more
           ∙ ap (λ (runs : List Run). c.args.runs.now.items ++ runs)
-          (same_runs (λ byte. succ_in is_last (lists_of c.join_runs.new.found.keys ++ more) (list_of_byte its.marks c.make_successors.new.lists byte))
-          (λ byte. succ_in is_last (lists_of c.join_runs.new.found.keys ++ more) (successor set column is_last entries byte))
+          (same_runs (λ byte. succ_in is_last (lists_of c.join_runs.new.found.keys ++ more)
+          (list_of_byte its.marks c.make_successors.new.lists byte))
+          (λ byte. succ_in is_last (lists_of c.join_runs.new.found.keys ++ more)
+          (successor set column is_last entries byte))
           (λ byte below. ap (succ_in is_last (lists_of c.join_runs.new.found.keys ++ more)) (reached byte below)));
     }

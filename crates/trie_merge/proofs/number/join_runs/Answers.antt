@@ -18,10 +18,12 @@ loop-k-init c =
     ∙ ap (list_at lists) (sym (interval_first its.marks)) in
     let first : Joined c.args.is_last its.marks lists c.args.found.now.keys c.args.runs.now.items c.reach.new.found.keys
     c.args.runs.now.items c.in_ok-succ.succ 1 =
-    first_joined c.args.is_last its.marks lists c.args.found.now.keys c.args.runs.now.items c.reach.new.found.keys c.in_ok-succ.succ
+    first_joined c.args.is_last its.marks lists c.args.found.now.keys c.args.runs.now.items c.reach.new.found.keys
+    c.in_ok-succ.succ
     (c.in_ok-succ.ensures.found ∙ ap (lists_with (lists_of c.args.found.now.keys)) list)
     (c.in_ok-succ.ensures.succ ∙ ap (succ_in c.args.is_last (lists_of c.reach.new.found.keys)) list) in
-    interval_joined c.args.is_last its.marks lists c.args.found.now.keys c.args.runs.now.items its.firsts its.of_bytes its.count are
+    interval_joined c.args.is_last its.marks lists c.args.found.now.keys c.args.runs.now.items its.firsts its.of_bytes
+    its.count are
     c.reach.new.found.keys c.args.runs.now.items c.in_ok-succ.succ 0 some (rw are.zero first)
 
 pub loop-k-preserved : goal.loop-k-preserved
@@ -43,7 +45,8 @@ loop-k-preserved c =
     subst (Joined c.args.is_last its.marks lists old old_runs c.loop-k.found.keys runs c.loop-k.succ)
     (end_first its.firsts its.count k below) c.loop-k.invariant in
     let joined : c.if-not-is_same.runs.items
-    ≡ cond (same_succ c.loop-k.succ c.in_ok-next.next) runs (runs ++ record { last = byte - 1; to = c.loop-k.succ } ∷ []) =
+    ≡ cond (same_succ c.loop-k.succ c.in_ok-next.next) runs
+    (runs ++ record { last = byte - 1; to = c.loop-k.succ } ∷ []) =
     elim c.if-not-is_same.branch [
       | then-not-is_same+in_ok-push w ↦
           rw w.runs-is
@@ -58,7 +61,8 @@ loop-k-preserved c =
     interval_joined c.args.is_last its.marks lists old old_runs its.firsts its.of_bytes its.count are
     c.reach-in-loop-k.new.found.keys c.if-not-is_same.runs.items c.in_ok-next.next k below
     (next_joined c.args.is_last its.marks lists old old_runs c.loop-k.found.keys runs c.loop-k.succ byte
-    (at.begins (omega arith)).0 at.below so_far c.reach-in-loop-k.new.found.keys c.in_ok-next.next c.if-not-is_same.runs.items
+    (at.begins (omega arith)).0 at.below so_far c.reach-in-loop-k.new.found.keys c.in_ok-next.next
+    c.if-not-is_same.runs.items
     (c.in_ok-next.ensures.found ∙ ap (lists_with (lists_of c.loop-k.found.keys)) list)
     (c.in_ok-next.ensures.succ ∙ ap (succ_in c.args.is_last (lists_of c.reach-in-loop-k.new.found.keys)) list) joined)
 
@@ -66,11 +70,13 @@ pub returns : goal.returns
 returns c =
     let its = c.args.intervals.now in
     let lists = c.args.lists.now in
-    let all : c.loop-k.k ≡ its.count = omega (arith, c.loop-k.auto.k-end, c.loop-k-test.false, c.requires.intervals.last) in
+    let all : c.loop-k.k ≡ its.count =
+    omega (arith, c.loop-k.auto.k-end, c.loop-k-test.false, c.requires.intervals.last) in
     let joined : Joined c.args.is_last its.marks lists c.args.found.now.keys c.args.runs.now.items c.loop-k.found.keys
     c.loop-k.runs.items c.loop-k.succ 256 =
     subst (Joined c.args.is_last its.marks lists c.args.found.now.keys c.args.runs.now.items c.loop-k.found.keys
-    c.loop-k.runs.items c.loop-k.succ) (ap (end_by its.firsts its.count) all ∙ end_all its.firsts its.count) c.loop-k.invariant in
+    c.loop-k.runs.items c.loop-k.succ) (ap (end_by its.firsts its.count) all ∙ end_all its.firsts its.count)
+    c.loop-k.invariant in
     let ends = all_joined c.args.is_last its.marks lists c.args.found.now.keys c.args.runs.now.items c.loop-k.found.keys
     c.loop-k.runs.items c.loop-k.succ joined in
     record { found = ends.0; runs = λ more. c.in_ok-push-2.ensures.items ∙ ends.1 more }

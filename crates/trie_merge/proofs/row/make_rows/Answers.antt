@@ -16,8 +16,11 @@ loop-k-preserved c =
             rw (e, list_at-set_same lists at c.make_row.new.list within)
             (c.in_ok-make_row.ensures
             ∙ ap (λ (v : SmallVec ℕ). row_list set v.items) (sym c.index-lists-k.is)
-            ∙ ap (row_list set) (sym (list_at-read lists at c.index-lists-k.result within c.index-lists-k.is) ∙ c.loop-k.invariant.1 at (omega arith)))
-        | inr other ↦ rw (list_at-set_other lists at k c.make_row.new.list other) (c.loop-k.invariant.0 k (omega (arith, other)))
+            ∙ ap (row_list set) (sym (list_at-read lists at c.index-lists-k.result within c.index-lists-k.is)
+            ∙ c.loop-k.invariant.1 at (omega arith)))
+        | inr other ↦ rw (list_at-set_other lists at k c.make_row.new.list other)
+            (c.loop-k.invariant.0 k (omega (arith, other)))
       ],
-      λ k above. (let other : k ≢ at = omega arith in list_at-set_other lists at k c.make_row.new.list other ∙ c.loop-k.invariant.1 k (omega arith)),
+      λ k above. (let other : k ≢ at = omega arith in list_at-set_other lists at k c.make_row.new.list other
+          ∙ c.loop-k.invariant.1 k (omega arith)),
     )

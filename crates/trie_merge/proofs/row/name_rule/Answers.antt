@@ -11,11 +11,13 @@ loop-category-preserved c =
     elim c.if-is_better.branch [
       | then-is_better w ↦
           rw (w.best-is, w.row-is)
-          (named_better c.args.tag.now c.args.number c.args.best.now c.args.row.now c.loop-category.best c.loop-category.row c.loop-category.category
+          (named_better c.args.tag.now c.args.number c.args.best.now c.args.row.now c.loop-category.best
+          c.loop-category.row c.loop-category.category
           (omega arith) c.loop-category.invariant (sym c.is_better.ensures ∙ w.if-is_better.true))
       | else-is_better w ↦
           rw (w.best-is, w.row-is)
-          (named_other c.args.tag.now c.args.number c.args.best.now c.args.row.now c.loop-category.best c.loop-category.row c.loop-category.category
+          (named_other c.args.tag.now c.args.number c.args.best.now c.args.row.now c.loop-category.best
+          c.loop-category.row c.loop-category.category
           (omega arith) c.loop-category.invariant (sym c.is_better.ensures ∙ w.if-is_better.false))
     ]
 

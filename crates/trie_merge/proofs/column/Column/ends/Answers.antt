@@ -16,7 +16,8 @@ returns-clause-below c = λ byte below.
     c.first_and_last.result.0 c.first_and_last.result.1 =
     subst (λ f. AreEnds f c.first_and_last.result.0 c.first_and_last.result.1)
     (λ i. edge_step (value i) (size i) (place i) (edge i)) c.first_and_last.ensures.ends in
-    none_outside column entry c.first_and_last.result.0 c.first_and_last.result.1 ends byte (omega (arith, c.first_and_last.type_inv)) (inl below)
+    none_outside column entry c.first_and_last.result.0 c.first_and_last.result.1 ends byte
+    (omega (arith, c.first_and_last.type_inv)) (inl below)
 
 pub returns-clause-above : goal.returns-clause-above
 returns-clause-above c = λ byte above below.
