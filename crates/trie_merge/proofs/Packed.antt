@@ -462,7 +462,8 @@ packed_apart (def ∷ defs) (value ∷ values) one other edge another small othe
           let rest_long : length (drop def.size one) ≡ length one - def.size = length-drop def.size one in
           let other_long : length (drop def.size other) ≡ length (drop def.size one) = length-drop def.size other
           ∙ ap (λ n. n - def.size) long ∙ sym rest_long in
-          packed_apart defs values (drop def.size one) (drop def.size other) edge another (bytes_behind def.size one small)
+          packed_apart defs values (drop def.size one) (drop def.size other) edge another
+          (bytes_behind def.size one small)
           (bytes_behind def.size other other_small) other_long
           (through (field_match value def.size (number_of (take def.size one)))
           (packed_edge defs values (drop def.size one)) edge
@@ -470,7 +471,8 @@ packed_apart (def ∷ defs) (value ∷ values) one other edge another small othe
           (through (field_match value def.size (number_of (take def.size other)))
           (packed_edge defs values (drop def.size other)) another
           (sym (packed_behind def defs value values other (omega (arith, long, behind))) ∙ other_is))
-          (ap (λ n. rest_at defs values n edge) rest_long ∙ sym (cond-false _ _ _ no_more) ∙ same ∙ cond-false _ _ _ no_more
+          (ap (λ n. rest_at defs values n edge) rest_long ∙ sym (cond-false _ _ _ no_more)
+          ∙ same ∙ cond-false _ _ _ no_more
           ∙ sym (ap (λ n. rest_at defs values n another) rest_long))
     ]
   where

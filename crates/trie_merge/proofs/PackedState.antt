@@ -281,8 +281,16 @@ packed_entries set (number ∷ group) key held small =
         (cons_option (option_map (entry_of number) found) (packed_state set group key))
     by None is rest = rest
     by (Some edge) is rest = (
-      record
-          { number = number; edge = edge; key = key; is = refl; held = held.0; bytes = small; long = refl; packed = is },
+      record {
+        number = number;
+        edge = edge;
+        key = key;
+        is = refl;
+        held = held.0;
+        bytes = small;
+        long = refl;
+        packed = is;
+      },
       rest,
     )
 

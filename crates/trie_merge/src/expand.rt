@@ -21,8 +21,8 @@ pub(crate) fn mark_cuts(column: &Column, entries: &[u32], marks: &mut [bool; 256
     requires { All (CanStep column.now) entries.now }
     ensures { (byte : ℕ) → byte < 256 →
         slice_index_or marks.new byte false
-        ≡ (list_any (λ entry. is_entry_cut column.now entry byte) entries.now || slice_index_or
-        marks.old byte false) }
+        ≡ (list_any (λ entry. is_entry_cut column.now entry byte) entries.now
+        || slice_index_or marks.old byte false) }
 {
     for entry in entries {
         column.mark(*entry, marks);
@@ -84,8 +84,8 @@ fn hand_to_run(
     requires few { until ≤ 256 }
     requires lists { until ≤ length lists.old }
     ensures within { OnOk result ((k : ℕ) → from ≤ k → k < until →
-        list_at lists.new k ≡ list_at lists.old k ++ option_to_list
-        (entry_step column.now entry (slice_index_or firsts.now k 0))) }
+        list_at lists.new k ≡ list_at lists.old k
+        ++ option_to_list (entry_step column.now entry (slice_index_or firsts.now k 0))) }
     ensures outside { OnOk result
         ((k : ℕ) → k < from ⊎ until ≤ k → list_at lists.new k ≡ list_at lists.old k) }
 {
@@ -112,8 +112,8 @@ fn hand_out(
         intervals.now.of_bytes intervals.now.count }
     requires lists { intervals.now.count ≤ length lists.old }
     ensures { OnOk result ((k : ℕ) → k < intervals.now.count →
-        list_at lists.new k ≡ list_at lists.old k ++ option_to_list
-        (entry_step column.now entry (slice_index_or intervals.now.firsts k 0))) }
+        list_at lists.new k ≡ list_at lists.old k
+        ++ option_to_list (entry_step column.now entry (slice_index_or intervals.now.firsts k 0))) }
 {
     if let Some(after) = column.step_free(entry) {
         return hand_to_all(after, intervals.count, lists);

@@ -97,8 +97,7 @@ impl Model for Levels {
       kept = l.kept;
       group = l.group.items;
       levels = l.levels.items;
-      rows =
-          l.rows.items;
+      rows = l.rows.items;
       words = l.words;
     } };
 }

@@ -3,14 +3,11 @@
 //! out, or that the words exceed a cap.
 //!
 //! After some bytes of a key a rule can still match or not, and what its current field still allows
-//! is a rest. The
-//! *state* of the group is the list of its rules that can still match, each with its rest. Many
-//! beginnings of keys have
-//! one state, so states are merged: those of each place are found in the order of their least
-//! beginnings, and for each of them the 256 bytes part into *runs* that lead to one state of the
-//! next place. After the last byte a state becomes a
-//! *row*: the winning rule of each category. Input groups in which all rules are wild decide
-//! nothing and are left out.
+//! is a rest. The *state* of the group is the list of its rules that can still match, each with its
+//! rest. Many beginnings of keys have one state, so states are merged: those of each place are found
+//! in the order of their least beginnings, and for each of them the 256 bytes part into *runs* that
+//! lead to one state of the next place. After the last byte a state becomes a *row*: the winning
+//! rule of each category. Input groups in which all rules are wild decide nothing and are left out.
 //! After the tries of DPDK's `lib/acl` (`acl_bld.c`), which merges the rules' tries one after the
 //! other.
 //!
@@ -19,13 +16,12 @@
 //! - `entry`: a rule of a state and the edge of its rest as one number.
 //! - `column`: what a place of the key has of each rule, and what a byte makes of an entry there.
 //! - `intervals`: the intervals of bytes that the cuts of a state's entries make.
-//! - `expand`: the list of entries after each interval, to which each entry is handed out where it
-//! has a rest.
+//! - `expand`: the list of entries after each interval, where each entry is handed out to those
+//!   intervals in which it has a rest.
 //! - `row`: the row of the entries after a whole key.
 //! - `number`: lists numbered in the order in which they are found, and the runs of bytes.
-//! - `merge`: the states of one place, one after the other, with their words, and those that the
-//! states found take at
-//!   least, against the cap.
+//! - `merge`: the states of one place, one after the other. Their words, and the least that the
+//!   states found take, are held against the cap.
 //! - `kept`: the places of the kept input groups.
 //! - `build`: all kept places, one after the other; [`Levels::build`] and [`count_capped`].
 //! - `levels`, `run`: what comes out.

@@ -45,8 +45,8 @@ fn make_successors(
     requires numbers { (k : ℕ) → k < count
         → All (λ entry. number_in entry < length rules.now.rules) (list_at lists.old k) }
     ensures { OnOk result ((k : ℕ) → k < count →
-        list_at lists.new k ≡ (if is_last then row_list rules.now (list_at lists.old k) else list_at
-        lists.old k)) }
+        list_at lists.new k
+        ≡ (if is_last then row_list rules.now (list_at lists.old k) else list_at lists.old k)) }
 {
     if is_last {
         make_rows(rules, count, lists)?;
