@@ -94,20 +94,27 @@ one_byte = record {
   } ∷ [];
 }
 
--- the first rule alone wins category 0, and the second rule both of its categories wherever it matches
+-- the first rule alone wins category 0, and the second rule both of its categories wherever it
+-- matches
 rows_of_one_byte : rows_of one_byte (0 ∷ 1 ∷ [])
     ≡ (1 ∷ replicate 15 0) ∷ (2 ∷ 2 ∷ replicate 14 0) ∷ []
-unfolding rows_of final_row row_of best_among categories state rule_rest rest_after part found_in prefixes all_bytes
+unfolding rows_of final_row row_of best_among categories state rule_rest rest_after part found_in
+    prefixes all_bytes
 rows_of_one_byte = refl
 
--- three runs, since the rows of bytes 15 to 20 and 21 to 255 are one: a node of five words, and two rows
+-- three runs, since the rows of bytes 15 to 20 and 21 to 255 are one: a node of five words, and
+-- two rows
 words_of_one_byte : (levels_of one_byte (0 ∷ 1 ∷ [])).words ≡ 37
-unfolding levels_of level_runs runs_of kept_places is_kept is_idle is_wild_place states_at reached state_through state_step
-    rows_of final_row row_of best_among categories state rule_rest rule_step rest_after rest_step part found_in prefixes all_bytes
+unfolding levels_of level_runs runs_of kept_places is_kept is_idle is_wild_place states_at reached
+    state_through state_step rows_of final_row row_of best_among categories state rule_rest
+    rule_step rest_after rest_step part found_in prefixes all_bytes
 words_of_one_byte = refl
 
+-- no rule before byte 10, the first rule alone before byte 15, and the second from there on
 runs_of_one_byte : (levels_of one_byte (0 ∷ 1 ∷ [])).levels
-    ≡ ((record { last = 9; to = Dead } ∷ record { last = 14; to = Row 0 } ∷ record { last = 255; to = Row 1 } ∷ []) ∷ []) ∷ []
-unfolding levels_of level_runs runs_of kept_places is_kept is_idle is_wild_place states_at reached state_through state_step
-    rows_of final_row row_of best_among categories state rule_rest rule_step rest_after rest_step part found_in prefixes all_bytes
+    ≡ ((record { last = 9; to = Dead } ∷ record { last = 14; to = Row 0 }
+    ∷ record { last = 255; to = Row 1 } ∷ []) ∷ []) ∷ []
+unfolding levels_of level_runs runs_of kept_places is_kept is_idle is_wild_place states_at reached
+    state_through state_step rows_of final_row row_of best_among categories state rule_rest
+    rule_step rest_after rest_step part found_in prefixes all_bytes
 runs_of_one_byte = refl

@@ -2,14 +2,14 @@
 //! with the runs of bytes that lead from each, the rows at the end and the words of a table of them
 //! out, or that the words exceed a cap.
 //!
-//! After some bytes of a key a rule can still match or not, and what its current field still allows
-//! is a rest. The *state* of the group is the list of its rules that can still match, each with its
-//! rest. Many beginnings of keys have one state, so states are merged: those of each place are found
-//! in the order of their least beginnings, and for each of them the 256 bytes part into *runs* that
-//! lead to one state of the next place. After the last byte a state becomes a *row*: the winning
-//! rule of each category. Input groups in which all rules are wild decide nothing and are left out.
-//! After the tries of DPDK's `lib/acl` (`acl_bld.c`), which merges the rules' tries one after the
-//! other.
+//! After some bytes of a key a rule can still match or not, and what its current field still
+//! allows is a rest. The *state* of the group is the list of its rules that can still match, each
+//! with its rest. Many beginnings of keys have one state, so states are merged: those of each
+//! place are found in the order of their least beginnings, and for each of them the 256 bytes part
+//! into *runs* that lead to one state of the next place. After the last byte a state becomes a
+//! *row*: the winning rule of each category. Input groups in which all rules are wild decide
+//! nothing and are left out. After the tries of DPDK's `lib/acl` (`acl_bld.c`), which merges the
+//! rules' tries one after the other.
 //!
 //! The way of the data, from the bottom up:
 //!
