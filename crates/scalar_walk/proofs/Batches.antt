@@ -1,6 +1,6 @@
 -- The verdicts of a batch, key by key.
 use Rattle.std.proofs.Common.{◌≡◌, ℕ, zero, suc, ◌+◌, ◌-◌, ◌*◌, ◌<◌, ◌≤◌, List, [], ◌∷◌, ◌++◌, refl, sym, ap, ◌∙◌}
-use Rattle.std.proofs.Common.{arith, add-one, subst, length, map, take, drop, fold, append_assoc, append-nil}
+use Rattle.std.proofs.Common.{arith, add-one, subst, length, take, drop, fold, append_assoc, append-nil}
 use Rattle.std.proofs.Common.{length-append, length-take, length-drop}
 use Rattle.std.specs.Prelude.{flat_map}
 use Rattle.std.specs.List.{range_with_len}

@@ -1,15 +1,15 @@
 -- One of several walks in step, in the terms of the code.
-use Rattle.std.proofs.Common.{◌≡◌, ℕ, ◌+◌, ◌*◌, ◌<◌, ◌≤◌, ◌^◌, Bool, true, false, None, List, refl, sym, ap, ◌∙◌, arith}
-use Rattle.std.proofs.Common.{subst, length, take, drop, get_or}
+use Rattle.std.proofs.Common.{◌≡◌, ℕ, ◌+◌, ◌*◌, ◌<◌, ◌≤◌, ◌^◌, Bool, true, false, None, List, sym, ap, ◌∙◌, arith}
+use Rattle.std.proofs.Common.{subst, length, drop}
 use Rattle.std.specs.Prelude.{slice_index, if◌then◌else◌}
 use Rattle.std.proofs.lemmas.List.{get_or-take, get_or-drop}
 use Rattle.std.proofs.Math.Nat.{mul-le-mul_right}
 use Rattle.flat_table.specs.Word.{index_of, is_match, next_place}
 use Rattle.flat_table.specs.Table.{TableView, places_of}
 use Rattle.flat_table.specs.Sound.{sound_fault}
-use Rattle.flat_table.specs.Walk.{root_of, moved, steps_after, walk_row, walk_steps}
+use Rattle.flat_table.specs.Walk.{root_of, moved, steps_after, walk_steps}
 use Rattle.flat_table.specs.Batch.{key_at}
-use Rattle.flat_table.proofs.Lanes.{Stands, Goes, place_below, begins, goes, ends_at_match}
+use Rattle.flat_table.proofs.Lanes.{Stands, place_below, begins, goes, ends_at_match}
 use Rattle.flat_table.proofs.Taken.{row_is, steps_is}
 use Rattle.scalar_walk.specs.Rows.{EndsAt}
 

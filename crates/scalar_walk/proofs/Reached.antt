@@ -1,22 +1,22 @@
 -- The rows that the walks of a key reach, trie by trie.
 use Rattle.std.proofs.Common.{◌≡◌, ℕ, zero, suc, ◌≢◌, ◌+◌, ◌%◌, ◌<◌, ◌≤◌, List, [], ◌∷◌, refl, sym, ap, ◌∙◌, arith}
-use Rattle.std.proofs.Common.{subst, length, map, take, fold, get_or, set, All, length-take, get_or-set_same}
+use Rattle.std.proofs.Common.{length, map, take, fold, get_or, set, All, length-take, get_or-set_same}
 use Rattle.std.proofs.Common.{get_or-set_other}
 use Rattle.std.specs.List.{range_with_len}
-use Rattle.std.proofs.lemmas.List.{get_or-take, length-map}
+use Rattle.std.proofs.lemmas.List.{get_or-take}
 use Rattle.std.proofs.lemmas.List.Sums.{fold-append}
-use Rattle.std.proofs.lemmas.List.FromFn.{fill_by_all, length-range_with_len}
+use Rattle.std.proofs.lemmas.List.FromFn.{fill_by_all}
 use Rattle.std.proofs.Math.ListN.{length-set}
 use Rattle.std.proofs.lemmas.Simd.{map-map}
 use borrow.Author.Count.{below_more}
 use Rattle.std.specs.Prelude.{slice_index, Bool, false, not, ◌==◌}
 use Rattle.flat_table.specs.Sound.{row_len}
 use Rattle.flat_table.specs.Table.{TableView}
-use Rattle.flat_table.specs.Walk.{walk_row, walk_steps, tries_of, reached, joined, greatest, table_verdict, key_steps}
-use Rattle.flat_table.specs.Walk.{userdatas}
+use Rattle.flat_table.specs.Walk.{walk_row, walk_steps, tries_of, joined, greatest}
+use Rattle.flat_table.specs.Walk.{key_steps, userdatas}
 use Rattle.flat_table.specs.Batch.{key_verdicts}
 use Rattle.flat_table.proofs.Ranges.{range-push}
-use Rattle.scalar_walk.specs.Rows.{Reaches, joined_rows, winners_of}
+use Rattle.scalar_walk.specs.Rows.{Reaches, joined_rows, row_verdicts, winners_of}
 
 pub reaches_more : (table : TableView) (key rows : List ℕ) (n row : ℕ) → Reaches table key n rows → n < 8 →
     row ≡ walk_row table n key → row < length table.rows →
@@ -48,6 +48,22 @@ get_or_any : (xs : List ℕ) (k d e : ℕ) → k < length xs → get_or xs k d �
 get_or_any [] k d e h = absurd (omega arith)
 get_or_any (x ∷ xs) zero d e h = refl
 get_or_any (x ∷ xs) (suc k) d e h = get_or_any xs k d e (omega arith)
+
+-- of the only trie the row is the joined one
+one_joined : (table : TableView) (key : List ℕ) (category : ℕ) → length table.roots ≡ 1 →
+    slice_index (get_or table.rows (walk_row table 0 key) []) category ≡ joined table key category
+one_joined table key category one = rw one (omega arith)
+
+pub one_verdicts : (table : TableView) (key : List ℕ) (row count : ℕ) → length table.roots ≡ 1 →
+    row ≡ walk_row table 0 key → row_verdicts table.rows count row ≡ key_verdicts table count key
+one_verdicts table key row count one e =
+    ap (λ (number : ℕ). row_verdicts table.rows count number) e
+    ∙ map_same _ _ (range_with_len 0 count)
+    (λ category. ap (λ (word : ℕ). word % userdatas) (one_joined table key category one))
+
+pub one_steps : (table : TableView) (key : List ℕ) → length table.roots ≡ 1 →
+    key_steps table key ≡ walk_steps table 0 key
+one_steps table key one = rw one (omega arith)
 
 -- of all tries
 module _ (table : TableView) (key rows : List ℕ) (r : Reaches table key (length table.roots) rows)

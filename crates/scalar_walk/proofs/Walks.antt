@@ -1,12 +1,14 @@
 -- One step of a walk, in the terms of the code.
-use Rattle.std.proofs.Common.{◌≡◌, ℕ, suc, ◌+◌, ◌<◌, ◌≤◌, ◌^◌, Bool, true, false, None, List, refl, sym, ap, ◌∙◌, arith}
-use Rattle.std.proofs.Common.{subst, length, get_or}
-use Rattle.std.specs.Prelude.{slice_index, if◌then◌else◌}
-use Rattle.flat_table.specs.Word.{index_of, is_match, next_place}
-use Rattle.flat_table.specs.Table.{TableView, places_of}
-use Rattle.flat_table.specs.Sound.{sound_fault}
-use Rattle.flat_table.specs.Walk.{root_of, moved, word_after, steps_after, walk_row, walk_steps}
-use Rattle.flat_table.proofs.Lanes.{Stands, Goes, place_below, begins, goes, ends_at_match}
+use Rattle.std.proofs.Common.{◌≡◌, ◌≢◌, ℕ, ◌+◌, ◌<◌, ◌≤◌, ◌^◌, true, false, None, List, refl, sym, ap, ◌∙◌, arith}
+use Rattle.std.proofs.Common.{subst, length}
+use Rattle.std.specs.Prelude.{slice_index}
+use Rattle.flat_table.specs.Word.{index_of, kind_of, is_match, is_node, next_place}
+use Rattle.flat_table.specs.Table.{TableView, level_of, places_of}
+use Rattle.std.proofs.lemmas.Bool.Decides.{nat_tests}
+use Rattle.flat_table.specs.declared.level.Level.{Level}
+use Rattle.flat_table.specs.Sound.{leads_into, sound_fault}
+use Rattle.flat_table.specs.Walk.{root_of, moved, steps_after, walk_row, walk_steps}
+use Rattle.flat_table.proofs.Lanes.{Stands, place_below, begins, goes, ends_at_match}
 use Rattle.flat_table.proofs.Safe.{root_leads, node_is_no_match}
 use Rattle.flat_table.proofs.Taken.{steps_at_match, row_at_match}
 
@@ -16,12 +18,28 @@ pub record Walks (table : TableView) (trie : ℕ) (key : List ℕ) (n word : ℕ
   pub no_match : is_match word ≡ false
   pub steps : steps_after table trie key n ≡ n
 
+-- what the kind of a word says of a match
+pub match_by_kind : (word kind : ℕ) → kind ≡ kind_of word → kind ≡ 4 → is_match word ≡ true
+match_by_kind word kind e is = grind (arith, nat_tests)
+
+pub no_match_by_kind : (word kind : ℕ) → kind ≡ kind_of word → kind ≢ 4 → is_match word ≡ false
+no_match_by_kind word kind e is = grind (arith, nat_tests)
+
+-- what leads into a level leads to a node
+leads_to_node : (level : Level) (word : ℕ) → leads_into level word ≡ true → is_node word ≡ true
+leads_to_node level word e = grind (arith, nat_tests)
+
 -- what the next byte brings
 pub record Step (table : TableView) (trie : ℕ) (key : List ℕ) (n word from at next : ℕ) : Type 0 where
   pub in_key : from < length key
   pub in_words : at < length table.words
   pub stands : Stands table trie key (n + 1) next
   pub steps : steps_after table trie key (n + 1) ≡ n + 1
+
+-- so does the word that a walk stands at
+pub walks_at_node : (table : TableView) (trie : ℕ) (key : List ℕ) (n word : ℕ) → Walks table trie key n word →
+    is_node word ≡ true
+walks_at_node table trie key n word w = leads_to_node (level_of table trie n) word (w.stands.level w.no_match)
 
 module _ (table : TableView) (trie : ℕ) (key : List ℕ) (sound : sound_fault table ≡ None)
     (lt : trie < length table.roots) (fits : length key ≡ table.key_len) where

@@ -1,15 +1,20 @@
 -- What rows that were reached say of a category.
-use Rattle.std.specs.Prelude.{◌≡◌, ℕ, ◌<◌, List, [], map, length, slice_index, slice_index_or, Bool}
+use Rattle.std.specs.Prelude.{◌≡◌, ℕ, ◌<◌, ◌%◌, List, [], map, length, slice_index, slice_index_or, Bool}
 use Rattle.std.specs.Prelude.{not, ◌==◌}
 use Rattle.std.specs.List.{range_with_len}
 use Rattle.flat_table.specs.Table.{TableView}
 use Rattle.flat_table.specs.Sound.{most_tries, row_len}
-use Rattle.flat_table.specs.Walk.{greatest, joined, walk_row}
+use Rattle.flat_table.specs.Walk.{greatest, joined, userdatas, walk_row}
 
 -- the greatest word of the category over the rows of these numbers
 abbrev pub joined_rows : List (List ℕ) → List ℕ → ℕ → ℕ
 joined_rows rows reached category = greatest (map
     (λ row. slice_index (slice_index_or rows row []) category) reached)
+
+-- the userdata of the row of this number in the categories from 0 on
+abbrev pub row_verdicts : List (List ℕ) → ℕ → ℕ → List ℕ
+row_verdicts rows count row = map (λ category. slice_index (slice_index_or rows row []) category %
+    userdatas) (range_with_len 0 count)
 
 -- the first numbers of the list are the rows that the walks through the first tries reach, and
 -- these rows are there

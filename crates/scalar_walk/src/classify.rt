@@ -1,14 +1,14 @@
 //! The verdicts of keys, by the rows that their walks reach.
 
-ghost use Rattle.std.specs.Prelude.{◌≡◌, ◌+◌, ◌*◌, ◌%◌, ◌<◌, ◌≤◌, ◌^◌, ◌==◌, length, map, not, All};
+ghost use Rattle.std.specs.Prelude.{◌≡◌, ◌+◌, ◌*◌, ◌%◌, ◌<◌, ◌≤◌, ◌^◌, ◌==◌, length, map, take, not, slice_index, flat_map, ◌∷◌, [], All};
 ghost use Rattle.std.specs.List.{range_with_len};
 ghost use Rattle.flat_table.specs.Groups.{longest_key};
 ghost use Rattle.flat_table.specs.Sound.{most_tries, row_len};
 ghost use Rattle.flat_table.specs.Walk.{joined, key_steps, userdatas};
 ghost use Rattle.flat_table.specs.Batch.{LengthsFit, key_at, key_verdicts, first_verdicts, first_steps, batch_verdicts, batch_steps};
-ghost use Rattle.scalar_walk.specs.Rows.{Reaches, joined_rows, winners_of};
+ghost use Rattle.scalar_walk.specs.Rows.{Reaches, joined_rows, row_verdicts, winners_of};
 
-use crate::in_step::{IN_STEP, walk_four};
+use crate::in_step::{FourWalked, IN_STEP, walk_four};
 use crate::walk::walk_one;
 use flat_table::{MAX_TRIES, ROW_LEN, Steps, Table};
 use rule_set::Categories;
@@ -31,9 +31,65 @@ fn greatest_word(rows: &[[u64; ROW_LEN]], reached: &[u32], category: usize) -> u
     greatest
 }
 
+/// The userdata of the word of a row.
+fn userdata_of(word: u64) -> u32
+    ensures { result ≡ word % userdatas }
+{
+    (word & USERDATA_MASK) as u32
+}
+
+/// Writes for so many categories from 0 on the userdata of the row's word.
+fn write_row(row: &[u64; ROW_LEN], count: usize, verdicts: &mut [u32])
+    requires few { count ≤ row_len }
+    requires room { length verdicts.old ≡ count }
+    ensures { verdicts.new ≡ map (λ category. slice_index row.now category % userdatas)
+        (range_with_len 0 count) }
+{
+    // One category is the common case, and a loop costs more than its one turn.
+    if count == 1 {
+        verdicts[0] = userdata_of(row[0]);
+    } else {
+        for (category, verdict) in verdicts.iter_mut().enumerate() {
+            *verdict = userdata_of(row[category]);
+        }
+    }
+}
+
+/// Writes for so many categories from 0 on the userdata of the rows that four walks reached.
+///
+/// It is not inlined, so that the walks before and behind it keep their numbers in registers.
+#[inline(never)]
+fn write_four(rows: &[[u64; ROW_LEN]], walked: FourWalked, count: usize, verdicts: &mut [u32])
+    requires first { walked.first < length rows.now }
+    requires second { walked.second < length rows.now }
+    requires third { walked.third < length rows.now }
+    requires fourth { walked.fourth < length rows.now }
+    requires few { count ≤ row_len }
+    requires room { length verdicts.old ≡ 4 * count }
+    ensures { verdicts.new ≡ flat_map (row_verdicts rows.now count)
+        (walked.first ∷ walked.second ∷ walked.third ∷ walked.fourth ∷ []) }
+{
+    write_row(&rows[walked.first as usize], count, &mut verdicts[0..count]);
+    write_row(
+        &rows[walked.second as usize],
+        count,
+        &mut verdicts[count..2 * count],
+    );
+    write_row(
+        &rows[walked.third as usize],
+        count,
+        &mut verdicts[2 * count..3 * count],
+    );
+    write_row(
+        &rows[walked.fourth as usize],
+        count,
+        &mut verdicts[3 * count..4 * count],
+    );
+}
+
 /// Writes for so many categories from 0 on the userdata of the greatest word over the rows of these
 /// numbers.
-fn write_verdicts(rows: &[[u64; ROW_LEN]], reached: &[u32], count: usize, verdicts: &mut [u32])
+fn write_joined(rows: &[[u64; ROW_LEN]], reached: &[u32], count: usize, verdicts: &mut [u32])
     requires rows { All (λ row. row < length rows.now) reached.now }
     requires few { count ≤ row_len }
     requires room { length verdicts.old ≡ count }
@@ -41,8 +97,21 @@ fn write_verdicts(rows: &[[u64; ROW_LEN]], reached: &[u32], count: usize, verdic
         (range_with_len 0 count) }
 {
     for (category, verdict) in verdicts.iter_mut().enumerate() {
-        *verdict = (greatest_word(rows, reached, category) & USERDATA_MASK) as u32;
+        *verdict = userdata_of(greatest_word(rows, reached, category));
     }
+}
+
+/// Writes the verdicts, for so many categories from 0 on, of a key whose walks reach the first of
+/// these rows, one for each trie.
+fn write_verdicts(table: &Table, reached: &[u32; MAX_TRIES], count: usize, verdicts: &mut [u32])
+    requires rows { All (λ row. row < length table.now.rows)
+        (take (length table.now.roots) reached.now) }
+    requires few { count ≤ row_len }
+    requires room { length verdicts.old ≡ count }
+    ensures { verdicts.new ≡ map (λ category. joined_rows table.now.rows
+        (take (length table.now.roots) reached.now) category % userdatas) (range_with_len 0 count) }
+{
+    write_joined(table.rows(), &reached[..table.tries()], count, verdicts);
 }
 
 /// The rows that the walks of a key reach, one for each trie, and how many words they took.
@@ -55,6 +124,7 @@ struct Reached {
 /// The walks of the key through all tries.
 fn reach<L: Ledger>(table: &Table, key: &[u8], steps: &mut Steps<L>) -> Reached
     requires { length key.now ≡ table.now.key_len }
+    ensures few { length table.now.roots ≤ most_tries }
     ensures rows { Reaches table.now key.now (length table.now.roots) result.rows }
     ensures taken { result.taken ≡ key_steps table.now key.now }
     ensures bound { result.taken ≤ most_tries * longest_key }
@@ -85,62 +155,104 @@ fn classify_one<L: Ledger>(
     ensures steps { steps.new ≡ steps.old + key_steps table.now key.now }
 {
     let reached = reach(table, key, steps);
-    let tries = table.tries();
-    write_verdicts(
-        table.rows(),
-        &reached.rows[..tries],
-        verdicts.len(),
-        verdicts,
-    );
+    write_verdicts(table, &reached.rows, verdicts.len(), verdicts);
     reached.taken
 }
 
-/// The rows that the walks of four keys reach, one for each trie, and how many words they took
-/// together.
+/// The rows that the walks of four keys reach, one for each trie.
 #[derive(Clone, Copy)]
 struct FourReached {
     first: [u32; MAX_TRIES],
     second: [u32; MAX_TRIES],
     third: [u32; MAX_TRIES],
     fourth: [u32; MAX_TRIES],
-    taken: u64,
 }
 
-/// The walks of four keys, which stand one after the other, through all tries.
-fn reach_four<L: Ledger>(table: &Table, keys: &[u8], steps: &mut Steps<L>) -> FourReached
+/// No row is reached yet.
+fn no_rows() -> FourReached {
+    FourReached {
+        first: [0; MAX_TRIES],
+        second: [0; MAX_TRIES],
+        third: [0; MAX_TRIES],
+        fourth: [0; MAX_TRIES],
+    }
+}
+
+/// The walks of four keys, which stand one after the other, through all tries: writes the rows that
+/// they reach, and says how many words they took together.
+///
+/// The rows are written in place, since a copy of so much would wait for what was just written.
+fn reach_four<L: Ledger>(
+    table: &Table,
+    keys: &[u8],
+    reached: &mut FourReached,
+    steps: &mut Steps<L>,
+) -> u64
     requires { length keys.now ≡ 4 * table.now.key_len }
+    ensures few { length table.now.roots ≤ most_tries }
     ensures first { Reaches table.now (key_at table.now keys.now 0)
-        (length table.now.roots) result.first }
+        (length table.now.roots) reached.new.first }
     ensures second { Reaches table.now (key_at table.now keys.now 1)
-        (length table.now.roots) result.second }
+        (length table.now.roots) reached.new.second }
     ensures third { Reaches table.now (key_at table.now keys.now 2)
-        (length table.now.roots) result.third }
+        (length table.now.roots) reached.new.third }
     ensures fourth { Reaches table.now (key_at table.now keys.now 3)
-        (length table.now.roots) result.fourth }
-    ensures taken { result.taken ≡ first_steps table.now keys.now IN_STEP }
-    ensures bound { result.taken ≤ 4 * (most_tries * longest_key) }
-    ensures steps { steps.new ≡ steps.old + result.taken }
+        (length table.now.roots) reached.new.fourth }
+    ensures taken { result ≡ first_steps table.now keys.now IN_STEP }
+    ensures bound { result ≤ 4 * (most_tries * longest_key) }
+    ensures steps { steps.new ≡ steps.old + result }
 {
-    let mut first = [0u32; MAX_TRIES];
-    let mut second = [0u32; MAX_TRIES];
-    let mut third = [0u32; MAX_TRIES];
-    let mut fourth = [0u32; MAX_TRIES];
     let mut taken = 0;
     for trie in 0..table.tries() {
         let walked = walk_four(table, trie, keys, steps);
-        first[trie] = walked.first;
-        second[trie] = walked.second;
-        third[trie] = walked.third;
-        fourth[trie] = walked.fourth;
+        reached.first[trie] = walked.first;
+        reached.second[trie] = walked.second;
+        reached.third[trie] = walked.third;
+        reached.fourth[trie] = walked.fourth;
         taken += walked.taken;
     }
-    FourReached {
-        first,
-        second,
-        third,
-        fourth,
-        taken,
-    }
+    taken
+}
+
+/// Writes the verdicts of four keys, so many of each, by the greatest words over the rows of all
+/// tries, and says how many words their walks took.
+fn join_four<L: Ledger>(
+    table: &Table,
+    keys: &[u8],
+    count: usize,
+    verdicts: &mut [u32],
+    steps: &mut Steps<L>,
+) -> u64
+    requires keys { length keys.now ≡ 4 * table.now.key_len }
+    requires few { count ≤ row_len }
+    requires room { length verdicts.old ≡ 4 * count }
+    ensures verdicts { verdicts.new ≡ first_verdicts table.now count keys.now IN_STEP }
+    ensures taken { result ≡ first_steps table.now keys.now IN_STEP }
+    ensures bound { result ≤ 4 * (most_tries * longest_key) }
+    ensures steps { steps.new ≡ steps.old + result }
+{
+    let mut reached = no_rows();
+    let taken = reach_four(table, keys, &mut reached, steps);
+    write_verdicts(table, &reached.first, count, &mut verdicts[0..count]);
+    write_verdicts(
+        table,
+        &reached.second,
+        count,
+        &mut verdicts[count..2 * count],
+    );
+    write_verdicts(
+        table,
+        &reached.third,
+        count,
+        &mut verdicts[2 * count..3 * count],
+    );
+    write_verdicts(
+        table,
+        &reached.fourth,
+        count,
+        &mut verdicts[3 * count..4 * count],
+    );
+    taken
 }
 
 /// Writes the verdicts of four keys, so many of each, and says how many words their walks took.
@@ -159,34 +271,14 @@ fn classify_four<L: Ledger>(
     ensures bound { result ≤ 4 * (most_tries * longest_key) }
     ensures steps { steps.new ≡ steps.old + result }
 {
-    let reached = reach_four(table, keys, steps);
-    let tries = table.tries();
-    let rows = table.rows();
-    write_verdicts(
-        rows,
-        &reached.first[..tries],
-        count,
-        &mut verdicts[0..count],
-    );
-    write_verdicts(
-        rows,
-        &reached.second[..tries],
-        count,
-        &mut verdicts[count..2 * count],
-    );
-    write_verdicts(
-        rows,
-        &reached.third[..tries],
-        count,
-        &mut verdicts[2 * count..3 * count],
-    );
-    write_verdicts(
-        rows,
-        &reached.fourth[..tries],
-        count,
-        &mut verdicts[3 * count..4 * count],
-    );
-    reached.taken
+    // One trie is the common case, and its rows need no joining.
+    if table.tries() == 1 {
+        let walked = walk_four(table, 0, keys, steps);
+        write_four(table.rows(), walked, count, verdicts);
+        walked.taken
+    } else {
+        join_four(table, keys, count, verdicts, steps)
+    }
 }
 
 /// Writes the verdicts of the keys of a batch, and says how many words their walks took.

@@ -1,11 +1,12 @@
 //! The walk of one key through one trie.
 
-ghost use Rattle.std.specs.Prelude.{◌≡◌, ◌+◌, ◌<◌, ◌≤◌, length};
+ghost use Rattle.std.specs.Prelude.{◌≡◌, ◌+◌, ◌<◌, ◌≤◌, length, true};
 ghost use Rattle.flat_table.specs.Groups.{longest_key};
 ghost use Rattle.flat_table.specs.Table.{places_of};
+ghost use Rattle.flat_table.specs.Word.{is_node, kind_of, next_place};
 ghost use Rattle.flat_table.specs.Walk.{walk_row, walk_steps};
 
-use flat_table::{Steps, Table, index_of, is_match, next_place};
+use flat_table::{MATCH, QUAD, SINGLE, Steps, Table, boundaries_below, index_of, kind_of};
 use std::sync::ledger::Ledger;
 
 /// Where a walk ended, and after how many words.
@@ -15,6 +16,21 @@ pub struct Walked {
     pub row: u32,
     /// How many words the walk took.
     pub taken: u32,
+}
+
+/// The place of the word that a walk takes by the byte from a word of this kind, which leads to a
+/// node.
+fn place_behind(word: u64, kind: u64, byte: u8) -> usize
+    requires kind { kind ≡ kind_of word }
+    requires node { is_node word ≡ true }
+    ensures { result ≡ next_place word byte }
+{
+    // The kinds are in the order of how often they come, and what is left is a full node.
+    match kind {
+        SINGLE => index_of(word),
+        QUAD => index_of(word) + boundaries_below(word, byte),
+        _ => index_of(word) + usize::from(byte),
+    }
 }
 
 /// The walk of the key through the trie.
@@ -33,10 +49,12 @@ pub fn walk_one<L: Ledger>(table: &Table, trie: usize, key: &[u8], steps: &mut S
 {
     let words = table.words();
     let mut word = table.root(trie);
+    let mut kind = kind_of(word);
     for (taken, place) in table.places(trie).iter().enumerate() {
-        word = words[next_place(word, key[usize::from(*place)])];
+        word = words[place_behind(word, kind, key[usize::from(*place)])];
         steps.raise();
-        if is_match(word) {
+        kind = kind_of(word);
+        if kind == MATCH {
             return Walked {
                 row: index_of(word) as u32,
                 taken: taken as u32 + 1,

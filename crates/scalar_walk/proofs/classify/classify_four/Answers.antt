@@ -1,40 +1,32 @@
-use Rattle.std.proofs.Common.{◌≡◌, ◌+◌, ◌*◌, ◌<◌, ◌≤◌, ◌++◌, [], ℕ, List, length, take, arith, sym, ap, ◌∙◌}
-use Rattle.flat_table.specs.Batch.{key_at, key_verdicts}
-use Rattle.scalar_walk.proofs.Batches.{four_written, verdicts_len}
-use Rattle.scalar_walk.proofs.Reached.{verdicts_are}
+use Rattle.std.proofs.Common.{◌≡◌, refl, length, arith, ◌∙◌}
+use Rattle.flat_table.specs.Batch.{key_at}
+use Rattle.scalar_walk.proofs.Reached.{one_verdicts, one_steps}
 use Rattle.scalar_walk.proofs.classify.classify_four.Goals as goal
 
-pub returns-clause-verdicts : goal.returns-clause-verdicts
-returns-clause-verdicts g c =
+pub returns-then-tries-eq1-clause-verdicts : goal.returns-then-tries-eq1-clause-verdicts
+returns-then-tries-eq1-clause-verdicts g c =
     let table = c.args.table.now in
     let keys = c.args.keys.now in
     let count = c.args.count in
-    let r = c.reach_four-reached in
-    let few : length table.roots ≤ 8 = omega (arith, c.tries-tries.ensures.bound, c.tries-tries.ensures.value) in
-    let y0 : c.write_verdicts.new.verdicts ≡ key_verdicts table count (key_at table keys 0) =
-    rw (c.rows-rows.ensures, c.tries-tries.ensures.value) at c.write_verdicts.ensures
-    ∙ verdicts_are table (key_at table keys 0) r.result.first r.ensures.first few count in
-    let l0 = ap length y0 ∙ verdicts_len table count keys 0 in
-    let y1 : c.write_verdicts-2.new.verdicts ≡ key_verdicts table count (key_at table keys 1) =
-    rw (c.rows-rows.ensures, c.tries-tries.ensures.value) at c.write_verdicts-2.ensures
-    ∙ verdicts_are table (key_at table keys 1) r.result.second r.ensures.second few count in
-    let l1 = ap length y1 ∙ verdicts_len table count keys 1 in
-    let y2 : c.write_verdicts-3.new.verdicts ≡ key_verdicts table count (key_at table keys 2) =
-    rw (c.rows-rows.ensures, c.tries-tries.ensures.value) at c.write_verdicts-3.ensures
-    ∙ verdicts_are table (key_at table keys 2) r.result.third r.ensures.third few count in
-    let l2 = ap length y2 ∙ verdicts_len table count keys 2 in
-    let y3 : c.write_verdicts-4.new.verdicts ≡ key_verdicts table count (key_at table keys 3) =
-    rw (c.rows-rows.ensures, c.tries-tries.ensures.value) at c.write_verdicts-4.ensures
-    ∙ verdicts_are table (key_at table keys 3) r.result.fourth r.ensures.fourth few count in
-    let l3 = ap length y3 ∙ verdicts_len table count keys 3 in
-    four_written c.args.verdicts.now c.write_verdicts.new.verdicts c.write_verdicts-2.new.verdicts
-    c.write_verdicts-3.new.verdicts c.write_verdicts-4.new.verdicts count c.requires.room l0 l1 l2 l3
-    ∙ ap (λ (ys : List ℕ). ys ++ (c.write_verdicts-2.new.verdicts ++
-    (c.write_verdicts-3.new.verdicts ++ (c.write_verdicts-4.new.verdicts ++ [])))) y0
-    ∙ ap (λ (ys : List ℕ). key_verdicts table count (key_at table keys 0) ++
-    (ys ++ (c.write_verdicts-3.new.verdicts ++ (c.write_verdicts-4.new.verdicts ++ [])))) y1
-    ∙ ap (λ (ys : List ℕ). key_verdicts table count (key_at table keys 0) ++
-    (key_verdicts table count (key_at table keys 1) ++ (ys ++ (c.write_verdicts-4.new.verdicts ++ [])))) y2
-    ∙ ap (λ (ys : List ℕ). key_verdicts table count (key_at table keys 0) ++
-    (key_verdicts table count (key_at table keys 1) ++
-    (key_verdicts table count (key_at table keys 2) ++ (ys ++ [])))) y3
+    let w = c.walk_four-walked in
+    let one : length table.roots ≡ 1 = omega arith in
+    let y0 = one_verdicts table (key_at table keys 0) w.result.first count one w.ensures.first.is in
+    let y1 = one_verdicts table (key_at table keys 1) w.result.second count one w.ensures.second.is in
+    let y2 = one_verdicts table (key_at table keys 2) w.result.third count one w.ensures.third.is in
+    let y3 = one_verdicts table (key_at table keys 3) w.result.fourth count one w.ensures.fourth.is in
+    rw c.rows.ensures at c.write_four.ensures ∙ rw (y0, y1, y2, y3) refl
+
+pub returns-then-tries-eq1-clause-taken : goal.returns-then-tries-eq1-clause-taken
+returns-then-tries-eq1-clause-taken g c =
+    let table = c.args.table.now in
+    let keys = c.args.keys.now in
+    let w = c.walk_four-walked in
+    let one : length table.roots ≡ 1 = omega arith in
+    omega (
+      arith,
+      w.ensures.taken,
+      one_steps table (key_at table keys 0) one,
+      one_steps table (key_at table keys 1) one,
+      one_steps table (key_at table keys 2) one,
+      one_steps table (key_at table keys 3) one,
+    )

@@ -1,4 +1,4 @@
-use Rattle.std.proofs.Common.{◌≡◌, ◌+◌, ◌*◌, ◌/◌, ◌<◌, ℕ, List, length, take, drop, ◌≤◌, ◌-◌, ◌++◌, arith, sym, ap, ◌∙◌}
+use Rattle.std.proofs.Common.{◌≡◌, ◌+◌, ◌*◌, ◌/◌, ◌<◌, ℕ, length, drop, ◌≤◌, ◌++◌, arith, sym, ap, ◌∙◌}
 use Rattle.std.proofs.Common.{subst}
 use Rattle.flat_table.specs.Batch.{keys_in, first_verdicts, first_steps}
 use Rattle.scalar_walk.proofs.Batches.{verdicts_turn, steps_turn, four_turn, steps-four}
@@ -15,7 +15,8 @@ loop-k-preserved g c =
     let count : c.args.cats.count ≡ c.count-count.result = sym c.count-count.ensures.value in
     let room : length l.out ≡ keys_in table keys * c.count-count.result = l.auto.out ∙ c.loop-block.auto.out
     ∙ c.requires.room_fits ∙ ap (λ (n : ℕ). keys_in table keys * n) count in
-    let steps = steps_turn table keys l.k c.key_len-key_len.result l.taken w.result len l.invariant.1 w.ensures.taken in (
+    let steps = steps_turn table keys l.k c.key_len-key_len.result l.taken w.result len l.invariant.1
+    w.ensures.taken in (
       verdicts_turn table keys l.out c.args.out.now w.new.verdicts l.k (keys_in table keys) c.count-count.result
           c.key_len-key_len.result len lt room l.invariant.0 w.ensures.verdicts,
       steps,

@@ -1,6 +1,6 @@
-use Rattle.std.proofs.Common.{◌≡◌, ◌<◌, ◌==◌, ℕ, List, length, take, not, arith, sym, ap, ◌∙◌, subst, All}
+use Rattle.std.proofs.Common.{◌==◌, ℕ, take, not, arith, ap, ◌∙◌}
 use Rattle.scalar_walk.specs.Rows.{joined_rows}
-use Rattle.scalar_walk.proofs.Reached.{rows_there, won_are}
+use Rattle.scalar_walk.proofs.Reached.{won_are}
 use Rattle.scalar_walk.proofs.classify.mark_winners.Goals as goal
 
 pub returns : goal.returns

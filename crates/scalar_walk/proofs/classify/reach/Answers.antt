@@ -1,5 +1,4 @@
-use Rattle.std.proofs.Common.{◌≡◌, ◌+◌, ◌<◌, ℕ, length, arith, subst}
-use Rattle.scalar_walk.specs.Rows.{Reaches}
+use Rattle.std.proofs.Common.{◌<◌, arith}
 use Rattle.scalar_walk.proofs.Reached.{reaches_more, first_tries_more}
 use Rattle.scalar_walk.proofs.classify.reach.Goals as goal
 

@@ -8,10 +8,10 @@ use Rattle.scalar_walk.proofs.classify.reach_four.Given as goal
 
 abbrev pub invariant-loop-trie : goal.invariant-loop-trie
 invariant-loop-trie g l =
-    Reaches l.table (key_at l.table l.keys 0) l.trie l.first
-    × Reaches l.table (key_at l.table l.keys 1) l.trie l.second
-    × Reaches l.table (key_at l.table l.keys 2) l.trie l.third
-    × Reaches l.table (key_at l.table l.keys 3) l.trie l.fourth
+    Reaches l.table (key_at l.table l.keys 0) l.trie l.reached.first
+    × Reaches l.table (key_at l.table l.keys 1) l.trie l.reached.second
+    × Reaches l.table (key_at l.table l.keys 2) l.trie l.reached.third
+    × Reaches l.table (key_at l.table l.keys 3) l.trie l.reached.fourth
     × (l.taken ≡ first_tries_steps l.table (key_at l.table l.keys 0) l.trie + first_tries_steps l.table
     (key_at l.table l.keys 1) l.trie + first_tries_steps l.table (key_at l.table l.keys 2) l.trie +
     first_tries_steps l.table (key_at l.table l.keys 3) l.trie)

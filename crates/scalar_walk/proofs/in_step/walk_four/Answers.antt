@@ -1,4 +1,4 @@
-use Rattle.std.proofs.Common.{◌≡◌, ◌+◌, ◌*◌, ◌<◌, ℕ, List, length, arith, sym, ap, ◌∙◌, lit<, refl}
+use Rattle.std.proofs.Common.{◌+◌, ◌*◌, arith, lit<, refl}
 use Rattle.scalar_walk.proofs.InStep.{lane_begins, lane, lane_ends, sum_of_four, four_more, steps_of_four}
 use Rattle.scalar_walk.proofs.in_step.walk_four.Goals as goal
 

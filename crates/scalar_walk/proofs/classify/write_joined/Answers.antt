@@ -1,8 +1,8 @@
-use Rattle.std.proofs.Common.{◌%◌, ◌<◌, ◌≤◌, length, ℕ, arith}
+use Rattle.std.proofs.Common.{◌%◌, arith}
 use Rattle.std.proofs.lemmas.List.FromFn.{fill_by_all}
 use Rattle.flat_table.specs.Walk.{userdatas}
 use Rattle.scalar_walk.specs.Rows.{joined_rows}
-use Rattle.scalar_walk.proofs.classify.write_verdicts.Goals as goal
+use Rattle.scalar_walk.proofs.classify.write_joined.Goals as goal
 
 pub returns : goal.returns
 returns c =
