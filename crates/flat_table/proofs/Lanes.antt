@@ -107,7 +107,8 @@ module _ (table : TableView) (trie : ℕ) (key : List ℕ) (sound : sound_fault 
     there = λ no_match. (next_leads_on table trie sound lt n word byte small (s.level no_match)).there;
     next = moves word byte n s small (word_more table trie key n place h e
         ∙ ap (λ (x : ℕ). moved table.words (word_after table trie key n) x) (sym b));
-    steps = step_more table trie key n h ∙ ap (λ (w : ℕ). steps_after table trie key n + (if is_match w then 0 else 1))
+    steps = step_more table trie key n h
+        ∙ ap (λ (w : ℕ). steps_after table trie key n + (if is_match w then 0 else 1))
         (sym s.is);
   }
 

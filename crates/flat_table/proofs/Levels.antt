@@ -1,5 +1,6 @@
 -- Where the levels of a table lie, trie by trie.
-use Rattle.std.proofs.Common.{◌≡◌, ℕ, zero, suc, ◌+◌, ◌<◌, ◌≤◌, List, [], ◌∷◌, refl, sym, ap, ◌∙◌, arith, add-one, map}
+use Rattle.std.proofs.Common.{◌≡◌, ℕ, zero, suc, ◌+◌, ◌<◌, ◌≤◌, List, [], ◌∷◌, refl, sym, ap, ◌∙◌, arith, add-one}
+use Rattle.std.proofs.Common.{map}
 use Rattle.std.proofs.Common.{take, drop, length, sum, get_or}
 use Rattle.std.proofs.lemmas.List.Sums.{sum_by-cons, sum_by-take-drop}
 use Rattle.std.proofs.Common.{drop-cons, ◌-◌}
@@ -36,7 +37,8 @@ pub record AtTrie (table : TableView) (trie first from : ℕ) : Type 0 where
 pub record Turn (table : TableView) (trie first from end : ℕ) : Type 0 where
   pub bound : end ≤ length table.level_lens
   pub fits : from + sum (take (end - first) (drop first table.level_lens)) ≤ length table.words
-  pub here : drop trie (trie_levels table) ≡ levels_from from (take (end - first) (drop first table.level_lens)) ∷ drop
+  pub here : drop trie (trie_levels table)
+      ≡ levels_from from (take (end - first) (drop first table.level_lens)) ∷ drop
       (trie + 1) (trie_levels table)
   pub next : AtTrie table (trie + 1) end (from + sum (take (end - first) (drop first table.level_lens)))
 
@@ -76,7 +78,8 @@ turn table trie first from end lt ends at =
     (levels_from (from + sum (take d lens)) (drop d lens)) ≡ drop trie (trie_levels table) =
     rw len at (sym (ap (λ (xs : List ℕ). portions (map depth xs) (levels_from from lens)) now
     ∙ tries_step depth kept (drop (trie + 1) table.kept) from lens) ∙ at.rest) in
-    let rest : portions (map depth (drop (trie + 1) table.kept)) (levels_from (from + sum (take d lens)) (drop d lens))
+    let rest : portions (map depth (drop (trie + 1) table.kept))
+    (levels_from (from + sum (take d lens)) (drop d lens))
     ≡ drop (trie + 1) (trie_levels table) = tail_of trie (trie_levels table) _ _ whole in
     record {
       bound = omega arith;

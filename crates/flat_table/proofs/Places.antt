@@ -1,5 +1,6 @@
 -- What a table keeps beside its parts, and where its levels stand.
-use Rattle.std.proofs.Common.{◌≡◌, ℕ, zero, suc, ◌+◌, ◌<◌, List, [], ◌∷◌, refl, sym, ap, ◌∙◌, arith, take, drop, length}
+use Rattle.std.proofs.Common.{◌≡◌, ℕ, zero, suc, ◌+◌, ◌<◌, List, [], ◌∷◌, refl, sym, ap, ◌∙◌, arith, take, drop}
+use Rattle.std.proofs.Common.{length}
 use Rattle.std.proofs.Common.{sum, get_or}
 use Rattle.arrayvec.specs.ArrayVec.{ArrayVec}
 use Rattle.std.proofs.lemmas.List.{get_or-map, length-map, drop-drop, get_or-take, get_or-drop}
@@ -21,7 +22,8 @@ portion-at (size ∷ sizes) (suc n) xs h =
     ∙ ap (λ (k : ℕ). drop k xs) (sym (sum_by-cons (λ (x : ℕ). x) size (take n sizes))))
 
 -- the level at a number has the length at that number, and behind the last there is none
-pub level-len : (place : ℕ) (lens : List ℕ) (n : ℕ) → (get_or (levels_from place lens) n no_level).len ≡ get_or lens n 0
+pub level-len : (place : ℕ) (lens : List ℕ) (n : ℕ) → (get_or (levels_from place lens) n no_level).len
+    ≡ get_or lens n 0
 level-len place [] n = refl
 level-len place (len ∷ lens) zero = refl
 level-len place (len ∷ lens) (suc n) = level-len (place + len) lens n
@@ -50,7 +52,8 @@ pub levels-more : (table : TableView) (trie : ℕ) → trie < length table.kept 
 levels-more table trie lt =
     let known : trie < length (depths_of table) = omega (arith, length-map table.kept (depth_of table.key_len)) in
     sum_by_more (λ (x : ℕ). x) (depths_of table) trie 0 known
-    ∙ ap (λ (d : ℕ). sum (take trie (depths_of table)) + d) (get_or-map (depth_of table.key_len) table.kept trie 0 0 lt)
+    ∙ ap (λ (d : ℕ). sum (take trie (depths_of table)) + d)
+    (get_or-map (depth_of table.key_len) table.kept trie 0 0 lt)
 
 -- where a level of a trie stands among all
 module _ (table : TableView) (s : IsShaped table) (trie depth : ℕ) (lt : trie < length table.roots)

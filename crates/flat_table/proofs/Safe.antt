@@ -54,14 +54,17 @@ not_false false e = cc
 level_sound : (rows : ℕ) (words : List ℕ) (levels : List Level) (depth : ℕ) (k : ℕ) →
     unsound_word rows words levels ≡ None →
     k < length (words_in words (get_or levels depth no_level)) →
-    is_sound_word rows (get_or levels (depth + 1) no_level) (get_or (words_in words (get_or levels depth no_level)) k 0)
+    is_sound_word rows (get_or levels (depth + 1) no_level)
+    (get_or (words_in words (get_or levels depth no_level)) k 0)
     ≡ true
 level_sound rows words [] depth k e h = absurd (omega arith)
 level_sound rows words (level ∷ []) zero k e h =
-    not_false _ (position_none (λ (word : ℕ). not (is_sound_word rows no_level word)) level.from (words_in words level)
+    not_false _ (position_none (λ (word : ℕ). not (is_sound_word rows no_level word)) level.from
+    (words_in words level)
     k 0 (both_none _ _ e).0 h)
 level_sound rows words (level ∷ next ∷ levels) zero k e h =
-    not_false _ (position_none (λ (word : ℕ). not (is_sound_word rows next word)) level.from (words_in words level) k 0
+    not_false _ (position_none (λ (word : ℕ). not (is_sound_word rows next word)) level.from (words_in words level) k
+    0
     (both_none _ _ e).0 h)
 level_sound rows words (level ∷ levels) (suc depth) k e h =
     rw (add-one (suc depth)) (rw (add-one depth) at (level_sound rows words levels depth k (both_none _ _ e).1 h))
@@ -224,6 +227,7 @@ module _ (table : TableView) (trie : ℕ) (sound : sound_fault table ≡ None) (
       (level_of table trie (depth + 1)) w) (sym at) ∙ e) in
       record { there = there; row = s.0; level = s.1 }
 
-pub node_is_no_match : (table : TableView) (trie depth word : ℕ) → leads_into (level_of table trie depth) word ≡ true →
+pub node_is_no_match : (table : TableView) (trie depth word : ℕ) → leads_into (level_of table trie depth) word
+    ≡ true →
     is_match word ≡ false
 node_is_no_match table trie depth word e = node_is_no_match_of (level_of table trie depth) word e

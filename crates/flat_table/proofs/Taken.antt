@@ -1,5 +1,6 @@
 -- A walk goes step by step.
-use Rattle.std.proofs.Common.{◌≡◌, ℕ, zero, suc, ◌+◌, ◌<◌, ◌≤◌, Bool, true, false, cond, List, [], ◌∷◌, ◌++◌, refl, sym}
+use Rattle.std.proofs.Common.{◌≡◌, ℕ, zero, suc, ◌+◌, ◌<◌, ◌≤◌, Bool, true, false, cond, List, [], ◌∷◌, ◌++◌, refl}
+use Rattle.std.proofs.Common.{sym}
 use Rattle.std.proofs.Common.{ap, ◌∙◌, arith, inl, inr, add-one, fold, map, take, drop, length, length-take, get_or}
 use Rattle.std.specs.Prelude.{if◌then◌else◌, slice_index}
 use Rattle.std.proofs.lemmas.Bool.{cases_Bool}
@@ -11,7 +12,8 @@ use Rattle.flat_table.specs.Walk.{taken, moved, last_word, root_of, bytes_of, wo
 use Rattle.flat_table.specs.Walk.{walk_steps}
 
 -- a match stays, whatever bytes follow
-match_stays : (words : List ℕ) (word : ℕ) (bytes : List ℕ) → is_match word ≡ true → fold (moved words) word bytes ≡ word
+match_stays : (words : List ℕ) (word : ℕ) (bytes : List ℕ) → is_match word ≡ true → fold (moved words) word bytes
+    ≡ word
 match_stays words word [] e = refl
 match_stays words word (byte ∷ bytes) e = rw e (match_stays words word bytes e)
 

@@ -1,5 +1,6 @@
 -- The first unsound word and root, trie by trie.
-use Rattle.std.proofs.Common.{◌≡◌, ℕ, ◌+◌, ◌-◌, ◌<◌, Bool, true, false, not, cond, Option, Some, None, List, ◌∷◌, refl}
+use Rattle.std.proofs.Common.{◌≡◌, ℕ, ◌+◌, ◌-◌, ◌<◌, Bool, true, false, not, cond, Option, Some, None, List, ◌∷◌}
+use Rattle.std.proofs.Common.{refl}
 use Rattle.std.proofs.Common.{sym, ap, ◌∙◌, map, take, drop, length, get_or, drop-cons, add-one}
 use Rattle.std.specs.List.{zip, position_from}
 use Rattle.std.specs.Option.{is_some, option_or}
@@ -17,8 +18,8 @@ not_here : (here later : Option ℕ) → is_some here ≡ false → option_or he
 not_here None later h = refl
 not_here (Some place) later h = cc
 
--- A loop over the tries looks at the levels of the trie at which it stands: an unsound word there is the first of all,
--- and else the first is in the levels behind.
+-- A loop over the tries looks at the levels of the trie at which it stands: an unsound word there is the first of
+-- all, and else the first is in the levels behind.
 module _ (table : TableView) (trie first from end : ℕ) (place : Option ℕ)
     (e : place ≡ unsound_word (length table.rows) table.words
     (levels_from from (take (end - first) (drop first table.level_lens))))

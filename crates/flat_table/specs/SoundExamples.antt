@@ -92,7 +92,8 @@ roots_before_words = refl
 -- next, to the last row, to a row that isn't there, a match with a boundary
 words_of_a_level : map (λ word. sound_fault (record source_table {
   words =
-      match_of 0 ∷ word ∷ match_of 0 ∷ match_of 0 ∷ match_of 0 ∷ single_at 6 ∷ single_at 7 ∷ match_of
+      match_of 0 ∷ word ∷ match_of 0 ∷ match_of 0 ∷ match_of 0 ∷ single_at 6 ∷ single_at
+      7 ∷ match_of
       1 ∷ [];
 }))
     (single_at 4 ∷ single_at 5 ∷ single_at 6 ∷ match_of 1 ∷ match_of 2 ∷ 0x1_80000001 ∷ [])

@@ -5,7 +5,8 @@
 //! of the others: a group in which every rule of the trie lets every byte through decides nothing.
 
 ghost use Rattle.std.specs.Prelude.{◌≡◌, ◌+◌, ◌-◌, ◌*◌, ◌/◌, ◌%◌, ◌^◌, ◌<◌, ◌≤◌, IsTrue};
-ghost use Rattle.flat_table.specs.Groups.{longest_key, is_key_len, groups_of, group_of, is_kept, is_kept_word, kept_places, depth_of};
+ghost use Rattle.flat_table.specs.Groups.{longest_key, is_key_len, groups_of, group_of, is_kept};
+ghost use Rattle.flat_table.specs.Groups.{is_kept_word, kept_places, depth_of};
 
 use arrayvec::ArrayVec;
 

@@ -5,12 +5,15 @@
 //! can't leave the table. No order of a node's boundaries is asked, since each of them gives some
 //! word of the node.
 
-ghost use Rattle.std.specs.Prelude.{◌≡◌, ◌==◌, ◌+◌, ◌*◌, ◌^◌, ◌<◌, ◌≤◌, map, length, sum, nat_le, not, IsTrue, IfSome};
+ghost use Rattle.std.specs.Prelude.{◌≡◌, ◌==◌, ◌+◌, ◌*◌, ◌^◌, ◌<◌, ◌≤◌, map, length, sum, nat_le};
+ghost use Rattle.std.specs.Prelude.{not, IsTrue, IfSome};
 ghost use Rattle.std.specs.List.{list_all, position_from};
 ghost use Rattle.std.specs.Result.{result_err};
 ghost use Rattle.flat_table.specs.Groups.{longest_key, is_key_len, is_kept_word, depth_of};
 ghost use Rattle.flat_table.specs.Table.{view_of, levels_from};
-ghost use Rattle.flat_table.specs.Sound.{most_tries, most_words, row_len, begins_with_zeros, is_shaped, is_sound_word, unsound_word, first_unsound_root, first_unsound_word, sound_fault};
+ghost use Rattle.flat_table.specs.Sound.{most_tries, most_words, row_len, begins_with_zeros};
+ghost use Rattle.flat_table.specs.Sound.{is_shaped, is_sound_word, unsound_word};
+ghost use Rattle.flat_table.specs.Sound.{first_unsound_root, first_unsound_word, sound_fault};
 
 use crate::groups::{depth_of, is_kept_word, is_key_len};
 use crate::level::Level;

@@ -1,6 +1,8 @@
 //! Tables that every key can be walked through. A table keeps no rule.
 
-ghost use Rattle.std.specs.Prelude.{◌≡◌, ◌+◌, ◌*◌, ◌<◌, ◌≤◌, length, slice_get, slice_index, slice_index_or, None, IfOk, IfErr, Some, map, sum, take, option_map};
+ghost use Rattle.std.specs.Prelude.{◌≡◌, ◌+◌, ◌*◌, ◌<◌, ◌≤◌, length, slice_get, slice_index};
+ghost use Rattle.std.specs.Prelude.{slice_index_or, None, IfOk, IfErr, Some, map, sum, take};
+ghost use Rattle.std.specs.Prelude.{option_map};
 ghost use Rattle.std.specs.Result.{result_err};
 ghost use Rattle.flat_table.specs.Groups.{longest_key, kept_places};
 ghost use Rattle.flat_table.specs.Table.{view_of, depths_of, places_of, level_of};

@@ -14,7 +14,9 @@
 //! word for each byte value.
 
 ghost use Rattle.std.specs.Prelude.{◌≡◌, ◌+◌, ◌*◌, ◌/◌, ◌%◌, ◌^◌, ◌<◌, ◌≤◌, nat_lt, count_by};
-ghost use Rattle.flat_table.specs.Word.{indexes, full_len, index_of, kind_of, boundaries_of, is_match, is_node, is_unbounded, node_len, offset_of, next_place};
+ghost use Rattle.flat_table.specs.Word.{indexes, full_len, index_of, kind_of, boundaries_of};
+ghost use Rattle.flat_table.specs.Word.{is_match, is_node, is_unbounded, node_len, offset_of};
+ghost use Rattle.flat_table.specs.Word.{next_place};
 
 /// How many bits of a word are the index.
 const INDEX_BITS: u32 = 29;

@@ -110,7 +110,8 @@ steps_turn table keys k len taken more e is here =
     omega (arith, key, is, steps-more table keys k)
 
 -- four pieces of one length, written one after the other
-pub four_written : (v y0 y1 y2 y3 : List ℕ) (count : ℕ) → length v ≡ 4 * count → length y0 ≡ count → length y1 ≡ count →
+pub four_written : (v y0 y1 y2 y3 : List ℕ) (count : ℕ) → length v ≡ 4 * count → length y0 ≡ count → length y1
+    ≡ count →
     length y2 ≡ count → length y3 ≡ count →
     put_mid (3 * count) (4 * count - 3 * count) (put_mid (2 * count) (3 * count - 2 * count)
     (put_mid count (2 * count - count) (y0 ++ post_of 0 (count - 0) v) y1) y2) y3
@@ -241,7 +242,8 @@ pub four_turn : (table : TableView) (keys out start new : List ℕ) (k n count l
 four_turn table keys out start new k n count len e h room is written =
     put_behind (first_verdicts table count keys k) out start new (k * count) ((k + 4) * count - k * count)
     (first-len table count keys k) is
-    ∙ ap (λ (xs : List ℕ). (first_verdicts table count keys k ++ xs) ++ drop (k * count + ((k + 4) * count - k * count))
+    ∙ ap (λ (xs : List ℕ). (first_verdicts table count keys k ++ xs)
+    ++ drop (k * count + ((k + 4) * count - k * count))
     start) written
     ∙ ap (λ (xs : List ℕ). xs ++ drop (k * count + ((k + 4) * count - k * count)) start)
     (sym (verdicts-four table keys k len e count))

@@ -68,7 +68,8 @@ module _ (table : TableView) (trie : ℕ) (key : List ℕ) (sound : sound_fault 
     from_in n from h e = from_in_key n from (omega (arith, ap (λ (xs : List ℕ). length xs) p)) (e
         ∙ ap (λ (xs : List ℕ). slice_index xs n) p)
 
-    pub step_in : (n word from at : ℕ) → Walks table trie key n word → n < length places → from ≡ slice_index places n →
+    pub step_in : (n word from at : ℕ) → Walks table trie key n word → n < length places → from
+        ≡ slice_index places n →
         slice_index key from < 2 ^ 8 → at ≡ next_place word (slice_index key from) →
         Step table trie key n word from at (slice_index words at)
     step_in n word from at w h e small is_at =
@@ -97,7 +98,8 @@ module _ (table : TableView) (trie : ℕ) (key : List ℕ) (sound : sound_fault 
       n ≤ length (places_of table trie) → ⊥
   no_end n word w le ge =
       let e : n ≡ length (places_of table trie) = omega arith in
-      let m = ends_at_match table trie key sound lt word (subst (λ (k : ℕ). Stands table trie key k word) e w.stands) in
+      let m = ends_at_match table trie key sound lt word (subst (λ (k : ℕ). Stands table trie key k word) e w.stands)
+      in
       cc (m, w.no_match)
 
 -- a walk begins at the root

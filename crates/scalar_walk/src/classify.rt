@@ -1,11 +1,13 @@
 //! The verdicts of keys, by the rows that their walks reach.
 
-ghost use Rattle.std.specs.Prelude.{◌≡◌, ◌+◌, ◌*◌, ◌%◌, ◌<◌, ◌≤◌, ◌^◌, ◌==◌, length, map, take, not, slice_index, flat_map, ◌∷◌, [], All};
+ghost use Rattle.std.specs.Prelude.{◌≡◌, ◌+◌, ◌*◌, ◌%◌, ◌<◌, ◌≤◌, ◌^◌, ◌==◌, length, map, take};
+ghost use Rattle.std.specs.Prelude.{not, slice_index, flat_map, ◌∷◌, [], All};
 ghost use Rattle.std.specs.List.{range_with_len};
 ghost use Rattle.flat_table.specs.Groups.{longest_key};
 ghost use Rattle.flat_table.specs.Sound.{most_tries, row_len};
 ghost use Rattle.flat_table.specs.Walk.{joined, key_steps, userdatas};
-ghost use Rattle.flat_table.specs.Batch.{LengthsFit, key_at, key_verdicts, first_verdicts, first_steps, batch_verdicts, batch_steps};
+ghost use Rattle.flat_table.specs.Batch.{LengthsFit, key_at, key_verdicts, first_verdicts};
+ghost use Rattle.flat_table.specs.Batch.{first_steps, batch_verdicts, batch_steps};
 ghost use Rattle.scalar_walk.specs.Rows.{Reaches, joined_rows, row_verdicts, winners_of};
 
 use crate::in_step::{FourWalked, IN_STEP, walk_four};

@@ -31,6 +31,7 @@ loop-kept-preserved c =
     rw c.deref.ensures.value at c.sum_of-from.ensures.value in (
       subst (λ (n : ℕ). AtTrie table (l.kept-index + 1) end (l.from + n)) (sym words) t.next,
       no_word_here table l.kept-index l.first l.from end c.unsound_word-place.result
-          (rw (c.len.ensures, c.args.parts.now.rows.ok.0, c.deref-in-loop-kept.ensures.value, c.deref.ensures.value) at
+          (rw (c.len.ensures, c.args.parts.now.rows.ok.0, c.deref-in-loop-kept.ensures.value, c.deref.ensures.value)
+          at
           c.unsound_word-place.ensures.place) l.invariant.1 t (sym c.is_some.ensures ∙ c.if-is_some.false),
     )

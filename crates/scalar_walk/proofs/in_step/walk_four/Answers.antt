@@ -75,7 +75,8 @@ bounds-keys-len-in-loop-place-2 g c =
     (lane c.args.table.now c.args.trie c.args.keys.now c.root-root.ensures.sound c.requires.trie c.requires.keys
     c.places-place-items.result.now c.words-words.result.now c.places-place-items.ensures.places
     c.words-words.ensures
-    3 c.loop-place.place-index c.from-place.result (3 * c.key_len-len.result + c.from-place.result) c.loop-place.fourth
+    3 c.loop-place.place-index c.from-place.result (3 * c.key_len-len.result + c.from-place.result)
+    c.loop-place.fourth
     (lit< tt) c.loop-place-test.true c.from-place.ensures (omega (arith, c.key_len-len.ensures.value))
     (λ k. omega (arith, c.type_inv.keys k)) c.loop-place.invariant.3).in_keys
 
@@ -84,34 +85,40 @@ go_on-fourth-requires-clause-there g c =
     (lane c.args.table.now c.args.trie c.args.keys.now c.root-root.ensures.sound c.requires.trie c.requires.keys
     c.places-place-items.result.now c.words-words.result.now c.places-place-items.ensures.places
     c.words-words.ensures
-    3 c.loop-place.place-index c.from-place.result (3 * c.key_len-len.result + c.from-place.result) c.loop-place.fourth
+    3 c.loop-place.place-index c.from-place.result (3 * c.key_len-len.result + c.from-place.result)
+    c.loop-place.fourth
     (lit< tt) c.loop-place-test.true c.from-place.ensures (omega (arith, c.key_len-len.ensures.value))
     (λ k. omega (arith, c.type_inv.keys k)) c.loop-place.invariant.3).there
 
 pub loop-place-preserved : goal.loop-place-preserved
 loop-place-preserved g c =
-    let s0 = lane c.args.table.now c.args.trie c.args.keys.now c.root-root.ensures.sound c.requires.trie c.requires.keys
+    let s0 = lane c.args.table.now c.args.trie c.args.keys.now c.root-root.ensures.sound c.requires.trie
+    c.requires.keys
     c.places-place-items.result.now c.words-words.result.now c.places-place-items.ensures.places
     c.words-words.ensures
     0 c.loop-place.place-index c.from-place.result c.from-place.result c.loop-place.first (lit< tt)
     c.loop-place-test.true c.from-place.ensures (omega (arith, c.key_len-len.ensures.value))
     (λ k. omega (arith, c.type_inv.keys k)) c.loop-place.invariant.0 in
-    let s1 = lane c.args.table.now c.args.trie c.args.keys.now c.root-root.ensures.sound c.requires.trie c.requires.keys
+    let s1 = lane c.args.table.now c.args.trie c.args.keys.now c.root-root.ensures.sound c.requires.trie
+    c.requires.keys
     c.places-place-items.result.now c.words-words.result.now c.places-place-items.ensures.places
     c.words-words.ensures
     1 c.loop-place.place-index c.from-place.result (c.key_len-len.result + c.from-place.result) c.loop-place.second
     (lit< tt) c.loop-place-test.true c.from-place.ensures (omega (arith, c.key_len-len.ensures.value))
     (λ k. omega (arith, c.type_inv.keys k)) c.loop-place.invariant.1 in
-    let s2 = lane c.args.table.now c.args.trie c.args.keys.now c.root-root.ensures.sound c.requires.trie c.requires.keys
+    let s2 = lane c.args.table.now c.args.trie c.args.keys.now c.root-root.ensures.sound c.requires.trie
+    c.requires.keys
     c.places-place-items.result.now c.words-words.result.now c.places-place-items.ensures.places
     c.words-words.ensures
     2 c.loop-place.place-index c.from-place.result (2 * c.key_len-len.result + c.from-place.result) c.loop-place.third
     (lit< tt) c.loop-place-test.true c.from-place.ensures (omega (arith, c.key_len-len.ensures.value))
     (λ k. omega (arith, c.type_inv.keys k)) c.loop-place.invariant.2 in
-    let s3 = lane c.args.table.now c.args.trie c.args.keys.now c.root-root.ensures.sound c.requires.trie c.requires.keys
+    let s3 = lane c.args.table.now c.args.trie c.args.keys.now c.root-root.ensures.sound c.requires.trie
+    c.requires.keys
     c.places-place-items.result.now c.words-words.result.now c.places-place-items.ensures.places
     c.words-words.ensures
-    3 c.loop-place.place-index c.from-place.result (3 * c.key_len-len.result + c.from-place.result) c.loop-place.fourth
+    3 c.loop-place.place-index c.from-place.result (3 * c.key_len-len.result + c.from-place.result)
+    c.loop-place.fourth
     (lit< tt) c.loop-place-test.true c.from-place.ensures (omega (arith, c.key_len-len.ensures.value))
     (λ k. omega (arith, c.type_inv.keys k)) c.loop-place.invariant.3 in
     let m0 = s0.next c.go_on-first.result c.go_on-first.ensures.word in

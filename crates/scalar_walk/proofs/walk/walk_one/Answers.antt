@@ -34,19 +34,22 @@ bounds-words-place_behind g c =
 pub returns-then-kind-eq-MATCH-clause-row : goal.returns-then-kind-eq-MATCH-clause-row
 returns-then-kind-eq-MATCH-clause-row g c =
     let k = c.kind_of-kind-in-loop-taken in
-    let s = step_in c.args.table.now c.args.trie c.args.key.now c.root-word.ensures.sound c.requires.trie c.requires.key
+    let s = step_in c.args.table.now c.args.trie c.args.key.now c.root-word.ensures.sound c.requires.trie
+    c.requires.key
     c.places-place-items.result.now c.words-words.result.now c.places-place-items.ensures.places c.words-words.ensures
     c.loop-taken.taken c.loop-taken.word c.from.result c.place_behind.result c.loop-taken.invariant.0
     c.loop-taken-test.true c.from.ensures
     (omega (arith, c.type_inv.key c.from.result)) c.place_behind.ensures in
     c.index_of.ensures.value
-    ∙ row_of_match c.args.table.now c.args.trie c.args.key.now c.root-word.ensures.sound c.requires.trie c.requires.key
+    ∙ row_of_match c.args.table.now c.args.trie c.args.key.now c.root-word.ensures.sound c.requires.trie
+    c.requires.key
     _ _ s.stands (match_by_kind _ k.result k.ensures c.if-kind-eq-MATCH.true)
 
 pub returns-then-kind-eq-MATCH-clause-taken : goal.returns-then-kind-eq-MATCH-clause-taken
 returns-then-kind-eq-MATCH-clause-taken g c =
     let k = c.kind_of-kind-in-loop-taken in
-    let s = step_in c.args.table.now c.args.trie c.args.key.now c.root-word.ensures.sound c.requires.trie c.requires.key
+    let s = step_in c.args.table.now c.args.trie c.args.key.now c.root-word.ensures.sound c.requires.trie
+    c.requires.key
     c.places-place-items.result.now c.words-words.result.now c.places-place-items.ensures.places c.words-words.ensures
     c.loop-taken.taken c.loop-taken.word c.from.result c.place_behind.result c.loop-taken.invariant.0
     c.loop-taken-test.true c.from.ensures
@@ -58,7 +61,8 @@ returns-then-kind-eq-MATCH-clause-taken g c =
 pub returns-then-kind-eq-MATCH-clause-steps : goal.returns-then-kind-eq-MATCH-clause-steps
 returns-then-kind-eq-MATCH-clause-steps g c =
     let k = c.kind_of-kind-in-loop-taken in
-    let s = step_in c.args.table.now c.args.trie c.args.key.now c.root-word.ensures.sound c.requires.trie c.requires.key
+    let s = step_in c.args.table.now c.args.trie c.args.key.now c.root-word.ensures.sound c.requires.trie
+    c.requires.key
     c.places-place-items.result.now c.words-words.result.now c.places-place-items.ensures.places c.words-words.ensures
     c.loop-taken.taken c.loop-taken.word c.from.result c.place_behind.result c.loop-taken.invariant.0
     c.loop-taken-test.true c.from.ensures
@@ -70,7 +74,8 @@ returns-then-kind-eq-MATCH-clause-steps g c =
 pub returns-then-kind-eq-MATCH-clause-there : goal.returns-then-kind-eq-MATCH-clause-there
 returns-then-kind-eq-MATCH-clause-there g c =
     let k = c.kind_of-kind-in-loop-taken in
-    let s = step_in c.args.table.now c.args.trie c.args.key.now c.root-word.ensures.sound c.requires.trie c.requires.key
+    let s = step_in c.args.table.now c.args.trie c.args.key.now c.root-word.ensures.sound c.requires.trie
+    c.requires.key
     c.places-place-items.result.now c.words-words.result.now c.places-place-items.ensures.places c.words-words.ensures
     c.loop-taken.taken c.loop-taken.word c.from.result c.place_behind.result c.loop-taken.invariant.0
     c.loop-taken-test.true c.from.ensures
@@ -80,7 +85,8 @@ returns-then-kind-eq-MATCH-clause-there g c =
 pub loop-taken-preserved : goal.loop-taken-preserved
 loop-taken-preserved g c =
     let k = c.kind_of-kind-in-loop-taken in
-    let s = step_in c.args.table.now c.args.trie c.args.key.now c.root-word.ensures.sound c.requires.trie c.requires.key
+    let s = step_in c.args.table.now c.args.trie c.args.key.now c.root-word.ensures.sound c.requires.trie
+    c.requires.key
     c.places-place-items.result.now c.words-words.result.now c.places-place-items.ensures.places c.words-words.ensures
     c.loop-taken.taken c.loop-taken.word c.from.result c.place_behind.result c.loop-taken.invariant.0
     c.loop-taken-test.true c.from.ensures

@@ -17,7 +17,11 @@ bounds-as_slice-trie c =
     let table = view_of c.self.inside.parts in
     let lt : c.args.trie < length table.roots = subst (λ (t : TableView). c.args.trie < length t.roots)
     (sym c.self.view_is) c.requires in
-    omega (arith, tries_of_places table c.self.inside.places.items c.self.invariant, ap length c.as_slice.ensures.value)
+    omega (
+      arith,
+      tries_of_places table c.self.inside.places.items c.self.invariant,
+      ap length c.as_slice.ensures.value,
+    )
 
 pub returns-clause-places : goal.returns-clause-places
 returns-clause-places c =
