@@ -1,0 +1,54 @@
+-- Examples of groups and of their winners' ranks, each checked by evaluation, over one field of one
+-- byte.
+use Rattle.std.specs.Prelude.{◌≡◌, ℕ, ℤ, pos, List, [], ◌∷◌, refl}
+use Rattle.field_defs.specs.declared.field.FieldKind.TheVariants as kinds
+use Rattle.field_defs.specs.declared.field.FieldDef.{FieldDef}
+use Rattle.field_defs.specs.declared.field.FieldValue.TheVariants.{Range}
+use Rattle.rule_set.specs.Rule.{RuleView}
+use Rattle.rule_set.specs.Among.{best_among}
+use Rattle.rule_set.specs.Winner.{winner}
+use Rattle.rule_groups.specs.Groups.{rank_or_none, greatest}
+use Rattle.rule_groups.specs.Laws.{winners_ranks}
+
+abbrev one_byte : List FieldDef
+one_byte = record { kind = kinds.Range; size = 1; field_index = 0; input_index = 0; offset = 0 } ∷
+    []
+
+-- a rule of category 0 for the bytes from low to high
+abbrev ranged : ℕ → ℕ → ℤ → RuleView
+ranged low high priority =
+    record {
+      tag = record { category_mask = 1; priority = priority; userdata = 1 };
+      fields = Range low high ∷ [];
+    }
+
+-- rules of ranks 3, 4, 1 and 2
+abbrev rules : List RuleView
+rules = ranged 0 99 (pos 5) ∷ ranged 50 99 (pos 8) ∷ ranged 0 255 (pos 1) ∷ ranged 50 199 (pos 5)
+    ∷ []
+
+-- the ranks of the winners of two groups for the byte: rules 0 and 3, and rules 1 and 2
+abbrev ranks_for : ℕ → List ℕ
+ranks_for byte = winners_ranks one_byte rules ((0 ∷ 3 ∷ []) ∷ (1 ∷ 2 ∷ []) ∷ []) (byte ∷ []) 0
+
+-- a group without a winner has 0
+byte_20 : ranks_for 20 ≡ 3 ∷ 1 ∷ []
+unfolding best_among
+byte_20 = refl
+
+byte_70 : ranks_for 70 ≡ 3 ∷ 4 ∷ []
+unfolding best_among
+byte_70 = refl
+
+byte_200 : ranks_for 200 ≡ 0 ∷ 1 ∷ []
+unfolding best_among
+byte_200 = refl
+
+-- the greatest is the rank of the winner of all
+greatest_decides : greatest (ranks_for 20) ∷ greatest (ranks_for 70) ∷ greatest (ranks_for 200) ∷ []
+    ≡ rank_or_none rules (winner one_byte rules (20 ∷ []) 0)
+    ∷ rank_or_none rules (winner one_byte rules (70 ∷ []) 0)
+    ∷ rank_or_none rules (winner one_byte rules (200 ∷ []) 0)
+    ∷ []
+unfolding best_among
+greatest_decides = refl
