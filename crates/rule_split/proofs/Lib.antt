@@ -1,0 +1,10 @@
+pub mod Counts
+pub mod Greatest
+pub mod Groups
+pub mod Halves
+pub mod Plans
+pub mod Sides
+pub mod Splitting
+pub mod Totals
+pub mod Values
+pub mod Winners

@@ -1,0 +1,226 @@
+//! The split of a rule set under a budget of words, turn by turn.
+
+ghost use Rattle.std.specs.Prelude.{◌≡◌, ℕ, ◌+◌, ◌<◌, ◌≤◌, ◌∷◌, ◌++◌, length, map, take, drop};
+ghost use Rattle.std.specs.Prelude.{All, [], slice_index_or, Err, IfOk, OnOk};
+ghost use Rattle.std.specs.Option.{option_to_list};
+ghost use Rattle.std.specs.List.{filter_map, position, range_with_len, sum_by};
+ghost use Rattle.rule_groups.specs.Groups.{IsPartition};
+ghost use Rattle.trie_merge.specs.Levels.{max_cap, row_words};
+ghost use Rattle.rule_split.specs.declared.answer.PlanFault.TheVariants.{TooLarge};
+ghost use Rattle.rule_split.specs.Counted.{group_in, levels_in, words_counted, most_counted};
+ghost use Rattle.rule_split.specs.Counted.{is_most, IsCounted, IsWithin};
+ghost use Rattle.rule_split.specs.Split.{plan_of, total_of, split_at, turn, groups_of};
+ghost use Rattle.rule_split.specs.Split.{words_in, first_groups, max_groups};
+
+use crate::answer::{Plan, PlanFault};
+use crate::counted::Counted;
+use crate::divide::divide;
+use rule_set::RuleSet;
+use std::alloc::{AllocError, Global};
+use trie_merge::Levels;
+
+/// How many groups the rules of a set are split into at most, as `RTE_ACL_MAX_TRIES` of DPDK's
+/// `lib/acl`, `acl.h`.
+pub const MAX_GROUPS: usize = 8;
+
+/// How many words the row takes that every table has, for keys that no rule matches.
+const ROW_WORDS: u64 = 16;
+
+/// The words of a table of the groups.
+fn total(groups: &[Counted], budget: u64) -> u64
+    requires few { length groups.now ≤ max_groups }
+    requires budget { budget ≤ max_cap }
+    requires within { All (IsWithin budget) groups.now }
+    ensures { result ≡ row_words + sum_by (words_counted budget) groups.now }
+{
+    let mut words = ROW_WORDS;
+    for group in groups {
+        words += group.words(budget);
+    }
+    words
+}
+
+/// The most words of a group that can be split, and 0 where none can.
+fn most_words(groups: &[Counted], budget: u64) -> u64
+    requires { budget ≤ max_cap }
+    ensures { result ≡ most_counted budget groups.now }
+{
+    let mut most = 0;
+    for group in groups {
+        most = most.max(group.words_to_split(budget));
+    }
+    most
+}
+
+/// The place of the group that is split, or none where no group can be.
+fn split_place(groups: &[Counted], budget: u64) -> Option<usize>
+    requires { budget ≤ max_cap }
+    ensures { result
+        ≡ position (λ group. is_most budget (most_counted budget groups.now) group) groups.now }
+{
+    let most = most_words(groups, budget);
+    groups.iter().position(|group| group.is_most(budget, most))
+}
+
+/// Puts two groups before the group at the place, or behind the last one.
+fn put_two(
+    groups: &mut Vec<Counted>,
+    place: usize,
+    first: Counted,
+    second: Counted,
+) -> Result<(), AllocError>
+    requires { place ≤ length groups.old.items }
+    ensures { OnOk result (groups.new.items
+        ≡ take place groups.old.items ++ first ∷ second ∷ drop place groups.old.items) }
+{
+    groups.insert(place, first)?;
+    groups.insert(place + 1, second)?;
+    Ok(())
+}
+
+/// Splits the group at the place in two, and counts both.
+fn split_at(
+    alloc: Global,
+    rules: &RuleSet,
+    budget: u64,
+    groups: &mut Vec<Counted>,
+    place: usize,
+) -> Result<(), AllocError>
+    requires budget { budget ≤ max_cap }
+    requires place { place < length groups.old.items }
+    requires two { 2 ≤ length (slice_index_or (map group_in groups.old.items) place []) }
+    requires partition { IsPartition (length rules.now.rules) (map group_in groups.old.items) }
+    requires counted { All (IsCounted rules.now budget) groups.old.items }
+    ensures groups { OnOk result (map group_in groups.new.items
+        ≡ split_at rules.now (map group_in groups.old.items) place) }
+    ensures counted { OnOk result (All (IsCounted rules.now budget) groups.new.items) }
+{
+    let group = groups.remove(place);
+    let two = divide(alloc, rules, group.group())?;
+    // What was built for the whole group isn't needed any more.
+    drop(group);
+    let first = Counted::new(alloc, rules, two.first, budget)?;
+    let second = Counted::new(alloc, rules, two.second, budget)?;
+    put_two(groups, place, first, second)
+}
+
+/// Takes one turn: where the total is above the budget, the group of most words becomes two.
+fn take_turn(
+    alloc: Global,
+    rules: &RuleSet,
+    budget: u64,
+    groups: &mut Vec<Counted>,
+) -> Result<(), AllocError>
+    requires budget { budget ≤ max_cap }
+    requires few { length groups.old.items ≤ max_groups }
+    requires partition { IsPartition (length rules.now.rules) (map group_in groups.old.items) }
+    requires counted { All (IsCounted rules.now budget) groups.old.items }
+    ensures groups { OnOk result (map group_in groups.new.items
+        ≡ turn (words_in rules.now) rules.now budget (map group_in groups.old.items)) }
+    ensures counted { OnOk result (All (IsCounted rules.now budget) groups.new.items) }
+{
+    if total(groups.as_slice(), budget) <= budget {
+        return Ok(());
+    }
+    match split_place(groups.as_slice(), budget) {
+        None => Ok(()),
+        Some(place) => split_at(alloc, rules, budget, groups, place),
+    }
+}
+
+/// The numbers of all rules.
+fn all_rules(alloc: Global, rules: &RuleSet) -> Result<Vec<u32>, AllocError>
+    ensures { IfOk result (λ numbers. numbers.items ≡ range_with_len 0 (length rules.now.rules)) }
+{
+    let count = rules.all().len();
+    let mut numbers = Vec::with_capacity(alloc, count)?;
+    for number in 0..count {
+        numbers.push(number as u32)?;
+    }
+    Ok(numbers)
+}
+
+/// The groups before the first turn: one of all rules, or none where there is no rule.
+fn first_groups(alloc: Global, rules: &RuleSet, budget: u64) -> Result<Vec<Counted>, AllocError>
+    requires { budget ≤ max_cap }
+    ensures groups { IfOk result (λ groups. map group_in groups.items ≡ first_groups rules.now) }
+    ensures counted { IfOk result (λ groups. All (IsCounted rules.now budget) groups.items) }
+{
+    let mut groups = Vec::with_capacity(alloc, MAX_GROUPS)?;
+    if !rules.is_empty() {
+        let all = all_rules(alloc, rules)?;
+        groups.push(Counted::new(alloc, rules, all, budget)?)?;
+    }
+    Ok(groups)
+}
+
+/// The groups behind the last turn. Each turn adds at most one.
+fn last_groups(alloc: Global, rules: &RuleSet, budget: u64) -> Result<Vec<Counted>, AllocError>
+    requires { budget ≤ max_cap }
+    ensures groups { IfOk result
+        (λ groups. map group_in groups.items ≡ groups_of rules.now budget) }
+    ensures counted { IfOk result (λ groups. All (IsCounted rules.now budget) groups.items) }
+{
+    let mut groups = first_groups(alloc, rules, budget)?;
+    for _ in 0..MAX_GROUPS - 1 {
+        take_turn(alloc, rules, budget, &mut groups)?;
+    }
+    Ok(groups)
+}
+
+/// Puts the group's merged states behind the others, if they are kept.
+fn put_levels(kept: &mut Vec<Levels>, group: Counted) -> Result<(), AllocError>
+    ensures { OnOk result (kept.new.items ≡ kept.old.items ++ option_to_list (levels_in group)) }
+{
+    match group {
+        Counted::Fits(levels) => {
+            kept.push(levels)?;
+            Ok(())
+        }
+        Counted::TooLarge(_) => Ok(()),
+    }
+}
+
+/// The merged states that are kept.
+fn kept_levels(alloc: Global, groups: Vec<Counted>) -> Result<Vec<Levels>, AllocError>
+    ensures { IfOk result (λ levels. levels.items ≡ filter_map levels_in groups.items) }
+{
+    let mut kept = Vec::with_capacity(alloc, groups.len())?;
+    for group in groups {
+        put_levels(&mut kept, group)?;
+    }
+    Ok(kept)
+}
+
+/// Splits the rules into groups until the words of their table are within the budget.
+///
+/// The budget is from 1 to [`trie_merge::MAX_CAP`] words. `TooLarge` comes exactly where the split
+/// ends with a total above the budget, with that total, unless memory ran out before that was
+/// known. It takes memory for the merged states of each group, and gives it back after a refusal.
+/// Each group is counted once, when it is made, so at most fifteen are.
+///
+/// Source: DPDK's `lib/acl`, `acl_bld.c`; which group is split and where is ours.
+pub fn plan(alloc: Global, rules: &RuleSet, budget: u64) -> Result<Plan, PlanFault>
+    requires some { 0 < budget }
+    requires budget { budget ≤ max_cap }
+    ensures plan { IfOk result (λ plan. plan ≡ plan_of rules.now budget) }
+    ensures fits { IfOk result (λ plan. plan.total ≤ budget) }
+    ensures too_large { (words most : ℕ) → result ≡ Err (TooLarge words most) →
+        (words ≡ total_of rules.now budget) × (most ≡ budget) × (budget < words) }
+{
+    let groups = match last_groups(alloc, rules, budget) {
+        Ok(groups) => groups,
+        Err(_) => return Err(PlanFault::OutOfMemory),
+    };
+    let words = total(groups.as_slice(), budget);
+    if words > budget {
+        return Err(PlanFault::TooLarge { words, budget });
+    }
+    match kept_levels(alloc, groups) {
+        Ok(levels) => Ok(Plan {
+            levels,
+            total: words,
+        }),
+        Err(_) => Err(PlanFault::OutOfMemory),
+    }
+}
