@@ -1,0 +1,50 @@
+use Rattle.std.proofs.Common.{◌≡◌, All, length, ap, sym, ◌∙◌, subst}
+use Rattle.std.proofs.lemmas.List.FromFn.{length-map-range_with_len}
+use Rattle.table_fill.specs.Filled.{rule_word}
+use Rattle.table_fill.specs.Tries.{HasWinners}
+use Rattle.table_fill.proofs.Given.{given, parts_are}
+use Rattle.table_fill.proofs.filling.parts_of.Goals as goal
+
+pub roots_of-requires : goal.roots_of-requires
+roots_of-requires c =
+    (given c.args.rules.now c.args.levels.now c.sizes-key_len.ensures.lawful c.sizes-key_len.ensures.layout
+    c.in_ok-words.ensures.userdata c.requires).room
+
+pub level_lens_of-requires : goal.level_lens_of-requires
+level_lens_of-requires c =
+    (given c.args.rules.now c.args.levels.now c.sizes-key_len.ensures.lawful c.sizes-key_len.ensures.layout
+    c.in_ok-words.ensures.userdata c.requires).room
+
+pub words_of-requires : goal.words_of-requires
+words_of-requires c =
+    (given c.args.rules.now c.args.levels.now c.sizes-key_len.ensures.lawful c.sizes-key_len.ensures.layout
+    c.in_ok-words.ensures.userdata c.requires).room
+
+pub rows_of-requires-clause-room : goal.rows_of-requires-clause-room
+rows_of-requires-clause-room c =
+    (given c.args.rules.now c.args.levels.now c.sizes-key_len.ensures.lawful c.sizes-key_len.ensures.layout
+    c.in_ok-words.ensures.userdata c.requires).room
+
+pub rows_of-requires-clause-winners : goal.rows_of-requires-clause-winners
+rows_of-requires-clause-winners c =
+    let set = c.args.rules.now in
+    let is = given set c.args.levels.now c.sizes-key_len.ensures.lawful c.sizes-key_len.ensures.layout
+    c.in_ok-words.ensures.userdata c.requires in
+    let count : length c.deref.result.now ≡ length set.rules =
+    ap length (c.deref.ensures.value ∙ c.in_ok-words.ensures.words) ∙ length-map-range_with_len (rule_word set.rules) 0
+    (length set.rules) in
+    subst (λ n. All (HasWinners n) c.args.levels.now) (sym count) is.winners
+
+pub returns-clause-parts : goal.returns-clause-parts
+returns-clause-parts c =
+    let is = given c.args.rules.now c.args.levels.now c.sizes-key_len.ensures.lawful c.sizes-key_len.ensures.layout
+    c.in_ok-words.ensures.userdata c.requires in
+    parts_are c.args.rules.now c.args.levels.now is _ _ _ _ _ _ c.deref.result.now _ c.sizes-key_len.ensures.key_len
+    c.sizes-key_len.ensures.rules
+    c.in_ok-kept_of.ensures c.in_ok-roots_of.ensures c.in_ok-level_lens_of.ensures c.in_ok-words_of.ensures
+    (c.deref.ensures.value ∙ c.in_ok-words.ensures.words) c.in_ok-rows_of.ensures
+
+pub returns-clause-can : goal.returns-clause-can
+returns-clause-can c =
+    (given c.args.rules.now c.args.levels.now c.sizes-key_len.ensures.lawful c.sizes-key_len.ensures.layout
+    c.in_ok-words.ensures.userdata c.requires).can

@@ -1,0 +1,5 @@
+pub mod Filled
+pub mod FilledExamples
+pub mod Laws
+pub mod Serves
+pub mod Tries

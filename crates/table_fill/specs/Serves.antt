@@ -1,0 +1,20 @@
+-- Which tables answer as the rules of a set do.
+use Rattle.std.specs.Prelude.{◌≡◌, ℕ, ◌<◌, ◌↔◌, List, length, None}
+use Rattle.field_defs.specs.Layout.{key_len_of}
+use Rattle.rule_set.specs.Rule.{RuleSetView}
+use Rattle.rule_set.specs.Winner.{winner, verdict}
+use Rattle.trie_merge.specs.Laws.{AreBytes}
+use Rattle.flat_table.specs.Sound.{row_len}
+use Rattle.flat_table.specs.Table.{TableView}
+use Rattle.flat_table.specs.Walk.{joined, table_verdict}
+
+-- The table answers for each key and category as the rules do: the userdata of the winner. And
+-- userdata 0 isn't taken for no winner: the joined word is 0 exactly where there is none.
+pub record Serves (set : RuleSetView) (table : TableView) : Type 0 where
+  pub key_len : table.key_len ≡ key_len_of set.layout
+  pub verdicts : (key : List ℕ) (category : ℕ) → AreBytes key →
+      length key ≡ key_len_of set.layout → category < row_len →
+      table_verdict table key category ≡ verdict set.layout set.rules key category
+  pub none : (key : List ℕ) (category : ℕ) → AreBytes key →
+      length key ≡ key_len_of set.layout → category < row_len →
+      (joined table key category ≡ 0 ↔ winner set.layout set.rules key category ≡ None)

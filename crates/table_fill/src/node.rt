@@ -1,0 +1,162 @@
+//! The words that lead to nodes, and the words that nodes have.
+
+ghost use Rattle.std.specs.Prelude.{◌≡◌, ◌*◌, ◌<◌, ◌≤◌, ◌^◌, ◌++◌, map, length, slice_index, OnOk};
+ghost use Rattle.std.specs.Prelude.{All};
+ghost use Rattle.flat_table.specs.Word.{indexes, kinds, below_boundaries};
+ghost use Rattle.trie_merge.specs.Levels.{cost_of, few_runs};
+ghost use Rattle.table_fill.specs.Filled.{word_of, match_of, boundaries, boundary_count, as_number};
+ghost use Rattle.table_fill.specs.Filled.{node_word, node_words, succ_word};
+ghost use Rattle.table_fill.specs.Tries.{HoldBytes, HasTarget, HasTargets};
+
+use flat_table::{FULL, MATCH, QUAD, SINGLE};
+use std::alloc::AllocError;
+use trie_merge::{Run, Succ};
+
+/// The lowest bit of a word's kind.
+const KIND_BIT: u32 = 29;
+
+/// The lowest bit of a word's boundaries.
+const BOUNDARY_BIT: u32 = 32;
+
+/// The most runs of a node that has no word for each byte.
+const FEW_RUNS: usize = 5;
+
+/// How many words a node has that has one for each byte.
+const MANY_WORDS: usize = 256;
+
+/// The last byte.
+const LAST_BYTE: u8 = 255;
+
+/// The word of these boundaries, this kind and this index.
+fn word_of(boundaries: u64, kind: u64, index: usize) -> u64
+    requires boundaries { boundaries < below_boundaries }
+    requires kind { kind < kinds }
+    requires index { index < indexes }
+    ensures { result ≡ word_of boundaries kind index }
+{
+    (boundaries << BOUNDARY_BIT) + (kind << KIND_BIT) + index as u64
+}
+
+/// The word that ends a walk with the row.
+pub(crate) fn match_of(row: usize) -> u64
+    requires { row < indexes }
+    ensures { result ≡ match_of row }
+{
+    word_of(0, MATCH, row)
+}
+
+/// Where run `n` ends if another run follows it, and 255 otherwise.
+fn boundary(runs: &[Run], n: usize) -> u8
+    requires { n < boundary_count }
+    ensures { result ≡ slice_index (boundaries runs.now) n }
+{
+    if n + 1 < runs.len() {
+        runs[n].last
+    } else {
+        LAST_BYTE
+    }
+}
+
+/// The four boundaries of a quad-range node of these runs, the first in the lowest bits.
+fn boundaries(runs: &[Run]) -> u64
+    ensures value { result ≡ as_number (boundaries runs.now) }
+    ensures bound { result < below_boundaries }
+{
+    u64::from(boundary(runs, 0))
+        + (u64::from(boundary(runs, 1)) << 8)
+        + (u64::from(boundary(runs, 2)) << 16)
+        + (u64::from(boundary(runs, 3)) << 24)
+}
+
+/// The word that leads to the node of a state with these runs, whose first word is at the place.
+#[tactic(auto, unfolding(crate::specs::Filled::node_word))]
+pub(crate) fn node_word(place: usize, runs: &[Run]) -> u64
+    requires { place < indexes }
+    ensures { result ≡ node_word place runs.now }
+{
+    if runs.len() == 1 {
+        word_of(0, SINGLE, place)
+    } else if runs.len() <= FEW_RUNS {
+        word_of(boundaries(runs), QUAD, place)
+    } else {
+        word_of(0, FULL, place)
+    }
+}
+
+/// How many words the node of a state with so many runs has.
+pub(crate) fn node_len(runs: usize) -> usize
+    ensures value { result ≡ cost_of runs }
+    ensures bound { result ≤ 256 }
+{
+    if runs == 1 {
+        1
+    } else if runs <= FEW_RUNS {
+        FEW_RUNS
+    } else {
+        MANY_WORDS
+    }
+}
+
+/// The word for a successor, where the words for states or rows are given.
+fn succ_word(targets: &[u64], to: Succ) -> u64
+    requires { HasTarget (length targets.now) to }
+    ensures { result ≡ succ_word targets.now to }
+{
+    match to {
+        Succ::Dead => match_of(0),
+        Succ::State(number) => targets[number as usize],
+        Succ::Row(number) => targets[number as usize],
+    }
+}
+
+/// Puts the words of a node of a few runs behind the others: one for each run, and then matches of
+/// row 0 in those that are unused.
+fn push_few(words: &mut Vec<u64>, targets: &[u64], runs: &[Run]) -> Result<(), AllocError>
+    requires runs { HasTargets (length targets.now) runs.now }
+    requires few { length runs.now ≤ few_runs }
+    ensures { OnOk result
+        (words.new.items ≡ words.old.items ++ node_words targets.now runs.now) }
+{
+    for run in runs {
+        words.push(succ_word(targets, run.to))?;
+    }
+    for _ in runs.len()..node_len(runs.len()) {
+        words.push(match_of(0))?;
+    }
+    Ok(())
+}
+
+/// Puts the words of a node of many runs behind the others: one for each byte.
+fn push_many(words: &mut Vec<u64>, targets: &[u64], runs: &[Run]) -> Result<(), AllocError>
+    requires runs { HasTargets (length targets.now) runs.now }
+    requires many { few_runs < length runs.now }
+    ensures { OnOk result
+        (words.new.items ≡ words.old.items ++ node_words targets.now runs.now) }
+{
+    let mut first = 0;
+    for run in runs {
+        let behind = usize::from(run.last) + 1;
+        for _ in first..behind {
+            words.push(succ_word(targets, run.to))?;
+        }
+        first = behind;
+    }
+    Ok(())
+}
+
+/// Puts the words of the node of a state with these runs behind the others.
+pub(crate) fn push_node(
+    words: &mut Vec<u64>,
+    targets: &[u64],
+    runs: &[Run],
+) -> Result<(), AllocError>
+    requires { HasTargets (length targets.now) runs.now }
+    ensures { OnOk result
+        (words.new.items ≡ words.old.items ++ node_words targets.now runs.now) }
+{
+    if runs.len() <= FEW_RUNS {
+        push_few(words, targets, runs)
+    } else {
+        push_many(words, targets, runs)
+    }
+}
