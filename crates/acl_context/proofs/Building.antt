@@ -1,0 +1,80 @@
+-- The plan of a rule set can be filled.
+use Rattle.std.proofs.Common.{◌≡◌, ℕ, ◌+◌, ◌≤◌, List, [], ◌∷◌, map, length, All, sum_by, refl, sym, ap, ◌∙◌, arith}
+use Rattle.std.proofs.lemmas.List.{length-map}
+use Rattle.std.proofs.lemmas.List.Elements.{All-map}
+use Rattle.rule_set.specs.Rule.{RuleSetView}
+use Rattle.rule_groups.specs.Groups.{IsPartition}
+use Rattle.trie_merge.specs.Levels.{LevelsView, levels_of, max_cap}
+use Rattle.rule_split.specs.Split.{groups_of, total_of, plan_of, PlanView}
+use Rattle.rule_split.proofs.Groups.{groups_hold}
+use Rattle.rule_split.proofs.Totals.{total_of_words}
+use Rattle.flat_table.specs.Sound.{most_tries, most_words, row_len}
+use Rattle.table_fill.specs.Filled.{filled}
+use Rattle.acl_context.specs.Context.{built_of}
+
+-- the merged states of each group of the split
+abbrev pub levels_in : RuleSetView → ℕ → List LevelsView
+levels_in set budget = map (levels_of set) (groups_of set budget)
+
+-- merged states keep their group
+group_kept : (set : RuleSetView) (group : List ℕ) → (levels_of set group).group ≡ group
+unfolding levels_of
+group_kept set group = refl
+
+-- so the groups of all are there again
+groups_kept : (set : RuleSetView) (groups : List (List ℕ)) →
+    map (λ (trie : LevelsView). trie.group) (map (levels_of set) groups) ≡ groups
+groups_kept set [] = refl
+groups_kept set (group ∷ groups) = rw (group_kept set group, groups_kept set groups) refl
+
+-- each is of its group
+each_of_its_group : (set : RuleSetView) (groups : List (List ℕ)) →
+    All (λ (trie : LevelsView). trie ≡ levels_of set trie.group) (map (levels_of set) groups)
+each_of_its_group set groups =
+    All-map (λ (trie : LevelsView). trie ≡ levels_of set trie.group) (levels_of set) groups
+    (λ k d h. ap (levels_of set) (sym (group_kept set _)))
+
+-- a plan has the merged states of its groups and their total
+levels_of_plan : (set : RuleSetView) (budget : ℕ) → (plan_of set budget).levels ≡ levels_in set budget
+unfolding plan_of
+levels_of_plan set budget = refl
+
+total_of_plan : (set : RuleSetView) (budget : ℕ) → (plan_of set budget).total ≡ total_of set budget
+unfolding plan_of
+total_of_plan set budget = refl
+
+-- what is lent of a plan are the merged states of its groups
+pub levels_are : (set : RuleSetView) (budget : ℕ) (plan : PlanView) (levels : List LevelsView) →
+    plan ≡ plan_of set budget → levels ≡ plan.levels → levels ≡ levels_in set budget
+levels_are set budget plan levels is lent =
+    lent ∙ ap (λ (of : PlanView). of.levels) is ∙ levels_of_plan set budget
+
+-- and a plan within the budget has a total within it
+pub total_fits : (set : RuleSetView) (budget : ℕ) (plan : PlanView) → plan ≡ plan_of set budget →
+    plan.total ≤ budget → total_of set budget ≤ budget
+total_fits set budget plan is fits =
+    omega (arith, ap (λ (of : PlanView). of.total) is, total_of_plan set budget, fits)
+
+-- filled they are the table that a build makes
+pub filled_is : (set : RuleSetView) (budget : ℕ) (levels : List LevelsView) → levels ≡ levels_in set budget →
+    filled set (map (λ (trie : LevelsView). trie.group) levels) ≡ built_of set budget
+filled_is set budget levels are =
+    ap (λ (tries : List LevelsView). filled set (map (λ (trie : LevelsView). trie.group) tries)) are
+    ∙ ap (filled set) (groups_kept set (groups_of set budget))
+
+-- What filling asks of the merged states of a plan.
+pub record IsFillable (set : RuleSetView) (levels : List LevelsView) : Type 0 where
+  pub few : length levels ≤ most_tries
+  pub groups : IsPartition (length set.rules) (map (λ (trie : LevelsView). trie.group) levels)
+  pub each : All (λ (trie : LevelsView). trie ≡ levels_of set trie.group) levels
+  pub size : row_len + sum_by (λ (trie : LevelsView). trie.words) levels ≤ most_words
+
+-- A plan within a budget can be filled.
+pub plans_are_fillable : (set : RuleSetView) (budget : ℕ) →
+    budget ≤ max_cap → total_of set budget ≤ budget → IsFillable set (levels_in set budget)
+plans_are_fillable set budget capped fits = record {
+  few = omega (arith, length-map (groups_of set budget) (levels_of set), groups_hold.few set budget);
+  groups = rw (groups_kept set (groups_of set budget)) (groups_hold.once set budget);
+  each = each_of_its_group set (groups_of set budget);
+  size = omega (arith, rw (levels_of_plan set budget) at (total_of_words set budget fits), fits, capped);
+}

@@ -1,0 +1,4 @@
+mod Adding
+mod Building
+mod Refusals
+mod Serving

@@ -1,0 +1,209 @@
+//! Rules of one layout, and the table of the last build.
+
+ghost use Rattle.std.specs.Prelude.{◌≡◌, ◌↔◌, ℕ, ◌+◌, ◌<◌, ◌≤◌, [], length, map};
+ghost use Rattle.std.specs.Prelude.{Some, None, Ok, Err, IfSome, IsErr, OnOk, OnErr, option_copied};
+ghost use Rattle.field_defs.specs.Layout.{key_len_of, max_fields};
+ghost use Rattle.rule_set.specs.Rule.{RuleSetView};
+ghost use Rattle.rule_set.specs.declared.set.TheConstants.{MAX_RULES};
+ghost use Rattle.trie_merge.specs.Levels.{max_cap};
+ghost use Rattle.rule_split.specs.Split.{total_of};
+ghost use Rattle.flat_table.specs.Batch.{batch_verdicts, batch_steps};
+ghost use Rattle.table_fill.specs.Serves.{Serves};
+ghost use Rattle.acl_context.specs.Context.{built_of, rule_view, with_rules};
+ghost use Rattle.acl_context.specs.Add.{Adds};
+ghost use Rattle.acl_context.specs.Batch.{BatchFits, verdicts_by_rules};
+
+use crate::add::{AddFault, Given, check_all, push_all};
+use crate::build::{BuildFault, make_table};
+use field_defs::Layout;
+use flat_table::{Steps, Table};
+use rule_set::{Categories, Rule, RuleSet, StoredRule};
+use scalar_walk::classify_scalar;
+use std::alloc::{AllocError, Global};
+use std::marker::Model;
+use std::sync::ledger::Ledger;
+use thiserror::Error;
+
+/// No build succeeded since the context was made or reset.
+#[derive(Clone, Copy, Debug, PartialEq, Eq, Error)]
+#[error("no table was built")]
+pub struct NotBuilt;
+
+/// Rules of one layout, and the table that was made of those that were held at the last build that
+/// succeeded.
+///
+/// Contracts see the rules, how many there may be, and the table. A call that is refused leaves all
+/// three as they were. Source: DPDK Programmer's Guide, "Packet Classification and Access Control";
+/// the calls are those on a `rte_acl_ctx` of `rte_acl.h`.
+#[derive(Drop)]
+pub struct AclContext {
+    /// What takes the memory of rules and tables.
+    alloc: Global,
+    rules: RuleSet,
+    max_rules: u32,
+    /// None where no build succeeded since the context was made or reset.
+    table: Option<Table>,
+}
+
+impl Model for AclContext {
+    ghost use Rattle.acl_context.specs.Context.{ContextView, IsContext};
+
+    ghost Value = { ContextView };
+
+    ghost view = { λ c. record { set = c.rules; max_rules = c.max_rules; table = c.table } };
+
+    ghost invariant = { λ c. IsContext
+        (record { set = c.rules; max_rules = c.max_rules; table = c.table }) };
+}
+
+impl AclContext {
+    /// A context without rules and without a table. It takes no memory.
+    ///
+    /// It may hold up to `max_rules` rules, which is at most 262,144.
+    pub fn create(alloc: Global, layout: Layout, max_rules: u32) -> Self
+        requires { max_rules ≤ MAX_RULES }
+        ensures { result ≡ record {
+          set = record { layout = layout; rules = [] };
+          max_rules = max_rules;
+          table = None;
+        } }
+    {
+        AclContext {
+            alloc,
+            rules: RuleSet::new(alloc, layout),
+            max_rules,
+            table: None,
+        }
+    }
+
+    /// Adds the rules behind those that are held, all or none. The table stays.
+    ///
+    /// `Full` comes first, then the first rule that [`rule_set::check_rule`] refuses. They take
+    /// memory only where neither comes.
+    pub fn add_rules<const N: usize>(&mut self, rules: &[Rule<N>]) -> Result<(), AddFault>
+        requires { N ≤ max_fields }
+        ensures { Adds (map rule_view rules.now) self.old self.new result }
+    {
+        self.add(rules)
+    }
+
+    /// The same of rules that are stored.
+    pub fn add_stored(&mut self, rules: &[StoredRule]) -> Result<(), AddFault>
+        ensures { Adds rules.now self.old self.new result }
+    {
+        self.add(rules)
+    }
+
+    /// Makes the table of the rules that are held, and puts it in the place of the one before.
+    ///
+    /// The budget is from 1 to [`trie_merge::MAX_CAP`] words. `TooLarge` comes exactly where
+    /// [`rule_split::plan`] ends above the budget, unless memory ran out before. After a refusal
+    /// the table of the build before is still there. It takes memory for the merged states, which
+    /// it gives back, and for the table.
+    pub fn build(&mut self, budget: u64) -> Result<(), BuildFault>
+        requires some { 0 < budget }
+        requires budget { budget ≤ max_cap }
+        ensures table { OnOk result
+            (self.new ≡ record self.old { table = Some (built_of self.old.set budget) }) }
+        // The new table answers for each key and category as the rules that are held.
+        ensures serves { OnOk result (Serves self.old.set (built_of self.old.set budget)) }
+        ensures fits { OnOk result (total_of self.old.set budget ≤ budget) }
+        ensures too_large { (words most : ℕ) → result ≡ Err (BuildFault.TooLarge words most) →
+            (words ≡ total_of self.old.set budget) × (most ≡ budget) × (budget < words) }
+        ensures err { OnErr result (self.new ≡ self.old) }
+    {
+        match make_table(self.alloc, &self.rules, budget) {
+            Ok(table) => {
+                self.table = Some(table);
+                Ok(())
+            }
+            Err(fault) => Err(fault),
+        }
+    }
+
+    /// Writes the verdicts of the keys of a batch by the table, and says how many words their walks
+    /// took.
+    ///
+    /// `keys` has the bytes of at most 65,536 keys of the layout, one after the other, and `out`
+    /// has room for the verdicts of each: the categories from 0 on of the first key, then those of
+    /// the second. A verdict is the userdata of the winner, or 0 where no rule wins. On `NotBuilt`
+    /// nothing is written and no step counted. It takes no memory.
+    pub fn classify<L: Ledger>(
+        &self,
+        keys: &[u8],
+        cats: Categories,
+        out: &mut [u32],
+        steps: &mut Steps<L>,
+    ) -> Result<u64, NotBuilt>
+        requires { BatchFits self.now.set.layout keys.now cats.count (length out.old) }
+        ensures not_built { IsErr result ↔ (self.now.table ≡ None) }
+        ensures idle { OnErr result ((out.new ≡ out.old) × (steps.new ≡ steps.old)) }
+        ensures verdicts { IfSome self.now.table
+            (λ table. out.new ≡ batch_verdicts table cats.count keys.now) }
+        ensures taken { IfSome self.now.table
+            (λ table. result ≡ Ok (batch_steps table keys.now)) }
+        ensures steps { IfSome self.now.table
+            (λ table. steps.new ≡ steps.old + batch_steps table keys.now) }
+        // They are those of the rules, where the table answers as some rules do.
+        ensures served { (set : RuleSetView) → IfSome self.now.table (λ table. Serves set table →
+            out.new ≡ verdicts_by_rules set cats.count keys.now) }
+    {
+        match &self.table {
+            Some(table) => Ok(classify_scalar(table, keys, cats, out, steps)),
+            None => Err(NotBuilt),
+        }
+    }
+
+    /// Removes all rules. The table stays, and with it the verdicts. It takes no memory.
+    pub fn reset_rules(&mut self)
+        ensures { self.new ≡ with_rules self.old [] }
+    {
+        self.rules = self.rules.new_of_same_layout(self.alloc);
+    }
+
+    /// Removes all rules and the table. It takes no memory.
+    pub fn reset(&mut self)
+        ensures { self.new ≡ record (with_rules self.old []) { table = None } }
+    {
+        self.reset_rules();
+        self.table = None;
+    }
+
+    /// The rules, in the order in which they were added.
+    pub fn rules(&self) -> &RuleSet
+        ensures { result.now ≡ self.now.set }
+    {
+        &self.rules
+    }
+
+    /// The table of the last build that succeeded since the context was made or reset, if there is
+    /// one. Its keys are those of the layout.
+    pub fn table(&self) -> Option<&Table>
+        ensures table { option_copied result ≡ self.now.table }
+        ensures keys { IfSome result (λ table.
+            table.now.key_len ≡ key_len_of self.now.set.layout) }
+    {
+        self.table.as_ref()
+    }
+
+    /// How many rules may still be added.
+    fn room(&self) -> usize
+        ensures { length self.now.set.rules + result ≡ self.now.max_rules }
+    {
+        self.max_rules as usize - self.rules.len()
+    }
+
+    /// Adds rules in any form.
+    fn add<R: Given>(&mut self, rules: &[R]) -> Result<(), AddFault>
+        ensures { Adds (map R.view rules.now) self.old self.new result }
+    {
+        if rules.len() > self.room() {
+            return Err(AddFault::Full);
+        }
+        check_all(self.rules.layout(), rules)?;
+        match push_all(self.alloc, &mut self.rules, rules) {
+            Ok(()) => Ok(()),
+            Err(AllocError) => Err(AddFault::OutOfMemory),
+        }
+    }
+}
