@@ -1,6 +1,8 @@
 -- A batch that grows record by record.
-use Rattle.std.proofs.Common.{◌≡◌, ℕ, ◌+◌, ◌≤◌, List, [], ◌∷◌, ◌++◌, length, map, Option, Some, None, Result, Ok, Err, refl, sym, subst, ap, ◌∙◌, append-nil, arith, length-append}
+use Rattle.std.proofs.Common.{◌≡◌, ℕ, ◌+◌, ◌≤◌, List, [], ◌∷◌, ◌++◌, length, map, All, Option, Some, None, Result, Ok}
+use Rattle.std.proofs.Common.{Err, refl, sym, subst, ap, ◌∙◌, append-nil, arith, length-append}
 use Rattle.std.proofs.lemmas.List.{length-map, map-append}
+use Rattle.std.proofs.lemmas.List.Elements.{All-nil, All-append}
 use Rattle.acl_outside.specs.Desk.{DeskView}
 use Rattle.header_extract.specs.Class.{FrameClass}
 use Rattle.pcap_reader.specs.declared.start.Start.{Start}
@@ -10,7 +12,7 @@ use Rattle.pcap_reader.specs.Capture.{CaptureRecord}
 use Rattle.pcap_reader.specs.Reader.{CaptureState, ReadsNext, state_of, state_after}
 use Rattle.acl_tool.specs.declared.batch.BatchEnd.{BatchEnd}
 use Rattle.acl_tool.specs.declared.batch.BatchEnd.TheVariants.{Full, End, Fault}
-use Rattle.acl_tool.specs.Packet.{packet_of}
+use Rattle.acl_tool.specs.Packet.{IsPacket, packet_of}
 use Rattle.acl_tool.specs.Taken.{Took, TakesBatch, TakesRecord, packets_in, end_of, max_batch}
 use Rattle.acl_tool.proofs.Taking.{Took-none, Took-then, Took-record, Took-end, Took-fault}
 
@@ -20,6 +22,7 @@ pub record IsTaking (start : Start) (count : ℕ) (packets : List FrameClass) (s
   pub records : List CaptureRecord
   pub given : List ℕ
   pub packets_are : packets ≡ map packet_of records
+  pub keys : All IsPacket packets
   pub took : Took start count records given old new Full
   pub state_is : state ≡ state_of start (count + length packets) progress.Reading
 
@@ -30,9 +33,16 @@ IsTaking-none start count packets state view none is = record {
   records = [];
   given = [];
   packets_are = none;
+  keys = subst (All IsPacket) (sym none) (All-nil IsPacket);
   took = Took-none start count view;
   state_is = is ∙ ap (λ n. state_of start n progress.Reading) (omega (arith, ap length none));
 }
+
+-- keys behind keys
+all_keys : (packets packets_new more : List FrameClass) → packets_new ≡ packets ++ more → All IsPacket packets →
+    All IsPacket more → All IsPacket packets_new
+all_keys packets packets_new more is keys added =
+    subst (All IsPacket) (sym is) (All-append IsPacket packets more keys added)
 
 -- so many packets as records
 count_is : (packets : List FrameClass) (records : List CaptureRecord) → packets ≡ map packet_of records →
@@ -70,7 +80,9 @@ IsTaking-record start count packets packets_new state state_new old mid new h ta
             records = h.records ++ one ∷ [];
             given = h.given ++ reads.given;
             packets_are =
-                items ∙ ap (λ l. l ++ packet_of one ∷ []) h.packets_are ∙ sym (map-append packet_of h.records (one ∷ []));
+                items ∙ ap (λ l. l ++ packet_of one ∷ []) h.packets_are
+                ∙ sym (map-append packet_of h.records (one ∷ []));
+            keys = all_keys packets packets_new _ takes.packets h.keys takes.keys;
             took = Took-then start count h.records (one ∷ []) h.given reads.given old mid new Full h.took
                 (Took-record start (count + length h.records) captured mid new reads);
             state_is =
@@ -113,6 +125,7 @@ TakesBatch-stopped start count packets packets_new state state_new old mid new s
           records = h.records ++ [];
           given = h.given ++ given;
           packets_are = same ∙ h.packets_are ∙ ap (map packet_of) (sym (append-nil h.records));
+          keys = subst (All IsPacket) (sym same) h.keys;
           took = Took-then start count h.records [] h.given given old mid new last h.took took;
           few = omega (arith, ap length same, few);
           full = λ e. absurd (isnt e);

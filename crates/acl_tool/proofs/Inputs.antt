@@ -1,5 +1,6 @@
 -- A file that is opened and read.
-use Rattle.std.proofs.Common.{◌≡◌, ◌⊎◌, ℕ, ◌<◌, ◌≤◌, List, [], ◌∷◌, length, true, false, Option, Some, None, Ok, Err, IsSome, inl, inr, ap, ◌∙◌, refl, arith, length-take}
+use Rattle.std.proofs.Common.{◌≡◌, ◌⊎◌, ℕ, ◌<◌, ◌≤◌, List, [], ◌∷◌, length, true, false, Option, Some, None, Ok, Err}
+use Rattle.std.proofs.Common.{IsSome, inl, inr, ap, ◌∙◌, refl, arith, length-take}
 use Rattle.std.proofs.lemmas.List.{drop_all}
 use Rattle.std.specs.Option.{option_map}
 use Rattle.std.specs.declared.vec.Vec.{Vec}
@@ -7,7 +8,8 @@ use Rattle.std.specs.declared.alloc.Global.{Global}
 use Rattle.acl_outside.specs.Fault.{Rose}
 use Rattle.acl_outside.specs.Told.{Steps}
 use Rattle.acl_outside.specs.Desk.{File, Content, DeskView, bytes_of, Opens, GivesUp, Gives, OpensFile, KeepsCounts}
-use Rattle.acl_outside.specs.Heard.{Heard, Ending, GoesOn, Ended, BrokenOff, heard, opening_of, change_newest, with_bytes, with_ending}
+use Rattle.acl_outside.specs.Heard.{Heard, Ending, GoesOn, Ended, BrokenOff, heard, opening_of, change_newest}
+use Rattle.acl_outside.specs.Heard.{with_bytes, with_ending}
 use Rattle.acl_outside.specs.Reading.{GivesUpTo, ReadsOn, ReadsUpTo, and_goes_on}
 use Rattle.acl_outside.specs.declared.reading.ReadAll.TheVariants as reading
 use Rattle.acl_tool.specs.declared.status.Status.TheVariants.{ReadFault, OutOfMemory}
@@ -127,7 +129,8 @@ ended_told cap bytes (Some old) (Some new) gives few content told =
 
 pub opened_told : (name bytes : List ℕ) (old mid new : Option Content) → Steps (Opens name) old mid →
     Steps (Gives bytes) mid new →
-    (files : List File) → option_map (λ c. c.files) old ≡ Some files → option_map (λ c. c.opened) new ≡ Some (Some name)
+    (files : List File) → option_map (λ c. c.files) old ≡ Some files → option_map (λ c. c.opened) new
+    ≡ Some (Some name)
 opened_told name bytes None mid new opens gives files told = absurd (cc)
 opened_told name bytes (Some old) None new opens gives files told = absurd opens
 opened_told name bytes (Some old) (Some mid) None opens gives files told = absurd gives
@@ -158,7 +161,8 @@ kept_files name bytes old mid new x opens gives counts = record {
 }
 
 -- The file is opened, and read to its end or the cap.
-pub ReadsFile-read : {T E : Type 0} (name : List ℕ) (cap : ℕ) (old mid new : DeskView) (x : T) (bytes : Vec ℕ Global) →
+pub ReadsFile-read : {T E : Type 0} (name : List ℕ) (cap : ℕ) (old mid new : DeskView) (x : T)
+    (bytes : Vec ℕ Global) →
     OpensFile {E = E} name old mid (Ok x) → ReadsUpTo cap mid new (Ok bytes) → ReadsFile name cap old new (Ok bytes)
 ReadsFile-read name cap old mid new x bytes opens reads = go reads.heard
   where
@@ -181,7 +185,8 @@ ReadsFile-read name cap old mid new x bytes opens reads = go reads.heard
       ending = inl refl;
       fault = tt;
       read_fault = λ e. absurd (cc);
-      opened = λ files told. opened_told name bytes.items old.content mid.content new.content opens.opened on.told files
+      opened = λ files told. opened_told name bytes.items old.content mid.content new.content opens.opened on.told
+          files
           told;
       absent = λ files told isnt. absent_kept files told;
       kept = kept_files name bytes.items old mid new x opens on.told reads.counts;
@@ -197,7 +202,8 @@ ReadsFile-read name cap old mid new x bytes opens reads = go reads.heard
       ending = inr (refl, full);
       fault = tt;
       read_fault = λ e. absurd (cc);
-      opened = λ files told. opened_told name bytes.items old.content mid.content new.content opens.opened on.told files
+      opened = λ files told. opened_told name bytes.items old.content mid.content new.content opens.opened on.told
+          files
           told;
       absent = λ files told isnt. absent_kept files told;
       kept = kept_files name bytes.items old mid new x opens on.told reads.counts;

@@ -1,5 +1,6 @@
 -- Lines of packets, and then more of them.
-use Rattle.std.proofs.Common.{◌≡◌, ℕ, zero, suc, ◌+◌, ◌≤◌, ◌==◌, List, [], ◌∷◌, ◌++◌, length, map, take, replicate, Bool, false, cond, count_by, sum_by, decimal, Some, refl, sym, ap, ◌∙◌, append_assoc, append-nil, add-zero, arith}
+use Rattle.std.proofs.Common.{◌≡◌, ℕ, ◌+◌, ◌≤◌, ◌==◌, List, [], ◌∷◌, ◌++◌, length, map, cond, count_by, sum_by}
+use Rattle.std.proofs.Common.{decimal, refl, sym, ap, ◌∙◌, append_assoc, append-nil, add-zero, arith}
 use Rattle.std.proofs.lemmas.Grind.{common_steps}
 use Rattle.std.proofs.lemmas.List.{length-map, map-append}
 use Rattle.std.proofs.lemmas.List.Sums.{sum_by-append, sum_by-cons}
@@ -10,34 +11,37 @@ use Rattle.pcap_reader.specs.Capture.{CaptureRecord}
 use Rattle.acl_report.specs.declared.counts.Counts.{Counts}
 use Rattle.acl_report.specs.Line.{line_feed, line_of, spaced}
 use Rattle.acl_report.specs.Counts.{counted, counts_of, is_ip4, is_ip6, is_other, is_short}
-use Rattle.acl_report.specs.Packet.{class_word, answer_words, answers, packet_text}
+use Rattle.acl_report.specs.Packet.{class_word, answer_words}
 use Rattle.acl_tool.specs.Packet.{packet_of}
-use Rattle.acl_tool.specs.Verdicts.{Classifier, verdicts_of}
-use Rattle.acl_tool.specs.Report.{line_of_packet, lines_of_packets, lines_of_records, classes_of, counts_of_records, counted_all, lines_in}
+use Rattle.acl_tool.specs.Classifier.{Tables}
+use Rattle.acl_tool.specs.Printing.{Printing}
+use Rattle.acl_tool.specs.Report.{steps_on, steps_of_packets, steps_of_records, answers_on, line_of_packet}
+use Rattle.acl_tool.specs.Report.{lines_of_packets, lines_of_records, classes_of, counts_of_records, counted_all}
+use Rattle.acl_tool.specs.Report.{lines_in}
 
-lines_of_packets-append : (classifier : Classifier) (number : ℕ) (first second : List FrameClass) →
-    lines_of_packets classifier number (first ++ second)
-    ≡ lines_of_packets classifier number first ++ lines_of_packets classifier (number + length first) second
-lines_of_packets-append classifier number [] second =
-    ap (λ n. lines_of_packets classifier n second) (sym (add-zero number))
-lines_of_packets-append classifier number (p ∷ ps) second =
-    let line = line_of_packet classifier number p in
-    let rest = lines_of_packets classifier (number + 1) ps in
+lines_of_packets-append : (printing : Printing) (number : ℕ) (first second : List FrameClass) →
+    lines_of_packets printing number (first ++ second)
+    ≡ lines_of_packets printing number first ++ lines_of_packets printing (number + length first) second
+lines_of_packets-append printing number [] second =
+    ap (λ n. lines_of_packets printing n second) (sym (add-zero number))
+lines_of_packets-append printing number (p ∷ ps) second =
+    let line = line_of_packet printing number p in
+    let rest = lines_of_packets printing (number + 1) ps in
     let sum : (number + 1) + length ps ≡ number + length (p ∷ ps) = omega arith in
-    ap (λ l. line ++ l) (lines_of_packets-append classifier (number + 1) ps second)
-    ∙ sym (append_assoc line rest (lines_of_packets classifier ((number + 1) + length ps) second))
-    ∙ ap (λ n. (line ++ rest) ++ lines_of_packets classifier n second) sum
+    ap (λ l. line ++ l) (lines_of_packets-append printing (number + 1) ps second)
+    ∙ sym (append_assoc line rest (lines_of_packets printing ((number + 1) + length ps) second))
+    ∙ ap (λ n. (line ++ rest) ++ lines_of_packets printing n second) sum
 
 -- the lines of records, and then of those behind them
-pub lines_of_records-append : (classifier : Classifier) (first second : List CaptureRecord) (number : ℕ) →
+pub lines_of_records-append : (printing : Printing) (first second : List CaptureRecord) (number : ℕ) →
     number ≡ length first + 1 →
-    lines_of_records classifier (first ++ second)
-    ≡ lines_of_records classifier first ++ lines_of_packets classifier number (map packet_of second)
-lines_of_records-append classifier first second number is =
+    lines_of_records printing (first ++ second)
+    ≡ lines_of_records printing first ++ lines_of_packets printing number (map packet_of second)
+lines_of_records-append printing first second number is =
     let sum : 1 + length (map packet_of first) ≡ number = omega (arith, is, length-map first packet_of) in
-    ap (lines_of_packets classifier 1) (map-append packet_of first second)
-    ∙ lines_of_packets-append classifier 1 (map packet_of first) (map packet_of second)
-    ∙ ap (λ n. lines_of_records classifier first ++ lines_of_packets classifier n (map packet_of second)) sum
+    ap (lines_of_packets printing 1) (map-append packet_of first second)
+    ∙ lines_of_packets-append printing 1 (map packet_of first) (map packet_of second)
+    ∙ ap (λ n. lines_of_records printing first ++ lines_of_packets printing n (map packet_of second)) sum
 
 counts_more : (classes : List Class) (class : Class) →
     counts_of (classes ++ class ∷ []) ≡ counted class (counts_of classes)
@@ -62,6 +66,15 @@ pub counts_of_records-append : (first second : List CaptureRecord) →
 counts_of_records-append first second =
     counted_all-counts (map packet_of first) (map packet_of second)
     ∙ ap (λ l. counts_of (classes_of l)) (sym (map-append packet_of first second))
+
+-- the steps of records, and then of those behind them
+pub steps_of_records-append : (tables : Tables) (first second : List CaptureRecord) →
+    steps_of_records tables (first ++ second)
+    ≡ steps_of_records tables first + steps_of_packets tables (map packet_of second)
+steps_of_records-append tables first second =
+    ap (steps_of_packets tables) (map-append packet_of first second)
+    ∙ sum_by-append (λ (packet : FrameClass). steps_on packet.class tables packet.key) (map packet_of first)
+    (map packet_of second)
 
 -- the count of all records
 pub packets_counted : (records : List CaptureRecord) → (counts_of_records records).packets ≡ length records
@@ -104,36 +117,36 @@ ends_in_line_feed first words =
     sum_by-append f (first ++ spaced words) (line_feed ∷ []) in
     omega (arith, all, end)
 
-lines_in-packets : (classifier : Classifier) (number : ℕ) (packets : List FrameClass) →
-    length packets ≤ lines_in (lines_of_packets classifier number packets)
-lines_in-packets classifier number [] = omega arith
-lines_in-packets classifier number (p ∷ ps) =
+lines_in-packets : (printing : Printing) (number : ℕ) (packets : List FrameClass) →
+    length packets ≤ lines_in (lines_of_packets printing number packets)
+lines_in-packets printing number [] = omega arith
+lines_in-packets printing number (p ∷ ps) =
     let f : ℕ → ℕ = λ byte. cond (byte == line_feed) 1 0 in
-    let line = line_of_packet classifier number p in
+    let line = line_of_packet printing number p in
     let ends : 1 ≤ lines_in line = ends_in_line_feed (decimal number)
-    (class_word p.class ∷ answer_words p.class (map Some (verdicts_of classifier p))) in
-    let all : lines_in (line ++ lines_of_packets classifier (number + 1) ps)
-    ≡ lines_in line + lines_in (lines_of_packets classifier (number + 1) ps) =
-    sum_by-append f line (lines_of_packets classifier (number + 1) ps) in
+    (class_word p.class ∷ answer_words p.class (answers_on p.class printing p.key)) in
+    let all : lines_in (line ++ lines_of_packets printing (number + 1) ps)
+    ≡ lines_in line + lines_in (lines_of_packets printing (number + 1) ps) =
+    sum_by-append f line (lines_of_packets printing (number + 1) ps) in
     omega (
       arith,
       all,
       ends,
-      lines_in-packets classifier (number + 1) ps,
+      lines_in-packets printing (number + 1) ps,
     )
 
 -- a line for each record
-pub lines_in-records : (classifier : Classifier) (records : List CaptureRecord) (more : List ℕ) →
-    length records ≤ lines_in (lines_of_records classifier records ++ more)
-lines_in-records classifier records more =
+pub lines_in-records : (printing : Printing) (records : List CaptureRecord) (more : List ℕ) →
+    length records ≤ lines_in (lines_of_records printing records ++ more)
+lines_in-records printing records more =
     let f : ℕ → ℕ = λ byte. cond (byte == line_feed) 1 0 in
-    let all : lines_in (lines_of_records classifier records ++ more)
-    ≡ lines_in (lines_of_records classifier records) + lines_in more =
-    sum_by-append f (lines_of_records classifier records) more in
+    let all : lines_in (lines_of_records printing records ++ more)
+    ≡ lines_in (lines_of_records printing records) + lines_in more =
+    sum_by-append f (lines_of_records printing records) more in
     omega (
       arith,
       all,
-      lines_in-packets classifier 1 (map packet_of records),
+      lines_in-packets printing 1 (map packet_of records),
       length-map records packet_of,
     )
 
@@ -143,32 +156,6 @@ counted-packets Ip4 counts = refl
 counted-packets Ip6 counts = refl
 counted-packets Other counts = refl
 counted-packets Short counts = refl
-
--- verdicts in which no dash stands
-pub answers-plain : (n : ℕ) (verdicts : List ℕ) → length verdicts ≤ n →
-    answers verdicts (take (length verdicts) (replicate n false)) ≡ map Some verdicts
-answers-plain n [] few = refl
-answers-plain zero (v ∷ vs) few = absurd (omega (arith, few))
-answers-plain (suc n) (v ∷ vs) few = ap (λ l. Some v ∷ l) (answers-plain n vs (omega (arith, few)))
-
--- what is written of a packet is its line
-pub line-is : (classifier : Classifier) (counts counts_new : Counts) (packet : FrameClass)
-    (class counted_class : Class) (verdicts : List ℕ)
-    (dashes : List Bool) → counts_new ≡ counted counted_class counts → counted_class ≡ packet.class →
-    class ≡ packet.class →
-    verdicts ≡ verdicts_of classifier packet → dashes ≡ take (length verdicts) (replicate 16 false) →
-    length verdicts ≤ 16 →
-    packet_text counts_new.packets class (answers verdicts dashes)
-    ≡ line_of_packet classifier (counts.packets + 1) packet
-line-is classifier counts counts_new packet class counted_class verdicts dashes is_counted is_class is_shown is_verdicts
-    is_plain few =
-    let number : counts_new.packets ≡ counts.packets + 1 = ap (λ c. c.packets) is_counted
-    ∙ counted-packets counted_class counts in
-    let shown : answers verdicts dashes ≡ map Some (verdicts_of classifier packet) =
-    ap (answers verdicts) is_plain ∙ answers-plain 16 verdicts few ∙ ap (map Some) is_verdicts in
-    ap (λ n. packet_text n class (answers verdicts dashes)) number
-    ∙ ap (λ k. packet_text (counts.packets + 1) k (answers verdicts dashes)) is_shown
-    ∙ ap (packet_text (counts.packets + 1) packet.class) shown
 
 -- how many packets are counted with these more
 pub counted_all-packets : (packets : List FrameClass) (counts : Counts) →

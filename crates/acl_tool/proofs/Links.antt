@@ -1,5 +1,6 @@
 -- The links of a command: a step and then the rest, or an end in either. They serve every command.
-use Rattle.std.proofs.Common.{◌≡◌, ◌≢◌, ◌⊎◌, ℕ, List, [], ◌∷◌, ◌++◌, false, Option, Some, Result, Ok, Err, IfOk, IfErr, inl, inr, length, sym, ap, subst, ◌∙◌, refl, arith}
+use Rattle.std.proofs.Common.{◌≡◌, ◌≢◌, ◌⊎◌, ℕ, List, [], ◌∷◌, ◌++◌, false, Option, Some, Result, Ok, Err, IfOk}
+use Rattle.std.proofs.Common.{IfErr, inl, inr, length, sym, ap, subst, ◌∙◌, refl, arith}
 use Rattle.std.proofs.lemmas.Bool.{false≢true}
 use Rattle.std.specs.Option.{option_map_or}
 use Rattle.std.specs.declared.vec.Vec.{Vec}
@@ -10,7 +11,8 @@ use Rattle.acl_outside.specs.Sink.{SinkView}
 use Rattle.acl_tool.specs.declared.status.Status.{Status}
 use Rattle.acl_tool.specs.declared.status.Status.TheVariants.{ReadFault, WriteFault, OutOfMemory}
 use Rattle.acl_tool.specs.Plan.{Outcome, Plan, ◌>>=◌, nothing, reading, unless_refused, found, settled}
-use Rattle.acl_tool.specs.Follow.{Reached, Given, Stopped, Before, Within, IsEnough, Follows, IsCutOff, said, said_in, outcome_of}
+use Rattle.acl_tool.specs.Follow.{Reached, Given, Stopped, Before, Within, IsEnough, Follows, IsCutOff, said, said_in}
+use Rattle.acl_tool.specs.Follow.{outcome_of}
 use Rattle.acl_tool.specs.Outcome.{is_reported, is_usage}
 use Rattle.acl_tool.specs.Effects.{files_of, heard_of, outside, KeepsFiles, CannotRead, ReadsFile, Takes, Ends}
 use Rattle.acl_tool.proofs.Gained.{Gains-none, GainsPrefix-none}
@@ -27,7 +29,8 @@ KeepsFiles-then old mid new first second = record {
 
 -- a fault of the desk, for a reason that follows from another
 pub CannotRead-because : (P Q : List File → Type 0) (old new : DeskView) →
-    ((files : List File) → files_of old ≡ Some files → P files → Q files) → CannotRead old new P → CannotRead old new Q
+    ((files : List File) → files_of old ≡ Some files → P files → Q files) → CannotRead old new P →
+    CannotRead old new Q
 CannotRead-because P Q old new because (inl rose) = inl rose
 CannotRead-because P Q old new because (inr (rose, absent)) =
     inr (rose, λ files told. because files told (absent files told))
@@ -51,7 +54,8 @@ read_enough next name cap old new bytes read long =
       | inr on ↦ inr (on.0, λ more. long read.file.bytes more (ap length read.bytes ∙ on.1))
     ]
 
-follows_value : {A : Type 0} (told : Option (List File)) (result : Result A Status) (value : A) (old new : List Heard) →
+follows_value : {A : Type 0} (told : Option (List File)) (result : Result A Status) (value : A)
+    (old new : List Heard) →
     result ≡ Ok value → new ≡ old → Follows told (unless_refused result) old new (Given value)
 follows_value told result value old new is same = rw is (same, refl)
 
@@ -193,14 +197,21 @@ cut_silent (Stopped refusal) status cut = refl
 cut_silent (Before name) status cut = refl
 cut_silent (Within file text) status cut = cut.0
 
+cut_steps : {A : Type 0} (reached : Reached A) (status : Status) → IsCutOff reached status →
+    (outcome_of (carried reached)).steps ≡ 0
+cut_steps (Given value) status cut = absurd cut
+cut_steps (Stopped refusal) status cut = refl
+cut_steps (Before name) status cut = refl
+cut_steps (Within file text) status cut = refl
+
 unwritten : (status : Status) → is_reported status ≡ false → status ≡ WriteFault → ⊥
 unwritten status unreported is = false≢true (sym unreported ∙ ap is_reported is)
 
 -- A step ended the command.
 pub Ends-cut : {X Y : Type 0} (plan : Plan Y) (seen : X → Y) (f : Y → Plan Outcome) (old new : DeskView)
-    (out : SinkView) (status : Status) →
-    Takes plan seen old new (Err status) → Ends (plan >>= f) (outside old out) (outside new out) status
-Ends-cut plan seen f old new out status step = record {
+    (out : SinkView) (steps : ℕ) (status : Status) →
+    Takes plan seen old new (Err status) → Ends (plan >>= f) (outside old out steps) (outside new out steps) status
+Ends-cut plan seen f old new out steps status step = record {
   reached = carried step.reached;
   follows = Follows-cut plan f status (files_of old) (heard_of old)
       (heard_of new) step.reached step.answer step.follows;
@@ -208,6 +219,7 @@ Ends-cut plan seen f old new out status step = record {
   text = λ unwritten full. rw (cut_silent step.reached status step.answer) (Gains-none out);
   prefix = λ e. GainsPrefix-none (outcome_of (carried step.reached)).text out;
   out_of_memory = λ e. Gains-none out;
+  steps = λ decided. omega (arith, cut_steps step.reached status step.answer);
   read_fault = λ e.
       CannotRead-because _ _ old new
       (λ files told fault. ap (λ r. (settled r).status) (found-then plan f files ∙ ap (then_found f files) fault))
@@ -220,15 +232,16 @@ Ends-cut plan seen f old new out status step = record {
 
 -- A step gave its value, and the rest ended the command.
 pub Ends-then : {X Y : Type 0} (plan : Plan Y) (seen : X → Y) (f : Y → Plan Outcome) (old mid new : DeskView)
-    (out_old out_new : SinkView)
+    (out_old out_new : SinkView) (steps_old steps_new : ℕ)
     (x : X) (status : Status) → Takes plan seen old mid (Ok x) →
-    Ends (f (seen x)) (outside mid out_old) (outside new out_new) status →
-    Ends (plan >>= f) (outside old out_old) (outside new out_new) status
-Ends-then plan seen f old mid new out_old out_new x status step rest =
+    Ends (f (seen x)) (outside mid out_old steps_old) (outside new out_new steps_new) status →
+    Ends (plan >>= f) (outside old out_old steps_old) (outside new out_new steps_new) status
+Ends-then plan seen f old mid new out_old out_new steps_old steps_new x status step rest =
     let first : Follows (files_of old) plan (heard_of old) (heard_of mid) (Given (seen x)) =
     subst (Follows (files_of old) plan (heard_of old) (heard_of mid)) step.answer step.follows in
     let second : Follows (files_of old) (f (seen x)) (heard_of mid) (heard_of new) rest.reached =
-    subst (λ told. Follows told (f (seen x)) (heard_of mid) (heard_of new) rest.reached) step.kept.files rest.follows in
+    subst (λ told. Follows told (f (seen x)) (heard_of mid) (heard_of new) rest.reached) step.kept.files rest.follows
+    in
     let same : (files : List File) → files_of old ≡ Some files → found (plan >>= f) files ≡ found (f (seen x)) files =
     λ files told. found-then plan f files
     ∙ ap (then_found f files)
@@ -241,6 +254,7 @@ Ends-then plan seen f old mid new out_old out_new x status step rest =
       text = rest.text;
       prefix = rest.prefix;
       out_of_memory = rest.out_of_memory;
+      steps = rest.steps;
       read_fault = λ e.
           CannotRead-because _ _ old new (λ files told fault. ap (λ r. (settled r).status) (same files told) ∙ fault)
           (CannotRead-later _ old mid new step.kept (rest.read_fault e));

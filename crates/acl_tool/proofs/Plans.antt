@@ -1,5 +1,6 @@
 -- Plans that were followed, and what they come to.
-use Rattle.std.proofs.Common.{◌≡◌, ℕ, List, [], ◌∷◌, ◌++◌, Bool, true, false, Option, Some, None, Result, Ok, Err, inl, inr, sym, ap, subst, ◌∙◌, refl, append-nil}
+use Rattle.std.proofs.Common.{◌≡◌, ℕ, List, [], ◌∷◌, ◌++◌, Bool, true, false, Option, Some, None, Result, Ok, Err}
+use Rattle.std.proofs.Common.{inl, inr, sym, ap, subst, ◌∙◌, refl, append-nil}
 use Rattle.std.proofs.lemmas.Bool.{false≢true}
 use Rattle.std.specs.Prelude.{⊤}
 use Rattle.std.specs.Option.{option_map_or}
@@ -8,7 +9,8 @@ use Rattle.acl_outside.specs.Heard.{Heard}
 use Rattle.acl_tool.specs.declared.status.Status.{Status}
 use Rattle.acl_tool.specs.declared.status.Status.TheVariants.{ReadFault}
 use Rattle.acl_tool.specs.Plan.{Plan, Give, Stop, Read, ◌>>=◌, found}
-use Rattle.acl_tool.specs.Follow.{Reached, Given, Stopped, Before, Within, IsEnough, IsOpened, IsPartOf, IsOneOf, Follows, IsCutOff}
+use Rattle.acl_tool.specs.Follow.{Reached, Given, Stopped, Before, Within, IsEnough, IsOpened, IsPartOf, IsOneOf}
+use Rattle.acl_tool.specs.Follow.{Follows, IsCutOff}
 
 -- what a plan comes to that was followed so far
 abbrev pub IsFound : {A : Type 0} → List File → Reached A → Result A Status → Type 0
@@ -44,7 +46,8 @@ found_next told files name next file at_files is_name one enough =
     ∙ heard_enough next files file part enough
 
 -- Where the files are told, a plan that was followed comes to what it reached.
-pub Follows-found : {A : Type 0} (plan : Plan A) (told : Option (List File)) (files : List File) (old new : List Heard)
+pub Follows-found : {A : Type 0} (plan : Plan A) (told : Option (List File)) (files : List File)
+    (old new : List Heard)
     (reached : Reached A) →
     told ≡ Some files → Follows told plan old new reached → IsFound files reached (found plan files)
 Follows-found (Give value) told files old new reached at_files h = rw (h.1) refl
@@ -120,7 +123,8 @@ Follows-cut (Read name printed next) f status told old new reached cut (inl befo
     inl (before.0, ap carried (before.1))
 Follows-cut (Read name printed next) f status told old new reached cut (inr (file, is_name, one, inl within)) =
     inr (file, is_name, one, inl (within.0, ap carried (within.1)))
-Follows-cut (Read name printed next) f status told old new reached cut (inr (file, is_name, one, inr (enough, rest))) =
+Follows-cut (Read name printed next) f status told old new reached cut
+    (inr (file, is_name, one, inr (enough, rest))) =
     inr (
       file,
       is_name,

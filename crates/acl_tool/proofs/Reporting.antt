@@ -1,5 +1,6 @@
 -- How the report of a capture ends, by what was opened, read and put.
-use Rattle.std.proofs.Common.{◌≡◌, ◌≢◌, ◌⊎◌, ℕ, ◌≤◌, List, [], ◌∷◌, ◌++◌, length, true, false, Option, Some, None, Ok, Err, inl, inr, refl, sym, subst, ap, ◌∙◌, append_assoc, append-nil, arith}
+use Rattle.std.proofs.Common.{◌≡◌, ◌≢◌, ◌⊎◌, ℕ, ◌+◌, ◌≤◌, List, [], ◌∷◌, ◌++◌, length, true, false, Option, Some}
+use Rattle.std.proofs.Common.{None, Ok, Err, inl, inr, refl, sym, subst, ap, ◌∙◌, append_assoc, append-nil, arith}
 use Rattle.std.proofs.lemmas.Bool.{false≢true}
 use Rattle.std.specs.Option.{option_map_or}
 use Rattle.acl_outside.specs.Fault.{Rose}
@@ -19,16 +20,20 @@ use Rattle.pcap_reader.proofs.FillLaws.{KeepsReading-join}
 use Rattle.pcap_reader.proofs.AnswersLaws.{capture_of-read, whole_records-none}
 use Rattle.acl_tool.specs.declared.status.Status.{Status}
 use Rattle.acl_tool.specs.declared.status.Status.TheVariants.{CaptureRefused, ReadFault, WriteFault, OutOfMemory}
-use Rattle.acl_tool.specs.Verdicts.{Classifier}
-use Rattle.acl_tool.specs.Report.{lines_of_records}
+use Rattle.acl_tool.specs.Printing.{Printing}
+use Rattle.acl_tool.specs.Report.{lines_of_records, steps_of_records}
 use Rattle.acl_tool.specs.Taken.{stands}
-use Rattle.acl_tool.specs.Plan.{Outcome, Plan, Give, found, settled}
+use Rattle.acl_tool.specs.Plan.{Outcome, Plan, Give, silent, found, settled}
 use Rattle.acl_tool.specs.Follow.{Given, Within, IsEnough, IsOpened, IsOneOf, said_in, status_within}
-use Rattle.acl_tool.specs.Outcome.{is_decided, is_usage, refusal, report, report_of_capture, reported, lines_so_far, status_of_fault, text_of_records}
-use Rattle.acl_tool.specs.Effects.{Outside, outside, files_of, opened_of, heard_of, earlier_of, KeepsFiles, Ends, KeepsUp, Reports}
-use Rattle.acl_tool.specs.Streams.{Reading, Whole, Part, records_read, text_of, IsUnbroken, AreRead, IsStatus, BreaksOffSoon, Streams}
+use Rattle.acl_tool.specs.Outcome.{is_decided, is_usage, refusal, report, report_of_capture, reported, lines_so_far}
+use Rattle.acl_tool.specs.Outcome.{status_of_fault, text_of_records}
+use Rattle.acl_tool.specs.Effects.{Outside, outside, files_of, opened_of, heard_of, earlier_of, KeepsFiles, Ends}
+use Rattle.acl_tool.specs.Effects.{KeepsUp, Reports}
+use Rattle.acl_tool.specs.Streams.{Reading, Whole, Part, records_read, text_of, IsUnbroken, AreRead, IsStatus}
+use Rattle.acl_tool.specs.Streams.{BreaksOffSoon, Streams}
 use Rattle.acl_tool.proofs.Gained.{Gains-none}
-use Rattle.acl_tool.proofs.Inputs.{heard_file, part_told, opened_told, opened_absent, kept_files, cannot_open, unopened_kept}
+use Rattle.acl_tool.proofs.Inputs.{heard_file, part_told, opened_told, opened_absent, kept_files, cannot_open}
+use Rattle.acl_tool.proofs.Inputs.{unopened_kept}
 use Rattle.acl_tool.proofs.Links.{CannotRead-because}
 use Rattle.acl_tool.proofs.WholeRecords.{start_of-more}
 
@@ -44,7 +49,8 @@ record HearsFile (name given : List ℕ) (ending : Ending) (old new : DeskView) 
   absent : (files : List File) → files_of old ≡ Some files → new.absent ≡ old.absent
   kept : KeepsFiles old new
 
-stood : (ending : Ending) (name given : List ℕ) → stands ending (file_of name given GoesOn) ≡ file_of name given ending
+stood : (ending : Ending) (name given : List ℕ) → stands ending (file_of name given GoesOn)
+    ≡ file_of name given ending
 stood NotOpened name given = refl
 stood GoesOn name given = refl
 stood Ended name given = refl
@@ -60,7 +66,8 @@ HearsFile-read name given ending old mid new x opens reads at_end keeps = record
       ∙ ap (λ (file : Heard). file ∷ heard_of old) (stood ending name given);
   told = λ files told opened.
       part_told name given ending old.content mid.content new.content opens.opened reads.told at_end files told;
-  opened = λ files told. opened_told name given old.content mid.content new.content opens.opened reads.told files told;
+  opened = λ files told. opened_told name given old.content mid.content new.content opens.opened reads.told files
+      told;
   absent = λ files told.
       keeps.absent ∙ opened_absent name old mid old.content mid.content
       (λ content at some. (opens.there content at some).0) opens.opened files told;
@@ -83,25 +90,41 @@ record PutsPart (lines : List ℕ) (ending : Ending) (old new : Outside) (status
   write_fault : status ≡ WriteFault → Rose old.out.faults new.out.faults
   count : old.out.faults ≤ new.out.faults
 
-Ends-part : (classifier : Classifier) (name given : List ℕ) (ending : Ending) (old new : Outside) (status : Status) →
+within_undecided : (ending : Ending) → is_decided (status_within ending) ≡ false
+within_undecided NotOpened = refl
+within_undecided GoesOn = refl
+within_undecided Ended = refl
+within_undecided BrokenOff = refl
+
+-- such a status isn't decided
+part_undecided : (status : Status) (ending : Ending) →
+    (status ≡ status_within ending) ⊎ ((status ≡ WriteFault) ⊎ (status ≡ OutOfMemory)) →
+    is_decided status ≡ true → ⊥
+part_undecided status ending (inl within) decided =
+    false≢true (sym (within_undecided ending) ∙ sym (ap is_decided within) ∙ decided)
+part_undecided status ending (inr (inl write)) decided = false≢true (sym (ap is_decided write) ∙ decided)
+part_undecided status ending (inr (inr full)) decided = false≢true (sym (ap is_decided full) ∙ decided)
+
+Ends-part : (printing : Printing) (name given : List ℕ) (ending : Ending) (old new : Outside) (status : Status) →
     HearsFile name given ending old.desk new.desk → IsOpened ending →
-    PutsPart (lines_so_far classifier given) ending old new status →
-    Ends (reported classifier name) old new status
-Ends-part classifier name given ending old new status h opened p = record {
-  reached = Within (file_of name given ending) (lines_so_far classifier given);
+    PutsPart (lines_so_far printing given) ending old new status →
+    Ends (reported printing name) old new status
+Ends-part printing name given ending old new status h opened p = record {
+  reached = Within (file_of name given ending) (lines_so_far printing given);
   follows = inr (
     file_of name given ending,
     refl,
     h.told,
     inl (
       h.heard,
-      ap (Within (file_of name given ending)) (said-opened ending (lines_so_far classifier given) opened),
+      ap (Within (file_of name given ending)) (said-opened ending (lines_so_far printing given) opened),
     ),
   );
   ended = p.ended;
   text = p.text;
   prefix = p.prefix;
   out_of_memory = p.full;
+  steps = λ decided. absurd (part_undecided status ending p.ended decided);
   read_fault = λ e. inl (p.read_fault e);
   write_fault = p.write_fault;
   absent = λ files told isnt. h.absent files told;
@@ -139,21 +162,22 @@ all_decided outcome old new status p other =
       | inr write ↦ absurd (other write)
     ]
 
-Ends-whole : (classifier : Classifier) (name given : List ℕ) (ending : Ending) (old new : Outside) (status : Status) →
+Ends-whole : (printing : Printing) (name given : List ℕ) (ending : Ending) (old new : Outside) (status : Status) →
     HearsFile name given ending old.desk new.desk → IsUnbroken ending →
-    ((more : List ℕ) → (ending ≡ Ended → more ≡ []) → report classifier (given ++ more) ≡ report classifier given) →
-    PutsAll (report classifier given) old.out new.out status → Ends (reported classifier name) old new status
-Ends-whole classifier name given ending old new status h unbroken long p =
+    ((more : List ℕ) → (ending ≡ Ended → more ≡ []) → report printing (given ++ more) ≡ report printing given) →
+    PutsAll (report printing given) old.out new.out status → new.steps ≡ old.steps + (report printing given).steps →
+    Ends (reported printing name) old new status
+Ends-whole printing name given ending old new status h unbroken long p steps =
     let never : (is_decided status ≡ false) → status ≢ WriteFault → ⊥ =
-    λ isnt other. false≢true (sym isnt ∙ all_decided (report classifier given) old.out new.out status p other) in
+    λ isnt other. false≢true (sym isnt ∙ all_decided (report printing given) old.out new.out status p other) in
     record {
-      reached = Given (report classifier given);
+      reached = Given (report printing given);
       follows = inr (
         file_of name given ending,
         refl,
         h.told,
         inr (
-          enough_from ending (λ bytes. Give (report classifier bytes)) name given unbroken
+          enough_from ending (λ bytes. Give (report printing bytes)) name given unbroken
               (λ more rest. ap Give (long more rest)),
           (h.heard, refl),
         ),
@@ -165,6 +189,7 @@ Ends-whole classifier name given ending old new status h unbroken long p =
         | inr failed ↦ failed.1
       ];
       out_of_memory = λ e. absurd (never (ap is_decided e) (λ w. absurd (cc)));
+      steps = λ decided. steps;
       read_fault = λ e. absurd (never (ap is_decided e) (λ w. absurd (cc)));
       write_fault = λ e. elim p.puts [
         | inl done ↦ absurd (false≢true (ap is_decided (sym e ∙ done.0) ∙ p.decided))
@@ -176,10 +201,11 @@ Ends-whole classifier name given ending old new status h unbroken long p =
     }
 
 -- the file can't be opened
-pub Reports-unopened : {T E : Type 0} (classifier : Classifier) (name : List ℕ) (old new : DeskView) (out : SinkView)
-    (e : E) →
-    OpensFile {T = T} name old new (Err e) → Reports classifier name (outside old out) (outside new out) ReadFault
-Reports-unopened classifier name old new out e opens = record {
+pub Reports-unopened : {T E : Type 0} (printing : Printing) (name : List ℕ) (old new : DeskView) (out : SinkView)
+    (steps : ℕ) (e : E) →
+    OpensFile {T = T} name old new (Err e) →
+    Reports printing name (outside old out steps) (outside new out steps) ReadFault
+Reports-unopened printing name old new out steps e opens = record {
   ends = record {
     reached = Within (opening_of name false) [];
     follows = inr (
@@ -193,10 +219,11 @@ Reports-unopened classifier name old new out e opens = record {
     text = λ other full. Gains-none out;
     prefix = λ w. absurd (cc);
     out_of_memory = λ full. absurd (cc);
+    steps = λ decided. absurd (false≢true decided);
     read_fault = λ r.
         CannotRead-because _ _ old new
         (λ files told none.
-        ap (λ o. (settled (option_map_or (λ bytes. found (Give (report classifier bytes)) files) o
+        ap (λ o. (settled (option_map_or (λ bytes. found (Give (report printing bytes)) files) o
         (Err ReadFault))).status) none)
         (cannot_open name old new opens.cause opens.there);
     write_fault = λ w. absurd (cc);
@@ -210,17 +237,17 @@ Reports-unopened classifier name old new out e opens = record {
 }
 
 -- there is no memory to read the file
-pub Reports-full : {T E : Type 0} (classifier : Classifier) (name : List ℕ) (old mid new : DeskView) (out : SinkView)
-    (x : T) →
+pub Reports-full : {T E : Type 0} (printing : Printing) (name : List ℕ) (old mid new : DeskView) (out : SinkView)
+    (steps : ℕ) (x : T) →
     OpensFile {E = E} name old mid (Ok x) → new ≡ mid →
-    Reports classifier name (outside old out) (outside new out) OutOfMemory
-Reports-full {T} {E} classifier name old mid new out x opens same =
+    Reports printing name (outside old out steps) (outside new out steps) OutOfMemory
+Reports-full {T} {E} printing name old mid new out steps x opens same =
     let keeps : KeepsReading mid mid =
     record { reading = refl; absent = refl; counts = record { read_faults = omega arith; absent = omega arith } } in
     let h = HearsFile-read {E = E} name [] GoesOn old mid mid x opens (ReadsOn-none mid) (λ e. absurd (cc)) keeps in
     rw same
     record {
-      ends = Ends-part classifier name [] GoesOn (outside old out) (outside mid out) OutOfMemory h tt
+      ends = Ends-part printing name [] GoesOn (outside old out steps) (outside mid out steps) OutOfMemory h tt
           record {
             ended = inr (inr refl);
             text = λ other full. absurd (full refl);
@@ -236,61 +263,68 @@ Reports-full {T} {E} classifier name old mid new out x opens same =
     }
 
 -- the file header has a fault
-header_refused : {T E : Type 0} (classifier : Classifier) (name given : List ℕ) (ending : Ending)
+header_refused : {T E : Type 0} (printing : Printing) (name given : List ℕ) (ending : Ending)
     (fault : CaptureFault) (old mid new : DeskView)
-    (out : SinkView) (x : T) → OpensFile {E = E} name old mid (Ok x) → ReadsOn (stands ending) given mid new →
+    (out : SinkView) (steps : ℕ) (x : T) → OpensFile {E = E} name old mid (Ok x) →
+    ReadsOn (stands ending) given mid new →
     (ending ≡ Ended → IsAtEnd new) → KeepsReading mid new → IsUnbroken ending →
     ((more : List ℕ) → (ending ≡ Ended → more ≡ []) → start_of (given ++ more) ≡ Err fault) →
-    Reports classifier name (outside old out) (outside new out) (CaptureRefused fault)
-header_refused {T} {E} classifier name given ending fault old mid new out x opens reads at_end keeps unbroken says =
+    Reports printing name (outside old out steps) (outside new out steps) (CaptureRefused fault)
+header_refused {T} {E} printing name given ending fault old mid new out steps x opens reads at_end keeps unbroken
+    says =
     let h = HearsFile-read {E = E} name given ending old mid new x opens reads at_end keeps in
     let is : (more : List ℕ) → (ending ≡ Ended → more ≡ []) →
-    report classifier (given ++ more) ≡ record { status = CaptureRefused fault; text = [] } =
+    report printing (given ++ more) ≡ silent (CaptureRefused fault) =
     λ more rest. (let s = says more rest in rw s refl) in
-    let alone : report classifier given ≡ record { status = CaptureRefused fault; text = [] } =
-    ap (report classifier) (sym (append-nil given)) ∙ is [] (λ e. refl) in
-    let puts : PutsAll (record { status = CaptureRefused fault; text = [] }) out out (CaptureRefused fault) =
+    let alone : report printing given ≡ silent (CaptureRefused fault) =
+    ap (report printing) (sym (append-nil given)) ∙ is [] (λ e. refl) in
+    let puts : PutsAll (silent (CaptureRefused fault)) out out (CaptureRefused fault) =
     record { decided = refl; lawful = refl; puts = inl (refl, Gains-none out); count = omega arith } in
     record {
-      ends = Ends-whole classifier name given ending (outside old out) (outside new out)
+      ends = Ends-whole printing name given ending (outside old out steps) (outside new out steps)
           (CaptureRefused fault) h unbroken
           (λ more rest. is more rest ∙ sym alone)
-          (subst (λ (o : Outcome). PutsAll o out out (CaptureRefused fault)) (sym alone) puts);
+          (subst (λ (o : Outcome). PutsAll o out out (CaptureRefused fault)) (sym alone) puts)
+          (omega (arith, ap (λ (o : Outcome). o.steps) alone));
       lawful = refl;
       opened = λ files told reported. h.opened files told;
       keeps_up = λ w. absurd (cc);
     }
 
-header_decided : {T E : Type 0} (classifier : Classifier) (name given : List ℕ) (fault : CaptureFault)
-    (old mid new : DeskView) (out : SinkView) (x : T) →
+header_decided : {T E : Type 0} (printing : Printing) (name given : List ℕ) (fault : CaptureFault)
+    (old mid new : DeskView) (out : SinkView) (steps : ℕ) (x : T) →
     OpensFile {E = E} name old mid (Ok x) → ReadsOn and_goes_on given mid new → KeepsReading mid new →
     start_of given ≡ Err fault →
-    (fault ≡ faults.HeaderCut → ⊥) → Reports classifier name (outside old out) (outside new out) (CaptureRefused fault)
-header_decided {T} {E} classifier name given fault old mid new out x opens reads keeps says isnt =
-    header_refused {E = E} classifier name given GoesOn fault old mid new out x opens reads (λ e. absurd (cc)) keeps tt
+    (fault ≡ faults.HeaderCut → ⊥) →
+    Reports printing name (outside old out steps) (outside new out steps) (CaptureRefused fault)
+header_decided {T} {E} printing name given fault old mid new out steps x opens reads keeps says isnt =
+    header_refused {E = E} printing name given GoesOn fault old mid new out steps x opens reads
+    (λ e. absurd (cc)) keeps tt
     (λ more rest. (start_of-more given more (Err fault) says
     (λ e. isnt (let same : fault ≡ faults.HeaderCut = cc in same))).0)
 
-header_cut : {T E : Type 0} (classifier : Classifier) (name given : List ℕ) (fault : CaptureFault)
-    (old mid new : DeskView) (out : SinkView) (x : T) →
-    OpensFile {E = E} name old mid (Ok x) → ReadsOn (stands Ended) given mid new → IsAtEnd new → KeepsReading mid new →
+header_cut : {T E : Type 0} (printing : Printing) (name given : List ℕ) (fault : CaptureFault)
+    (old mid new : DeskView) (out : SinkView) (steps : ℕ) (x : T) →
+    OpensFile {E = E} name old mid (Ok x) → ReadsOn (stands Ended) given mid new → IsAtEnd new →
+    KeepsReading mid new →
     start_of given ≡ Err fault →
-    Reports classifier name (outside old out) (outside new out) (CaptureRefused fault)
-header_cut {T} {E} classifier name given fault old mid new out x opens reads end keeps says =
-    header_refused {E = E} classifier name given Ended fault old mid new out x opens reads (λ e. end) keeps tt
+    Reports printing name (outside old out steps) (outside new out steps) (CaptureRefused fault)
+header_cut {T} {E} printing name given fault old mid new out steps x opens reads end keeps says =
+    header_refused {E = E} printing name given Ended fault old mid new out steps x opens reads (λ e. end) keeps tt
     (λ more rest. ap start_of (ap (λ (l : List ℕ). given ++ l) (rest refl) ∙ append-nil given) ∙ says)
 
-pub Reports-header : {T E : Type 0} (fault : CaptureFault) (classifier : Classifier) (name : List ℕ)
-    (old mid new : DeskView) (out : SinkView) (x : T) →
+pub Reports-header : {T E : Type 0} (fault : CaptureFault) (printing : Printing) (name : List ℕ)
+    (old mid new : DeskView) (out : SinkView) (steps : ℕ) (x : T) →
     OpensFile {E = E} name old mid (Ok x) → (reads : ReadsStart mid new (Err fault)) →
-    Reports classifier name (outside old out) (outside new out) (refusal fault)
-Reports-header {T} {E} faults.ReadFault classifier name old mid new out x opens reads =
+    Reports printing name (outside old out steps) (outside new out steps) (refusal fault)
+Reports-header {T} {E} faults.ReadFault printing name old mid new out steps x opens reads =
     let h = HearsFile-read {E = E} name reads.given BrokenOff old mid new x opens reads.reads
     (λ e. absurd (cc)) reads.keeps in
-    let none : lines_so_far classifier reads.given ≡ [] =
-    ap (lines_of_records classifier) (whole_records-none reads.given faults.ReadFault reads.answer) in
+    let none : lines_so_far printing reads.given ≡ [] =
+    ap (lines_of_records printing) (whole_records-none reads.given faults.ReadFault reads.answer) in
     record {
-      ends = Ends-part classifier name reads.given BrokenOff (outside old out) (outside new out) ReadFault h tt
+      ends = Ends-part printing name reads.given BrokenOff (outside old out steps) (outside new out steps) ReadFault
+          h tt
           record {
             ended = inl refl;
             text = λ other full. rw none (Gains-none out);
@@ -304,26 +338,29 @@ Reports-header {T} {E} faults.ReadFault classifier name old mid new out x opens 
       opened = λ files told reported. absurd (false≢true reported);
       keeps_up = λ w. absurd (cc);
     }
-Reports-header {T} {E} faults.HeaderCut classifier name old mid new out x opens reads =
-    header_cut {E = E} classifier name reads.given faults.HeaderCut old mid new out x opens reads.reads
+Reports-header {T} {E} faults.HeaderCut printing name old mid new out steps x opens reads =
+    header_cut {E = E} printing name reads.given faults.HeaderCut old mid new out steps x opens reads.reads
     (reads.end refl) reads.keeps reads.answer
-Reports-header {T} {E} (faults.RecordCut n) classifier name old mid new out x opens reads =
-    header_cut {E = E} classifier name reads.given (faults.RecordCut n) old mid new out x opens reads.reads
+Reports-header {T} {E} (faults.RecordCut n) printing name old mid new out steps x opens reads =
+    header_cut {E = E} printing name reads.given (faults.RecordCut n) old mid new out steps x opens reads.reads
     (reads.end refl) reads.keeps reads.answer
-Reports-header {T} {E} faults.Magic classifier name old mid new out x opens reads =
-    header_decided {E = E} classifier name reads.given faults.Magic old mid new out x opens reads.reads reads.keeps
+Reports-header {T} {E} faults.Magic printing name old mid new out steps x opens reads =
+    header_decided {E = E} printing name reads.given faults.Magic old mid new out steps x opens reads.reads
+    reads.keeps
     reads.answer (λ e. absurd (cc))
-Reports-header {T} {E} faults.Version classifier name old mid new out x opens reads =
-    header_decided {E = E} classifier name reads.given faults.Version old mid new out x opens reads.reads reads.keeps
+Reports-header {T} {E} faults.Version printing name old mid new out steps x opens reads =
+    header_decided {E = E} printing name reads.given faults.Version old mid new out steps x opens reads.reads
+    reads.keeps
     reads.answer (λ e. absurd (cc))
-Reports-header {T} {E} faults.LinkType classifier name old mid new out x opens reads =
-    header_decided {E = E} classifier name reads.given faults.LinkType old mid new out x opens reads.reads reads.keeps
+Reports-header {T} {E} faults.LinkType printing name old mid new out steps x opens reads =
+    header_decided {E = E} printing name reads.given faults.LinkType old mid new out steps x opens reads.reads
+    reads.keeps
     reads.answer (λ e. absurd (cc))
-Reports-header {T} {E} (faults.RecordTooLong n) classifier name old mid new out x opens reads =
-    header_decided {E = E} classifier name reads.given
-    (faults.RecordTooLong n) old mid new out x opens reads.reads reads.keeps reads.answer (λ e. absurd (cc))
-Reports-header {T} {E} faults.TooManyRecords classifier name old mid new out x opens reads =
-    header_decided {E = E} classifier name reads.given faults.TooManyRecords old mid new out x opens reads.reads
+Reports-header {T} {E} (faults.RecordTooLong n) printing name old mid new out steps x opens reads =
+    header_decided {E = E} printing name reads.given
+    (faults.RecordTooLong n) old mid new out steps x opens reads.reads reads.keeps reads.answer (λ e. absurd (cc))
+Reports-header {T} {E} faults.TooManyRecords printing name old mid new out steps x opens reads =
+    header_decided {E = E} printing name reads.given faults.TooManyRecords old mid new out steps x opens reads.reads
     reads.keeps reads.answer (λ e. absurd (cc))
 
 keeps_up_from : (name given : List ℕ) (ending : Ending) (text : List ℕ) (records : List CaptureRecord)
@@ -350,25 +387,26 @@ fault_decided None = (refl, refl)
 fault_decided (Some fault) = (refl, refl)
 
 -- what was streamed behind a file header
-streamed : (read : Reading) (classifier : Classifier) (name given : List ℕ) (ending : Ending) (old new : Outside)
+streamed : (read : Reading) (printing : Printing) (name given : List ℕ) (ending : Ending) (old new : Outside)
     (status : Status) (start : Start)
     (behind : List ℕ) → HearsFile name given ending old.desk new.desk →
     ((more : List ℕ) → capture_of (given ++ more) ≡ Ok (records_behind start 0 (behind ++ more))) →
     AreRead start behind ending read →
-    ((IsStatus ending read status × Gains (text_of classifier read) old.out new.out)
-    ⊎ ((status ≡ WriteFault) × BreaksOffSoon (text_of classifier read) (length (records_read read)) old.out new.out)) →
+    ((IsStatus ending read status × Gains (text_of printing read) old.out new.out)
+    ⊎ ((status ≡ WriteFault) × BreaksOffSoon (text_of printing read) (length (records_read read)) old.out new.out)) →
     (status ≡ ReadFault → Rose old.desk.read_faults new.desk.read_faults) → old.out.faults ≤ new.out.faults →
     IsOpened ending →
-    Reports classifier name old new status
-streamed (Whole records fault) classifier name given ending old new status start behind h is bytes ended rose count
-    opened =
+    new.steps ≡ old.steps + steps_of_records printing.tables (records_read read) →
+    Reports printing name old new status
+streamed (Whole records fault) printing name given ending old new status start behind h is bytes ended rose count
+    opened steps =
     let all : (more : List ℕ) → (ending ≡ Ended → more ≡ []) →
     capture_of (given ++ more) ≡ Ok (record { records = records; fault = fault }) =
     λ more rest. is more ∙ ap Ok (bytes.1 more rest) in
     let alone : capture_of given ≡ Ok (record { records = records; fault = fault }) =
     ap capture_of (sym (append-nil given)) ∙ all [] (λ e. refl) in
     let expected : Outcome =
-    record { status = status_of_fault fault; text = text_of_records classifier records fault } in
+    report_of_capture printing (Ok (record { records = records; fault = fault })) in
     let puts : PutsAll expected old.out new.out status = record {
       decided = (fault_decided fault).0;
       lawful = (fault_decided fault).1;
@@ -376,18 +414,19 @@ streamed (Whole records fault) classifier name given ending old new status start
         | inl done ↦ inl (done.0, done.1)
         | inr failed ↦ inr (
           failed.0,
-          prefix_from (text_of_records classifier records fault)
+          prefix_from (text_of_records printing records fault)
               (length records) old.out new.out failed.1,
           failed.1.rose,
         )
       ];
       count = count;
     } in
-    let reported_as : expected ≡ report classifier given = ap (report_of_capture classifier) (sym alone) in
+    let reported_as : expected ≡ report printing given = ap (report_of_capture printing) (sym alone) in
     record {
-      ends = Ends-whole classifier name given ending old new status h (bytes.0)
-          (λ more rest. ap (report_of_capture classifier) (all more rest ∙ sym alone))
-          (subst (λ (o : Outcome). PutsAll o old.out new.out status) reported_as puts);
+      ends = Ends-whole printing name given ending old new status h (bytes.0)
+          (λ more rest. ap (report_of_capture printing) (all more rest ∙ sym alone))
+          (subst (λ (o : Outcome). PutsAll o old.out new.out status) reported_as puts)
+          (steps ∙ ap (λ (o : Outcome). old.steps + o.steps) reported_as);
       lawful = elim (all_ended expected old.out new.out status puts) [
         | inl same ↦ ap is_usage same ∙ (fault_decided fault).1
         | inr write ↦ ap is_usage write
@@ -396,18 +435,19 @@ streamed (Whole records fault) classifier name given ending old new status start
       keeps_up = λ w. elim ended [
         | inl done ↦ absurd (false≢true (ap is_decided (sym w ∙ done.0) ∙ (fault_decided fault).0))
         | inr failed ↦
-            keeps_up_from name given ending (text_of_records classifier records fault) records old new h
+            keeps_up_from name given ending (text_of_records printing records fault) records old new h
             (ap records_in alone) failed.1
       ];
     }
-streamed (Part records) classifier name given ending old new status start behind h is bytes ended rose count opened =
+streamed (Part records) printing name given ending old new status start behind h is bytes ended rose count
+    opened steps =
     let whole : whole_records given ≡ records =
     ap (λ l. records_in (capture_of l)) (sym (append-nil given)) ∙ ap records_in (is [])
     ∙ ap (λ l. (records_behind start 0 l).records) (append-nil behind) ∙ bytes in
-    let lines : lines_so_far classifier given ≡ lines_of_records classifier records =
-    ap (lines_of_records classifier) whole in
+    let lines : lines_so_far printing given ≡ lines_of_records printing records =
+    ap (lines_of_records printing) whole in
     record {
-      ends = Ends-part classifier name given ending old new status h opened
+      ends = Ends-part printing name given ending old new status h opened
           record {
             ended = elim ended [
               | inl broken ↦ inl (broken.0.0 ∙ ap status_within (sym broken.0.1))
@@ -417,7 +457,7 @@ streamed (Part records) classifier name given ending old new status start behind
             prefix = λ w. elim ended [
               | inl broken ↦ (let e : ReadFault ≡ WriteFault = sym broken.0.0 ∙ w in absurd (cc))
               | inr failed ↦ rw lines
-                  (prefix_from (lines_of_records classifier records) (length records) old.out new.out failed.1)
+                  (prefix_from (lines_of_records printing records) (length records) old.out new.out failed.1)
             ];
             full = λ e. elim ended [
               | inl broken ↦ (let r : ReadFault ≡ OutOfMemory = sym broken.0.0 ∙ e in absurd (cc))
@@ -435,24 +475,27 @@ streamed (Part records) classifier name given ending old new status start behind
       keeps_up = λ w. elim ended [
         | inl broken ↦ (let e : ReadFault ≡ WriteFault = sym broken.0.0 ∙ w in absurd (cc))
         | inr failed ↦ keeps_up_from name given ending
-            (lines_of_records classifier records) records old new h whole failed.1
+            (lines_of_records printing records) records old new h whole failed.1
       ];
     }
 
 -- the records are read and printed
-pub Reports-streamed : {T E : Type 0} (classifier : Classifier) (name : List ℕ) (start : Start)
-    (old opened mid new : DeskView) (out_old out_new : SinkView)
+pub Reports-streamed : {T E : Type 0} (printing : Printing) (name : List ℕ) (start : Start)
+    (old opened mid new : DeskView) (out_old out_new : SinkView) (steps_old steps_new : ℕ)
     (x : T) (status : Status) → OpensFile {E = E} name old opened (Ok x) → ReadsStart opened mid (Ok start) →
-    Streams classifier start (outside mid out_old) (outside new out_new) status →
-    Reports classifier name (outside old out_old) (outside new out_new) status
-Reports-streamed {T} {E} classifier name start old opened mid new out_old out_new x status opens header s =
+    Streams printing start (outside mid out_old steps_old) (outside new out_new steps_new) status →
+    Reports printing name (outside old out_old steps_old) (outside new out_new steps_new) status
+Reports-streamed {T} {E} printing name start old opened mid new out_old out_new steps_old steps_new x status opens
+    header s =
     let given = header.given ++ s.given in
     let reads = ReadsOn-then (stands s.ending) header.given s.given opened mid new header.reads s.reads in
     let h = HearsFile-read {E = E} name given s.ending old opened new x opens reads s.at_end
     (KeepsReading-join opened mid new header.keeps s.keeps) in
-    streamed s.read classifier name given s.ending (outside old out_old) (outside new out_new) status start s.given h
+    streamed s.read printing name given s.ending (outside old out_old steps_old) (outside new out_new steps_new)
+    status
+    start s.given h
     (λ more. ap capture_of (append_assoc header.given s.given more)
     ∙ capture_of-read header.given (s.given ++ more) start header.answer)
     s.bytes s.answer
     (λ e. omega (arith, opens.counts.read_faults, header.keeps.counts.read_faults, s.read_fault e)) s.count
-    s.opened
+    s.opened s.steps

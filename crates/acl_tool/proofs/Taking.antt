@@ -1,13 +1,16 @@
 -- Records that were taken, and then more.
-use Rattle.std.proofs.Common.{◌≡◌, ℕ, ◌+◌, ◌<◌, List, [], ◌∷◌, ◌++◌, length, Option, Some, None, Ok, Err, inl, inr, refl, sym, subst, ap, ◌∙◌, append_assoc, append-nil, add-zero, length-append, arith}
+use Rattle.std.proofs.Common.{◌≡◌, ℕ, ◌+◌, ◌<◌, List, [], ◌∷◌, ◌++◌, length, Option, Some, None, Ok, Err, inl, inr}
+use Rattle.std.proofs.Common.{refl, sym, subst, ap, ◌∙◌, append_assoc, append-nil, add-zero, length-append, arith}
 use Rattle.std.proofs.lemmas.Bool.{cases_eq, cases_lt, eq-eqb}
 use Rattle.acl_outside.specs.Desk.{DeskView}
 use Rattle.acl_outside.specs.Heard.{Ending, Ended, GoesOn}
 use Rattle.acl_outside.proofs.HeardLaws.{ReadsOn-none, ReadsOn-then}
 use Rattle.pcap_reader.specs.declared.fault.CaptureFault.{CaptureFault}
-use Rattle.pcap_reader.specs.declared.fault.CaptureFault.TheVariants.{HeaderCut, Magic, Version, LinkType, RecordCut, RecordTooLong, TooManyRecords, ReadFault}
+use Rattle.pcap_reader.specs.declared.fault.CaptureFault.TheVariants.{HeaderCut, Magic, Version, LinkType, RecordCut}
+use Rattle.pcap_reader.specs.declared.fault.CaptureFault.TheVariants.{RecordTooLong, TooManyRecords, ReadFault}
 use Rattle.pcap_reader.specs.declared.start.Start.{Start}
-use Rattle.pcap_reader.specs.Capture.{CaptureRecord, Recorded, End as NoMore, Record, Fault as Failing, max_records, next_of, records_behind}
+use Rattle.pcap_reader.specs.Capture.{CaptureRecord, Recorded, End as NoMore, Record, Fault as Failing, max_records}
+use Rattle.pcap_reader.specs.Capture.{next_of, records_behind}
 use Rattle.pcap_reader.specs.Reader.{ReadsNext}
 use Rattle.pcap_reader.proofs.FillLaws.{KeepsReading-join}
 use Rattle.pcap_reader.proofs.NextLaws.{IsDecided, with_behind, next_of-append, next_of-too_many}
@@ -34,7 +37,11 @@ Took-none start count view = record {
   reads = ReadsOn-none view;
   at_end = λ e. absurd (cc);
   read_fault = λ e. absurd (cc);
-  keeps = record { reading = refl; absent = refl; counts = record { read_faults = omega arith; absent = omega arith } };
+  keeps = record {
+    reading = refl;
+    absent = refl;
+    counts = record { read_faults = omega arith; absent = omega arith };
+  };
   room = λ below. omega (arith, below);
 }
 
@@ -112,7 +119,8 @@ AreAll-part : (start : Start) (count : ℕ) (given : List ℕ) (ending : Ending)
     (fault : Option CaptureFault) →
     AreAll start count given ending records fault → (records_behind start count given).records ≡ records
 AreAll-part start count given ending records fault all =
-    ap (λ l. (records_behind start count l).records) (sym (append-nil given)) ∙ ap (λ r. r.records) (all [] (λ e. refl))
+    ap (λ l. (records_behind start count l).records) (sym (append-nil given))
+    ∙ ap (λ r. r.records) (all [] (λ e. refl))
 
 -- the records are the whole ones of the bytes
 pub AreOfBatch-part : (stop : BatchEnd) (start : Start) (given : List ℕ) (records : List CaptureRecord) →
@@ -126,10 +134,12 @@ AreOfBatch-part Full start given records are =
     none_left = ap (λ r. r.records) (records_behind-end start (0 + length records) [] refl)
 AreOfBatch-part End start given records are = AreAll-part start 0 given Ended records None are
 AreOfBatch-part (Fault ReadFault) start given records are = are
-AreOfBatch-part (Fault HeaderCut) start given records are = AreAll-part start 0 given Ended records (Some HeaderCut) are
+AreOfBatch-part (Fault HeaderCut) start given records are = AreAll-part start 0 given Ended records (Some HeaderCut)
+    are
 AreOfBatch-part (Fault Magic) start given records are = AreAll-part start 0 given GoesOn records (Some Magic) are
 AreOfBatch-part (Fault Version) start given records are = AreAll-part start 0 given GoesOn records (Some Version) are
-AreOfBatch-part (Fault LinkType) start given records are = AreAll-part start 0 given GoesOn records (Some LinkType) are
+AreOfBatch-part (Fault LinkType) start given records are = AreAll-part start 0 given GoesOn records
+    (Some LinkType) are
 AreOfBatch-part (Fault (RecordCut n)) start given records are =
     AreAll-part start 0 given Ended records (Some (RecordCut n)) are
 AreOfBatch-part (Fault (RecordTooLong n)) start given records are =

@@ -1,5 +1,6 @@
 -- What holds of a command against the files, where the desk tells them.
-use Rattle.std.proofs.Common.{◌≡◌, ◌⊎◌, ℕ, List, [], ◌∷◌, ◌++◌, true, false, Option, Some, Result, Ok, Err, inl, inr, sym, ap, subst, ◌∙◌, refl, append-nil}
+use Rattle.std.proofs.Common.{◌≡◌, ◌⊎◌, ℕ, ◌+◌, List, [], ◌∷◌, ◌++◌, true, false, Option, Some, Result, Ok, Err, inl}
+use Rattle.std.proofs.Common.{inr, sym, ap, subst, ◌∙◌, refl, append-nil}
 use Rattle.std.proofs.lemmas.Bool.{false≢true}
 use Rattle.std.specs.Prelude.{⊤}
 use Rattle.acl_outside.specs.Desk.{File, bytes_of}
@@ -9,7 +10,8 @@ use Rattle.acl_outside.proofs.WritingLaws.{GainsPrefix-more}
 use Rattle.acl_tool.specs.declared.status.Status.{Status}
 use Rattle.acl_tool.specs.declared.status.Status.TheVariants.{ReadFault, WriteFault, OutOfMemory}
 use Rattle.acl_tool.specs.Plan.{Outcome, Plan, Give, Stop, Read, ◌>>=◌, unless_refused, found, settled}
-use Rattle.acl_tool.specs.Follow.{Reached, Given, Stopped, Before, Within, IsOpened, IsPartOf, Follows, said_in, outcome_of, status_within}
+use Rattle.acl_tool.specs.Follow.{Reached, Given, Stopped, Before, Within, IsOpened, IsPartOf, Follows, said_in}
+use Rattle.acl_tool.specs.Follow.{outcome_of, status_within}
 use Rattle.acl_tool.specs.Outcome.{is_decided}
 use Rattle.acl_tool.specs.Effects.{Outside, files_of, heard_of, CannotRead, HasNoFault, Ends, EndsAsTold}
 use Rattle.acl_tool.proofs.Plans.{IsFound, Follows-found, found_next}
@@ -45,7 +47,8 @@ part_text : (files : List File) (file : Heard) (name : List ℕ) (printed : List
     ((bytes more : List ℕ) → BeginsWith (printed bytes) (settled (found (next (bytes ++ more)) files)).text) →
     BeginsWith (printed file.bytes) (settled (found (Read name printed next) files)).text
 part_text files file name printed next is_name part begins =
-    let there : bytes_of files name ≡ Some (file.bytes ++ part.rest) = ap (bytes_of files) (sym is_name) ∙ part.there in
+    let there : bytes_of files name ≡ Some (file.bytes ++ part.rest) = ap (bytes_of files) (sym is_name)
+    ∙ part.there in
     rw there (begins file.bytes part.rest)
 
 -- the text within a file, by how its reading stands
@@ -121,7 +124,8 @@ Ends-told plan old new status faithful ends files told =
     (ap is_decided (sym (decided_status status (outcome_of ends.reached).status ends.ended decided)) ∙ decided) in
     record {
       decided = λ decided.
-          decided_status status (outcome_of ends.reached).status ends.ended decided ∙ ap (λ o. o.status) (same decided);
+          decided_status status (outcome_of ends.reached).status ends.ended decided
+          ∙ ap (λ o. o.status) (same decided);
       text = λ decided.
           subst (λ (o : Outcome). Gains o.text old.out new.out) (same decided)
           (ends.text (λ write. false≢true (ap is_decided (sym write) ∙ decided))
@@ -131,6 +135,7 @@ Ends-told plan old new status faithful ends files told =
           (Follows-text plan (files_of old.desk) files (heard_of old.desk) (heard_of new.desk) ends.reached told
           (faithful files) ends.follows)
           (ends.prefix write);
+      steps = λ decided. ends.steps decided ∙ ap (λ (o : Outcome). old.steps + o.steps) (same decided);
     }
 
 no_read_fault : (P : List File → Type 0) (old new : Outside) → HasNoFault old new → CannotRead old.desk new.desk P → ⊥
@@ -144,13 +149,15 @@ full_within status GoesOn never same = same
 full_within status Ended never same = same
 full_within status BrokenOff never same = absurd (never same)
 
-complete_reached : (files : List File) (reached : Reached Outcome) (result : Result Outcome Status) (status : Status) →
+complete_reached : (files : List File) (reached : Reached Outcome) (result : Result Outcome Status)
+    (status : Status) →
     IsFound files reached result → (status ≡ ReadFault → ⊥) → status ≡ (outcome_of reached).status →
     (status ≡ (settled result).status) ⊎ (status ≡ OutOfMemory)
 complete_reached files (Given outcome) result status is never same = inl (rw is same)
 complete_reached files (Stopped refusal) result status is never same = inl (rw is same)
 complete_reached files (Before name) result status is never same = inr same
-complete_reached files (Within file text) result status is never same = inr (full_within status file.ending never same)
+complete_reached files (Within file text) result status is never same =
+    inr (full_within status file.ending never same)
 
 -- Where the outside has no fault, only memory keeps a command from its outcome.
 pub Ends-complete : (plan : Plan Outcome) (old new : Outside) (status : Status) → Ends plan old new status →

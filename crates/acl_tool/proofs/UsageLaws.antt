@@ -17,6 +17,7 @@ usage_ends fault view = record {
   text = λ other full. Gains-none view.out;
   prefix = λ e. absurd (cc);
   out_of_memory = λ e. absurd (cc);
+  steps = λ decided. omega arith;
   read_fault = λ e. absurd (cc);
   write_fault = λ e. absurd (cc);
   absent = λ files told isnt. refl;
@@ -25,7 +26,8 @@ usage_ends fault view = record {
 }
 
 -- Nothing was asked and nothing was printed.
-pub Answers-usage : (request : Result Request UsageFault) (fault : UsageFault) (view : Outside) → request ≡ Err fault →
+pub Answers-usage : (request : Result Request UsageFault) (fault : UsageFault) (view : Outside) → request
+    ≡ Err fault →
     Answers request view view (Usage fault)
 Answers-usage request fault view is =
     subst (λ (r : Result Request UsageFault). Answers r view view (Usage fault)) (sym is)

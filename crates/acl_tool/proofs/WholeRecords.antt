@@ -1,17 +1,20 @@
 -- The whole records of the first bytes of a capture are the first of its records.
-use Rattle.std.proofs.Common.{◌≡◌, ℕ, zero, suc, ◌+◌, ◌≤◌, List, [], ◌∷◌, ◌++◌, length, drop, Result, Ok, Err, inl, inr, refl, sym, subst, ap, ◌∙◌, append_assoc, length-append, arith}
+use Rattle.std.proofs.Common.{◌≡◌, ℕ, zero, suc, ◌+◌, ◌≤◌, List, [], ◌∷◌, ◌++◌, length, drop, Result, Ok, Err, inl}
+use Rattle.std.proofs.Common.{inr, refl, sym, subst, ap, ◌∙◌, append_assoc, length-append, arith}
 use Rattle.std.proofs.lemmas.Bool.{cases_lt, lt-leb, le-leb}
 use Rattle.std.proofs.lemmas.List.{take-append-le, drop-append-le}
 use Rattle.pcap_reader.specs.declared.fault.CaptureFault.{CaptureFault}
 use Rattle.pcap_reader.specs.declared.fault.CaptureFault.TheVariants.{HeaderCut}
 use Rattle.pcap_reader.specs.declared.start.Start.{Start}
 use Rattle.pcap_reader.specs.Start.{start_of, file_header_len}
-use Rattle.pcap_reader.specs.Capture.{CaptureRecord, Recorded, Record, next_of, records_behind, capture_of, whole_records, records_in}
+use Rattle.pcap_reader.specs.Capture.{CaptureRecord, Recorded, Record, next_of, records_behind, capture_of}
+use Rattle.pcap_reader.specs.Capture.{whole_records, records_in}
 use Rattle.pcap_reader.proofs.NextLaws.{IsDecided, with_behind, next_of-append}
-use Rattle.pcap_reader.proofs.CaptureLaws.{IsShorter, next_of-shorter, next_cases, records_behind-record, records_behind-end, records_behind-fault}
-use Rattle.acl_tool.specs.Verdicts.{Classifier}
+use Rattle.pcap_reader.proofs.CaptureLaws.{IsShorter, next_of-shorter, next_cases, records_behind-record}
+use Rattle.pcap_reader.proofs.CaptureLaws.{records_behind-end, records_behind-fault}
+use Rattle.acl_tool.specs.Printing.{Printing}
 use Rattle.acl_tool.specs.Report.{lines_of_packets, lines_of_records}
-use Rattle.acl_tool.specs.Outcome.{last_line, lines_so_far, report, report_of_capture}
+use Rattle.acl_tool.specs.Outcome.{last_lines, lines_so_far, report, report_of_capture}
 use Rattle.acl_tool.specs.Packet.{packet_of}
 use Rattle.acl_tool.proofs.LineLaws.{lines_of_records-append}
 use Rattle.acl_tool.proofs.Told.{BeginsWith, BeginsWith-nothing}
@@ -93,33 +96,33 @@ whole_first bytes more (Ok start) says =
       parts = all ∙ first.parts ∙ ap (λ (l : List CaptureRecord). l ++ first.rest) (sym alone);
     }
 
-lines_first : (classifier : Classifier) (front all : List CaptureRecord) (behind : List ℕ) → AreFirst front all →
-    BeginsWith (lines_of_records classifier front) (lines_of_records classifier all ++ behind)
-lines_first classifier front all behind first =
-    let rest = lines_of_packets classifier (length front + 1) (map packet_of first.rest) in
+lines_first : (printing : Printing) (front all : List CaptureRecord) (behind : List ℕ) → AreFirst front all →
+    BeginsWith (lines_of_records printing front) (lines_of_records printing all ++ behind)
+lines_first printing front all behind first =
+    let rest = lines_of_packets printing (length front + 1) (map packet_of first.rest) in
     record {
       rest = rest ++ behind;
       parts =
           ap (λ l. l ++ behind)
-          (ap (lines_of_records classifier) first.parts
-          ∙ lines_of_records-append classifier front first.rest (length front + 1) refl)
-          ∙ append_assoc (lines_of_records classifier front) rest behind;
+          (ap (lines_of_records printing) first.parts
+          ∙ lines_of_records-append printing front first.rest (length front + 1) refl)
+          ∙ append_assoc (lines_of_records printing front) rest behind;
     }
 
 no_front : (front rest : List CaptureRecord) → [] ≡ front ++ rest → front ≡ []
 no_front [] rest e = refl
 no_front (r ∷ rs) rest e = absurd (cc)
 
-reported_first : (classifier : Classifier) (front : List CaptureRecord) (capture : Result Recorded CaptureFault) →
+reported_first : (printing : Printing) (front : List CaptureRecord) (capture : Result Recorded CaptureFault) →
     AreFirst front (records_in capture) →
-    BeginsWith (lines_of_records classifier front) (report_of_capture classifier capture).text
-reported_first classifier front (Ok capture) first =
-    lines_first classifier front capture.records (last_line capture.records capture.fault) first
-reported_first classifier front (Err fault) first = rw (no_front front first.rest first.parts) (BeginsWith-nothing [])
+    BeginsWith (lines_of_records printing front) (report_of_capture printing capture).text
+reported_first printing front (Ok capture) first =
+    lines_first printing front capture.records (last_lines printing capture.records capture.fault) first
+reported_first printing front (Err fault) first = rw (no_front front first.rest first.parts) (BeginsWith-nothing [])
 
 -- The lines of the whole records of the first bytes are the first part of the report.
-pub report-begins : (classifier : Classifier) (bytes more : List ℕ) →
-    BeginsWith (lines_so_far classifier bytes) (report classifier (bytes ++ more)).text
-report-begins classifier bytes more =
-    reported_first classifier (whole_records bytes) (capture_of (bytes ++ more))
+pub report-begins : (printing : Printing) (bytes more : List ℕ) →
+    BeginsWith (lines_so_far printing bytes) (report printing (bytes ++ more)).text
+report-begins printing bytes more =
+    reported_first printing (whole_records bytes) (capture_of (bytes ++ more))
     (whole_first bytes more (start_of bytes) refl)

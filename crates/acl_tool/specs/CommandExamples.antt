@@ -1,11 +1,19 @@
 -- Examples of commands and of usage faults, each checked by evaluation.
-use Rattle.std.specs.Prelude.{◌≡◌, ℕ, List, [], ◌∷◌, ◌++◌, Some, None, Ok, Err, replicate, codes, refl}
-use Rattle.acl_tool.specs.declared.status.UsageKind.TheVariants.{MissingCommand, UnknownCommand, MissingName, UnknownOption, RepeatedOption, BadValue}
-use Rattle.acl_tool.specs.Command.{Classify, command, fault_at, number_in}
+use Rattle.std.specs.Prelude.{◌≡◌, ℕ, List, [], ◌∷◌, ◌++◌, true, false, Some, None, Ok, Err, map}
+use Rattle.std.specs.Prelude.{replicate, codes, refl}
+use Rattle.acl_tool.specs.declared.status.UsageKind.TheVariants.{MissingCommand, UnknownCommand}
+use Rattle.acl_tool.specs.declared.status.UsageKind.TheVariants.{MissingName, UnknownOption}
+use Rattle.acl_tool.specs.declared.status.UsageKind.TheVariants.{RepeatedOption, BadValue}
+use Rattle.acl_tool.specs.Options.{Options, none_given, settled_options, number_in, budget_in}
+use Rattle.acl_tool.specs.Command.{Classify, command, fault_at}
 
 -- `classify r c` with these words behind it
 abbrev classify_with : List (List ℕ) → List (List ℕ)
 classify_with options = codes "classify" ∷ codes "r" ∷ codes "c" ∷ options
+
+-- the options where none is given
+abbrev usual : Options
+usual = settled_options none_given
 
 no_words : command [] ≡ Err (fault_at 1 MissingCommand)
 no_words = refl
@@ -24,15 +32,15 @@ no_capture = refl
 
 -- any word may be a name
 names_like_options : command (codes "classify" ∷ codes "categories=4" ∷ codes "" ∷ [])
-    ≡ Ok (Classify (codes "categories=4") (codes "") (record { categories = 1 }))
+    ≡ Ok (Classify (codes "categories=4") (codes "") (record usual { categories = 1 }))
 names_like_options = refl
 
 one_category : command (classify_with [])
-    ≡ Ok (Classify (codes "r") (codes "c") (record { categories = 1 }))
+    ≡ Ok (Classify (codes "r") (codes "c") (record usual { categories = 1 }))
 one_category = refl
 
 sixteen_categories : command (classify_with (codes "categories=016" ∷ []))
-    ≡ Ok (Classify (codes "r") (codes "c") (record { categories = 16 }))
+    ≡ Ok (Classify (codes "r") (codes "c") (record usual { categories = 16 }))
 sixteen_categories = refl
 
 two_categories : command (classify_with (codes "categories=2" ∷ [])) ≡ Err (fault_at 4 BadValue)
@@ -49,9 +57,30 @@ an_option_without_its_sign : command (classify_with (codes "categories" ∷ []))
     ≡ Err (fault_at 4 UnknownOption)
 an_option_without_its_sign = refl
 
-another_option : command (classify_with (codes "categories=4" ∷ codes "stats=on" ∷ []))
+another_option : command (classify_with (codes "categories=4" ∷ codes "depth=1" ∷ []))
     ≡ Err (fault_at 5 UnknownOption)
 another_option = refl
+
+-- all options, in any order
+all_options : command (classify_with
+    (codes "marks=off" ∷ codes "max-words=15" ∷ codes "stats=on" ∷ codes "categories=4" ∷ []))
+    ≡ Ok (Classify (codes "r") (codes "c")
+    (record { categories = 4; max_words = 15; stats = true; marks = false }))
+all_options = refl
+
+-- a choice has two values, and each in one spelling
+another_choice : command (classify_with (codes "stats=yes" ∷ [])) ≡ Err (fault_at 4 BadValue)
+another_choice = refl
+
+great_choice : command (classify_with (codes "marks=On" ∷ [])) ≡ Err (fault_at 4 BadValue)
+great_choice = refl
+
+no_choice : command (classify_with (codes "marks=" ∷ [])) ≡ Err (fault_at 4 BadValue)
+no_choice = refl
+
+a_repeated_choice : command (classify_with (codes "stats=on" ∷ codes "stats=off" ∷ []))
+    ≡ Err (fault_at 5 RepeatedOption)
+a_repeated_choice = refl
 
 -- an option that is repeated is so whatever its value
 a_repeated_option : command (classify_with (codes "categories=4" ∷ codes "categories=x" ∷ []))
@@ -62,6 +91,11 @@ a_repeated_option = refl
 two_faults : command (classify_with (codes "categories=x" ∷ codes "categories=4" ∷ []))
     ≡ Err (fault_at 4 BadValue)
 two_faults = refl
+
+budgets : map budget_in
+    (codes "0" ∷ codes "1" ∷ codes "67108864" ∷ codes "67108865" ∷ codes "" ∷ codes "-1" ∷ [])
+    ≡ None ∷ Some 1 ∷ Some 67108864 ∷ None ∷ None ∷ None ∷ []
+budgets = refl
 
 twenty_digits : number_in (replicate 18 48 ++ codes "12") ≡ Some 12
 twenty_digits = refl

@@ -1,5 +1,6 @@
 -- What a part of a command says of the outside, before and after it.
-use Rattle.std.specs.Prelude.{◌≡◌, ◌≢◌, ℕ, ◌+◌, ◌≤◌, ◌⊎◌, List, [], ◌∷◌, length, false, true, Option, Some, None, Result, Ok, Err, IfOk, IfErr}
+use Rattle.std.specs.Prelude.{◌≡◌, ◌≢◌, ℕ, ◌+◌, ◌≤◌, ◌⊎◌, List, [], ◌∷◌, length, false, true}
+use Rattle.std.specs.Prelude.{Option, Some, None, Result, Ok, Err, IfOk, IfErr, IfSome}
 use Rattle.std.specs.Option.{option_map}
 use Rattle.std.specs.declared.vec.Vec.{Vec}
 use Rattle.std.specs.declared.alloc.Global.{Global}
@@ -8,16 +9,20 @@ use Rattle.acl_outside.specs.Desk.{File, DeskView, KeepsCounts, bytes_of}
 use Rattle.acl_outside.specs.Heard.{Heard, GoesOn, Ended, heard}
 use Rattle.acl_outside.specs.Sink.{SinkView, Gains, GainsPrefix}
 use Rattle.acl_tool.specs.declared.status.Status.{Status}
-use Rattle.acl_tool.specs.declared.status.Status.TheVariants.{Usage, ReadFault, WriteFault, OutOfMemory}
+use Rattle.acl_tool.specs.declared.status.Status.TheVariants.{Usage, ReadFault, WriteFault}
+use Rattle.acl_tool.specs.declared.status.Status.TheVariants.{OutOfMemory}
 use Rattle.acl_tool.specs.declared.status.UsageFault.{UsageFault}
 use Rattle.pcap_reader.specs.Capture.{whole_records}
-use Rattle.acl_tool.specs.Verdicts.{Classifier}
+use Rattle.acl_tool.specs.Classifier.{Classifier, ByTables, Tables, AnswersAs}
+use Rattle.acl_tool.specs.declared.printing.PrintOptions.{PrintOptions}
+use Rattle.acl_tool.specs.Printing.{Printing, printing_by}
 use Rattle.acl_tool.specs.Report.{lines_in}
 use Rattle.acl_tool.specs.Taken.{max_batch}
 use Rattle.acl_tool.specs.Command.{Request, capture_name, command}
 use Rattle.acl_tool.specs.Message.{message}
 use Rattle.acl_tool.specs.Plan.{Outcome, Plan, found, settled}
-use Rattle.acl_tool.specs.Follow.{Reached, Given, Follows, IsOneOf, IsCutOff, outcome_of, status_within}
+use Rattle.acl_tool.specs.Follow.{Reached, Given, Follows, IsOneOf, IsCutOff, outcome_of}
+use Rattle.acl_tool.specs.Follow.{status_within}
 use Rattle.acl_tool.specs.Outcome.{is_decided, is_reported, is_usage, outcome, plan_of, reported}
 
 -- the files of a desk that tells them
@@ -37,14 +42,16 @@ earlier_of (file ∷ files) = files
 abbrev pub heard_of : DeskView → List Heard
 heard_of desk = heard desk.answers
 
--- the outside of a command: the desk that it reads through, and the sink that it prints to
+-- the outside of a command: the desk that it reads through, the sink that it prints to, and the
+-- counter of the transitions that tables took
 pub record Outside : Type 0 where
   pub desk : DeskView
   pub out : SinkView
+  pub steps : ℕ
 
--- an outside with these two
-abbrev pub outside : DeskView → SinkView → Outside
-outside desk out = record { desk = desk; out = out }
+-- an outside with these three
+abbrev pub outside : DeskView → SinkView → ℕ → Outside
+outside desk out steps = record { desk = desk; out = out; steps = steps }
 
 -- The files are as before, and no count fell.
 pub record KeepsFiles (old new : DeskView) : Type 0 where
@@ -112,6 +119,7 @@ pub record Ends (plan : Plan Outcome) (old new : Outside) (status : Status) : Ty
       Gains (outcome_of reached).text old.out new.out
   pub prefix : status ≡ WriteFault → GainsPrefix (outcome_of reached).text old.out new.out
   pub out_of_memory : status ≡ OutOfMemory → Gains [] old.out new.out
+  pub steps : is_decided status ≡ true → new.steps ≡ old.steps + (outcome_of reached).steps
   -- each fault has its cause
   pub read_fault : status ≡ ReadFault →
       CannotRead old.desk new.desk (λ files. (settled (found plan files)).status ≡ ReadFault)
@@ -127,6 +135,7 @@ pub record EndsAsTold (expected : Outcome) (old new : Outside) (status : Status)
   pub decided : is_decided status ≡ true → status ≡ expected.status
   pub text : is_decided status ≡ true → Gains expected.text old.out new.out
   pub prefix : status ≡ WriteFault → GainsPrefix expected.text old.out new.out
+  pub steps : is_decided status ≡ true → new.steps ≡ old.steps + expected.steps
 
 -- A line was put to a sink, or a prefix of it where the sink failed.
 pub record PutsLine (line : List ℕ) (old new : SinkView) : Type 0 where
@@ -144,9 +153,9 @@ pub record KeepsUp (name : List ℕ) (old new : Outside) : Type 0 where
   pub few : length (whole_records file.bytes) ≤ lines_in put + max_batch
 
 -- The report of the named capture was printed as far as its plan was followed.
-pub record Reports (classifier : Classifier) (name : List ℕ) (old new : Outside)
+pub record Reports (printing : Printing) (name : List ℕ) (old new : Outside)
     (status : Status) : Type 0 where
-  pub ends : Ends (reported classifier name) old new status
+  pub ends : Ends (reported printing name) old new status
   pub lawful : is_usage status ≡ false
   pub opened : (files : List File) → files_of old.desk ≡ Some files → is_reported status ≡ true →
       opened_of new.desk ≡ Some (Some name)
@@ -157,6 +166,24 @@ pub record HasNoFault (old new : Outside) : Type 0 where
   pub read_faults : ¬ Rose old.desk.read_faults new.desk.read_faults
   pub absent : ¬ Rose old.desk.absent new.desk.absent
   pub faults : ¬ Rose old.out.faults new.out.faults
+
+-- All that printing a capture from tables promises.
+pub record Prints (tables : Tables) (options : PrintOptions) (name : List ℕ) (old new : Outside)
+    (status : Status) : Type 0 where
+  -- the report is that of the tables, for every desk and sink
+  pub by_tables : Reports (printing_by (ByTables tables) tables options) name old new status
+  -- and so it is that of whatever answers as the tables do
+  pub alike : (classifier : Classifier) → AnswersAs classifier tables →
+      Reports (printing_by classifier tables options) name old new status
+  -- where the desk tells its files
+  pub told : (files : List File) → files_of old.desk ≡ Some files →
+      EndsAsTold (settled (found
+      (reported (printing_by (ByTables tables) tables options) name) files)) old new status
+  -- where the outside has no fault, only memory keeps the printing from its outcome
+  pub complete : HasNoFault old new → (files : List File) → files_of old.desk ≡ Some files →
+      (status ≡ (settled (found
+      (reported (printing_by (ByTables tables) tables options) name) files)).status)
+      ⊎ (status ≡ OutOfMemory)
 
 -- A request or a usage fault was answered: all that is promised of a command but its message.
 pub record Answers (request : Result Request UsageFault) (old new : Outside)
@@ -171,9 +198,11 @@ pub record Answers (request : Result Request UsageFault) (old new : Outside)
   pub told : (files : List File) → files_of old.desk ≡ Some files →
       EndsAsTold (settled (found (plan_of request) files)) old new status
   pub opened : (files : List File) → files_of old.desk ≡ Some files → is_reported status ≡ true →
-      IfOk request (λ r. opened_of new.desk ≡ Some (Some (capture_name r)))
+      IfOk request (λ r. IfSome (capture_name r)
+      (λ name. opened_of new.desk ≡ Some (Some name)))
   -- lines are put soon after their records were read
-  pub keeps_up : status ≡ WriteFault → IfOk request (λ r. KeepsUp (capture_name r) old new)
+  pub keeps_up : status ≡ WriteFault →
+      IfOk request (λ r. IfSome (capture_name r) (λ name. KeepsUp name old new))
 
 -- All that `run` promises.
 pub record Runs (words : List (List ℕ)) (old new : Outside) (err_old err_new : SinkView)

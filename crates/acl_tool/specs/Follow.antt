@@ -69,12 +69,14 @@ status_within GoesOn = OutOfMemory
 status_within Ended = OutOfMemory
 status_within BrokenOff = ReadFault
 
--- The outcome of what was heard. Before a file is opened only want of memory ends a command.
+-- The outcome of what was heard. Before a file is opened only want of memory ends a command. Within
+-- a file no number of transitions is promised.
 abbrev pub outcome_of : Reached Outcome → Outcome
 outcome_of (Given outcome) = outcome
 outcome_of (Stopped status) = silent status
 outcome_of (Before name) = silent OutOfMemory
-outcome_of (Within file text) = record { status = status_within file.ending; text = text }
+outcome_of (Within file text) =
+    record { status = status_within file.ending; text = text; steps = 0 }
 
 -- how a part of a command may end that gives no value and prints nothing
 abbrev pub IsCutOff : {A : Type 0} → Reached A → Status → Type 0

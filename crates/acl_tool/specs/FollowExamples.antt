@@ -5,9 +5,12 @@ use Rattle.std.proofs.Common.{inl, inr, subst}
 use Rattle.std.specs.Fmt.{digits}
 use Rattle.acl_outside.specs.Desk.{File}
 use Rattle.acl_outside.specs.Heard.{Heard, Ending, NotOpened, GoesOn, Ended, BrokenOff}
-use Rattle.acl_tool.specs.declared.status.Status.TheVariants.{Done, RulesRefused, ReadFault, OutOfMemory}
+use Rattle.acl_tool.specs.declared.status.Status.TheVariants.{Done, RulesRefused, ReadFault}
+use Rattle.acl_tool.specs.declared.status.Status.TheVariants.{OutOfMemory}
 use Rattle.classbench_reader.specs.declared.fault.LineKind.TheVariants.{BadStart}
+use Rattle.rule_split.specs.Split as split
 use Rattle.pcap_reader.specs.StartExamples.{ethernet_header}
+use Rattle.acl_tool.specs.Options.{none_given, settled_options}
 use Rattle.acl_tool.specs.Command.{Classify}
 use Rattle.acl_tool.specs.Plan.{Outcome, Plan, silent}
 use Rattle.acl_tool.specs.Follow.{Given, Stopped, Before, Within, IsOneOf, Follows, outcome_of}
@@ -15,7 +18,7 @@ use Rattle.acl_tool.specs.Outcome.{plan_of_request}
 
 -- a `classify` of the files r and c
 abbrev classify : Plan Outcome
-classify = plan_of_request (Classify (codes "r") (codes "c") (record { categories = 1 }))
+classify = plan_of_request (Classify (codes "r") (codes "c") (settled_options none_given))
 
 abbrev rules_file : List ℕ → Ending → Heard
 rules_file bytes ending = record { name = codes "r"; bytes = bytes; ending = ending }
@@ -36,8 +39,9 @@ whole : Follows None classify [] (capture_file ethernet_header Ended ∷ rules_f
     (Given (record {
       status = Done;
       text = codes "packets 0 ip4 0 ip6 0 other 0 short 0\n";
+      steps = 0;
     }))
-unfolding digits
+unfolding digits split.total_of split.groups_of split.groups_by split.turns split.turn
 whole =
     inr (
       rules_file [] Ended,
@@ -74,6 +78,7 @@ absent = inr (rules_file [] NotOpened, refl, untold (rules_file [] NotOpened), i
 -- the capture broke off
 broken : Follows None classify [] (capture_file (0xD4 ∷ []) BrokenOff ∷ rules_file [] Ended ∷ [])
     (Within (capture_file (0xD4 ∷ []) BrokenOff) [])
+unfolding split.total_of split.groups_of split.groups_by split.turns split.turn
 broken =
     inr (
       rules_file [] Ended,

@@ -1,13 +1,27 @@
 -- The line on standard error that tells how a command ended.
 use Rattle.std.specs.Prelude.{ℕ, ◌+◌, List, [], ◌∷◌, ◌++◌, codes, decimal}
+use Rattle.acl_report.specs.Tables.{family_word}
 use Rattle.acl_tool.specs.declared.status.Status.{Status}
-use Rattle.acl_tool.specs.declared.status.Status.TheVariants.{Done, Usage, RulesRefused, CaptureRefused, ReadFault, WriteFault, OutOfMemory}
+use Rattle.acl_tool.specs.declared.status.Status.TheVariants.{Done, Usage, RulesRefused, TooLarge}
+use Rattle.acl_tool.specs.declared.status.Status.TheVariants.{CaptureRefused, ReadFault, WriteFault}
+use Rattle.acl_tool.specs.declared.status.Status.TheVariants.{OutOfMemory}
 use Rattle.acl_tool.specs.declared.status.UsageKind.{UsageKind}
-use Rattle.acl_tool.specs.declared.status.UsageKind.TheVariants.{MissingCommand, UnknownCommand, MissingName, UnknownOption, RepeatedOption, BadValue}
+use Rattle.acl_tool.specs.declared.status.UsageKind.TheVariants.{MissingCommand, UnknownCommand}
+use Rattle.acl_tool.specs.declared.status.UsageKind.TheVariants.{MissingName, UnknownOption}
+use Rattle.acl_tool.specs.declared.status.UsageKind.TheVariants.{RepeatedOption, BadValue}
 use Rattle.classbench_reader.specs.declared.fault.LineKind.{LineKind}
-use Rattle.classbench_reader.specs.declared.fault.LineKind.TheVariants.{FileTooLong, TooManyRules, BadStart, BadAddress, BadPrefix, MixedFamilies, BadPorts, EmptyRange, BadProtocol, BadFlags, BadAttribute, TailLeft, NoCategory, PriorityRange}
+use Rattle.classbench_reader.specs.declared.fault.LineKind.TheVariants.{FileTooLong, TooManyRules}
+use Rattle.classbench_reader.specs.declared.fault.LineKind.TheVariants.{BadStart, BadAddress}
+use Rattle.classbench_reader.specs.declared.fault.LineKind.TheVariants.{BadPrefix, MixedFamilies}
+use Rattle.classbench_reader.specs.declared.fault.LineKind.TheVariants.{BadPorts, EmptyRange}
+use Rattle.classbench_reader.specs.declared.fault.LineKind.TheVariants.{BadProtocol, BadFlags}
+use Rattle.classbench_reader.specs.declared.fault.LineKind.TheVariants.{BadAttribute, TailLeft}
+use Rattle.classbench_reader.specs.declared.fault.LineKind.TheVariants.{NoCategory, PriorityRange}
 use Rattle.pcap_reader.specs.declared.fault.CaptureFault.{CaptureFault}
-use Rattle.pcap_reader.specs.declared.fault.CaptureFault.TheVariants.{HeaderCut, Magic, Version, LinkType, RecordCut, RecordTooLong, TooManyRecords, ReadFault as CannotRead}
+use Rattle.pcap_reader.specs.declared.fault.CaptureFault.TheVariants.{HeaderCut, Magic, Version}
+use Rattle.pcap_reader.specs.declared.fault.CaptureFault.TheVariants.{LinkType, RecordCut}
+use Rattle.pcap_reader.specs.declared.fault.CaptureFault.TheVariants.{RecordTooLong, TooManyRecords}
+use Rattle.pcap_reader.specs.declared.fault.CaptureFault.TheVariants.{ReadFault as CannotRead}
 use Rattle.pcap_reader.specs.Capture.{max_records}
 
 -- what is told of a usage fault
@@ -64,11 +78,18 @@ abbrev pub numbered : List ℕ → ℕ → List ℕ → List ℕ
 numbered subject number kind =
     codes "aclc: " ++ subject ++ decimal number ++ codes ": " ++ kind ++ 10 ∷ []
 
+-- what is told of a table that is too large: its family, the words that it needs, and the budget
+abbrev pub too_large_text : List ℕ → ℕ → ℕ → List ℕ
+too_large_text family words budget =
+    codes "aclc: " ++ family ++ codes " table too large: words " ++ decimal words
+    ++ codes " budget " ++ decimal budget ++ 10 ∷ []
+
 -- the line of a status, and nothing for `Done`
 abbrev pub message : Status → List ℕ
 message Done = []
 message (Usage fault) = numbered (codes "usage: word ") fault.word (usage_text fault.kind)
 message (RulesRefused fault) = numbered (codes "rules: line ") fault.line (line_text fault.kind)
+message (TooLarge family words budget) = too_large_text (family_word family) words budget
 message (CaptureRefused fault) =
     numbered (codes "capture: record ") (record_of_fault fault) (capture_text fault)
 message ReadFault = codes "aclc: read fault" ++ 10 ∷ []
@@ -80,6 +101,7 @@ abbrev pub code_of : Status → ℕ
 code_of Done = 0
 code_of (Usage fault) = 2
 code_of (RulesRefused fault) = 3
+code_of (TooLarge family words budget) = 4
 code_of (CaptureRefused fault) = 5
 code_of ReadFault = 7
 code_of WriteFault = 8

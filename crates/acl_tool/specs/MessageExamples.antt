@@ -2,10 +2,23 @@
 -- text that there is.
 use Rattle.std.specs.Prelude.{◌≡◌, [], ◌∷◌, codes, refl, map}
 use Rattle.std.specs.Fmt.{digits}
-use Rattle.acl_tool.specs.declared.status.Status.TheVariants.{Done, Usage, RulesRefused, CaptureRefused, ReadFault, WriteFault, OutOfMemory}
-use Rattle.acl_tool.specs.declared.status.UsageKind.TheVariants.{MissingCommand, UnknownCommand, MissingName, UnknownOption, RepeatedOption, BadValue}
-use Rattle.classbench_reader.specs.declared.fault.LineKind.TheVariants.{FileTooLong, TooManyRules, BadStart, BadAddress, BadPrefix, MixedFamilies, BadPorts, EmptyRange, BadProtocol, BadFlags, BadAttribute, TailLeft, NoCategory, PriorityRange}
-use Rattle.pcap_reader.specs.declared.fault.CaptureFault.TheVariants.{HeaderCut, Magic, Version, LinkType, RecordCut, RecordTooLong, TooManyRecords}
+use Rattle.field_defs.specs.declared.field.Family.TheVariants.{Ip4, Ip6}
+use Rattle.acl_tool.specs.declared.status.Status.TheVariants.{Done, Usage, RulesRefused, TooLarge}
+use Rattle.acl_tool.specs.declared.status.Status.TheVariants.{CaptureRefused, ReadFault, WriteFault}
+use Rattle.acl_tool.specs.declared.status.Status.TheVariants.{OutOfMemory}
+use Rattle.acl_tool.specs.declared.status.UsageKind.TheVariants.{MissingCommand, UnknownCommand}
+use Rattle.acl_tool.specs.declared.status.UsageKind.TheVariants.{MissingName, UnknownOption}
+use Rattle.acl_tool.specs.declared.status.UsageKind.TheVariants.{RepeatedOption, BadValue}
+use Rattle.classbench_reader.specs.declared.fault.LineKind.TheVariants.{FileTooLong, TooManyRules}
+use Rattle.classbench_reader.specs.declared.fault.LineKind.TheVariants.{BadStart, BadAddress}
+use Rattle.classbench_reader.specs.declared.fault.LineKind.TheVariants.{BadPrefix, MixedFamilies}
+use Rattle.classbench_reader.specs.declared.fault.LineKind.TheVariants.{BadPorts, EmptyRange}
+use Rattle.classbench_reader.specs.declared.fault.LineKind.TheVariants.{BadProtocol, BadFlags}
+use Rattle.classbench_reader.specs.declared.fault.LineKind.TheVariants.{BadAttribute, TailLeft}
+use Rattle.classbench_reader.specs.declared.fault.LineKind.TheVariants.{NoCategory, PriorityRange}
+use Rattle.pcap_reader.specs.declared.fault.CaptureFault.TheVariants.{HeaderCut, Magic, Version}
+use Rattle.pcap_reader.specs.declared.fault.CaptureFault.TheVariants.{LinkType, RecordCut}
+use Rattle.pcap_reader.specs.declared.fault.CaptureFault.TheVariants.{RecordTooLong, TooManyRecords}
 use Rattle.acl_tool.specs.Command.{fault_at}
 use Rattle.acl_tool.specs.Message.{message, usage_text, line_text, capture_text, code_of}
 
@@ -25,6 +38,15 @@ long_rule_file : message (RulesRefused (record { line = 0; kind = FileTooLong })
     ≡ codes "aclc: rules: line 0: file too long\n"
 unfolding digits
 long_rule_file = refl
+
+large_table : message (TooLarge Ip4 16 15) ≡ codes "aclc: ip4 table too large: words 16 budget 15\n"
+unfolding digits
+large_table = refl
+
+large_ip6_table : message (TooLarge Ip6 67108865 67108864)
+    ≡ codes "aclc: ip6 table too large: words 67108865 budget 67108864\n"
+unfolding digits
+large_ip6_table = refl
 
 wrong_header : message (CaptureRefused Magic) ≡ codes "aclc: capture: record 0: magic\n"
 unfolding digits
@@ -80,6 +102,6 @@ long_record = refl
 -- each status has a code of its own
 all_codes : map code_of (
     Done ∷ Usage (fault_at 1 UnknownCommand) ∷ RulesRefused (record { line = 1; kind = BadStart })
-    ∷ CaptureRefused Magic
-    ∷ ReadFault ∷ WriteFault ∷ OutOfMemory ∷ []) ≡ 0 ∷ 2 ∷ 3 ∷ 5 ∷ 7 ∷ 8 ∷ 9 ∷ []
+    ∷ TooLarge Ip4 16 15 ∷ CaptureRefused Magic
+    ∷ ReadFault ∷ WriteFault ∷ OutOfMemory ∷ []) ≡ 0 ∷ 2 ∷ 3 ∷ 4 ∷ 5 ∷ 7 ∷ 8 ∷ 9 ∷ []
 all_codes = refl

@@ -5,14 +5,15 @@ use Rattle.acl_outside.specs.Desk.{File, bytes_of}
 use Rattle.acl_tool.specs.declared.status.Status.{Status}
 use Rattle.acl_tool.specs.declared.status.Status.TheVariants.{ReadFault}
 
--- a status, and the text that is printed
+-- a status, the text that is printed, and how many transitions the tables took
 pub record Outcome : Type 0 where
   pub status : Status
   pub text : List ℕ
+  pub steps : ℕ
 
--- a status with nothing printed
+-- a status with nothing printed and no transition taken
 abbrev pub silent : Status → Outcome
-silent status = record { status = status; text = [] }
+silent status = record { status = status; text = []; steps = 0 }
 
 -- A plan gives a value, stops with a status, or reads the named file and goes on with its bytes.
 -- The text beside a reading is what is printed in all once these bytes of the file were read.

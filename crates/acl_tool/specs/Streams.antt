@@ -1,5 +1,5 @@
 -- What the printing of a capture changes of the outside, from the end of its file header on.
-use Rattle.std.specs.Prelude.{◌≡◌, ℕ, ◌+◌, ◌≤◌, ◌⊎◌, List, ◌++◌, length, Option, ⊤}
+use Rattle.std.specs.Prelude.{◌≡◌, ℕ, ◌+◌, ◌≤◌, ◌⊎◌, List, ◌++◌, length, map, All, Option, ⊤}
 use Rattle.acl_outside.specs.Fault.{Rose}
 use Rattle.acl_outside.specs.Heard.{Ending, NotOpened, GoesOn, Ended, BrokenOff}
 use Rattle.acl_outside.specs.Reading.{ReadsOn}
@@ -10,8 +10,9 @@ use Rattle.pcap_reader.specs.Capture.{CaptureRecord, records_behind}
 use Rattle.pcap_reader.specs.Fill.{KeepsReading, IsAtEnd}
 use Rattle.acl_tool.specs.declared.status.Status.{Status}
 use Rattle.acl_tool.specs.declared.status.Status.TheVariants.{Done, ReadFault, WriteFault}
-use Rattle.acl_tool.specs.Verdicts.{Classifier}
-use Rattle.acl_tool.specs.Report.{lines_of_records, lines_in}
+use Rattle.acl_tool.specs.Packet.{IsPacket, packet_of}
+use Rattle.acl_tool.specs.Printing.{Printing}
+use Rattle.acl_tool.specs.Report.{lines_of_records, lines_in, steps_of_records}
 use Rattle.acl_tool.specs.Taken.{max_batch, stands, AreAll}
 use Rattle.acl_tool.specs.Outcome.{status_of_fault, text_of_records}
 use Rattle.acl_tool.specs.Follow.{IsOpened}
@@ -29,9 +30,9 @@ records_read (Whole records fault) = records
 records_read (Part records) = records
 
 -- what is printed of it
-abbrev pub text_of : Classifier → Reading → List ℕ
-text_of classifier (Whole records fault) = text_of_records classifier records fault
-text_of classifier (Part records) = lines_of_records classifier records
+abbrev pub text_of : Printing → Reading → List ℕ
+text_of printing (Whole records fault) = text_of_records printing records fault
+text_of printing (Part records) = lines_of_records printing records
 
 -- the end of the file was met, or more of it may come
 abbrev pub IsUnbroken : Ending → Type 0
@@ -60,14 +61,14 @@ pub record BreaksOffSoon (text : List ℕ) (records : ℕ) (old new : SinkView) 
   pub few : records ≤ lines_in put + max_batch
   pub rose : Rose old.faults new.faults
 
--- The line of the counts was put, or a prefix of it where the sink failed.
-pub record PutsCounts (line : List ℕ) (old new : SinkView) (status : Status) : Type 0 where
-  pub puts : ((status ≡ Done) × Gains line old new)
-      ⊎ ((status ≡ WriteFault) × GainsPrefix line old new × Rose old.faults new.faults)
+-- The last lines were put, or a prefix of them where the sink failed.
+pub record PutsLast (lines : List ℕ) (old new : SinkView) (status : Status) : Type 0 where
+  pub puts : ((status ≡ Done) × Gains lines old new)
+      ⊎ ((status ≡ WriteFault) × GainsPrefix lines old new × Rose old.faults new.faults)
   pub count : old.faults ≤ new.faults
 
 -- The records were read and printed, as far as the status says.
-pub record Streams (classifier : Classifier) (start : Start) (old new : Outside)
+pub record Streams (printing : Printing) (start : Start) (old new : Outside)
     (status : Status) : Type 0 where
   pub given : List ℕ
   pub ending : Ending
@@ -77,8 +78,10 @@ pub record Streams (classifier : Classifier) (start : Start) (old new : Outside)
   pub at_end : ending ≡ Ended → IsAtEnd new.desk
   pub keeps : KeepsReading old.desk new.desk
   pub bytes : AreRead start given ending read
-  pub answer : (IsStatus ending read status × Gains (text_of classifier read) old.out new.out)
+  pub packets : All IsPacket (map packet_of (records_read read))
+  pub answer : (IsStatus ending read status × Gains (text_of printing read) old.out new.out)
       ⊎ ((status ≡ WriteFault)
-      × BreaksOffSoon (text_of classifier read) (length (records_read read)) old.out new.out)
+      × BreaksOffSoon (text_of printing read) (length (records_read read)) old.out new.out)
   pub read_fault : status ≡ ReadFault → Rose old.desk.read_faults new.desk.read_faults
+  pub steps : new.steps ≡ old.steps + steps_of_records printing.tables (records_read read)
   pub count : old.out.faults ≤ new.out.faults

@@ -1,12 +1,16 @@
 -- Records that are taken from a capture, some at a time.
-use Rattle.std.specs.Prelude.{◌≡◌, ℕ, ◌+◌, ◌≤◌, List, [], ◌∷◌, ◌++◌, length, map, Option, Some, None, Result, Ok, Err}
+use Rattle.std.specs.Prelude.{◌≡◌, ℕ, ◌+◌, ◌≤◌, List, [], ◌∷◌, ◌++◌, length, map, All, Option, Some}
+use Rattle.std.specs.Prelude.{None, Result, Ok, Err}
 use Rattle.acl_outside.specs.Fault.{Rose}
 use Rattle.acl_outside.specs.Desk.{DeskView}
 use Rattle.acl_outside.specs.Heard.{Heard, Ending, NotOpened, GoesOn, Ended, BrokenOff, with_ending}
 use Rattle.acl_outside.specs.Reading.{ReadsOn, and_goes_on}
 use Rattle.header_extract.specs.Class.{FrameClass}
 use Rattle.pcap_reader.specs.declared.fault.CaptureFault.{CaptureFault}
-use Rattle.pcap_reader.specs.declared.fault.CaptureFault.TheVariants.{HeaderCut, Magic, Version, LinkType, RecordCut, RecordTooLong, TooManyRecords, ReadFault}
+use Rattle.pcap_reader.specs.declared.fault.CaptureFault.TheVariants.{HeaderCut, Magic, Version}
+use Rattle.pcap_reader.specs.declared.fault.CaptureFault.TheVariants.{LinkType, RecordCut}
+use Rattle.pcap_reader.specs.declared.fault.CaptureFault.TheVariants.{RecordTooLong, TooManyRecords}
+use Rattle.pcap_reader.specs.declared.fault.CaptureFault.TheVariants.{ReadFault}
 use Rattle.pcap_reader.specs.declared.link.Link.{Link}
 use Rattle.pcap_reader.specs.declared.start.Start.{Start}
 use Rattle.pcap_reader.specs.Capture.{CaptureRecord, Recorded, max_records, records_behind}
@@ -14,7 +18,7 @@ use Rattle.pcap_reader.specs.Fill.{KeepsReading, IsAtEnd}
 use Rattle.pcap_reader.specs.Reader.{CaptureState, ReadsNext, state_after}
 use Rattle.acl_tool.specs.declared.batch.BatchEnd.{BatchEnd}
 use Rattle.acl_tool.specs.declared.batch.BatchEnd.TheVariants.{Full, End, Fault}
-use Rattle.acl_tool.specs.Packet.{packet_of}
+use Rattle.acl_tool.specs.Packet.{packet_of, IsPacket}
 
 -- how many records are taken at most before their lines are put
 abbrev pub max_batch : ℕ
@@ -86,6 +90,7 @@ pub record TakesBatch (start : Start) (count : ℕ) (packets : List FrameClass) 
   pub records : List CaptureRecord
   pub given : List ℕ
   pub packets_are : packets ≡ map packet_of records
+  pub keys : All IsPacket packets
   pub took : Took start count records given old new stop
   pub few : length packets ≤ max_batch
   pub full : stop ≡ Full → length packets ≡ max_batch
@@ -110,4 +115,5 @@ pub record TakesRecord (state_old state_new : CaptureState)
   pub takes : ReadsNext state_old.start.order state_old.count old new answer
   pub state : state_new ≡ state_after state_old answer
   pub packets : packets_new ≡ packets_old ++ packets_in state_old.start.link answer
+  pub keys : All IsPacket (packets_in state_old.start.link answer)
   pub stop : result ≡ end_of answer

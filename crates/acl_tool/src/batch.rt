@@ -1,6 +1,7 @@
 //! Records of a capture, at most 64 at a time, as their packets.
 
-ghost use Rattle.std.specs.Prelude.{◌≡◌, ◌+◌, ◌<◌, ◌≤◌, [], ◌∷◌, ◌++◌, vec_len, vec_capacity, IsTrue};
+ghost use Rattle.std.specs.Prelude.{◌≡◌, ◌+◌, ◌<◌, ◌≤◌, [], ◌∷◌, ◌++◌, vec_len, vec_capacity};
+ghost use Rattle.std.specs.Prelude.{IsTrue};
 ghost use Rattle.pcap_reader.specs.Reader.{begun, state_of};
 ghost use Rattle.pcap_reader.specs.declared.progress.Progress.TheVariants as progress;
 ghost use Rattle.acl_tool.specs.Taken.{TakesBatch, TakesRecord, max_batch};

@@ -3,7 +3,7 @@
 ghost use Rattle.std.specs.Prelude.{◌≡◌, ◌≢◌, ◌⊎◌, false, Ok, Err, IfOk, IfErr};
 ghost use Rattle.field_defs.specs.Layout.{ip4_fields, ip6_fields};
 ghost use Rattle.acl_tool.specs.Outcome.{is_reported, is_usage, rules_in, rules_of_bytes};
-ghost use Rattle.acl_tool.specs.Verdicts.{lists_of};
+ghost use Rattle.acl_tool.specs.Classifier.{lists_of};
 ghost use Rattle.acl_tool.specs.Effects.{ReadsFile, Takes};
 
 use crate::status::Status;

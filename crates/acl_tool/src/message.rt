@@ -2,11 +2,14 @@
 
 ghost use Rattle.std.specs.Prelude.{◌≡◌, ◌≤◌, ◌+◌, ◌++◌, [], ◌∷◌, length, take};
 ghost use Rattle.acl_report.specs.declared.line.TheConstants.{LINE_ROOM};
-ghost use Rattle.acl_tool.specs.Message.{message, numbered, usage_text, line_text, capture_text, record_of_fault};
+ghost use Rattle.acl_report.specs.Tables.{family_word};
+ghost use Rattle.acl_tool.specs.Message.{message, numbered, too_large_text, usage_text, line_text};
+ghost use Rattle.acl_tool.specs.Message.{capture_text, record_of_fault};
 
 use crate::status::{Status, UsageKind};
 use acl_report::{LINE_ROOM, append, append_number};
 use classbench_reader::LineKind;
+use field_defs::Family;
 use pcap_reader::CaptureFault;
 
 /// Writes the line of a status to the front of `into`, and gives its length with the LF that ends
@@ -33,6 +36,11 @@ pub fn message_line(status: &Status, into: &mut [u8; LINE_ROOM]) -> usize
                 into,
             )
         }
+        Status::TooLarge {
+            family,
+            words,
+            budget,
+        } => too_large_line(*family, *words, *budget, into),
         Status::CaptureRefused(fault) => {
             numbered_line(
                 b"capture: record ",
@@ -60,6 +68,30 @@ fn numbered_line(subject: &[u8], number: u64, kind: &[u8], into: &mut [u8; LINE_
     let at = append(into, at, b": ");
     let at = append(into, at, kind);
     append(into, at, b"\n")
+}
+
+/// The line of a table that is too large.
+fn too_large_line(family: Family, words: u64, budget: u64, into: &mut [u8; LINE_ROOM]) -> usize
+    ensures within { result ≤ LINE_ROOM }
+    ensures line { take result into.new ≡ too_large_text (family_word family) words budget }
+{
+    let at = append(into, 0, b"aclc: ");
+    let at = append(into, at, family_name(family));
+    let at = append(into, at, b" table too large: words ");
+    let at = append_number(into, at, words);
+    let at = append(into, at, b" budget ");
+    let at = append_number(into, at, budget);
+    append(into, at, b"\n")
+}
+
+fn family_name(family: Family) -> &'static [u8]
+    ensures text { result.now ≡ family_word family }
+    ensures short { length result.now ≤ 40 }
+{
+    match family {
+        Family::Ip4 => b"ip4",
+        Family::Ip6 => b"ip6",
+    }
 }
 
 fn usage_kind(kind: UsageKind) -> &'static [u8]

@@ -1,8 +1,9 @@
 //! The packet of a record.
 
-ghost use Rattle.std.specs.Prelude.{◌≡◌, length};
+ghost use Rattle.std.specs.Prelude.{◌≡◌, ◌<◌, ◌≤◌, All, length};
 ghost use Rattle.header_extract.specs.Class.{key_len, settled};
 ghost use Rattle.header_extract.specs.Link.{frame_class};
+ghost use Rattle.acl_tool.specs.Packet.{IsPacket};
 
 use header_extract::{Class, KeyBuf, extract};
 use pcap_reader::Link;
@@ -12,14 +13,15 @@ use std::marker::Model;
 const IP4_KEY: usize = 13;
 
 /// How many bytes the key of an IPv6 packet has.
-const IP6_KEY: usize = 37;
+pub const IP6_KEY: usize = 37;
 
 /// The class of a record's frame, and the key of the packet in it. Contracts see the bytes of the
 /// key, which are none where the frame has no packet.
 #[derive(Debug, Drop)]
 pub struct Packet {
     class: Class,
-    key: KeyBuf,
+    /// The key stands in front.
+    bytes: [u8; IP6_KEY],
 }
 
 impl Model for Packet {
@@ -30,20 +32,25 @@ impl Model for Packet {
 
     ghost view = { λ packet. record {
       class = packet.class;
-      key = take (key_len packet.class) packet.key.bytes;
+      key = take (key_len packet.class) packet.bytes;
     } };
 }
 
 impl Packet {
     /// The packet of a frame by its link type. It refuses nothing and takes no memory.
     pub fn read(link: Link, frame: &[u8]) -> Packet
-        ensures { result ≡ settled (frame_class link frame.now) }
+        ensures packet { result ≡ settled (frame_class link frame.now) }
+        ensures key { IsPacket result }
     {
         let mut key = KeyBuf {
             bytes: [0; IP6_KEY],
         };
         let class = extract(link, frame, &mut key);
-        Packet { class, key }
+        are_bytes(&key.bytes);
+        Packet {
+            class,
+            bytes: key.bytes,
+        }
     }
 
     /// The class of the frame.
@@ -57,11 +64,20 @@ impl Packet {
     pub fn key(&self) -> &[u8]
         ensures key { result.now ≡ self.now.key }
         ensures len { length result.now ≡ key_len self.now.class }
+        ensures bound { length result.now ≤ IP6_KEY }
     {
         match self.class {
-            Class::Ip4 => &self.key.bytes[..IP4_KEY],
-            Class::Ip6 => &self.key.bytes,
+            Class::Ip4 => &self.bytes[..IP4_KEY],
+            Class::Ip6 => &self.bytes,
             Class::Other | Class::Short => &[],
         }
     }
+}
+
+/// Each element of a slice of bytes is below 256, which definitions of keys want to be told. It
+/// does nothing when it is run.
+fn are_bytes(bytes: &[u8])
+    ensures { All (λ byte. byte < 256) bytes.now }
+{
+    let _ = bytes;
 }

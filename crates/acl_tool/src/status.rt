@@ -4,6 +4,7 @@ ghost use Rattle.std.specs.Prelude.{◌≡◌};
 ghost use Rattle.acl_tool.specs.Message.{code_of};
 
 use classbench_reader::LineFault;
+use field_defs::Family;
 use pcap_reader::CaptureFault;
 
 /// How a command ended. Each status has an exit code of its own.
@@ -15,6 +16,12 @@ pub enum Status {
     Usage(UsageFault),
     /// The rule file isn't one.
     RulesRefused(LineFault),
+    /// The rules of a family need a table of more words than the budget, even where they are split.
+    TooLarge {
+        family: Family,
+        words: u64,
+        budget: u64,
+    },
     /// The capture isn't one. The lines of the records before the fault were printed.
     CaptureRefused(CaptureFault),
     /// A file can't be read, or isn't there. The lines of the records that were read were printed.
@@ -34,6 +41,7 @@ impl Status {
             Status::Done => 0,
             Status::Usage(_) => 2,
             Status::RulesRefused(_) => 3,
+            Status::TooLarge { .. } => 4,
             Status::CaptureRefused(_) => 5,
             Status::ReadFault => 7,
             Status::WriteFault => 8,

@@ -1,11 +1,16 @@
 //! Whole commands over files in memory: printed reports, each refusal, and faults of the outside.
 
-ghost use Rattle.std.specs.Prelude.{◌≡◌};
+ghost use Rattle.std.specs.Prelude.{◌≡◌, ◌<◌};
+
+mod tables;
 
 use crate::{CaptureFault, LineFault, LineKind, Status, UsageFault, UsageKind, run};
 use acl_outside::{MemDesk, MemFile, MemSink};
+use flat_table::Steps;
 use std::alloc::{AllocError, Global};
+use std::marker::Brand;
 use std::process::Abort;
+use std::sync::ledger::{Blank, Ledger};
 use std::test::Fail;
 
 /// The IPv4 rule of the example in the DPDK Programmer's Guide, "Packet Classification and Access
@@ -90,14 +95,14 @@ fn guide_capture(alloc: Global) -> Result<Vec<u8>, AllocError> {
 /// How the outside is made for a command: how much a call moves, and the number of the call that
 /// fails, 0 for none.
 #[derive(Clone, Copy)]
-struct Outside {
+pub(crate) struct Outside {
     read_piece: usize,
     failing_read: u64,
     put_piece: usize,
     failing_put: u64,
 }
 
-const FAULTLESS: Outside = Outside {
+pub(crate) const FAULTLESS: Outside = Outside {
     read_piece: 1_000_000,
     failing_read: 0,
     put_piece: 100_000,
@@ -111,9 +116,26 @@ fn file(alloc: Global, name: &str, bytes: &[u8]) -> Result<MemFile, AllocError> 
     })
 }
 
+/// Runs the words with a counter that nobody sees.
+pub(crate) fn run_counted<L: Ledger>(
+    blank: Blank,
+    alloc: Global,
+    words: &[String],
+    desk: &mut MemDesk,
+    out: &mut MemSink,
+    err: &mut MemSink,
+) -> Status
+    requires name { blank.name ≡ L.name }
+    requires parts { blank.parts ≡ L.parts }
+    requires some { 0 < blank.parts }
+{
+    let mut steps = Steps::<L>::new(blank);
+    run(alloc, words, desk, out, err, &mut steps)
+}
+
 /// Runs the words over the files `r` and `c`, and compares the status, both outputs and the count
 /// of read faults.
-fn expect<R: Abort + AllocGlobal>(
+pub(crate) fn expect<R: Abort + AllocGlobal>(
     rt: &R,
     words: &[&str],
     rules: &[u8],
@@ -143,7 +165,7 @@ fn expect<R: Abort + AllocGlobal>(
         owned.push(String::from_str(alloc, word)?)?;
     }
 
-    let status = run(alloc, &owned, &mut desk, &mut out, &mut err);
+    let status = run_counted::<Brand>(Blank::new(1), alloc, &owned, &mut desk, &mut out, &mut err);
 
     assert_eq!(rt; status, want.0);
     assert_eq!(rt; out.bytes(), want.1.as_bytes());
@@ -278,7 +300,7 @@ fn usage(word: u32, kind: UsageKind) -> Status
 
 #[test]
 fn words_are_refused_from_left_to_right(rt: HostRuntime) -> Result<(), Fail> {
-    let cases: [(&[&str], Status, &str); 7] = [
+    let cases: [(&[&str], Status, &str); 13] = [
         (
             &[],
             usage(1, UsageKind::MissingCommand),
@@ -303,6 +325,36 @@ fn words_are_refused_from_left_to_right(rt: HostRuntime) -> Result<(), Fail> {
             &["classify", "r", "c", "categories=000000000000000000004"],
             usage(4, UsageKind::BadValue),
             "aclc: usage: word 4: bad value\n",
+        ),
+        (
+            &["classify", "r", "c", "max-words=0"],
+            usage(4, UsageKind::BadValue),
+            "aclc: usage: word 4: bad value\n",
+        ),
+        (
+            &["classify", "r", "c", "max-words=67108865"],
+            usage(4, UsageKind::BadValue),
+            "aclc: usage: word 4: bad value\n",
+        ),
+        (
+            &["classify", "r", "c", "max-words="],
+            usage(4, UsageKind::BadValue),
+            "aclc: usage: word 4: bad value\n",
+        ),
+        (
+            &["classify", "r", "c", "stats=yes"],
+            usage(4, UsageKind::BadValue),
+            "aclc: usage: word 4: bad value\n",
+        ),
+        (
+            &["classify", "r", "c", "marks=ON"],
+            usage(4, UsageKind::BadValue),
+            "aclc: usage: word 4: bad value\n",
+        ),
+        (
+            &["classify", "r", "c", "stats=on", "stats=off"],
+            usage(5, UsageKind::RepeatedOption),
+            "aclc: usage: word 5: repeated option\n",
         ),
         (
             &["classify", "r", "c", "c"],

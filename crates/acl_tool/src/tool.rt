@@ -2,97 +2,123 @@
 
 ghost use Rattle.std.specs.Prelude.{Ok, map, string_bytes};
 ghost use Rattle.acl_tool.specs.Command.{Classify, command};
-ghost use Rattle.acl_tool.specs.CommandLine.{request_of};
+ghost use Rattle.acl_tool.specs.CommandLine.{options_of, request_of};
 ghost use Rattle.acl_tool.specs.Message.{message};
 ghost use Rattle.acl_tool.specs.Effects.{Answers, PutsLine, Runs, outside};
 
+use crate::bench::bench;
 use crate::command_line::{Request, read_words};
 use crate::input::read_rule_file;
 use crate::message::message_line;
-use crate::print::{Room, print_report};
+use crate::options::Options;
+use crate::print::print_packets;
+use crate::printing::PrintOptions;
 use crate::status::Status;
-use crate::verdicts::Classifier;
+use crate::tables::{build_tables, table_of};
 use acl_outside::{Desk, Sink, put_all};
 use acl_report::LINE_ROOM;
-use rule_set::Categories;
+use flat_table::Steps;
 use std::alloc::Global;
+use std::sync::ledger::Ledger;
 
 /// Runs the command that the words are, and tells how it ended.
 ///
-/// The words are those behind the program's name. `classify RULES CAPTURE [categories=N]` reads the
-/// two files through `desk`, and puts a line for each record of the capture and a line of counts to
-/// `out`, with at most 64 records read ahead of their lines. Where the status isn't `Done` a line
-/// that names its cause goes to `err`, whose failure changes nothing. All memory is taken before
-/// the first byte is put.
-pub fn run<D: Desk, O: Sink, E: Sink>(
+/// The words are those behind the program's name. `classify RULES CAPTURE` and its options read the
+/// two files through `desk`, make a table of the rules of each family, and put a line for each
+/// record of the capture and the lines behind them to `out`, with at most 64 records read ahead of
+/// their lines. `steps` rises by the transitions that the tables took. Where the status isn't
+/// `Done` a line that names its cause goes to `err`, whose failure changes nothing. All memory is
+/// taken before the first byte is put.
+///
+/// `bench SEED RULES PACKETS` asks for no file: it draws rules and packets from a seed, classifies
+/// the packets by the plain filter and by a table, and puts four lines of numbers.
+pub fn run<D: Desk, O: Sink, E: Sink, L: Ledger>(
     alloc: Global,
     words: &[String],
     desk: &mut D,
     out: &mut O,
     err: &mut E,
+    steps: &mut Steps<L>,
 ) -> Status
-    ensures { Runs (map string_bytes words.now) (outside (D.view desk.old) (O.view out.old))
-        (outside (D.view desk.new) (O.view out.new)) (E.view err.old) (E.view err.new) result }
+    ensures { Runs (map string_bytes words.now)
+        (outside (D.view desk.old) (O.view out.old) steps.old)
+        (outside (D.view desk.new) (O.view out.new) steps.new)
+        (E.view err.old) (E.view err.new) result }
 {
-    let status = answer(alloc, words, desk, out);
+    let status = answer(alloc, words, desk, out, steps);
     put_message(&status, err);
     status
 }
 
 /// The command without its message.
-fn answer<D: Desk, O: Sink>(alloc: Global, words: &[String], desk: &mut D, out: &mut O) -> Status
+fn answer<D: Desk, O: Sink, L: Ledger>(
+    alloc: Global,
+    words: &[String],
+    desk: &mut D,
+    out: &mut O,
+    steps: &mut Steps<L>,
+) -> Status
     ensures { Answers (command (map string_bytes words.now))
-        (outside (D.view desk.old) (O.view out.old))
-        (outside (D.view desk.new) (O.view out.new)) result }
+        (outside (D.view desk.old) (O.view out.old) steps.old)
+        (outside (D.view desk.new) (O.view out.new) steps.new) result }
 {
     match read_words(words) {
-        Ok(request) => answer_request(alloc, request, desk, out),
+        Ok(request) => answer_request(alloc, request, desk, out, steps),
         Err(fault) => Status::Usage(fault),
     }
 }
 
 /// Does what was asked for.
-fn answer_request<D: Desk, O: Sink>(
+fn answer_request<D: Desk, O: Sink, L: Ledger>(
     alloc: Global,
     request: Request<'_>,
     desk: &mut D,
     out: &mut O,
+    steps: &mut Steps<L>,
 ) -> Status
-    ensures { Answers (Ok (request_of request.entry)) (outside (D.view desk.old) (O.view out.old))
-        (outside (D.view desk.new) (O.view out.new)) result }
+    ensures { Answers (Ok (request_of request.entry))
+        (outside (D.view desk.old) (O.view out.old) steps.old)
+        (outside (D.view desk.new) (O.view out.new) steps.new) result }
 {
     match request {
         Request::Classify {
             rules,
             capture,
-            categories,
-        } => classify(alloc, rules, capture, categories, desk, out),
+            options,
+        } => classify(alloc, rules, capture, &options, desk, out, steps),
+        Request::Bench(numbers) => bench(alloc, numbers, out, steps),
     }
 }
 
-/// Prints the report of a capture by the rules of a file.
-fn classify<D: Desk, O: Sink>(
+/// Prints the report of a capture by the tables of the rules of a file.
+fn classify<D: Desk, O: Sink, L: Ledger>(
     alloc: Global,
     rules: &str,
     capture: &str,
-    categories: Categories,
+    options: &Options,
     desk: &mut D,
     out: &mut O,
+    steps: &mut Steps<L>,
 ) -> Status
-    ensures { Answers (Ok
-        (Classify rules.now capture.now (record { categories = categories.count })))
-        (outside (D.view desk.old) (O.view out.old))
-        (outside (D.view desk.new) (O.view out.new)) result }
+    ensures { Answers (Ok (Classify rules.now capture.now (options_of options.now)))
+        (outside (D.view desk.old) (O.view out.old) steps.old)
+        (outside (D.view desk.new) (O.view out.new) steps.new) result }
 {
     let rules = match read_rule_file(alloc, rules, desk) {
         Ok(rules) => rules,
         Err(status) => return status,
     };
-    let Ok(mut room) = Room::new(alloc) else {
-        return Status::OutOfMemory;
+    let contexts = match build_tables(alloc, rules, options.max_words.words()) {
+        Ok(contexts) => contexts,
+        Err(status) => return status,
     };
-    let classifier = Classifier::new(rules, categories);
-    print_report(alloc, &classifier, capture, &mut room, desk, out)
+    let printed = PrintOptions {
+        cats: options.categories,
+        stats: options.stats,
+        marks: options.marks,
+    };
+    let (ip4, ip6) = (table_of(&contexts.ip4), table_of(&contexts.ip6));
+    print_packets(alloc, ip4, ip6, capture, &printed, desk, out, steps)
 }
 
 /// Puts the line of a status to standard error. A failure there leaves the status as it is.

@@ -4,7 +4,7 @@
 //! system, and the code of its status comes back.
 #![tactic(auto)]
 
-ghost use Rattle.std.specs.Prelude.{◌≡◌, None, drop, map, string_bytes, IfSome};
+ghost use Rattle.std.specs.Prelude.{◌≡◌, ℕ, ◌<◌, None, drop, map, string_bytes, IfSome};
 ghost use Rattle.std.specs.Vec.Iter.{into_iter_items};
 ghost use Rattle.acl_tool.specs.declared.status.Status.{Status};
 ghost use Rattle.acl_tool.specs.Message.{code_of};
@@ -12,9 +12,12 @@ ghost use Rattle.acl_tool.specs.Effects.{Runs, outside};
 
 use acl_outside::{Desk, Sink, StdDesk, StdSink};
 use acl_tool::run;
+use flat_table::Steps;
 use std::alloc::Global;
+use std::marker::Brand;
 use std::os::fd::AsRawFd;
 use std::process::ExitCode;
+use std::sync::ledger::{Blank, Ledger};
 use std::{env, fs};
 
 #[cfg(test)]
@@ -36,7 +39,15 @@ fn main(rt: HostRuntime) -> ExitCode {
     let mut desk = StdDesk::new(&rt);
     let mut out = StdSink::new(rt.stdout());
     let mut err = StdSink::new(rt.stderr());
-    ExitCode::from(exit_code(rt.alloc(), words, &mut desk, &mut out, &mut err))
+    let code = exit_code::<_, _, _, Brand>(
+        Blank::new(1),
+        rt.alloc(),
+        words,
+        &mut desk,
+        &mut out,
+        &mut err,
+    );
+    ExitCode::from(code)
 }
 
 /// The null device in the place of a standard stream that is closed, so that no file that is opened
@@ -63,25 +74,32 @@ fn all_words(alloc: Global, args: env::Args) -> Option<Vec<String>>
 
 /// Runs the command that stands behind the program's name, over any files and streams, and gives
 /// the exit code of its status, or `NO_WORDS` where there are no words.
-fn exit_code<D: Desk, O: Sink, E: Sink>(
+///
+/// `blank` is what the counter of the transitions is made of, which exists in proofs alone.
+fn exit_code<D: Desk, O: Sink, E: Sink, L: Ledger>(
+    blank: Blank,
     alloc: Global,
     words: Option<Vec<String>>,
     desk: &mut D,
     out: &mut O,
     err: &mut E,
 ) -> u8
+    requires name { blank.name ≡ L.name }
+    requires parts { blank.parts ≡ L.parts }
+    requires some { 0 < blank.parts }
     // The code is that of the status with which the command ended, and all that `run` promises
-    // holds.
-    ensures ran { IfSome words (λ all. (status : Status) × (result ≡ code_of status)
-        × Runs (map string_bytes (drop 1 all.items)) (outside (D.view desk.old) (O.view out.old))
-        (outside (D.view desk.new) (O.view out.new)) (E.view err.old) (E.view err.new) status) }
+    // holds, where so many transitions were counted from 0 on.
+    ensures ran { IfSome words (λ all. (status : Status) × (result ≡ code_of status) × (taken : ℕ)
+        × Runs (map string_bytes (drop 1 all.items)) (outside (D.view desk.old) (O.view out.old) 0)
+        (outside (D.view desk.new) (O.view out.new) taken) (E.view err.old) (E.view err.new)
+        status) }
     // Nothing is asked or printed where there are no words.
-    ensures no_words { words ≡ None → (result ≡ NO_WORDS) ×
-        (outside (D.view desk.new) (O.view out.new) ≡ outside (D.view desk.old) (O.view out.old))
-        × (E.view err.new ≡ E.view err.old) }
+    ensures no_words { words ≡ None → (result ≡ NO_WORDS) × (D.view desk.new ≡ D.view desk.old)
+        × (O.view out.new ≡ O.view out.old) × (E.view err.new ≡ E.view err.old) }
 {
+    let mut steps = Steps::<L>::new(blank);
     match words {
-        Some(all) => run(alloc, behind_name(&all), desk, out, err).code(),
+        Some(all) => run(alloc, behind_name(&all), desk, out, err, &mut steps).code(),
         None => NO_WORDS,
     }
 }

@@ -4,6 +4,8 @@ use crate::exit_code;
 use acl_outside::{StdDesk, StdSink};
 use std::alloc::{AllocError, Global};
 use std::fs;
+use std::marker::Brand;
+use std::sync::ledger::Blank;
 use std::test::Fail;
 
 /// The guide's rule, and two packets of which the first matches it.
@@ -58,7 +60,8 @@ fn the_guides_example_is_printed_as_it_is_shipped(rt: HostRuntime) -> Result<(),
         let all = words(rt.alloc(), all)?;
         let mut out = StdSink::new(fs::create(&rt, "aclc_test.out")?);
         let mut err = StdSink::new(fs::create(&rt, "aclc_test.err")?);
-        let ended = exit_code(
+        let ended = exit_code::<_, _, _, Brand>(
+            Blank::new(1),
             rt.alloc(),
             Some(all),
             &mut StdDesk::new(&rt),

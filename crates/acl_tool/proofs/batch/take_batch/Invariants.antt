@@ -9,7 +9,8 @@ use Rattle.acl_tool.proofs.batch.take_batch.Given as goal
 abbrev pub invariant-loop-capture : goal.invariant-loop-capture
 invariant-loop-capture g l =
     let view = g.D.Desk.view in record {
-      taking : IsTaking l.fn.capture.start l.fn.capture.count l.packets.items l.capture (view l.fn.desk) (view l.desk);
+      taking : IsTaking l.fn.capture.start l.fn.capture.count l.packets.items l.capture (view l.fn.desk)
+          (view l.desk);
       few : length l.packets.items ≤ max_batch;
       room : max_batch ≤ vec_capacity l.packets;
       capacity : vec_capacity l.fn.packets ≤ vec_capacity l.packets;

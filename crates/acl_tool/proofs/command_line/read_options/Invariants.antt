@@ -2,7 +2,8 @@
 use Rattle.std.proofs.Common.{◌≡◌, ◌+◌, ◌≤◌, map, drop}
 use Rattle.std.specs.Prelude.{string_bytes}
 use Rattle.acl_tool.specs.declared.command_line.TheConstants.{FIRST_OPTION}
-use Rattle.acl_tool.specs.Command.{none_given, options_from}
+use Rattle.acl_tool.specs.Options.{none_given}
+use Rattle.acl_tool.specs.Command.{options_from}
 use Rattle.acl_tool.specs.CommandLine.{options_given}
 use Rattle.acl_tool.proofs.command_line.read_options.Given as goal
 

@@ -1,4 +1,4 @@
-use Rattle.acl_tool.specs.Verdicts.{lists_of}
+use Rattle.acl_tool.specs.Classifier.{lists_of}
 use Rattle.acl_tool.specs.Outcome.{rules_of_bytes}
 use Rattle.acl_tool.proofs.Links.{Takes-read, Takes-unread}
 use Rattle.acl_tool.proofs.RuleFiles.{rules_of_bytes-more}

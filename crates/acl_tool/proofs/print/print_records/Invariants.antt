@@ -1,7 +1,8 @@
 -- some records were taken and their lines were put
-use Rattle.std.proofs.Common.{◌-◌}
+use Rattle.std.proofs.Common.{◌-◌, ◌*◌, ◌≤◌}
 use Rattle.std.specs.Bool.{IsTrue}
 use Rattle.pcap_reader.specs.Capture.{max_records}
+use Rattle.acl_tool.specs.Batch.{max_steps}
 use Rattle.acl_tool.specs.Effects.{outside}
 use Rattle.acl_tool.proofs.Streaming.{IsPrinting}
 use Rattle.acl_tool.proofs.print.print_records.Given as goal
@@ -10,8 +11,9 @@ abbrev pub invariant-batches : goal.invariant-batches
 invariant-batches g l =
     let desk = g.D.Desk.view in
     let out = g.O.Sink.view in record {
-      printing : IsPrinting l.classifier l.fn.capture.start l.counts l.capture
-          (outside (desk l.fn.desk) (out l.fn.out)) (outside (desk l.desk) (out l.out));
+      printing : IsPrinting l.printer l.fn.capture.start l.counts l.taken l.capture
+          (outside (desk l.fn.desk) (out l.fn.out) l.fn.steps) (outside (desk l.desk) (out l.out) l.steps);
+      bound : l.taken ≤ l.counts.packets * (2 * max_steps);
       reading : IsTrue (desk l.desk).reading;
     }
 

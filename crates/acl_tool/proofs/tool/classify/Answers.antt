@@ -1,5 +1,10 @@
-use Rattle.acl_tool.specs.Verdicts.{lists_of}
-use Rattle.acl_tool.proofs.Classifying.{Answers-no_rules, Answers-no_memory, Answers-reported}
+use Rattle.acl_tool.specs.CommandLine.{options_of}
+use Rattle.std.proofs.Common.{ℕ, subst, sym, ap, ◌∙◌}
+use Rattle.acl_tool.specs.Classifier.{Tables, lists_of, ByRules, AnswersAs}
+use Rattle.acl_tool.specs.Outcome.{tables_within}
+use Rattle.acl_tool.specs.Plan.{Give}
+use Rattle.acl_tool.proofs.Making.{same_tables}
+use Rattle.acl_tool.proofs.Classifying.{Answers-no_rules, Answers-no_tables, Answers-reported}
 use Rattle.acl_tool.proofs.tool.classify.Goals as goal
 
 pub returns-in-Err : goal.returns-in-Err
@@ -8,21 +13,30 @@ returns-in-Err g c =
     let out = g.O.Sink.view in
     Answers-no_rules c.args.rules.now c.args.capture.now _ lists_of (desk c.args.desk.now)
     (desk c.read_rule_file.new.desk)
-    (out c.args.out.now) c.in-Err.status c.in-Err.ensures.taken
+    (out c.args.out.now) c.args.steps.now c.in-Err.status c.in-Err.ensures.taken
 
-pub returns-in_default : goal.returns-in_default
-returns-in_default g c =
+pub returns-in-Err-build_tables : goal.returns-in-Err-build_tables
+returns-in-Err-build_tables g c =
     let desk = g.D.Desk.view in
     let out = g.O.Sink.view in
-    Answers-no_memory c.args.rules.now c.args.capture.now _ lists_of (desk c.args.desk.now)
-    (desk c.read_rule_file.new.desk)
-    (out c.args.out.now) c.in-Ok.rules c.in-Ok.ensures.taken
+    Answers-no_tables c.args.rules.now c.args.capture.now (options_of c.args.options.now) lists_of
+    (desk c.args.desk.now) (desk c.read_rule_file.new.desk)
+    (out c.args.out.now) c.args.steps.now c.in-Ok.rules c.in-Err-build_tables.status c.in-Ok.ensures.taken
+    (rw c.words.ensures.value at c.in-Err-build_tables.ensures.refused)
 
 pub returns : goal.returns
 returns g c =
     let desk = g.D.Desk.view in
     let out = g.O.Sink.view in
-    Answers-reported c.args.rules.now c.args.capture.now (record { categories = c.args.categories.count }) lists_of
-    (desk c.args.desk.now) (desk c.read_rule_file.new.desk)
-    (desk c.print_report.new.desk) (out c.args.out.now) (out c.print_report.new.out) c.in-Ok.rules c.print_report.result
-    c.in-Ok.ensures.taken (rw c.new-classifier.ensures at c.print_report.ensures)
+    let lists = lists_of c.in-Ok.rules in
+    let built = c.in-Ok-build_tables.ensures.built in
+    let tables : Tables = record { ip4 = c.table_of-ip4.result.now; ip6 = c.table_of-ip6.result.now } in
+    let same = same_tables c.words.result lists c.in-Ok-build_tables.contexts.ip4.table
+    c.in-Ok-build_tables.contexts.ip6.table c.table_of-ip4.result.now c.table_of-ip6.result.now built
+    c.table_of-ip4.ensures c.table_of-ip6.ensures in
+    Answers-reported c.args.rules.now c.args.capture.now (options_of c.args.options.now) lists_of
+    (desk c.args.desk.now) (desk c.read_rule_file.new.desk) (desk c.print_packets.new.desk)
+    (out c.args.out.now) (out c.print_packets.new.out) c.args.steps.now c.print_packets.new.steps c.in-Ok.rules
+    tables c.print_packets.result c.in-Ok.ensures.taken
+    (ap (λ (budget : ℕ). tables_within budget lists) (sym c.words.ensures.value) ∙ built.within ∙ ap Give same)
+    (c.print_packets.ensures.alike (ByRules lists) (subst (AnswersAs (ByRules lists)) same built.answers))

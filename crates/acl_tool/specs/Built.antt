@@ -1,0 +1,43 @@
+-- What building the tables of a rule file comes to.
+use Rattle.std.specs.Prelude.{◌≡◌, ℕ, ◌<◌, ◌≤◌, ◌⊎◌, Option, Some}
+use Rattle.field_defs.specs.declared.field.Family.{Family}
+use Rattle.rule_set.specs.Rule.{RuleSetView}
+use Rattle.rule_split.specs.Split.{total_of}
+use Rattle.flat_table.specs.Table.{TableView}
+use Rattle.table_fill.specs.Serves.{Serves}
+use Rattle.acl_context.specs.Context.{built_of}
+use Rattle.classbench_reader.specs.RuleFile.{RuleLists}
+use Rattle.acl_tool.specs.declared.status.Status.{Status}
+use Rattle.acl_tool.specs.declared.status.Status.TheVariants.{TooLarge, OutOfMemory}
+use Rattle.acl_tool.specs.Classifier.{Tables, ByRules, AnswersAs}
+use Rattle.acl_tool.specs.Plan.{Give, Stop}
+use Rattle.acl_tool.specs.Outcome.{set_of, tables_within}
+
+-- The table of the set under the budget was made. It answers as the rules do.
+pub record BuildsTable (set : RuleSetView) (budget : ℕ) (table : Option TableView) : Type 0 where
+  pub built : table ≡ Some (built_of set budget)
+  pub fits : total_of set budget ≤ budget
+  pub serves : Serves set (built_of set budget)
+
+-- The total of the set of the family is above the budget, and the status says so.
+pub record IsTooLarge (family : Family) (set : RuleSetView) (budget : ℕ) (status : Status)
+    : Type 0 where
+  pub says : status ≡ TooLarge family (total_of set budget) budget
+  pub above : budget < total_of set budget
+
+-- The tables of both families were made. They answer as the rules do.
+pub record IsBuilt (budget : ℕ) (lists : RuleLists) (ip4 ip6 : Option TableView) : Type 0 where
+  pub tables : Tables
+  pub ip4_is : ip4 ≡ Some tables.ip4
+  pub ip6_is : ip6 ≡ Some tables.ip6
+  pub within : tables_within budget lists ≡ Give tables
+  pub ip4_keys : tables.ip4.key_len ≡ 13
+  pub ip6_keys : tables.ip6.key_len ≡ 37
+  pub answers : AnswersAs (ByRules lists) tables
+
+-- The tables weren't made: a family needs more words than the budget, or memory ran out.
+abbrev pub Refuses : ℕ → RuleLists → Status → Type 0
+Refuses budget lists status =
+    ((family : Family) × IsTooLarge family (set_of family lists) budget status
+    × (tables_within budget lists ≡ Stop status))
+    ⊎ (status ≡ OutOfMemory)

@@ -1,0 +1,89 @@
+//! The rules of both families in their contexts, and the tables that are made of them.
+
+ghost use Rattle.std.specs.Prelude.{◌≡◌, ◌<◌, ◌≤◌, ◌⊎◌, Ok, None, Some, IsSome, IfOk, IfErr, OnOk};
+ghost use Rattle.std.specs.Prelude.{OnErr};
+ghost use Rattle.field_defs.specs.Layout.{ip4_fields, ip6_fields};
+ghost use Rattle.trie_merge.specs.Levels.{max_cap};
+ghost use Rattle.table_fill.specs.Serves.{Serves};
+ghost use Rattle.acl_context.specs.Context.{built_of};
+ghost use Rattle.acl_tool.specs.Classifier.{lists_of};
+ghost use Rattle.acl_tool.specs.Built.{IsBuilt, IsTooLarge, Refuses, BuildsTable};
+
+use crate::status::Status;
+use acl_context::{AclContext, BuildFault};
+use classbench_reader::RuleFile;
+use field_defs::Family;
+use flat_table::Table;
+use rule_set::{MAX_RULES, RuleSet};
+use std::alloc::Global;
+
+/// A context for each family, each with the table of its rules.
+#[derive(Drop)]
+pub struct Contexts {
+    pub ip4: AclContext,
+    pub ip6: AclContext,
+}
+
+/// The tables of the rules of both families, of which each may have `budget` words, from 1 to
+/// 67,108,864. It takes the memory of the rules, of the tables, and of what they are made by.
+///
+/// `TooLarge`: the first family whose table has more words, even where the rules are split.
+pub fn build_tables(alloc: Global, rules: RuleFile, budget: u64) -> Result<Contexts, Status>
+    requires ip4 { rules.ip4.layout ≡ ip4_fields }
+    requires ip6 { rules.ip6.layout ≡ ip6_fields }
+    requires some { 0 < budget }
+    requires budget { budget ≤ max_cap }
+    ensures built { IfOk result
+        (λ contexts. IsBuilt budget (lists_of rules) contexts.ip4.table contexts.ip6.table) }
+    ensures refused { IfErr result (λ status. Refuses budget (lists_of rules) status) }
+{
+    let mut ip4 = hold(alloc, &rules.ip4)?;
+    let mut ip6 = hold(alloc, &rules.ip6)?;
+    drop(rules);
+    build(&mut ip4, Family::Ip4, budget)?;
+    build(&mut ip6, Family::Ip6, budget)?;
+    Ok(Contexts { ip4, ip6 })
+}
+
+/// A context that holds these rules, and has no table.
+fn hold(alloc: Global, rules: &RuleSet) -> Result<AclContext, Status>
+    ensures held { IfOk result (λ context. context.set ≡ rules.now) }
+    ensures full { IfErr result (λ status. status ≡ Status.OutOfMemory) }
+{
+    let mut context = AclContext::create(alloc, rules.layout().copied(), MAX_RULES as u32);
+    match context.add_stored(rules.all()) {
+        Ok(()) => Ok(context),
+        // The rules are lawful and not too many, since they were in a set.
+        Err(_) => Err(Status::OutOfMemory),
+    }
+}
+
+/// Makes the table of the rules of a family.
+fn build(context: &mut AclContext, family: Family, budget: u64) -> Result<(), Status>
+    requires some { 0 < budget }
+    requires budget { budget ≤ max_cap }
+    ensures ok { OnOk result (BuildsTable context.old.set budget context.new.table) }
+    ensures err { IfErr result (λ status. (status ≡ Status.OutOfMemory)
+        ⊎ IsTooLarge family context.old.set budget status) }
+{
+    match context.build(budget) {
+        Ok(()) => Ok(()),
+        Err(BuildFault::TooLarge { words, budget }) => Err(Status::TooLarge {
+            family,
+            words,
+            budget,
+        }),
+        Err(BuildFault::OutOfMemory) => Err(Status::OutOfMemory),
+    }
+}
+
+/// The table of a context that has one.
+pub fn table_of(context: &AclContext) -> &Table
+    requires { IsSome context.now.table }
+    ensures { context.now.table ≡ Some result.now }
+{
+    match context.table() {
+        Some(table) => table,
+        None => unreachable!(),
+    }
+}
