@@ -1,4 +1,7 @@
-//! The program over files and streams of the system.
+//! The program over files and streams of the system, and what stands on several crates.
+
+mod recount;
+mod seeds;
 
 use crate::exit_code;
 use acl_outside::{StdDesk, StdSink};
