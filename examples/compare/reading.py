@@ -5,6 +5,8 @@ It is slow and plain on purpose: what aclc prints is compared with it on random 
 import re
 import struct
 
+import tables
+
 BLANKS = b" \t"
 PORTED = (6, 17, 132)
 OPTIONS, FRAGMENT = (0, 43, 60), 44
@@ -241,10 +243,16 @@ def matches(rule, key):
     return all(low <= port <= high for (low, high), port in zip(ranges, ports))
 
 
-def verdict(rules, key, category):
-    """The userdata of the first matching rule of greatest priority."""
+def winner(rules, key, category):
+    """The first matching rule of greatest priority, or None."""
     taking_part = [r for r in rules if r[4][1] >> category & 1 and matches(r, key)]
-    return max(taking_part, key=lambda r: r[4][0])[4][2] if taking_part else 0
+    return max(taking_part, key=lambda r: r[4][0], default=None)
+
+
+def answer(rules, key, category, marks):
+    """What is printed for a category: the winner's userdata, or 0 or a dash for none."""
+    found = winner(rules, key, category)
+    return str(found[4][2]) if found else "-" if marks else "0"
 
 
 def capture(content):
@@ -272,20 +280,51 @@ def capture(content):
     return link, records, None
 
 
-def classify(rules_content, capture_content, categories):
+def key_bytes(found):
+    """The bytes of a key, as walks read them."""
+    _, protocol, source, destination, ports = found
+    return bytes([protocol]) + source + destination + struct.pack(">HH", *ports)
+
+
+def built(rules, budget):
+    """The rules of each family and the groups of their tries; a Fault where a family doesn't fit."""
+    pair = {}
+    for family in (4, 6):
+        own = tables.Rules(family, [r for r in rules if r[0][0] == family])
+        groups, total = own.split(budget)
+        if total > budget:
+            raise Fault(f"ip{family} table too large: words {total} budget {budget}")
+        pair[family] = own, groups, total
+    return pair
+
+
+def table_lines(pair, taken):
+    """The three lines of the tables."""
+    lines = [f"ip{family} rules {len(own.rules)} tries {len(groups)} words {total}\n"
+             for family, (own, groups, total) in pair.items()]
+    return lines + [f"transitions {taken}\n"]
+
+
+def classify(rules_content, capture_content, categories, budget, stats, marks):
     """What `aclc classify` has to print, its message, and its exit code."""
     try:
         rules = rule_file(rules_content)
     except Fault as fault:
         return "", f"aclc: {fault}\n", 3
+    try:
+        pair = built(rules, budget)
+    except Fault as fault:
+        return "", f"aclc: {fault}\n", 4
     link, records, fault = capture(capture_content)
     counts = dict.fromkeys(("ip4", "ip6", "other", "short"), 0)
-    lines = []
+    lines, taken = [], 0
     for place, frame in enumerate(records, 1):
         try:
             found = key(link, frame)
             name = f"ip{found[0]}"
-            answers = " ".join(str(verdict(rules, found, c)) for c in range(categories))
+            answers = " ".join(answer(rules, found, c, marks) for c in range(categories))
+            own, groups, _ = pair[found[0]]
+            taken += sum(own.steps(group, key_bytes(found)) for group in groups)
         except Fault as kind:
             name, answers = str(kind), "-"
         counts[name] += 1
@@ -294,4 +333,4 @@ def classify(rules_content, capture_content, categories):
         return "".join(lines), f"aclc: capture: record {fault}\n", 5
     counted = " ".join(f"{name} {count}" for name, count in counts.items())
     lines.append(f"packets {len(records)} {counted}\n")
-    return "".join(lines), "", 0
+    return "".join(lines + (table_lines(pair, taken) if stats else [])), "", 0
