@@ -1,5 +1,5 @@
 -- Examples of the numbers that bytes spell, each checked by evaluation.
-use Rattle.std.specs.Prelude.{◌≡◌, ℕ, ◌*◌, ◌+◌, List, [], ◌∷◌, refl}
+use Rattle.std.specs.Prelude.{◌≡◌, [], ◌∷◌, refl}
 use Rattle.byte_numbers.specs.Number.{number_of, number_at, mirrored_number_of, mirrored_number_at}
 
 no_bytes : number_of [] ≡ 0

@@ -1,4 +1,4 @@
-use Rattle.std.proofs.Common.{◌<◌, ◌^◌, length, sym, ◌∙◌, arith}
+use Rattle.std.proofs.Common.{length, sym, ◌∙◌, arith}
 use Rattle.byteorder.specs.Numbers.{big_from-lt}
 use Rattle.byte_numbers.proofs.Orders.{number_of-all}
 use Rattle.byte_numbers.proofs.reads.network_number.Goals as goal
