@@ -1,6 +1,7 @@
 -- Which interval has a byte, and where the intervals begin.
 use Rattle.std.proofs.Common.{◌≡◌, ℕ, zero, suc, ◌+◌, ◌-◌, ◌<◌, ◌≤◌, List, length, drop, get_or, set, Bool, true, false}
 use Rattle.std.proofs.Common.{cond, ltb, refl, sym, ◌∙◌, ap, inl, inr, arith}
+use Rattle.std.specs.Int.{from_bool}
 use Rattle.std.proofs.lemmas.List.{length-drop, get_or-drop, get_or-set_same, get_or-set_other, length-set}
 use Rattle.std.proofs.lemmas.List.Sums.{count_by_more_yes, count_by_more_no}
 use Rattle.std.proofs.lemmas.Bool.{cases_Bool, cases_eq, cases_lt, lt-ltb, le-ltb}
@@ -28,6 +29,19 @@ module _ (marks : List Bool) (byte : ℕ) (within : byte + 1 < length marks) whe
   pub interval_unmarked : get_or marks (byte + 1) false ≡ false → interval_at marks (byte + 1) ≡ interval_at marks byte
   unfolding interval_at
   interval_unmarked is = count_by_more_no (λ mark. mark) (drop 1 marks) byte false short (mark_at ∙ is)
+
+-- a mark is one number at most
+pub at_most_one : (mark : Bool) → from_bool mark ≤ 1
+at_most_one true = omega arith
+at_most_one false = omega arith
+
+-- either way the mark says how many more intervals have begun
+pub interval_more : (marks : List Bool) (byte : ℕ) → byte + 1 < length marks
+    → interval_at marks (byte + 1) ≡ interval_at marks byte + from_bool (get_or marks (byte + 1) false)
+interval_more marks byte within = elim (cases_Bool (get_or marks (byte + 1) false)) [
+  | inl marked ↦ rw marked (interval_marked marks byte within marked)
+  | inr unmarked ↦ rw unmarked (interval_unmarked marks byte within unmarked ∙ omega arith)
+]
 
 -- The intervals that begin before a byte, of which the last has the byte before it.
 pub record Parted (marks : List Bool) (firsts of_bytes : List ℕ) (last byte : ℕ) : Type 0 where

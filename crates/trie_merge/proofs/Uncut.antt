@@ -1,10 +1,13 @@
 -- Bytes of one interval make the same of a state.
-use Rattle.std.proofs.Common.{◌≡◌, ℕ, zero, suc, ◌+◌, ◌-◌, ◌<◌, ◌≤◌, List, [], ◌∷◌, length, get_or, Bool, true, false}
-use Rattle.std.proofs.Common.{◌||◌, true≢false, Option, Some, None, refl, sym, ◌∙◌, ap, subst, inl, inr, ◌⊎◌, arith}
+use Rattle.std.proofs.Common.{◌≡◌, ℕ, zero, suc, ◌+◌, ◌-◌, ◌<◌, ◌≤◌, List, [], ◌∷◌, length, get_or}
+use Rattle.std.proofs.Common.{replicate, Bool, true, false, ◌||◌, true≢false, Option, Some, None, refl, sym, ◌∙◌}
+use Rattle.std.proofs.Common.{ap, subst, inl, inr, ◌⊎◌, arith}
 use Rattle.std.specs.Prelude.{All}
 use Rattle.std.specs.List.{list_any, cons_option, AllByRecursion}
 use Rattle.std.specs.Option.{option_map}
+use Rattle.std.proofs.Math.Bool.{or-false}
 use Rattle.std.proofs.lemmas.Bool.{cases_Bool, cases_lt}
+use Rattle.std.proofs.lemmas.List.{get_or-replicate}
 use Rattle.std.proofs.lemmas.List.Elements.{recursion_from_All, All-from_recursion}
 use Rattle.node_expand.specs.declared.edge.Edge.{Edge}
 use Rattle.node_expand.specs.declared.edge.Edge.TheVariants.{Free, Low, High, Both}
@@ -51,6 +54,15 @@ entries_uncut column (entry ∷ entries) byte uncut =
 abbrev pub AreCuts : ColumnView → List ℕ → List Bool → Type 0
 AreCuts column entries marks = (byte : ℕ) → byte < 256
     → get_or marks byte false ≡ list_any (λ entry. is_entry_cut column entry byte) entries
+
+-- which they are where there was no mark before those of the entries
+pub cuts_alone : (column : ColumnView) (entries : List ℕ) (marks : List Bool) →
+    ((byte : ℕ) → byte < 256 → get_or marks byte false
+    ≡ (list_any (λ entry. is_entry_cut column entry byte) entries || get_or (replicate 256 false) byte false)) →
+    AreCuts column entries marks
+cuts_alone column entries marks marked byte below =
+    let cut : Bool = list_any (λ entry. is_entry_cut column entry byte) entries in
+    marked byte below ∙ ap (λ old. cut || old) (get_or-replicate 256 byte false false below) ∙ or-false cut
 
 module _ (column : ColumnView) (entries : List ℕ) (marks : List Bool) (long : length marks ≡ 256)
     (cuts : AreCuts column entries marks) where

@@ -9,7 +9,7 @@ ghost use Rattle.trie_merge.specs.Lists.{list_at, list_of_byte, interval_at, is_
 ghost use Rattle.trie_merge.specs.Intervals.{AreIntervals};
 
 use crate::column::Column;
-use crate::intervals::Intervals;
+use crate::intervals::{Intervals, count_intervals};
 use smallvec::SmallVec;
 use std::alloc::{AllocError, Global};
 
@@ -50,7 +50,9 @@ pub(crate) fn count_runs(column: &Column, entries: &[u32]) -> usize
     requires { CanCount column.now entries.now }
     ensures { result ≡ length (filter (is_change column.now entries.now) all_bytes) }
 {
-    intervals_of(column, entries).count
+    let mut marks = [false; 256];
+    mark_cuts(column, entries, &mut marks);
+    count_intervals(&marks)
 }
 
 /// Puts the entry behind each of the first lists.

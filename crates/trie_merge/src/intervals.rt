@@ -1,7 +1,8 @@
 //! The intervals of bytes after which the entries of a state are the same.
 
-ghost use Rattle.std.specs.Prelude.{◌≡◌};
+ghost use Rattle.std.specs.Prelude.{◌≡◌, ◌+◌};
 ghost use Rattle.trie_merge.specs.Intervals.{AreIntervals};
+ghost use Rattle.trie_merge.specs.Lists.{interval_at};
 
 /// The intervals into which marks part the bytes: each mark from byte 1 on begins one.
 #[derive(Drop)]
@@ -38,4 +39,16 @@ impl Intervals {
             count: last + 1,
         }
     }
+}
+
+/// How many intervals the marks make.
+pub(crate) fn count_intervals(marks: &[bool; 256]) -> usize
+    ensures { result ≡ interval_at marks.now 255 + 1 }
+{
+    // At most 255 bytes are marked. With no branch, and a sum of one byte, many are added at once.
+    let mut further = 0u8;
+    for byte in 1..256usize {
+        further += u8::from(marks[byte]);
+    }
+    usize::from(further) + 1
 }
