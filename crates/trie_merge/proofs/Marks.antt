@@ -6,7 +6,7 @@ use Rattle.std.proofs.lemmas.List.{length-drop, get_or-drop, get_or-set_same, ge
 use Rattle.std.proofs.lemmas.List.Sums.{count_by_more_yes, count_by_more_no}
 use Rattle.std.proofs.lemmas.Bool.{cases_Bool, cases_eq, cases_lt, lt-ltb, le-ltb}
 use Rattle.trie_merge.specs.Lists.{interval_at}
-use Rattle.trie_merge.specs.Intervals.{IsFirst, AreIntervals}
+use Rattle.trie_merge.specs.Intervals.{IsFirst, AreIntervals, Parted}
 
 -- before the first mark
 pub interval_first : (marks : List Bool) → interval_at marks 0 ≡ 0
@@ -43,16 +43,6 @@ interval_more marks byte within = elim (cases_Bool (get_or marks (byte + 1) fals
   | inr unmarked ↦ rw unmarked (interval_unmarked marks byte within unmarked ∙ omega arith)
 ]
 
--- The intervals that begin before a byte, of which the last has the byte before it.
-pub record Parted (marks : List Bool) (firsts of_bytes : List ℕ) (last byte : ℕ) : Type 0 where
-  pub long : length firsts ≡ 256
-  pub as_long : length of_bytes ≡ 256
-  pub latest : last ≡ interval_at marks (byte - 1)
-  pub few : last < byte
-  pub zero_first : get_or firsts 0 0 ≡ 0
-  pub first : (k : ℕ) → k ≤ last → IsFirst marks (get_or firsts k 0) k
-  pub interval : (b : ℕ) → b < byte → get_or of_bytes b 0 ≡ interval_at marks b
-
 zero_is_first : (marks : List Bool) → IsFirst marks 0 0
 zero_is_first marks = record {
   below = omega arith;
@@ -60,20 +50,24 @@ zero_is_first marks = record {
   begins = λ h. absurd (omega arith);
 }
 
-pub parted_start : (marks : List Bool) (firsts of_bytes : List ℕ) → length firsts ≡ 256 → length of_bytes ≡ 256 →
-    get_or firsts 0 0 ≡ 0 → get_or of_bytes 0 0 ≡ 0 → Parted marks firsts of_bytes 0 1
-parted_start marks firsts of_bytes long as_long zero_first zero_in = record {
-  long = long;
-  as_long = as_long;
-  latest = sym (interval_first marks);
-  few = omega arith;
-  zero_first = zero_first;
-  first = λ k below. (let is : k ≡ 0 = omega arith in rw (is, zero_first) (zero_is_first marks));
-  interval = λ b below. (let is : b ≡ 0 = omega arith in rw (is, zero_in) (sym (interval_first marks)));
-}
+pub parted_start : (marks : List Bool) (firsts of_bytes : List ℕ) → length marks ≡ 256 → length firsts ≡ 256 →
+    length of_bytes ≡ 256 → Parted marks (set firsts 0 0) (set of_bytes 0 0) 0 1
+parted_start marks firsts of_bytes wide long as_long =
+    let zero_first = get_or-set_same firsts 0 0 0 (omega (arith, long)) in
+    let zero_in = get_or-set_same of_bytes 0 0 0 (omega (arith, as_long)) in
+    record {
+      wide = wide;
+      long = length-set firsts 0 0 ∙ long;
+      as_long = length-set of_bytes 0 0 ∙ as_long;
+      latest = sym (interval_first marks);
+      few = omega arith;
+      zero_first = zero_first;
+      first = λ k below. (let is : k ≡ 0 = omega arith in rw (is, zero_first) (zero_is_first marks));
+      interval = λ b below. (let is : b ≡ 0 = omega arith in rw (is, zero_in) (sym (interval_first marks)));
+    }
 
-module _ (marks : List Bool) (firsts of_bytes : List ℕ) (last byte : ℕ) (long : length marks ≡ 256) (some : 0 < byte)
-    (below : byte < 256) (so_far : Parted marks firsts of_bytes last byte) where
+module _ (marks : List Bool) (firsts of_bytes : List ℕ) (last byte : ℕ) (some : 0 < byte) (below : byte < 256)
+    (so_far : Parted marks firsts of_bytes last byte) where
   at_byte : byte - 1 + 1 ≡ byte
   at_byte = omega arith
 
@@ -85,10 +79,11 @@ module _ (marks : List Bool) (firsts of_bytes : List ℕ) (last byte : ℕ) (lon
       Parted marks (set firsts (last + 1) byte) (set of_bytes byte (last + 1)) (last + 1) (byte + 1)
   parted_marked is =
       let here : interval_at marks byte ≡ last + 1 =
-      rw at_byte at (interval_marked marks (byte - 1) (omega (arith, long)) (rw at_byte is))
+      rw at_byte at (interval_marked marks (byte - 1) (omega (arith, so_far.wide)) (rw at_byte is))
       ∙ ap (λ n. n + 1) (sym so_far.latest) in
       let within : last + 1 < length firsts = omega (arith, so_far.few, so_far.long) in
       record {
+        wide = so_far.wide;
         long = length-set firsts (last + 1) byte ∙ so_far.long;
         as_long = length-set of_bytes byte (last + 1) ∙ so_far.as_long;
         latest = rw behind (sym here);
@@ -118,8 +113,10 @@ module _ (marks : List Bool) (firsts of_bytes : List ℕ) (last byte : ℕ) (lon
       Parted marks firsts (set of_bytes byte last) last (byte + 1)
   parted_unmarked is =
       let here : interval_at marks byte ≡ last =
-      rw at_byte at (interval_unmarked marks (byte - 1) (omega (arith, long)) (rw at_byte is)) ∙ sym so_far.latest in
+      rw at_byte at (interval_unmarked marks (byte - 1) (omega (arith, so_far.wide)) (rw at_byte is))
+      ∙ sym so_far.latest in
       record {
+        wide = so_far.wide;
         long = so_far.long;
         as_long = length-set of_bytes byte last ∙ so_far.as_long;
         latest = rw behind (sym here);
@@ -133,13 +130,41 @@ module _ (marks : List Bool) (firsts of_bytes : List ℕ) (last byte : ℕ) (lon
         ];
       }
 
+  -- a first byte behind those of the intervals begun is none yet
+  spare : Parted marks (set firsts (last + 1) byte) of_bytes last byte
+  spare = record {
+    wide = so_far.wide;
+    long = length-set firsts (last + 1) byte ∙ so_far.long;
+    as_long = so_far.as_long;
+    latest = so_far.latest;
+    few = so_far.few;
+    zero_first = get_or-set_other firsts (last + 1) 0 byte 0 (omega arith) ∙ so_far.zero_first;
+    first = λ k under. rw (get_or-set_other firsts (last + 1) k byte 0 (omega arith)) (so_far.first k under);
+    interval = so_far.interval;
+  }
+
+-- one more byte, whose mark tells its interval
+pub parted_more : (marks : List Bool) (firsts of_bytes : List ℕ) (last byte : ℕ) → 0 < byte → byte < 256 →
+    Parted marks firsts of_bytes last byte →
+    Parted marks (set firsts (last + 1) byte) (set of_bytes byte (last + from_bool (get_or marks byte false)))
+    (last + from_bool (get_or marks byte false)) (byte + 1)
+parted_more marks firsts of_bytes last byte some below so_far =
+    elim (cases_Bool (get_or marks byte false)) [
+      | inl marked ↦ rw marked (parted_marked marks firsts of_bytes last byte some below so_far marked)
+      | inr unmarked ↦
+          let same : last + 0 ≡ last = omega arith in
+          rw (unmarked, same)
+          (parted_unmarked marks (set firsts (last + 1) byte) of_bytes last byte some below
+          (spare marks firsts of_bytes last byte some below so_far) unmarked)
+    ]
+
 -- all bytes
-pub all_parted : (marks : List Bool) (firsts of_bytes : List ℕ) (last byte : ℕ) → length marks ≡ 256 → byte ≡ 256 →
+pub all_parted : (marks : List Bool) (firsts of_bytes : List ℕ) (last byte : ℕ) → byte ≡ 256 →
     Parted marks firsts of_bytes last byte → AreIntervals marks firsts of_bytes (last + 1)
-all_parted marks firsts of_bytes last byte long all parted =
+all_parted marks firsts of_bytes last byte all parted =
     let before : byte - 1 ≡ 255 = omega arith in
     record {
-      long = long;
+      long = parted.wide;
       few = omega (arith, parted.few);
       last = ap (λ n. n + 1) (ap (interval_at marks) (sym before) ∙ sym parted.latest);
       zero = parted.zero_first;

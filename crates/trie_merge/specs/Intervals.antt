@@ -16,3 +16,14 @@ pub record AreIntervals (marks : List Bool) (firsts of_bytes : List ℕ) (count 
   pub zero : slice_index_or firsts 0 0 ≡ 0
   pub first : (k : ℕ) → k < count → IsFirst marks (slice_index_or firsts k 0) k
   pub interval : (byte : ℕ) → byte < 256 → slice_index_or of_bytes byte 0 ≡ interval_at marks byte
+
+-- The intervals that begin before a byte, of which the last has the byte before it.
+pub record Parted (marks : List Bool) (firsts of_bytes : List ℕ) (last byte : ℕ) : Type 0 where
+  pub wide : length marks ≡ 256
+  pub long : length firsts ≡ 256
+  pub as_long : length of_bytes ≡ 256
+  pub latest : last ≡ interval_at marks (byte - 1)
+  pub few : last < byte
+  pub zero_first : slice_index_or firsts 0 0 ≡ 0
+  pub first : (k : ℕ) → k ≤ last → IsFirst marks (slice_index_or firsts k 0) k
+  pub interval : (b : ℕ) → b < byte → slice_index_or of_bytes b 0 ≡ interval_at marks b

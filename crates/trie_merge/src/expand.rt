@@ -1,7 +1,7 @@
 //! What a state becomes after each byte of a place.
 
 ghost use Rattle.std.specs.Prelude.{◌≡◌, ℕ, ◌<◌, ◌≤◌, ◌||◌, ◌++◌, ◌∷◌, [], ◌⊎◌, filter, length};
-ghost use Rattle.std.specs.Prelude.{slice_index_or, false, All, OnOk, IfOk, option_to_list};
+ghost use Rattle.std.specs.Prelude.{slice_index_or, false, All, OnOk, option_to_list};
 ghost use Rattle.std.specs.List.{list_any};
 ghost use Rattle.trie_merge.specs.Entry.{entry_step, entries_step, is_entry_cut, CanStep};
 ghost use Rattle.trie_merge.specs.Found.{all_bytes};
@@ -29,20 +29,18 @@ pub(crate) fn mark_cuts(column: &Column, entries: &[u32], marks: &mut [bool; 256
     }
 }
 
-/// The intervals of bytes after which all entries are the same.
-fn intervals_of(column: &Column, entries: &[u32]) -> Intervals
+/// Makes the intervals those of bytes after which all entries are the same.
+fn find_intervals(column: &Column, entries: &[u32], intervals: &mut Intervals)
     requires { All (CanStep column.now) entries.now }
-    ensures intervals { AreIntervals result.marks result.firsts result.of_bytes result.count }
-    ensures marks { (byte : ℕ) → byte < 256 →
-        slice_index_or result.marks byte false
-        ≡ list_any (λ entry. is_entry_cut column.now entry byte) entries.now }
+    ensures intervals { AreIntervals intervals.new.marks intervals.new.firsts
+        intervals.new.of_bytes intervals.new.count }
     ensures same { (one other : ℕ) → one < 256 → other < 256
-        → interval_at result.marks one ≡ interval_at result.marks other →
+        → interval_at intervals.new.marks one ≡ interval_at intervals.new.marks other →
         entries_step column.now entries.now one ≡ entries_step column.now entries.now other }
 {
-    let mut marks = [false; 256];
-    mark_cuts(column, entries, &mut marks);
-    Intervals::new(&marks)
+    intervals.marks = [false; 256];
+    mark_cuts(column, entries, &mut intervals.marks);
+    intervals.part();
 }
 
 /// How many runs of bytes leave the same entries: as many as a state before the last place has.
@@ -151,23 +149,25 @@ fn hand_out_all(
     Ok(())
 }
 
-/// Makes the lists those of the state's entries after each interval of bytes, and gives the
-/// intervals.
+/// Makes the intervals those of bytes after which the state's entries are the same, and the lists
+/// those of its entries after each interval.
 pub(crate) fn fill_lists(
     column: &Column,
     entries: &[u32],
+    intervals: &mut Intervals,
     lists: &mut [SmallVec<u32, INLINE_ENTRIES, Global>],
-) -> Result<Intervals, AllocError>
+) -> Result<(), AllocError>
     requires entries { All (CanStep column.now) entries.now }
     requires lists { 256 ≤ length lists.old }
-    ensures intervals { IfOk result
-        (λ its. AreIntervals its.marks its.firsts its.of_bytes its.count) }
-    ensures some { IfOk result (λ its. (k : ℕ) → k < its.count →
+    ensures intervals { OnOk result (AreIntervals intervals.new.marks intervals.new.firsts
+        intervals.new.of_bytes intervals.new.count) }
+    ensures some { OnOk result ((k : ℕ) → k < intervals.new.count →
         (first : ℕ) × (list_at lists.new k ≡ entries_step column.now entries.now first)) }
-    ensures lists { IfOk result (λ its. (byte : ℕ) → byte < 256 →
-        list_of_byte its.marks lists.new byte ≡ entries_step column.now entries.now byte) }
+    ensures lists { OnOk result ((byte : ℕ) → byte < 256 →
+        list_of_byte intervals.new.marks lists.new byte
+        ≡ entries_step column.now entries.now byte) }
 {
-    let intervals = intervals_of(column, entries);
-    hand_out_all(column, entries, &intervals, lists)?;
-    Ok(intervals)
+    find_intervals(column, entries, intervals);
+    hand_out_all(column, entries, intervals, lists)?;
+    Ok(())
 }

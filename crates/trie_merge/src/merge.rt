@@ -14,6 +14,7 @@ ghost use Rattle.trie_merge.specs.Pieces.{pieces_of, IsPieces};
 
 use crate::column::Column;
 use crate::expand::{INLINE_ENTRIES, count_runs, fill_lists};
+use crate::intervals::Intervals;
 use crate::number::join_runs;
 use crate::row::make_rows;
 use crate::run::Run;
@@ -76,7 +77,8 @@ fn expand_state(
         ≡ runs.old.items ++ state_runs rules.now column.now is_last
         (lists_of found.new.keys ++ more) entries.now) }
 {
-    let intervals = fill_lists(column, entries, lists)?;
+    let mut intervals = Intervals::new();
+    fill_lists(column, entries, &mut intervals, lists)?;
     make_successors(rules, is_last, intervals.count, lists)?;
     join_runs(alloc, is_last, &intervals, lists, found, runs)?;
     Ok(())

@@ -11,7 +11,7 @@ use Rattle.trie_merge.proofs.merge.expand_state.Goals as goal
 
 pub make_successors-requires-clause-numbers : goal.make_successors-requires-clause-numbers
 make_successors-requires-clause-numbers c = λ k below.
-    let some = c.in_ok-intervals.ensures.some k below in
+    let some = c.in_ok-fill_lists.ensures.some k below in
     let P : ℕ → Type 0 = λ number. number < length c.args.rules.now.rules in
     let held : All (λ entry. P (number_in entry)) c.args.entries.now =
     λ j d inside. rw (← c.requires.rules) (c.requires.entries j d inside).number in
@@ -23,13 +23,13 @@ returns c =
     let column = c.args.column.now in
     let is_last = c.args.is_last in
     let entries = c.args.entries.now in
-    let its = c.in_ok-intervals.intervals in
-    let are = c.in_ok-intervals.ensures.intervals in
+    let its = c.fill_lists.new.intervals in
+    let are = c.in_ok-fill_lists.ensures.intervals in
     let reached : (byte : ℕ) → byte < 256 →
     list_of_byte its.marks c.make_successors.new.lists byte ≡ successor set column is_last entries byte = λ byte below.
     expanded_is set column is_last entries its.marks c.fill_lists.new.lists c.make_successors.new.lists its.count byte
     (byte_within its.marks its.firsts its.of_bytes its.count are byte below) c.in_ok-make_successors.ensures
-    (c.in_ok-intervals.ensures.lists byte below) in
+    (c.in_ok-fill_lists.ensures.lists byte below) in
     record {
       found =
           c.in_ok-join_runs.ensures.found
