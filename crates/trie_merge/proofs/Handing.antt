@@ -1,9 +1,10 @@
 -- Handing the entries of a state out to the lists of its intervals.
-use Rattle.std.proofs.Common.{◌≡◌, ◌≢◌, ℕ, ◌+◌, ◌<◌, ◌≤◌, List, [], ◌∷◌, ◌++◌, length, take, get_or, set, Bool, Option}
+use Rattle.std.proofs.Common.{◌≡◌, ◌≢◌, ℕ, zero, suc, ◌+◌, ◌-◌, ◌<◌, ◌≤◌, List, [], ◌∷◌, ◌++◌, length, take, drop}
+use Rattle.std.proofs.Common.{get_or, set, Bool, Option}
 use Rattle.std.proofs.Common.{Some, None, option_to_list, refl, sym, ◌∙◌, ap, inl, inr, ◌⊎◌, arith}
 use Rattle.std.specs.List.{filter_map, cons_option}
 use Rattle.std.proofs.lemmas.List.{map-set, get_or-set_same, get_or-set_other, get_or-map, length-map, take_more}
-use Rattle.std.proofs.lemmas.List.{append-nil}
+use Rattle.std.proofs.lemmas.List.{append-nil, append_assoc, drop_all, drop-append-le, length-take-le}
 use Rattle.std.proofs.lemmas.List.Elements.{filter_map-append}
 use Rattle.std.proofs.lemmas.Bool.{cases_eq, cases_lt}
 use Rattle.smallvec.specs.SmallVec.{SmallVec}
@@ -34,24 +35,23 @@ list_at-read lists k v within is =
     get_or-map (λ (u : SmallVec ℕ). u.items) lists k v [] within ∙ ap (λ (u : SmallVec ℕ). u.items) (sym is)
 
 -- The lists from one place to before k have what is given, and the others what they had.
-pub record Handed (given : ℕ → Option ℕ) (from : ℕ) (old lists : List (SmallVec ℕ)) (k : ℕ) : Type 0 where
-  pub done : (j : ℕ) → from ≤ j → j < k → list_at lists j ≡ list_at old j ++ option_to_list (given j)
+pub record Handed (given : ℕ → List ℕ) (from : ℕ) (old lists : List (SmallVec ℕ)) (k : ℕ) : Type 0 where
+  pub done : (j : ℕ) → from ≤ j → j < k → list_at lists j ≡ list_at old j ++ given j
   pub left : (j : ℕ) → j < from ⊎ k ≤ j → list_at lists j ≡ list_at old j
 
-pub none_handed : (given : ℕ → Option ℕ) (from : ℕ) (old : List (SmallVec ℕ)) → Handed given from old old from
+pub none_handed : (given : ℕ → List ℕ) (from : ℕ) (old : List (SmallVec ℕ)) → Handed given from old old from
 none_handed given from old = record { done = λ j above below. absurd (omega arith); left = λ j out. refl }
 
-module _ (given : ℕ → Option ℕ) (from : ℕ) (old lists : List (SmallVec ℕ)) (k : ℕ) (begun : from ≤ k)
+module _ (given : ℕ → List ℕ) (from : ℕ) (old lists : List (SmallVec ℕ)) (k : ℕ) (begun : from ≤ k)
     (so_far : Handed given from old lists k) where
   there_left : (j : ℕ) → j < from ⊎ k + 1 ≤ j → (j ≢ k) × (j < from ⊎ k ≤ j)
   there_left j (inl before) = (omega arith, inl before)
   there_left j (inr behind) = (omega arith, inr (omega arith))
 
   -- one more list, where there is something to give
-  pub handed_some : (v w : SmallVec ℕ) (after : ℕ) → k < length lists → v ≡ get_or lists k v →
-      w.items ≡ (get_or lists k v).items ++ after ∷ [] → Some after ≡ given k
-      → Handed given from old (set lists k w) (k + 1)
-  handed_some v w after within read written is = record {
+  pub handed_some : (v w : SmallVec ℕ) → k < length lists → v ≡ get_or lists k v →
+      w.items ≡ (get_or lists k v).items ++ given k → Handed given from old (set lists k w) (k + 1)
+  handed_some v w within read written = record {
     done = λ j above below. elim (cases_eq j k) [
       | inl e ↦
           rw (
@@ -62,7 +62,6 @@ module _ (given : ℕ → Option ℕ) (from : ℕ) (old lists : List (SmallVec �
             ← list_at-read lists k v within read,
             so_far.left k
                 (inr (omega arith)),
-            ← is,
           )
           refl
       | inr other ↦ rw (list_at-set_other lists k j w other) (so_far.done j above (omega (arith, other)))
@@ -71,10 +70,10 @@ module _ (given : ℕ → Option ℕ) (from : ℕ) (old lists : List (SmallVec �
   }
 
   -- and where there is nothing
-  pub handed_none : None ≡ given k → Handed given from old lists (k + 1)
+  pub handed_none : given k ≡ [] → Handed given from old lists (k + 1)
   handed_none is = record {
     done = λ j above below. elim (cases_eq j k) [
-      | inl e ↦ rw (e, so_far.left k (inr (omega arith)), ← is) (sym (append-nil (list_at old k)))
+      | inl e ↦ rw (e, so_far.left k (inr (omega arith)), is) (sym (append-nil (list_at old k)))
       | inr other ↦ so_far.done j above (omega (arith, other))
     ];
     left = λ j out. so_far.left j (there_left j out).1;
@@ -156,3 +155,39 @@ entries_step_more column entries i d byte within =
 pub entries_step_none : (column : ColumnView) (byte : ℕ) → entries_step column [] byte ≡ []
 unfolding entries_step
 entries_step_none column byte = refl
+
+-- entries that a byte leaves as they are go on as they are
+pub kept_as_they_are : (column : ColumnView) (entries : List ℕ) (from n byte : ℕ) → from + n ≤ length entries →
+    ((i : ℕ) → from ≤ i → i < from + n → entry_step column (get_or entries i 0) byte ≡ Some (get_or entries i 0)) →
+    entries_step column (take (from + n) entries) byte
+    ≡ entries_step column (take from entries) byte ++ drop from (take (from + n) entries)
+kept_as_they_are column entries from zero byte within kept =
+    let here : from + 0 ≡ from = omega arith in
+    let nothing : drop from (take from entries) ≡ [] =
+    drop_all from (take from entries) (omega (arith, length-take-le from entries (omega arith))) in
+    rw (here, nothing) (sym (append-nil (entries_step column (take from entries) byte)))
+kept_as_they_are column entries from (suc n) byte within kept =
+    let next : from + suc n ≡ from + n + 1 = omega arith in
+    let entry : ℕ = get_or entries (from + n) 0 in
+    let begin : List ℕ = entries_step column (take from entries) byte in
+    let some : List ℕ = take (from + n) entries in
+    let long : from ≤ length some = omega (arith, length-take-le (from + n) entries (omega arith)) in
+    rw next (
+    entries_step_more column entries (from + n) 0 byte (omega arith)
+    ∙ (λ i. kept_as_they_are column entries from n byte (omega arith) (λ j above below. kept j above (omega arith)) i
+    ++ option_to_list (kept (from + n) (omega arith) (omega arith) i))
+    ∙ append_assoc begin (drop from some) (entry ∷ [])
+    ∙ ap (λ rest. begin ++ rest) (sym (drop-append-le from some (entry ∷ []) long)
+    ∙ ap (drop from) (sym (take_more entries (from + n) 0 (omega arith))))
+    )
+
+-- the same up to a place
+pub kept_up_to : (column : ColumnView) (entries : List ℕ) (from until byte : ℕ) → from ≤ until →
+    until ≤ length entries →
+    ((i : ℕ) → from ≤ i → i < until → entry_step column (get_or entries i 0) byte ≡ Some (get_or entries i 0)) →
+    entries_step column (take until entries) byte
+    ≡ entries_step column (take from entries) byte ++ drop from (take until entries)
+kept_up_to column entries from until byte above within kept =
+    let there : from + (until - from) ≡ until = omega arith in
+    rw there at (kept_as_they_are column entries from (until - from) byte (omega arith)
+    (λ i over under. kept i over (omega arith)))

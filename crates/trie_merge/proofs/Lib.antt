@@ -23,3 +23,4 @@ pub mod Gaps
 pub mod Walk
 pub mod StateLaws
 pub mod Following
+pub mod Keeping

@@ -1,6 +1,6 @@
 -- The value of the field that has a place.
 use Rattle.std.proofs.Common.{◌≡◌, ℕ, suc, ◌-◌, ◌<◌, List, [], ◌∷◌, length, get_or, refl, sym, ◌∙◌, ap, subst, inl, inr}
-use Rattle.std.proofs.Common.{arith}
+use Rattle.std.proofs.Common.{None, arith}
 use Rattle.std.specs.List.{AllZip}
 use Rattle.std.proofs.lemmas.List.Sums.{sum_by-cons}
 use Rattle.std.proofs.lemmas.Bool.{cases_lt, cond-true, cond-false, lt-ltb, le-ltb}
@@ -9,7 +9,11 @@ use Rattle.field_defs.specs.declared.field.FieldValue.{FieldValue}
 use Rattle.field_defs.specs.declared.field.FieldValue.TheVariants.{Mask}
 use Rattle.field_defs.specs.FieldMatch.{is_wild, CanMatch}
 use Rattle.field_defs.specs.Layout.{key_len_of}
+use Rattle.field_defs.specs.Lawful.{IsLayout}
 use Rattle.rule_set.specs.Lawful.{IsLawfulValue}
+use Rattle.rule_set.specs.Rule.{RuleView}
+use Rattle.rule_set.specs.Fault.{rule_fault}
+use Rattle.rule_set.proofs.Lawful.{faultless_rules}
 use Rattle.trie_merge.specs.Kept.{is_wild_at}
 use Rattle.trie_merge.specs.Entry.{FieldPlace, field_at}
 use Rattle.trie_merge.proofs.Packed.{field_at_in, field_at_behind, further_value}
@@ -48,3 +52,12 @@ value_at_place (def ∷ defs) (value ∷ values) place lawful within = elim (cas
         wild = cond-false _ _ _ (le-ltb place def.size behind) ∙ there.wild ∙ ap (λ v. is_wild v at.size) (sym same);
       })
 ]
+
+-- the same for a rule of a lawful set
+pub value_of_rule : (layout : List FieldDef) (rule : RuleView) (place : ℕ) (at : FieldPlace) → IsLayout layout →
+    rule_fault layout rule.tag rule.fields ≡ None → place < key_len_of layout → at ≡ field_at layout place →
+    IsValueAt layout rule.fields place at
+value_of_rule layout rule place at lawful faultless within is =
+    subst (IsValueAt layout rule.fields place) (sym is)
+    (value_at_place layout rule.fields place
+    ((faultless_rules layout rule.tag rule.fields lawful).0 faultless).values within)

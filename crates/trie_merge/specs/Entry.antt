@@ -2,17 +2,19 @@
 -- of its rest. Before the first byte of a field the rule's value says the rest, so the edge kept
 -- there is the one after a whole field.
 use Rattle.std.specs.Prelude.{ℕ, ◌+◌, ◌-◌, ◌*◌, ◌/◌, ◌%◌, ◌<◌, ◌==◌, List, [], ◌∷◌, length, map}
-use Rattle.std.specs.Prelude.{slice_index_or, nat_lt, Bool, IsTrue, Option, if◌then◌else◌}
+use Rattle.std.specs.Prelude.{slice_index_or, nat_lt, Bool, not, ◌||◌, ◌&&◌, IsTrue, Option}
+use Rattle.std.specs.Prelude.{if◌then◌else◌}
 use Rattle.std.specs.List.{filter_map}
 use Rattle.std.specs.Option.{option_map, unwrap_or}
 use Rattle.field_defs.specs.declared.field.FieldDef.{FieldDef}
 use Rattle.field_defs.specs.declared.field.FieldValue.{FieldValue}
 use Rattle.field_defs.specs.declared.field.FieldValue.TheVariants.{Mask}
-use Rattle.field_defs.specs.FieldMatch.{CanMatch, is_range_filled}
+use Rattle.field_defs.specs.FieldMatch.{CanMatch, is_range_filled, is_wild}
 use Rattle.rule_set.specs.Rule.{RuleSetView}
 use Rattle.node_expand.specs.declared.edge.Edge.{Edge}
 use Rattle.node_expand.specs.declared.edge.Edge.TheVariants.{Free, Low, High, Both}
-use Rattle.node_expand.specs.Edges.{edge_after, edge_step, is_cut, StandsBefore}
+use Rattle.node_expand.specs.Edges.{edge_after, edge_step, is_cut, is_bitmask}
+use Rattle.node_expand.specs.Edges.{StandsBefore}
 
 -- how many edges there are
 abbrev pub edge_count : ℕ
@@ -58,6 +60,11 @@ abbrev pub edge_before : ColumnView → ℕ → Edge
 edge_before column entry =
     if column.place == 0 then unwrap_or (edge_after (value_in column entry) column.size 0 0) Free
     else edge_in entry
+
+-- a rest of the value of which no end is inner stays so after each byte at the place: the value is
+-- wild, or it is no bitmask, and some bytes of the field are read
+abbrev pub stays_free : ℕ → ℕ → FieldValue → Bool
+stays_free size place value = is_wild value size || (nat_lt 0 place && not (is_bitmask value))
 
 -- the entry after a byte at the place, or none
 unfoldable pub entry_step : ColumnView → ℕ → ℕ → Option ℕ

@@ -1,14 +1,12 @@
 //! What one place of the key asks of the rules.
 
-ghost use Rattle.std.specs.Prelude.{◌≡◌, ◌<◌, ◌&&◌, not, length, map, slice_index_or, IfOk};
-ghost use Rattle.field_defs.specs.declared.field.FieldValue.TheVariants.{Mask};
-ghost use Rattle.field_defs.specs.Lawful.{IsLayout};
+ghost use Rattle.std.specs.Prelude.{◌≡◌, ◌<◌, length};
+ghost use Rattle.field_defs.specs.FieldMatch.{CanMatch};
 ghost use Rattle.field_defs.specs.Layout.{key_len_of};
-ghost use Rattle.node_expand.specs.Edges.{same_edge, is_bitmask};
-ghost use Rattle.trie_merge.specs.Entry.{field_at};
+ghost use Rattle.trie_merge.specs.Entry.{field_at, stays_free};
 
-use crate::entry::{edge_in, entry_of, number_in};
-use field_defs::{FieldDef, FieldKind, FieldValue};
+use crate::entry::{edge_in, entry_of, is_free, number_in};
+use field_defs::{FieldDef, FieldKind, FieldValue, is_wild};
 use node_expand::{Edge, cuts, first_and_last, start_edge, step_edge};
 use rule_set::RuleSet;
 use std::alloc::{AllocError, Global};
@@ -19,6 +17,8 @@ use std::marker::Model;
 #[derive(Drop)]
 pub(crate) struct Column {
     values: Vec<FieldValue>,
+    /// Whether a free rest of each of them stays free, which tells the most of the entries.
+    stay_free: Vec<bool>,
     size: u8,
     place: u8,
 }
@@ -54,58 +54,52 @@ pub(crate) fn field_at(defs: &[FieldDef], place: usize) -> FieldPlace
     unreachable!()
 }
 
-/// The value of each rule for the field.
-fn values_of_field(
-    alloc: Global,
-    rules: &RuleSet,
-    field: usize,
-) -> Result<Vec<FieldValue>, AllocError>
-    requires layout { IsLayout rules.now.layout }
-    requires field { field < length rules.now.layout }
-    ensures { IfOk result (λ values. values.items
-        ≡ map (λ rule. slice_index_or rule.fields field (Mask 0 0)) rules.now.rules) }
+/// Whether a free rest of the value, of which no end is inner, stays free after each byte at the
+/// place.
+fn stays_free(value: &FieldValue, at: FieldPlace) -> bool
+    requires { CanMatch value.now at.size }
+    ensures { result ≡ stays_free at.size at.place value.now }
 {
-    let mut values = Vec::with_capacity(alloc, rules.len())?;
-    for i in 0..rules.len() {
-        values.push(rules.at(i).fields()[field])?;
-    }
-    Ok(values)
-}
-
-/// Whether the edge leaves all numbers of the rest of the field, and so does each byte after it.
-fn leaves_all(value: &FieldValue, edge: Edge) -> bool
-    ensures { result ≡ (same_edge edge Edge.Free && not (is_bitmask value.now)) }
-{
-    edge == Edge::Free && value.kind() != FieldKind::Bitmask
+    is_wild(value, at.size) || (at.place > 0 && value.kind() != FieldKind::Bitmask)
 }
 
 impl Model for Column {
-    ghost use Rattle.trie_merge.specs.Entry.{ColumnView};
+    ghost use Rattle.std.specs.Prelude.{◌≡◌, map};
+    ghost use Rattle.trie_merge.specs.Entry.{ColumnView, stays_free};
 
     ghost Value = { ColumnView };
 
     ghost view = { λ c. record { values = c.values.items; size = c.size; place = c.place } };
+
+    ghost invariant = { λ c. c.stay_free.items ≡ map (stays_free c.size c.place) c.values.items };
 }
 
 impl Column {
-    ghost use Rattle.std.specs.Prelude.{◌≡◌, ℕ, ◌<◌, ◌≤◌, ◌||◌, false, length, Some, None};
-    ghost use Rattle.std.specs.Prelude.{slice_index_or, IfOk, IfSome};
+    ghost use Rattle.std.specs.Prelude.{◌≡◌, ℕ, ◌<◌, ◌≤◌, ◌||◌, true, false, length, Some, None};
+    ghost use Rattle.std.specs.Prelude.{slice_index_or, IfOk};
     ghost use Rattle.field_defs.specs.Layout.{key_len_of};
     ghost use Rattle.trie_merge.specs.Entry.{column_at, number_in, value_in, edge_before};
     ghost use Rattle.trie_merge.specs.Entry.{entry_step, is_entry_cut, CanStep};
 
     /// What the place of the key has of each rule.
     ///
-    /// It takes memory for a value of each rule.
+    /// It takes memory for a value and a truth value of each rule.
     #[tactic(auto, unfolding(crate::specs::Entry::column_at))]
     pub(crate) fn new(alloc: Global, rules: &RuleSet, place: usize) -> Result<Self, AllocError>
         requires { place < key_len_of rules.now.layout }
         ensures { IfOk result (λ column. column ≡ column_at rules.now place) }
     {
         let at = field_at(rules.layout().fields(), place);
-        let values = values_of_field(alloc, rules, at.field)?;
+        let mut values = Vec::with_capacity(alloc, rules.len())?;
+        let mut stay_free = Vec::with_capacity(alloc, rules.len())?;
+        for i in 0..rules.len() {
+            let value = rules.at(i).fields()[at.field];
+            stay_free.push(stays_free(&value, at))?;
+            values.push(value)?;
+        }
         Ok(Column {
             values,
+            stay_free,
             size: at.size,
             place: at.place,
         })
@@ -143,19 +137,15 @@ impl Column {
         Some(entry_of(number, after))
     }
 
-    /// The entry after any byte, where every byte leaves the entry's rule all numbers of the field.
-    pub(crate) fn step_free(&self, entry: u32) -> Option<u32>
+    /// Whether every byte leaves the entry as it is. Where it says no, some may do so, too.
+    pub(crate) fn keeps(&self, entry: u32) -> bool
         requires { CanStep self.now entry }
-        ensures { IfSome result (λ after. (byte : ℕ) → byte < 256
-            → entry_step self.now entry byte ≡ Some after) }
+        ensures step { result ≡ true → (byte : ℕ) → byte < 256
+            → entry_step self.now entry byte ≡ Some entry }
+        ensures uncut { result ≡ true → (byte : ℕ) → byte < 256
+            → is_entry_cut self.now entry byte ≡ false }
     {
-        let number = number_in(entry);
-        let edge = self.edge_before(entry);
-        if leaves_all(self.value(entry), edge) {
-            Some(entry_of(number, Edge::Free))
-        } else {
-            None
-        }
+        is_free(entry) && self.stay_free[number_in(entry) as usize]
     }
 
     /// The first and the last byte after which the entry's rule has a rest.

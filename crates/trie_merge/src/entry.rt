@@ -1,7 +1,8 @@
 //! One rule of a state as one number.
 
-ghost use Rattle.std.specs.Prelude.{◌≡◌, ◌^◌, ◌<◌};
-ghost use Rattle.trie_merge.specs.Entry.{edge_code, edge_coded, entry_of, number_in, edge_in};
+ghost use Rattle.std.specs.Prelude.{◌≡◌, ◌^◌, ◌<◌, ◌%◌, ◌==◌};
+ghost use Rattle.trie_merge.specs.Entry.{edge_count, edge_code, edge_coded, entry_of, number_in};
+ghost use Rattle.trie_merge.specs.Entry.{edge_in};
 
 use node_expand::Edge;
 
@@ -33,6 +34,13 @@ pub(crate) fn edge_in(entry: u32) -> Edge
         2 => Edge::High,
         _ => Edge::Both,
     }
+}
+
+/// Whether the edge is free, whose number is 0.
+pub(crate) fn is_free(entry: u32) -> bool
+    ensures { result ≡ (entry % edge_count == 0) }
+{
+    entry % EDGE_COUNT == 0
 }
 
 /// The edge as a number.

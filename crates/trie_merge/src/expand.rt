@@ -1,6 +1,7 @@
 //! What a state becomes after each byte of a place.
 
 ghost use Rattle.std.specs.Prelude.{◌≡◌, ℕ, ◌<◌, ◌≤◌, ◌||◌, ◌++◌, ◌∷◌, [], ◌⊎◌, filter, length};
+ghost use Rattle.std.specs.Prelude.{take, drop};
 ghost use Rattle.std.specs.Prelude.{slice_index_or, false, All, OnOk, option_to_list};
 ghost use Rattle.std.specs.List.{list_any};
 ghost use Rattle.trie_merge.specs.Entry.{entry_step, entries_step, is_entry_cut, CanStep};
@@ -25,7 +26,9 @@ pub(crate) fn mark_cuts(column: &Column, entries: &[u32], marks: &mut [bool; 256
         || slice_index_or marks.old byte false) }
 {
     for entry in entries {
-        column.mark(*entry, marks);
+        if !column.keeps(*entry) {
+            column.mark(*entry, marks);
+        }
     }
 }
 
@@ -53,20 +56,42 @@ pub(crate) fn count_runs(column: &Column, entries: &[u32]) -> usize
     count_intervals(&marks)
 }
 
-/// Puts the entry behind each of the first lists.
+/// Puts the entries behind each of the first lists.
 fn hand_to_all(
-    after: u32,
+    after: &[u32],
     count: usize,
     lists: &mut [SmallVec<u32, INLINE_ENTRIES, Global>],
 ) -> Result<(), AllocError>
     requires { count ≤ length lists.old }
     ensures { OnOk result ((k : ℕ) → k < count
-        → list_at lists.new k ≡ list_at lists.old k ++ after ∷ []) }
+        → list_at lists.new k ≡ list_at lists.old k ++ after.now) }
 {
     for k in 0..count {
-        lists[k].push(after)?;
+        lists[k].extend_from_slice(after)?;
     }
     Ok(())
+}
+
+/// Puts the entries from one place to another behind each of the first lists.
+fn hand_part_to_all(
+    entries: &[u32],
+    from: usize,
+    until: usize,
+    count: usize,
+    lists: &mut [SmallVec<u32, INLINE_ENTRIES, Global>],
+) -> Result<(), AllocError>
+    requires part { from ≤ until }
+    requires within { until ≤ length entries.now }
+    requires lists { count ≤ length lists.old }
+    ensures { OnOk result ((k : ℕ) → k < count
+        → list_at lists.new k ≡ list_at lists.old k ++ drop from (take until entries.now)) }
+{
+    if from == until {
+        return Ok(());
+    }
+    let (before, _) = entries.split_at(until);
+    let (_, part) = before.split_at(from);
+    hand_to_all(part, count, lists)
 }
 
 /// Puts what one entry is after the first byte of each interval from one to another behind the
@@ -99,8 +124,7 @@ fn hand_to_run(
 
 /// Puts what one entry is after the first byte of each interval behind the interval's list.
 ///
-/// An entry that every byte leaves goes to all lists, and any other is asked only in the run of
-/// intervals that it can survive in.
+/// It is asked only in the run of intervals that it can survive in.
 fn hand_out(
     column: &Column,
     entry: u32,
@@ -115,9 +139,6 @@ fn hand_out(
         list_at lists.new k ≡ list_at lists.old k
         ++ option_to_list (entry_step column.now entry (slice_index_or intervals.now.firsts k 0))) }
 {
-    if let Some(after) = column.step_free(entry) {
-        return hand_to_all(after, intervals.count, lists);
-    }
     let (first, last) = column.ends(entry);
     let from = usize::from(intervals.of_bytes[usize::from(first)]);
     let until = usize::from(intervals.of_bytes[usize::from(last)]) + 1;
@@ -126,6 +147,8 @@ fn hand_out(
 }
 
 /// Makes the lists those of the entries after the first byte of each interval.
+///
+/// Neighbours that every byte leaves as they are go to all lists together.
 fn hand_out_all(
     column: &Column,
     entries: &[u32],
@@ -140,12 +163,20 @@ fn hand_out_all(
         list_at lists.new k ≡ entries_step column.now entries.now
         (slice_index_or intervals.now.firsts k 0)) }
 {
-    for k in 0..intervals.count {
+    let count = intervals.count;
+    for k in 0..count {
         lists[k].clear();
     }
-    for entry in entries {
-        hand_out(column, *entry, intervals, lists)?;
+    let mut from = 0;
+    for place in 0..entries.len() {
+        let entry = entries[place];
+        if !column.keeps(entry) {
+            hand_part_to_all(entries, from, place, count, lists)?;
+            hand_out(column, entry, intervals, lists)?;
+            from = place + 1;
+        }
     }
+    hand_part_to_all(entries, from, entries.len(), count, lists)?;
     Ok(())
 }
 

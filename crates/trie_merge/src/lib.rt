@@ -16,8 +16,8 @@
 //! - `entry`: a rule of a state and the edge of its rest as one number.
 //! - `column`: what a place of the key has of each rule, and what a byte makes of an entry there.
 //! - `intervals`: the intervals of bytes that the cuts of a state's entries make.
-//! - `expand`: the list of entries after each interval, where each entry is handed out to those
-//!   intervals in which it has a rest.
+//! - `expand`: the list of entries after each interval. Entries that every byte leaves as they are
+//!   go to all lists together, and any other is handed out to the intervals in which it has a rest.
 //! - `row`: the row of the entries after a whole key.
 //! - `number`: lists numbered in the order in which they are found, and the runs of bytes.
 //! - `merge`: the states of one place, one after the other. Their words, and the least that the

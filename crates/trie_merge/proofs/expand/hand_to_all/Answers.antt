@@ -1,14 +1,15 @@
-use Rattle.std.proofs.Common.{Some, refl, arith}
+use Rattle.std.proofs.Common.{arith}
 use Rattle.trie_merge.proofs.Handing.{none_handed, handed_some}
 use Rattle.trie_merge.proofs.expand.hand_to_all.Goals as goal
 
 pub loop-k-init : goal.loop-k-init
-loop-k-init c = none_handed (λ _. Some c.args.after) 0 c.args.lists.now
+loop-k-init c = none_handed (λ _. c.args.after.now) 0 c.args.lists.now
 
 pub loop-k-preserved : goal.loop-k-preserved
 loop-k-preserved c =
-    handed_some (λ _. Some c.args.after) 0 c.args.lists.now c.loop-k.lists c.loop-k.k (omega arith) c.loop-k.invariant
-    c.index-lists-k.result c.push.new.self c.args.after (omega arith) c.index-lists-k.is c.in_ok-push.ensures.ok refl
+    handed_some (λ _. c.args.after.now) 0 c.args.lists.now c.loop-k.lists c.loop-k.k (omega arith) c.loop-k.invariant
+    c.index-lists-k.result c.extend_from_slice.new.self (omega arith) c.index-lists-k.is
+    c.in_ok-extend_from_slice.ensures.ok
 
 pub returns : goal.returns
 returns c = λ k below. c.loop-k.invariant.done k (omega arith) (omega arith)

@@ -1,0 +1,67 @@
+-- Entries that every byte of a place leaves as they are.
+use Rattle.std.proofs.Common.{◌≡◌, ℕ, ◌-◌, ◌%◌, ◌<◌, Bool, true, false, not, ltb, Some, refl}
+use Rattle.std.proofs.Common.{List, length, map, get_or, sym, ◌∙◌, ap, subst, inl, inr, arith}
+use Rattle.std.specs.Option.{option_map}
+use Rattle.std.proofs.Math.Bool.{or-false}
+use Rattle.std.proofs.lemmas.Bool.{and_parts, and_right, cases_Bool, cases_eq, ne_eqb}
+use Rattle.std.proofs.lemmas.List.{get_or-map}
+use Rattle.field_defs.specs.declared.field.FieldValue.{FieldValue}
+use Rattle.field_defs.specs.declared.field.FieldValue.TheVariants.{Mask}
+use Rattle.field_defs.specs.FieldMatch.{is_wild}
+use Rattle.node_expand.specs.declared.edge.Edge.TheVariants.{Free}
+use Rattle.node_expand.specs.Edges.{edge_after, edge_step, is_change, is_cut, is_bitmask}
+use Rattle.node_expand.proofs.Free.{wild_stays_free, all_left_step}
+use Rattle.trie_merge.specs.Entry.{ColumnView, number_in, entry_of, edge_in, edge_before, value_in, stays_free}
+use Rattle.trie_merge.specs.Entry.{entry_step, is_entry_cut, CanStep}
+
+module _ (column : ColumnView) (entry : ℕ) (can : CanStep column entry) (free : entry % 4 ≡ 0)
+    (stays : stays_free column.size column.place (value_in column entry) ≡ true) where
+  free_inside : edge_in entry ≡ Free
+  free_inside = rw free refl
+
+  -- no end is inner before the place
+  free_before : edge_before column entry ≡ Free
+  free_before = elim (cases_eq column.place 0) [
+    | inl start ↦
+        (let wild : is_wild (value_in column entry) column.size ≡ true =
+        sym (or-false (is_wild (value_in column entry) column.size)) ∙ (rw start at stays) in
+        let after : edge_after (value_in column entry) column.size 0 0 ≡ Some Free =
+        wild_stays_free.edge (value_in column entry) column.size 0 0 can.value wild (omega arith) (omega arith) in
+        rw (start, after) refl)
+    | inr behind ↦ (let not_first = ne_eqb column.place 0 behind in rw not_first free_inside)
+  ]
+
+  -- and so it is after each byte
+  each_step : (byte : ℕ) → byte < 256 →
+      edge_step (value_in column entry) column.size column.place (edge_before column entry) byte ≡ Some Free
+  each_step byte below = rw free_before (elim (cases_Bool (is_wild (value_in column entry) column.size)) [
+    | inl wild ↦
+        wild_stays_free.step (value_in column entry) column.size column.place byte can.value wild can.place below
+    | inr bounded ↦
+        all_left_step (value_in column entry) column.size column.place byte Free
+        (and_parts (ltb 0 column.place) (not (is_bitmask (value_in column entry))) (rw bounded at stays)).1 can.place
+        below
+  ])
+
+  pub kept : (byte : ℕ) → byte < 256 → entry_step column entry byte ≡ Some entry
+  unfolding entry_step
+  kept byte below =
+      let same : entry_of (number_in entry) Free ≡ entry = omega (arith, free) in
+      ap (option_map (entry_of (number_in entry))) (each_step byte below) ∙ ap Some same
+
+  pub uncut : (byte : ℕ) → byte < 256 → is_entry_cut column entry byte ≡ false
+  unfolding is_entry_cut is_cut is_change
+  uncut byte below =
+      rw (each_step byte below, each_step (byte - 1) (omega arith)) (and_right (ltb 0 byte) false refl)
+
+-- what is kept of an entry's rule says so of its value
+pub told_by_number : (values : List FieldValue) (told : List Bool) (size place : ℕ) (column : ColumnView) (entry : ℕ)
+    (d : Bool) → record { values = values; size = size; place = place } ≡ column →
+    told ≡ map (stays_free size place) values → number_in entry < length column.values →
+    get_or told (number_in entry) d ≡ true → stays_free column.size column.place (value_in column entry) ≡ true
+told_by_number values told size place column entry d view all within is =
+    subst (λ (c : ColumnView). number_in entry < length c.values →
+    stays_free c.size c.place (value_in c entry) ≡ true) view
+    (λ inside. sym (get_or-map (stays_free size place) values (number_in entry) (Mask 0 0) d inside)
+    ∙ ap (λ (bs : List Bool). get_or bs (number_in entry) d) (sym all) ∙ is)
+    within
