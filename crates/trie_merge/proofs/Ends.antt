@@ -1,22 +1,11 @@
 -- Outside of the first and the last byte that an entry lets through it has no step.
-use Rattle.std.proofs.Common.{◌≡◌, ℕ, ◌<◌, true, ◌&&◌, not, Option, Some, None, refl, ap, inl, inr, ◌⊎◌, arith}
+use Rattle.std.proofs.Common.{◌≡◌, ℕ, ◌<◌, Option, Some, None, refl, ap, inl, inr, ◌⊎◌, arith}
 use Rattle.std.specs.Option.{option_map}
 use Rattle.node_expand.specs.declared.edge.Edge.{Edge}
-use Rattle.node_expand.specs.declared.edge.Edge.TheVariants.{Free}
-use Rattle.node_expand.specs.Edges.{edge_step, same_edge, is_bitmask, AreEnds}
-use Rattle.node_expand.proofs.Free.{all_left_step}
+use Rattle.node_expand.specs.Edges.{edge_step, AreEnds}
 use Rattle.trie_merge.specs.Entry.{ColumnView, number_in, entry_of, edge_before, value_in, entry_step}
 
 module _ (column : ColumnView) (entry : ℕ) where
-  -- every byte leaves an edge that leaves all numbers
-  pub step_is_free : (same_edge (edge_before column entry) Free && not (is_bitmask (value_in column entry))) ≡ true →
-      column.place < column.size → (byte : ℕ) → byte < 256 →
-      entry_step column entry byte ≡ Some (entry_of (number_in entry) Free)
-  unfolding entry_step
-  step_is_free all within byte below =
-      ap (option_map (entry_of (number_in entry)))
-      (all_left_step (value_in column entry) column.size column.place byte (edge_before column entry) all within below)
-
   pub none_outside : (first last : ℕ) →
       AreEnds (edge_step (value_in column entry) column.size column.place (edge_before column entry)) first last →
       (byte : ℕ) → byte < 256 → byte < first ⊎ last < byte → entry_step column entry byte ≡ None

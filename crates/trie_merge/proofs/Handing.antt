@@ -5,6 +5,7 @@ use Rattle.std.proofs.Common.{Some, None, option_to_list, refl, sym, ◌∙◌, 
 use Rattle.std.specs.List.{filter_map, cons_option}
 use Rattle.std.proofs.lemmas.List.{map-set, get_or-set_same, get_or-set_other, get_or-map, length-map, take_more}
 use Rattle.std.proofs.lemmas.List.{append-nil, append_assoc, drop_all, drop-append-le, length-take-le}
+use Rattle.std.proofs.Math.Seq.{drop-append_seam}
 use Rattle.std.proofs.lemmas.List.Elements.{filter_map-append}
 use Rattle.std.proofs.lemmas.Bool.{cases_eq, cases_lt}
 use Rattle.smallvec.specs.SmallVec.{SmallVec}
@@ -155,6 +156,14 @@ entries_step_more column entries i d byte within =
 pub entries_step_none : (column : ColumnView) (byte : ℕ) → entries_step column [] byte ≡ []
 unfolding entries_step
 entries_step_none column byte = refl
+
+-- a part of one entry
+pub one_part : (entries : List ℕ) (from d : ℕ) → from < length entries →
+    drop from (take (from + 1) entries) ≡ get_or entries from d ∷ []
+one_part entries from d within =
+    let seam = drop-append_seam (take from entries) (get_or entries from d ∷ []) in
+    ap (drop from) (take_more entries from d within)
+    ∙ (rw (length-take-le from entries (omega arith)) at seam)
 
 -- entries that a byte leaves as they are go on as they are
 pub kept_as_they_are : (column : ColumnView) (entries : List ℕ) (from n byte : ℕ) → from + n ≤ length entries →

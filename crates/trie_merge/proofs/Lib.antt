@@ -24,3 +24,4 @@ pub mod Walk
 pub mod StateLaws
 pub mod Following
 pub mod Keeping
+pub mod Early

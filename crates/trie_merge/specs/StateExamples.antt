@@ -9,7 +9,6 @@ use Rattle.rule_set.specs.Rule.{RuleView, RuleSetView}
 use Rattle.node_expand.specs.Rest.{Interval, Live, part, rest_after, rest_step}
 use Rattle.rule_set.specs.Among.{best_among}
 use Rattle.rule_set.specs.Fault.{categories}
-use Rattle.trie_merge.specs.declared.run.Run.{Run}
 use Rattle.trie_merge.specs.declared.run.Succ.TheVariants.{Dead, Row}
 use Rattle.trie_merge.specs.RuleRest.{rule_rest, rule_step}
 use Rattle.trie_merge.specs.State.{state, state_step, state_through}

@@ -1,12 +1,12 @@
 //! What a state becomes after each byte of a place.
 
-ghost use Rattle.std.specs.Prelude.{◌≡◌, ℕ, ◌<◌, ◌≤◌, ◌||◌, ◌++◌, ◌∷◌, [], ◌⊎◌, filter, length};
+ghost use Rattle.std.specs.Prelude.{◌≡◌, ℕ, ◌<◌, ◌≤◌, ◌||◌, ◌++◌, ◌∷◌, [], ◌⊎◌, length};
 ghost use Rattle.std.specs.Prelude.{take, drop};
 ghost use Rattle.std.specs.Prelude.{slice_index_or, false, All, OnOk, option_to_list};
 ghost use Rattle.std.specs.List.{list_any};
 ghost use Rattle.trie_merge.specs.Entry.{entry_step, entries_step, is_entry_cut, CanStep};
-ghost use Rattle.trie_merge.specs.Found.{all_bytes};
-ghost use Rattle.trie_merge.specs.Lists.{list_at, list_of_byte, interval_at, is_change, CanCount};
+ghost use Rattle.trie_merge.specs.Levels.{cost_of};
+ghost use Rattle.trie_merge.specs.Lists.{list_at, list_of_byte, interval_at, cost_ahead, CanCount};
 ghost use Rattle.trie_merge.specs.Intervals.{AreIntervals};
 
 use crate::column::Column;
@@ -46,14 +46,46 @@ fn find_intervals(column: &Column, entries: &[u32], intervals: &mut Intervals)
     intervals.part();
 }
 
-/// How many runs of bytes leave the same entries: as many as a state before the last place has.
+/// How many runs of bytes leave the same entries, as far as the words of a state before the last
+/// place depend on it.
+///
+/// It ends where so many bytes are marked that the words are those of a full node.
 pub(crate) fn count_runs(column: &Column, entries: &[u32]) -> usize
     requires { CanCount column.now entries.now }
-    ensures { result ≡ length (filter (is_change column.now entries.now) all_bytes) }
+    ensures { cost_of result ≡ cost_ahead column.now entries.now }
 {
     let mut marks = [false; 256];
-    mark_cuts(column, entries, &mut marks);
-    count_intervals(&marks)
+    let mut count = 1;
+    let mut rest = entries;
+    while !rest.is_empty() && count <= FEW_RUNS {
+        let (part, behind) = rest.split_at(rest.len().min(PART));
+        mark_cuts(column, part, &mut marks);
+        count = count_intervals(&marks);
+        rest = behind;
+    }
+    count
+}
+
+/// The most runs of a state that isn't a full node.
+const FEW_RUNS: usize = 5;
+
+/// How many entries are looked at before their marks are counted.
+const PART: usize = 16;
+
+/// Puts the entry behind each of the first lists.
+fn hand_one_to_all(
+    after: u32,
+    count: usize,
+    lists: &mut [SmallVec<u32, INLINE_ENTRIES, Global>],
+) -> Result<(), AllocError>
+    requires { count ≤ length lists.old }
+    ensures { OnOk result ((k : ℕ) → k < count
+        → list_at lists.new k ≡ list_at lists.old k ++ after ∷ []) }
+{
+    for k in 0..count {
+        lists[k].push(after)?;
+    }
+    Ok(())
 }
 
 /// Puts the entries behind each of the first lists.
@@ -88,6 +120,10 @@ fn hand_part_to_all(
 {
     if from == until {
         return Ok(());
+    }
+    // One entry is pushed in less time than a part is copied.
+    if until == from + 1 {
+        return hand_one_to_all(entries[from], count, lists);
     }
     let (before, _) = entries.split_at(until);
     let (_, part) = before.split_at(from);

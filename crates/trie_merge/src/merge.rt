@@ -162,7 +162,6 @@ pub(crate) struct Place {
 }
 
 /// How many words a list that was found takes at least.
-#[tactic(auto, unfolding(crate::specs::Lists::cost_ahead))]
 fn price(place: &Place, list: &[u32]) -> u64
     requires { IfSome place.now.next (λ next. CanCount next list.now) }
     ensures price { result ≡ price place.now.next place.now.is_last list.now }

@@ -14,16 +14,18 @@ bounds-fields-at c =
     let layout = c.fields.ensures.fields ∙ c.layout.ensures in
     let lawful = subst IsLayout c.layout.ensures c.fields.ensures.lawful in
     let at = c.field_at-at.ensures.at ∙ ap (λ defs. field_at defs c.args.place) layout in
-    rw c.fields-in-loop-i.ensures
-    (value_of_rule c.args.rules.now.layout c.at.result.now c.args.place _ lawful c.at.ensures.lawful c.requires at).within
+    let its = value_of_rule c.args.rules.now.layout c.at.result.now c.args.place _ lawful c.at.ensures.lawful c.requires
+    at in
+    rw c.fields-in-loop-i.ensures its.within
 
 pub stays_free-requires : goal.stays_free-requires
 stays_free-requires c =
     let layout = c.fields.ensures.fields ∙ c.layout.ensures in
     let lawful = subst IsLayout c.layout.ensures c.fields.ensures.lawful in
     let at = c.field_at-at.ensures.at ∙ ap (λ defs. field_at defs c.args.place) layout in
-    rw c.fields-in-loop-i.ensures
-    (value_of_rule c.args.rules.now.layout c.at.result.now c.args.place _ lawful c.at.ensures.lawful c.requires at).can
+    let its = value_of_rule c.args.rules.now.layout c.at.result.now c.args.place _ lawful c.at.ensures.lawful c.requires
+    at in
+    rw c.fields-in-loop-i.ensures its.can
 
 pub loop-i-preserved : goal.loop-i-preserved
 loop-i-preserved c =
