@@ -29,7 +29,7 @@ level-len place (len ∷ lens) zero = refl
 level-len place (len ∷ lens) (suc n) = level-len (place + len) lens n
 
 -- the kept places of a trie are those that stand beside the parts
-module _ (table : TableView) (places : List (ArrayVec ℕ)) (t : IsTable table places) where
+module _ (table : TableView) (roots : List ℕ) (places : List (ArrayVec ℕ)) (t : IsTable table roots places) where
   tries_len : length places ≡ length table.kept
   tries_len = sym (length-map places (λ (trie : ArrayVec ℕ). trie.items))
       ∙ ap (λ (xs : List (List ℕ)). length xs) t.read ∙ length-map table.kept (kept_places table.key_len)

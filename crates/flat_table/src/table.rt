@@ -28,6 +28,9 @@ pub struct NotSound {
 #[derive(Drop)]
 pub struct Table {
     parts: Parts,
+    /// The roots of the parts again. They lie in the table itself, so that a walk that begins waits
+    /// for one load.
+    roots: ArrayVec<u64, MAX_TRIES>,
     /// For each trie the places of its kept groups, which are worked out once. They lie in the
     /// table itself, so that a table takes no memory besides its parts.
     places: ArrayVec<Places, MAX_TRIES>,
@@ -41,7 +44,19 @@ impl Model for Table {
 
     ghost view = { λ table. view_of table.parts };
 
-    ghost invariant = { λ table. IsTable (view_of table.parts) table.places.items };
+    ghost invariant = { λ table. IsTable (view_of table.parts) table.roots.items table.places.items };
+}
+
+/// The roots, to be kept in a table.
+fn roots_of(roots: &[u64]) -> ArrayVec<u64, MAX_TRIES>
+    requires { length roots.now ≤ most_tries }
+    ensures { result.items ≡ roots.now }
+{
+    let mut tries = ArrayVec::new();
+    for root in roots {
+        tries.push(*root);
+    }
+    tries
 }
 
 /// For each trie the places of its kept groups.
@@ -69,8 +84,13 @@ impl Table {
     {
         match check_sound(&parts) {
             Ok(()) => {
+                let roots = roots_of(&parts.roots);
                 let places = places_of(parts.key_len, &parts.kept);
-                Ok(Table { parts, places })
+                Ok(Table {
+                    parts,
+                    roots,
+                    places,
+                })
             }
             Err(fault) => Err(NotSound { fault, parts }),
         }
@@ -141,7 +161,7 @@ impl Table {
         ensures value { result ≡ root_of self.now trie }
         ensures sound { sound_fault self.now ≡ None }
     {
-        self.parts.roots[trie]
+        self.roots.as_slice()[trie]
     }
 
     /// How many words the trie has at the depth, which counts from 0.
