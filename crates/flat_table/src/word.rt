@@ -99,11 +99,13 @@ pub fn boundaries_below(word: u64, byte: u8) -> usize
     ensures value { result ≡ count_by (λ boundary. nat_lt boundary byte) (boundaries_of word) }
     ensures bound { result ≤ 4 }
 {
-    let byte = u64::from(byte);
-    usize::from((word >> 32 & 0xFF) < byte)
-        + usize::from((word >> 40 & 0xFF) < byte)
-        + usize::from((word >> 48 & 0xFF) < byte)
-        + usize::from((word >> 56) < byte)
+    // Moved up to the highest byte, a boundary is below the byte where the whole number is below it,
+    // whatever stands behind the boundary. So no bits need to be cut off.
+    let byte = u64::from(byte) << 56;
+    usize::from(word << 24 < byte)
+        + usize::from(word << 16 < byte)
+        + usize::from(word << 8 < byte)
+        + usize::from(word < byte)
 }
 
 /// The place of the word that a walk takes by the byte from a word that is no match.
