@@ -12,9 +12,9 @@ use Rattle.flat_table.specs.declared.level.Level.{Level}
 use Rattle.std.proofs.lemmas.Bool.Decides.{nat_tests}
 use Rattle.flat_table.specs.Table.{TableView, level_of, places_of}
 use Rattle.flat_table.specs.Sound.{leads_into, sound_fault}
-use Rattle.flat_table.specs.Walk.{root_of, moved, word_after, steps_after, walk_row, walk_steps}
+use Rattle.flat_table.specs.Walk.{root_of, moved, word_after, steps_after}
 use Rattle.flat_table.proofs.Safe.{root_leads, node_is_no_match, next_leads_on, none_behind}
-use Rattle.flat_table.proofs.Taken.{row_is, steps_is, word_more, step_more}
+use Rattle.flat_table.proofs.Taken.{word_more, step_more}
 
 -- the kept places are places of the key
 filter-range-below : (p : ℕ → Bool) (a n k : ℕ) → k < length (filter p (range_with_len a n)) →

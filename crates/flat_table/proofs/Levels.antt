@@ -5,8 +5,6 @@ use Rattle.std.proofs.Common.{take, drop, length, sum, get_or}
 use Rattle.std.proofs.lemmas.List.Sums.{sum_by-cons, sum_by-take-drop}
 use Rattle.std.proofs.Common.{drop-cons, ◌-◌}
 use Rattle.std.proofs.lemmas.List.{drop-drop}
-use Rattle.std.proofs.Math.ListN.{drop_of_length-le}
-use Rattle.flat_table.proofs.Shape.{IsShaped}
 use Rattle.flat_table.specs.declared.level.Level.{Level}
 use Rattle.flat_table.specs.Groups.{depth_of}
 use Rattle.flat_table.specs.Table.{TableView, levels_from, portions, trie_levels}

@@ -1,14 +1,14 @@
 -- A walk goes step by step.
-use Rattle.std.proofs.Common.{◌≡◌, ℕ, zero, suc, ◌+◌, ◌<◌, ◌≤◌, Bool, true, false, cond, List, [], ◌∷◌, ◌++◌, refl}
+use Rattle.std.proofs.Common.{◌≡◌, ℕ, suc, ◌+◌, ◌<◌, ◌≤◌, true, List, [], ◌∷◌, ◌++◌, refl}
 use Rattle.std.proofs.Common.{sym}
-use Rattle.std.proofs.Common.{ap, ◌∙◌, arith, inl, inr, add-one, fold, map, take, drop, length, length-take, get_or}
+use Rattle.std.proofs.Common.{ap, ◌∙◌, arith, inl, inr, fold, take, drop, length}
 use Rattle.std.specs.Prelude.{if◌then◌else◌, slice_index}
 use Rattle.std.proofs.lemmas.Bool.{cases_Bool}
-use Rattle.std.proofs.lemmas.List.{length-map, get_or-map, map_more, take-map, take_all, take-append-drop}
+use Rattle.std.proofs.lemmas.List.{length-map, map_more, take-map, take_all, take-append-drop}
 use Rattle.std.proofs.lemmas.List.Sums.{fold-append}
 use Rattle.flat_table.specs.Word.{index_of, is_match, next_word}
 use Rattle.flat_table.specs.Table.{TableView, places_of}
-use Rattle.flat_table.specs.Walk.{taken, moved, last_word, root_of, bytes_of, word_after, steps_after, walk, walk_row}
+use Rattle.flat_table.specs.Walk.{taken, moved, last_word, root_of, bytes_of, word_after, steps_after, walk_row}
 use Rattle.flat_table.specs.Walk.{walk_steps}
 
 -- a match stays, whatever bytes follow

@@ -1,5 +1,4 @@
 use Rattle.std.proofs.Common.{refl}
-use Rattle.flat_table.proofs.Lanes.{goes}
 use Rattle.flat_table.proofs.Taken.{row_is, steps_is, steps_bound, word_more, step_more}
 use Rattle.flat_table.proofs.laws.walks_go_step_by_step.Goals as goal
 
