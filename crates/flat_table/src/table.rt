@@ -44,7 +44,8 @@ impl Model for Table {
 
     ghost view = { λ table. view_of table.parts };
 
-    ghost invariant = { λ table. IsTable (view_of table.parts) table.roots.items table.places.items };
+    ghost invariant = { λ table.
+        IsTable (view_of table.parts) table.roots.items table.places.items };
 }
 
 /// The roots, to be kept in a table.

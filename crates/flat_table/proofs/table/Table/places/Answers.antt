@@ -30,5 +30,5 @@ returns-clause-places c =
     (sym c.self.view_is) c.requires in
     let here = ap (λ (xs : List _). get_or xs c.args.trie c.index-as_slice-trie.result) c.as_slice.ensures.value in
     subst (λ (t : TableView). c.as_slice-2.result.now ≡ places_of t c.args.trie) c.self.view_is
-    (c.as_slice-2.ensures.value ∙ places-at table c.self.inside.roots.items c.self.inside.places.items c.self.invariant c.args.trie
-    c.index-as_slice-trie.result lt (c.index-as_slice-trie.is ∙ here))
+    (c.as_slice-2.ensures.value ∙ places-at table c.self.inside.roots.items c.self.inside.places.items
+    c.self.invariant c.args.trie c.index-as_slice-trie.result lt (c.index-as_slice-trie.is ∙ here))
