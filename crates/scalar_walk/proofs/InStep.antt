@@ -4,7 +4,7 @@ use Rattle.std.proofs.Common.{subst, length, drop}
 use Rattle.std.specs.Prelude.{slice_index, if◌then◌else◌}
 use Rattle.std.proofs.lemmas.List.{get_or-take, get_or-drop}
 use Rattle.std.proofs.Math.Nat.{mul-le-mul_right}
-use Rattle.flat_table.specs.Word.{index_of, is_match, next_place}
+use Rattle.flat_table.specs.Word.{index_of, is_match, is_node, next_place}
 use Rattle.flat_table.specs.Table.{TableView, places_of}
 use Rattle.flat_table.specs.Sound.{sound_fault}
 use Rattle.flat_table.specs.Walk.{root_of, moved, steps_after, walk_steps}
@@ -16,6 +16,7 @@ use Rattle.scalar_walk.specs.Rows.{EndsAt}
 -- the step of one walk: the byte is there, the word is there, and what stands then
 pub record LaneStep (table : TableView) (trie : ℕ) (keys words : List ℕ) (j n at word : ℕ) : Type 0 where
   pub in_keys : at < length keys
+  pub node : is_match word ≡ false → is_node word ≡ true
   pub there : is_match word ≡ false → next_place word (slice_index keys at) < length words
   pub next : (next : ℕ) → next ≡ moved words word (slice_index keys at) →
       Stands table trie (key_at table keys j) (n + 1) next
@@ -46,6 +47,7 @@ module _ (table : TableView) (trie : ℕ) (keys : List ℕ) (sound : sound_fault
       let g = goes table trie key sound lt n place (slice_index keys at) word h' e' byte (small at) s in
       record {
         in_keys = omega (arith, whole, below, is_at, fits);
+        node = g.node;
         there = λ no_match. omega (arith, g.there no_match, ap (λ (xs : List ℕ). length xs) ws);
         next = λ next is_next. subst (λ (v : ℕ). Stands table trie key (n + 1) v)
             (sym (is_next ∙ ap (λ (xs : List ℕ). moved xs word (slice_index keys at)) ws)) g.next;

@@ -1,14 +1,16 @@
 //! Four walks through one trie, in step: their loads of words don't wait for each other.
 
-ghost use Rattle.std.specs.Prelude.{◌≡◌, ◌+◌, ◌*◌, ◌^◌, ◌<◌, ◌≤◌, ◌==◌, length, false};
+ghost use Rattle.std.specs.Prelude.{◌≡◌, ◌+◌, ◌*◌, ◌^◌, ◌<◌, ◌≤◌, ◌==◌, length, true, false};
 ghost use Rattle.std.specs.Prelude.{if◌then◌else◌};
 ghost use Rattle.flat_table.specs.Groups.{longest_key};
-ghost use Rattle.flat_table.specs.Word.{full, kind_of, is_match, next_place};
+ghost use Rattle.flat_table.specs.Word.{full, full_len, kind_of, is_match, is_node, offset_of};
+ghost use Rattle.flat_table.specs.Word.{next_place};
 ghost use Rattle.flat_table.specs.Walk.{moved, walk_steps};
 ghost use Rattle.flat_table.specs.Batch.{key_at};
 ghost use Rattle.scalar_walk.specs.Rows.{EndsAt};
 
-use flat_table::{FULL, MATCH, QUAD, Steps, Table, boundaries_below, index_of, kind_of};
+use crate::kinds::{FULL, MATCH, SINGLE, kind_of};
+use flat_table::{Steps, Table, boundaries_below, index_of};
 use std::sync::ledger::Ledger;
 
 /// How many keys are walked in step.
@@ -25,24 +27,26 @@ pub(crate) struct FourWalked {
 }
 
 /// The byte where the kind is that of a full node, and 0 where it is another.
-fn full_offset(kind: u64, byte: u8) -> usize
+fn full_offset(kind: u32, byte: u8) -> usize
     ensures { result ≡ (if kind == full then byte else 0) }
 {
     if kind == FULL { usize::from(byte) } else { 0 }
 }
 
-/// The place of the word that a walk takes by the byte from a word of this kind, which is no match.
+/// Which word of its node a walk takes by the byte from a word of this kind, which is no match.
 ///
-/// Only a quad-range node is told from the others by a branch. Whether another node is full or
-/// single can't be foreseen, so it becomes a choice between two numbers.
-fn place_in_step(word: u64, kind: u64, byte: u8) -> usize
-    requires { kind ≡ kind_of word }
-    ensures { result ≡ next_place word byte }
+/// Only a quad-range node, whose kind is the greatest, is told from the others by a branch. Whether
+/// another node is full or single can't be foreseen, so it becomes a choice between two numbers.
+fn offset_in_step(word: u64, kind: u32, byte: u8) -> usize
+    requires kind { kind ≡ kind_of word }
+    requires node { is_node word ≡ true }
+    ensures value { result ≡ offset_of word byte }
+    ensures bound { result < full_len }
 {
-    if kind == QUAD {
-        index_of(word) + boundaries_below(word, byte)
+    if kind > SINGLE {
+        boundaries_below(word, byte)
     } else {
-        index_of(word) + full_offset(kind, byte)
+        full_offset(kind, byte)
     }
 }
 
@@ -54,6 +58,7 @@ fn go_on<L: Ledger>(
     taken: &mut u64,
     steps: &mut Steps<L>,
 ) -> u64
+    requires node { is_match word ≡ false → is_node word ≡ true }
     requires there { is_match word ≡ false → next_place word byte < length words.now }
     requires fits { taken.old < 2 ^ 32 }
     ensures word { result ≡ moved words.now word byte }
@@ -61,12 +66,13 @@ fn go_on<L: Ledger>(
     ensures steps { steps.new ≡ steps.old + (if is_match word then 0 else 1) }
 {
     let kind = kind_of(word);
-    if kind == MATCH {
+    // No node has a kind as great as that of a match.
+    if kind >= MATCH {
         return word;
     }
     *taken += 1;
     steps.raise();
-    words[place_in_step(word, kind, byte)]
+    words[index_of(word) + offset_in_step(word, kind, byte)]
 }
 
 /// The walks of four keys, which stand one after the other, through the trie.

@@ -10,6 +10,7 @@
 //!
 //! - `walk`: one key through one trie.
 //! - `in_step`: four keys through one trie, in step.
+//! - `kinds`: the kinds of words, as the two test them.
 //! - `classify`: the rows, the verdicts of a batch and the winners.
 //!
 //! The definitions of a walk, of a verdict and of a batch stand in `flat_table`. After DPDK's
@@ -18,6 +19,7 @@
 
 mod classify;
 mod in_step;
+mod kinds;
 #[cfg(test)]
 mod tests;
 mod walk;

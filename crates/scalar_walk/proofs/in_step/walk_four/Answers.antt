@@ -25,6 +25,15 @@ bounds-keys-place g c =
     c.loop-place-test.true c.from-place.ensures (omega (arith, c.key_len-len.ensures.value))
     (λ k. omega (arith, c.type_inv.keys k)) c.loop-place.invariant.0).in_keys
 
+pub go_on-first-requires-clause-node : goal.go_on-first-requires-clause-node
+go_on-first-requires-clause-node g c =
+    (lane c.args.table.now c.args.trie c.args.keys.now c.root-root.ensures.sound c.requires.trie c.requires.keys
+    c.places-place-items.result.now c.words-words.result.now c.places-place-items.ensures.places
+    c.words-words.ensures
+    0 c.loop-place.place-index c.from-place.result c.from-place.result c.loop-place.first (lit< tt)
+    c.loop-place-test.true c.from-place.ensures (omega (arith, c.key_len-len.ensures.value))
+    (λ k. omega (arith, c.type_inv.keys k)) c.loop-place.invariant.0).node
+
 pub go_on-first-requires-clause-there : goal.go_on-first-requires-clause-there
 go_on-first-requires-clause-there g c =
     (lane c.args.table.now c.args.trie c.args.keys.now c.root-root.ensures.sound c.requires.trie c.requires.keys
@@ -42,6 +51,15 @@ bounds-keys-len g c =
     1 c.loop-place.place-index c.from-place.result (c.key_len-len.result + c.from-place.result) c.loop-place.second
     (lit< tt) c.loop-place-test.true c.from-place.ensures (omega (arith, c.key_len-len.ensures.value))
     (λ k. omega (arith, c.type_inv.keys k)) c.loop-place.invariant.1).in_keys
+
+pub go_on-second-requires-clause-node : goal.go_on-second-requires-clause-node
+go_on-second-requires-clause-node g c =
+    (lane c.args.table.now c.args.trie c.args.keys.now c.root-root.ensures.sound c.requires.trie c.requires.keys
+    c.places-place-items.result.now c.words-words.result.now c.places-place-items.ensures.places
+    c.words-words.ensures
+    1 c.loop-place.place-index c.from-place.result (c.key_len-len.result + c.from-place.result) c.loop-place.second
+    (lit< tt) c.loop-place-test.true c.from-place.ensures (omega (arith, c.key_len-len.ensures.value))
+    (λ k. omega (arith, c.type_inv.keys k)) c.loop-place.invariant.1).node
 
 pub go_on-second-requires-clause-there : goal.go_on-second-requires-clause-there
 go_on-second-requires-clause-there g c =
@@ -61,6 +79,15 @@ bounds-keys-len-in-loop-place g c =
     (lit< tt) c.loop-place-test.true c.from-place.ensures (omega (arith, c.key_len-len.ensures.value))
     (λ k. omega (arith, c.type_inv.keys k)) c.loop-place.invariant.2).in_keys
 
+pub go_on-third-requires-clause-node : goal.go_on-third-requires-clause-node
+go_on-third-requires-clause-node g c =
+    (lane c.args.table.now c.args.trie c.args.keys.now c.root-root.ensures.sound c.requires.trie c.requires.keys
+    c.places-place-items.result.now c.words-words.result.now c.places-place-items.ensures.places
+    c.words-words.ensures
+    2 c.loop-place.place-index c.from-place.result (2 * c.key_len-len.result + c.from-place.result) c.loop-place.third
+    (lit< tt) c.loop-place-test.true c.from-place.ensures (omega (arith, c.key_len-len.ensures.value))
+    (λ k. omega (arith, c.type_inv.keys k)) c.loop-place.invariant.2).node
+
 pub go_on-third-requires-clause-there : goal.go_on-third-requires-clause-there
 go_on-third-requires-clause-there g c =
     (lane c.args.table.now c.args.trie c.args.keys.now c.root-root.ensures.sound c.requires.trie c.requires.keys
@@ -79,6 +106,16 @@ bounds-keys-len-in-loop-place-2 g c =
     c.loop-place.fourth
     (lit< tt) c.loop-place-test.true c.from-place.ensures (omega (arith, c.key_len-len.ensures.value))
     (λ k. omega (arith, c.type_inv.keys k)) c.loop-place.invariant.3).in_keys
+
+pub go_on-fourth-requires-clause-node : goal.go_on-fourth-requires-clause-node
+go_on-fourth-requires-clause-node g c =
+    (lane c.args.table.now c.args.trie c.args.keys.now c.root-root.ensures.sound c.requires.trie c.requires.keys
+    c.places-place-items.result.now c.words-words.result.now c.places-place-items.ensures.places
+    c.words-words.ensures
+    3 c.loop-place.place-index c.from-place.result (3 * c.key_len-len.result + c.from-place.result)
+    c.loop-place.fourth
+    (lit< tt) c.loop-place-test.true c.from-place.ensures (omega (arith, c.key_len-len.ensures.value))
+    (λ k. omega (arith, c.type_inv.keys k)) c.loop-place.invariant.3).node
 
 pub go_on-fourth-requires-clause-there : goal.go_on-fourth-requires-clause-there
 go_on-fourth-requires-clause-there g c =
