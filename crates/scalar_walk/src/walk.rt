@@ -1,12 +1,13 @@
 //! The walk of one key through one trie.
 
-ghost use Rattle.std.specs.Prelude.{◌≡◌, ◌+◌, ◌<◌, ◌≤◌, length, true};
+ghost use Rattle.std.specs.Prelude.{◌≡◌, ◌+◌, ◌<◌, ◌≤◌, length, true, false};
 ghost use Rattle.flat_table.specs.Groups.{longest_key};
 ghost use Rattle.flat_table.specs.Table.{places_of};
-ghost use Rattle.flat_table.specs.Word.{is_node, kind_of, next_place};
+ghost use Rattle.flat_table.specs.Word.{is_match, is_node, next_place};
 ghost use Rattle.flat_table.specs.Walk.{walk_row, walk_steps};
 
-use flat_table::{MATCH, QUAD, SINGLE, Steps, Table, boundaries_below, index_of, kind_of};
+use crate::kinds::{FULL, MATCH, SINGLE, kind_of};
+use flat_table::{Steps, Table, boundaries_below, index_of};
 use std::sync::ledger::Ledger;
 
 /// Where a walk ended, and after how many words.
@@ -18,19 +19,26 @@ pub struct Walked {
     pub taken: u32,
 }
 
-/// The place of the word that a walk takes by the byte from a word of this kind, which leads to a
-/// node.
-fn place_behind(word: u64, kind: u64, byte: u8) -> usize
-    requires kind { kind ≡ kind_of word }
-    requires node { is_node word ≡ true }
+/// The place of the word that a walk takes by the byte from a word that leads to a node.
+fn place_behind(word: u64, byte: u8) -> usize
+    requires { is_node word ≡ true }
     ensures { result ≡ next_place word byte }
 {
-    // The kinds are in the order of how often they come, and what is left is a full node.
-    match kind {
-        SINGLE => index_of(word),
-        QUAD => index_of(word) + boundaries_below(word, byte),
-        _ => index_of(word) + usize::from(byte),
+    // What is neither single nor full is a quad-range.
+    let index = index_of(word);
+    match kind_of(word) {
+        SINGLE => index,
+        FULL => index + usize::from(byte),
+        _ => index + boundaries_below(word, byte),
     }
+}
+
+/// Whether the word is a match. It is one or leads to a node, and no node has as great a kind.
+fn is_end(word: u64) -> bool
+    requires { is_match word ≡ false → is_node word ≡ true }
+    ensures { result ≡ is_match word }
+{
+    kind_of(word) >= MATCH
 }
 
 /// The walk of the key through the trie.
@@ -48,18 +56,17 @@ pub fn walk_one<L: Ledger>(table: &Table, trie: usize, key: &[u8], steps: &mut S
     ensures limit { result.taken ≤ longest_key }
 {
     let words = table.words();
+    let places = table.places(trie);
     let mut word = table.root(trie);
-    let mut kind = kind_of(word);
-    for (taken, place) in table.places(trie).iter().enumerate() {
-        word = words[place_behind(word, kind, key[usize::from(*place)])];
+    let mut taken = 0usize;
+    // A walk comes to a match before the places end, so no test asks for their end.
+    while !is_end(word) {
+        word = words[place_behind(word, key[usize::from(places[taken])])];
+        taken += 1;
         steps.raise();
-        kind = kind_of(word);
-        if kind == MATCH {
-            return Walked {
-                row: index_of(word) as u32,
-                taken: taken as u32 + 1,
-            };
-        }
     }
-    unreachable!()
+    Walked {
+        row: index_of(word) as u32,
+        taken: taken as u32,
+    }
 }

@@ -1,117 +1,150 @@
 use Rattle.std.proofs.Common.{ℕ, List, length, arith, sym, ap, ◌∙◌}
 use Rattle.flat_table.proofs.Lanes.{places_bound}
-use Rattle.scalar_walk.proofs.Walks.{root_walks, from_in, step_in, at_in_words, row_of_match, steps_of_match, no_end}
-use Rattle.scalar_walk.proofs.Walks.{walks_at_node, match_by_kind, no_match_by_kind}
+use Rattle.scalar_walk.proofs.Walks.{root_walks, walks_at_node, goes_on, place_is_there, from_in, step_in, at_in_words}
+use Rattle.scalar_walk.proofs.Walks.{row_of_match, steps_of_match}
 use Rattle.scalar_walk.proofs.walk.walk_one.Goals as goal
 
-pub loop-taken-init : goal.loop-taken-init
-loop-taken-init g c = (
+pub loop-words-init : goal.loop-words-init
+loop-words-init g c = (
   root_walks c.args.table.now c.args.trie c.args.key.now c.root-word.result c.root-word.ensures.sound c.requires.trie
       c.root-word.ensures.value,
   omega arith,
-  c.kind_of-kind.ensures,
 )
+
+pub is_end-requires : goal.is_end-requires
+is_end-requires g c =
+    walks_at_node c.args.table.now c.args.trie c.args.key.now c.loop-words.taken c.loop-words.word
+    c.loop-words.invariant.0
+
+pub offset_bounds-places-taken : goal.offset_bounds-places-taken
+offset_bounds-places-taken g c =
+    omega (
+      arith,
+      place_is_there c.args.table.now c.args.trie c.args.key.now c.root-word.ensures.sound c.requires.trie
+          c.requires.key
+          c.places-places.result.now c.words-words.result.now c.places-places.ensures.places c.words-words.ensures
+          c.loop-words.taken c.loop-words.word c.loop-words.invariant.0
+          (sym c.is_end.ensures ∙ c.loop-words-test.true),
+      c.places-places.ensures.bound,
+    )
+
+pub bounds-places-taken : goal.bounds-places-taken
+bounds-places-taken g c =
+    place_is_there c.args.table.now c.args.trie c.args.key.now c.root-word.ensures.sound c.requires.trie
+    c.requires.key
+    c.places-places.result.now c.words-words.result.now c.places-places.ensures.places c.words-words.ensures
+    c.loop-words.taken c.loop-words.word c.loop-words.invariant.0
+    (sym c.is_end.ensures ∙ c.loop-words-test.true)
 
 pub bounds-key-from : goal.bounds-key-from
 bounds-key-from g c =
-    from_in c.args.table.now c.args.trie c.args.key.now c.root-word.ensures.sound c.requires.trie c.requires.key
-    c.places-place-items.result.now c.words-words.result.now c.places-place-items.ensures.places c.words-words.ensures
-    c.loop-taken.taken c.from.result c.loop-taken-test.true c.from.ensures
+    from_in c.args.table.now c.args.trie c.args.key.now c.root-word.ensures.sound c.requires.trie
+    c.requires.key
+    c.places-places.result.now c.words-words.result.now c.places-places.ensures.places c.words-words.ensures
+    c.loop-words.taken c.loop-words.word c.from.result c.loop-words.invariant.0
+    (sym c.is_end.ensures ∙ c.loop-words-test.true) c.from.ensures
 
-pub place_behind-requires-clause-node : goal.place_behind-requires-clause-node
-place_behind-requires-clause-node g c =
-    walks_at_node c.args.table.now c.args.trie c.args.key.now c.loop-taken.taken c.loop-taken.word
-    c.loop-taken.invariant.0
+pub place_behind-requires : goal.place_behind-requires
+place_behind-requires g c =
+    walks_at_node c.args.table.now c.args.trie c.args.key.now c.loop-words.taken c.loop-words.word
+    c.loop-words.invariant.0 (sym c.is_end.ensures ∙ c.loop-words-test.true)
 
 pub bounds-words-place_behind : goal.bounds-words-place_behind
 bounds-words-place_behind g c =
-    at_in_words c.args.table.now c.args.trie c.args.key.now c.root-word.ensures.sound c.requires.trie c.requires.key
-    c.places-place-items.result.now c.words-words.result.now c.places-place-items.ensures.places c.words-words.ensures
-    c.loop-taken.taken c.loop-taken.word c.from.result c.place_behind.result c.loop-taken.invariant.0
-    c.loop-taken-test.true c.from.ensures
+    at_in_words c.args.table.now c.args.trie c.args.key.now c.root-word.ensures.sound c.requires.trie
+    c.requires.key
+    c.places-places.result.now c.words-words.result.now c.places-places.ensures.places c.words-words.ensures
+    c.loop-words.taken c.loop-words.word c.from.result c.place_behind.result c.loop-words.invariant.0
+    (sym c.is_end.ensures ∙ c.loop-words-test.true) c.from.ensures
     (omega (arith, c.type_inv.key c.from.result)) c.place_behind.ensures
 
-pub returns-then-kind-eq-MATCH-clause-row : goal.returns-then-kind-eq-MATCH-clause-row
-returns-then-kind-eq-MATCH-clause-row g c =
-    let k = c.kind_of-kind-in-loop-taken in
-    let s = step_in c.args.table.now c.args.trie c.args.key.now c.root-word.ensures.sound c.requires.trie
-    c.requires.key
-    c.places-place-items.result.now c.words-words.result.now c.places-place-items.ensures.places c.words-words.ensures
-    c.loop-taken.taken c.loop-taken.word c.from.result c.place_behind.result c.loop-taken.invariant.0
-    c.loop-taken-test.true c.from.ensures
-    (omega (arith, c.type_inv.key c.from.result)) c.place_behind.ensures in
-    c.index_of.ensures.value
-    ∙ row_of_match c.args.table.now c.args.trie c.args.key.now c.root-word.ensures.sound c.requires.trie
-    c.requires.key
-    _ _ s.stands (match_by_kind _ k.result k.ensures c.if-kind-eq-MATCH.true)
-
-pub returns-then-kind-eq-MATCH-clause-taken : goal.returns-then-kind-eq-MATCH-clause-taken
-returns-then-kind-eq-MATCH-clause-taken g c =
-    let k = c.kind_of-kind-in-loop-taken in
-    let s = step_in c.args.table.now c.args.trie c.args.key.now c.root-word.ensures.sound c.requires.trie
-    c.requires.key
-    c.places-place-items.result.now c.words-words.result.now c.places-place-items.ensures.places c.words-words.ensures
-    c.loop-taken.taken c.loop-taken.word c.from.result c.place_behind.result c.loop-taken.invariant.0
-    c.loop-taken-test.true c.from.ensures
-    (omega (arith, c.type_inv.key c.from.result)) c.place_behind.ensures in
-    sym s.steps
-    ∙ sym (steps_of_match c.args.table.now c.args.trie c.args.key.now c.root-word.ensures.sound c.requires.trie
-    c.requires.key _ _ s.stands (match_by_kind _ k.result k.ensures c.if-kind-eq-MATCH.true))
-
-pub returns-then-kind-eq-MATCH-clause-steps : goal.returns-then-kind-eq-MATCH-clause-steps
-returns-then-kind-eq-MATCH-clause-steps g c =
-    let k = c.kind_of-kind-in-loop-taken in
-    let s = step_in c.args.table.now c.args.trie c.args.key.now c.root-word.ensures.sound c.requires.trie
-    c.requires.key
-    c.places-place-items.result.now c.words-words.result.now c.places-place-items.ensures.places c.words-words.ensures
-    c.loop-taken.taken c.loop-taken.word c.from.result c.place_behind.result c.loop-taken.invariant.0
-    c.loop-taken-test.true c.from.ensures
-    (omega (arith, c.type_inv.key c.from.result)) c.place_behind.ensures in
-    let all = steps_of_match c.args.table.now c.args.trie c.args.key.now c.root-word.ensures.sound c.requires.trie
-    c.requires.key _ _ s.stands (match_by_kind _ k.result k.ensures c.if-kind-eq-MATCH.true) in
-    omega (arith, s.steps, all)
-
-pub returns-then-kind-eq-MATCH-clause-there : goal.returns-then-kind-eq-MATCH-clause-there
-returns-then-kind-eq-MATCH-clause-there g c =
-    let k = c.kind_of-kind-in-loop-taken in
-    let s = step_in c.args.table.now c.args.trie c.args.key.now c.root-word.ensures.sound c.requires.trie
-    c.requires.key
-    c.places-place-items.result.now c.words-words.result.now c.places-place-items.ensures.places c.words-words.ensures
-    c.loop-taken.taken c.loop-taken.word c.from.result c.place_behind.result c.loop-taken.invariant.0
-    c.loop-taken-test.true c.from.ensures
-    (omega (arith, c.type_inv.key c.from.result)) c.place_behind.ensures in
-    omega (arith, s.stands.row (match_by_kind _ k.result k.ensures c.if-kind-eq-MATCH.true), c.index_of.ensures.value)
-
-pub loop-taken-preserved : goal.loop-taken-preserved
-loop-taken-preserved g c =
-    let k = c.kind_of-kind-in-loop-taken in
-    let s = step_in c.args.table.now c.args.trie c.args.key.now c.root-word.ensures.sound c.requires.trie
-    c.requires.key
-    c.places-place-items.result.now c.words-words.result.now c.places-place-items.ensures.places c.words-words.ensures
-    c.loop-taken.taken c.loop-taken.word c.from.result c.place_behind.result c.loop-taken.invariant.0
-    c.loop-taken-test.true c.from.ensures
-    (omega (arith, c.type_inv.key c.from.result)) c.place_behind.ensures in (
-      record {
-        stands = s.stands;
-        no_match = no_match_by_kind _ k.result k.ensures c.if-kind-eq-MATCH.false;
-        steps = s.steps;
-      },
-      omega arith,
-      c.kind_of-kind-in-loop-taken.ensures,
-    )
-
-pub unreachable-requires : goal.unreachable-requires
-unreachable-requires g c =
-    let p = ap (λ (xs : List ℕ). length xs) c.places-place-items.ensures.places in
-    no_end c.args.table.now c.args.trie c.args.key.now c.root-word.ensures.sound c.requires.trie c.requires.key
-    c.loop-taken.taken c.loop-taken.word c.loop-taken.invariant.0
-    (omega (arith, p, c.loop-taken-test.false)) (omega (arith, p, c.loop-taken.auto.taken-end))
-
-pub returns-then-kind-eq-MATCH-clause-short : goal.returns-then-kind-eq-MATCH-clause-short
-returns-then-kind-eq-MATCH-clause-short g c =
+pub overflow_add-taken : goal.overflow_add-taken
+overflow_add-taken g c =
     omega (
       arith,
-      places_bound c.args.table.now c.args.trie,
-      ap (λ (xs : List ℕ). length xs) c.places-place-items.ensures.places,
-      c.loop-taken-test.true,
+      place_is_there c.args.table.now c.args.trie c.args.key.now c.root-word.ensures.sound c.requires.trie
+          c.requires.key
+          c.places-places.result.now c.words-words.result.now c.places-places.ensures.places c.words-words.ensures
+          c.loop-words.taken c.loop-words.word c.loop-words.invariant.0
+          (sym c.is_end.ensures ∙ c.loop-words-test.true),
+      c.places-places.ensures.bound,
+    )
+
+pub loop-words-smaller : goal.loop-words-smaller
+loop-words-smaller g c =
+    omega (
+      arith,
+      goes_on c.args.table.now c.args.trie c.args.key.now c.root-word.ensures.sound c.requires.trie
+          c.requires.key
+          c.loop-words.taken c.loop-words.word c.loop-words.invariant.0
+          (sym c.is_end.ensures ∙ c.loop-words-test.true),
+    )
+
+pub loop-words-preserved : goal.loop-words-preserved
+loop-words-preserved g c =
+    let s = step_in c.args.table.now c.args.trie c.args.key.now c.root-word.ensures.sound c.requires.trie
+    c.requires.key
+    c.places-places.result.now c.words-words.result.now c.places-places.ensures.places c.words-words.ensures
+    c.loop-words.taken c.loop-words.word c.from.result c.place_behind.result c.loop-words.invariant.0
+    (sym c.is_end.ensures ∙ c.loop-words-test.true) c.from.ensures
+    (omega (arith, c.type_inv.key c.from.result)) c.place_behind.ensures in
+    (s.walks, omega arith)
+
+pub overflow_cast-result-2 : goal.overflow_cast-result-2
+overflow_cast-result-2 g c =
+    omega (
+      arith,
+      c.loop-words.invariant.0.within,
+      c.places-places.ensures.bound,
+      ap (λ (xs : List ℕ). length xs) c.places-places.ensures.places,
+    )
+
+pub returns-clause-row : goal.returns-clause-row
+returns-clause-row g c =
+    c.index_of.ensures.value ∙ row_of_match c.args.table.now c.args.trie c.args.key.now
+    c.root-word.ensures.sound c.requires.trie
+    c.requires.key
+    c.loop-words.taken c.loop-words.word c.loop-words.invariant.0
+    (sym c.is_end.ensures ∙ c.loop-words-test.false)
+
+pub returns-clause-taken : goal.returns-clause-taken
+returns-clause-taken g c =
+    steps_of_match c.args.table.now c.args.trie c.args.key.now c.root-word.ensures.sound c.requires.trie
+    c.requires.key
+    c.loop-words.taken c.loop-words.word c.loop-words.invariant.0
+    (sym c.is_end.ensures ∙ c.loop-words-test.false)
+
+pub returns-clause-steps : goal.returns-clause-steps
+returns-clause-steps g c =
+    omega (
+      arith,
+      steps_of_match c.args.table.now c.args.trie c.args.key.now c.root-word.ensures.sound c.requires.trie
+          c.requires.key
+          c.loop-words.taken c.loop-words.word c.loop-words.invariant.0
+          (sym c.is_end.ensures ∙ c.loop-words-test.false),
+    )
+
+pub returns-clause-there : goal.returns-clause-there
+returns-clause-there g c =
+    omega (
+      arith,
+      c.loop-words.invariant.0.stands.row (sym c.is_end.ensures ∙ c.loop-words-test.false),
+      c.index_of.ensures.value,
+    )
+
+pub returns-clause-bound : goal.returns-clause-bound
+returns-clause-bound g c =
+    c.loop-words.invariant.0.within
+
+pub returns-clause-short : goal.returns-clause-short
+returns-clause-short g c =
+    omega (arith, c.loop-words.invariant.0.within, places_bound c.args.table.now c.args.trie)
+
+pub returns-clause-limit : goal.returns-clause-limit
+returns-clause-limit g c =
+    omega (
+      arith,
+      c.loop-words.invariant.0.within,
+      c.places-places.ensures.bound,
+      ap (λ (xs : List ℕ). length xs) c.places-places.ensures.places,
     )
