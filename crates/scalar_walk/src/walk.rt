@@ -43,7 +43,9 @@ fn is_end(word: u64) -> bool
 
 /// The walk of the key through the trie.
 ///
-/// `key` has the bytes of a key of the table. It refuses nothing and takes no memory.
+/// `key` has the bytes of a key of the table. It refuses nothing and takes no memory. It is not
+/// inlined, so that its loop has its numbers in registers, whatever stands around the call.
+#[inline(never)]
 pub fn walk_one<L: Ledger>(table: &Table, trie: usize, key: &[u8], steps: &mut Steps<L>) -> Walked
     requires trie { trie < length table.now.roots }
     requires key { length key.now ≡ table.now.key_len }
