@@ -9,7 +9,9 @@ use Rattle.rule_set.specs.Rank.{rank_of}
 -- Groups of so many rules: each has a rule, its places rise, and together the groups hold each
 -- place once.
 pub record IsPartition (count : ℕ) (groups : List (List ℕ)) : Type 0 where
+  -- who wins doesn't depend on this, but merged states are those of at least one rule (trie_merge)
   pub some : All (λ group. 0 < length group) groups
+  -- so the first of equal priorities in a group is the first of them in the set
   pub ascending : All IsStrictlyIncreasing groups
   pub once : IsPermutation (flat_map (λ group. group) groups) (range_with_len 0 count)
 

@@ -52,3 +52,29 @@ greatest_decides : greatest (ranks_for 20) ∷ greatest (ranks_for 70) ∷ great
     ∷ []
 unfolding best_among
 greatest_decides = refl
+
+-- the greatest rank over groups of a set for the byte, and the rank of the winner of all
+abbrev both_ranks : List RuleView → List (List ℕ) → ℕ → List ℕ
+both_ranks set groups byte =
+    greatest (winners_ranks one_byte set groups (byte ∷ []) 0)
+    ∷ rank_or_none set (winner one_byte set (byte ∷ []) 0)
+    ∷ []
+
+-- two rules of equal priority for all bytes, of ranks 2 and 1
+abbrev equal_rules : List RuleView
+equal_rules = ranged 0 255 (pos 5) ∷ ranged 0 255 (pos 5) ∷ []
+
+-- in order the first of them wins
+in_order : both_ranks equal_rules ((0 ∷ 1 ∷ []) ∷ []) 0 ≡ 2 ∷ 2 ∷ []
+unfolding best_among
+in_order = refl
+
+-- not `ascending`: of equal priorities rule 1 wins, which stands first in the group alone
+not_ascending : both_ranks equal_rules ((1 ∷ 0 ∷ []) ∷ []) 0 ≡ 1 ∷ 2 ∷ []
+unfolding best_among
+not_ascending = refl
+
+-- not `once`: rule 1, which wins, is in no group
+not_once : both_ranks rules ((0 ∷ 3 ∷ []) ∷ (2 ∷ []) ∷ []) 70 ≡ 3 ∷ 4 ∷ []
+unfolding best_among
+not_once = refl
