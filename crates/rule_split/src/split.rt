@@ -17,16 +17,13 @@ use crate::counted::Counted;
 use crate::divide::divide;
 use rule_set::RuleSet;
 use std::alloc::{AllocError, Global};
-use trie_merge::Levels;
+use trie_merge::{Levels, ROW_WORDS};
 
 /// How many groups the rules of a set are split into at most, as `RTE_ACL_MAX_TRIES` of DPDK's
 /// `lib/acl`, `acl.h`.
 pub const MAX_GROUPS: usize = 8;
 
-/// How many words the row takes that every table has, for keys that no rule matches.
-const ROW_WORDS: u64 = 16;
-
-/// The words of a table of the groups.
+/// The words of a table of the groups: those of each, and one row for keys that no rule matches.
 fn total(groups: &[Counted], budget: u64) -> u64
     requires few { length groups.now ≤ max_groups }
     requires budget { budget ≤ max_cap }

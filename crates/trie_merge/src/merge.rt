@@ -260,5 +260,5 @@ pub(crate) fn merge_states(
 /// The greatest cap: 512 MiB of words.
 pub const MAX_CAP: u64 = 67_108_864;
 
-/// How many words a row takes.
-pub(crate) const ROW_WORDS: u64 = 16;
+/// How many words a row takes in a table: one for each category.
+pub const ROW_WORDS: u64 = 16;
