@@ -14,9 +14,9 @@ use Rattle.trie_merge.specs.Laws.{AreBytes}
 use Rattle.flat_table.specs.Sound.{row_len}
 use Rattle.flat_table.specs.Table.{TableView}
 use Rattle.flat_table.specs.Walk.{table_verdict}
-use Rattle.flat_table.specs.Batch.{key_at, key_verdicts, batch_verdicts}
+use Rattle.flat_table.specs.Batch.{keys_of_len, key_at, key_verdicts, batch_verdicts}
 use Rattle.table_fill.specs.Serves.{Serves}
-use Rattle.acl_context.specs.Batch.{key_of_batch, keys_of_layout, verdicts_by_rules}
+use Rattle.acl_context.specs.Batch.{key_of_batch, verdicts_by_rules}
 
 -- equal elements make equal lists
 map_on_range : (f g : ℕ → ℕ) (start n : ℕ) → ((k : ℕ) → k < start + n → f k ≡ g k) →
@@ -45,7 +45,8 @@ whole_of_lengths keys len other same whole = subst (λ (n : ℕ). length keys �
 
 -- a key of a batch has the layout's length
 key_length : (set : RuleSetView) (keys : List ℕ) (k : ℕ) →
-    length keys ≡ keys_of_layout set.layout keys * key_len_of set.layout → k < keys_of_layout set.layout keys →
+    length keys ≡ keys_of_len (key_len_of set.layout) keys * key_len_of set.layout →
+    k < keys_of_len (key_len_of set.layout) keys →
     length (key_of_batch set.layout keys k) ≡ key_len_of set.layout
 key_length set keys k whole below =
     let len = key_len_of set.layout in
@@ -54,10 +55,10 @@ key_length set keys k whole below =
 
 -- the verdicts of the table are those by the rules
 pub batch_by_rules : (set : RuleSetView) (table : TableView) (count : ℕ) (keys : List ℕ) → Serves set table →
-    count ≤ row_len → AreBytes keys → length keys ≡ keys_of_layout set.layout keys * key_len_of set.layout →
+    count ≤ row_len → AreBytes keys → length keys ≡ keys_of_len (key_len_of set.layout) keys * key_len_of set.layout →
     batch_verdicts table count keys ≡ verdicts_by_rules set count keys
 batch_by_rules set table count keys serves few bytes whole =
-    let n = keys_of_layout set.layout keys in
+    let n = keys_of_len (key_len_of set.layout) keys in
     let key = key_of_batch set.layout keys in
     let by_table : ℕ → List ℕ = λ k. key_verdicts table count (key_at table keys k) in
     let by_rules : ℕ → List ℕ = λ k. map (verdict set.layout set.rules (key k)) (range_with_len 0 count) in

@@ -3,12 +3,13 @@ use Rattle.std.specs.Prelude.{◌≡◌, ℕ, pos, List, [], ◌∷◌, replicat
 use Rattle.field_defs.specs.declared.field.FieldKind.TheVariants as kinds
 use Rattle.field_defs.specs.declared.field.FieldDef.{FieldDef}
 use Rattle.field_defs.specs.declared.field.FieldValue.TheVariants.{Range}
-use Rattle.field_defs.specs.Layout.{ip4_fields}
-use Rattle.rule_set.specs.Rule.{RuleView, RuleSetView}
+use Rattle.field_defs.specs.Layout.{ip4_fields, key_len_of}
+use Rattle.rule_set.specs.Rule.{RuleView}
 use Rattle.rule_split.specs.Split.{groups_of, groups_by, turns, turn}
+use Rattle.flat_table.specs.Batch.{keys_of_len}
 use Rattle.table_fill.specs.Filled.{filled, table_of_tries, rows_of_tries}
 use Rattle.acl_context.specs.Context.{built_of}
-use Rattle.acl_context.specs.Batch.{keys_of_layout, key_of_batch, verdicts_by_rules}
+use Rattle.acl_context.specs.Batch.{key_of_batch, verdicts_by_rules}
 
 -- two fields of one byte
 abbrev two_bytes : List FieldDef
@@ -34,7 +35,7 @@ rules =
 abbrev keys : List ℕ
 keys = 6 ∷ 1 ∷ 7 ∷ 2 ∷ 6 ∷ 3 ∷ []
 
-three_keys : keys_of_layout two_bytes keys ≡ 3
+three_keys : keys_of_len (key_len_of two_bytes) keys ≡ 3
 three_keys = refl
 
 last_key : key_of_batch two_bytes keys 2 ≡ 6 ∷ 3 ∷ []

@@ -7,11 +7,11 @@ ghost use Rattle.rule_set.specs.Rule.{RuleSetView};
 ghost use Rattle.rule_set.specs.declared.set.TheConstants.{MAX_RULES};
 ghost use Rattle.trie_merge.specs.Levels.{max_cap};
 ghost use Rattle.rule_split.specs.Split.{total_of};
-ghost use Rattle.flat_table.specs.Batch.{batch_verdicts, batch_steps};
+ghost use Rattle.flat_table.specs.Batch.{KeysFit, batch_verdicts, batch_steps};
 ghost use Rattle.table_fill.specs.Serves.{Serves};
 ghost use Rattle.acl_context.specs.Context.{built_of, rule_view, with_rules};
 ghost use Rattle.acl_context.specs.Add.{Adds};
-ghost use Rattle.acl_context.specs.Batch.{BatchFits, verdicts_by_rules};
+ghost use Rattle.acl_context.specs.Batch.{verdicts_by_rules};
 
 use crate::add::{AddFault, Given, check_all, push_all};
 use crate::build::{BuildFault, make_table};
@@ -135,7 +135,8 @@ impl AclContext {
         out: &mut [u32],
         steps: &mut Steps<L>,
     ) -> Result<u64, NotBuilt>
-        requires { BatchFits self.now.set.layout keys.now cats.count (length out.old) }
+        requires { KeysFit (key_len_of self.now.set.layout) keys.now cats.count
+            (length out.old) }
         ensures not_built { IsErr result ↔ (self.now.table ≡ None) }
         ensures idle { OnErr result ((out.new ≡ out.old) × (steps.new ≡ steps.old)) }
         ensures verdicts { IfSome self.now.table

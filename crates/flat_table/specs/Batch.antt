@@ -9,19 +9,32 @@ use Rattle.flat_table.specs.Walk.{table_verdict, key_steps}
 abbrev pub most_keys : ℕ
 most_keys = 65536
 
--- how many keys the bytes are
+-- how many keys of a length the bytes are
+abbrev pub keys_of_len : ℕ → List ℕ → ℕ
+keys_of_len key_len keys = length keys / key_len
+
+-- key k of the keys of a length
+abbrev pub key_of_len : ℕ → List ℕ → ℕ → List ℕ
+key_of_len key_len keys k = take key_len (drop (k * key_len) keys)
+
+-- The bytes are whole keys of a length, not too many, and there is room for so many verdicts of
+-- each.
+pub record KeysFit (key_len : ℕ) (keys : List ℕ) (count room : ℕ) : Type 0 where
+  pub whole : length keys ≡ keys_of_len key_len keys * key_len
+  pub few : keys_of_len key_len keys ≤ most_keys
+  pub room_fits : room ≡ keys_of_len key_len keys * count
+
+-- how many keys of a table the bytes are
 abbrev pub keys_in : TableView → List ℕ → ℕ
-keys_in table keys = length keys / table.key_len
+keys_in table keys = keys_of_len table.key_len keys
 
--- key k of the batch
+-- key k of the keys of a table
 abbrev pub key_at : TableView → List ℕ → ℕ → List ℕ
-key_at table keys k = take table.key_len (drop (k * table.key_len) keys)
+key_at table keys k = key_of_len table.key_len keys k
 
--- the bytes are whole keys, not too many, and there is room for so many verdicts of each
-pub record LengthsFit (table : TableView) (keys : List ℕ) (count room : ℕ) : Type 0 where
-  pub whole : length keys ≡ keys_in table keys * table.key_len
-  pub few : keys_in table keys ≤ most_keys
-  pub room_fits : room ≡ keys_in table keys * count
+-- the bytes and the room are so for the keys of a table
+abbrev pub LengthsFit : TableView → List ℕ → ℕ → ℕ → Type 0
+LengthsFit table keys count room = KeysFit table.key_len keys count room
 
 -- the verdicts of a key in the categories from 0 on
 abbrev pub key_verdicts : TableView → ℕ → List ℕ → List ℕ
