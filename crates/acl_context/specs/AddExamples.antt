@@ -9,7 +9,6 @@ use Rattle.rule_set.specs.Fault.{rule_fault, categories}
 use Rattle.rule_set.specs.Rule.{RuleView}
 use Rattle.acl_context.specs.declared.add.AddFault.{AddFault}
 use Rattle.acl_context.specs.declared.add.AddFault.TheVariants.{Full, RuleRefused}
-use Rattle.acl_context.specs.Context.{ContextView}
 use Rattle.acl_context.specs.Add.{add_fault}
 
 abbrev one_byte : List FieldDef

@@ -1,4 +1,4 @@
-use Rattle.std.proofs.Common.{◌≡◌, ◌+◌, ◌≤◌, ◌++◌, map, length, None, Ok, Err, sym, ap, arith, subst}
+use Rattle.std.proofs.Common.{◌+◌, ◌≤◌, ◌++◌, map, length, Ok, Err, sym, ap, arith, subst}
 use Rattle.std.proofs.lemmas.Result.{err_from_is_err_and}
 use Rattle.std.proofs.lemmas.List.{length-map}
 use Rattle.acl_context.specs.declared.add.AddFault.TheVariants.{Full, OutOfMemory}
