@@ -16,11 +16,11 @@ use Rattle.rule_split.specs.declared.counted.Counted.{Counted}
 use Rattle.rule_split.specs.declared.counted.Counted.TheVariants.{Fits, TooLarge}
 use Rattle.rule_split.specs.Counted.{group_in, levels_in, words_counted, words_to_split, most_counted, is_most}
 use Rattle.rule_split.specs.Counted.{IsCounted}
-use Rattle.rule_split.specs.Split.{can_split, capped, total, most_words, split_place, split_at, turn, words_in}
+use Rattle.rule_split.specs.Split.{can_split, capped, total, most_words, split_place, split_at, turn, words_of_group}
 
 -- a group that was counted rightly has the words of its group, or one more than the budget
 counted_is : (set : RuleSetView) (budget : ℕ) (group : Counted) → IsCounted set budget group →
-    words_counted budget group ≡ capped (words_in set) budget (group_in group)
+    words_counted budget group ≡ capped (words_of_group set) budget (group_in group)
 counted_is set budget (Fits levels) is =
     let same = ap (λ (l : LevelsView). l.words) is.0 in
     omega (arith, same, is.1)
@@ -31,7 +31,7 @@ module _ (set : RuleSetView) (budget : ℕ) where
   Right = IsCounted set budget
 
   abbrev cost : List ℕ → ℕ
-  cost = capped (words_in set) budget
+  cost = capped (words_of_group set) budget
 
   -- the sum of their words
   sum_is : (groups : List Counted) → All Right groups →
@@ -59,7 +59,7 @@ module _ (set : RuleSetView) (budget : ℕ) where
       ]
 
   most_is : (groups : List Counted) → All Right groups →
-      most_counted budget groups ≡ most_words (words_in set) budget (map group_in groups)
+      most_counted budget groups ≡ most_words (words_of_group set) budget (map group_in groups)
   most_is groups right = most_from 0 groups right
 
   -- the first place where a group can be split and has so many words
@@ -76,37 +76,37 @@ module _ (set : RuleSetView) (budget : ℕ) where
 
   pub place_is : (groups : List Counted) → All Right groups →
       position (is_most budget (most_counted budget groups)) groups
-      ≡ split_place (words_in set) budget (map group_in groups)
+      ≡ split_place (words_of_group set) budget (map group_in groups)
   unfolding split_place
   place_is groups right =
       let long = length-map groups group_in in
       ap (λ most. position (is_most budget most) groups) (most_is groups right)
       ∙ (λ i. cond
-      (nat_lt (first_is (most_words (words_in set) budget (map group_in groups)) groups right i) (sym long i))
-      (Some (first_is (most_words (words_in set) budget (map group_in groups)) groups right i)) None)
+      (nat_lt (first_is (most_words (words_of_group set) budget (map group_in groups)) groups right i) (sym long i))
+      (Some (first_is (most_words (words_of_group set) budget (map group_in groups)) groups right i)) None)
 
   pub total_is : (groups : List Counted) → All Right groups →
-      row_words + sum_by (words_counted budget) groups ≡ total (words_in set) budget (map group_in groups)
+      row_words + sum_by (words_counted budget) groups ≡ total (words_of_group set) budget (map group_in groups)
   total_is groups right = ap (λ words. row_words + words) (sum_is groups right)
 
   -- a turn where the total is within the budget
   pub turn_fits : (groups : List Counted) (words : ℕ) → All Right groups →
       words ≡ row_words + sum_by (words_counted budget) groups → words ≤ budget →
-      map group_in groups ≡ turn (words_in set) set budget (map group_in groups)
+      map group_in groups ≡ turn (words_of_group set) set budget (map group_in groups)
   unfolding turn
   turn_fits groups words right is within =
-      sym (cond-true _ _ _ (le-leb (total (words_in set) budget (map group_in groups)) budget
+      sym (cond-true _ _ _ (le-leb (total (words_of_group set) budget (map group_in groups)) budget
       (omega (arith, is, within, total_is groups right))))
 
   -- a turn where it is above
   pub turn_over : (groups : List Counted) (words : ℕ) (found : Option ℕ) → All Right groups →
       words ≡ row_words + sum_by (words_counted budget) groups → budget < words →
       found ≡ position (is_most budget (most_counted budget groups)) groups →
-      turn (words_in set) set budget (map group_in groups)
+      turn (words_of_group set) set budget (map group_in groups)
       ≡ option_map_or (split_at set (map group_in groups)) found (map group_in groups)
   unfolding turn
   turn_over groups words found right is above at =
-      cond-false _ _ _ (lt-leb (total (words_in set) budget (map group_in groups)) budget
+      cond-false _ _ _ (lt-leb (total (words_of_group set) budget (map group_in groups)) budget
       (omega (arith, is, above, total_is groups right)))
       ∙ ap (λ place. option_map_or (split_at set (map group_in groups)) place (map group_in groups))
       (sym (at ∙ place_is groups right))

@@ -22,7 +22,7 @@ use Rattle.rule_groups.specs.Groups.{IsPartition}
 use Rattle.rule_groups.proofs.Deciding.{places_in, increasing_range, place_of_set}
 use Rattle.trie_merge.specs.Levels.{IsGroup}
 use Rattle.rule_split.specs.Split.{can_split, capped, total, most_words, split_place, split_at, turn, turns}
-use Rattle.rule_split.specs.Split.{first_groups, groups_by, groups_of, words_in, max_groups}
+use Rattle.rule_split.specs.Split.{first_groups, groups_by, groups_of, words_of_group, max_groups}
 use Rattle.std.specs.Option.{option_map_or}
 use Rattle.rule_split.specs.Laws.{GroupsHoldEachRuleOnce}
 use Rattle.rule_split.proofs.Halves.{IsTwoOf, divided_is}
@@ -212,7 +212,7 @@ pub split_once : (set : RuleSetView) (budget : ℕ) →
 unfolding groups_of groups_by
 split_once set budget =
     let first = first_is set in
-    let after = turns_are (words_in set) set budget (length set.rules) 7 (first_groups set) first.0 in
+    let after = turns_are (words_of_group set) set budget (length set.rules) 7 (first_groups set) first.0 in
     (after.0, omega (arith, after.1, first.1))
 
 pub groups_hold : GroupsHoldEachRuleOnce

@@ -10,46 +10,47 @@ use Rattle.trie_merge.specs.Levels.{levels_of, row_words}
 use Rattle.rule_split.specs.declared.counted.Counted.{Counted}
 use Rattle.rule_split.specs.declared.counted.Counted.TheVariants.{Fits, TooLarge}
 use Rattle.rule_split.specs.Counted.{group_in, levels_in, words_counted, IsCounted}
-use Rattle.rule_split.specs.Split.{turn, turns, first_groups, groups_by, groups_of, total, total_of, words_in}
+use Rattle.rule_split.specs.Split.{turn, turns, first_groups, groups_by, groups_of, total, total_of, words_of_group}
 use Rattle.rule_split.specs.Split.{max_groups}
 use Rattle.rule_split.proofs.Counts.{total_is}
 use Rattle.rule_split.proofs.Groups.{turns_are, first_is, split_once}
 
 module _ (set : RuleSetView) (budget : ℕ) where
   -- no turn, one turn more, and the last one
-  pub no_turn : first_groups set ≡ turns (words_in set) set budget 0 (first_groups set)
+  pub no_turn : first_groups set ≡ turns (words_of_group set) set budget 0 (first_groups set)
   unfolding turns
   no_turn = refl
 
   pub turn_more : (count : ℕ) (groups : List (List ℕ)) →
-      groups ≡ turns (words_in set) set budget count (first_groups set) →
-      turn (words_in set) set budget groups ≡ turns (words_in set) set budget (count + 1) (first_groups set)
+      groups ≡ turns (words_of_group set) set budget count (first_groups set) →
+      turn (words_of_group set) set budget groups ≡ turns (words_of_group set) set budget (count + 1) (first_groups set)
   unfolding turns
   turn_more count groups is =
       let next : suc count ≡ count + 1 = omega arith in
-      ap (turn (words_in set) set budget) is ∙ ap (λ n. turns (words_in set) set budget n (first_groups set)) next
+      ap (turn (words_of_group set) set budget) is
+      ∙ ap (λ n. turns (words_of_group set) set budget n (first_groups set)) next
 
   pub last_turn : (count : ℕ) → count ≡ 7 →
-      turns (words_in set) set budget count (first_groups set) ≡ groups_of set budget
+      turns (words_of_group set) set budget count (first_groups set) ≡ groups_of set budget
   unfolding groups_of groups_by
-  last_turn count is = ap (λ n. turns (words_in set) set budget n (first_groups set)) is
+  last_turn count is = ap (λ n. turns (words_of_group set) set budget n (first_groups set)) is
 
   -- after some turns the groups are a partition, and few
   pub turns_part : (count : ℕ) (groups : List Counted) →
-      map group_in groups ≡ turns (words_in set) set budget count (first_groups set) →
+      map group_in groups ≡ turns (words_of_group set) set budget count (first_groups set) →
       IsPartition (length set.rules) (map group_in groups)
   turns_part count groups is =
-      rw is (turns_are (words_in set) set budget (length set.rules) count (first_groups set) (first_is set).0).0
+      rw is (turns_are (words_of_group set) set budget (length set.rules) count (first_groups set) (first_is set).0).0
 
   pub turns_few : (count : ℕ) (groups : List Counted) →
-      map group_in groups ≡ turns (words_in set) set budget count (first_groups set) → length groups ≤ 1 + count
+      map group_in groups ≡ turns (words_of_group set) set budget count (first_groups set) → length groups ≤ 1 + count
   turns_few count groups is =
       let first = first_is set in
       omega (
         arith,
         length-map groups group_in,
         ap length is,
-        (turns_are (words_in set) set budget (length set.rules) count (first_groups set) first.0).1,
+        (turns_are (words_of_group set) set budget (length set.rules) count (first_groups set) first.0).1,
         first.1,
       )
 
@@ -60,7 +61,7 @@ module _ (set : RuleSetView) (budget : ℕ) where
   pub total_of_last : (groups : List Counted) → map group_in groups ≡ groups_of set budget →
       All (IsCounted set budget) groups → row_words + sum_by (words_counted budget) groups ≡ total_of set budget
   unfolding total_of
-  total_of_last groups is right = total_is set budget groups right ∙ ap (total (words_in set) budget) is
+  total_of_last groups is right = total_is set budget groups right ∙ ap (total (words_of_group set) budget) is
 
   -- where their words together are within the budget, the merged states of each are kept
   pub all_kept : (groups : List Counted) → All (IsCounted set budget) groups →

@@ -4,7 +4,7 @@ use Rattle.std.specs.List.{sum_by}
 use Rattle.std.proofs.lemmas.List.Sums.{sum_by-cons}
 use Rattle.rule_set.specs.Rule.{RuleSetView}
 use Rattle.trie_merge.specs.Levels.{LevelsView, levels_of}
-use Rattle.rule_split.specs.Split.{capped, words_in, groups_of, total_of, plan_of}
+use Rattle.rule_split.specs.Split.{capped, words_of_group, groups_of, total_of, plan_of}
 use Rattle.rule_split.specs.Laws.{TheTotalIsOfAllWords}
 
 -- words whose sum is within the budget are counted as they are
@@ -23,13 +23,13 @@ uncapped words budget (group ∷ groups) within =
 
 -- the words of the merged states of all groups
 words_of_all : (set : RuleSetView) (groups : List (List ℕ)) →
-    sum_by (λ (levels : LevelsView). levels.words) (map (levels_of set) groups) ≡ sum_by (words_in set) groups
+    sum_by (λ (levels : LevelsView). levels.words) (map (levels_of set) groups) ≡ sum_by (words_of_group set) groups
 words_of_all set [] = refl
 words_of_all set (group ∷ groups) =
     omega (
       arith,
       sum_by-cons (λ (levels : LevelsView). levels.words) (levels_of set group) (map (levels_of set) groups),
-      sum_by-cons (words_in set) group groups,
+      sum_by-cons (words_of_group set) group groups,
       words_of_all set groups,
     )
 
@@ -39,7 +39,7 @@ total_of_words set budget within =
     let groups : List (List ℕ) = groups_of set budget in
     omega (
       arith,
-      uncapped (words_in set) budget groups (omega (arith, within)),
+      uncapped (words_of_group set) budget groups (omega (arith, within)),
       words_of_all set groups,
     )
 

@@ -68,16 +68,16 @@ unfoldable pub groups_by : (List ℕ → ℕ) → RuleSetView → ℕ → List (
 groups_by words set budget = turns words set budget (max_groups - 1) (first_groups set)
 
 -- the words of a group's merged states
-abbrev pub words_in : RuleSetView → List ℕ → ℕ
-words_in set group = (levels_of set group).words
+abbrev pub words_of_group : RuleSetView → List ℕ → ℕ
+words_of_group set group = (levels_of set group).words
 
 -- the groups of a set under a budget
 unfoldable pub groups_of : RuleSetView → ℕ → List (List ℕ)
-groups_of set budget = groups_by (words_in set) set budget
+groups_of set budget = groups_by (words_of_group set) set budget
 
 -- their total
 unfoldable pub total_of : RuleSetView → ℕ → ℕ
-total_of set budget = total (words_in set) budget (groups_of set budget)
+total_of set budget = total (words_of_group set) budget (groups_of set budget)
 
 -- A plan as contracts see it: the merged states of each group, and the words of a table of them.
 pub record PlanView : Type 0 where

@@ -10,7 +10,7 @@ ghost use Rattle.rule_split.specs.declared.answer.PlanFault.TheVariants.{TooLarg
 ghost use Rattle.rule_split.specs.Counted.{group_in, levels_in, words_counted, most_counted};
 ghost use Rattle.rule_split.specs.Counted.{is_most, IsCounted, IsWithin};
 ghost use Rattle.rule_split.specs.Split.{plan_of, total_of, split_at, turn, groups_of};
-ghost use Rattle.rule_split.specs.Split.{words_in, first_groups, max_groups};
+ghost use Rattle.rule_split.specs.Split.{words_of_group, first_groups, max_groups};
 
 use crate::answer::{Plan, PlanFault};
 use crate::counted::Counted;
@@ -113,7 +113,7 @@ fn take_turn(
     requires partition { IsPartition (length rules.now.rules) (map group_in groups.old.items) }
     requires counted { All (IsCounted rules.now budget) groups.old.items }
     ensures groups { OnOk result (map group_in groups.new.items
-        ≡ turn (words_in rules.now) rules.now budget (map group_in groups.old.items)) }
+        ≡ turn (words_of_group rules.now) rules.now budget (map group_in groups.old.items)) }
     ensures counted { OnOk result (All (IsCounted rules.now budget) groups.new.items) }
 {
     if total(groups.as_slice(), budget) <= budget {

@@ -1,6 +1,6 @@
 use Rattle.std.proofs.Common.{None, Some, map, ◌∙◌, sym}
 use Rattle.rule_split.specs.Counted.{group_in}
-use Rattle.rule_split.specs.Split.{words_in}
+use Rattle.rule_split.specs.Split.{words_of_group}
 use Rattle.rule_split.proofs.Counts.{turn_fits, turn_over, place_is}
 use Rattle.rule_split.proofs.Groups.{found_is}
 use Rattle.rule_split.proofs.Splitting.{on_ok}
@@ -15,7 +15,7 @@ pub split_at-requires-clause-two : goal.split_at-requires-clause-two
 split_at-requires-clause-two c =
     let set = c.args.rules.now in
     let groups = c.args.groups.now.items in
-    (found_is (words_in set) c.args.budget (map group_in groups) c.in-Some.place
+    (found_is (words_of_group set) c.args.budget (map group_in groups) c.in-Some.place
     (sym (place_is set c.args.budget groups c.requires.counted)
     ∙ sym (rw c.as_slice-2.ensures.value at c.split_place.ensures) ∙ c.in-Some.is)).1
 
