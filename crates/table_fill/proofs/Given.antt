@@ -17,7 +17,7 @@ use Rattle.flat_table.specs.Walk.{userdatas}
 use Rattle.table_fill.specs.Filled.{filled, table_of_tries, roots_of, level_lens_of, words_of_tries}
 use Rattle.table_fill.specs.Filled.{rule_word, winner_word, rows_of_tries}
 use Rattle.table_fill.specs.Serves.{Serves}
-use Rattle.table_fill.specs.Tries.{HasNodes, HasWinners, IsTrie, HaveRoom, groups_of, AreOfGroups, winner_in}
+use Rattle.table_fill.specs.Tries.{HasNodes, HasWinners, IsTrie, HaveRoom, groups_of_tries, AreOfGroups, winner_in}
 use Rattle.table_fill.specs.Laws.{CanBeFilled}
 use Rattle.table_fill.proofs.Sounds.{CanStand, table_sound, length-words, length-rows_of}
 use Rattle.table_fill.proofs.Room.{parts_of_words, tries_same}
@@ -25,8 +25,8 @@ use Rattle.table_fill.proofs.Deciding.{tries_are, can_stand, decide}
 
 -- The tries are those of groups of the rules whose table can be filled.
 pub record AreGiven (set : RuleSetView) (tries : List LevelsView) : Type 0 where
-  pub can : CanBeFilled set (groups_of tries)
-  pub same : map (levels_of set) (groups_of tries) ≡ tries
+  pub can : CanBeFilled set (groups_of_tries tries)
+  pub same : map (levels_of set) (groups_of_tries tries) ≡ tries
   pub each : AllByRecursion (IsTrie set) tries
   pub room : HaveRoom tries
   pub winners : All (HasWinners (length set.rules)) tries
@@ -34,7 +34,7 @@ pub record AreGiven (set : RuleSetView) (tries : List LevelsView) : Type 0 where
 
 module _ (set : RuleSetView) (tries : List LevelsView) where
   same_tries : (ts : List LevelsView) → AllByRecursion (λ (trie : LevelsView). trie ≡ levels_of set trie.group) ts →
-      map (levels_of set) (groups_of ts) ≡ ts
+      map (levels_of set) (groups_of_tries ts) ≡ ts
   same_tries [] are = refl
   same_tries (trie ∷ ts) are = λ i. sym are.0 i ∷ same_tries ts are.1 i
 
@@ -52,10 +52,10 @@ module _ (set : RuleSetView) (tries : List LevelsView) where
   given rules layout userdata of =
       let same = same_tries tries
       (recursion_from_All (λ (trie : LevelsView). trie ≡ levels_of set trie.group) tries of.levels) in
-      let sum : sum_by (λ group. (levels_of set group).words) (groups_of tries)
+      let sum : sum_by (λ group. (levels_of set group).words) (groups_of_tries tries)
       ≡ sum_by (λ (trie : LevelsView). trie.words) tries =
-      groups_sum (groups_of tries) ∙ ap (sum_by (λ (trie : LevelsView). trie.words)) same in
-      let can : CanBeFilled set (groups_of tries) = record {
+      groups_sum (groups_of_tries tries) ∙ ap (sum_by (λ (trie : LevelsView). trie.words)) same in
+      let can : CanBeFilled set (groups_of_tries tries) = record {
         rules = rules;
         layout = layout;
         userdata = userdata;
@@ -63,7 +63,7 @@ module _ (set : RuleSetView) (tries : List LevelsView) where
         few = omega (arith, length-map tries (λ (trie : LevelsView). trie.group), of.few);
         size = omega (arith, sum, of.size);
       } in
-      let each = subst (AllByRecursion (IsTrie set)) same (tries_are set (groups_of tries) can) in
+      let each = subst (AllByRecursion (IsTrie set)) same (tries_are set (groups_of_tries tries) can) in
       record {
         can = can;
         same = same;
@@ -74,20 +74,20 @@ module _ (set : RuleSetView) (tries : List LevelsView) where
         };
         winners = All-from_recursion (HasWinners (length set.rules)) tries
             (all_weaker (IsTrie set) (HasWinners (length set.rules)) tries (λ trie is. is.winners) each);
-        stand = subst (CanStand set) same (can_stand set (groups_of tries) can);
+        stand = subst (CanStand set) same (can_stand set (groups_of_tries tries) can);
       }
 
   -- and from that the tries of groups can be filled
-  pub given_by : CanBeFilled set (groups_of tries) → AreOfGroups set tries → AreGiven set tries
+  pub given_by : CanBeFilled set (groups_of_tries tries) → AreOfGroups set tries → AreGiven set tries
   given_by can of = given can.rules can.layout can.userdata of
 
   -- the filled table is the one of the tries
-  pub table_is : AreGiven set tries → table_of_tries set tries ≡ filled set (groups_of tries)
+  pub table_is : AreGiven set tries → table_of_tries set tries ≡ filled set (groups_of_tries tries)
   unfolding filled
   table_is is = ap (table_of_tries set) (sym is.same)
 
   pub serves : AreGiven set tries → Serves set (table_of_tries set tries)
-  serves is = subst (Serves set) (sym (table_is is)) (decide set (groups_of tries) is.can)
+  serves is = subst (Serves set) (sym (table_is is)) (decide set (groups_of_tries tries) is.can)
 
   pub sound : AreGiven set tries → sound_fault (table_of_tries set tries) ≡ None
   sound is = table_sound set tries is.stand

@@ -75,14 +75,14 @@ pub record HaveRoom (tries : List LevelsView) : Type 0 where
   pub size : sum_by (λ (trie : LevelsView). trie.words) tries ≤ most_words
 
 -- the groups of rules that the tries are of
-abbrev pub groups_of : List LevelsView → List (List ℕ)
-groups_of tries = map (λ (trie : LevelsView). trie.group) tries
+abbrev pub groups_of_tries : List LevelsView → List (List ℕ)
+groups_of_tries tries = map (λ (trie : LevelsView). trie.group) tries
 
 -- The tries of the groups of a rule set, which hold each rule once, and whose table isn't too
 -- large.
 pub record AreOfGroups (set : RuleSetView) (tries : List LevelsView) : Type 0 where
   pub few : length tries ≤ most_tries
-  pub groups : IsPartition (length set.rules) (groups_of tries)
+  pub groups : IsPartition (length set.rules) (groups_of_tries tries)
   pub levels : All (λ (trie : LevelsView). trie ≡ levels_of set trie.group) tries
   pub size : row_len + sum_by (λ (trie : LevelsView). trie.words) tries ≤ most_words
 

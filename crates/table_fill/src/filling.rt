@@ -9,7 +9,7 @@ ghost use Rattle.trie_merge.specs.Levels.{LevelsView, levels_of};
 ghost use Rattle.flat_table.specs.Sound.{most_tries, most_words, row_len};
 ghost use Rattle.table_fill.specs.Filled.{table_of_tries, filled};
 ghost use Rattle.table_fill.specs.Serves.{Serves};
-ghost use Rattle.table_fill.specs.Tries.{groups_of, AreOfGroups};
+ghost use Rattle.table_fill.specs.Tries.{groups_of_tries, AreOfGroups};
 ghost use Rattle.table_fill.specs.Laws.{CanBeFilled};
 ghost use Rattle.flat_table.specs.Table.{view_of};
 
@@ -36,7 +36,7 @@ fn parts_of(alloc: Global, rules: &RuleSet, levels: &[Levels]) -> Result<Parts, 
     requires { AreOfGroups rules.now levels.now }
     ensures parts { IfOk result
         (λ parts. view_of parts ≡ table_of_tries rules.now levels.now) }
-    ensures can { OnOk result (CanBeFilled rules.now (groups_of levels.now)) }
+    ensures can { OnOk result (CanBeFilled rules.now (groups_of_tries levels.now)) }
 {
     let (key_len, count) = sizes(rules);
     let words = rule_words(alloc, rules)?;
@@ -61,11 +61,11 @@ fn parts_of(alloc: Global, rules: &RuleSet, levels: &[Levels]) -> Result<Parts, 
 /// `acl_gen.c`.
 pub fn fill(alloc: Global, rules: &RuleSet, levels: &[Levels]) -> Result<Table, AllocError>
     requires few { length levels.now ≤ most_tries }
-    requires groups { IsPartition (length rules.now.rules) (groups_of levels.now) }
+    requires groups { IsPartition (length rules.now.rules) (groups_of_tries levels.now) }
     requires levels { All (λ (trie : LevelsView). trie ≡ levels_of rules.now trie.group)
         levels.now }
     requires size { row_len + sum_by (λ (trie : LevelsView). trie.words) levels.now ≤ most_words }
-    ensures table { IfOk result (λ table. table ≡ filled rules.now (groups_of levels.now)) }
+    ensures table { IfOk result (λ table. table ≡ filled rules.now (groups_of_tries levels.now)) }
     ensures serves { IfOk result (λ table. Serves rules.now table) }
     ensures words { IfOk result (λ table. length table.words + row_len * length table.rows
         ≡ row_len + sum_by (λ (trie : LevelsView). trie.words) levels.now) }
