@@ -6,7 +6,7 @@
 //! word of the node.
 
 ghost use Rattle.std.specs.Prelude.{◌≡◌, ◌==◌, ◌+◌, ◌*◌, ◌^◌, ◌<◌, ◌≤◌, map, length, sum, nat_le};
-ghost use Rattle.std.specs.Prelude.{not, IsTrue, IfSome};
+ghost use Rattle.std.specs.Prelude.{not, true, IsTrue, IfSome};
 ghost use Rattle.std.specs.List.{list_all, position_from};
 ghost use Rattle.std.specs.Result.{result_err};
 ghost use Rattle.flat_table.specs.Groups.{longest_key, is_key_len, is_kept_word, depth_of};
@@ -114,6 +114,16 @@ fn is_sound_word(rows: usize, next: Level, word: u64) -> bool
     }
 }
 
+/// The same behind a word that is known to be sound: the words of a run of bytes are the same, and
+/// are looked at once.
+fn is_sound_behind(sound: Option<u64>, rows: usize, next: Level, word: u64) -> bool
+    requires next { next.from + next.len < 2 ^ 64 }
+    requires sound { IfSome sound (λ before. is_sound_word rows next before ≡ true) }
+    ensures { result ≡ is_sound_word rows next word }
+{
+    sound == Some(word) || is_sound_word(rows, next, word)
+}
+
 /// The place of the first unsound word of a level, whose words stand from a place on.
 fn unsound_in_level(rows: usize, next: Level, from: usize, words: &[u64]) -> Option<usize>
     requires next { next.from + next.len < 2 ^ 64 }
@@ -122,10 +132,12 @@ fn unsound_in_level(rows: usize, next: Level, from: usize, words: &[u64]) -> Opt
         ≡ position_from (λ word. not (is_sound_word rows next word)) from words.now }
     ensures bound { IfSome result (λ place. place < from + length words.now) }
 {
+    let mut sound = None;
     for (i, word) in words.iter().enumerate() {
-        if !is_sound_word(rows, next, *word) {
+        if !is_sound_behind(sound, rows, next, *word) {
             return Some(from + i);
         }
+        sound = Some(*word);
     }
     None
 }
