@@ -41,6 +41,7 @@ impl ReadBuffer {
         }
     }
 
+    #[inline]
     pub(crate) fn is_empty(&self) -> bool
         ensures { IsTrue result ↔ (self.now ≡ []) }
     {
@@ -55,6 +56,7 @@ impl ReadBuffer {
     }
 
     /// Reads once of the file, in place of what was held.
+    #[inline(never)]
     pub(crate) fn refill<F: Read>(&mut self, file: &mut F) -> Result<(), Failed>
         ensures read { OnOk result (Consumes (F.remaining file.old) (F.remaining file.new)
             self.new) }
@@ -69,14 +71,22 @@ impl ReadBuffer {
     }
 
     /// Moves the first bytes into the beginning of the slice, and says how many they are.
+    #[inline]
     pub(crate) fn give(&mut self, into: &mut [u8]) -> usize
         ensures moved { result ≡ min (length self.old) (length into.old) }
         ensures given { take result into.new ≡ take result self.old }
         ensures left { self.new ≡ drop result self.old }
     {
         let held = &self.bytes[self.start..self.end];
-        let count = held.len().min(into.len());
-        into[..count].copy_from_slice(&held[..count]);
+        // Mostly all that there is room for is held.
+        if into.len() <= held.len() {
+            let count = into.len();
+            into.copy_from_slice(&held[..count]);
+            self.start += count;
+            return count;
+        }
+        let count = held.len();
+        into[..count].copy_from_slice(held);
         self.start += count;
         count
     }

@@ -101,6 +101,7 @@ impl<'a, R: Files> Desk for StdDesk<'a, R> {
         Ok(())
     }
 
+    #[inline]
     fn read(&mut self, into: &mut [u8]) -> Result<usize, Failed>
         requires { IsTrue self.old.reading }
 
@@ -135,6 +136,7 @@ impl<'a, R: Files> Desk for StdDesk<'a, R> {
 }
 
 /// Reads the next bytes of the file, by way of the buffer where that saves calls of the system.
+#[inline]
 fn read_buffered<F: Read>(
     file: &mut F,
     buffer: &mut ReadBuffer,

@@ -37,3 +37,9 @@ pub record Fills {E : Type 0} (into_old into_new : List ℕ) (old new : DeskView
   pub breaks_off : OnErr result (BreaksOff (length into_old) old new)
   pub cause : OnErr result (Rose old.read_faults new.read_faults)
   pub keeps : KeepsReading old new
+
+-- All that it promises where so many bytes were read since a desk was as `before`.
+abbrev pub FillsOn : {E : Type 0} → ℕ → List ℕ → List ℕ → DeskView → DeskView → Result ℕ E → Type 0
+FillsOn so_far into_old into_new old new result =
+    (before : DeskView) → ReadsOn and_goes_on (take so_far into_old) before old →
+    KeepsReading before old → Fills into_old into_new before new result

@@ -74,6 +74,7 @@ impl Capture {
     /// again, and asks for nothing. A fault that isn't [`CaptureFault::ReadFault`] is that of the
     /// capture, whose numbers count records from 1. Source: libpcap savefile format, per-packet
     /// header.
+    #[inline]
     pub fn next<D: Desk>(&mut self, desk: &mut D) -> Result<Option<&[u8]>, CaptureFault>
         requires reading { IsTrue (D.view desk.old).reading }
         requires unfailed { has_failed self.old.progress ≡ false }
@@ -101,6 +102,7 @@ impl Capture {
     }
 
     /// The link type of all records.
+    #[inline]
     pub fn link(&self) -> Link
         ensures { result ≡ self.now.start.link }
     {

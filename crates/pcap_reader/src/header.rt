@@ -42,6 +42,7 @@ pub fn file_header<B: ByteOrder>(bytes: &[u8; 24]) -> FileHeader
 /// The lengths of a record header of 16 bytes, in the order `B`.
 ///
 /// It refuses nothing and takes no memory. Source: libpcap savefile format, per-packet header.
+#[inline]
 pub fn record_header<B: ByteOrder>(bytes: &[u8; 16]) -> RecordHeader
     ensures { result ≡ record_header_by B.number_of bytes.now }
 {

@@ -30,6 +30,7 @@ pub fn read_file_header<D: Desk>(desk: &mut D) -> Result<Start, CaptureFault>
 
 /// Reads the record behind so many others into the front of `buffer`, and says how many captured
 /// bytes it has, or `None` at the end of the file.
+#[inline]
 pub fn read_record<D: Desk>(
     desk: &mut D,
     order: Order,
@@ -66,6 +67,7 @@ pub fn read_record<D: Desk>(
 
 /// Reads no record behind the last that a capture may have: `None` at the end of the file, else a
 /// fault.
+#[inline(never)]
 fn read_end<D: Desk>(desk: &mut D, count: u64) -> Result<Option<usize>, CaptureFault>
     requires reading { IsTrue (D.view desk.old).reading }
     requires last { max_records ≤ count }

@@ -47,6 +47,7 @@ impl Order {
     }
 
     /// The lengths of a record header in this order.
+    #[inline]
     pub fn record_header(self, bytes: &[u8; RECORD_HEADER]) -> RecordHeader
         ensures { result ≡ record_header_of self bytes.now }
     {

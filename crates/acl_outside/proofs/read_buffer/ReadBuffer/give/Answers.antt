@@ -1,4 +1,4 @@
-use Rattle.std.proofs.Common.{◌≡◌, ℕ, ◌+◌, ◌-◌, ◌≤◌, List, take, drop, length-take, sym, ◌∙◌, ap, arith}
+use Rattle.std.proofs.Common.{◌≡◌, ℕ, ◌+◌, ◌-◌, ◌≤◌, List, length, take, drop, length-take, sym, ◌∙◌, ap, arith}
 use Rattle.std.proofs.lemmas.List.{drop-drop, drop-take}
 use Rattle.acl_outside.proofs.read_buffer.ReadBuffer.give.Goals as goal
 
@@ -11,9 +11,10 @@ drop-held start end count bytes in_held =
     ap (take behind) (sym (drop-drop count start bytes)) ∙ sym (drop-take count behind (drop start bytes)) ∙
     ap (λ len. drop count (take len (drop start bytes))) parts
 
-pub returns-clause-left : goal.returns-clause-left
-returns-clause-left c =
+pub returns-then-into-held-clause-left : goal.returns-then-into-held-clause-left
+returns-then-into-held-clause-left c =
     let inside = c.self.inside in
-    let in_held : c.min-count.result ≤ inside.end - inside.start =
-    omega (arith, c.min-count.ensures, length-take (inside.end - inside.start) (drop inside.start inside.bytes)) in
-    rw (← c.self.view_is) (drop-held inside.start inside.end c.min-count.result inside.bytes in_held)
+    let count = length c.args.into.now in
+    let in_held : count ≤ inside.end - inside.start =
+    omega (arith, c.if-into-held.true, length-take (inside.end - inside.start) (drop inside.start inside.bytes)) in
+    rw (← c.self.view_is) (drop-held inside.start inside.end count inside.bytes in_held)
