@@ -60,6 +60,7 @@ const IP6: u16 = 0x86DD;
 /// headers. The ports are those of TCP, UDP and SCTP, and 0 for other protocols and for all
 /// fragments but the first. Up to two VLAN tags are passed over. It refuses nothing and takes no
 /// memory. Sources: IEEE 802.1Q, RFC 791, RFC 8200.
+#[inline]
 pub fn extract(link: Link, frame: &[u8], key: &mut KeyBuf) -> Class
     ensures { Extracts (frame_class link frame.now) key.old.bytes key.new.bytes result }
 {
@@ -74,7 +75,7 @@ pub fn extract(link: Link, frame: &[u8], key: &mut KeyBuf) -> Class
 }
 
 /// The class of a frame whose header has this length and the type at this place.
-#[inline]
+#[inline(always)]
 fn extract_typed(header_len: usize, type_at: usize, frame: &[u8], key: &mut KeyBuf) -> Class
     requires { type_at + 2 ≤ header_len }
     ensures { Extracts (typed_class header_len type_at frame.now)
@@ -98,6 +99,10 @@ fn behind_two_tags(ethertype: u16, payload: &[u8]) -> Option<(u16, &[u8])>
         (λ behind. behind_tags 2 ethertype payload.now ≡ Ok (behind.0, behind.1.now)) }
     ensures none { IsNone result → behind_tags 2 ethertype payload.now ≡ Err classes.Short }
 {
+    // Most frames have no tag.
+    if !is_tag(ethertype) {
+        return Some((ethertype, payload));
+    }
     let (ethertype, payload) = behind_tag(ethertype, payload)?;
     behind_tag(ethertype, payload)
 }
