@@ -6,7 +6,7 @@ ghost use Rattle.acl_report.specs.declared.packet.TheConstants.{MAX_VERDICTS, VE
 ghost use Rattle.acl_report.specs.Line.{space, spaced};
 ghost use Rattle.acl_report.specs.Packet.{answer, answers, answer_word, packet_text};
 
-use crate::line::{LINE_ROOM, append, append_number};
+use crate::line::{LINE_ROOM, append, append_number, append_short};
 use header_extract::Class;
 
 /// How many categories a line shows at most.
@@ -20,6 +20,7 @@ const VERDICT_ROOM: usize = 11;
 /// The line has the packet's number, the word of its class, and a word for each category: the
 /// verdict, or `-` where its dash is true. A class that has no key has a single `-` in their place.
 /// `verdicts` and `dashes` have an entry for each category, from category 0 on. It takes no memory.
+#[inline(always)]
 pub fn packet_line(
     number: u64,
     class: Class,
@@ -50,6 +51,7 @@ pub fn packet_line(
 }
 
 /// Writes a word for each category, each behind a space.
+#[inline(always)]
 fn append_answers(
     into: &mut [u8; LINE_ROOM],
     start: usize,
@@ -70,6 +72,7 @@ fn append_answers(
 }
 
 /// Writes the word of one category behind a space.
+#[inline]
 fn append_answer(into: &mut [u8; LINE_ROOM], at: usize, verdict: u32, dash: bool) -> usize
     requires { at + VERDICT_ROOM ≤ LINE_ROOM }
     ensures end { result ≤ at + VERDICT_ROOM }
@@ -80,6 +83,6 @@ fn append_answer(into: &mut [u8; LINE_ROOM], at: usize, verdict: u32, dash: bool
     if dash {
         append(into, at, b"-")
     } else {
-        append_number(into, at, verdict)
+        append_short(into, at, verdict)
     }
 }

@@ -22,10 +22,10 @@ pub fn table_line(
     ensures line { take result into.new ≡ table_text family rules tries words }
 {
     let at = match family {
-        Family::Ip4 => append_count(into, 0, b"ip4 rules ", rules),
-        Family::Ip6 => append_count(into, 0, b"ip6 rules ", rules),
+        Family::Ip4 => append_count(into, 0, b"ip4 rules ", u64::from(rules)),
+        Family::Ip6 => append_count(into, 0, b"ip6 rules ", u64::from(rules)),
     };
-    let at = append_count(into, at, b" tries ", tries);
+    let at = append_count(into, at, b" tries ", tries as u64);
     let at = append_count(into, at, b" words ", words);
     append(into, at, b"\n")
 }
