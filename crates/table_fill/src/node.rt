@@ -1,7 +1,7 @@
 //! The words that lead to nodes, and the words that nodes have.
 
 ghost use Rattle.std.specs.Prelude.{◌≡◌, ◌*◌, ◌<◌, ◌≤◌, ◌^◌, ◌++◌, map, length, slice_index, OnOk};
-ghost use Rattle.std.specs.Prelude.{All};
+ghost use Rattle.std.specs.Prelude.{All, replicate};
 ghost use Rattle.flat_table.specs.Word.{indexes, kinds, below_boundaries};
 ghost use Rattle.trie_merge.specs.Levels.{cost_of, few_runs};
 ghost use Rattle.table_fill.specs.Filled.{word_of, match_of, boundaries, boundary_count, as_number};
@@ -109,6 +109,14 @@ fn succ_word(targets: &[u64], to: Succ) -> u64
     }
 }
 
+/// Puts so many copies of a word behind the others.
+fn push_copies(words: &mut Vec<u64>, count: usize, word: u64) -> Result<(), AllocError>
+    requires { count ≤ 256 }
+    ensures { OnOk result (words.new.items ≡ words.old.items ++ replicate count word) }
+{
+    words.resize(words.len() + count, word)
+}
+
 /// Puts the words of a node of a few runs behind the others: one for each run, and then matches of
 /// row 0 in those that are unused.
 fn push_few(words: &mut Vec<u64>, targets: &[u64], runs: &[Run]) -> Result<(), AllocError>
@@ -120,9 +128,8 @@ fn push_few(words: &mut Vec<u64>, targets: &[u64], runs: &[Run]) -> Result<(), A
     for run in runs {
         words.push(succ_word(targets, run.to))?;
     }
-    for _ in runs.len()..node_len(runs.len()) {
-        words.push(match_of(0))?;
-    }
+    let unused = node_len(runs.len()) - runs.len();
+    push_copies(words, unused, match_of(0))?;
     Ok(())
 }
 
@@ -136,9 +143,7 @@ fn push_many(words: &mut Vec<u64>, targets: &[u64], runs: &[Run]) -> Result<(), 
     let mut first = 0;
     for run in runs {
         let behind = usize::from(run.last) + 1;
-        for _ in first..behind {
-            words.push(succ_word(targets, run.to))?;
-        }
+        push_copies(words, behind - first, succ_word(targets, run.to))?;
         first = behind;
     }
     Ok(())

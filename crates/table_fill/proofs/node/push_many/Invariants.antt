@@ -1,6 +1,5 @@
 -- the words so far, with those of the runs that are left, are those of all runs
-use Rattle.std.proofs.Common.{◌≡◌, ◌-◌, ◌++◌, drop, replicate}
-use Rattle.table_fill.specs.Filled.{succ_word}
+use Rattle.std.proofs.Common.{◌≡◌, ◌++◌, drop}
 use Rattle.table_fill.proofs.Written.{words_from, HoldRest}
 use Rattle.table_fill.proofs.node.push_many.Given as goal
 
@@ -9,7 +8,3 @@ invariant-loop-run l =
     (l.words.items ++ words_from l.targets l.first (drop l.run-index l.runs) ≡ l.fn.words.items
     ++ words_from l.targets 0 l.runs)
     × HoldRest l.first (drop l.run-index l.runs)
-
-abbrev pub invariant-loop : goal.invariant-loop
-invariant-loop l =
-    l.words.items ≡ l.initial.words.items ++ replicate (l.counter - l.first) (succ_word l.targets l.run.to)
