@@ -11,7 +11,7 @@ use Rattle.acl_tool.specs.declared.room.TheConstants.{BATCH_LINES}
 pub record HasRoom (packets : Vec FrameClass Global) (keys ip4 ip6 lines : Vec ℕ Global)
     : Type 0 where
   pub packets_fit : max_batch ≤ vec_capacity packets
-  pub keys_fit : BATCH_KEYS ≤ vec_capacity keys
+  pub keys_fit : vec_len keys ≡ BATCH_KEYS
   pub ip4_verdicts : vec_len ip4 ≡ BATCH_VERDICTS
   pub ip6_verdicts : vec_len ip6 ≡ BATCH_VERDICTS
-  pub lines_fit : BATCH_LINES ≤ vec_capacity lines
+  pub lines_fit : vec_len lines ≡ BATCH_LINES

@@ -1,11 +1,11 @@
-//! The lines of packets, one behind the other.
+//! The lines of packets, one behind the other, and those behind them.
 
-ghost use Rattle.std.specs.Prelude.{◌≡◌, ◌+◌, ◌*◌, ◌≤◌, ◌++◌, [], All, length, vec_len};
-ghost use Rattle.std.specs.Prelude.{vec_capacity};
+ghost use Rattle.std.specs.Prelude.{◌≡◌, ◌+◌, ◌*◌, ◌≤◌, ◌++◌, [], All, length, take};
 ghost use Rattle.field_defs.specs.declared.field.Family.TheVariants as family;
 ghost use Rattle.acl_report.specs.declared.line.TheConstants.{LINE_ROOM};
 ghost use Rattle.acl_report.specs.declared.packet.TheConstants.{MAX_VERDICTS};
 ghost use Rattle.acl_report.specs.Counts.{CountsFit, counted};
+ghost use Rattle.acl_report.specs.Packet.{answers, packet_text};
 ghost use Rattle.pcap_reader.specs.Capture.{max_records};
 ghost use Rattle.acl_tool.specs.Packet.{IsPacket};
 ghost use Rattle.acl_tool.specs.Report.{counted_all, line_of_packet, line_of_table};
@@ -20,18 +20,20 @@ use field_defs::Family;
 use flat_table::Table;
 use header_extract::Class;
 
-/// Puts the lines of packets behind the others, for which there is room, and counts the packets.
+/// Writes the lines of packets to the front of `lines`, counts the packets, and says how many bytes
+/// the lines have.
 ///
 /// The first has the number behind those that were counted. `ip4` and `ip6` have the verdicts on
-/// the packets of each family, in order. It takes no memory.
-pub fn add_lines(
+/// the packets of each family, in order. `lines` has [`LINE_ROOM`] bytes for each packet. It takes
+/// no memory.
+pub fn write_lines(
     printer: &Printer<'_>,
     packets: &[Packet],
     ip4: &[u32],
     ip6: &[u32],
     counts: &mut Counts,
-    lines: &mut Vec<u8>,
-)
+    lines: &mut [u8],
+) -> usize
     requires classes { counts.old.ip4 + counts.old.ip6 + counts.old.other + counts.old.short
         ≡ counts.old.packets }
     requires few { counts.old.packets + length packets.now ≤ max_records }
@@ -40,106 +42,141 @@ pub fn add_lines(
         packets.now }
     requires ip6 { ip6.now ≡ verdicts_of family.Ip6 printer.now.tables.ip6 printer.now.categories
         packets.now }
-    requires room { vec_len lines.old + length packets.now * LINE_ROOM ≤ vec_capacity lines.old }
-    ensures lines { lines.new.items ≡ lines.old.items
-        ++ lines_of_packets printer.now (counts.old.packets + 1) packets.now }
+    requires room { length packets.now * LINE_ROOM ≤ length lines.old }
+    ensures within { result ≤ length lines.old }
+    ensures lines { take result lines.new
+        ≡ lines_of_packets printer.now (counts.old.packets + 1) packets.now }
     ensures counts { counts.new ≡ counted_all packets.now counts.old }
-    ensures capacity { vec_capacity lines.old ≤ vec_capacity lines.new }
+    ensures len { length lines.new ≡ length lines.old }
 {
-    let mut line = [0; LINE_ROOM];
     let count = printer.categories().count();
     let (mut ip4, mut ip6) = (ip4, ip6);
+    let mut end = 0;
     for packet in packets {
-        match packet.class() {
+        // Each class has a call of its own, in which what depends on the class is settled.
+        let class = packet.class();
+        match class {
             Class::Ip4 => {
                 let (verdicts, behind) = ip4.split_at(count);
                 ip4 = behind;
-                add_line(printer, packet, verdicts, counts, &mut line, lines);
+                end = write_line(printer, packet, class, verdicts, counts, lines, end);
             }
             Class::Ip6 => {
                 let (verdicts, behind) = ip6.split_at(count);
                 ip6 = behind;
-                add_line(printer, packet, verdicts, counts, &mut line, lines);
+                end = write_line(printer, packet, class, verdicts, counts, lines, end);
             }
             Class::Other | Class::Short => {
-                add_line(printer, packet, &[], counts, &mut line, lines)
+                end = write_line(printer, packet, class, &[], counts, lines, end)
             }
         }
     }
+    end
 }
 
-/// Puts the line of a packet behind the others, by way of `line`, and counts the packet.
-fn add_line(
+/// Writes the line of a packet of the class at the place `at`, counts the packet, and gives the
+/// place behind the line.
+#[inline(always)]
+fn write_line(
     printer: &Printer<'_>,
     packet: &Packet,
+    class: Class,
     verdicts: &[u32],
     counts: &mut Counts,
-    line: &mut [u8; LINE_ROOM],
-    lines: &mut Vec<u8>,
-)
+    lines: &mut [u8],
+    at: usize,
+) -> usize
     requires fit { CountsFit counts.old }
     requires packet { IsPacket packet.now }
+    requires class { class ≡ packet.now.class }
     requires verdicts { verdicts.now ≡ verdicts_on packet.now.class printer.now packet.now.key }
     requires few { length verdicts.now ≤ MAX_VERDICTS }
-    requires room { vec_len lines.old + LINE_ROOM ≤ vec_capacity lines.old }
-    ensures lines { lines.new.items ≡ lines.old.items
-        ++ line_of_packet printer.now (counts.old.packets + 1) packet.now }
-    ensures len { vec_len lines.new ≤ vec_len lines.old + LINE_ROOM }
+    requires room { at + LINE_ROOM ≤ length lines.old }
+    ensures end { result ≤ at + LINE_ROOM }
+    ensures lines { take result lines.new
+        ≡ take at lines.old ++ line_of_packet printer.now (counts.old.packets + 1) packet.now }
+    ensures len { length lines.new ≡ length lines.old }
     ensures counts { counts.new ≡ counted packet.now.class counts.old }
-    ensures capacity { vec_capacity lines.old ≤ vec_capacity lines.new }
 {
     let dashes = printer.dashes(packet);
-    counts.add(packet.class());
-    let len = packet_line(
+    counts.add(class);
+    let len = write_front(
         counts.packets,
-        packet.class(),
+        class,
         verdicts,
         &dashes[..verdicts.len()],
-        line,
+        &mut lines[at..],
     );
-    extend_reserved(lines, &line[..len]);
+    at + len
 }
 
-/// Puts the lines behind those of a whole capture behind the others, for which there is room.
+/// Writes the line of a packet, as [`packet_line`] has it, to the front of `lines`.
+#[inline(always)]
+fn write_front(
+    number: u64,
+    class: Class,
+    verdicts: &[u32],
+    dashes: &[bool],
+    lines: &mut [u8],
+) -> usize
+    requires categories { length verdicts.now ≤ MAX_VERDICTS }
+    requires dashes { length dashes.now ≡ length verdicts.now }
+    requires room { LINE_ROOM ≤ length lines.old }
+    ensures within { result ≤ LINE_ROOM }
+    ensures line { take result lines.new
+        ≡ packet_text number class (answers verdicts.now dashes.now) }
+    ensures len { length lines.new ≡ length lines.old }
+{
+    match lines.first_chunk_mut() {
+        Some(line) => packet_line(number, class, verdicts, dashes, line),
+        None => unreachable!(),
+    }
+}
+
+/// Writes the lines behind those of a whole capture to the front of `lines`, which has room for
+/// four, and says how many bytes they have.
 ///
 /// They are the line of the counts and, where they are asked for, those of the tables and of the
 /// transitions. It takes no memory.
-pub fn add_last(printer: &Printer<'_>, counts: &Counts, taken: u64, lines: &mut Vec<u8>)
-    requires room { vec_len lines.old + 4 * LINE_ROOM ≤ vec_capacity lines.old }
-    ensures lines { lines.new.items ≡ lines.old.items ++ last_text printer.now counts.now taken }
-    ensures capacity { vec_capacity lines.old ≤ vec_capacity lines.new }
+pub fn write_last(printer: &Printer<'_>, counts: &Counts, taken: u64, lines: &mut [u8]) -> usize
+    requires room { 4 * LINE_ROOM ≤ length lines.old }
+    ensures within { result ≤ length lines.old }
+    ensures lines { take result lines.new ≡ last_text printer.now counts.now taken }
 {
     let mut line = [0; LINE_ROOM];
     let len = packets_line(counts, &mut line);
-    extend_reserved(lines, &line[..len]);
-    if printer.has_stats() {
-        add_table(Family::Ip4, printer.table(Family::Ip4), &mut line, lines);
-        add_table(Family::Ip6, printer.table(Family::Ip6), &mut line, lines);
-        let len = transitions_line(taken, &mut line);
-        extend_reserved(lines, &line[..len]);
+    let end = put_at(lines, 0, &line[..len]);
+    if !printer.has_stats() {
+        return end;
     }
+    let end = write_table(Family::Ip4, printer.table(Family::Ip4), lines, end);
+    let end = write_table(Family::Ip6, printer.table(Family::Ip6), lines, end);
+    let len = transitions_line(taken, &mut line);
+    put_at(lines, end, &line[..len])
 }
 
-/// Puts the line of a table behind the others, by way of `line`.
-fn add_table(family: Family, table: &Table, line: &mut [u8; LINE_ROOM], lines: &mut Vec<u8>)
-    requires room { vec_len lines.old + LINE_ROOM ≤ vec_capacity lines.old }
-    ensures lines { lines.new.items ≡ lines.old.items ++ line_of_table family table.now }
-    ensures len { vec_len lines.new ≤ vec_len lines.old + LINE_ROOM }
-    ensures capacity { vec_capacity lines.old ≤ vec_capacity lines.new }
+/// Writes the line of a table at the place `at`, and gives the place behind it.
+fn write_table(family: Family, table: &Table, lines: &mut [u8], at: usize) -> usize
+    requires room { at + LINE_ROOM ≤ length lines.old }
+    ensures end { result ≤ at + LINE_ROOM }
+    ensures lines { take result lines.new ≡ take at lines.old ++ line_of_table family table.now }
+    ensures len { length lines.new ≡ length lines.old }
 {
+    let mut line = [0; LINE_ROOM];
     let (rules, words) = (table.rules(), table.total_words());
-    let len = table_line(family, rules, table.tries(), words, line);
-    extend_reserved(lines, &line[..len]);
+    let len = table_line(family, rules, table.tries(), words, &mut line);
+    put_at(lines, at, &line[..len])
 }
 
-/// Puts bytes at the end, for which there is room.
-pub fn extend_reserved(bytes: &mut Vec<u8>, more: &[u8])
-    requires { vec_len bytes.old + length more.now ≤ vec_capacity bytes.old }
-    ensures items { bytes.new.items ≡ bytes.old.items ++ more.now }
-    ensures capacity { vec_capacity bytes.old ≤ vec_capacity bytes.new }
+/// Writes bytes at the place `at`, and gives the place behind them.
+#[inline]
+pub fn put_at(into: &mut [u8], at: usize, bytes: &[u8]) -> usize
+    requires room { at + length bytes.now ≤ length into.old }
+    ensures end { result ≡ at + length bytes.now }
+    ensures bytes { take result into.new ≡ take at into.old ++ bytes.now }
+    ensures len { length into.new ≡ length into.old }
 {
-    match bytes.extend_from_slice(more) {
-        Ok(()) => {}
-        Err(_) => unreachable!(),
-    }
+    let end = at + bytes.len();
+    into[at..end].copy_from_slice(bytes);
+    end
 }

@@ -21,7 +21,7 @@ pub const IP6_KEY: usize = 37;
 pub struct Packet {
     class: Class,
     /// The key stands in front.
-    bytes: [u8; IP6_KEY],
+    room: KeyBuf,
 }
 
 impl Model for Packet {
@@ -32,7 +32,7 @@ impl Model for Packet {
 
     ghost view = { λ packet. record {
       class = packet.class;
-      key = take (key_len packet.class) packet.bytes;
+      key = take (key_len packet.class) packet.room.bytes;
     } };
 }
 
@@ -42,15 +42,12 @@ impl Packet {
         ensures packet { result ≡ settled (frame_class link frame.now) }
         ensures key { IsPacket result }
     {
-        let mut key = KeyBuf {
+        let mut room = KeyBuf {
             bytes: [0; IP6_KEY],
         };
-        let class = extract(link, frame, &mut key);
-        are_bytes(&key.bytes);
-        Packet {
-            class,
-            bytes: key.bytes,
-        }
+        let class = extract(link, frame, &mut room);
+        are_bytes(&room.bytes);
+        Packet { class, room }
     }
 
     /// The class of the frame.
@@ -67,8 +64,8 @@ impl Packet {
         ensures bound { length result.now ≤ IP6_KEY }
     {
         match self.class {
-            Class::Ip4 => &self.bytes[..IP4_KEY],
-            Class::Ip6 => &self.bytes,
+            Class::Ip4 => &self.room.bytes[..IP4_KEY],
+            Class::Ip6 => &self.room.bytes,
             Class::Other | Class::Short => &[],
         }
     }

@@ -10,7 +10,7 @@ ghost use Rattle.acl_tool.specs.Batch.{max_steps};
 ghost use Rattle.acl_tool.specs.Taken.{max_batch};
 
 use crate::batch::MAX_BATCH;
-use crate::lines::{add_last, add_lines};
+use crate::lines::{write_last, write_lines};
 use crate::packet::Packet;
 use crate::printing::Printer;
 use crate::walked::{BATCH_KEYS, BATCH_VERDICTS, walk_keys};
@@ -35,6 +35,7 @@ pub struct Room {
     /// The verdicts on the IPv4 packets, and those on the IPv6 packets.
     ip4: Vec<u32>,
     ip6: Vec<u32>,
+    /// The lines of the batch.
     lines: Vec<u8>,
 }
 
@@ -55,10 +56,10 @@ impl Room {
     pub fn new(alloc: Global) -> Result<Self, AllocError> {
         Ok(Room {
             packets: Vec::with_capacity(alloc, MAX_BATCH)?,
-            keys: Vec::with_capacity(alloc, BATCH_KEYS)?,
+            keys: vec![in alloc; 0; BATCH_KEYS]?,
             ip4: vec![in alloc; 0; BATCH_VERDICTS]?,
             ip6: vec![in alloc; 0; BATCH_VERDICTS]?,
-            lines: Vec::with_capacity(alloc, BATCH_LINES)?,
+            lines: vec![in alloc; 0; BATCH_LINES]?,
         })
     }
 
@@ -107,8 +108,7 @@ impl Room {
             steps,
         );
         *taken += ip4.taken + ip6.taken;
-        self.lines.clear();
-        add_lines(
+        let len = write_lines(
             printer,
             &self.packets,
             &self.ip4[..ip4.verdicts],
@@ -116,7 +116,7 @@ impl Room {
             counts,
             &mut self.lines,
         );
-        put_all(out, &self.lines)
+        put_all(out, &self.lines[..len])
     }
 
     /// Puts the lines behind those of a whole capture to the sink. It takes no memory.
@@ -132,8 +132,7 @@ impl Room {
         ensures { Puts (last_text printer.now counts.now taken) (O.view out.old) (O.view out.new)
             result }
     {
-        self.lines.clear();
-        add_last(printer, counts, taken, &mut self.lines);
-        put_all(out, &self.lines)
+        let len = write_last(printer, counts, taken, &mut self.lines);
+        put_all(out, &self.lines[..len])
     }
 }

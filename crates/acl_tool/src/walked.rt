@@ -1,7 +1,6 @@
 //! The walks of the keys of a batch, one family after the other.
 
-ghost use Rattle.std.specs.Prelude.{◌≡◌, ◌+◌, ◌*◌, ◌≤◌, ◌++◌, [], All, length, take, vec_len};
-ghost use Rattle.std.specs.Prelude.{vec_capacity};
+ghost use Rattle.std.specs.Prelude.{◌≡◌, ◌+◌, ◌*◌, ◌≤◌, ◌++◌, [], All, length, take};
 ghost use Rattle.flat_table.specs.Sound.{most_tries};
 ghost use Rattle.acl_tool.specs.Taken.{max_batch};
 ghost use Rattle.acl_tool.specs.Packet.{IsPacket};
@@ -11,7 +10,7 @@ ghost use Rattle.acl_tool.specs.Batch.{max_steps};
 ghost use Rattle.acl_tool.specs.declared.walked.TheConstants.{BATCH_KEYS, BATCH_VERDICTS};
 
 use crate::batch::MAX_BATCH;
-use crate::lines::extend_reserved;
+use crate::lines::put_at;
 use crate::packet::{IP6_KEY, Packet};
 use acl_report::MAX_VERDICTS;
 use field_defs::Family;
@@ -39,14 +38,14 @@ pub struct Walked {
 /// Walks the keys of the packets of a family through its table, and writes their verdicts to the
 /// front of `verdicts`, those of one packet after those of another.
 ///
-/// There are at most 64 packets. `keys` has room for their keys, which take the place of what was
-/// there, and `verdicts` has [`BATCH_VERDICTS`] elements. It takes no memory.
+/// There are at most 64 packets. `keys` has room for their keys, [`BATCH_KEYS`] bytes, which are
+/// overwritten, and `verdicts` has [`BATCH_VERDICTS`] elements. It takes no memory.
 pub fn walk_keys<L: Ledger>(
     table: &Table,
     family: Family,
     packets: &[Packet],
     categories: Categories,
-    keys: &mut Vec<u8>,
+    keys: &mut [u8],
     verdicts: &mut [u32],
     steps: &mut Steps<L>,
 ) -> Walked
@@ -54,7 +53,7 @@ pub fn walk_keys<L: Ledger>(
     requires tries { length table.now.roots ≤ most_tries }
     requires few { length packets.now ≤ max_batch }
     requires packets { All IsPacket packets.now }
-    requires keys { BATCH_KEYS ≤ vec_capacity keys.old }
+    requires keys { BATCH_KEYS ≤ length keys.old }
     requires verdicts { length verdicts.old ≡ BATCH_VERDICTS }
     ensures within { result.verdicts ≤ BATCH_VERDICTS }
     ensures verdicts { take result.verdicts verdicts.new
@@ -63,9 +62,11 @@ pub fn walk_keys<L: Ledger>(
     ensures bound { result.taken ≤ length packets.now * max_steps }
     ensures steps { steps.new ≡ steps.old + steps_of_family family table.now packets.now }
     ensures len { length verdicts.new ≡ BATCH_VERDICTS }
-    ensures capacity { vec_capacity keys.old ≤ vec_capacity keys.new }
+    ensures keys { length keys.new ≡ length keys.old }
 {
-    let count = gather_keys(family, packets, keys) * categories.count();
+    let gathered = gather_keys(family, packets, keys);
+    let count = gathered.packets * categories.count();
+    let keys = &keys[..gathered.bytes];
     let taken = classify_scalar(table, keys, categories, &mut verdicts[..count], steps);
     Walked {
         verdicts: count,
@@ -73,26 +74,35 @@ pub fn walk_keys<L: Ledger>(
     }
 }
 
-/// Gathers the keys of the packets of a family in the place of what was there, and says how many
-/// there are.
-fn gather_keys(family: Family, packets: &[Packet], keys: &mut Vec<u8>) -> usize
+/// How many packets of a family were gathered, and how many bytes their keys have.
+#[derive(Clone, Copy)]
+struct Gathered {
+    packets: usize,
+    bytes: usize,
+}
+
+/// Writes the keys of the packets of a family to the front of `keys`, one after the other.
+fn gather_keys(family: Family, packets: &[Packet], keys: &mut [u8]) -> Gathered
     requires few { length packets.now ≤ max_batch }
     requires packets { All IsPacket packets.now }
-    requires keys { BATCH_KEYS ≤ vec_capacity keys.old }
-    ensures count { result ≡ number_of family packets.now }
-    ensures few { result ≤ length packets.now }
-    ensures keys { keys.new.items ≡ keys_of family packets.now }
-    ensures capacity { vec_capacity keys.old ≤ vec_capacity keys.new }
+    requires room { BATCH_KEYS ≤ length keys.old }
+    ensures count { result.packets ≡ number_of family packets.now }
+    ensures few { result.packets ≤ length packets.now }
+    ensures within { result.bytes ≤ length keys.old }
+    ensures keys { take result.bytes keys.new ≡ keys_of family packets.now }
+    ensures len { length keys.new ≡ length keys.old }
 {
-    keys.clear();
-    let mut count = 0;
+    let (mut count, mut end) = (0, 0);
     for packet in packets {
         if is_of(family, packet.class()) {
-            extend_reserved(keys, packet.key());
+            end = put_at(keys, end, packet.key());
             count += 1;
         }
     }
-    count
+    Gathered {
+        packets: count,
+        bytes: end,
+    }
 }
 
 /// Whether a frame holds a packet of the family.

@@ -27,7 +27,7 @@ returns-clause-bound g c =
       c.walk_keys-ip6.ensures.bound,
       ap length (c.deref.ensures.value ∙ c.self.view_is),
       ap length (c.deref-2.ensures.value ∙ c.self.view_is),
-      ap (λ counts. counts.packets) c.add_lines.ensures.counts,
+      ap (λ counts. counts.packets) c.write_lines-len.ensures.counts,
       counted_all-packets c.deref-3.result.now c.args.counts.now,
       ap length (c.deref-3.ensures.value ∙ c.self.view_is),
     )
