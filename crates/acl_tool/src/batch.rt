@@ -1,12 +1,11 @@
 //! Records of a capture, at most 64 at a time, as their packets.
 
-ghost use Rattle.std.specs.Prelude.{◌≡◌, ◌+◌, ◌<◌, ◌≤◌, [], ◌∷◌, ◌++◌, vec_len, vec_capacity};
-ghost use Rattle.std.specs.Prelude.{IsTrue};
+ghost use Rattle.std.specs.Prelude.{◌≡◌, ◌+◌, ◌<◌, IsTrue, length};
 ghost use Rattle.pcap_reader.specs.Reader.{begun, state_of};
 ghost use Rattle.pcap_reader.specs.declared.progress.Progress.TheVariants as progress;
 ghost use Rattle.acl_tool.specs.Taken.{TakesBatch, TakesRecord, max_batch};
 
-use crate::packet::Packet;
+use crate::packets::Packets;
 use acl_outside::Desk;
 use pcap_reader::{Capture, CaptureFault};
 
@@ -30,17 +29,15 @@ pub enum BatchEnd {
 pub fn take_batch<D: Desk>(
     capture: &mut Capture,
     desk: &mut D,
-    packets: &mut Vec<Packet>,
+    packets: &mut Packets,
 ) -> BatchEnd
     requires reading { IsTrue (D.view desk.old).reading }
     requires state { capture.old.progress ≡ progress.Reading }
-    requires room { max_batch ≤ vec_capacity packets.old }
-    ensures batch { TakesBatch capture.old.start capture.old.count packets.new.items
+    ensures batch { TakesBatch capture.old.start capture.old.count packets.new
         (D.view desk.old) (D.view desk.new) result }
     ensures state { result ≡ BatchEnd.Full
         → capture.new ≡ state_of capture.old.start
         (capture.old.count + max_batch) progress.Reading }
-    ensures capacity { vec_capacity packets.old ≤ vec_capacity packets.new }
 {
     packets.clear();
     while packets.len() < MAX_BATCH {
@@ -56,34 +53,21 @@ pub fn take_batch<D: Desk>(
 fn take_record<D: Desk>(
     capture: &mut Capture,
     desk: &mut D,
-    packets: &mut Vec<Packet>,
+    packets: &mut Packets,
 ) -> Option<BatchEnd>
     requires reading { IsTrue (D.view desk.old).reading }
     requires state { capture.old.progress ≡ progress.Reading }
-    requires room { vec_len packets.old < vec_capacity packets.old }
-    ensures takes { TakesRecord capture.old capture.new packets.old.items packets.new.items
+    requires room { length packets.old < max_batch }
+    ensures takes { TakesRecord capture.old capture.new packets.old packets.new
         (D.view desk.old) (D.view desk.new) result }
-    ensures capacity { vec_capacity packets.old ≤ vec_capacity packets.new }
 {
     let link = capture.link();
     match capture.next(desk) {
         Ok(Some(frame)) => {
-            add_packet(packets, Packet::read(link, frame));
+            packets.add(link, frame);
             None
         }
         Ok(None) => Some(BatchEnd::End),
         Err(fault) => Some(BatchEnd::Fault(fault)),
-    }
-}
-
-/// Puts a packet behind the others, for which there is room.
-fn add_packet(packets: &mut Vec<Packet>, packet: Packet)
-    requires { vec_len packets.old < vec_capacity packets.old }
-    ensures items { packets.new.items ≡ packets.old.items ++ packet ∷ [] }
-    ensures capacity { vec_capacity packets.old ≤ vec_capacity packets.new }
-{
-    match packets.push(packet) {
-        Ok(()) => {}
-        Err(_) => unreachable!(),
     }
 }

@@ -37,6 +37,7 @@ mod lines;
 mod message;
 mod options;
 mod packet;
+mod packets;
 mod print;
 mod printing;
 mod room;

@@ -37,17 +37,24 @@ impl Model for Packet {
 }
 
 impl Packet {
-    /// The packet of a frame by its link type. It refuses nothing and takes no memory.
-    pub fn read(link: Link, frame: &[u8]) -> Packet
-        ensures packet { result ≡ settled (frame_class link frame.now) }
-        ensures key { IsPacket result }
+    /// No packet yet: room for the packet of a frame. It takes no memory.
+    pub fn new() -> Packet {
+        Packet {
+            class: Class::Other,
+            room: KeyBuf {
+                bytes: [0; IP6_KEY],
+            },
+        }
+    }
+
+    /// Makes it the packet of a frame by its link type. It refuses nothing and takes no memory.
+    #[inline]
+    pub fn read(&mut self, link: Link, frame: &[u8])
+        ensures packet { self.new ≡ settled (frame_class link frame.now) }
+        ensures key { IsPacket self.new }
     {
-        let mut room = KeyBuf {
-            bytes: [0; IP6_KEY],
-        };
-        let class = extract(link, frame, &mut room);
-        are_bytes(&room.bytes);
-        Packet { class, room }
+        self.class = extract(link, frame, &mut self.room);
+        are_bytes(&self.room.bytes);
     }
 
     /// The class of the frame.
@@ -73,6 +80,7 @@ impl Packet {
 
 /// Each element of a slice of bytes is below 256, which definitions of keys want to be told. It
 /// does nothing when it is run.
+#[inline(always)]
 fn are_bytes(bytes: &[u8])
     ensures { All (λ byte. byte < 256) bytes.now }
 {

@@ -11,7 +11,7 @@ ghost use Rattle.acl_tool.specs.Taken.{max_batch};
 
 use crate::batch::MAX_BATCH;
 use crate::lines::{write_last, write_lines};
-use crate::packet::Packet;
+use crate::packets::Packets;
 use crate::printing::Printer;
 use crate::walked::{BATCH_KEYS, BATCH_VERDICTS, walk_keys};
 use acl_outside::{Failed, Sink, put_all};
@@ -29,7 +29,7 @@ const BATCH_LINES: usize = MAX_BATCH * LINE_ROOM;
 #[derive(Debug, Drop)]
 pub struct Room {
     /// The packets of the batch.
-    pub packets: Vec<Packet>,
+    pub packets: Packets,
     /// The keys of the packets of one family, one after the other.
     keys: Vec<u8>,
     /// The verdicts on the IPv4 packets, and those on the IPv6 packets.
@@ -46,16 +46,16 @@ impl Model for Room {
 
     ghost Value = { List FrameClass };
 
-    ghost view = { λ room. room.packets.items };
+    ghost view = { λ room. room.packets };
 
-    ghost invariant = { λ room. HasRoom room.packets room.keys room.ip4 room.ip6 room.lines };
+    ghost invariant = { λ room. HasRoom room.keys room.ip4 room.ip6 room.lines };
 }
 
 impl Room {
     /// Room for a batch. It takes all the memory that its other calls need.
     pub fn new(alloc: Global) -> Result<Self, AllocError> {
         Ok(Room {
-            packets: Vec::with_capacity(alloc, MAX_BATCH)?,
+            packets: Packets::new(alloc)?,
             keys: vec![in alloc; 0; BATCH_KEYS]?,
             ip4: vec![in alloc; 0; BATCH_VERDICTS]?,
             ip6: vec![in alloc; 0; BATCH_VERDICTS]?,
@@ -89,10 +89,11 @@ impl Room {
         ensures steps { steps.new ≡ steps.old + steps_of_packets printer.now.tables self.old }
     {
         let categories = printer.categories();
+        let packets = self.packets.as_slice();
         let ip4 = walk_keys(
             printer.table(Family::Ip4),
             Family::Ip4,
-            &self.packets,
+            packets,
             categories,
             &mut self.keys,
             &mut self.ip4,
@@ -101,7 +102,7 @@ impl Room {
         let ip6 = walk_keys(
             printer.table(Family::Ip6),
             Family::Ip6,
-            &self.packets,
+            packets,
             categories,
             &mut self.keys,
             &mut self.ip6,
@@ -110,7 +111,7 @@ impl Room {
         *taken += ip4.taken + ip6.taken;
         let len = write_lines(
             printer,
-            &self.packets,
+            packets,
             &self.ip4[..ip4.verdicts],
             &self.ip6[..ip6.verdicts],
             counts,

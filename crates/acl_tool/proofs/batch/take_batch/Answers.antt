@@ -5,19 +5,17 @@ use Rattle.acl_tool.proofs.batch.take_batch.Goals as goal
 
 pub loop-capture-init : goal.loop-capture-init
 loop-capture-init g c = record {
-  taking = IsTaking-none c.args.capture.now.start c.args.capture.now.count c.clear.new.self.items c.args.capture.now
-      (g.D.Desk.view c.args.desk.now) c.clear.ensures.items (state-is c.args.capture.now c.requires.state);
-  few = omega (arith, ap length c.clear.ensures.items);
-  room = omega (arith, c.requires.room, c.clear.ensures.capacity);
-  capacity = omega (arith, c.clear.ensures.capacity);
+  taking = IsTaking-none c.args.capture.now.start c.args.capture.now.count c.clear.new.self c.args.capture.now
+      (g.D.Desk.view c.args.desk.now) c.clear.ensures (state-is c.args.capture.now c.requires.state);
+  few = omega (arith, ap length c.clear.ensures);
   reading = c.requires.reading;
 }
 
 pub returns-in-Some-clause-batch : goal.returns-in-Some-clause-batch
 returns-in-Some-clause-batch g c =
     let view = g.D.Desk.view in
-    TakesBatch-stopped c.args.capture.now.start c.args.capture.now.count c.loop-capture.packets.items
-    c.take_record.new.packets.items
+    TakesBatch-stopped c.args.capture.now.start c.args.capture.now.count c.loop-capture.packets
+    c.take_record.new.packets
     c.loop-capture.capture c.take_record.new.capture (view c.args.desk.now) (view c.loop-capture.desk)
     (view c.take_record.new.desk)
     c.in-Some.end c.loop-capture.invariant.taking c.in-Some.ensures.takes c.loop-capture.invariant.few
@@ -27,15 +25,13 @@ loop-capture-preserved g c =
     let view = g.D.Desk.view in
     let takes = c.in-None.ensures.takes in
     let more =
-    IsTaking-record c.args.capture.now.start c.args.capture.now.count c.loop-capture.packets.items
-    c.take_record.new.packets.items
+    IsTaking-record c.args.capture.now.start c.args.capture.now.count c.loop-capture.packets
+    c.take_record.new.packets
     c.loop-capture.capture c.take_record.new.capture (view c.args.desk.now) (view c.loop-capture.desk)
     (view c.take_record.new.desk)
     c.loop-capture.invariant.taking takes in
     record {
       taking = more.0;
       few = omega (arith, more.1, c.loop-capture-test.true, c.len.ensures);
-      room = omega (arith, c.loop-capture.invariant.room, c.in-None.ensures.capacity);
-      capacity = omega (arith, c.loop-capture.invariant.capacity, c.in-None.ensures.capacity);
       reading = rw takes.takes.keeps.reading c.loop-capture.invariant.reading;
     }

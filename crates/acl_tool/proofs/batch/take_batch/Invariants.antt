@@ -1,7 +1,6 @@
 -- some records were taken, of the batch that is asked for
 use Rattle.std.proofs.Common.{◌≤◌, ◌-◌, length}
 use Rattle.std.specs.Bool.{IsTrue}
-use Rattle.std.specs.Prelude.{vec_capacity}
 use Rattle.acl_tool.specs.Taken.{max_batch}
 use Rattle.acl_tool.proofs.Batches.{IsTaking}
 use Rattle.acl_tool.proofs.batch.take_batch.Given as goal
@@ -9,13 +8,11 @@ use Rattle.acl_tool.proofs.batch.take_batch.Given as goal
 abbrev pub invariant-loop-capture : goal.invariant-loop-capture
 invariant-loop-capture g l =
     let view = g.D.Desk.view in record {
-      taking : IsTaking l.fn.capture.start l.fn.capture.count l.packets.items l.capture (view l.fn.desk)
+      taking : IsTaking l.fn.capture.start l.fn.capture.count l.packets l.capture (view l.fn.desk)
           (view l.desk);
-      few : length l.packets.items ≤ max_batch;
-      room : max_batch ≤ vec_capacity l.packets;
-      capacity : vec_capacity l.fn.packets ≤ vec_capacity l.packets;
+      few : length l.packets ≤ max_batch;
       reading : IsTrue (view l.desk).reading;
     }
 
 abbrev pub decreases-loop-capture : goal.decreases-loop-capture
-decreases-loop-capture g l = max_batch - length l.packets.items
+decreases-loop-capture g l = max_batch - length l.packets

@@ -29,7 +29,7 @@ returns-in-Err g c =
     (outside (desk c.args.desk.now) (out c.args.out.now) c.args.steps.now)
     (outside (desk c.batches.desk) (out c.batches.out) c.batches.steps)
     (outside (desk c.take_batch-end.new.desk) (out c.put_lines.new.out) c.put_lines.new.steps)
-    c.take_batch-end.new.packets.items
+    c.take_batch-end.new.packets
     c.take_batch-end.result
     c.in-Err.field-0 c.batches.invariant.printing c.take_batch-end.ensures.batch
     record {
@@ -43,7 +43,7 @@ pub batches-smaller : goal.batches-smaller
 batches-smaller g c =
     let desk = g.D.Desk.view in
     let out = g.O.Sink.view in
-    let packets = c.take_batch-end.new.packets.items in
+    let packets = c.take_batch-end.new.packets in
     let few =
     packets_few c.args.printer.now c.args.capture.now.start c.batches.counts c.batches.taken c.batches.capture
     (outside (desk c.args.desk.now) (out c.args.out.now) c.args.steps.now)
@@ -69,7 +69,7 @@ batches-preserved g c =
           c.take_batch-end.new.capture (outside (desk c.args.desk.now) (out c.args.out.now) c.args.steps.now)
           (outside (desk c.batches.desk) (out c.batches.out) c.batches.steps)
           (outside (desk c.take_batch-end.new.desk) (out c.put_lines.new.out) c.put_lines.new.steps)
-          c.take_batch-end.new.packets.items
+          c.take_batch-end.new.packets
           c.in-Ok.field-0
           c.batches.invariant.printing c.in-Full.ensures.batch
           record {
@@ -93,7 +93,7 @@ returns-in-End g c =
     (outside (desk c.take_batch-end.new.desk) (out c.print_last.new.out) c.put_lines.new.steps) c.print_last.result
     (HasPrinted-batch c.args.printer.now c.args.capture.now.start c.batches.counts c.put_lines.new.counts
     c.batches.taken c.put_lines.new.taken c.batches.capture old
-    (outside (desk c.batches.desk) (out c.batches.out) c.batches.steps) mid c.take_batch-end.new.packets.items _
+    (outside (desk c.batches.desk) (out c.batches.out) c.batches.steps) mid c.take_batch-end.new.packets _
     c.in-Ok.field-0
     c.batches.invariant.printing c.in-End.ensures.batch
     record {
@@ -115,7 +115,7 @@ returns-in-Fault g c =
     c.refused.result
     (HasPrinted-batch c.args.printer.now c.args.capture.now.start c.batches.counts c.put_lines.new.counts
     c.batches.taken c.put_lines.new.taken c.batches.capture old
-    (outside (desk c.batches.desk) (out c.batches.out) c.batches.steps) new c.take_batch-end.new.packets.items _
+    (outside (desk c.batches.desk) (out c.batches.out) c.batches.steps) new c.take_batch-end.new.packets _
     c.in-Ok.field-0
     c.batches.invariant.printing c.in-Fault.ensures.batch
     record {

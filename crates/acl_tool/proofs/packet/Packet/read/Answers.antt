@@ -18,9 +18,9 @@ extracted_len old new answer key is len =
 
 pub returns-clause-key : goal.returns-clause-key
 returns-clause-key c = record {
-  bytes = All-take (λ byte. byte < 256) (key_len c.extract-class.result) c.extract-class.new.key.bytes
+  bytes = All-take (λ byte. byte < 256) (key_len c.extract-self-inside.result) c.extract-self-inside.new.key.bytes
       c.are_bytes.ensures;
-  len = extracted_len _ c.extract-class.new.key.bytes c.extract-class.result
-      (settled (frame_class c.args.link c.args.frame.now)).key c.extract-class.ensures.key
-      c.extract-class.ensures.len;
+  len = extracted_len _ c.extract-self-inside.new.key.bytes c.extract-self-inside.result
+      (settled (frame_class c.args.link c.args.frame.now)).key c.extract-self-inside.ensures.key
+      c.extract-self-inside.ensures.len;
 }

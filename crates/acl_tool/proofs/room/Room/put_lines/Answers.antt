@@ -11,11 +11,11 @@ pub returns-clause-taken : goal.returns-clause-taken
 returns-clause-taken g c =
     let tables = c.args.printer.now.tables in
     let one = c.walk_keys-ip4.ensures.taken
-    ∙ ap (λ (t : TableView). steps_of_family family.Ip4 t c.deref.result.now) c.table.ensures.table
-    ∙ ap (steps_of_family family.Ip4 tables.ip4) (c.deref.ensures.value ∙ c.self.view_is) in
+    ∙ ap (λ (t : TableView). steps_of_family family.Ip4 t c.as_slice-packets.result.now) c.table.ensures.table
+    ∙ ap (steps_of_family family.Ip4 tables.ip4) (c.as_slice-packets.ensures ∙ c.self.view_is) in
     let two = c.walk_keys-ip6.ensures.taken
-    ∙ ap (λ (t : TableView). steps_of_family family.Ip6 t c.deref-2.result.now) c.table-2.ensures.table
-    ∙ ap (steps_of_family family.Ip6 tables.ip6) (c.deref-2.ensures.value ∙ c.self.view_is) in
+    ∙ ap (λ (t : TableView). steps_of_family family.Ip6 t c.as_slice-packets.result.now) c.table-2.ensures.table
+    ∙ ap (steps_of_family family.Ip6 tables.ip6) (c.as_slice-packets.ensures ∙ c.self.view_is) in
     omega (arith, one, two, both_steps tables c.args.self.now)
 
 pub returns-clause-bound : goal.returns-clause-bound
@@ -25,20 +25,20 @@ returns-clause-bound g c =
       c.requires.taken,
       c.walk_keys-ip4.ensures.bound,
       c.walk_keys-ip6.ensures.bound,
-      ap length (c.deref.ensures.value ∙ c.self.view_is),
-      ap length (c.deref-2.ensures.value ∙ c.self.view_is),
+      ap length (c.as_slice-packets.ensures ∙ c.self.view_is),
+      ap length (c.as_slice-packets.ensures ∙ c.self.view_is),
       ap (λ counts. counts.packets) c.write_lines-len.ensures.counts,
-      counted_all-packets c.deref-3.result.now c.args.counts.now,
-      ap length (c.deref-3.ensures.value ∙ c.self.view_is),
+      counted_all-packets c.as_slice-packets.result.now c.args.counts.now,
+      ap length (c.as_slice-packets.ensures ∙ c.self.view_is),
     )
 
 pub returns-clause-steps : goal.returns-clause-steps
 returns-clause-steps g c =
     let tables = c.args.printer.now.tables in
-    let one = ap (λ (t : TableView). steps_of_family family.Ip4 t c.deref.result.now) c.table.ensures.table
-    ∙ ap (steps_of_family family.Ip4 tables.ip4) (c.deref.ensures.value ∙ c.self.view_is) in
-    let two = ap (λ (t : TableView). steps_of_family family.Ip6 t c.deref-2.result.now) c.table-2.ensures.table
-    ∙ ap (steps_of_family family.Ip6 tables.ip6) (c.deref-2.ensures.value ∙ c.self.view_is) in
+    let one = ap (λ (t : TableView). steps_of_family family.Ip4 t c.as_slice-packets.result.now) c.table.ensures.table
+    ∙ ap (steps_of_family family.Ip4 tables.ip4) (c.as_slice-packets.ensures ∙ c.self.view_is) in
+    let two = ap (λ (t : TableView). steps_of_family family.Ip6 t c.as_slice-packets.result.now) c.table-2.ensures.table
+    ∙ ap (steps_of_family family.Ip6 tables.ip6) (c.as_slice-packets.ensures ∙ c.self.view_is) in
     omega (
       arith,
       c.walk_keys-ip4.ensures.steps,
