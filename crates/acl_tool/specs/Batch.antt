@@ -1,6 +1,6 @@
 -- What the code makes of the packets of a batch: their keys, verdicts and dashes, by family.
 use Rattle.std.specs.Prelude.{◌≡◌, ℕ, ◌+◌, ◌*◌, ◌≤◌, List, [], ◌∷◌, ◌++◌, length, map, replicate}
-use Rattle.std.specs.Prelude.{Bool, false, not, if◌then◌else◌}
+use Rattle.std.specs.Prelude.{All, Bool, false, not, if◌then◌else◌}
 use Rattle.field_defs.specs.declared.field.Family.{Family}
 use Rattle.field_defs.specs.declared.field.Family.TheVariants as family
 use Rattle.flat_table.specs.Sound.{most_tries}
@@ -11,7 +11,10 @@ use Rattle.scalar_walk.specs.Rows.{winners_of}
 use Rattle.header_extract.specs.declared.class.Class.{Class}
 use Rattle.header_extract.specs.declared.class.Class.TheVariants.{Ip4, Ip6, Other, Short}
 use Rattle.header_extract.specs.Class.{FrameClass}
+use Rattle.pcap_reader.specs.Capture.{max_records}
+use Rattle.acl_report.specs.declared.counts.Counts.{Counts}
 use Rattle.acl_report.specs.Counts.{is_ip4, is_ip6}
+use Rattle.acl_tool.specs.Packet.{IsPacket}
 use Rattle.acl_tool.specs.Classifier.{Tables, all_categories}
 use Rattle.acl_tool.specs.Printing.{Printing}
 
@@ -48,6 +51,18 @@ verdicts_of family table count (packet ∷ packets) =
     if is_of family packet.class
     then key_verdicts table count packet.key ++ verdicts_of family table count packets
     else verdicts_of family table count packets
+
+-- The packets come behind those that were counted, and there may be so many.
+pub record AreNext (counts : Counts) (packets : List FrameClass) : Type 0 where
+  pub classes : counts.ip4 + counts.ip6 + counts.other + counts.short ≡ counts.packets
+  pub few : counts.packets + length packets ≤ max_records
+  pub own : All IsPacket packets
+
+-- These are the verdicts on the IPv4 packets, and those on the IPv6 packets.
+pub record AreAnswered (printing : Printing) (packets : List FrameClass) (ip4 ip6 : List ℕ)
+    : Type 0 where
+  pub on_ip4 : ip4 ≡ verdicts_of family.Ip4 printing.tables.ip4 printing.categories packets
+  pub on_ip6 : ip6 ≡ verdicts_of family.Ip6 printing.tables.ip6 printing.categories packets
 
 -- how many packets there are of the family
 abbrev pub number_of : Family → List FrameClass → ℕ

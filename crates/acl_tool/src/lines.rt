@@ -1,17 +1,15 @@
 //! The lines of packets, one behind the other, and those behind them.
 
-ghost use Rattle.std.specs.Prelude.{◌≡◌, ◌+◌, ◌*◌, ◌≤◌, ◌++◌, [], All, length, take};
-ghost use Rattle.field_defs.specs.declared.field.Family.TheVariants as family;
+ghost use Rattle.std.specs.Prelude.{◌≡◌, ◌+◌, ◌*◌, ◌≤◌, ◌++◌, [], length, take};
 ghost use Rattle.acl_report.specs.declared.line.TheConstants.{LINE_ROOM};
 ghost use Rattle.acl_report.specs.declared.packet.TheConstants.{MAX_VERDICTS};
 ghost use Rattle.acl_report.specs.Counts.{CountsFit, counted};
 ghost use Rattle.acl_report.specs.Packet.{answers, packet_text};
-ghost use Rattle.pcap_reader.specs.Capture.{max_records};
 ghost use Rattle.acl_tool.specs.Packet.{IsPacket};
 ghost use Rattle.acl_tool.specs.Report.{counted_all, line_of_packet, line_of_table};
 ghost use Rattle.acl_tool.specs.Report.{lines_of_packets};
 ghost use Rattle.acl_tool.specs.Outcome.{last_text};
-ghost use Rattle.acl_tool.specs.Batch.{verdicts_of, verdicts_on};
+ghost use Rattle.acl_tool.specs.Batch.{AreAnswered, AreNext, verdicts_on};
 
 use crate::packet::Packet;
 use crate::printing::Printer;
@@ -29,19 +27,13 @@ use header_extract::Class;
 pub fn write_lines(
     printer: &Printer<'_>,
     packets: &[Packet],
-    ip4: &[u32],
-    ip6: &[u32],
+    mut ip4: &[u32],
+    mut ip6: &[u32],
     counts: &mut Counts,
     lines: &mut [u8],
 ) -> usize
-    requires classes { counts.old.ip4 + counts.old.ip6 + counts.old.other + counts.old.short
-        ≡ counts.old.packets }
-    requires few { counts.old.packets + length packets.now ≤ max_records }
-    requires packets { All IsPacket packets.now }
-    requires ip4 { ip4.now ≡ verdicts_of family.Ip4 printer.now.tables.ip4 printer.now.categories
-        packets.now }
-    requires ip6 { ip6.now ≡ verdicts_of family.Ip6 printer.now.tables.ip6 printer.now.categories
-        packets.now }
+    requires next { AreNext counts.old packets.now }
+    requires answered { AreAnswered printer.now packets.now ip4.now ip6.now }
     requires room { length packets.now * LINE_ROOM ≤ length lines.old }
     ensures within { result ≤ length lines.old }
     ensures lines { take result lines.new
@@ -50,7 +42,6 @@ pub fn write_lines(
     ensures len { length lines.new ≡ length lines.old }
 {
     let count = printer.categories().count();
-    let (mut ip4, mut ip6) = (ip4, ip6);
     let mut end = 0;
     for packet in packets {
         // Each class has a call of its own, in which what depends on the class is settled.

@@ -1,12 +1,10 @@
 //! Room for a batch: its packets, their keys, verdicts and lines.
 
-ghost use Rattle.std.specs.Prelude.{◌≡◌, ◌+◌, ◌*◌, ◌≤◌, All, length};
+ghost use Rattle.std.specs.Prelude.{◌≡◌, ◌+◌, ◌*◌, ◌≤◌, length};
 ghost use Rattle.acl_outside.specs.Sink.{Puts};
-ghost use Rattle.pcap_reader.specs.Capture.{max_records};
-ghost use Rattle.acl_tool.specs.Packet.{IsPacket};
 ghost use Rattle.acl_tool.specs.Report.{counted_all, lines_of_packets, steps_of_packets};
 ghost use Rattle.acl_tool.specs.Outcome.{last_text};
-ghost use Rattle.acl_tool.specs.Batch.{max_steps};
+ghost use Rattle.acl_tool.specs.Batch.{AreNext, max_steps};
 ghost use Rattle.acl_tool.specs.Taken.{max_batch};
 
 use crate::batch::MAX_BATCH;
@@ -75,11 +73,8 @@ impl Room {
         out: &mut O,
         steps: &mut Steps<L>,
     ) -> Result<(), Failed>
-        requires classes { counts.old.ip4 + counts.old.ip6 + counts.old.other + counts.old.short
-            ≡ counts.old.packets }
-        requires few { counts.old.packets + length self.old ≤ max_records }
+        requires next { AreNext counts.old self.old }
         requires batch { length self.old ≤ max_batch }
-        requires packets { All IsPacket self.old }
         requires taken { taken.old ≤ counts.old.packets * (2 * max_steps) }
         ensures puts { Puts (lines_of_packets printer.now (counts.old.packets + 1) self.old)
             (O.view out.old) (O.view out.new) result }
@@ -88,26 +83,10 @@ impl Room {
         ensures bound { taken.new ≤ counts.new.packets * (2 * max_steps) }
         ensures steps { steps.new ≡ steps.old + steps_of_packets printer.now.tables self.old }
     {
-        let categories = printer.categories();
         let packets = self.packets.as_slice();
-        let ip4 = walk_keys(
-            printer.table(Family::Ip4),
-            Family::Ip4,
-            packets,
-            categories,
-            &mut self.keys,
-            &mut self.ip4,
-            steps,
-        );
-        let ip6 = walk_keys(
-            printer.table(Family::Ip6),
-            Family::Ip6,
-            packets,
-            categories,
-            &mut self.keys,
-            &mut self.ip6,
-            steps,
-        );
+        let keys = &mut self.keys;
+        let ip4 = walk_keys(printer, Family::Ip4, packets, keys, &mut self.ip4, steps);
+        let ip6 = walk_keys(printer, Family::Ip6, packets, keys, &mut self.ip6, steps);
         *taken += ip4.taken + ip6.taken;
         let len = write_lines(
             printer,

@@ -1,22 +1,20 @@
 //! The walks of the keys of a batch, one family after the other.
 
 ghost use Rattle.std.specs.Prelude.{◌≡◌, ◌+◌, ◌*◌, ◌≤◌, ◌++◌, [], All, length, take};
-ghost use Rattle.flat_table.specs.Sound.{most_tries};
 ghost use Rattle.acl_tool.specs.Taken.{max_batch};
 ghost use Rattle.acl_tool.specs.Packet.{IsPacket};
-ghost use Rattle.acl_tool.specs.Classifier.{key_len_of_family};
 ghost use Rattle.acl_tool.specs.Batch.{is_of, keys_of, number_of, verdicts_of, steps_of_family};
-ghost use Rattle.acl_tool.specs.Batch.{max_steps};
+ghost use Rattle.acl_tool.specs.Batch.{max_steps, table_of};
 ghost use Rattle.acl_tool.specs.declared.walked.TheConstants.{BATCH_KEYS, BATCH_VERDICTS};
 
 use crate::batch::MAX_BATCH;
 use crate::lines::put_at;
 use crate::packet::{IP6_KEY, Packet};
+use crate::printing::Printer;
 use acl_report::MAX_VERDICTS;
 use field_defs::Family;
-use flat_table::{Steps, Table};
+use flat_table::Steps;
 use header_extract::Class;
-use rule_set::Categories;
 use scalar_walk::classify_scalar;
 use std::sync::ledger::Ledger;
 
@@ -41,29 +39,28 @@ pub struct Walked {
 /// There are at most 64 packets. `keys` has room for their keys, [`BATCH_KEYS`] bytes, which are
 /// overwritten, and `verdicts` has [`BATCH_VERDICTS`] elements. It takes no memory.
 pub fn walk_keys<L: Ledger>(
-    table: &Table,
+    printer: &Printer<'_>,
     family: Family,
     packets: &[Packet],
-    categories: Categories,
     keys: &mut [u8],
     verdicts: &mut [u32],
     steps: &mut Steps<L>,
 ) -> Walked
-    requires key_len { table.now.key_len ≡ key_len_of_family family }
-    requires tries { length table.now.roots ≤ most_tries }
     requires few { length packets.now ≤ max_batch }
     requires packets { All IsPacket packets.now }
     requires keys { BATCH_KEYS ≤ length keys.old }
     requires verdicts { length verdicts.old ≡ BATCH_VERDICTS }
     ensures within { result.verdicts ≤ BATCH_VERDICTS }
-    ensures verdicts { take result.verdicts verdicts.new
-        ≡ verdicts_of family table.now categories.count packets.now }
-    ensures taken { result.taken ≡ steps_of_family family table.now packets.now }
+    ensures verdicts { take result.verdicts verdicts.new ≡ verdicts_of family
+        (table_of family printer.now.tables) printer.now.categories packets.now }
+    ensures taken { result.taken
+        ≡ steps_of_family family (table_of family printer.now.tables) packets.now }
     ensures bound { result.taken ≤ length packets.now * max_steps }
-    ensures steps { steps.new ≡ steps.old + steps_of_family family table.now packets.now }
+    ensures steps { steps.new ≡ steps.old + result.taken }
     ensures len { length verdicts.new ≡ BATCH_VERDICTS }
     ensures keys { length keys.new ≡ length keys.old }
 {
+    let (table, categories) = (printer.table(family), printer.categories());
     let gathered = gather_keys(family, packets, keys);
     let count = gathered.packets * categories.count();
     let keys = &keys[..gathered.bytes];

@@ -15,10 +15,19 @@ batches-init g c = record {
   reading = c.requires.reading;
 }
 
-pub put_lines-requires-clause-classes : goal.put_lines-requires-clause-classes
-put_lines-requires-clause-classes g c =
-    let printing = c.batches.invariant.printing in
-    records_add_up printing.records c.batches.counts printing.counted
+pub put_lines-requires-clause-next : goal.put_lines-requires-clause-next
+put_lines-requires-clause-next g c =
+    let desk = g.D.Desk.view in
+    let out = g.O.Sink.view c.batches.out in
+    let printing = c.batches.invariant.printing in record {
+      classes = records_add_up printing.records c.batches.counts printing.counted;
+      few = packets_few c.args.printer.now c.args.capture.now.start c.batches.counts c.batches.taken c.batches.capture
+          (outside (desk c.args.desk.now) (g.O.Sink.view c.args.out.now) c.args.steps.now)
+          (outside (desk c.batches.desk) out c.batches.steps)
+          (outside (desk c.take_batch-end.new.desk) out c.batches.steps) c.take_batch-end.new.packets _
+          printing c.take_batch-end.ensures.batch;
+      own = c.take_batch-end.ensures.batch.keys;
+    }
 
 pub returns-in-Err : goal.returns-in-Err
 returns-in-Err g c =
