@@ -1,6 +1,6 @@
 -- What is written of a packet by its verdicts and dashes is its line.
 use Rattle.std.proofs.Common.{◌≡◌, ℕ, ◌+◌, ◌%◌, ◌≤◌, ◌==◌, List, [], ◌∷◌, Bool, true, false, not, map, take, length}
-use Rattle.std.proofs.Common.{Some, inl, inr, refl, ap, ◌∙◌}
+use Rattle.std.proofs.Common.{Some, inl, inr, refl, ap, ◌∙◌, replicate}
 use Rattle.std.specs.List.{range_with_len}
 use Rattle.std.proofs.lemmas.Bool.Decides.{eqb_tells}
 use Rattle.std.proofs.lemmas.List.{take-replicate}
@@ -93,23 +93,40 @@ shown_is printing Ip6 key by_tables few = rw by_tables (table_shown printing.tab
 shown_is printing Other key by_tables few = refl
 shown_is printing Short key by_tables few = refl
 
--- what is written of a packet is its line
-pub line-is : (printing : Printing) (counts counts_new : Counts) (packet : FrameClass)
-    (class counted_class : Class) (verdicts : List ℕ) (dashes : List Bool) →
-    counts_new ≡ counted counted_class counts → counted_class ≡ packet.class → class ≡ packet.class →
+-- where marks aren't asked for, no dash is shown of any packet
+pub unmarked : (printing : Printing) (class : Class) (key : List ℕ) → printing.marks ≡ false →
+    replicate all_categories false ≡ dashes_on class printing key
+unmarked printing Ip4 key is = rw is refl
+unmarked printing Ip6 key is = rw is refl
+unmarked printing Other key is = refl
+unmarked printing Short key is = refl
+
+-- what is written of a packet of this number is its line
+pub line_by-is : (printing : Printing) (number : ℕ) (packet : FrameClass) (class : Class) (verdicts : List ℕ)
+    (dashes : List Bool) → class ≡ packet.class →
+    verdicts ≡ verdicts_on packet.class printing packet.key →
+    dashes ≡ take (length verdicts) (dashes_on packet.class printing packet.key) →
+    printing.classifier ≡ ByTables printing.tables → printing.categories ≤ all_categories →
+    packet_text number class (answers verdicts dashes) ≡ line_of_packet printing number packet
+line_by-is printing number packet class verdicts dashes is_shown is_verdicts is_dashes by_tables few =
+    let all : answers verdicts dashes ≡ answers_on packet.class printing packet.key =
+    ap (answers verdicts) is_dashes
+    ∙ ap (λ (v : List ℕ). answers v (take (length v) (dashes_on packet.class printing packet.key))) is_verdicts
+    ∙ shown_is printing packet.class packet.key by_tables few in
+    ap (λ k. packet_text number k (answers verdicts dashes)) is_shown ∙ ap (packet_text number packet.class) all
+
+-- and so it is behind those that were counted
+pub line-is : (printing : Printing) (counts counts_new : Counts) (packet : FrameClass) (class : Class)
+    (verdicts : List ℕ) (dashes : List Bool) →
+    counts_new ≡ counted class counts → class ≡ packet.class →
     verdicts ≡ verdicts_on packet.class printing packet.key →
     dashes ≡ take (length verdicts) (dashes_on packet.class printing packet.key) →
     printing.classifier ≡ ByTables printing.tables → printing.categories ≤ all_categories →
     packet_text counts_new.packets class (answers verdicts dashes)
     ≡ line_of_packet printing (counts.packets + 1) packet
-line-is printing counts counts_new packet class counted_class verdicts dashes is_counted is_class is_shown is_verdicts
-    is_dashes by_tables few =
-    let number : counts_new.packets ≡ counts.packets + 1 = ap (λ c. c.packets) is_counted
-    ∙ counted-packets counted_class counts in
-    let all : answers verdicts dashes ≡ answers_on packet.class printing packet.key =
-    ap (answers verdicts) is_dashes
-    ∙ ap (λ (v : List ℕ). answers v (take (length v) (dashes_on packet.class printing packet.key))) is_verdicts
-    ∙ shown_is printing packet.class packet.key by_tables few in
-    ap (λ n. packet_text n class (answers verdicts dashes)) number
-    ∙ ap (λ k. packet_text (counts.packets + 1) k (answers verdicts dashes)) is_shown
-    ∙ ap (packet_text (counts.packets + 1) packet.class) all
+line-is printing counts counts_new packet class verdicts dashes is_counted is_shown is_verdicts is_dashes by_tables
+    few =
+    let number : counts_new.packets ≡ counts.packets + 1 =
+    ap (λ c. c.packets) is_counted ∙ counted-packets class counts in
+    line_by-is printing counts_new.packets packet class verdicts dashes is_shown is_verdicts is_dashes by_tables few
+    ∙ ap (λ n. line_of_packet printing n packet) number

@@ -6,7 +6,7 @@ use Rattle.acl_tool.specs.declared.status.UsageKind.TheVariants.{BadValue}
 use Rattle.acl_tool.specs.BenchWords.{numbers_of}
 use Rattle.acl_tool.specs.Command.{Bench, command, fault_at}
 use Rattle.acl_tool.specs.Tally.{tally_of}
-use Rattle.acl_tool.specs.Bench.{pair_text, bench_text}
+use Rattle.acl_tool.specs.Bench.{bench_text}
 
 three_numbers : numbers_of (codes "042" ∷ codes "1024" ∷ codes "65536" ∷ [])
     ≡ Ok (record { seed = 42; rules = 1024; packets = 65536 })

@@ -26,11 +26,7 @@ pub enum BatchEnd {
 /// Takes the next records of a capture, and says why there aren't more. It takes no memory.
 ///
 /// The packets that were there before are dropped.
-pub fn take_batch<D: Desk>(
-    capture: &mut Capture,
-    desk: &mut D,
-    packets: &mut Packets,
-) -> BatchEnd
+pub fn take_batch<D: Desk>(capture: &mut Capture, desk: &mut D, packets: &mut Packets) -> BatchEnd
     requires reading { IsTrue (D.view desk.old).reading }
     requires state { capture.old.progress ≡ progress.Reading }
     ensures batch { TakesBatch capture.old.start capture.old.count packets.new

@@ -89,16 +89,41 @@ fn write_line(
     ensures len { length lines.new ≡ length lines.old }
     ensures counts { counts.new ≡ counted packet.now.class counts.old }
 {
-    let dashes = printer.dashes(packet);
     counts.add(class);
-    let len = write_front(
-        counts.packets,
-        class,
-        verdicts,
-        &dashes[..verdicts.len()],
-        &mut lines[at..],
-    );
-    at + len
+    match printer.no_dashes() {
+        Some(dashes) => {
+            let dashes = &dashes[..verdicts.len()];
+            at + write_front(counts.packets, class, verdicts, dashes, &mut lines[at..])
+        }
+        None => write_marked(printer, packet, class, verdicts, counts.packets, lines, at),
+    }
+}
+
+/// Writes the line of a packet of the class and this number at the place `at`, with a dash where no
+/// rule matches, if marks are asked for, and gives the place behind the line.
+#[inline(never)]
+fn write_marked(
+    printer: &Printer<'_>,
+    packet: &Packet,
+    class: Class,
+    verdicts: &[u32],
+    number: u64,
+    lines: &mut [u8],
+    at: usize,
+) -> usize
+    requires packet { IsPacket packet.now }
+    requires class { class ≡ packet.now.class }
+    requires verdicts { verdicts.now ≡ verdicts_on packet.now.class printer.now packet.now.key }
+    requires few { length verdicts.now ≤ MAX_VERDICTS }
+    requires room { at + LINE_ROOM ≤ length lines.old }
+    ensures end { result ≤ at + LINE_ROOM }
+    ensures lines { take result lines.new
+        ≡ take at lines.old ++ line_of_packet printer.now number packet.now }
+    ensures len { length lines.new ≡ length lines.old }
+{
+    let dashes = printer.dashes(packet);
+    let dashes = &dashes[..verdicts.len()];
+    at + write_front(number, class, verdicts, dashes, &mut lines[at..])
 }
 
 /// Writes the line of a packet, as [`packet_line`] has it, to the front of `lines`.

@@ -1,6 +1,7 @@
 //! What is printed of a capture, and the tables that answer for its packets.
 
-ghost use Rattle.std.specs.Prelude.{◌≡◌, ◌≤◌, length, map, not};
+ghost use Rattle.std.specs.Prelude.{◌≡◌, ℕ, ◌≤◌, List, IfSome, length, map, not};
+ghost use Rattle.header_extract.specs.declared.class.Class.{Class};
 ghost use Rattle.flat_table.specs.Sound.{most_tries};
 ghost use Rattle.scalar_walk.specs.Rows.{winners_of};
 ghost use Rattle.acl_report.specs.declared.packet.TheConstants.{MAX_VERDICTS};
@@ -95,6 +96,21 @@ impl<'a> Printer<'a> {
         ensures { result ≡ self.now.stats }
     {
         self.options.stats
+    }
+
+    /// No dashes, whatever the packet, where marks aren't asked for. It takes no memory.
+    #[inline]
+    pub fn no_dashes(&self) -> Option<&'static [bool; MAX_VERDICTS]>
+        ensures dashes { IfSome result (λ dashes. (class : Class) (key : List ℕ)
+            → dashes.now ≡ dashes_on class self.now key) }
+        ensures by_tables { self.now.classifier ≡ ByTables self.now.tables }
+        ensures few { self.now.categories ≤ MAX_VERDICTS }
+    {
+        if self.options.marks {
+            None
+        } else {
+            Some(&NO_DASHES)
+        }
     }
 
     /// For each category whether a dash is shown of the packet. It takes no memory.

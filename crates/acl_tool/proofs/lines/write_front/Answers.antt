@@ -11,7 +11,11 @@ returns-clause-line c =
     let whole : length (line ++ behind) ≡ length c.args.lines.now = search rules in
     let within : c.packet_line.result ≤ length line =
     omega (
-      arith, c.packet_line.ensures.within, c.requires.room, whole, length-append line behind,
+      arith,
+      c.packet_line.ensures.within,
+      c.requires.room,
+      whole,
+      length-append line behind,
       length-drop LINE_ROOM c.args.lines.now,
     ) in
     take-append-le c.packet_line.result line behind within ∙ c.packet_line.ensures.line
