@@ -5,18 +5,19 @@ use Rattle.acl_outside.specs.Desk.{DeskView}
 use Rattle.acl_outside.specs.Fault.{Rose}
 use Rattle.acl_outside.specs.Sink.{SinkView, Gains, GainsPrefix}
 use Rattle.rule_split.specs.Split.{total_of}
-use Rattle.acl_tool.specs.declared.status.Status.{Status}
-use Rattle.acl_tool.specs.declared.status.Status.TheVariants.{Done, WriteFault}
-use Rattle.acl_tool.specs.BenchWords.{BenchNumbers}
-use Rattle.acl_tool.specs.Bench.{bench_budget, bench_text, measured_of, set_drawn, steps_drawn}
+use Rattle.command_plan.specs.declared.status.Status.{Status}
+use Rattle.command_plan.specs.declared.status.Status.TheVariants.{Done, WriteFault}
+use Rattle.command_words.specs.BenchWords.{BenchNumbers}
+use Rattle.seed_bench.specs.Bench.{bench_budget, bench_text, measured_of, set_drawn, steps_drawn}
 use Rattle.acl_tool.specs.BenchOutcome.{bench_outcome}
-use Rattle.acl_tool.specs.Command.{Bench}
-use Rattle.acl_tool.specs.Plan.{Outcome, Give}
-use Rattle.acl_tool.specs.Follow.{Given}
-use Rattle.acl_tool.specs.Outcome.{is_usage, plan_of_request}
-use Rattle.acl_tool.specs.Streams.{PutsLast}
-use Rattle.acl_tool.specs.Effects.{Outside, outside, KeepsFiles, Ends, Answers}
-use Rattle.acl_tool.proofs.Told.{Ends-told}
+use Rattle.command_words.specs.Command.{Bench}
+use Rattle.command_plan.specs.Plan.{Outcome, Give}
+use Rattle.command_plan.specs.Follow.{Given}
+use Rattle.command_plan.specs.Endings.{is_usage}
+use Rattle.acl_tool.specs.Outcome.{plan_of_request}
+use Rattle.command_plan.specs.Effects.{PutsLast, Outside, outside, KeepsFiles, Ends}
+use Rattle.acl_tool.specs.Effects.{Answers}
+use Rattle.command_plan.proofs.Told.{Ends-told}
 
 -- a desk that was left alone
 kept : (desk : DeskView) → KeepsFiles desk desk

@@ -7,22 +7,25 @@ use Rattle.field_defs.specs.declared.field.Family.TheVariants.{Ip4, Ip6}
 use Rattle.acl_outside.specs.Desk.{File, DeskView}
 use Rattle.acl_outside.specs.Sink.{SinkView}
 use Rattle.classbench_reader.specs.RuleFile.{RuleLists}
-use Rattle.acl_tool.specs.declared.status.Status.{Status}
-use Rattle.acl_tool.specs.declared.status.Status.TheVariants.{WriteFault, OutOfMemory}
-use Rattle.acl_tool.specs.Options.{Options}
-use Rattle.acl_tool.specs.Command.{Classify}
-use Rattle.acl_tool.specs.Classifier.{ByRules, Tables}
-use Rattle.acl_tool.specs.Printing.{Printing, printing_of}
-use Rattle.acl_tool.specs.Plan.{Outcome, Plan, Give, Stop, ◌>>=◌, unless_refused}
-use Rattle.acl_tool.specs.Follow.{Stopped, Before}
-use Rattle.acl_tool.specs.Outcome.{is_reported, is_usage, is_decided, reported, rules_of_bytes, rules_in}
-use Rattle.acl_tool.specs.Outcome.{table_within, tables_within, plan_of_request}
+use Rattle.command_plan.specs.declared.status.Status.{Status}
+use Rattle.command_plan.specs.declared.status.Status.TheVariants.{WriteFault, OutOfMemory}
+use Rattle.command_words.specs.Options.{Options}
+use Rattle.command_words.specs.Command.{Classify}
+use Rattle.capture_report.specs.Classifier.{ByRules, Tables}
+use Rattle.capture_report.specs.Printing.{Printing}
+use Rattle.acl_tool.specs.Outcome.{printing_of, rules_of_bytes, rules_in, table_within, tables_within, plan_of_request}
+use Rattle.command_plan.specs.Plan.{Outcome, Plan, Give, Stop, ◌>>=◌, unless_refused}
+use Rattle.command_plan.specs.Follow.{Stopped, Before}
+use Rattle.command_plan.specs.Endings.{is_reported, is_usage, is_decided}
+use Rattle.capture_report.specs.CaptureOutcome.{reported}
 use Rattle.acl_tool.specs.Built.{Refuses}
-use Rattle.acl_tool.specs.Effects.{Outside, outside, files_of, opened_of, Takes, Ends, KeepsUp, Reports, Answers}
-use Rattle.acl_tool.proofs.Gained.{Gains-none}
-use Rattle.acl_tool.proofs.Links.{Ends-cut, Ends-then}
-use Rattle.acl_tool.proofs.Told.{IsFaithful, BeginsWith-nothing, faithful_unless, Ends-told}
-use Rattle.acl_tool.proofs.WholeRecords.{report-begins}
+use Rattle.command_plan.specs.Effects.{Outside, outside, files_of, opened_of, Takes, Ends}
+use Rattle.capture_report.specs.Prints.{KeepsUp, Reports}
+use Rattle.acl_tool.specs.Effects.{Answers}
+use Rattle.command_plan.proofs.Gained.{Gains-none}
+use Rattle.command_plan.proofs.Links.{Ends-cut, Ends-then}
+use Rattle.command_plan.proofs.Told.{IsFaithful, BeginsWith-nothing, faithful_unless, Ends-told}
+use Rattle.capture_report.proofs.WholeRecords.{report-begins}
 
 -- what comes after the tables
 abbrev report_by : Options → List ℕ → RuleLists → Tables → Plan Outcome

@@ -16,7 +16,8 @@ use Rattle.flat_table.specs.Walk.{joined, table_verdict}
 use Rattle.table_fill.specs.Serves.{Serves}
 use Rattle.acl_context.specs.Context.{built_of}
 use Rattle.classbench_reader.specs.RuleFile.{RuleLists}
-use Rattle.acl_tool.specs.Classifier.{Tables, ByRules, AnswersAs, answer_of_rules, answer_of_table, all_categories}
+use Rattle.capture_report.specs.Classifier.{Tables, ByRules, AnswersAs, answer_of_rules, answer_of_table}
+use Rattle.capture_report.specs.Classifier.{all_categories}
 use Rattle.acl_tool.specs.Outcome.{set_of, table_within}
 use Rattle.acl_tool.specs.Built.{BuildsTable, IsBuilt}
 

@@ -1,13 +1,14 @@
 -- How words end that are no command.
 use Rattle.std.proofs.Common.{◌≡◌, Result, Err, inl, refl, sym, subst, arith}
-use Rattle.acl_tool.specs.declared.status.UsageFault.{UsageFault}
-use Rattle.acl_tool.specs.declared.status.Status.TheVariants.{Usage}
-use Rattle.acl_tool.specs.Command.{Request}
-use Rattle.acl_tool.specs.Follow.{Stopped}
+use Rattle.command_words.specs.declared.fault.UsageFault.{UsageFault}
+use Rattle.command_plan.specs.declared.status.Status.TheVariants.{Usage}
+use Rattle.command_words.specs.Command.{Request}
+use Rattle.command_plan.specs.Follow.{Stopped}
 use Rattle.acl_tool.specs.Outcome.{plan_of}
-use Rattle.acl_tool.specs.Effects.{Outside, Ends, Answers}
-use Rattle.acl_tool.proofs.Gained.{Gains-none}
-use Rattle.acl_tool.proofs.Told.{Ends-told}
+use Rattle.command_plan.specs.Effects.{Outside, Ends}
+use Rattle.acl_tool.specs.Effects.{Answers}
+use Rattle.command_plan.proofs.Gained.{Gains-none}
+use Rattle.command_plan.proofs.Told.{Ends-told}
 
 usage_ends : (fault : UsageFault) (view : Outside) → Ends (plan_of (Err fault)) view view (Usage fault)
 usage_ends fault view = record {

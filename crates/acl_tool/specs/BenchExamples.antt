@@ -1,12 +1,12 @@
 -- Examples of `bench`: its words, its tallies and its lines, each checked by evaluation.
 use Rattle.std.specs.Prelude.{◌≡◌, [], ◌∷◌, ◌++◌, Ok, Err, codes, refl}
 use Rattle.std.specs.Fmt.{digits}
-use Rattle.acl_tool.specs.declared.status.UsageKind.TheVariants.{MissingName, UnknownOption}
-use Rattle.acl_tool.specs.declared.status.UsageKind.TheVariants.{BadValue}
-use Rattle.acl_tool.specs.BenchWords.{numbers_of}
-use Rattle.acl_tool.specs.Command.{Bench, command, fault_at}
-use Rattle.acl_tool.specs.Tally.{tally_of}
-use Rattle.acl_tool.specs.Bench.{bench_text}
+use Rattle.command_words.specs.declared.fault.UsageKind.TheVariants.{MissingName, UnknownOption}
+use Rattle.command_words.specs.declared.fault.UsageKind.TheVariants.{BadValue}
+use Rattle.command_words.specs.BenchWords.{numbers_of}
+use Rattle.command_words.specs.Command.{Bench, command, fault_at}
+use Rattle.seed_bench.specs.Tally.{tally_of}
+use Rattle.seed_bench.specs.Bench.{bench_text}
 
 three_numbers : numbers_of (codes "042" ∷ codes "1024" ∷ codes "65536" ∷ [])
     ≡ Ok (record { seed = 42; rules = 1024; packets = 65536 })

@@ -2,10 +2,10 @@
 use Rattle.std.specs.Prelude.{nat_le, if◌then◌else◌}
 use Rattle.field_defs.specs.declared.field.Family.TheVariants.{Ip4}
 use Rattle.rule_split.specs.Split.{total_of}
-use Rattle.acl_tool.specs.declared.status.Status.TheVariants.{Done, TooLarge}
-use Rattle.acl_tool.specs.BenchWords.{BenchNumbers}
-use Rattle.acl_tool.specs.Bench.{bench_budget, bench_text, measured_of, set_drawn, steps_drawn}
-use Rattle.acl_tool.specs.Plan.{Outcome, silent}
+use Rattle.command_plan.specs.declared.status.Status.TheVariants.{Done, TooLarge}
+use Rattle.command_words.specs.BenchWords.{BenchNumbers}
+use Rattle.seed_bench.specs.Bench.{bench_budget, bench_text, measured_of, set_drawn, steps_drawn}
+use Rattle.command_plan.specs.Plan.{Outcome, silent}
 
 -- the four lines are printed, where the table isn't too large
 abbrev pub bench_outcome : BenchNumbers → Outcome

@@ -7,10 +7,10 @@ use Rattle.flat_table.specs.Table.{TableView}
 use Rattle.table_fill.specs.Serves.{Serves}
 use Rattle.acl_context.specs.Context.{built_of}
 use Rattle.classbench_reader.specs.RuleFile.{RuleLists}
-use Rattle.acl_tool.specs.declared.status.Status.{Status}
-use Rattle.acl_tool.specs.declared.status.Status.TheVariants.{TooLarge, OutOfMemory}
-use Rattle.acl_tool.specs.Classifier.{Tables, ByRules, AnswersAs}
-use Rattle.acl_tool.specs.Plan.{Give, Stop}
+use Rattle.command_plan.specs.declared.status.Status.{Status}
+use Rattle.command_plan.specs.declared.status.Status.TheVariants.{TooLarge, OutOfMemory}
+use Rattle.capture_report.specs.Classifier.{Tables, ByRules, AnswersAs}
+use Rattle.command_plan.specs.Plan.{Give, Stop}
 use Rattle.acl_tool.specs.Outcome.{set_of, tables_within}
 
 -- The table of the set under the budget was made. It answers as the rules do.

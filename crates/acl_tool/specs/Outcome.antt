@@ -1,7 +1,7 @@
 -- How a command ends, and what it prints, as a function of its words and of the files that are
 -- there.
-use Rattle.std.specs.Prelude.{ℕ, nat_le, if◌then◌else◌, List, [], ◌++◌, Bool, true, false, Option}
-use Rattle.std.specs.Prelude.{Some, None, Result, Ok, Err}
+use Rattle.std.specs.Prelude.{ℕ, nat_le, if◌then◌else◌, List}
+use Rattle.std.specs.Prelude.{Result, Ok, Err}
 use Rattle.field_defs.specs.declared.field.Family.{Family}
 use Rattle.field_defs.specs.declared.field.Family.TheVariants.{Ip4, Ip6}
 use Rattle.field_defs.specs.Layout.{ip4_fields, ip6_fields}
@@ -10,83 +10,20 @@ use Rattle.rule_split.specs.Split.{total_of}
 use Rattle.flat_table.specs.Table.{TableView}
 use Rattle.acl_context.specs.Context.{built_of}
 use Rattle.acl_outside.specs.Desk.{File}
-use Rattle.acl_report.specs.declared.counts.Counts.{Counts}
-use Rattle.acl_report.specs.Counts.{packets_text}
 use Rattle.classbench_reader.specs.declared.fault.LineFault.{LineFault}
 use Rattle.classbench_reader.specs.RuleFile.{RuleLists, rule_file_of}
-use Rattle.pcap_reader.specs.declared.fault.CaptureFault.{CaptureFault}
-use Rattle.pcap_reader.specs.declared.fault.CaptureFault.TheVariants.{HeaderCut, Magic, Version}
-use Rattle.pcap_reader.specs.declared.fault.CaptureFault.TheVariants.{LinkType, RecordCut}
-use Rattle.pcap_reader.specs.declared.fault.CaptureFault.TheVariants.{RecordTooLong, TooManyRecords}
-use Rattle.pcap_reader.specs.declared.fault.CaptureFault.TheVariants.{ReadFault as CannotRead}
-use Rattle.pcap_reader.specs.Capture.{CaptureRecord, Recorded, capture_of, whole_records}
-use Rattle.acl_tool.specs.declared.status.Status.{Status}
-use Rattle.acl_tool.specs.declared.status.Status.TheVariants.{Done, Usage, RulesRefused, TooLarge}
-use Rattle.acl_tool.specs.declared.status.Status.TheVariants.{CaptureRefused, ReadFault, WriteFault}
-use Rattle.acl_tool.specs.declared.status.Status.TheVariants.{OutOfMemory}
-use Rattle.acl_tool.specs.declared.status.UsageFault.{UsageFault}
+use Rattle.command_plan.specs.declared.status.Status.{Status}
+use Rattle.command_plan.specs.declared.status.Status.TheVariants.{Usage, RulesRefused, TooLarge}
+use Rattle.command_words.specs.declared.fault.UsageFault.{UsageFault}
 use Rattle.acl_tool.specs.BenchOutcome.{bench_outcome}
-use Rattle.acl_tool.specs.Command.{Request, Bench, Classify, command}
-use Rattle.acl_tool.specs.Classifier.{ByRules, Tables}
-use Rattle.acl_tool.specs.Printing.{Printing, printing_of}
-use Rattle.acl_tool.specs.Report.{counts_of_records, lines_of_records, stats_of, steps_of_records}
-use Rattle.acl_tool.specs.Plan.{Outcome, silent, Plan, Give, Stop, Read, ◌>>=◌, reading}
-use Rattle.acl_tool.specs.Plan.{unless_refused, found, settled}
-
--- the line of the counts, and those of the tables and transitions where they are asked for
-abbrev pub last_text : Printing → Counts → ℕ → List ℕ
-last_text printing counts steps = packets_text counts ++ stats_of printing steps
-
--- the last lines: those of the counts and of the tables behind a whole capture, and none where a
--- fault ends it
-abbrev pub last_lines : Printing → List CaptureRecord → Option CaptureFault → List ℕ
-last_lines printing records None =
-    last_text printing (counts_of_records records) (steps_of_records printing.tables records)
-last_lines printing records (Some fault) = []
-
--- the lines of the records, and the last lines
-abbrev pub text_of_records : Printing → List CaptureRecord → Option CaptureFault → List ℕ
-text_of_records printing records fault =
-    lines_of_records printing records ++ last_lines printing records fault
-
--- the status of a capture by how it ended
-abbrev pub status_of_fault : Option CaptureFault → Status
-status_of_fault None = Done
-status_of_fault (Some fault) = CaptureRefused fault
-
--- the status that stands for a fault
-abbrev pub refusal : CaptureFault → Status
-refusal HeaderCut = CaptureRefused HeaderCut
-refusal Magic = CaptureRefused Magic
-refusal Version = CaptureRefused Version
-refusal LinkType = CaptureRefused LinkType
-refusal (RecordCut number) = CaptureRefused (RecordCut number)
-refusal (RecordTooLong number) = CaptureRefused (RecordTooLong number)
-refusal TooManyRecords = CaptureRefused TooManyRecords
-refusal CannotRead = ReadFault
-
--- what a capture gives
-abbrev pub report_of_capture : Printing → Result Recorded CaptureFault → Outcome
-report_of_capture printing (Ok capture) = record {
-  status = status_of_fault capture.fault;
-  text = text_of_records printing capture.records capture.fault;
-  steps = steps_of_records printing.tables capture.records;
-}
-report_of_capture printing (Err fault) = silent (CaptureRefused fault)
-
--- what the bytes of a capture give
-abbrev pub report : Printing → List ℕ → Outcome
-report printing bytes = report_of_capture printing (capture_of bytes)
-
--- the lines of the whole records in the first bytes of a capture
-abbrev pub lines_so_far : Printing → List ℕ → List ℕ
-lines_so_far printing bytes = lines_of_records printing (whole_records bytes)
-
--- the report of the named capture, of which the lines of the whole records are printed while it is
--- read
-abbrev pub reported : Printing → List ℕ → Plan Outcome
-reported printing name =
-    Read name (lines_so_far printing) (λ bytes. Give (report printing bytes))
+use Rattle.command_words.specs.Command.{Request, Bench, Classify, command}
+use Rattle.capture_report.specs.Classifier.{ByRules, Tables, Classifier}
+use Rattle.capture_report.specs.Printing.{Printing}
+use Rattle.command_plan.specs.Plan.{◌>>=◌}
+use Rattle.command_plan.specs.Plan.{Outcome, Plan, Give, Stop, reading, unless_refused, found}
+use Rattle.command_plan.specs.Plan.{settled}
+use Rattle.capture_report.specs.CaptureOutcome.{reported}
+use Rattle.command_words.specs.Options.{Options}
 
 -- the rules of a file by family, or the status that stands for its fault
 abbrev pub refused_rules : Result RuleLists LineFault → Result RuleLists Status
@@ -122,6 +59,16 @@ tables_within budget lists = do
   ip6 ← unless_refused (table_within budget Ip6 lists)
   Give (record { ip4 = ip4; ip6 = ip6 })
 
+-- by the options of a command
+abbrev pub printing_of : Classifier → Tables → Options → Printing
+printing_of classifier tables options = record {
+  classifier = classifier;
+  tables = tables;
+  categories = options.categories;
+  stats = options.stats;
+  marks = options.marks;
+}
+
 -- what a command asks for, case by case: what is printed is said of the rules, and how many
 -- transitions are taken of their tables
 abbrev pub plan_of_request : Request → Plan Outcome
@@ -139,36 +86,3 @@ plan_of (Err fault) = Stop (Usage fault)
 -- how the words end, and what they print, where these files are there
 abbrev pub outcome : List (List ℕ) → List File → Outcome
 outcome words files = settled (found (plan_of (command words)) files)
-
--- A status that comes with a report, or a first part of one.
-abbrev pub is_reported : Status → Bool
-is_reported Done = true
-is_reported (Usage fault) = false
-is_reported (RulesRefused fault) = false
-is_reported (TooLarge family words budget) = false
-is_reported (CaptureRefused fault) = true
-is_reported ReadFault = false
-is_reported WriteFault = true
-is_reported OutOfMemory = false
-
--- A status is decided where it is a function of the words and the files.
-abbrev pub is_decided : Status → Bool
-is_decided Done = true
-is_decided (Usage fault) = true
-is_decided (RulesRefused fault) = true
-is_decided (TooLarge family words budget) = true
-is_decided (CaptureRefused fault) = true
-is_decided ReadFault = false
-is_decided WriteFault = false
-is_decided OutOfMemory = false
-
--- A status of words that are no command.
-abbrev pub is_usage : Status → Bool
-is_usage Done = false
-is_usage (Usage fault) = true
-is_usage (RulesRefused fault) = false
-is_usage (TooLarge family words budget) = false
-is_usage (CaptureRefused fault) = false
-is_usage ReadFault = false
-is_usage WriteFault = false
-is_usage OutOfMemory = false

@@ -10,16 +10,18 @@ use Rattle.classbench_reader.specs.declared.fault.LineKind.TheVariants.{BadStart
 use Rattle.classbench_reader.specs.RuleFile.{RuleLists}
 use Rattle.pcap_reader.specs.declared.fault.CaptureFault.TheVariants.{HeaderCut, RecordCut}
 use Rattle.pcap_reader.specs.StartExamples.{ethernet_header}
-use Rattle.acl_tool.specs.declared.status.Status.{Status}
-use Rattle.acl_tool.specs.declared.status.Status.TheVariants.{Done, Usage, RulesRefused, TooLarge}
-use Rattle.acl_tool.specs.declared.status.Status.TheVariants.{CaptureRefused, ReadFault}
-use Rattle.acl_tool.specs.declared.status.UsageKind.TheVariants.{MissingCommand}
-use Rattle.acl_tool.specs.Options.{Options, none_given, settled_options}
-use Rattle.acl_tool.specs.Command.{fault_at}
-use Rattle.acl_tool.specs.Classifier.{Tables, ByRules, ByTables}
-use Rattle.acl_tool.specs.Printing.{Printing, printing_of}
-use Rattle.acl_tool.specs.Outcome.{outcome, lines_so_far, report, rules_of_bytes}
-use Rattle.acl_tool.specs.Plan.{silent}
+use Rattle.command_plan.specs.declared.status.Status.{Status}
+use Rattle.command_plan.specs.declared.status.Status.TheVariants.{Done, Usage, RulesRefused}
+use Rattle.command_plan.specs.declared.status.Status.TheVariants.{TooLarge, CaptureRefused}
+use Rattle.command_plan.specs.declared.status.Status.TheVariants.{ReadFault}
+use Rattle.command_words.specs.declared.fault.UsageKind.TheVariants.{MissingCommand}
+use Rattle.command_words.specs.Options.{Options, none_given, settled_options}
+use Rattle.command_words.specs.Command.{fault_at}
+use Rattle.capture_report.specs.Classifier.{Tables, ByRules, ByTables}
+use Rattle.capture_report.specs.Printing.{Printing}
+use Rattle.acl_tool.specs.Outcome.{printing_of, outcome, rules_of_bytes}
+use Rattle.capture_report.specs.CaptureOutcome.{lines_so_far, report}
+use Rattle.command_plan.specs.Plan.{silent}
 
 -- the options where none is given
 abbrev usual : Options

@@ -6,12 +6,12 @@ ghost use Rattle.field_defs.specs.Layout.{ip4_fields, ip6_fields};
 ghost use Rattle.trie_merge.specs.Levels.{max_cap};
 ghost use Rattle.table_fill.specs.Serves.{Serves};
 ghost use Rattle.acl_context.specs.Context.{built_of};
-ghost use Rattle.acl_tool.specs.Classifier.{lists_of};
+ghost use Rattle.capture_report.specs.Classifier.{lists_of};
 ghost use Rattle.acl_tool.specs.Built.{IsBuilt, IsTooLarge, Refuses, BuildsTable};
 
-use crate::status::Status;
 use acl_context::{AclContext, BuildFault};
 use classbench_reader::RuleFile;
+use command_plan::Status;
 use field_defs::Family;
 use flat_table::Table;
 use rule_set::{MAX_RULES, RuleSet};

@@ -1,22 +1,20 @@
 //! The top call: words, files and sinks in, a status out.
 
 ghost use Rattle.std.specs.Prelude.{Ok, map, string_bytes};
-ghost use Rattle.acl_tool.specs.Command.{Classify, command};
-ghost use Rattle.acl_tool.specs.CommandLine.{options_of, request_of};
-ghost use Rattle.acl_tool.specs.Message.{message};
-ghost use Rattle.acl_tool.specs.Effects.{Answers, PutsLine, Runs, outside};
+ghost use Rattle.command_words.specs.Command.{Classify, command};
+ghost use Rattle.command_words.specs.CommandLine.{options_of, request_of};
+ghost use Rattle.command_plan.specs.Message.{message};
+ghost use Rattle.acl_tool.specs.Effects.{Answers, Runs};
+ghost use Rattle.command_plan.specs.Effects.{PutsLine, outside};
 
 use crate::bench::bench;
-use crate::command_line::{Request, read_words};
-use crate::input::read_rule_file;
-use crate::message::message_line;
-use crate::options::Options;
-use crate::print::print_packets;
-use crate::printing::PrintOptions;
-use crate::status::Status;
+use crate::rule_file::read_rule_file;
 use crate::tables::{build_tables, table_of};
 use acl_outside::{Desk, Sink, put_all};
 use acl_report::LINE_ROOM;
+use capture_report::{PrintOptions, print_packets};
+use command_plan::{Status, message_line};
+use command_words::{Options, Request, read_words};
 use flat_table::Steps;
 use std::alloc::Global;
 use std::sync::ledger::Ledger;

@@ -6,9 +6,10 @@
 
 ghost use Rattle.std.specs.Prelude.{◌≡◌, ℕ, ◌<◌, None, drop, map, string_bytes, IfSome};
 ghost use Rattle.std.specs.Vec.Iter.{into_iter_items};
-ghost use Rattle.acl_tool.specs.declared.status.Status.{Status};
-ghost use Rattle.acl_tool.specs.Message.{code_of};
-ghost use Rattle.acl_tool.specs.Effects.{Runs, outside};
+ghost use Rattle.command_plan.specs.declared.status.Status.{Status};
+ghost use Rattle.command_plan.specs.Message.{code_of};
+ghost use Rattle.acl_tool.specs.Effects.{Runs};
+ghost use Rattle.command_plan.specs.Effects.{outside};
 
 use acl_outside::{Desk, Sink, StdDesk, StdSink};
 use acl_tool::run;

@@ -1,9 +1,9 @@
 -- The lines of what was measured are put.
 use Rattle.std.proofs.Common.{subst}
-use Rattle.acl_tool.specs.declared.bench_lines.Measured.{Measured}
-use Rattle.acl_tool.specs.Bench.{bench_text}
-use Rattle.acl_tool.specs.CommandLine.{numbers_in}
-use Rattle.acl_tool.specs.Streams.{PutsLast}
+use Rattle.seed_bench.specs.declared.lines.Measured.{Measured}
+use Rattle.seed_bench.specs.Bench.{bench_text}
+use Rattle.command_words.specs.CommandLine.{numbers_in}
+use Rattle.command_plan.specs.Effects.{PutsLast}
 use Rattle.acl_tool.proofs.Benching.{Answers-measured}
 use Rattle.acl_tool.proofs.bench.bench.Goals as goal
 

@@ -1,7 +1,7 @@
 use Rattle.std.proofs.Common.{subst, ◌∙◌}
 use Rattle.field_defs.specs.Layout.{ip4_fields, ip6_fields}
 use Rattle.rule_set.specs.Rule.{RuleSetView}
-use Rattle.acl_tool.specs.Classifier.{lists_of}
+use Rattle.capture_report.specs.Classifier.{lists_of}
 use Rattle.acl_tool.specs.Built.{BuildsTable}
 use Rattle.acl_tool.proofs.Making.{IsBuilt-both, set-is}
 use Rattle.acl_tool.proofs.tables.build_tables.Goals as goal

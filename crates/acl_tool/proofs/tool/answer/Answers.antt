@@ -1,4 +1,4 @@
-use Rattle.acl_tool.specs.Effects.{outside}
+use Rattle.command_plan.specs.Effects.{outside}
 use Rattle.acl_tool.proofs.UsageLaws.{Answers-usage}
 use Rattle.acl_tool.proofs.tool.answer.Goals as goal
 

@@ -1,8 +1,8 @@
-use Rattle.acl_tool.specs.CommandLine.{options_of}
+use Rattle.command_words.specs.CommandLine.{options_of}
 use Rattle.std.proofs.Common.{ℕ, subst, sym, ap, ◌∙◌}
-use Rattle.acl_tool.specs.Classifier.{Tables, lists_of, ByRules, AnswersAs}
+use Rattle.capture_report.specs.Classifier.{Tables, lists_of, ByRules, AnswersAs}
 use Rattle.acl_tool.specs.Outcome.{tables_within}
-use Rattle.acl_tool.specs.Plan.{Give}
+use Rattle.command_plan.specs.Plan.{Give}
 use Rattle.acl_tool.proofs.Making.{same_tables}
 use Rattle.acl_tool.proofs.Classifying.{Answers-no_rules, Answers-no_tables, Answers-reported}
 use Rattle.acl_tool.proofs.tool.classify.Goals as goal

@@ -1,0 +1,306 @@
+-- The keys of the packets of a family, one after the other, as a batch.
+use Rattle.std.proofs.Common.{◌≡◌, ℕ, zero, suc, ◌+◌, ◌*◌, ◌/◌, ◌<◌, ◌≤◌, List, [], ◌∷◌, ◌++◌, Bool, true, false}
+use Rattle.std.proofs.Common.{refl, sym, ap, ◌∙◌, add-one, add-zero, arith, length, take, drop, sum_by, length-append}
+use Rattle.std.specs.Prelude.{flat_map, slice_index_or, All}
+use Rattle.std.specs.List.{range_with_len}
+use Rattle.std.proofs.lemmas.List.{length-map}
+use Rattle.std.proofs.lemmas.List.Sums.{sum_by_from, sum_by-cons, sum_by-le}
+use Rattle.std.proofs.lemmas.List.FromFn.{length-range_with_len}
+use Rattle.std.proofs.lemmas.List.Elements.{All-head, All-tail}
+use Rattle.std.proofs.Math.Seq.{take-append_seam, drop-append-add}
+use Rattle.std.proofs.Math.Nat.{mul-div_cancel}
+use Rattle.field_defs.specs.declared.field.Family.{Family}
+use Rattle.field_defs.specs.declared.field.Family.TheVariants as family
+use Rattle.flat_table.specs.Sound.{most_tries}
+use Rattle.flat_table.specs.Table.{TableView}
+use Rattle.flat_table.specs.Walk.{key_steps, tries_of, walk_steps, table_verdict}
+use Rattle.flat_table.specs.Batch.{LengthsFit, key_at, keys_in, key_verdicts, first_verdicts, first_steps}
+use Rattle.flat_table.specs.Batch.{batch_verdicts, batch_steps}
+use Rattle.flat_table.proofs.Lanes.{places_bound}
+use Rattle.flat_table.proofs.Taken.{steps_bound}
+use Rattle.header_extract.specs.declared.class.Class.{Class}
+use Rattle.header_extract.specs.declared.class.Class.TheVariants.{Ip4, Ip6, Other, Short}
+use Rattle.header_extract.specs.Class.{FrameClass, key_len}
+use Rattle.capture_report.specs.Packet.{IsPacket}
+use Rattle.capture_report.specs.Classifier.{Tables, key_len_of_family}
+use Rattle.capture_report.specs.Report.{steps_on, steps_of_packets}
+use Rattle.capture_report.specs.Taken.{max_batch}
+use Rattle.capture_report.specs.Batch.{is_of, keys_of, number_of, verdicts_of, steps_of_family, max_steps}
+
+zero-add : (n : ℕ) → 0 + n ≡ n
+zero-add n = omega arith
+
+-- a function of the places from one more on, and one of the places
+shifted : (f g : ℕ → List ℕ) → ((k : ℕ) → f (k + 1) ≡ g k) → (a n : ℕ) →
+    flat_map f (range_with_len (a + 1) n) ≡ flat_map g (range_with_len a n)
+shifted f g same a zero = refl
+shifted f g same a (suc n) =
+    ap (λ l. f (a + 1) ++ l) (shifted f g same (a + 1) n)
+    ∙ ap (λ l. l ++ flat_map g (range_with_len (a + 1) n)) (same a)
+
+sum_shifted : (f g : ℕ → ℕ) → ((k : ℕ) → f (k + 1) ≡ g k) → (a n : ℕ) →
+    sum_by f (range_with_len (a + 1) n) ≡ sum_by g (range_with_len a n)
+sum_shifted f g same a zero = refl
+sum_shifted f g same a (suc n) =
+    omega (
+      arith,
+      sum_by-cons f (a + 1) (range_with_len (a + 1 + 1) n),
+      sum_by-cons g a (range_with_len (a + 1) n),
+      sum_shifted f g same (a + 1) n,
+      same a,
+    )
+
+range_first : (a n : ℕ) → range_with_len a (n + 1) ≡ a ∷ range_with_len (a + 1) n
+range_first a n =
+    let at : range_with_len a (suc n) ≡ a ∷ range_with_len (a + 1) n = refl in
+    ap (range_with_len a) (add-one n) ∙ at
+
+module _ (table : TableView) (key rest : List ℕ) (len : length key ≡ table.key_len) where
+  -- the first key of a batch, and those behind it
+  first_key : key_at table (key ++ rest) 0 ≡ key
+  first_key =
+      ap (λ (m : ℕ). take table.key_len (drop m (key ++ rest))) (let none : 0 * table.key_len ≡ 0 = omega arith in
+      none)
+      ∙ ap (λ (m : ℕ). take m (key ++ rest)) (sym len)
+      ∙ take-append_seam key rest
+
+  later_key : (k : ℕ) → key_at table (key ++ rest) (k + 1) ≡ key_at table rest k
+  later_key k =
+      let behind : (k + 1) * table.key_len ≡ length key + k * table.key_len = omega (arith, len) in
+      ap (λ (m : ℕ). take table.key_len (drop m (key ++ rest))) behind
+      ∙ ap (take table.key_len) (drop-append-add key rest (k * table.key_len))
+
+  verdicts_behind : (count n : ℕ) →
+      first_verdicts table count (key ++ rest) (n + 1)
+      ≡ key_verdicts table count key ++ first_verdicts table count rest n
+  verdicts_behind count n =
+      ap (flat_map (λ k. key_verdicts table count (key_at table (key ++ rest) k))) (range_first 0 n)
+      ∙ ap (λ l. key_verdicts table count (key_at table (key ++ rest) 0) ++ l)
+      (shifted (λ k. key_verdicts table count (key_at table (key ++ rest) k))
+      (λ k. key_verdicts table count (key_at table rest k))
+      (λ k. ap (key_verdicts table count) (later_key k)) 0 n)
+      ∙ ap (λ k. key_verdicts table count k ++ first_verdicts table count rest n) first_key
+
+  steps_behind : (n : ℕ) →
+      first_steps table (key ++ rest) (n + 1) ≡ key_steps table key + first_steps table rest n
+  steps_behind n =
+      let f : ℕ → ℕ = λ k. key_steps table (key_at table (key ++ rest) k) in
+      let g : ℕ → ℕ = λ k. key_steps table (key_at table rest k) in
+      omega (
+        arith,
+        sum_by_from f 0 (range_with_len 0 (n + 1)),
+        ap (sum_by f) (range_first 0 n),
+        sum_by_from g 0 (range_with_len 0 n),
+        sum_by-cons f 0 (range_with_len (0 + 1) n),
+        sum_shifted f g (λ k. ap (key_steps table) (later_key k)) 0 n,
+        ap (key_steps table) first_key,
+      )
+
+class_len : (family : Family) (class : Class) → is_of family class ≡ true → key_len class ≡ key_len_of_family family
+class_len family.Ip4 Ip4 is = refl
+class_len family.Ip4 Ip6 is = absurd (cc)
+class_len family.Ip4 Other is = absurd (cc)
+class_len family.Ip4 Short is = absurd (cc)
+class_len family.Ip6 Ip4 is = absurd (cc)
+class_len family.Ip6 Ip6 is = refl
+class_len family.Ip6 Other is = absurd (cc)
+class_len family.Ip6 Short is = absurd (cc)
+
+module _ (family : Family) (table : TableView) (len : table.key_len ≡ key_len_of_family family) where
+  own_len : (packet : FrameClass) → IsPacket packet → is_of family packet.class ≡ true →
+      length packet.key ≡ table.key_len
+  own_len packet is own = is.len ∙ class_len family packet.class own ∙ sym len
+
+  verdicts_are : (count : ℕ) (packets : List FrameClass) → All IsPacket packets →
+      first_verdicts table count (keys_of family packets) (number_of family packets)
+      ≡ verdicts_of family table count packets
+  verdicts_are count [] all = refl
+  verdicts_are count (p ∷ ps) all =
+      go (is_of family p.class) refl (verdicts_are count ps (All-tail IsPacket p ps all))
+    where
+      go : (own : Bool) → is_of family p.class ≡ own →
+          first_verdicts table count (keys_of family ps) (number_of family ps) ≡ verdicts_of family table count ps →
+          first_verdicts table count (keys_of family (p ∷ ps)) (number_of family (p ∷ ps))
+          ≡ verdicts_of family table count (p ∷ ps)
+      go true own later =
+          rw own
+          (verdicts_behind table p.key (keys_of family ps) (own_len p (All-head IsPacket p ps all) own) count
+          (number_of family ps)
+          ∙ ap (λ l. key_verdicts table count p.key ++ l) later)
+      go false own later = rw own later
+
+  steps_are : (packets : List FrameClass) → All IsPacket packets →
+      first_steps table (keys_of family packets) (number_of family packets) ≡ steps_of_family family table packets
+  steps_are [] all = refl
+  steps_are (p ∷ ps) all = go (is_of family p.class) refl (steps_are ps (All-tail IsPacket p ps all))
+    where
+      go : (own : Bool) → is_of family p.class ≡ own →
+          first_steps table (keys_of family ps) (number_of family ps) ≡ steps_of_family family table ps →
+          first_steps table (keys_of family (p ∷ ps)) (number_of family (p ∷ ps))
+          ≡ steps_of_family family table (p ∷ ps)
+      go true own later =
+          rw own
+          (steps_behind table p.key (keys_of family ps) (own_len p (All-head IsPacket p ps all) own)
+          (number_of family ps)
+          ∙ ap (λ n. key_steps table p.key + n) later)
+      go false own later = rw own later
+
+  keys_len : (packets : List FrameClass) → All IsPacket packets →
+      length (keys_of family packets) ≡ number_of family packets * table.key_len
+  keys_len [] all = omega arith
+  keys_len (p ∷ ps) all = go (is_of family p.class) refl (keys_len ps (All-tail IsPacket p ps all))
+    where
+      go : (own : Bool) → is_of family p.class ≡ own →
+          length (keys_of family ps) ≡ number_of family ps * table.key_len →
+          length (keys_of family (p ∷ ps)) ≡ number_of family (p ∷ ps) * table.key_len
+      go true own later =
+          rw own
+          (omega (
+            arith,
+            length-append p.key (keys_of family ps),
+            own_len p (All-head IsPacket p ps all) own,
+            later,
+          ))
+      go false own later = rw own later
+
+  keys_number : (packets : List FrameClass) → All IsPacket packets → 0 < table.key_len →
+      keys_in table (keys_of family packets) ≡ number_of family packets
+  keys_number packets all some =
+      ap (λ (n : ℕ). n / table.key_len) (keys_len packets all) ∙ mul-div_cancel (number_of family packets) some
+
+  -- the keys of at most a batch of packets fit
+  pub keys_fit : (count room : ℕ) (packets : List FrameClass) → All IsPacket packets → 0 < table.key_len →
+      number_of family packets ≤ max_batch → room ≡ number_of family packets * count →
+      LengthsFit table (keys_of family packets) count room
+  keys_fit count room packets all some few is = record {
+    whole = keys_len packets all ∙ ap (λ (n : ℕ). n * table.key_len) (sym (keys_number packets all some));
+    few = omega (arith, few, keys_number packets all some);
+    room_fits = is ∙ ap (λ (n : ℕ). n * count) (sym (keys_number packets all some));
+  }
+
+  -- and they have these verdicts and steps
+  pub batch_verdicts_are : (count : ℕ) (packets : List FrameClass) → All IsPacket packets → 0 < table.key_len →
+      batch_verdicts table count (keys_of family packets) ≡ verdicts_of family table count packets
+  batch_verdicts_are count packets all some =
+      ap (first_verdicts table count (keys_of family packets)) (keys_number packets all some)
+      ∙ verdicts_are count packets all
+
+  pub batch_steps_are : (packets : List FrameClass) → All IsPacket packets → 0 < table.key_len →
+      batch_steps table (keys_of family packets) ≡ steps_of_family family table packets
+  batch_steps_are packets all some =
+      ap (first_steps table (keys_of family packets)) (keys_number packets all some) ∙ steps_are packets all
+
+-- the walks of a key take at most one word for each trie and byte
+key_steps_bound : (table : TableView) (key : List ℕ) → length table.roots ≤ most_tries → table.key_len ≤ 37 →
+    key_steps table key ≤ max_steps
+key_steps_bound table key tries len =
+    let each : All (λ trie. walk_steps table trie key ≤ 37) (tries_of table) =
+    λ k d below. omega (
+      arith,
+      len,
+      places_bound table (slice_index_or (tries_of table) k d),
+      steps_bound table (slice_index_or (tries_of table) k d) key,
+    ) in
+    omega (
+      arith,
+      tries,
+      sum_by_from (λ trie. walk_steps table trie key) 0 (tries_of table),
+      sum_by-le (λ trie. walk_steps table trie key) 37 (tries_of table) each,
+      length-range_with_len 0 (length table.roots),
+    )
+
+-- and those of all packets
+pub family_steps_bound : (family : Family) (table : TableView) (packets : List FrameClass) →
+    length table.roots ≤ most_tries → table.key_len ≤ 37 →
+    steps_of_family family table packets ≤ length packets * max_steps
+family_steps_bound family table [] tries len = omega arith
+family_steps_bound family table (p ∷ ps) tries len =
+    go (is_of family p.class) refl (family_steps_bound family table ps tries len)
+  where
+    go : (own : Bool) → is_of family p.class ≡ own →
+        steps_of_family family table ps ≤ length ps * max_steps →
+        steps_of_family family table (p ∷ ps) ≤ length (p ∷ ps) * max_steps
+    go true own later = rw own (omega (arith, key_steps_bound table p.key tries len, later))
+    go false own later = rw own (omega (arith, later))
+
+pub number_bound : (family : Family) (packets : List FrameClass) → number_of family packets ≤ length packets
+number_bound family [] = omega arith
+number_bound family (p ∷ ps) = go (is_of family p.class) refl (number_bound family ps)
+  where
+    go : (own : Bool) → is_of family p.class ≡ own → number_of family ps ≤ length ps →
+        number_of family (p ∷ ps) ≤ length (p ∷ ps)
+    go true own later = rw own (omega (arith, later))
+    go false own later = rw own (omega (arith, later))
+
+-- a key has some bytes, and at most those of IPv6
+pub some_bytes : (family : Family) (len : ℕ) → len ≡ key_len_of_family family → 0 < len
+some_bytes family.Ip4 len is = omega (arith, is)
+some_bytes family.Ip6 len is = omega (arith, is)
+
+pub few_bytes : (family : Family) (len : ℕ) → len ≡ key_len_of_family family → len ≤ 37
+few_bytes family.Ip4 len is = omega (arith, is)
+few_bytes family.Ip6 len is = omega (arith, is)
+
+-- the steps of a packet, by its family
+abbrev own_steps : Bool → ℕ → ℕ
+own_steps true steps = steps
+own_steps false steps = 0
+
+one_of_both : (class : Class) (tables : Tables) (key : List ℕ) →
+    steps_on class tables key
+    ≡ own_steps (is_of family.Ip4 class) (key_steps tables.ip4 key)
+    + own_steps (is_of family.Ip6 class) (key_steps tables.ip6 key)
+one_of_both Ip4 tables key = sym (add-zero (key_steps tables.ip4 key))
+one_of_both Ip6 tables key = sym (zero-add (key_steps tables.ip6 key))
+one_of_both Other tables key = refl
+one_of_both Short tables key = refl
+
+family_first : (family : Family) (table : TableView) (p : FrameClass) (ps : List FrameClass) →
+    steps_of_family family table (p ∷ ps)
+    ≡ own_steps (is_of family p.class) (key_steps table p.key) + steps_of_family family table ps
+family_first family table p ps = go (is_of family p.class) refl
+  where
+    go : (own : Bool) → is_of family p.class ≡ own →
+        steps_of_family family table (p ∷ ps)
+        ≡ own_steps (is_of family p.class) (key_steps table p.key) + steps_of_family family table ps
+    go true own = rw own refl
+    go false own = rw own (sym (zero-add (steps_of_family family table ps)))
+
+-- the steps of packets are those of both families
+pub both_steps : (tables : Tables) (packets : List FrameClass) →
+    steps_of_packets tables packets
+    ≡ steps_of_family family.Ip4 tables.ip4 packets + steps_of_family family.Ip6 tables.ip6 packets
+both_steps tables [] = refl
+both_steps tables (p ∷ ps) =
+    omega (
+      arith,
+      sum_by-cons (λ (packet : FrameClass). steps_on packet.class tables packet.key) p ps,
+      one_of_both p.class tables p.key,
+      family_first family.Ip4 tables.ip4 p ps,
+      family_first family.Ip6 tables.ip6 p ps,
+      both_steps tables ps,
+    )
+
+-- so many verdicts of each key
+pub verdicts_len : (family : Family) (table : TableView) (count : ℕ) (packets : List FrameClass) →
+    length (verdicts_of family table count packets) ≡ number_of family packets * count
+verdicts_len family table count [] = omega arith
+verdicts_len family table count (p ∷ ps) = go (is_of family p.class) refl (verdicts_len family table count ps)
+  where
+    go : (own : Bool) → is_of family p.class ≡ own →
+        length (verdicts_of family table count ps) ≡ number_of family ps * count →
+        length (verdicts_of family table count (p ∷ ps)) ≡ number_of family (p ∷ ps) * count
+    go true own later =
+        rw own
+        (omega (
+          arith,
+          length-append (key_verdicts table count p.key) (verdicts_of family table count ps),
+          length-map (range_with_len 0 count) (table_verdict table p.key),
+          length-range_with_len 0 count,
+          later,
+        ))
+    go false own later = rw own later
+
+-- the front of a list
+pub front-is : (n : ℕ) (front rest : List ℕ) → length front ≡ n → take n (front ++ rest) ≡ front
+front-is n front rest len = ap (λ (m : ℕ). take m (front ++ rest)) (sym len) ∙ take-append_seam front rest

@@ -1,0 +1,9 @@
+mod Batches
+mod LineLaws
+mod Reporting
+mod Streaming
+mod Taking
+pub mod WholeRecords
+mod Keys
+pub mod Alike
+mod Shown

@@ -1,0 +1,177 @@
+-- Lines of packets, and then more of them.
+use Rattle.std.proofs.Common.{◌≡◌, ℕ, ◌+◌, ◌≤◌, ◌==◌, List, [], ◌∷◌, ◌++◌, length, map, cond, count_by, sum_by}
+use Rattle.std.proofs.Common.{decimal, refl, sym, ap, ◌∙◌, append_assoc, append-nil, add-zero, arith}
+use Rattle.std.proofs.lemmas.Grind.{common_steps}
+use Rattle.std.proofs.lemmas.List.{length-map, map-append}
+use Rattle.std.proofs.lemmas.List.Sums.{sum_by-append, sum_by-cons}
+use Rattle.header_extract.specs.declared.class.Class.{Class}
+use Rattle.header_extract.specs.declared.class.Class.TheVariants.{Ip4, Ip6, Other, Short}
+use Rattle.header_extract.specs.Class.{FrameClass}
+use Rattle.pcap_reader.specs.Capture.{CaptureRecord}
+use Rattle.acl_report.specs.declared.counts.Counts.{Counts}
+use Rattle.acl_report.specs.Line.{line_feed, line_of, spaced}
+use Rattle.acl_report.specs.Counts.{counted, counts_of, is_ip4, is_ip6, is_other, is_short}
+use Rattle.acl_report.specs.Packet.{class_word, answer_words}
+use Rattle.capture_report.specs.Packet.{packet_of}
+use Rattle.capture_report.specs.Classifier.{Tables}
+use Rattle.capture_report.specs.Printing.{Printing}
+use Rattle.capture_report.specs.Report.{steps_on, steps_of_packets, steps_of_records, answers_on, line_of_packet}
+use Rattle.capture_report.specs.Report.{lines_of_packets, lines_of_records, classes_of, counts_of_records, counted_all}
+use Rattle.capture_report.specs.Report.{lines_in}
+
+lines_of_packets-append : (printing : Printing) (number : ℕ) (first second : List FrameClass) →
+    lines_of_packets printing number (first ++ second)
+    ≡ lines_of_packets printing number first ++ lines_of_packets printing (number + length first) second
+lines_of_packets-append printing number [] second =
+    ap (λ n. lines_of_packets printing n second) (sym (add-zero number))
+lines_of_packets-append printing number (p ∷ ps) second =
+    let line = line_of_packet printing number p in
+    let rest = lines_of_packets printing (number + 1) ps in
+    let sum : (number + 1) + length ps ≡ number + length (p ∷ ps) = omega arith in
+    ap (λ l. line ++ l) (lines_of_packets-append printing (number + 1) ps second)
+    ∙ sym (append_assoc line rest (lines_of_packets printing ((number + 1) + length ps) second))
+    ∙ ap (λ n. (line ++ rest) ++ lines_of_packets printing n second) sum
+
+-- the lines of records, and then of those behind them
+pub lines_of_records-append : (printing : Printing) (first second : List CaptureRecord) (number : ℕ) →
+    number ≡ length first + 1 →
+    lines_of_records printing (first ++ second)
+    ≡ lines_of_records printing first ++ lines_of_packets printing number (map packet_of second)
+lines_of_records-append printing first second number is =
+    let sum : 1 + length (map packet_of first) ≡ number = omega (arith, is, length-map first packet_of) in
+    ap (lines_of_packets printing 1) (map-append packet_of first second)
+    ∙ lines_of_packets-append printing 1 (map packet_of first) (map packet_of second)
+    ∙ ap (λ n. lines_of_records printing first ++ lines_of_packets printing n (map packet_of second)) sum
+
+counts_more : (classes : List Class) (class : Class) →
+    counts_of (classes ++ class ∷ []) ≡ counted class (counts_of classes)
+counts_more classes Ip4 = grind (arith, common_steps)
+counts_more classes Ip6 = grind (arith, common_steps)
+counts_more classes Other = grind (arith, common_steps)
+counts_more classes Short = grind (arith, common_steps)
+
+counted_all-counts : (first second : List FrameClass) →
+    counted_all second (counts_of (classes_of first)) ≡ counts_of (classes_of (first ++ second))
+counted_all-counts first [] = ap (λ l. counts_of (classes_of l)) (sym (append-nil first))
+counted_all-counts first (p ∷ ps) =
+    ap (counted_all ps)
+    (sym (ap counts_of (map-append (λ (packet : FrameClass). packet.class) first (p ∷ []))
+    ∙ counts_more (classes_of first) p.class))
+    ∙ counted_all-counts (first ++ p ∷ []) ps
+    ∙ ap (λ l. counts_of (classes_of l)) (append_assoc first (p ∷ []) ps)
+
+-- the counts of records, and then of those behind them
+pub counts_of_records-append : (first second : List CaptureRecord) →
+    counted_all (map packet_of second) (counts_of_records first) ≡ counts_of_records (first ++ second)
+counts_of_records-append first second =
+    counted_all-counts (map packet_of first) (map packet_of second)
+    ∙ ap (λ l. counts_of (classes_of l)) (sym (map-append packet_of first second))
+
+-- the steps of records, and then of those behind them
+pub steps_of_records-append : (tables : Tables) (first second : List CaptureRecord) →
+    steps_of_records tables (first ++ second)
+    ≡ steps_of_records tables first + steps_of_packets tables (map packet_of second)
+steps_of_records-append tables first second =
+    ap (steps_of_packets tables) (map-append packet_of first second)
+    ∙ sum_by-append (λ (packet : FrameClass). steps_on packet.class tables packet.key) (map packet_of first)
+    (map packet_of second)
+
+-- the count of all records
+pub packets_counted : (records : List CaptureRecord) → (counts_of_records records).packets ≡ length records
+packets_counted records =
+    length-map (map packet_of records) (λ packet. packet.class) ∙ length-map records packet_of
+
+-- a record more of one of the classes adds one
+one_class : (class : Class) →
+    cond (is_ip4 class) 1 0 + cond (is_ip6 class) 1 0 + cond (is_other class) 1 0 + cond (is_short class) 1 0 ≡ 1
+one_class Ip4 = refl
+one_class Ip6 = refl
+one_class Other = refl
+one_class Short = refl
+
+classes_add_up : (classes : List Class) →
+    count_by is_ip4 classes + count_by is_ip6 classes + count_by is_other classes + count_by is_short classes
+    ≡ length classes
+classes_add_up [] = refl
+classes_add_up (class ∷ classes) =
+    omega (
+      arith,
+      one_class class,
+      sum_by-cons (λ c. cond (is_ip4 c) 1 0) class classes,
+      sum_by-cons (λ c. cond (is_ip6 c) 1 0) class classes,
+      sum_by-cons (λ c. cond (is_other c) 1 0) class classes,
+      sum_by-cons (λ c. cond (is_short c) 1 0) class classes,
+      classes_add_up classes,
+    )
+
+-- the counts of the classes add up
+pub records_add_up : (records : List CaptureRecord) (counts : Counts) → counts ≡ counts_of_records records →
+    counts.ip4 + counts.ip6 + counts.other + counts.short ≡ counts.packets
+records_add_up records counts is = rw is (classes_add_up (classes_of (map packet_of records)))
+
+ends_in_line_feed : (first : List ℕ) (words : List (List ℕ)) → 1 ≤ lines_in (line_of first words)
+ends_in_line_feed first words =
+    let f : ℕ → ℕ = λ byte. cond (byte == line_feed) 1 0 in
+    let end : sum_by f (line_feed ∷ []) ≡ 1 = refl in
+    let all : lines_in (line_of first words) ≡ sum_by f (first ++ spaced words) + sum_by f (line_feed ∷ []) =
+    sum_by-append f (first ++ spaced words) (line_feed ∷ []) in
+    omega (arith, all, end)
+
+lines_in-packets : (printing : Printing) (number : ℕ) (packets : List FrameClass) →
+    length packets ≤ lines_in (lines_of_packets printing number packets)
+lines_in-packets printing number [] = omega arith
+lines_in-packets printing number (p ∷ ps) =
+    let f : ℕ → ℕ = λ byte. cond (byte == line_feed) 1 0 in
+    let line = line_of_packet printing number p in
+    let ends : 1 ≤ lines_in line = ends_in_line_feed (decimal number)
+    (class_word p.class ∷ answer_words p.class (answers_on p.class printing p.key)) in
+    let all : lines_in (line ++ lines_of_packets printing (number + 1) ps)
+    ≡ lines_in line + lines_in (lines_of_packets printing (number + 1) ps) =
+    sum_by-append f line (lines_of_packets printing (number + 1) ps) in
+    omega (
+      arith,
+      all,
+      ends,
+      lines_in-packets printing (number + 1) ps,
+    )
+
+-- a line for each record
+pub lines_in-records : (printing : Printing) (records : List CaptureRecord) (more : List ℕ) →
+    length records ≤ lines_in (lines_of_records printing records ++ more)
+lines_in-records printing records more =
+    let f : ℕ → ℕ = λ byte. cond (byte == line_feed) 1 0 in
+    let all : lines_in (lines_of_records printing records ++ more)
+    ≡ lines_in (lines_of_records printing records) + lines_in more =
+    sum_by-append f (lines_of_records printing records) more in
+    omega (
+      arith,
+      all,
+      lines_in-packets printing 1 (map packet_of records),
+      length-map records packet_of,
+    )
+
+-- one packet more
+pub counted-packets : (class : Class) (counts : Counts) → (counted class counts).packets ≡ counts.packets + 1
+counted-packets Ip4 counts = refl
+counted-packets Ip6 counts = refl
+counted-packets Other counts = refl
+counted-packets Short counts = refl
+
+-- how many packets are counted with these more
+pub counted_all-packets : (packets : List FrameClass) (counts : Counts) →
+    (counted_all packets counts).packets ≡ counts.packets + length packets
+counted_all-packets [] counts = omega arith
+counted_all-packets (p ∷ ps) counts =
+    omega (arith, counted_all-packets ps (counted p.class counts), counted-packets p.class counts)
+
+-- nothing is counted yet
+pub counts-none : (counts : Counts) →
+    (counts.packets ≡ 0) × ((counts.ip4 ≡ 0) × ((counts.ip6 ≡ 0) × ((counts.other ≡ 0) × (counts.short ≡ 0)))) →
+    counts ≡ counts_of_records []
+counts-none counts none =
+    let with_counts : ℕ → ℕ → ℕ → ℕ → ℕ →
+    Counts = λ p a b o s. record { packets = p; ip4 = a; ip6 = b; other = o; short = s } in
+    ap (λ n. with_counts n counts.ip4 counts.ip6 counts.other counts.short) (none.0)
+    ∙ ap (λ n. with_counts 0 n counts.ip6 counts.other counts.short) (none.1.0)
+    ∙ ap (λ n. with_counts 0 0 n counts.other counts.short) (none.1.1.0)
+    ∙ ap (λ n. with_counts 0 0 0 n counts.short) (none.1.1.1.0) ∙ ap (with_counts 0 0 0 0) (none.1.1.1.1)

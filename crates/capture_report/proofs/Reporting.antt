@@ -1,0 +1,502 @@
+-- How the report of a capture ends, by what was opened, read and put.
+use Rattle.std.proofs.Common.{◌≡◌, ◌≢◌, ◌⊎◌, ℕ, ◌+◌, ◌≤◌, List, [], ◌∷◌, ◌++◌, length, true, false, Option, Some}
+use Rattle.std.proofs.Common.{None, Ok, Err, inl, inr, refl, sym, subst, ap, ◌∙◌, append_assoc, append-nil, arith}
+use Rattle.std.proofs.lemmas.Bool.{false≢true}
+use Rattle.std.specs.Option.{option_map_or}
+use Rattle.acl_outside.specs.Fault.{Rose}
+use Rattle.acl_outside.specs.Desk.{File, DeskView, OpensFile}
+use Rattle.acl_outside.specs.Heard.{Heard, Ending, NotOpened, GoesOn, Ended, BrokenOff, heard, opening_of}
+use Rattle.acl_outside.specs.Reading.{ReadsOn, and_goes_on}
+use Rattle.acl_outside.specs.Sink.{SinkView, Gains, GainsPrefix}
+use Rattle.acl_outside.proofs.HeardLaws.{ReadsOn-none, ReadsOn-then}
+use Rattle.pcap_reader.specs.declared.fault.CaptureFault.{CaptureFault}
+use Rattle.pcap_reader.specs.declared.fault.CaptureFault.TheVariants as faults
+use Rattle.pcap_reader.specs.declared.start.Start.{Start}
+use Rattle.pcap_reader.specs.Start.{start_of}
+use Rattle.pcap_reader.specs.Capture.{CaptureRecord, records_behind, capture_of, whole_records, records_in}
+use Rattle.pcap_reader.specs.Fill.{KeepsReading, IsAtEnd}
+use Rattle.pcap_reader.specs.Reader.{ReadsStart}
+use Rattle.pcap_reader.proofs.FillLaws.{KeepsReading-join}
+use Rattle.pcap_reader.proofs.AnswersLaws.{capture_of-read, whole_records-none}
+use Rattle.command_plan.specs.declared.status.Status.{Status}
+use Rattle.command_plan.specs.declared.status.Status.TheVariants.{CaptureRefused, ReadFault, WriteFault, OutOfMemory}
+use Rattle.capture_report.specs.Printing.{Printing}
+use Rattle.capture_report.specs.Report.{lines_of_records, steps_of_records}
+use Rattle.capture_report.specs.Taken.{stands}
+use Rattle.command_plan.specs.Plan.{Outcome, Plan, Give, silent, found, settled}
+use Rattle.command_plan.specs.Follow.{Given, Within, IsEnough, IsOpened, IsOneOf, said_in, status_within}
+use Rattle.command_plan.specs.Endings.{is_decided, is_usage}
+use Rattle.capture_report.specs.CaptureOutcome.{refusal, report, report_of_capture, reported, lines_so_far}
+use Rattle.capture_report.specs.CaptureOutcome.{status_of_fault, text_of_records}
+use Rattle.command_plan.specs.Effects.{Outside, outside, files_of, opened_of, heard_of, earlier_of, KeepsFiles, Ends}
+use Rattle.capture_report.specs.Prints.{KeepsUp, Reports}
+use Rattle.capture_report.specs.Streams.{Reading, Whole, Part, records_read, text_of, IsUnbroken, AreRead, IsStatus}
+use Rattle.capture_report.specs.Streams.{BreaksOffSoon, Streams}
+use Rattle.command_plan.proofs.Gained.{Gains-none}
+use Rattle.command_plan.proofs.Inputs.{heard_file, part_told, opened_told, opened_absent, kept_files, cannot_open}
+use Rattle.command_plan.proofs.Inputs.{unopened_kept}
+use Rattle.command_plan.proofs.Links.{CannotRead-because}
+use Rattle.capture_report.proofs.WholeRecords.{start_of-more}
+
+-- an opened file, of which these bytes were heard
+abbrev file_of : List ℕ → List ℕ → Ending → Heard
+file_of name given ending = record { name = name; bytes = given; ending = ending }
+
+-- The named file was opened, these bytes of it were read, and nothing else was asked for.
+record HearsFile (name given : List ℕ) (ending : Ending) (old new : DeskView) : Type 0 where
+  heard : heard_of new ≡ file_of name given ending ∷ heard_of old
+  told : IsOneOf (files_of old) (file_of name given ending)
+  opened : (files : List File) → files_of old ≡ Some files → opened_of new ≡ Some (Some name)
+  absent : (files : List File) → files_of old ≡ Some files → new.absent ≡ old.absent
+  kept : KeepsFiles old new
+
+stood : (ending : Ending) (name given : List ℕ) → stands ending (file_of name given GoesOn)
+    ≡ file_of name given ending
+stood NotOpened name given = refl
+stood GoesOn name given = refl
+stood Ended name given = refl
+stood BrokenOff name given = refl
+
+HearsFile-read : {T E : Type 0} (name given : List ℕ) (ending : Ending) (old mid new : DeskView) (x : T) →
+    OpensFile {E = E} name old mid (Ok x) →
+    ReadsOn (stands ending) given mid new → (ending ≡ Ended → IsAtEnd new) → KeepsReading mid new →
+    HearsFile name given ending old new
+HearsFile-read name given ending old mid new x opens reads at_end keeps = record {
+  heard =
+      heard_file (stands ending) name given old mid new x opens reads
+      ∙ ap (λ (file : Heard). file ∷ heard_of old) (stood ending name given);
+  told = λ files told opened.
+      part_told name given ending old.content mid.content new.content opens.opened reads.told at_end files told;
+  opened = λ files told. opened_told name given old.content mid.content new.content opens.opened reads.told files
+      told;
+  absent = λ files told.
+      keeps.absent ∙ opened_absent name old mid old.content mid.content
+      (λ content at some. (opens.there content at some).0) opens.opened files told;
+  kept = kept_files name given old mid new x opens reads.told keeps.counts;
+}
+
+said-opened : (ending : Ending) (text : List ℕ) → IsOpened ending → text ≡ said_in ending text
+said-opened NotOpened text opened = absurd opened
+said-opened GoesOn text opened = refl
+said-opened Ended text opened = refl
+said-opened BrokenOff text opened = refl
+
+-- Only a part was read.
+record PutsPart (lines : List ℕ) (ending : Ending) (old new : Outside) (status : Status) : Type 0 where
+  ended : (status ≡ status_within ending) ⊎ ((status ≡ WriteFault) ⊎ (status ≡ OutOfMemory))
+  text : status ≢ WriteFault → status ≢ OutOfMemory → Gains lines old.out new.out
+  prefix : status ≡ WriteFault → GainsPrefix lines old.out new.out
+  full : status ≡ OutOfMemory → Gains [] old.out new.out
+  read_fault : status ≡ ReadFault → Rose old.desk.read_faults new.desk.read_faults
+  write_fault : status ≡ WriteFault → Rose old.out.faults new.out.faults
+  count : old.out.faults ≤ new.out.faults
+
+within_undecided : (ending : Ending) → is_decided (status_within ending) ≡ false
+within_undecided NotOpened = refl
+within_undecided GoesOn = refl
+within_undecided Ended = refl
+within_undecided BrokenOff = refl
+
+-- such a status isn't decided
+part_undecided : (status : Status) (ending : Ending) →
+    (status ≡ status_within ending) ⊎ ((status ≡ WriteFault) ⊎ (status ≡ OutOfMemory)) →
+    is_decided status ≡ true → ⊥
+part_undecided status ending (inl within) decided =
+    false≢true (sym (within_undecided ending) ∙ sym (ap is_decided within) ∙ decided)
+part_undecided status ending (inr (inl write)) decided = false≢true (sym (ap is_decided write) ∙ decided)
+part_undecided status ending (inr (inr full)) decided = false≢true (sym (ap is_decided full) ∙ decided)
+
+Ends-part : (printing : Printing) (name given : List ℕ) (ending : Ending) (old new : Outside) (status : Status) →
+    HearsFile name given ending old.desk new.desk → IsOpened ending →
+    PutsPart (lines_so_far printing given) ending old new status →
+    Ends (reported printing name) old new status
+Ends-part printing name given ending old new status h opened p = record {
+  reached = Within (file_of name given ending) (lines_so_far printing given);
+  follows = inr (
+    file_of name given ending,
+    refl,
+    h.told,
+    inl (
+      h.heard,
+      ap (Within (file_of name given ending)) (said-opened ending (lines_so_far printing given) opened),
+    ),
+  );
+  ended = p.ended;
+  text = p.text;
+  prefix = p.prefix;
+  out_of_memory = p.full;
+  steps = λ decided. absurd (part_undecided status ending p.ended decided);
+  read_fault = λ e. inl (p.read_fault e);
+  write_fault = p.write_fault;
+  absent = λ files told isnt. h.absent files told;
+  kept = h.kept;
+  count = p.count;
+}
+
+enough_from : {A : Type 0} (ending : Ending) (next : List ℕ → Plan A) (name given : List ℕ) → IsUnbroken ending →
+    ((more : List ℕ) → (ending ≡ Ended → more ≡ []) → next (given ++ more) ≡ next given) →
+    IsEnough next (file_of name given ending)
+enough_from NotOpened next name given unbroken long = absurd unbroken
+enough_from GoesOn next name given unbroken long = inr (refl, λ more. long more (λ e. absurd (cc)))
+enough_from Ended next name given unbroken long = inl refl
+enough_from BrokenOff next name given unbroken long = absurd unbroken
+
+-- All was read that decides the outcome.
+record PutsAll (outcome : Outcome) (old new : SinkView) (status : Status) : Type 0 where
+  decided : is_decided outcome.status ≡ true
+  lawful : is_usage outcome.status ≡ false
+  puts : ((status ≡ outcome.status) × Gains outcome.text old new)
+      ⊎ ((status ≡ WriteFault) × GainsPrefix outcome.text old new × Rose old.faults new.faults)
+  count : old.faults ≤ new.faults
+
+all_ended : (outcome : Outcome) (old new : SinkView) (status : Status) → PutsAll outcome old new status →
+    (status ≡ outcome.status) ⊎ (status ≡ WriteFault)
+all_ended outcome old new status p = elim p.puts [ inl done ↦ inl done.0 | inr failed ↦ inr failed.0 ]
+
+-- then the status is decided, or a write fault
+all_decided : (outcome : Outcome) (old new : SinkView) (status : Status) → PutsAll outcome old new status →
+    status ≢ WriteFault → is_decided status ≡ true
+all_decided outcome old new status p other =
+    elim (all_ended outcome old new status p) [
+      | inl same ↦ ap is_decided same
+          ∙ p.decided
+      | inr write ↦ absurd (other write)
+    ]
+
+Ends-whole : (printing : Printing) (name given : List ℕ) (ending : Ending) (old new : Outside) (status : Status) →
+    HearsFile name given ending old.desk new.desk → IsUnbroken ending →
+    ((more : List ℕ) → (ending ≡ Ended → more ≡ []) → report printing (given ++ more) ≡ report printing given) →
+    PutsAll (report printing given) old.out new.out status → new.steps ≡ old.steps + (report printing given).steps →
+    Ends (reported printing name) old new status
+Ends-whole printing name given ending old new status h unbroken long p steps =
+    let never : (is_decided status ≡ false) → status ≢ WriteFault → ⊥ =
+    λ isnt other. false≢true (sym isnt ∙ all_decided (report printing given) old.out new.out status p other) in
+    record {
+      reached = Given (report printing given);
+      follows = inr (
+        file_of name given ending,
+        refl,
+        h.told,
+        inr (
+          enough_from ending (λ bytes. Give (report printing bytes)) name given unbroken
+              (λ more rest. ap Give (long more rest)),
+          (h.heard, refl),
+        ),
+      );
+      ended = elim p.puts [ inl done ↦ inl done.0 | inr failed ↦ inr (inl failed.0) ];
+      text = λ other full. elim p.puts [ inl done ↦ done.1 | inr failed ↦ absurd (other failed.0) ];
+      prefix = λ e. elim p.puts [
+        | inl done ↦ absurd (false≢true (ap is_decided (sym e ∙ done.0) ∙ p.decided))
+        | inr failed ↦ failed.1
+      ];
+      out_of_memory = λ e. absurd (never (ap is_decided e) (λ w. absurd (cc)));
+      steps = λ decided. steps;
+      read_fault = λ e. absurd (never (ap is_decided e) (λ w. absurd (cc)));
+      write_fault = λ e. elim p.puts [
+        | inl done ↦ absurd (false≢true (ap is_decided (sym e ∙ done.0) ∙ p.decided))
+        | inr failed ↦ failed.2
+      ];
+      absent = λ files told isnt. h.absent files told;
+      kept = h.kept;
+      count = p.count;
+    }
+
+-- the file can't be opened
+pub Reports-unopened : {T E : Type 0} (printing : Printing) (name : List ℕ) (old new : DeskView) (out : SinkView)
+    (steps : ℕ) (e : E) →
+    OpensFile {T = T} name old new (Err e) →
+    Reports printing name (outside old out steps) (outside new out steps) ReadFault
+Reports-unopened printing name old new out steps e opens = record {
+  ends = record {
+    reached = Within (opening_of name false) [];
+    follows = inr (
+      opening_of name false,
+      refl,
+      (λ files told opened. absurd opened),
+      inl
+          (ap heard opens.answer, refl),
+    );
+    ended = inl refl;
+    text = λ other full. Gains-none out;
+    prefix = λ w. absurd (cc);
+    out_of_memory = λ full. absurd (cc);
+    steps = λ decided. absurd (false≢true decided);
+    read_fault = λ r.
+        CannotRead-because _ _ old new
+        (λ files told none.
+        ap (λ o. (settled (option_map_or (λ bytes. found (Give (report printing bytes)) files) o
+        (Err ReadFault))).status) none)
+        (cannot_open name old new opens.cause opens.there);
+    write_fault = λ w. absurd (cc);
+    absent = λ files told isnt. absurd (isnt refl);
+    kept = unopened_kept name old new e opens;
+    count = omega arith;
+  };
+  lawful = refl;
+  opened = λ files told reported. absurd (false≢true reported);
+  keeps_up = λ w. absurd (cc);
+}
+
+-- there is no memory to read the file
+pub Reports-full : {T E : Type 0} (printing : Printing) (name : List ℕ) (old mid new : DeskView) (out : SinkView)
+    (steps : ℕ) (x : T) →
+    OpensFile {E = E} name old mid (Ok x) → new ≡ mid →
+    Reports printing name (outside old out steps) (outside new out steps) OutOfMemory
+Reports-full {T} {E} printing name old mid new out steps x opens same =
+    let keeps : KeepsReading mid mid =
+    record { reading = refl; absent = refl; counts = record { read_faults = omega arith; absent = omega arith } } in
+    let h = HearsFile-read {E = E} name [] GoesOn old mid mid x opens (ReadsOn-none mid) (λ e. absurd (cc)) keeps in
+    rw same
+    record {
+      ends = Ends-part printing name [] GoesOn (outside old out steps) (outside mid out steps) OutOfMemory h tt
+          record {
+            ended = inr (inr refl);
+            text = λ other full. absurd (full refl);
+            prefix = λ w. absurd (cc);
+            full = λ e. Gains-none out;
+            read_fault = λ e. absurd (cc);
+            write_fault = λ w. absurd (cc);
+            count = omega arith;
+          };
+      lawful = refl;
+      opened = λ files told reported. absurd (false≢true reported);
+      keeps_up = λ w. absurd (cc);
+    }
+
+-- the file header has a fault
+header_refused : {T E : Type 0} (printing : Printing) (name given : List ℕ) (ending : Ending)
+    (fault : CaptureFault) (old mid new : DeskView)
+    (out : SinkView) (steps : ℕ) (x : T) → OpensFile {E = E} name old mid (Ok x) →
+    ReadsOn (stands ending) given mid new →
+    (ending ≡ Ended → IsAtEnd new) → KeepsReading mid new → IsUnbroken ending →
+    ((more : List ℕ) → (ending ≡ Ended → more ≡ []) → start_of (given ++ more) ≡ Err fault) →
+    Reports printing name (outside old out steps) (outside new out steps) (CaptureRefused fault)
+header_refused {T} {E} printing name given ending fault old mid new out steps x opens reads at_end keeps unbroken
+    says =
+    let h = HearsFile-read {E = E} name given ending old mid new x opens reads at_end keeps in
+    let is : (more : List ℕ) → (ending ≡ Ended → more ≡ []) →
+    report printing (given ++ more) ≡ silent (CaptureRefused fault) =
+    λ more rest. (let s = says more rest in rw s refl) in
+    let alone : report printing given ≡ silent (CaptureRefused fault) =
+    ap (report printing) (sym (append-nil given)) ∙ is [] (λ e. refl) in
+    let puts : PutsAll (silent (CaptureRefused fault)) out out (CaptureRefused fault) =
+    record { decided = refl; lawful = refl; puts = inl (refl, Gains-none out); count = omega arith } in
+    record {
+      ends = Ends-whole printing name given ending (outside old out steps) (outside new out steps)
+          (CaptureRefused fault) h unbroken
+          (λ more rest. is more rest ∙ sym alone)
+          (subst (λ (o : Outcome). PutsAll o out out (CaptureRefused fault)) (sym alone) puts)
+          (omega (arith, ap (λ (o : Outcome). o.steps) alone));
+      lawful = refl;
+      opened = λ files told reported. h.opened files told;
+      keeps_up = λ w. absurd (cc);
+    }
+
+header_decided : {T E : Type 0} (printing : Printing) (name given : List ℕ) (fault : CaptureFault)
+    (old mid new : DeskView) (out : SinkView) (steps : ℕ) (x : T) →
+    OpensFile {E = E} name old mid (Ok x) → ReadsOn and_goes_on given mid new → KeepsReading mid new →
+    start_of given ≡ Err fault →
+    (fault ≡ faults.HeaderCut → ⊥) →
+    Reports printing name (outside old out steps) (outside new out steps) (CaptureRefused fault)
+header_decided {T} {E} printing name given fault old mid new out steps x opens reads keeps says isnt =
+    header_refused {E = E} printing name given GoesOn fault old mid new out steps x opens reads
+    (λ e. absurd (cc)) keeps tt
+    (λ more rest. (start_of-more given more (Err fault) says
+    (λ e. isnt (let same : fault ≡ faults.HeaderCut = cc in same))).0)
+
+header_cut : {T E : Type 0} (printing : Printing) (name given : List ℕ) (fault : CaptureFault)
+    (old mid new : DeskView) (out : SinkView) (steps : ℕ) (x : T) →
+    OpensFile {E = E} name old mid (Ok x) → ReadsOn (stands Ended) given mid new → IsAtEnd new →
+    KeepsReading mid new →
+    start_of given ≡ Err fault →
+    Reports printing name (outside old out steps) (outside new out steps) (CaptureRefused fault)
+header_cut {T} {E} printing name given fault old mid new out steps x opens reads end keeps says =
+    header_refused {E = E} printing name given Ended fault old mid new out steps x opens reads (λ e. end) keeps tt
+    (λ more rest. ap start_of (ap (λ (l : List ℕ). given ++ l) (rest refl) ∙ append-nil given) ∙ says)
+
+pub Reports-header : {T E : Type 0} (fault : CaptureFault) (printing : Printing) (name : List ℕ)
+    (old mid new : DeskView) (out : SinkView) (steps : ℕ) (x : T) →
+    OpensFile {E = E} name old mid (Ok x) → (reads : ReadsStart mid new (Err fault)) →
+    Reports printing name (outside old out steps) (outside new out steps) (refusal fault)
+Reports-header {T} {E} faults.ReadFault printing name old mid new out steps x opens reads =
+    let h = HearsFile-read {E = E} name reads.given BrokenOff old mid new x opens reads.reads
+    (λ e. absurd (cc)) reads.keeps in
+    let none : lines_so_far printing reads.given ≡ [] =
+    ap (lines_of_records printing) (whole_records-none reads.given faults.ReadFault reads.answer) in
+    record {
+      ends = Ends-part printing name reads.given BrokenOff (outside old out steps) (outside new out steps) ReadFault
+          h tt
+          record {
+            ended = inl refl;
+            text = λ other full. rw none (Gains-none out);
+            prefix = λ w. absurd (cc);
+            full = λ e. absurd (cc);
+            read_fault = λ e. omega (arith, opens.counts.read_faults, reads.read_fault refl);
+            write_fault = λ w. absurd (cc);
+            count = omega arith;
+          };
+      lawful = refl;
+      opened = λ files told reported. absurd (false≢true reported);
+      keeps_up = λ w. absurd (cc);
+    }
+Reports-header {T} {E} faults.HeaderCut printing name old mid new out steps x opens reads =
+    header_cut {E = E} printing name reads.given faults.HeaderCut old mid new out steps x opens reads.reads
+    (reads.end refl) reads.keeps reads.answer
+Reports-header {T} {E} (faults.RecordCut n) printing name old mid new out steps x opens reads =
+    header_cut {E = E} printing name reads.given (faults.RecordCut n) old mid new out steps x opens reads.reads
+    (reads.end refl) reads.keeps reads.answer
+Reports-header {T} {E} faults.Magic printing name old mid new out steps x opens reads =
+    header_decided {E = E} printing name reads.given faults.Magic old mid new out steps x opens reads.reads
+    reads.keeps
+    reads.answer (λ e. absurd (cc))
+Reports-header {T} {E} faults.Version printing name old mid new out steps x opens reads =
+    header_decided {E = E} printing name reads.given faults.Version old mid new out steps x opens reads.reads
+    reads.keeps
+    reads.answer (λ e. absurd (cc))
+Reports-header {T} {E} faults.LinkType printing name old mid new out steps x opens reads =
+    header_decided {E = E} printing name reads.given faults.LinkType old mid new out steps x opens reads.reads
+    reads.keeps
+    reads.answer (λ e. absurd (cc))
+Reports-header {T} {E} (faults.RecordTooLong n) printing name old mid new out steps x opens reads =
+    header_decided {E = E} printing name reads.given
+    (faults.RecordTooLong n) old mid new out steps x opens reads.reads reads.keeps reads.answer (λ e. absurd (cc))
+Reports-header {T} {E} faults.TooManyRecords printing name old mid new out steps x opens reads =
+    header_decided {E = E} printing name reads.given faults.TooManyRecords old mid new out steps x opens reads.reads
+    reads.keeps reads.answer (λ e. absurd (cc))
+
+keeps_up_from : (name given : List ℕ) (ending : Ending) (text : List ℕ) (records : List CaptureRecord)
+    (old new : Outside) →
+    HearsFile name given ending old.desk new.desk → whole_records given ≡ records →
+    BreaksOffSoon text (length records) old.out new.out →
+    KeepsUp name old new
+keeps_up_from name given ending text records old new h whole b = record {
+  file = file_of name given ending;
+  named = refl;
+  newest = h.heard ∙ ap (λ l. file_of name given ending ∷ earlier_of l) (sym h.heard);
+  put = b.put;
+  gains = b.gains;
+  few = omega (arith, b.few, ap length whole);
+}
+
+prefix_from : (text : List ℕ) (records : ℕ) (old new : SinkView) → BreaksOffSoon text records old new →
+    GainsPrefix text old new
+prefix_from text records old new b = record { prefix = b.put; rest = b.rest; parts = b.parts; gains = b.gains }
+
+fault_decided : (fault : Option CaptureFault) →
+    (is_decided (status_of_fault fault) ≡ true) × (is_usage (status_of_fault fault) ≡ false)
+fault_decided None = (refl, refl)
+fault_decided (Some fault) = (refl, refl)
+
+-- what was streamed behind a file header
+streamed : (read : Reading) (printing : Printing) (name given : List ℕ) (ending : Ending) (old new : Outside)
+    (status : Status) (start : Start)
+    (behind : List ℕ) → HearsFile name given ending old.desk new.desk →
+    ((more : List ℕ) → capture_of (given ++ more) ≡ Ok (records_behind start 0 (behind ++ more))) →
+    AreRead start behind ending read →
+    ((IsStatus ending read status × Gains (text_of printing read) old.out new.out)
+    ⊎ ((status ≡ WriteFault) × BreaksOffSoon (text_of printing read) (length (records_read read)) old.out new.out)) →
+    (status ≡ ReadFault → Rose old.desk.read_faults new.desk.read_faults) → old.out.faults ≤ new.out.faults →
+    IsOpened ending →
+    new.steps ≡ old.steps + steps_of_records printing.tables (records_read read) →
+    Reports printing name old new status
+streamed (Whole records fault) printing name given ending old new status start behind h is bytes ended rose count
+    opened steps =
+    let all : (more : List ℕ) → (ending ≡ Ended → more ≡ []) →
+    capture_of (given ++ more) ≡ Ok (record { records = records; fault = fault }) =
+    λ more rest. is more ∙ ap Ok (bytes.1 more rest) in
+    let alone : capture_of given ≡ Ok (record { records = records; fault = fault }) =
+    ap capture_of (sym (append-nil given)) ∙ all [] (λ e. refl) in
+    let expected : Outcome =
+    report_of_capture printing (Ok (record { records = records; fault = fault })) in
+    let puts : PutsAll expected old.out new.out status = record {
+      decided = (fault_decided fault).0;
+      lawful = (fault_decided fault).1;
+      puts = elim ended [
+        | inl done ↦ inl (done.0, done.1)
+        | inr failed ↦ inr (
+          failed.0,
+          prefix_from (text_of_records printing records fault)
+              (length records) old.out new.out failed.1,
+          failed.1.rose,
+        )
+      ];
+      count = count;
+    } in
+    let reported_as : expected ≡ report printing given = ap (report_of_capture printing) (sym alone) in
+    record {
+      ends = Ends-whole printing name given ending old new status h (bytes.0)
+          (λ more rest. ap (report_of_capture printing) (all more rest ∙ sym alone))
+          (subst (λ (o : Outcome). PutsAll o old.out new.out status) reported_as puts)
+          (steps ∙ ap (λ (o : Outcome). old.steps + o.steps) reported_as);
+      lawful = elim (all_ended expected old.out new.out status puts) [
+        | inl same ↦ ap is_usage same ∙ (fault_decided fault).1
+        | inr write ↦ ap is_usage write
+      ];
+      opened = λ files told reported. h.opened files told;
+      keeps_up = λ w. elim ended [
+        | inl done ↦ absurd (false≢true (ap is_decided (sym w ∙ done.0) ∙ (fault_decided fault).0))
+        | inr failed ↦
+            keeps_up_from name given ending (text_of_records printing records fault) records old new h
+            (ap records_in alone) failed.1
+      ];
+    }
+streamed (Part records) printing name given ending old new status start behind h is bytes ended rose count
+    opened steps =
+    let whole : whole_records given ≡ records =
+    ap (λ l. records_in (capture_of l)) (sym (append-nil given)) ∙ ap records_in (is [])
+    ∙ ap (λ l. (records_behind start 0 l).records) (append-nil behind) ∙ bytes in
+    let lines : lines_so_far printing given ≡ lines_of_records printing records =
+    ap (lines_of_records printing) whole in
+    record {
+      ends = Ends-part printing name given ending old new status h opened
+          record {
+            ended = elim ended [
+              | inl broken ↦ inl (broken.0.0 ∙ ap status_within (sym broken.0.1))
+              | inr failed ↦ inr (inl failed.0)
+            ];
+            text = λ other full. elim ended [ inl broken ↦ rw lines broken.1 | inr failed ↦ absurd (other failed.0) ];
+            prefix = λ w. elim ended [
+              | inl broken ↦ (let e : ReadFault ≡ WriteFault = sym broken.0.0 ∙ w in absurd (cc))
+              | inr failed ↦ rw lines
+                  (prefix_from (lines_of_records printing records) (length records) old.out new.out failed.1)
+            ];
+            full = λ e. elim ended [
+              | inl broken ↦ (let r : ReadFault ≡ OutOfMemory = sym broken.0.0 ∙ e in absurd (cc))
+              | inr failed ↦ (let r : WriteFault ≡ OutOfMemory = sym failed.0 ∙ e in absurd (cc))
+            ];
+            read_fault = rose;
+            write_fault = λ w. elim ended [
+              | inl broken ↦ (let e : ReadFault ≡ WriteFault = sym broken.0.0 ∙ w in absurd (cc))
+              | inr failed ↦ failed.1.rose
+            ];
+            count = count;
+          };
+      lawful = elim ended [ inl broken ↦ ap is_usage broken.0.0 | inr failed ↦ ap is_usage failed.0 ];
+      opened = λ files told reported. h.opened files told;
+      keeps_up = λ w. elim ended [
+        | inl broken ↦ (let e : ReadFault ≡ WriteFault = sym broken.0.0 ∙ w in absurd (cc))
+        | inr failed ↦ keeps_up_from name given ending
+            (lines_of_records printing records) records old new h whole failed.1
+      ];
+    }
+
+-- the records are read and printed
+pub Reports-streamed : {T E : Type 0} (printing : Printing) (name : List ℕ) (start : Start)
+    (old opened mid new : DeskView) (out_old out_new : SinkView) (steps_old steps_new : ℕ)
+    (x : T) (status : Status) → OpensFile {E = E} name old opened (Ok x) → ReadsStart opened mid (Ok start) →
+    Streams printing start (outside mid out_old steps_old) (outside new out_new steps_new) status →
+    Reports printing name (outside old out_old steps_old) (outside new out_new steps_new) status
+Reports-streamed {T} {E} printing name start old opened mid new out_old out_new steps_old steps_new x status opens
+    header s =
+    let given = header.given ++ s.given in
+    let reads = ReadsOn-then (stands s.ending) header.given s.given opened mid new header.reads s.reads in
+    let h = HearsFile-read {E = E} name given s.ending old opened new x opens reads s.at_end
+    (KeepsReading-join opened mid new header.keeps s.keeps) in
+    streamed s.read printing name given s.ending (outside old out_old steps_old) (outside new out_new steps_new)
+    status
+    start s.given h
+    (λ more. ap capture_of (append_assoc header.given s.given more)
+    ∙ capture_of-read header.given (s.given ++ more) start header.answer)
+    s.bytes s.answer
+    (λ e. omega (arith, opens.counts.read_faults, header.keeps.counts.read_faults, s.read_fault e)) s.count
+    s.opened s.steps

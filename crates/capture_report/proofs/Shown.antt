@@ -1,0 +1,132 @@
+-- What is written of a packet by its verdicts and dashes is its line.
+use Rattle.std.proofs.Common.{◌≡◌, ℕ, ◌+◌, ◌%◌, ◌≤◌, ◌==◌, List, [], ◌∷◌, Bool, true, false, not, map, take, length}
+use Rattle.std.proofs.Common.{Some, inl, inr, refl, ap, ◌∙◌, replicate}
+use Rattle.std.specs.List.{range_with_len}
+use Rattle.std.proofs.lemmas.Bool.Decides.{eqb_tells}
+use Rattle.std.proofs.lemmas.List.{take-replicate}
+use Rattle.std.proofs.lemmas.List.FromFn.{length-range_with_len, length-map-range_with_len, take-map-range_with_len}
+use Rattle.std.proofs.lemmas.Simd.{splat_is_map}
+use Rattle.flat_table.specs.Table.{TableView}
+use Rattle.flat_table.specs.Walk.{joined, table_verdict, userdatas}
+use Rattle.flat_table.specs.Batch.{key_verdicts}
+use Rattle.scalar_walk.specs.Rows.{winners_of}
+use Rattle.header_extract.specs.declared.class.Class.{Class}
+use Rattle.header_extract.specs.declared.class.Class.TheVariants.{Ip4, Ip6, Other, Short}
+use Rattle.header_extract.specs.Class.{FrameClass}
+use Rattle.acl_report.specs.declared.counts.Counts.{Counts}
+use Rattle.acl_report.specs.Counts.{counted}
+use Rattle.acl_report.specs.Packet.{answer, answers, packet_text}
+use Rattle.capture_report.specs.Classifier.{ByTables, all_categories, answer_of_table}
+use Rattle.capture_report.specs.Printing.{Printing}
+use Rattle.capture_report.specs.Report.{shown, answers_on, line_of_packet}
+use Rattle.capture_report.specs.Batch.{verdicts_on, dashes_of, dashes_on}
+use Rattle.capture_report.proofs.LineLaws.{counted-packets}
+
+-- verdicts and dashes, category by category
+pair_up : (f : ℕ → ℕ) (d : ℕ → Bool) (r : List ℕ) → answers (map f r) (map d r) ≡ map (λ c. answer (f c) (d c)) r
+pair_up f d [] = refl
+pair_up f d (x ∷ xs) = ap (λ l. answer (f x) (d x) ∷ l) (pair_up f d xs)
+
+map_same : {X : Type 0} (f g : ℕ → X) → ((k : ℕ) → f k ≡ g k) → (r : List ℕ) → map f r ≡ map g r
+map_same f g same [] = refl
+map_same f g same (x ∷ xs) = ap (λ l. f x ∷ l) (map_same f g same xs) ∙ ap (λ y. y ∷ map g xs) (same x)
+
+map_twice : {X Y : Type 0} (f : X → Y) (g : ℕ → X) (r : List ℕ) → map f (map g r) ≡ map (λ k. f (g k)) r
+map_twice f g [] = refl
+map_twice f g (x ∷ xs) = ap (λ l. f (g x) ∷ l) (map_twice f g xs)
+
+module _ (table : TableView) (key : List ℕ) where
+  -- whether a dash stands for the category
+  is_dash : Bool → ℕ → Bool
+  is_dash true category = not (not (joined table key category == 0))
+  is_dash false category = false
+
+  first_dashes : (marks : Bool) (printing : Printing) → printing.marks ≡ marks → (n : ℕ) → n ≤ all_categories →
+      take n (dashes_of printing table key) ≡ map (is_dash marks) (range_with_len 0 n)
+  unfolding winners_of is_dash
+  first_dashes true printing is n few =
+      rw is
+      (ap (take n) (map_twice not (λ category. not (joined table key category == 0)) (range_with_len 0 16))
+      ∙ take-map-range_with_len (λ category. not (not (joined table key category == 0))) 0 16 n few)
+  first_dashes false printing is n few =
+      rw is
+      (take-replicate n 16 false few
+      ∙ splat_is_map (range_with_len 0 n) n false (length-range_with_len 0 n))
+
+  -- what stands for a category
+  one_shown : (marks : Bool) (category : ℕ) →
+      answer (table_verdict table key category) (is_dash marks category)
+      ≡ shown marks (answer_of_table table key category)
+  unfolding is_dash
+  one_shown true category =
+      elim (eqb_tells (joined table key category) 0) [ inl same ↦ rw same.0 refl | inr other ↦ rw other.0 refl ]
+  one_shown false category =
+      elim (eqb_tells (joined table key category) 0) [
+        | inl same ↦ rw same.0 (ap Some (ap (λ (n : ℕ). n % userdatas) same.1))
+        | inr other ↦ rw other.0 refl
+      ]
+
+  table_shown : (printing : Printing) → printing.categories ≤ all_categories →
+      answers (key_verdicts table printing.categories key)
+      (take (length (key_verdicts table printing.categories key)) (dashes_of printing table key))
+      ≡ map (λ category. shown printing.marks (answer_of_table table key category))
+      (range_with_len 0 printing.categories)
+  table_shown printing few =
+      let n = printing.categories in
+      let verdict : ℕ → ℕ = λ category. table_verdict table key category in
+      ap (λ (m : ℕ). answers (key_verdicts table n key) (take m (dashes_of printing table key)))
+      (length-map-range_with_len verdict 0 n)
+      ∙ ap (answers (key_verdicts table n key)) (first_dashes printing.marks printing refl n few)
+      ∙ pair_up verdict (is_dash printing.marks) (range_with_len 0 n)
+      ∙ map_same (λ category. answer (verdict category) (is_dash printing.marks category))
+      (λ category. shown printing.marks (answer_of_table table key category)) (one_shown printing.marks)
+      (range_with_len 0 n)
+
+-- what is shown of a packet by the tables
+shown_is : (printing : Printing) (class : Class) (key : List ℕ) → printing.classifier ≡ ByTables printing.tables →
+    printing.categories ≤ all_categories →
+    answers (verdicts_on class printing key)
+    (take (length (verdicts_on class printing key)) (dashes_on class printing key))
+    ≡ answers_on class printing key
+shown_is printing Ip4 key by_tables few = rw by_tables (table_shown printing.tables.ip4 key printing few)
+shown_is printing Ip6 key by_tables few = rw by_tables (table_shown printing.tables.ip6 key printing few)
+shown_is printing Other key by_tables few = refl
+shown_is printing Short key by_tables few = refl
+
+-- where marks aren't asked for, no dash is shown of any packet
+pub unmarked : (printing : Printing) (class : Class) (key : List ℕ) → printing.marks ≡ false →
+    replicate all_categories false ≡ dashes_on class printing key
+unmarked printing Ip4 key is = rw is refl
+unmarked printing Ip6 key is = rw is refl
+unmarked printing Other key is = refl
+unmarked printing Short key is = refl
+
+-- what is written of a packet of this number is its line
+pub line_by-is : (printing : Printing) (number : ℕ) (packet : FrameClass) (class : Class) (verdicts : List ℕ)
+    (dashes : List Bool) → class ≡ packet.class →
+    verdicts ≡ verdicts_on packet.class printing packet.key →
+    dashes ≡ take (length verdicts) (dashes_on packet.class printing packet.key) →
+    printing.classifier ≡ ByTables printing.tables → printing.categories ≤ all_categories →
+    packet_text number class (answers verdicts dashes) ≡ line_of_packet printing number packet
+line_by-is printing number packet class verdicts dashes is_shown is_verdicts is_dashes by_tables few =
+    let all : answers verdicts dashes ≡ answers_on packet.class printing packet.key =
+    ap (answers verdicts) is_dashes
+    ∙ ap (λ (v : List ℕ). answers v (take (length v) (dashes_on packet.class printing packet.key))) is_verdicts
+    ∙ shown_is printing packet.class packet.key by_tables few in
+    ap (λ k. packet_text number k (answers verdicts dashes)) is_shown ∙ ap (packet_text number packet.class) all
+
+-- and so it is behind those that were counted
+pub line-is : (printing : Printing) (counts counts_new : Counts) (packet : FrameClass) (class : Class)
+    (verdicts : List ℕ) (dashes : List Bool) →
+    counts_new ≡ counted class counts → class ≡ packet.class →
+    verdicts ≡ verdicts_on packet.class printing packet.key →
+    dashes ≡ take (length verdicts) (dashes_on packet.class printing packet.key) →
+    printing.classifier ≡ ByTables printing.tables → printing.categories ≤ all_categories →
+    packet_text counts_new.packets class (answers verdicts dashes)
+    ≡ line_of_packet printing (counts.packets + 1) packet
+line-is printing counts counts_new packet class verdicts dashes is_counted is_shown is_verdicts is_dashes by_tables
+    few =
+    let number : counts_new.packets ≡ counts.packets + 1 =
+    ap (λ c. c.packets) is_counted ∙ counted-packets class counts in
+    line_by-is printing counts_new.packets packet class verdicts dashes is_shown is_verdicts is_dashes by_tables few
+    ∙ ap (λ n. line_of_packet printing n packet) number

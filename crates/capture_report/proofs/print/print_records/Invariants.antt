@@ -1,0 +1,21 @@
+-- some records were taken and their lines were put
+use Rattle.std.proofs.Common.{◌-◌, ◌*◌, ◌≤◌}
+use Rattle.std.specs.Bool.{IsTrue}
+use Rattle.pcap_reader.specs.Capture.{max_records}
+use Rattle.capture_report.specs.Batch.{max_steps}
+use Rattle.command_plan.specs.Effects.{outside}
+use Rattle.capture_report.proofs.Streaming.{IsPrinting}
+use Rattle.capture_report.proofs.print.print_records.Given as goal
+
+abbrev pub invariant-batches : goal.invariant-batches
+invariant-batches g l =
+    let desk = g.D.Desk.view in
+    let out = g.O.Sink.view in record {
+      printing : IsPrinting l.printer l.fn.capture.start l.counts l.taken l.capture
+          (outside (desk l.fn.desk) (out l.fn.out) l.fn.steps) (outside (desk l.desk) (out l.out) l.steps);
+      bound : l.taken ≤ l.counts.packets * (2 * max_steps);
+      reading : IsTrue (desk l.desk).reading;
+    }
+
+abbrev pub decreases-batches : goal.decreases-batches
+decreases-batches g l = max_records - l.counts.packets

@@ -1,0 +1,72 @@
+-- What the bytes of a capture come to: a status, the text of its report, and transitions.
+use Rattle.std.specs.Prelude.{ℕ, List, [], ◌++◌, Option}
+use Rattle.std.specs.Prelude.{Some, None, Result, Ok, Err}
+use Rattle.acl_report.specs.declared.counts.Counts.{Counts}
+use Rattle.acl_report.specs.Counts.{packets_text}
+use Rattle.pcap_reader.specs.declared.fault.CaptureFault.{CaptureFault}
+use Rattle.pcap_reader.specs.declared.fault.CaptureFault.TheVariants.{HeaderCut, Magic, Version}
+use Rattle.pcap_reader.specs.declared.fault.CaptureFault.TheVariants.{LinkType, RecordCut}
+use Rattle.pcap_reader.specs.declared.fault.CaptureFault.TheVariants.{RecordTooLong, TooManyRecords}
+use Rattle.pcap_reader.specs.declared.fault.CaptureFault.TheVariants.{ReadFault as CannotRead}
+use Rattle.pcap_reader.specs.Capture.{CaptureRecord, Recorded, capture_of, whole_records}
+use Rattle.command_plan.specs.declared.status.Status.{Status}
+use Rattle.command_plan.specs.declared.status.Status.TheVariants.{Done, CaptureRefused, ReadFault}
+use Rattle.capture_report.specs.Printing.{Printing}
+use Rattle.capture_report.specs.Report.{counts_of_records, lines_of_records, stats_of}
+use Rattle.capture_report.specs.Report.{steps_of_records}
+use Rattle.command_plan.specs.Plan.{Outcome, silent, Plan, Give, Read}
+
+-- the line of the counts, and those of the tables and transitions where they are asked for
+abbrev pub last_text : Printing → Counts → ℕ → List ℕ
+last_text printing counts steps = packets_text counts ++ stats_of printing steps
+
+-- the last lines: those of the counts and of the tables behind a whole capture, and none where a
+-- fault ends it
+abbrev pub last_lines : Printing → List CaptureRecord → Option CaptureFault → List ℕ
+last_lines printing records None =
+    last_text printing (counts_of_records records) (steps_of_records printing.tables records)
+last_lines printing records (Some fault) = []
+
+-- the lines of the records, and the last lines
+abbrev pub text_of_records : Printing → List CaptureRecord → Option CaptureFault → List ℕ
+text_of_records printing records fault =
+    lines_of_records printing records ++ last_lines printing records fault
+
+-- the status of a capture by how it ended
+abbrev pub status_of_fault : Option CaptureFault → Status
+status_of_fault None = Done
+status_of_fault (Some fault) = CaptureRefused fault
+
+-- the status that stands for a fault
+abbrev pub refusal : CaptureFault → Status
+refusal HeaderCut = CaptureRefused HeaderCut
+refusal Magic = CaptureRefused Magic
+refusal Version = CaptureRefused Version
+refusal LinkType = CaptureRefused LinkType
+refusal (RecordCut number) = CaptureRefused (RecordCut number)
+refusal (RecordTooLong number) = CaptureRefused (RecordTooLong number)
+refusal TooManyRecords = CaptureRefused TooManyRecords
+refusal CannotRead = ReadFault
+
+-- what a capture gives
+abbrev pub report_of_capture : Printing → Result Recorded CaptureFault → Outcome
+report_of_capture printing (Ok capture) = record {
+  status = status_of_fault capture.fault;
+  text = text_of_records printing capture.records capture.fault;
+  steps = steps_of_records printing.tables capture.records;
+}
+report_of_capture printing (Err fault) = silent (CaptureRefused fault)
+
+-- what the bytes of a capture give
+abbrev pub report : Printing → List ℕ → Outcome
+report printing bytes = report_of_capture printing (capture_of bytes)
+
+-- the lines of the whole records in the first bytes of a capture
+abbrev pub lines_so_far : Printing → List ℕ → List ℕ
+lines_so_far printing bytes = lines_of_records printing (whole_records bytes)
+
+-- the report of the named capture, of which the lines of the whole records are printed while it is
+-- read
+abbrev pub reported : Printing → List ℕ → Plan Outcome
+reported printing name =
+    Read name (lines_so_far printing) (λ bytes. Give (report printing bytes))

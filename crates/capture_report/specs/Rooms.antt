@@ -1,0 +1,13 @@
+-- How much room the code has for a batch.
+use Rattle.std.specs.Prelude.{◌≡◌, ℕ, vec_len}
+use Rattle.std.specs.declared.vec.Vec.{Vec}
+use Rattle.std.specs.declared.alloc.Global.{Global}
+use Rattle.capture_report.specs.declared.walked.TheConstants.{BATCH_KEYS, BATCH_VERDICTS}
+use Rattle.capture_report.specs.declared.room.TheConstants.{BATCH_LINES}
+
+-- There is room for the keys, the verdicts and the lines of the packets of a batch.
+pub record HasRoom (keys ip4 ip6 lines : Vec ℕ Global) : Type 0 where
+  pub keys_fit : vec_len keys ≡ BATCH_KEYS
+  pub ip4_verdicts : vec_len ip4 ≡ BATCH_VERDICTS
+  pub ip6_verdicts : vec_len ip6 ≡ BATCH_VERDICTS
+  pub lines_fit : vec_len lines ≡ BATCH_LINES

@@ -1,0 +1,69 @@
+//! Records of a capture, at most 64 at a time, as their packets.
+
+ghost use Rattle.std.specs.Prelude.{◌≡◌, ◌+◌, ◌<◌, IsTrue, length};
+ghost use Rattle.pcap_reader.specs.Reader.{begun, state_of};
+ghost use Rattle.pcap_reader.specs.declared.progress.Progress.TheVariants as progress;
+ghost use Rattle.capture_report.specs.Taken.{TakesBatch, TakesRecord, max_batch};
+
+use crate::packets::Packets;
+use acl_outside::Desk;
+use pcap_reader::{Capture, CaptureFault};
+
+/// How many records are taken at most before their lines are put.
+pub const MAX_BATCH: usize = 64;
+
+/// Why no more records are taken into a batch.
+#[derive(Clone, Copy, Debug, PartialEq, Eq)]
+pub enum BatchEnd {
+    /// It has as many records as a batch may have.
+    Full,
+    /// The capture has no more records.
+    End,
+    /// The capture has a fault behind its records, or can't be read.
+    Fault(CaptureFault),
+}
+
+/// Takes the next records of a capture, and says why there aren't more. It takes no memory.
+///
+/// The packets that were there before are dropped.
+pub fn take_batch<D: Desk>(capture: &mut Capture, desk: &mut D, packets: &mut Packets) -> BatchEnd
+    requires reading { IsTrue (D.view desk.old).reading }
+    requires state { capture.old.progress ≡ progress.Reading }
+    ensures batch { TakesBatch capture.old.start capture.old.count packets.new
+        (D.view desk.old) (D.view desk.new) result }
+    ensures state { result ≡ BatchEnd.Full
+        → capture.new ≡ state_of capture.old.start
+        (capture.old.count + max_batch) progress.Reading }
+{
+    packets.clear();
+    while packets.len() < MAX_BATCH {
+        match take_record(capture, desk, packets) {
+            Some(end) => return end,
+            None => {}
+        }
+    }
+    BatchEnd::Full
+}
+
+/// Takes the next record behind the others, or says why there is none.
+fn take_record<D: Desk>(
+    capture: &mut Capture,
+    desk: &mut D,
+    packets: &mut Packets,
+) -> Option<BatchEnd>
+    requires reading { IsTrue (D.view desk.old).reading }
+    requires state { capture.old.progress ≡ progress.Reading }
+    requires room { length packets.old < max_batch }
+    ensures takes { TakesRecord capture.old capture.new packets.old packets.new
+        (D.view desk.old) (D.view desk.new) result }
+{
+    let link = capture.link();
+    match capture.next(desk) {
+        Ok(Some(frame)) => {
+            packets.add(link, frame);
+            None
+        }
+        Ok(None) => Some(BatchEnd::End),
+        Err(fault) => Some(BatchEnd::Fault(fault)),
+    }
+}

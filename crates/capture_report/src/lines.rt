@@ -1,0 +1,198 @@
+//! The lines of packets, one behind the other, and those behind them.
+
+ghost use Rattle.std.specs.Prelude.{◌≡◌, ◌+◌, ◌*◌, ◌≤◌, ◌++◌, [], length, take};
+ghost use Rattle.acl_report.specs.declared.line.TheConstants.{LINE_ROOM};
+ghost use Rattle.acl_report.specs.declared.packet.TheConstants.{MAX_VERDICTS};
+ghost use Rattle.acl_report.specs.Counts.{CountsFit, counted};
+ghost use Rattle.acl_report.specs.Packet.{answers, packet_text};
+ghost use Rattle.capture_report.specs.Packet.{IsPacket};
+ghost use Rattle.capture_report.specs.Report.{counted_all, line_of_packet, line_of_table};
+ghost use Rattle.capture_report.specs.Report.{lines_of_packets};
+ghost use Rattle.capture_report.specs.CaptureOutcome.{last_text};
+ghost use Rattle.capture_report.specs.Batch.{AreAnswered, AreNext, verdicts_on};
+
+use crate::packet::Packet;
+use crate::printing::Printer;
+use acl_report::{Counts, LINE_ROOM, packet_line, packets_line, table_line, transitions_line};
+use field_defs::Family;
+use flat_table::Table;
+use header_extract::Class;
+
+/// Writes the lines of packets to the front of `lines`, counts the packets, and says how many bytes
+/// the lines have.
+///
+/// The first has the number behind those that were counted. `ip4` and `ip6` have the verdicts on
+/// the packets of each family, in order. `lines` has [`LINE_ROOM`] bytes for each packet. It takes
+/// no memory.
+pub fn write_lines(
+    printer: &Printer<'_>,
+    packets: &[Packet],
+    mut ip4: &[u32],
+    mut ip6: &[u32],
+    counts: &mut Counts,
+    lines: &mut [u8],
+) -> usize
+    requires next { AreNext counts.old packets.now }
+    requires answered { AreAnswered printer.now packets.now ip4.now ip6.now }
+    requires room { length packets.now * LINE_ROOM ≤ length lines.old }
+    ensures within { result ≤ length lines.old }
+    ensures lines { take result lines.new
+        ≡ lines_of_packets printer.now (counts.old.packets + 1) packets.now }
+    ensures counts { counts.new ≡ counted_all packets.now counts.old }
+    ensures len { length lines.new ≡ length lines.old }
+{
+    let count = printer.categories().count();
+    let mut end = 0;
+    for packet in packets {
+        // Each class has a call of its own, in which what depends on the class is settled.
+        let class = packet.class();
+        match class {
+            Class::Ip4 => {
+                let (verdicts, behind) = ip4.split_at(count);
+                ip4 = behind;
+                end = write_line(printer, packet, class, verdicts, counts, lines, end);
+            }
+            Class::Ip6 => {
+                let (verdicts, behind) = ip6.split_at(count);
+                ip6 = behind;
+                end = write_line(printer, packet, class, verdicts, counts, lines, end);
+            }
+            Class::Other | Class::Short => {
+                end = write_line(printer, packet, class, &[], counts, lines, end)
+            }
+        }
+    }
+    end
+}
+
+/// Writes the line of a packet of the class at the place `at`, counts the packet, and gives the
+/// place behind the line.
+#[inline(always)]
+fn write_line(
+    printer: &Printer<'_>,
+    packet: &Packet,
+    class: Class,
+    verdicts: &[u32],
+    counts: &mut Counts,
+    lines: &mut [u8],
+    at: usize,
+) -> usize
+    requires fit { CountsFit counts.old }
+    requires packet { IsPacket packet.now }
+    requires class { class ≡ packet.now.class }
+    requires verdicts { verdicts.now ≡ verdicts_on packet.now.class printer.now packet.now.key }
+    requires few { length verdicts.now ≤ MAX_VERDICTS }
+    requires room { at + LINE_ROOM ≤ length lines.old }
+    ensures end { result ≤ at + LINE_ROOM }
+    ensures lines { take result lines.new
+        ≡ take at lines.old ++ line_of_packet printer.now (counts.old.packets + 1) packet.now }
+    ensures len { length lines.new ≡ length lines.old }
+    ensures counts { counts.new ≡ counted packet.now.class counts.old }
+{
+    counts.add(class);
+    match printer.no_dashes() {
+        Some(dashes) => {
+            let dashes = &dashes[..verdicts.len()];
+            at + write_front(counts.packets, class, verdicts, dashes, &mut lines[at..])
+        }
+        None => write_marked(printer, packet, class, verdicts, counts.packets, lines, at),
+    }
+}
+
+/// Writes the line of a packet of the class and this number at the place `at`, with a dash where no
+/// rule matches, if marks are asked for, and gives the place behind the line.
+#[inline(never)]
+fn write_marked(
+    printer: &Printer<'_>,
+    packet: &Packet,
+    class: Class,
+    verdicts: &[u32],
+    number: u64,
+    lines: &mut [u8],
+    at: usize,
+) -> usize
+    requires packet { IsPacket packet.now }
+    requires class { class ≡ packet.now.class }
+    requires verdicts { verdicts.now ≡ verdicts_on packet.now.class printer.now packet.now.key }
+    requires few { length verdicts.now ≤ MAX_VERDICTS }
+    requires room { at + LINE_ROOM ≤ length lines.old }
+    ensures end { result ≤ at + LINE_ROOM }
+    ensures lines { take result lines.new
+        ≡ take at lines.old ++ line_of_packet printer.now number packet.now }
+    ensures len { length lines.new ≡ length lines.old }
+{
+    let dashes = printer.dashes(packet);
+    let dashes = &dashes[..verdicts.len()];
+    at + write_front(number, class, verdicts, dashes, &mut lines[at..])
+}
+
+/// Writes the line of a packet, as [`packet_line`] has it, to the front of `lines`.
+#[inline(always)]
+fn write_front(
+    number: u64,
+    class: Class,
+    verdicts: &[u32],
+    dashes: &[bool],
+    lines: &mut [u8],
+) -> usize
+    requires categories { length verdicts.now ≤ MAX_VERDICTS }
+    requires dashes { length dashes.now ≡ length verdicts.now }
+    requires room { LINE_ROOM ≤ length lines.old }
+    ensures within { result ≤ LINE_ROOM }
+    ensures line { take result lines.new
+        ≡ packet_text number class (answers verdicts.now dashes.now) }
+    ensures len { length lines.new ≡ length lines.old }
+{
+    match lines.first_chunk_mut() {
+        Some(line) => packet_line(number, class, verdicts, dashes, line),
+        None => unreachable!(),
+    }
+}
+
+/// Writes the lines behind those of a whole capture to the front of `lines`, which has room for
+/// four, and says how many bytes they have.
+///
+/// They are the line of the counts and, where they are asked for, those of the tables and of the
+/// transitions. It takes no memory.
+pub fn write_last(printer: &Printer<'_>, counts: &Counts, taken: u64, lines: &mut [u8]) -> usize
+    requires room { 4 * LINE_ROOM ≤ length lines.old }
+    ensures within { result ≤ length lines.old }
+    ensures lines { take result lines.new ≡ last_text printer.now counts.now taken }
+{
+    let mut line = [0; LINE_ROOM];
+    let len = packets_line(counts, &mut line);
+    let end = put_at(lines, 0, &line[..len]);
+    if !printer.has_stats() {
+        return end;
+    }
+    let end = write_table(Family::Ip4, printer.table(Family::Ip4), lines, end);
+    let end = write_table(Family::Ip6, printer.table(Family::Ip6), lines, end);
+    let len = transitions_line(taken, &mut line);
+    put_at(lines, end, &line[..len])
+}
+
+/// Writes the line of a table at the place `at`, and gives the place behind it.
+fn write_table(family: Family, table: &Table, lines: &mut [u8], at: usize) -> usize
+    requires room { at + LINE_ROOM ≤ length lines.old }
+    ensures end { result ≤ at + LINE_ROOM }
+    ensures lines { take result lines.new ≡ take at lines.old ++ line_of_table family table.now }
+    ensures len { length lines.new ≡ length lines.old }
+{
+    let mut line = [0; LINE_ROOM];
+    let (rules, words) = (table.rules(), table.total_words());
+    let len = table_line(family, rules, table.tries(), words, &mut line);
+    put_at(lines, at, &line[..len])
+}
+
+/// Writes bytes at the place `at`, and gives the place behind them.
+#[inline]
+pub fn put_at(into: &mut [u8], at: usize, bytes: &[u8]) -> usize
+    requires room { at + length bytes.now ≤ length into.old }
+    ensures end { result ≡ at + length bytes.now }
+    ensures bytes { take result into.new ≡ take at into.old ++ bytes.now }
+    ensures len { length into.new ≡ length into.old }
+{
+    let end = at + bytes.len();
+    into[at..end].copy_from_slice(bytes);
+    end
+}

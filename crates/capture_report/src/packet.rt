@@ -1,0 +1,88 @@
+//! The packet of a record.
+
+ghost use Rattle.std.specs.Prelude.{◌≡◌, ◌<◌, ◌≤◌, All, length};
+ghost use Rattle.header_extract.specs.Class.{key_len, settled};
+ghost use Rattle.header_extract.specs.Link.{frame_class};
+ghost use Rattle.capture_report.specs.Packet.{IsPacket};
+
+use header_extract::{Class, KeyBuf, extract};
+use pcap_reader::Link;
+use std::marker::Model;
+
+/// How many bytes the key of an IPv4 packet has.
+const IP4_KEY: usize = 13;
+
+/// How many bytes the key of an IPv6 packet has.
+pub const IP6_KEY: usize = 37;
+
+/// The class of a record's frame, and the key of the packet in it. Contracts see the bytes of the
+/// key, which are none where the frame has no packet.
+#[derive(Debug, Drop)]
+pub struct Packet {
+    class: Class,
+    /// The key stands in front.
+    room: KeyBuf,
+}
+
+impl Model for Packet {
+    ghost use Rattle.std.specs.Prelude.{take};
+    ghost use Rattle.header_extract.specs.Class.{FrameClass, key_len};
+
+    ghost Value = { FrameClass };
+
+    ghost view = { λ packet. record {
+      class = packet.class;
+      key = take (key_len packet.class) packet.room.bytes;
+    } };
+}
+
+impl Packet {
+    /// No packet yet: room for the packet of a frame. It takes no memory.
+    pub fn new() -> Packet {
+        Packet {
+            class: Class::Other,
+            room: KeyBuf {
+                bytes: [0; IP6_KEY],
+            },
+        }
+    }
+
+    /// Makes it the packet of a frame by its link type. It refuses nothing and takes no memory.
+    #[inline]
+    pub fn read(&mut self, link: Link, frame: &[u8])
+        ensures packet { self.new ≡ settled (frame_class link frame.now) }
+        ensures key { IsPacket self.new }
+    {
+        self.class = extract(link, frame, &mut self.room);
+        are_bytes(&self.room.bytes);
+    }
+
+    /// The class of the frame.
+    pub fn class(&self) -> Class
+        ensures { result ≡ self.now.class }
+    {
+        self.class
+    }
+
+    /// The key of the packet, of 13 bytes for IPv4 and 37 for IPv6.
+    pub fn key(&self) -> &[u8]
+        ensures key { result.now ≡ self.now.key }
+        ensures len { length result.now ≡ key_len self.now.class }
+        ensures bound { length result.now ≤ IP6_KEY }
+    {
+        match self.class {
+            Class::Ip4 => &self.room.bytes[..IP4_KEY],
+            Class::Ip6 => &self.room.bytes,
+            Class::Other | Class::Short => &[],
+        }
+    }
+}
+
+/// Each element of a slice of bytes is below 256, which definitions of keys want to be told. It
+/// does nothing when it is run.
+#[inline(always)]
+fn are_bytes(bytes: &[u8])
+    ensures { All (λ byte. byte < 256) bytes.now }
+{
+    let _ = bytes;
+}

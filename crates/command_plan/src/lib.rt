@@ -1,0 +1,20 @@
+//! a command as a plan, and what was heard of its files → how it ends, and what that promises
+//!
+//! A command is a *plan*, defined in `specs/Plan.antt`: it gives a value, stops with a status, or
+//! asks for a file and goes on with its bytes. `specs/Follow.antt` says how far it was followed by
+//! what was heard, and `specs/Effects.antt` what a command then promises of the outside.
+//!
+//! | module | what it says or reads |
+//! |---|---|
+//! | `status` | how a command ended |
+//! | `message` | the line that tells it |
+//! | `input` | the bytes of a file that a command reads |
+#![tactic(auto)]
+
+mod input;
+mod message;
+mod status;
+
+pub use input::read_file;
+pub use message::message_line;
+pub use status::Status;

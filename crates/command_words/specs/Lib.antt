@@ -1,0 +1,5 @@
+pub mod Options
+pub mod BenchWords
+pub mod Command
+pub mod CommandExamples
+pub mod CommandLine

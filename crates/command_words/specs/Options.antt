@@ -1,0 +1,135 @@
+-- The options of a command and their values, as words say them.
+use Rattle.std.specs.Prelude.{ℕ, ◌^◌, ◌-◌, List, length, drop, take, Bool, true, false, ◌&&◌}
+use Rattle.std.specs.Prelude.{nat_le, Option, Some, None, Result, Ok, Err, codes, if◌then◌else◌}
+use Rattle.std.specs.Option.{unwrap_or}
+use Rattle.std.specs.Str.{bytes_eq}
+use Rattle.rule_set.specs.Categories.{is_count_of_categories}
+use Rattle.text_scan.specs.Digits.{are_digits, place_value}
+use Rattle.command_words.specs.declared.fault.UsageKind.{UsageKind}
+use Rattle.command_words.specs.declared.fault.UsageKind.TheVariants.{UnknownOption, RepeatedOption}
+use Rattle.command_words.specs.declared.fault.UsageKind.TheVariants.{BadValue}
+
+-- the options of a command: how many categories are printed, how many words the table of each
+-- family may have, whether the sizes of the tables are printed, and whether a dash marks where no
+-- rule matches
+pub record Options : Type 0 where
+  pub categories : ℕ
+  pub max_words : ℕ
+  pub stats : Bool
+  pub marks : Bool
+
+-- the values of the options that were given so far
+pub record Given : Type 0 where
+  pub categories : Option ℕ
+  pub max_words : Option ℕ
+  pub stats : Option Bool
+  pub marks : Option Bool
+
+-- no option was given yet
+abbrev pub none_given : Given
+none_given = record { categories = None; max_words = None; stats = None; marks = None }
+
+-- the budget where none is given: 16 MiB for each family
+abbrev pub usual_words : ℕ
+usual_words = 2097152
+
+-- each option that wasn't given has its usual value
+abbrev pub settled_options : Given → Options
+settled_options given = record {
+  categories = unwrap_or given.categories 1;
+  max_words = unwrap_or given.max_words usual_words;
+  stats = unwrap_or given.stats false;
+  marks = unwrap_or given.marks false;
+}
+
+-- how many digits a number has at most
+abbrev pub max_digits : ℕ
+max_digits = 20
+
+-- a number of decimal digits, at most 20 of them, below 2^64
+abbrev pub number_in : List ℕ → Option ℕ
+number_in text =
+    if nat_le (length text) max_digits
+    && (nat_le 1 (length text) && are_digits 10 text
+    && nat_le (place_value 10 text) (2 ^ 64 - 1))
+    then Some (place_value 10 text) else None
+
+-- a number, where it passes the test
+abbrev pub lawful : (ℕ → Bool) → Option ℕ → Option ℕ
+lawful test None = None
+lawful test (Some number) = if test number then Some number else None
+
+-- the number of categories that a text is
+abbrev pub categories_in : List ℕ → Option ℕ
+categories_in text = lawful is_count_of_categories (number_in text)
+
+-- the greatest budget, which is the greatest number of words that a table may have
+abbrev pub greatest_budget : ℕ
+greatest_budget = 67108864
+
+-- a lawful budget
+abbrev pub is_budget : ℕ → Bool
+is_budget words = nat_le 1 words && nat_le words greatest_budget
+
+-- the budget that a text is: a number of words
+abbrev pub budget_in : List ℕ → Option ℕ
+budget_in text = lawful is_budget (number_in text)
+
+-- a choice that is made by `on` or `off`
+abbrev pub choice_in : List ℕ → Option Bool
+choice_in text =
+    if bytes_eq text (codes "on") then Some true
+    else if bytes_eq text (codes "off") then Some false
+    else None
+
+-- the value of an option that wasn't given before, where it is lawful
+abbrev pub once : {A : Type 0} → Option A → Option A → Result A UsageKind
+once (Some before) value = Err RepeatedOption
+once None None = Err BadValue
+once None (Some value) = Ok value
+
+-- what a value adds to the options, or its fault
+abbrev pub adds : {A : Type 0} → (A → Given) → Result A UsageKind → Result Given UsageKind
+adds with_value (Ok value) = Ok (with_value value)
+adds with_value (Err kind) = Err kind
+
+-- the word begins with this text
+abbrev pub begins_with : List ℕ → List ℕ → Bool
+begins_with text word = bytes_eq (take (length text) word) text
+
+-- what stands behind the name of an option and its `=`
+abbrev pub value_of : List ℕ → List ℕ → List ℕ
+value_of name word = drop (length name) word
+
+-- the option that says how many categories are shown
+abbrev pub categories_option : List ℕ
+categories_option = codes "categories="
+
+-- the option that says how many words the table of each family may have
+abbrev pub max_words_option : List ℕ
+max_words_option = codes "max-words="
+
+-- the option that asks for the sizes of the tables and for the transitions
+abbrev pub stats_option : List ℕ
+stats_option = codes "stats="
+
+-- the option that asks for dashes where no rule matches
+abbrev pub marks_option : List ℕ
+marks_option = codes "marks="
+
+-- the options with one word more: the table of the options, one after the other
+abbrev pub with_option : Given → List ℕ → Result Given UsageKind
+with_option given word =
+    if begins_with categories_option word
+    then adds (λ count. record given { categories = Some count })
+    (once given.categories (categories_in (value_of categories_option word)))
+    else if begins_with max_words_option word
+    then adds (λ words. record given { max_words = Some words })
+    (once given.max_words (budget_in (value_of max_words_option word)))
+    else if begins_with stats_option word
+    then adds (λ chosen. record given { stats = Some chosen })
+    (once given.stats (choice_in (value_of stats_option word)))
+    else if begins_with marks_option word
+    then adds (λ chosen. record given { marks = Some chosen })
+    (once given.marks (choice_in (value_of marks_option word)))
+    else Err UnknownOption

@@ -1,0 +1,22 @@
+//! the words of a command line → the request that they are, or the first word that isn't lawful
+//!
+//! | module | what it reads |
+//! |---|---|
+//! | `command_line` | a command and its names |
+//! | `options`, `budget` | the options of a command, and how many words a table may have |
+//! | `bench_words`, `bench_numbers` | the words after `bench`: a seed, and how much it gives |
+//! | `fault` | what is wrong with a word |
+#![tactic(auto)]
+
+mod bench_numbers;
+mod bench_words;
+mod budget;
+mod command_line;
+mod fault;
+mod options;
+
+pub use bench_numbers::BenchNumbers;
+pub use budget::Budget;
+pub use command_line::{Request, read_words};
+pub use fault::{UsageFault, UsageKind};
+pub use options::Options;

@@ -1,0 +1,5 @@
+mod Drawing
+mod KeyBytes
+mod Measuring
+mod Tallies
+mod Unrefused

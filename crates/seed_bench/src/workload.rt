@@ -1,0 +1,69 @@
+//! The measuring of a workload: its keys, its table, and what rules and table say of the keys.
+
+ghost use Rattle.std.specs.Prelude.{◌≡◌, ◌+◌, ◌≤◌, IfOk, IfErr, OnOk, OnErr};
+ghost use Rattle.rule_split.specs.Split.{total_of};
+ghost use Rattle.seed_bench.specs.Bench.{IsRefused, bench_budget, measured_of, set_drawn};
+ghost use Rattle.seed_bench.specs.Bench.{steps_drawn};
+ghost use Rattle.command_words.specs.CommandLine.{numbers_in};
+
+use crate::keys::draw_keys;
+use crate::lines::Measured;
+use crate::table::{built_context, table_tally};
+use command_plan::Status;
+use command_words::BenchNumbers;
+use flat_table::Steps;
+use rule_set::Categories;
+use std::alloc::Global;
+use std::sync::ledger::Ledger;
+use workload_gen::make_rules;
+
+/// Draws the rules, makes their table, draws the keys and classifies each by both. It takes all the
+/// memory that `bench` needs.
+pub fn measure<L: Ledger>(
+    alloc: Global,
+    numbers: BenchNumbers,
+    steps: &mut Steps<L>,
+) -> Result<Measured, Status>
+    ensures measured { IfOk result (λ measured. measured ≡ measured_of (numbers_in numbers)) }
+    ensures fits { OnOk result
+        (total_of (set_drawn (numbers_in numbers)) bench_budget ≤ bench_budget) }
+    ensures steps { OnOk result (steps.new ≡ steps.old + steps_drawn (numbers_in numbers)) }
+    ensures refused { IfErr result (λ status. IsRefused (set_drawn (numbers_in numbers)) status) }
+    ensures idle { OnErr result (steps.new ≡ steps.old) }
+{
+    let Ok(mut workload) = make_rules(alloc, numbers.seed, numbers.rules) else {
+        return Err(Status::OutOfMemory);
+    };
+    let cats = all_categories();
+    let context = match built_context(alloc, workload.rules()) {
+        Ok(context) => context,
+        Err(status) => return Err(status),
+    };
+    let Ok(drawn) = draw_keys(alloc, &mut workload, numbers.packets, cats) else {
+        return Err(Status::OutOfMemory);
+    };
+    let Ok(table) = table_tally(alloc, &context, &drawn.keys, cats, steps) else {
+        return Err(Status::OutOfMemory);
+    };
+    let Some(built) = context.table() else {
+        unreachable!()
+    };
+    Ok(Measured {
+        rules: numbers.rules,
+        packets: numbers.packets,
+        plain: drawn.plain,
+        table,
+        tries: built.tries(),
+        words: built.total_words(),
+    })
+}
+
+/// All 16 categories.
+fn all_categories() -> Categories
+    ensures { result.count ≡ 16 }
+{
+    match Categories::new(16) {
+        Some(cats) => cats,
+        None => unreachable!(),
+    }
+}
