@@ -1,18 +1,11 @@
 -- Rule sets stay rule sets.
-use Rattle.std.proofs.Common.{◌≡◌, ◌<◌, List, [], ◌∷◌, ◌++◌, length, true, None, Result, refl, arith, length-append}
-use Rattle.std.specs.Result.{is_ok, result_err}
-use Rattle.std.specs.Prelude.{Ok, Err}
+use Rattle.std.proofs.Common.{◌≡◌, ◌<◌, List, [], ◌∷◌, ◌++◌, length, None, arith, length-append}
 use Rattle.std.proofs.lemmas.List.Elements.{All-push}
 use Rattle.field_defs.specs.declared.field.FieldDef.{FieldDef}
 use Rattle.rule_set.specs.Limits.{max_rules}
 use Rattle.rule_set.specs.Fault.{rule_fault}
 use Rattle.rule_set.specs.Rule.{RuleView}
 use Rattle.rule_set.specs.RuleSet.{IsRuleSet}
-
--- a result that is Ok has no error
-pub no_error : {T E : Type 0} (r : Result T E) → is_ok r ≡ true → result_err r ≡ None
-no_error (Ok x) h = refl
-no_error (Err e) h = absurd (cc)
 
 -- one more lawful rule
 pub IsRuleSet-push : (layout : List FieldDef) (rules : List RuleView) (rule : RuleView) →

@@ -3,8 +3,8 @@
 -- a value for each field, some category, and a priority from 0 to 536,870,911; DPDK refuses
 -- userdata 0 too, and here it is lawful). DPDK answers one number for all of these; here each kind
 -- of check has a fault of its own, and the kinds have an order.
-use Rattle.std.specs.Prelude.{ℕ, pos, ◌==◌, List, [], ◌∷◌, length, position, Bool, true, false, not}
-use Rattle.std.specs.Prelude.{◌&&◌, Option, Some, None}
+use Rattle.std.specs.Prelude.{ℕ, pos, ◌==◌, List, [], ◌∷◌, length, position, Bool, not}
+use Rattle.std.specs.Prelude.{◌&&◌, Option}
 use Rattle.std.specs.List.{list_any, range_with_len, zip}
 use Rattle.std.specs.Option.{option_map}
 use Rattle.std.specs.Int.Signed.{le_z}

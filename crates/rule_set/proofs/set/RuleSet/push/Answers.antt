@@ -4,7 +4,8 @@ use Rattle.std.proofs.lemmas.Bool.{cond_both}
 use Rattle.rule_set.specs.Limits.{max_rules}
 use Rattle.rule_set.specs.Fault.{rule_fault}
 use Rattle.rule_set.specs.RuleSet.{IsRuleSet}
-use Rattle.rule_set.proofs.Held.{no_error, IsRuleSet-push}
+use Rattle.rule_set.proofs.Held.{IsRuleSet-push}
+use Rattle.list_lemmas.proofs.Options.{no_error}
 use Rattle.rule_set.proofs.set.RuleSet.push.Goals as goal
 
 pub invariant_of-self : goal.invariant_of-self
