@@ -14,8 +14,8 @@ ghost use Rattle.classbench_reader.specs.declared.fault.LineFault.{LineFault};
 use crate::fault::{LineFault, LineKind, RulesFault};
 use crate::line::{RuleLine, is_skipped};
 use field_defs::{Family, ip4_layout, ip6_layout};
-use rule_set::{MAX_RULES, PushFault, RuleSet, StoredRule};
-use std::alloc::Global;
+use rule_set::{MAX_RULES, RuleSet, StoredRule};
+use std::alloc::{AllocError, Global};
 use text_scan::split_line;
 
 /// How many bytes a rule file may have.
@@ -85,10 +85,9 @@ fn push(rules: &mut RuleSet, rule: StoredRule) -> Result<(), RulesFault>
         (rules.new ≡ record rules.old { rules = rules.old.rules ++ rule ∷ [] }) }
     ensures err { IfErr result (λ fault. fault ≡ RulesFault.OutOfMemory) }
 {
-    match rules.push(rule) {
+    match rules.push_lawful(rule) {
         Ok(()) => Ok(()),
-        Err(PushFault::Rule(_)) => unreachable!(),
-        Err(PushFault::OutOfMemory) => Err(RulesFault::OutOfMemory),
+        Err(AllocError) => Err(RulesFault::OutOfMemory),
     }
 }
 
@@ -102,7 +101,7 @@ fn push(rules: &mut RuleSet, rule: StoredRule) -> Result<(), RulesFault>
 /// [cat=n] [data=n] ```
 ///
 /// Addresses are both IPv4 (RFC 791) or both IPv6 (RFC 4291, section 2.2). Numbers are decimal or,
-/// after `0x`, hexadecimal. Flags take no part in matching. Without attributes the n-th rule of the
+/// after `0x`, hexadecimal. Flags are ignored in matching. Without attributes the n-th rule of the
 /// file has the priority 536,870,911 - n, all sixteen categories, and the userdata n.
 ///
 /// `Line` comes exactly where the file is too long (line 0) or some line is faulty (the first one,

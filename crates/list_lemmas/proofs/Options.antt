@@ -1,8 +1,7 @@
 -- Options that a function was given, or that it made.
-use Rattle.std.proofs.Common.{Ok, Err, Result, true, ℕ, ◌<◌, arith, ap, ◌≡◌, Some, None, Option, refl}
+use Rattle.std.proofs.Common.{ℕ, ◌<◌, arith, ap, ◌≡◌, Some, None, Option, refl}
 use Rattle.std.specs.Prelude.{unwrap_or}
 use Rattle.std.specs.Option.{option_map}
-use Rattle.std.specs.Result.{is_ok, result_err}
 
 -- a function makes None of None alone
 pub no_number : {A B : Type 0} (f : A → B) (found : Option A) → option_map f found ≡ None → found ≡ None
@@ -14,11 +13,6 @@ pub from_option_map : {A B : Type 0} (f : A → B) (found : Option A) (made : B)
     (x : A) × (found ≡ Some x) × (f x ≡ made)
 from_option_map f None made is = absurd cc
 from_option_map f (Some x) made is = (x, refl, cc)
-
--- a result that is Ok has no error
-pub no_error : {T E : Type 0} (r : Result T E) → is_ok r ≡ true → result_err r ≡ None
-no_error (Ok x) h = refl
-no_error (Err e) h = absurd (cc)
 
 -- what was read with a default, and isn't that default, was there
 pub some_below : (read : Option ℕ) (default n : ℕ) → unwrap_or read default ≡ n → n < default → read ≡ Some n

@@ -4,7 +4,6 @@ mod Best
 mod CategoryBits
 mod Deciding
 mod Fields
-mod Held
 mod Keys
 mod Lawful
 mod Passing
