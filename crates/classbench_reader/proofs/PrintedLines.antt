@@ -24,7 +24,7 @@ use Rattle.classbench_reader.specs.declared.fault.LineKind.{LineKind}
 use Rattle.classbench_reader.specs.declared.attributes.Attributes.{Attributes}
 use Rattle.classbench_reader.specs.declared.network.Network.{Network}
 use Rattle.classbench_reader.specs.declared.line.RuleLine.{RuleLine}
-use Rattle.classbench_reader.specs.Limits.{max_written_priority, max_categories, max_userdata}
+use Rattle.classbench_reader.specs.Limits.{max_written_priority, max_category_mask, max_userdata}
 use Rattle.classbench_reader.specs.Reading.{◌>>=◌, Read, read_of}
 use Rattle.classbench_reader.specs.Network.{IsLawfulNetwork, network_of, family_of}
 use Rattle.classbench_reader.specs.Columns.{ports_of, protocol_of, after_flags}
@@ -110,12 +110,12 @@ after_flags-pri p words small =
     refl
 
 -- they are read as the three numbers
-attributes_of-words : (p c u : ℕ) → p ≤ max_written_priority → c ≤ max_categories → u ≤ max_userdata
+attributes_of-words : (p c u : ℕ) → p ≤ max_written_priority → c ≤ max_category_mask → u ≤ max_userdata
     → attributes_of (pri_word p ∷ cat_word c ∷ data_word u ∷ [])
     ≡ Ok (record { priority = Some p; categories = Some c; userdata = Some u })
 attributes_of-words p c u small_p small_c small_u =
     let first = whole_number-spelled max_written_priority p (decimal p) (decimal_spelled p (omega arith)) small_p in
-    let second = whole_number-spelled max_categories c (decimal c) (decimal_spelled c (omega arith)) small_c in
+    let second = whole_number-spelled max_category_mask c (decimal c) (decimal_spelled c (omega arith)) small_c in
     let third = whole_number-spelled max_userdata u (decimal u) (decimal_spelled u (omega arith)) small_u in
     rw (first, second, third) refl
 
@@ -179,7 +179,7 @@ pub record Bounds (low high other_low other_high value mask p c u : ℕ) : Type 
   pub masked : mask < 256
   pub priority : p ≤ max_priority
   pub some : c % 65536 ≡ 0 → ⊥
-  pub categories : c ≤ max_categories
+  pub categories : c ≤ max_category_mask
   pub userdata : u ≤ max_userdata
 
 abbrev pub plain_line : Network → Network → ℕ → ℕ → ℕ → ℕ → ℕ → ℕ → ℕ → ℕ → ℕ → RuleLine

@@ -1,6 +1,6 @@
 //! A rule file in, its rules by family out, or its first faulty line.
 
-ghost use Rattle.std.specs.Prelude.{◌≡◌, ◌<◌, ◌≤◌, ◌⊎◌, [], ◌∷◌, ◌++◌, length, None};
+ghost use Rattle.std.specs.Prelude.{◌≡◌, ◌<◌, ◌≤◌, ◌⊎◌, [], ◌∷◌, ◌++◌, length, nat_lt, None};
 ghost use Rattle.std.specs.Prelude.{IfOk, IfErr, OnOk, Ok, Err};
 ghost use Rattle.field_defs.specs.Layout.{ip4_fields, ip6_fields};
 ghost use Rattle.classbench_reader.specs.Limits.{max_rule_file};
@@ -117,7 +117,7 @@ pub fn read_rules(alloc: Global, bytes: &[u8]) -> Result<RuleFile, RulesFault>
     ensures too_long { max_rule_file < length bytes.now
         → result ≡ Err (RulesFault.Line (record { line = 0; kind = LineKind.FileTooLong })) }
 {
-    if bytes.len() > MAX_RULE_FILE {
+    if is_too_long(bytes) {
         return Err(line_fault(0, LineKind::FileTooLong));
     }
     let mut file = RuleFile::new(alloc);
@@ -133,6 +133,13 @@ pub fn read_rules(alloc: Global, bytes: &[u8]) -> Result<RuleFile, RulesFault>
         left = rest;
     }
     Ok(file)
+}
+
+/// Whether the file has more bytes than a rule file may have.
+fn is_too_long(bytes: &[u8]) -> bool
+    ensures { result ≡ nat_lt max_rule_file (length bytes.now) }
+{
+    bytes.len() > MAX_RULE_FILE
 }
 
 /// The fault of a line.

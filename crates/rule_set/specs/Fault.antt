@@ -20,12 +20,12 @@ use Rattle.rule_set.specs.declared.check.RuleFault.{RuleFault}
 use Rattle.rule_set.specs.declared.check.RuleFault.TheVariants.{FieldCount, FieldKind, NoCategory}
 use Rattle.rule_set.specs.declared.check.RuleFault.TheVariants.{PriorityRange, FieldTooWide}
 use Rattle.rule_set.specs.declared.check.RuleFault.TheVariants.{MaskTooLong, EmptyRange}
-use Rattle.rule_set.specs.Limits.{max_priority}
+use Rattle.rule_set.specs.Limits.{max_priority, max_categories}
 use Rattle.rule_set.specs.Winner.{is_in_category}
 
 -- the sixteen categories
 unfoldable pub categories : List ℕ
-categories = range_with_len 0 16
+categories = range_with_len 0 max_categories
 
 -- the value is of its field's kind
 abbrev pub is_of_kind : FieldDef → FieldValue → Bool

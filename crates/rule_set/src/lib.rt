@@ -22,7 +22,7 @@ mod rank;
 mod rule;
 mod set;
 
-pub use categories::Categories;
+pub use categories::{Categories, MAX_CATEGORIES};
 pub use check::{MAX_PRIORITY, RuleFault, check_rule};
 pub use plain::plain_verdict;
 pub use rank::ranks;
