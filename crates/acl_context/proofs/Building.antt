@@ -3,7 +3,7 @@ use Rattle.std.proofs.Common.{◌≡◌, ℕ, ◌+◌, ◌≤◌, List, [], ◌�
 use Rattle.std.proofs.lemmas.List.{length-map}
 use Rattle.std.proofs.lemmas.List.Elements.{All-map}
 use Rattle.rule_set.specs.Rule.{RuleSetView}
-use Rattle.rule_groups.specs.Groups.{IsPartition}
+use Rattle.rule_set.specs.Groups.{IsPartition}
 use Rattle.trie_merge.specs.Levels.{LevelsView, levels_of, max_cap}
 use Rattle.rule_split.specs.Split.{groups_of, total_of, plan_of, PlanView}
 use Rattle.rule_split.proofs.Groups.{groups_hold}

@@ -7,7 +7,7 @@ use Rattle.std.proofs.lemmas.List.{drop_more, drop_all, get_or-map}
 use Rattle.std.proofs.lemmas.List.FromFn.{length-enumerate_from, get_or-enumerate_from}
 use Rattle.field_defs.specs.declared.field.FieldDef.{FieldDef}
 use Rattle.field_defs.specs.Faults.{first_of}
-use Rattle.field_defs.proofs.Faultless.{none_at}
+use Rattle.field_defs.proofs.Offered.{none_at}
 use Rattle.rule_set.specs.Rule.{RuleView}
 use Rattle.rule_set.specs.Fault.{rule_fault}
 use Rattle.rule_set.specs.declared.check.RuleFault.{RuleFault}

@@ -1,2 +1,1 @@
 mod AnswerWords
-mod Digits

@@ -8,9 +8,10 @@ ghost use Rattle.acl_report.specs.Packet.{answer, answers, answer_word, packet_t
 
 use crate::line::{LINE_ROOM, append, append_number, append_short};
 use header_extract::Class;
+use rule_set::MAX_CATEGORIES;
 
 /// How many categories a line shows at most.
-pub const MAX_VERDICTS: usize = 16;
+pub const MAX_VERDICTS: usize = MAX_CATEGORIES;
 
 /// How many bytes a verdict takes at most: a space, and 32 bits in decimal digits.
 const VERDICT_ROOM: usize = 11;

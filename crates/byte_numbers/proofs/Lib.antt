@@ -1,2 +1,1 @@
-pub mod Powers
 pub mod Orders

@@ -1,32 +1,27 @@
 -- Parts that are joined into a line, read from left to right.
-use Rattle.std.proofs.Common.{◌≡◌, ℕ, ◌<◌, ◌≤◌, Bool, true, false, not, ◌||◌, eqb, nat_le, List, [], ◌∷◌, ◌++◌, length}
-use Rattle.std.proofs.Common.{drop}
-use Rattle.std.proofs.Common.{Some, Result, Ok, refl, sym, ap, subst, ◌∙◌, arith, append_assoc, inl, inr, ◌⊎◌, ⊎_elim}
+use Rattle.std.proofs.Common.{◌≡◌, ℕ, ◌<◌, ◌≤◌, true, false, eqb, List, [], ◌∷◌, ◌++◌, length, Some, Ok, refl, sym, ap}
+use Rattle.std.proofs.Common.{subst, ◌∙◌, arith, append_assoc, inl, inr, ◌⊎◌, ⊎_elim}
 use Rattle.std.proofs.lemmas.Bool.{and_parts, cases_Bool, cond-true, eqb-true, le-leb, or_cases}
 use Rattle.std.specs.Char.{is_digit}
 use Rattle.field_defs.specs.declared.field.FieldValue.{FieldValue}
 use Rattle.field_defs.specs.declared.field.FieldValue.TheVariants.{Range}
 use Rattle.text_scan.specs.Parts.{colon, space, tab, is_blank, after_blanks, first_word, after_word, words_of}
 use Rattle.text_scan.specs.Numeral.{whole_number, begins_numeral}
-use Rattle.text_scan.proofs.Numerals.{EndsEither, Begins, whole_stands, whole_within}
-use Rattle.text_scan.proofs.Words.{IsWord, EndsWord, after_blanks-blank, after_blanks-other, after_blanks-word}
-use Rattle.text_scan.proofs.Words.{first_word-append, after_word-append}
-use Rattle.classbench_reader.specs.declared.fault.LineKind.{LineKind}
+use Rattle.text_scan.proofs.Offered.{EndsNumber, whole_stands, whole_within, IsWord, EndsWord, after_blanks-blank}
+use Rattle.text_scan.proofs.Offered.{after_blanks-other, after_blanks-word, first_word-append, after_word-append}
 use Rattle.classbench_reader.specs.declared.network.Network.{Network}
-use Rattle.classbench_reader.specs.declared.line.RuleLine.{RuleLine}
 use Rattle.classbench_reader.specs.Limits.{max_port}
-use Rattle.classbench_reader.specs.Reading.{◌>>=◌, Read, read_of}
+use Rattle.classbench_reader.specs.Reading.{read_of}
 use Rattle.classbench_reader.specs.Network.{network_of}
 use Rattle.classbench_reader.specs.Columns.{port_of, after_colon_of, range_of, ports_of, protocol_of, after_flags}
 use Rattle.classbench_reader.specs.Attributes.{attributes_of, tag_of}
-use Rattle.classbench_reader.specs.Line.{after_at_sign, next_network, beside_source, next_protocol, rule_line_of}
-use Rattle.classbench_reader.specs.Joined.{IsBlanks, IsGap, PortTexts, port_text, SpellsRange, EndsTheWord, LineParts}
-use Rattle.classbench_reader.specs.Joined.{joined_line}
-use Rattle.classbench_reader.specs.Joined.{SaysLine, JoinedPartsAreRead}
+use Rattle.classbench_reader.specs.Line.{after_at_sign, next_network, beside_source, next_protocol}
+use Rattle.classbench_reader.specs.Joined.{IsBlanks, IsGap, PortTexts, port_text, SpellsRange, EndsTheWord}
+use Rattle.classbench_reader.specs.Joined.{JoinedPartsAreRead}
 use Rattle.classbench_reader.proofs.PrintedParts.{bind, port_at, after_high, after_colon, after_low}
 use Rattle.classbench_reader.proofs.PrintedLines.{NextWord, made, with_attributes, with_words, with_protocol}
-use Rattle.classbench_reader.proofs.PrintedLines.{with_others, with_ports}
-use Rattle.classbench_reader.proofs.PrintedLines.{with_destination, with_another, with_source, with_text}
+use Rattle.classbench_reader.proofs.PrintedLines.{with_others, with_ports, with_destination, with_another, with_source}
+use Rattle.classbench_reader.proofs.PrintedLines.{with_text}
 
 -- blanks are passed over
 gap_passed : (gap rest : List ℕ) → IsBlanks gap → after_blanks (gap ++ rest) ≡ after_blanks rest
@@ -53,11 +48,11 @@ ends_at_blank c blank =
     ⊎_elim (λ is. subst EndsAt (sym is) (refl, (λ same. omega arith, λ same. omega arith)))
     (λ is. subst EndsAt (sym is) (refl, (λ same. omega arith, λ same. omega arith))) (is_space_or_tab c blank)
 
-ends_either : (rest : List ℕ) → EndsWord rest → EndsEither rest
+ends_either : (rest : List ℕ) → EndsWord rest → EndsNumber 16 rest
 ends_either [] ends = tt
 ends_either (c ∷ rest) ends = ends_at_blank c ends
 
-blanks_end : (gap rest : List ℕ) → IsBlanks gap → EndsEither (gap ++ colon ∷ rest)
+blanks_end : (gap rest : List ℕ) → IsBlanks gap → EndsNumber 16 (gap ++ colon ∷ rest)
 blanks_end [] rest blanks = (refl, (λ same. omega arith, λ same. omega arith))
 blanks_end (c ∷ gap) rest blanks = ends_at_blank c (and_parts (is_blank c) _ blanks).0
 
@@ -127,7 +122,7 @@ number_after_gap greatest n gap (c ∷ cs) rest blanks is =
 
 -- a port after a gap
 port_after_gap : (port : ℕ) (gap text rest : List ℕ) → IsBlanks gap → whole_number max_port text ≡ Some port
-    → EndsEither rest
+    → EndsNumber 16 rest
     → port_of (gap ++ (text ++ rest)) ≡ Ok (read_of port rest)
 port_after_gap port gap text rest blanks is ends =
     let begins = whole_stands max_port port text rest is ends in

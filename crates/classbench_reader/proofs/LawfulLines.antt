@@ -1,6 +1,6 @@
 -- The rule of a line is lawful for the layout of its family.
-use Rattle.std.proofs.Common.{◌≡◌, ℕ, ◌-◌, ◌*◌, ◌/◌, ◌%◌, ◌^◌, ◌<◌, ◌≤◌, true, min, max, None, IsTrue, [], ◌∷◌}
-use Rattle.std.proofs.Common.{refl, sym, ◌∙◌, arith}
+use Rattle.std.proofs.Common.{◌≡◌, ℕ, ◌-◌, ◌*◌, ◌/◌, ◌%◌, ◌^◌, ◌<◌, ◌≤◌, true, min, max, None, IsTrue, [], ◌∷◌, refl}
+use Rattle.std.proofs.Common.{sym, ◌∙◌, arith}
 use Rattle.std.specs.List.{AllZip}
 use Rattle.std.proofs.lemmas.Bool.{and_parts, lt-ltb, le-leb}
 use Rattle.std.proofs.lemmas.Nat.{div_below, mod_below}
@@ -17,7 +17,7 @@ use Rattle.field_defs.specs.Lawful.{IsLayout}
 use Rattle.field_defs.specs.LayoutFault.{layout_fault}
 use Rattle.rule_set.specs.Fault.{rule_fault}
 use Rattle.rule_set.specs.Lawful.{IsLawfulValue}
-use Rattle.rule_set.proofs.Lawful.{faultless_rules}
+use Rattle.rule_set.proofs.Offered.{faultless_rules}
 use Rattle.classbench_reader.specs.declared.network.Address.{Address}
 use Rattle.classbench_reader.specs.declared.network.Address.TheVariants.{Ip4, Ip6}
 use Rattle.classbench_reader.specs.declared.line.RuleLine.{RuleLine}

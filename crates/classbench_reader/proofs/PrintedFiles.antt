@@ -1,10 +1,8 @@
 -- A printed line alone, read back as a file.
-use Rattle.std.proofs.Common.{◌≡◌, ℕ, Bool, ◌+◌, ◌^◌, ◌<◌, ◌≤◌, true, false, not, ◌&&◌, eqb, nat_lt, List, [], ◌∷◌}
-use Rattle.std.proofs.Common.{◌++◌, length, drop, Ok, pos}
-use Rattle.std.proofs.Common.{refl, sym, ap, subst, ◌∙◌, arith, length-append}
+use Rattle.std.proofs.Common.{◌≡◌, ℕ, Bool, ◌^◌, ◌<◌, ◌≤◌, true, false, not, ◌&&◌, eqb, nat_lt, List, [], ◌∷◌, ◌++◌}
+use Rattle.std.proofs.Common.{length, drop, Ok, pos, refl, sym, ap, subst, ◌∙◌, arith, length-append}
 use Rattle.std.specs.Prelude.{codes}
 use Rattle.std.proofs.lemmas.Bool.{and_parts, le-ltb}
-use Rattle.std.proofs.lemmas.Fmt.{length-decimal-le}
 use Rattle.std.specs.Char.{is_digit}
 use Rattle.std.specs.Fmt.{decimal}
 use Rattle.std.specs.List.{list_all}
@@ -13,10 +11,8 @@ use Rattle.field_defs.specs.declared.field.Family.TheVariants as family
 use Rattle.field_defs.specs.declared.field.FieldValue.TheVariants.{Range, Bitmask}
 use Rattle.rule_set.specs.declared.rule.RuleTag.{RuleTag}
 use Rattle.text_scan.specs.Parts.{slash, tab, line_feed, carriage_return, is_blank, lines_of}
-use Rattle.text_scan.proofs.AddressBytes.{list_all-weaker}
-use Rattle.text_scan.proofs.Cuts.{ends_no_line, lines_of-one}
-use Rattle.text_scan.proofs.Spellings.{length-ip4_spelling-le, length-ip6_spelling-le}
-use Rattle.text_scan.proofs.Words.{after_blanks-other}
+use Rattle.text_scan.proofs.Offered.{ends_no_line, lines_of-one, length-ip4_spelling-le, length-ip6_spelling-le}
+use Rattle.text_scan.proofs.Offered.{after_blanks-other}
 use Rattle.classbench_reader.specs.declared.network.Address.{Address}
 use Rattle.classbench_reader.specs.declared.network.Address.TheVariants.{Ip4, Ip6}
 use Rattle.classbench_reader.specs.declared.network.Network.{Network}
@@ -27,12 +23,13 @@ use Rattle.classbench_reader.specs.Line.{is_skipped, is_comment, rule_of, family
 use Rattle.classbench_reader.specs.RuleFile.{numbered_from, rule_lines_from, by_family, rule_file_of}
 use Rattle.classbench_reader.specs.Lawful.{IsLawfulLine}
 use Rattle.classbench_reader.specs.Print.{address_text, network_text, ports_text, byte_text, protocol_text, tag_text}
-use Rattle.classbench_reader.specs.Print.{line_text}
-use Rattle.classbench_reader.specs.Print.{rule_alone}
-use Rattle.classbench_reader.proofs.PrintedParts.{passes_other, is_address_byte, address_text-bytes, decimal_all}
-use Rattle.classbench_reader.proofs.PrintedParts.{all_pass, reads_back}
-use Rattle.classbench_reader.proofs.PrintedLines.{FitsTag, Bounds, plain, plain_line, network_small}
-use Rattle.classbench_reader.proofs.PrintedLines.{rule_line_of-text}
+use Rattle.classbench_reader.specs.Print.{line_text, rule_alone}
+use Rattle.classbench_reader.proofs.PrintedParts.{is_address_byte, address_text-bytes, reads_back}
+use Rattle.classbench_reader.proofs.PrintedLines.{FitsTag, Bounds, plain, plain_line, network_small, rule_line_of-text}
+use Rattle.list_lemmas.proofs.Tests.{passes_other}
+use Rattle.list_lemmas.proofs.Digits.{decimal_all, long_digits}
+use Rattle.list_lemmas.proofs.Parts.{length-append-le}
+use Rattle.list_lemmas.proofs.Elements.{list_all_both, list_all_weaker}
 
 -- no byte of a printed part ends a line
 no_end : (p : ℕ → Bool) → p line_feed ≡ false → p carriage_return ≡ false → (c : ℕ) → p c ≡ true → ends_no_line c ≡ true
@@ -45,33 +42,34 @@ decimal_bytes n small = decimal_all ends_no_line (no_end (λ c. is_digit c 10) r
 network_bytes : (network : Network) → network.bits < 2 ^ 64 → list_all ends_no_line (network_text network) ≡ true
 network_bytes network small =
     let address = address_text network.address in
-    all_pass ends_no_line address (slash ∷ decimal network.bits)
-    (list_all-weaker is_address_byte ends_no_line (no_end is_address_byte refl refl) address
+    list_all_both ends_no_line address (slash ∷ decimal network.bits)
+    (list_all_weaker is_address_byte ends_no_line address (no_end is_address_byte refl refl)
     (address_text-bytes network.address))
     (decimal_bytes network.bits small)
 
 ports_bytes : (low high : ℕ) → low ≤ high → high ≤ 65535 → list_all ends_no_line (ports_text (Range low high)) ≡ true
 ports_bytes low high filled within =
-    all_pass ends_no_line (decimal low) (codes " : " ++ decimal high) (decimal_bytes low (omega arith))
+    list_all_both ends_no_line (decimal low) (codes " : " ++ decimal high) (decimal_bytes low (omega arith))
     (decimal_bytes high (omega arith))
 
 byte_bytes : (byte : ℕ) → byte < 256 → list_all ends_no_line (byte_text byte) ≡ true
 byte_bytes byte small =
-    list_all-weaker (λ c. not (is_blank c) && (not (eqb c slash) && ends_no_line c)) ends_no_line
-    (λ c passes. (and_parts (not (eqb c slash)) _ (and_parts (not (is_blank c)) _ passes).1).1) (byte_text byte)
+    list_all_weaker (λ c. not (is_blank c) && (not (eqb c slash) && ends_no_line c)) ends_no_line (byte_text byte)
+    (λ c passes. (and_parts (not (eqb c slash)) _ (and_parts (not (is_blank c)) _ passes).1).1)
     (reads_back byte small).bytes
 
 protocol_bytes : (value mask : ℕ) → value < 256 → mask < 256
     → list_all ends_no_line (protocol_text (Bitmask value mask)) ≡ true
 protocol_bytes value mask small masked =
-    all_pass ends_no_line (byte_text value) (slash ∷ byte_text mask) (byte_bytes value small) (byte_bytes mask masked)
+    list_all_both ends_no_line (byte_text value) (slash ∷ byte_text mask) (byte_bytes value small)
+    (byte_bytes mask masked)
 
 tag_bytes : (p c u : ℕ) → p < 2 ^ 64 → c < 2 ^ 64 → u < 2 ^ 64
     → list_all ends_no_line (tag_text (record { category_mask = c; priority = pos p; userdata = u })) ≡ true
 tag_bytes p c u small_p small_c small_u =
-    all_pass ends_no_line (decimal p) (codes " cat=" ++ (decimal c ++ (codes " data=" ++ decimal u)))
+    list_all_both ends_no_line (decimal p) (codes " cat=" ++ (decimal c ++ (codes " data=" ++ decimal u)))
     (decimal_bytes p small_p)
-    (all_pass ends_no_line (decimal c) (codes " data=" ++ decimal u) (decimal_bytes c small_c)
+    (list_all_both ends_no_line (decimal c) (codes " data=" ++ decimal u) (decimal_bytes c small_c)
     (decimal_bytes u small_u))
 
 -- and so none of a printed line does
@@ -85,22 +83,15 @@ plain_bytes from to low high other_low other_high value mask p c u lawful_from l
     let fifth : List ℕ = tab ∷ (ports_text (Range other_low other_high) ++ sixth) in
     let fourth : List ℕ = tab ∷ (ports_text (Range low high) ++ fifth) in
     let third : List ℕ = tab ∷ (network_text to ++ fourth) in
-    all_pass ends_no_line (network_text from) third (network_bytes from (network_small from lawful_from))
-    (all_pass ends_no_line (network_text to) fourth (network_bytes to (network_small to lawful_to))
-    (all_pass ends_no_line (ports_text (Range low high)) fifth (ports_bytes low high bounds.filled bounds.within)
-    (all_pass ends_no_line (ports_text (Range other_low other_high)) sixth
+    list_all_both ends_no_line (network_text from) third (network_bytes from (network_small from lawful_from))
+    (list_all_both ends_no_line (network_text to) fourth (network_bytes to (network_small to lawful_to))
+    (list_all_both ends_no_line (ports_text (Range low high)) fifth (ports_bytes low high bounds.filled bounds.within)
+    (list_all_both ends_no_line (ports_text (Range other_low other_high)) sixth
     (ports_bytes other_low other_high bounds.other_filled bounds.other_within)
-    (all_pass ends_no_line (protocol_text (Bitmask value mask)) seventh
+    (list_all_both ends_no_line (protocol_text (Bitmask value mask)) seventh
     (protocol_bytes value mask bounds.small bounds.masked)
     (tag_bytes p c u (omega (arith, bounds.priority)) (omega (arith, bounds.categories))
     (omega (arith, bounds.userdata)))))))
-
--- a printed line is short
-short : (first second : List ℕ) (n m : ℕ) → length first ≤ n → length second ≤ m → length (first ++ second) ≤ n + m
-short first second n m one other = omega (arith, length-append first second)
-
-decimal_short : (n : ℕ) → n < 2 ^ 64 → length (decimal n) ≤ 20
-decimal_short n small = length-decimal-le 20 n (omega arith) (omega arith) small
 
 address_short : (address : Address) → length (address_text address) ≤ 39
 address_short (Ip4 address) = omega (arith, length-ip4_spelling-le address)
@@ -108,24 +99,24 @@ address_short (Ip6 address) = length-ip6_spelling-le address
 
 network_short : (network : Network) → network.bits < 2 ^ 64 → length (network_text network) ≤ 60
 network_short network small =
-    short (address_text network.address) (slash ∷ decimal network.bits) 39 21 (address_short network.address)
-    (omega (arith, decimal_short network.bits small))
+    length-append-le (address_text network.address) (slash ∷ decimal network.bits) 39 21 (address_short network.address)
+    (omega (arith, long_digits network.bits small))
 
 ports_short : (low high : ℕ) → low ≤ high → high ≤ 65535 → length (ports_text (Range low high)) ≤ 43
 ports_short low high filled within =
-    short (decimal low) (codes " : " ++ decimal high) 20 23 (decimal_short low (omega arith))
-    (omega (arith, decimal_short high (omega arith)))
+    length-append-le (decimal low) (codes " : " ++ decimal high) 20 23 (long_digits low (omega arith))
+    (omega (arith, long_digits high (omega arith)))
 
 protocol_short : (value mask : ℕ) → length (protocol_text (Bitmask value mask)) ≤ 9
-protocol_short value mask = short (byte_text value) (slash ∷ byte_text mask) 4 5 (omega arith) (omega arith)
+protocol_short value mask = length-append-le (byte_text value) (slash ∷ byte_text mask) 4 5 (omega arith) (omega arith)
 
 tag_short : (p c u : ℕ) → p < 2 ^ 64 → c < 2 ^ 64 → u < 2 ^ 64
     → length (tag_text (record { category_mask = c; priority = pos p; userdata = u })) ≤ 75
 tag_short p c u small_p small_c small_u =
-    let userdata : length (codes " data=" ++ decimal u) ≤ 26 = omega (arith, decimal_short u small_u) in
-    let second = short (decimal c) (codes " data=" ++ decimal u) 20 26 (decimal_short c small_c) userdata in
-    let first = short (decimal p) (codes " cat=" ++ (decimal c ++ (codes " data=" ++ decimal u))) 20 51
-    (decimal_short p small_p)
+    let userdata : length (codes " data=" ++ decimal u) ≤ 26 = omega (arith, long_digits u small_u) in
+    let second = length-append-le (decimal c) (codes " data=" ++ decimal u) 20 26 (long_digits c small_c) userdata in
+    let first = length-append-le (decimal p) (codes " cat=" ++ (decimal c ++ (codes " data=" ++ decimal u))) 20 51
+    (long_digits p small_p)
     (omega (arith, second)) in
     omega (arith, first)
 
@@ -141,13 +132,16 @@ plain_short from to low high other_low other_high value mask p c u lawful_from l
     let third : List ℕ = tab ∷ (network_text to ++ fourth) in
     let tags = tag_short p c u (omega (arith, bounds.priority)) (omega (arith, bounds.categories))
     (omega (arith, bounds.userdata)) in
-    let e = short (protocol_text (Bitmask value mask)) seventh 9 76 (protocol_short value mask) (omega (arith, tags)) in
-    let d = short (ports_text (Range other_low other_high)) sixth 43 86
+    let e = length-append-le (protocol_text (Bitmask value mask)) seventh 9 76 (protocol_short value mask)
+    (omega (arith, tags)) in
+    let d = length-append-le (ports_text (Range other_low other_high)) sixth 43 86
     (ports_short other_low other_high bounds.other_filled bounds.other_within) (omega (arith, e)) in
-    let b = short (ports_text (Range low high)) fifth 43 130 (ports_short low high bounds.filled bounds.within)
+    let b = length-append-le (ports_text (Range low high)) fifth 43 130
+    (ports_short low high bounds.filled bounds.within)
     (omega (arith, d)) in
-    let a = short (network_text to) fourth 60 174 (network_short to (network_small to lawful_to)) (omega (arith, b)) in
-    let all = short (network_text from) third 60 235 (network_short from (network_small from lawful_from))
+    let a = length-append-le (network_text to) fourth 60 174 (network_short to (network_small to lawful_to))
+    (omega (arith, b)) in
+    let all = length-append-le (network_text from) third 60 235 (network_short from (network_small from lawful_from))
     (omega (arith, a)) in
     omega (arith, all)
 

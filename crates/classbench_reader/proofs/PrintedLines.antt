@@ -1,8 +1,6 @@
 -- A printed line, read back.
-use Rattle.std.proofs.Common.{◌≡◌, ℕ, ◌%◌, ◌^◌, ◌<◌, ◌≤◌, true, not, eqb}
-use Rattle.std.proofs.Common.{nat_lt, ℤ, pos}
-use Rattle.std.proofs.Common.{List, [], ◌∷◌, ◌++◌, length, Some, Result, Ok, refl, sym, ap, subst, ◌∙◌}
-use Rattle.std.proofs.Common.{arith, append-nil}
+use Rattle.std.proofs.Common.{◌≡◌, ℕ, ◌%◌, ◌^◌, ◌<◌, ◌≤◌, true, not, eqb, nat_lt, ℤ, pos, List, [], ◌∷◌, ◌++◌, length}
+use Rattle.std.proofs.Common.{Some, Result, Ok, refl, sym, ap, subst, ◌∙◌, arith, append-nil}
 use Rattle.std.specs.Prelude.{codes, bit_and, IsTrue, negsuc}
 use Rattle.std.specs.Int.Signed.{le_z}
 use Rattle.std.proofs.lemmas.Bool.{and_parts, le-ltb, leb-true, ltb-true, ne_eqb, eq-eqb, false≢true}
@@ -17,17 +15,16 @@ use Rattle.field_defs.specs.declared.field.FieldValue.TheVariants.{Mask, Range, 
 use Rattle.rule_set.specs.declared.rule.RuleTag.{RuleTag}
 use Rattle.rule_set.specs.Limits.{max_priority}
 use Rattle.rule_set.specs.Lawful.{IsLawfulTag}
-use Rattle.rule_set.proofs.CategoryBits.{some_category}
+use Rattle.rule_set.proofs.Offered.{some_category}
 use Rattle.text_scan.specs.Parts.{slash, tab, space, after_blanks, first_word, after_word, words_of}
-use Rattle.text_scan.proofs.AddressBytes.{list_any-lacks, digits_are}
-use Rattle.text_scan.proofs.Numerals.{decimal_spelled, whole_number-spelled}
-use Rattle.text_scan.proofs.Words.{IsWord, EndsWord, after_blanks-blank, after_blanks-other, after_blanks-word}
-use Rattle.text_scan.proofs.Words.{first_word-append, after_word-append, words_of-append, words_of-blank}
+use Rattle.text_scan.proofs.Offered.{decimal_spelled, whole_number-spelled, IsWord, EndsWord, after_blanks-blank}
+use Rattle.text_scan.proofs.Offered.{after_blanks-other, after_blanks-word, first_word-append, after_word-append}
+use Rattle.text_scan.proofs.Offered.{words_of-append, words_of-blank}
 use Rattle.classbench_reader.specs.declared.fault.LineKind.{LineKind}
 use Rattle.classbench_reader.specs.declared.attributes.Attributes.{Attributes}
 use Rattle.classbench_reader.specs.declared.network.Network.{Network}
 use Rattle.classbench_reader.specs.declared.line.RuleLine.{RuleLine}
-use Rattle.classbench_reader.specs.Limits.{max_written_priority, max_categories, max_userdata}
+use Rattle.classbench_reader.specs.Limits.{max_written_priority, max_category_mask, max_userdata}
 use Rattle.classbench_reader.specs.Reading.{◌>>=◌, Read, read_of}
 use Rattle.classbench_reader.specs.Network.{IsLawfulNetwork, network_of, family_of}
 use Rattle.classbench_reader.specs.Columns.{ports_of, protocol_of, after_flags}
@@ -39,6 +36,7 @@ use Rattle.classbench_reader.specs.Print.{network_text, ports_text, protocol_tex
 use Rattle.classbench_reader.proofs.PrintedParts.{bind, decimal_word, network_text-word, network_of-text, ports_of-text}
 use Rattle.classbench_reader.proofs.PrintedParts.{protocol_text-word, protocol_of-text, most_bits-small}
 use Rattle.classbench_reader.proofs.PrintedParts.{network_text-some}
+use Rattle.list_lemmas.proofs.Elements.{list_any-lacks}
 
 -- the word that stands next in a text, and what follows it
 pub record NextWord (text word rest : List ℕ) : Type 0 where
@@ -108,16 +106,16 @@ tag_words p c u small_p small_c small_u =
 after_flags-pri : (p : ℕ) (words : List (List ℕ)) → p < 2 ^ 64
     → after_flags (pri_word p ∷ words) ≡ Ok (pri_word p ∷ words)
 after_flags-pri p words small =
-    rw (list_any-lacks (λ c. is_digit c 10) slash refl (decimal p) (digits_are 10 p (omega arith) (omega arith) small))
+    rw (list_any-lacks (λ c. is_digit c 10) slash refl (decimal p) (decimal_spelled p small).digits)
     refl
 
 -- they are read as the three numbers
-attributes_of-words : (p c u : ℕ) → p ≤ max_written_priority → c ≤ max_categories → u ≤ max_userdata
+attributes_of-words : (p c u : ℕ) → p ≤ max_written_priority → c ≤ max_category_mask → u ≤ max_userdata
     → attributes_of (pri_word p ∷ cat_word c ∷ data_word u ∷ [])
     ≡ Ok (record { priority = Some p; categories = Some c; userdata = Some u })
 attributes_of-words p c u small_p small_c small_u =
     let first = whole_number-spelled max_written_priority p (decimal p) (decimal_spelled p (omega arith)) small_p in
-    let second = whole_number-spelled max_categories c (decimal c) (decimal_spelled c (omega arith)) small_c in
+    let second = whole_number-spelled max_category_mask c (decimal c) (decimal_spelled c (omega arith)) small_c in
     let third = whole_number-spelled max_userdata u (decimal u) (decimal_spelled u (omega arith)) small_u in
     rw (first, second, third) refl
 
@@ -181,7 +179,7 @@ pub record Bounds (low high other_low other_high value mask p c u : ℕ) : Type 
   pub masked : mask < 256
   pub priority : p ≤ max_priority
   pub some : c % 65536 ≡ 0 → ⊥
-  pub categories : c ≤ max_categories
+  pub categories : c ≤ max_category_mask
   pub userdata : u ≤ max_userdata
 
 abbrev pub plain_line : Network → Network → ℕ → ℕ → ℕ → ℕ → ℕ → ℕ → ℕ → ℕ → ℕ → RuleLine

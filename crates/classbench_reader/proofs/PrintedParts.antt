@@ -1,16 +1,14 @@
 -- The printed parts of a line, read back one by one.
-use Rattle.std.proofs.Common.{◌≡◌, ℕ, ◌^◌, ◌<◌, ◌≤◌, Bool, true, false, not, ◌&&◌, ◌||◌, eqb}
-use Rattle.std.proofs.Common.{List, [], ◌∷◌, ◌++◌, length, drop, Some, Ok, refl, sym, ap, ◌∙◌, arith, append_assoc}
-use Rattle.std.proofs.Common.{⊎_elim, Result, Err, if◌then◌else◌}
-use Rattle.std.specs.Prelude.{unwrap_or, Option, None}
+use Rattle.std.proofs.Common.{◌≡◌, ℕ, ◌^◌, ◌<◌, ◌≤◌, Bool, true, false, not, ◌&&◌, ◌||◌, eqb, List, [], ◌∷◌, ◌++◌}
+use Rattle.std.proofs.Common.{length, drop, Some, Ok, refl, sym, ap, ◌∙◌, arith, append_assoc, ⊎_elim, Result, Err}
+use Rattle.std.proofs.Common.{if◌then◌else◌, zero-add, length-append}
+use Rattle.std.specs.Prelude.{unwrap_or, Option}
 use Rattle.std.specs.Option.{ok_or, option_map}
-use Rattle.std.proofs.Common.{zero-add, length-append}
 use Rattle.std.proofs.lemmas.List.FromFn.{get_or-range_with_len}
-use Rattle.std.proofs.lemmas.Bool.{and_from, and_parts, cond-true, le-leb, lt-ltb, ltb-true, eqb-true, or_left}
-use Rattle.std.proofs.lemmas.Bool.{or_right, or_cases, ne_eqb, false≢true}
+use Rattle.std.proofs.lemmas.Bool.{and_from, and_parts, cond-true, le-leb, eqb-true, or_left, or_right, or_cases}
 use Rattle.std.proofs.lemmas.List.Folds.{list_all-append}
 use Rattle.std.proofs.lemmas.List.Sums.{AllPass-from_list_all}
-use Rattle.std.specs.Char.{is_digit, digit_value}
+use Rattle.std.specs.Char.{is_digit}
 use Rattle.std.specs.Fmt.{decimal}
 use Rattle.std.specs.List.{list_all, range_with_len}
 use Rattle.field_defs.specs.declared.field.FieldValue.{FieldValue}
@@ -19,14 +17,10 @@ use Rattle.text_scan.specs.Parts.{colon, dot, slash, tab, space, line_feed, is_b
 use Rattle.text_scan.specs.Numeral.{whole_number, begins_numeral, numeral_len, numeral_value}
 use Rattle.text_scan.specs.Ip4.{ip4_spelling}
 use Rattle.text_scan.specs.Ip6.{ip6_spelling}
-use Rattle.text_scan.proofs.AddressBytes.{list_all-weaker, list_all-lacks, list_any-lacks, digits_are, is_ip4_byte}
-use Rattle.text_scan.proofs.AddressBytes.{is_ip6_byte}
-use Rattle.text_scan.proofs.AddressBytes.{ip4_spelling-bytes, ip6_spelling-bytes, ip6_spelling-colon}
-use Rattle.text_scan.proofs.Cuts.{cut_at-append, ends_no_line}
-use Rattle.text_scan.proofs.Numerals.{decimal_spelled, EndsNumber, spelled_begins}
-use Rattle.text_scan.proofs.Numerals.{whole_number-spelled}
-use Rattle.text_scan.proofs.ReadBack.{ip4_of-ip4_spelling, ip6_of-ip6_spelling}
-use Rattle.text_scan.proofs.Words.{IsWord, after_blanks-blank, after_blanks-word}
+use Rattle.text_scan.proofs.Offered.{is_ip4_byte, is_ip6_byte, ip4_spelling-bytes, ip6_spelling-bytes}
+use Rattle.text_scan.proofs.Offered.{ip6_spelling-colon, cut_at-append, ends_no_line, decimal_spelled, EndsNumber}
+use Rattle.text_scan.proofs.Offered.{spelled_begins, whole_number-spelled, ip4_of-ip4_spelling, ip6_of-ip6_spelling}
+use Rattle.text_scan.proofs.Offered.{IsWord, after_blanks-blank, after_blanks-word}
 use Rattle.classbench_reader.specs.declared.network.Address.{Address}
 use Rattle.classbench_reader.specs.declared.network.Address.TheVariants.{Ip4, Ip6}
 use Rattle.classbench_reader.specs.declared.network.Network.{Network}
@@ -38,19 +32,14 @@ use Rattle.classbench_reader.specs.Network.{address_of, most_bits, network_of, n
 use Rattle.classbench_reader.specs.Network.{IsLawfulNetwork}
 use Rattle.classbench_reader.specs.Columns.{port_of, after_colon_of, range_of, ports_of, pair_of_cut, protocol_of}
 use Rattle.classbench_reader.specs.Print.{address_text, network_text, ports_text, byte_text, protocol_text}
-
--- a decimal number is a word without `/`
-pub decimal_all : (p : ℕ → Bool) → ((c : ℕ) → is_digit c 10 ≡ true → p c ≡ true) → (n : ℕ) → n < 2 ^ 64
-    → list_all p (decimal n) ≡ true
-decimal_all p weaker n small =
-    list_all-weaker (λ c. is_digit c 10) p weaker (decimal n) (digits_are 10 n (omega arith) (omega arith) small)
+use Rattle.list_lemmas.proofs.Tests.{passes_other}
+use Rattle.list_lemmas.proofs.Digits.{digit_16, decimal_all}
+use Rattle.list_lemmas.proofs.Elements.{list_all_weaker, list_all_both, list_all-lacks, list_any-lacks}
+use Rattle.list_lemmas.proofs.Options.{some_below}
 
 -- the bytes of an address text are no blanks and no `/`
 abbrev pub is_address_byte : ℕ → Bool
 is_address_byte c = is_digit c 16 || (eqb c dot || eqb c colon)
-
-digit_16 : (c : ℕ) → is_digit c 10 ≡ true → is_digit c 16 ≡ true
-digit_16 c digit = lt-ltb (digit_value c) 16 (omega (arith, ltb-true (digit_value c) 10 digit))
 
 ip4_to_address : (c : ℕ) → is_ip4_byte c ≡ true → is_address_byte c ≡ true
 ip4_to_address c passes =
@@ -64,10 +53,6 @@ ip6_to_address c passes =
     (λ separator. or_right (is_digit c 16) _ (or_right (eqb c dot) (eqb c colon) separator))
     (or_cases (is_digit c 16) (eqb c colon) passes)
 
--- a byte that passes a test isn't one for which it computes to false
-pub passes_other : (p : ℕ → Bool) (c other : ℕ) → p other ≡ false → p c ≡ true → eqb c other ≡ false
-passes_other p c other fails passes = ne_eqb c other (λ same. false≢true (sym fails ∙ ap p (sym same) ∙ passes))
-
 -- so it is no blank
 no_blank : (p : ℕ → Bool) → p space ≡ false → p tab ≡ false → (c : ℕ) → p c ≡ true → not (is_blank c) ≡ true
 no_blank p no_space no_tab c passes =
@@ -75,9 +60,9 @@ no_blank p no_space no_tab c passes =
 
 pub address_text-bytes : (address : Address) → list_all is_address_byte (address_text address) ≡ true
 address_text-bytes (Ip4 address) =
-    list_all-weaker is_ip4_byte is_address_byte ip4_to_address (ip4_spelling address) (ip4_spelling-bytes address)
+    list_all_weaker is_ip4_byte is_address_byte (ip4_spelling address) ip4_to_address (ip4_spelling-bytes address)
 address_text-bytes (Ip6 address) =
-    list_all-weaker is_ip6_byte is_address_byte ip6_to_address (ip6_spelling address) (ip6_spelling-bytes address)
+    list_all_weaker is_ip6_byte is_address_byte (ip6_spelling address) ip6_to_address (ip6_spelling-bytes address)
 
 -- a network's text is a word
 pub decimal_word : (n : ℕ) → n < 2 ^ 64 → IsWord (decimal n)
@@ -87,7 +72,7 @@ pub network_text-word : (network : Network) → network.bits < 2 ^ 64 → IsWord
 network_text-word network small =
     let word : ℕ → Bool = λ c. not (is_blank c) in
     let address = address_text network.address in
-    let first = list_all-weaker is_address_byte word (no_blank is_address_byte refl refl) address
+    let first = list_all_weaker is_address_byte word address (no_blank is_address_byte refl refl)
     (address_text-bytes network.address) in
     list_all-append word address (slash ∷ decimal network.bits)
     ∙ and_from (list_all word address) _ first (decimal_word network.bits small)
@@ -119,18 +104,13 @@ network_of-text network lawful =
     (decimal_spelled network.bits small) lawful.within in
     ap (network_of_cut (network_text network)) cut ∙ rw (address, bits) refl
 
--- what follows a value that was read
-pub bind : {A B K : Type 0} (read : Result A K) (value : A) (next : A → Result B K) → read ≡ Ok value
-    → (read >>= next) ≡ next value
-bind read value next is = ap (λ r. r >>= next) is
-
 -- a port, after a blank, before something that ends it
 abbrev pub port_at : List ℕ → Result (Read ℕ) LineKind
 port_at rest =
     if begins_numeral max_port rest then Ok
     (read_of (numeral_value rest) (drop (numeral_len rest) rest)) else Err BadPorts
 
-port_of-text : (c port : ℕ) (rest : List ℕ) → is_blank c ≡ true → port ≤ max_port → EndsNumber rest
+port_of-text : (c port : ℕ) (rest : List ℕ) → is_blank c ≡ true → port ≤ max_port → EndsNumber 10 rest
     → port_of (c ∷ (decimal port ++ rest)) ≡ Ok (read_of port rest)
 port_of-text c port rest blank within ends =
     let spelled = decimal_spelled port (omega arith) in
@@ -143,11 +123,16 @@ port_of-text c port rest blank within ends =
     ∙ λ i. Ok (read_of (begins.value i) (begins.behind i))
 
 -- what a blank begins ends a number
-ends_at_tab : (rest : List ℕ) → EndsNumber (tab ∷ rest)
+ends_at_tab : (rest : List ℕ) → EndsNumber 10 (tab ∷ rest)
 ends_at_tab rest = (refl, (λ same. omega arith, λ same. omega arith))
 
-ends_at_space : (rest : List ℕ) → EndsNumber (space ∷ rest)
+ends_at_space : (rest : List ℕ) → EndsNumber 10 (space ∷ rest)
 ends_at_space rest = (refl, (λ same. omega arith, λ same. omega arith))
+
+-- what follows a value that was read
+pub bind : {A B K : Type 0} (read : Result A K) (value : A) (next : A → Result B K) → read ≡ Ok value
+    → (read >>= next) ≡ next value
+bind read value next is = ap (λ r. r >>= next) is
 
 -- the two ports of a range
 abbrev pub after_high : ℕ → Read ℕ → Result (Read FieldValue) LineKind
@@ -192,30 +177,23 @@ pub record ReadsBack (byte : ℕ) : Type 0 where
   pub number : whole_number max_protocol (byte_text byte) ≡ Some byte
   pub bytes : list_all (λ c. not (is_blank c) && (not (eqb c slash) && ends_no_line c)) (byte_text byte) ≡ true
 
-some_below : (read : Option ℕ) (n : ℕ) → unwrap_or read 256 ≡ n → n < 256 → read ≡ Some n
-some_below None n is small = absurd (omega arith)
-some_below (Some m) n is small = ap Some is
-
 pub reads_back : (byte : ℕ) → byte < 256 → ReadsBack byte
 reads_back byte small =
     let at = AllPass-from_list_all byte_reads_back (range_with_len 0 256) all_bytes_read_back byte 0 small in
     let here : byte_reads_back byte ≡ true =
     ap byte_reads_back (sym (get_or-range_with_len 0 256 byte 0 small ∙ zero-add byte)) ∙ at in
     let parts = and_parts (eqb (unwrap_or (whole_number max_protocol (byte_text byte)) 256) byte) _ here in
-    record { number = some_below _ byte (eqb-true _ _ parts.0) small; bytes = parts.1 }
-
--- two texts whose bytes pass a test
-pub all_pass : (p : ℕ → Bool) (first second : List ℕ) → list_all p first ≡ true → list_all p second ≡ true
-    → list_all p (first ++ second) ≡ true
-all_pass p first second one other = list_all-append p first second ∙ and_from (list_all p first) _ one other
+    record { number = some_below _ 256 byte (eqb-true _ _ parts.0) small; bytes = parts.1 }
 
 -- a protocol is a word, and is read as the protocol
 pub protocol_text-word : (value mask : ℕ) → value < 256 → mask < 256 → IsWord (protocol_text (Bitmask value mask))
 protocol_text-word value mask small masked =
     let word : ℕ → Bool = λ c. not (is_blank c) in
-    let weaker = list_all-weaker (λ c. not (is_blank c) && (not (eqb c slash) && ends_no_line c)) word
+    let weaker = λ (text : List ℕ). list_all_weaker
+    (λ c. not (is_blank c) && (not (eqb c slash) && ends_no_line c)) word text
     (λ c passes. (and_parts (not (is_blank c)) _ passes).0) in
-    all_pass word (byte_text value) (slash ∷ byte_text mask) (weaker (byte_text value) (reads_back value small).bytes)
+    list_all_both word (byte_text value) (slash ∷ byte_text mask)
+    (weaker (byte_text value) (reads_back value small).bytes)
     (weaker (byte_text mask) (reads_back mask masked).bytes)
 
 abbrev protocol_at : Option (List ℕ × List ℕ) → Result FieldValue LineKind
@@ -225,9 +203,9 @@ protocol_at cut =
 pub protocol_of-text : (value mask : ℕ) → value < 256 → mask < 256
     → protocol_of (protocol_text (Bitmask value mask)) ≡ Ok (Bitmask value mask)
 protocol_of-text value mask small masked =
-    let lacks = list_all-weaker (λ c. not (is_blank c) && (not (eqb c slash) && ends_no_line c))
-    (λ c. not (eqb c slash))
-    (λ c passes. (and_parts (not (eqb c slash)) _ (and_parts (not (is_blank c)) _ passes).1).0) (byte_text value)
+    let lacks = list_all_weaker (λ c. not (is_blank c) && (not (eqb c slash) && ends_no_line c))
+    (λ c. not (eqb c slash)) (byte_text value)
+    (λ c passes. (and_parts (not (eqb c slash)) _ (and_parts (not (is_blank c)) _ passes).1).0)
     (reads_back value small).bytes in
     let cut = cut_at-append slash (byte_text value) (byte_text mask) lacks in
     ap protocol_at cut ∙ rw ((reads_back value small).number, (reads_back mask masked).number) refl

@@ -1,9 +1,8 @@
 -- The line of a rule says the rule.
-use Rattle.std.proofs.Common.{◌≡◌, ℕ, ◌+◌, ◌-◌, ◌*◌, ◌/◌, ◌%◌, ◌^◌, ◌<◌, ◌≤◌, true, ◌&&◌, ◌||◌, eqb, min}
-use Rattle.std.proofs.Common.{max, List, [], ◌∷◌, length, get_or}
-use Rattle.std.proofs.Common.{IsTrue, refl, ap, ◌∙◌, arith, ⊎_elim, ◌⊎◌, inl, inr, nat_lt, nat_le}
+use Rattle.std.proofs.Common.{◌≡◌, ℕ, ◌*◌, ◌^◌, ◌<◌, ◌≤◌, true, ◌&&◌, ◌||◌, eqb, List, [], ◌∷◌, length, get_or, IsTrue}
+use Rattle.std.proofs.Common.{refl, ap, ◌∙◌, arith, nat_lt, nat_le}
 use Rattle.std.specs.List.{AllZip}
-use Rattle.std.proofs.lemmas.Bool.{and_from, and_parts, or_cases, eqb-true, ltb-true, leb-true, false≢true}
+use Rattle.std.proofs.lemmas.Bool.{and_from, and_parts, ltb-true, leb-true, false≢true}
 use Rattle.field_defs.specs.declared.field.Family.{Family}
 use Rattle.field_defs.specs.declared.field.Family.TheVariants as family
 use Rattle.field_defs.specs.declared.field.FieldKind.TheVariants as kinds
@@ -14,18 +13,19 @@ use Rattle.field_defs.specs.Layout.{ip4_fields, ip6_fields}
 use Rattle.rule_set.specs.declared.rule.RuleTag.{RuleTag}
 use Rattle.rule_set.specs.Rule.{RuleView}
 use Rattle.rule_set.specs.Lawful.{IsLawfulValue, IsLawfulTag, IsLawfulRule}
-use Rattle.rule_set.proofs.Fields.{length-AllZip}
-use Rattle.rule_set.proofs.Lawful.{faultless_rules}
+use Rattle.list_lemmas.proofs.Elements.{length-AllZip}
+use Rattle.rule_set.proofs.Offered.{faultless_rules}
 use Rattle.classbench_reader.specs.Line.{rule_of, family_of_line}
 use Rattle.classbench_reader.specs.Lawful.{is_lawful, IsLawfulLine}
-use Rattle.classbench_reader.specs.Print.{fields_of, is_one_prefix, has_prefixes, IsPrintable}
-use Rattle.classbench_reader.specs.Print.{line_of_rule}
+use Rattle.classbench_reader.specs.Print.{fields_of, is_one_prefix, has_prefixes, IsPrintable, line_of_rule, rule_text}
+use Rattle.classbench_reader.specs.Print.{rule_alone}
 use Rattle.classbench_reader.specs.RuleFile.{rule_file_of}
-use Rattle.classbench_reader.specs.Print.{rule_text, rule_alone}
 use Rattle.classbench_reader.proofs.LawfulLines.{ip4_is_layout, ip6_is_layout}
 use Rattle.classbench_reader.proofs.PrintedLines.{FitsTag}
 use Rattle.classbench_reader.proofs.PrintedFiles.{rule_file_of-text}
-use Rattle.std.specs.Prelude.{Result, Ok, Err, IfOk}
+use Rattle.std.specs.Prelude.{Ok}
+use Rattle.list_lemmas.proofs.Numbers.{first_half, second_half}
+use Rattle.std.proofs.lemmas.Nat.{shr_high, mod_low}
 
 -- the tests of a lawful value, together
 is_lawful_of : (def : FieldDef) (value : FieldValue) → IsLawfulValue def value
@@ -132,24 +132,7 @@ says_ip4 its_tag proto source destination ports others tagged all =
       of_family = refl;
     })
 
--- the halves of a number of 128 bits, and of its prefix
-high_half : (high low : ℕ) → low < 2 ^ 64 → (high * 2 ^ 64 + low) / 2 ^ 64 ≡ high
-high_half high low fits = omega arith
-
-low_half : (high low : ℕ) → low < 2 ^ 64 → (high * 2 ^ 64 + low) % 2 ^ 64 ≡ low
-low_half high low fits = omega arith
-
-one_prefix : (high low : ℕ) → (eqb low 0 || eqb high 64) ≡ true → (low ≡ 0) ⊎ (high ≡ 64)
-one_prefix high low one =
-    ⊎_elim (λ none. inl (eqb-true low 0 none)) (λ whole. inr (eqb-true high 64 whole))
-    (or_cases (eqb low 0) (eqb high 64) one)
-
-high_bits : (high low : ℕ) → high ≤ 64 → low ≤ 64 → (eqb low 0 || eqb high 64) ≡ true → min (high + low) 64 ≡ high
-high_bits high low one other prefix = ⊎_elim (λ none. omega arith) (λ whole. omega arith) (one_prefix high low prefix)
-
-low_bits : (high low : ℕ) → high ≤ 64 → low ≤ 64 → (eqb low 0 || eqb high 64) ≡ true → max (high + low) 64 - 64 ≡ low
-low_bits high low one other prefix = ⊎_elim (λ none. omega arith) (λ whole. omega arith) (one_prefix high low prefix)
-
+-- and so is each of an IPv6 rule whose masks are prefixes of whole addresses
 says_ip6 : (its_tag : RuleTag) (proto source rest high low ports others : FieldValue) → IsLawfulTag its_tag
     → AllZip IsLawfulValue ip6_fields (proto ∷ source ∷ rest ∷ high ∷ low ∷ ports ∷ others ∷ [])
     → (is_one_prefix source rest && is_one_prefix high low) ≡ true
@@ -174,17 +157,17 @@ says_ip6 its_tag proto source rest high low ports others tagged all prefixes =
         lawful_tag = tagged;
       };
       says = rw (
-        high_half a.number b.number b.fits,
-        high_bits a.bits b.bits (omega (arith, a.within))
+        shr_high a.number 64 b.number b.fits,
+        first_half a.bits b.bits (omega (arith, a.within))
             (omega (arith, b.within)) first,
-        low_half a.number b.number b.fits,
-        low_bits a.bits b.bits (omega (arith, a.within))
+        mod_low a.number 64 b.number b.fits,
+        second_half a.bits b.bits (omega (arith, a.within))
             (omega (arith, b.within)) first,
-        high_half d.number e.number e.fits,
-        high_bits d.bits e.bits (omega (arith, d.within))
+        shr_high d.number 64 e.number e.fits,
+        first_half d.bits e.bits (omega (arith, d.within))
             (omega (arith, e.within)) second,
-        low_half d.number e.number e.fits,
-        low_bits d.bits e.bits (omega (arith, d.within))
+        mod_low d.number 64 e.number e.fits,
+        second_half d.bits e.bits (omega (arith, d.within))
             (omega (arith, e.within)) second,
       ) refl;
       of_family = refl;
@@ -232,9 +215,3 @@ rule_file_of-rule_text its rule printable fits =
     rule_file_of-text (line_of_rule its rule) said.lawful fits
     ∙ ap (λ f. Ok (rule_alone f (rule_of (line_of_rule its rule)))) said.of_family
     ∙ ap (λ r. Ok (rule_alone its r)) said.says
-
--- what holds of an answer, and so what follows from it
-pub if_ok : {A E : Type 0} (answer : Result A E) (P Q : A → Type 0) → ((value : A) → P value → Q value) → IfOk answer P
-    → IfOk answer Q
-if_ok (Ok value) P Q follows holds = follows value holds
-if_ok (Err error) P Q follows holds = holds

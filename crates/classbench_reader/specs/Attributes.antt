@@ -12,7 +12,7 @@ use Rattle.classbench_reader.specs.declared.attributes.Attributes.{Attributes}
 use Rattle.classbench_reader.specs.declared.fault.LineKind.{LineKind}
 use Rattle.classbench_reader.specs.declared.fault.LineKind.TheVariants.{BadAttribute, TailLeft}
 use Rattle.classbench_reader.specs.declared.fault.LineKind.TheVariants.{NoCategory, PriorityRange}
-use Rattle.classbench_reader.specs.Limits.{equals_sign, max_written_priority, max_categories}
+use Rattle.classbench_reader.specs.Limits.{equals_sign, max_written_priority, max_category_mask}
 use Rattle.classbench_reader.specs.Limits.{max_userdata, all_categories}
 use Rattle.classbench_reader.specs.Reading.{◌>>=◌}
 
@@ -33,7 +33,7 @@ with_named found name text =
     (number_once found.priority max_written_priority text)
     else (if bytes_eq name (codes "cat")
     then option_map (λ n. record found { categories = Some n })
-    (number_once found.categories max_categories text)
+    (number_once found.categories max_category_mask text)
     else (if bytes_eq name (codes "data")
     then option_map (λ n. record found { userdata = Some n })
     (number_once found.userdata max_userdata text)

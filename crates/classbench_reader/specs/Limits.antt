@@ -1,9 +1,10 @@
 -- The limits and the marks of rule files, by name.
 use Rattle.std.specs.Prelude.{ℕ}
+use Rattle.classbench_reader.specs.declared.rule_file.TheConstants.{MAX_RULE_FILE}
 
 -- how many bytes a rule file may have
 abbrev pub max_rule_file : ℕ
-max_rule_file = 16777216
+max_rule_file = MAX_RULE_FILE
 
 -- the greatest port
 abbrev pub max_port : ℕ
@@ -22,8 +23,8 @@ abbrev pub max_written_priority : ℕ
 max_written_priority = 2147483647
 
 -- the greatest number of `cat`, a mask of 32 bits
-abbrev pub max_categories : ℕ
-max_categories = 4294967295
+abbrev pub max_category_mask : ℕ
+max_category_mask = 4294967295
 
 -- the greatest number of `data`, a userdata of 32 bits
 abbrev pub max_userdata : ℕ

@@ -1,6 +1,6 @@
 //! A rule file in, its rules by family out, or its first faulty line.
 
-ghost use Rattle.std.specs.Prelude.{◌≡◌, ◌<◌, ◌≤◌, ◌⊎◌, [], ◌∷◌, ◌++◌, length, None};
+ghost use Rattle.std.specs.Prelude.{◌≡◌, ◌<◌, ◌≤◌, ◌⊎◌, [], ◌∷◌, ◌++◌, length, nat_lt, None};
 ghost use Rattle.std.specs.Prelude.{IfOk, IfErr, OnOk, Ok, Err};
 ghost use Rattle.field_defs.specs.Layout.{ip4_fields, ip6_fields};
 ghost use Rattle.classbench_reader.specs.Limits.{max_rule_file};
@@ -14,8 +14,8 @@ ghost use Rattle.classbench_reader.specs.declared.fault.LineFault.{LineFault};
 use crate::fault::{LineFault, LineKind, RulesFault};
 use crate::line::{RuleLine, is_skipped};
 use field_defs::{Family, ip4_layout, ip6_layout};
-use rule_set::{MAX_RULES, PushFault, RuleSet, StoredRule};
-use std::alloc::Global;
+use rule_set::{MAX_RULES, RuleSet, StoredRule};
+use std::alloc::{AllocError, Global};
 use text_scan::split_line;
 
 /// How many bytes a rule file may have.
@@ -85,10 +85,9 @@ fn push(rules: &mut RuleSet, rule: StoredRule) -> Result<(), RulesFault>
         (rules.new ≡ record rules.old { rules = rules.old.rules ++ rule ∷ [] }) }
     ensures err { IfErr result (λ fault. fault ≡ RulesFault.OutOfMemory) }
 {
-    match rules.push(rule) {
+    match rules.push_lawful(rule) {
         Ok(()) => Ok(()),
-        Err(PushFault::Rule(_)) => unreachable!(),
-        Err(PushFault::OutOfMemory) => Err(RulesFault::OutOfMemory),
+        Err(AllocError) => Err(RulesFault::OutOfMemory),
     }
 }
 
@@ -102,7 +101,7 @@ fn push(rules: &mut RuleSet, rule: StoredRule) -> Result<(), RulesFault>
 /// [cat=n] [data=n] ```
 ///
 /// Addresses are both IPv4 (RFC 791) or both IPv6 (RFC 4291, section 2.2). Numbers are decimal or,
-/// after `0x`, hexadecimal. Flags take no part in matching. Without attributes the n-th rule of the
+/// after `0x`, hexadecimal. Flags are ignored in matching. Without attributes the n-th rule of the
 /// file has the priority 536,870,911 - n, all sixteen categories, and the userdata n.
 ///
 /// `Line` comes exactly where the file is too long (line 0) or some line is faulty (the first one,
@@ -118,7 +117,7 @@ pub fn read_rules(alloc: Global, bytes: &[u8]) -> Result<RuleFile, RulesFault>
     ensures too_long { max_rule_file < length bytes.now
         → result ≡ Err (RulesFault.Line (record { line = 0; kind = LineKind.FileTooLong })) }
 {
-    if bytes.len() > MAX_RULE_FILE {
+    if is_too_long(bytes) {
         return Err(line_fault(0, LineKind::FileTooLong));
     }
     let mut file = RuleFile::new(alloc);
@@ -134,6 +133,13 @@ pub fn read_rules(alloc: Global, bytes: &[u8]) -> Result<RuleFile, RulesFault>
         left = rest;
     }
     Ok(file)
+}
+
+/// Whether the file has more bytes than a rule file may have.
+fn is_too_long(bytes: &[u8]) -> bool
+    ensures { result ≡ nat_lt max_rule_file (length bytes.now) }
+{
+    bytes.len() > MAX_RULE_FILE
 }
 
 /// The fault of a line.

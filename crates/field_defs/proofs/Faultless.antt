@@ -1,22 +1,23 @@
 -- What holds of definitions without a fault.
-use Rattle.std.proofs.Common.{◌≡◌, ℕ, zero, suc, ◌+◌, ◌-◌, ◌*◌, ◌==◌, ◌<◌, ◌≤◌, List, [], ◌∷◌, length, get_or, cond, Bool, true}
-use Rattle.std.proofs.Common.{false, not, Option, Some, None, IsTrue, refl, sym, ap, ◌∙◌, inl, inr, arith, zero-add}
+use Rattle.std.proofs.Common.{◌≡◌, ℕ, zero, suc, ◌+◌, ◌-◌, ◌*◌, ◌==◌, ◌<◌, ◌≤◌, List, [], ◌∷◌, length, get_or, Bool}
+use Rattle.std.proofs.Common.{true, false, not, Option, Some, None, refl, ap, ◌∙◌, arith, zero-add}
 use Rattle.std.specs.List.{find, list_all, range_with_len}
 use Rattle.std.specs.Option.{option_map}
 use Rattle.std.proofs.Math.Nat.{sub-zero}
-use Rattle.std.proofs.lemmas.Bool.{cases_Bool, and_parts, eqb-true, and_from, not-false, true≢false}
+use Rattle.std.proofs.lemmas.Bool.{and_parts, eqb-true}
 use Rattle.field_defs.specs.declared.field.FieldKind.TheVariants.{Mask}
 use Rattle.field_defs.specs.declared.field.FieldDef.{FieldDef}
-use Rattle.field_defs.specs.declared.lawful.LayoutFault.{LayoutFault}
 use Rattle.field_defs.specs.declared.lawful.LayoutFault.TheVariants.{BadSize, FirstNotOneByte}
 use Rattle.field_defs.specs.FieldMatch.{is_size}
 use Rattle.field_defs.specs.Faults.{fault_unless, first_of, failing_number}
 use Rattle.field_defs.specs.Layout.{key_len_of}
-use Rattle.field_defs.specs.Lawful.{IsLayout}
 use Rattle.field_defs.proofs.Sizes.{size_at_most_8}
-use Rattle.std.proofs.lemmas.List.Sums.{sum_by-cons}
+use Rattle.std.proofs.lemmas.List.{get_or_default}
+use Rattle.std.proofs.lemmas.List.Sums.{sum_by-cons, list_all-from_AllPass}
 use Rattle.field_defs.specs.Laws.{LawfulLayoutsHaveLawfulSizes, LawfulLayoutsHaveShortKeys}
 use Rattle.field_defs.specs.LayoutFault.{layout_fault, layout_faults, is_sized}
+use Rattle.list_lemmas.proofs.Options.{no_number}
+use Rattle.list_lemmas.proofs.First.{passes_from}
 
 -- where there is no first fault, no fault is there
 pub none_at : {F : Type 0} (options : List (Option F)) (i : ℕ) → first_of options ≡ None → get_or options i None ≡ None
@@ -28,10 +29,6 @@ none_at (Some fault ∷ options) i h = absurd (cc)
 pub passes_test : {F : Type 0} (test : Bool) (fault : F) → fault_unless test fault ≡ None → test ≡ true
 passes_test true fault h = refl
 passes_test false fault h = absurd (cc)
-
-pub no_number : {F : Type 0} (fault : ℕ → F) (number : Option ℕ) → option_map fault number ≡ None → number ≡ None
-no_number fault None h = refl
-no_number fault (Some number) h = absurd (cc)
 
 -- the least number from a number on that fails
 unfoldable pub failing_from : (ℕ → Bool) → ℕ → ℕ → Option ℕ
@@ -65,44 +62,21 @@ from_end holds number count behind =
     let left : count - number ≡ 0 = omega arith in
     rw left refl
 
--- where no number fails, each passes
-passes_from : (holds : ℕ → Bool) (from count more : ℕ) → find (λ n. not (holds n)) (range_with_len from count) ≡ None →
-    more < count → holds (from + more) ≡ true
-passes_from holds from zero more none below = absurd (omega arith)
-passes_from holds from (suc count) zero none below =
-    let here : from + 0 ≡ from = omega arith in
-    elim (cases_Bool (holds from)) [
-      | inl e ↦ rw here e
-      | inr e ↦ absurd (let found = rw e at none in cc)
-    ]
-passes_from holds from (suc count) (suc more) none below =
-    let next : from + suc more ≡ from + 1 + more = omega arith in
-    elim (cases_Bool (holds from)) [
-      | inl e ↦ rw next (passes_from holds (from + 1) count more (rw e at none) (omega arith))
-      | inr e ↦ absurd (let found = rw e at none in cc)
-    ]
-
 pub passes_each : (holds : ℕ → Bool) (count number : ℕ) → failing_number holds count ≡ None → number < count →
     holds number ≡ true
 unfolding failing_number
 passes_each holds count number none below = rw (zero-add number) at (passes_from holds 0 count number none below)
 
--- a test of each place is one of each element
-all_from_places : (test : FieldDef → Bool) (defs : List FieldDef) (d : FieldDef) →
-    ((place : ℕ) → place < length defs → test (get_or defs place d) ≡ true) → list_all test defs ≡ true
-all_from_places test [] d each = refl
-all_from_places test (def ∷ defs) d each =
-    and_from (test def) (list_all test defs) (each 0 (omega arith))
-    (all_from_places test defs d (λ place below. each (suc place) (omega arith)))
-
+-- the fields of a lawful layout have lawful sizes
 pub lawful_sizes : LawfulLayoutsHaveLawfulSizes
 unfolding layout_fault
 lawful_sizes defs lawful =
     let sizes : option_map BadSize (failing_number (is_sized defs) (length defs)) ≡ None =
     none_at (layout_faults defs) 2 lawful.faultless in
-    all_from_places (λ (def : FieldDef). is_size def.size) defs record
-    { kind = Mask; size = 1; field_index = 0; input_index = 0; offset = 0 }
-    (λ place below. passes_each (is_sized defs) (length defs) place (no_number BadSize _ sizes) below)
+    let first : FieldDef = record { kind = Mask; size = 1; field_index = 0; input_index = 0; offset = 0 } in
+    list_all-from_AllPass (λ (def : FieldDef). is_size def.size) defs
+    (λ place d below. ap (λ (def : FieldDef). is_size def.size) (get_or_default defs place d first below)
+    ∙ passes_each (is_sized defs) (length defs) place (no_number BadSize _ sizes) below)
 
 -- fields of lawful sizes have at most eight bytes each
 sum_of_sizes : (defs : List FieldDef) → list_all (λ (def : FieldDef). is_size def.size) defs ≡ true

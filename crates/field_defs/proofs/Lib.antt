@@ -1,5 +1,6 @@
-pub mod Faultless
-pub mod Groups
-pub mod Keys
-pub mod Sizes
-pub mod Wild
+pub mod Offered
+mod Faultless
+mod Groups
+mod Keys
+mod Sizes
+mod Wild

@@ -3,21 +3,13 @@ use Rattle.std.proofs.Common.{◌≡◌, ◌≢◌, ◌↔◌, ℕ, ◌-◌, ◌
 use Rattle.std.proofs.Common.{sym, ◌∙◌, inl, inr, arith}
 use Rattle.std.specs.Prelude.{bit_and}
 use Rattle.std.specs.Int.Bits.{and_self, and_zero_l, and_zero_r}
-use Rattle.std.proofs.Math.Nat.{sub-zero, div-eq_of_lt, div_self, zero-div, one-le-pow}
+use Rattle.std.proofs.Math.Nat.{sub-zero, div_self, zero-div, one-le-pow}
 use Rattle.std.proofs.lemmas.Nat.{pow_pos, pow_below}
 use Rattle.std.proofs.lemmas.Bool.{eqb-true, eq-eqb, leb-true, le-leb, ltb-true, and_parts, and_from, cases_eq}
 use Rattle.field_defs.specs.declared.field.FieldValue.{FieldValue}
 use Rattle.field_defs.specs.declared.field.FieldValue.TheVariants.{Mask, Range, Bitmask}
 use Rattle.field_defs.specs.FieldMatch.{CanMatch, IsWild, is_wild}
-use Rattle.byte_numbers.proofs.Powers.{bytes_as_bits}
-
--- a mask of no bits compares two zeros
-same_leading_no_bits : (value size x : ℕ) → value < 256 ^ size → x < 256 ^ size →
-    x / 2 ^ (8 * size) ≡ value / 2 ^ (8 * size)
-same_leading_no_bits value size x value_fits x_fits =
-    let value_small : value < 2 ^ (8 * size) = rw (bytes_as_bits size) value_fits in
-    let x_small : x < 2 ^ (8 * size) = rw (bytes_as_bits size) x_fits in
-    div-eq_of_lt x_small ∙ sym (div-eq_of_lt value_small)
+use Rattle.list_lemmas.proofs.Powers.{bytes_as_bits, same_leading_no_bits}
 
 -- a mask with bits stops 0 or the number in which only its last bit is set
 no_wild_bits : (value bits size : ℕ) → bits ≢ 0 → bits ≤ 8 * size → IsWild (Mask value bits) size → ⊥

@@ -1,5 +1,5 @@
 -- First faults: of a list of checks the first that fails says what is wrong.
-use Rattle.std.specs.Prelude.{ℕ, List, [], ◌∷◌, length, Bool, true, false, not, Option, Some, None}
+use Rattle.std.specs.Prelude.{ℕ, List, [], ◌∷◌, Bool, true, false, not, Option, Some, None}
 use Rattle.std.specs.List.{find, range_with_len}
 
 -- the fault where the test fails

@@ -4,6 +4,7 @@ use Rattle.std.specs.Prelude.{ℕ, ◌+◌, List, [], ◌∷◌, take, drop, max
 use Rattle.std.specs.List.{flat_map}
 use Rattle.field_defs.specs.declared.field.FieldKind.TheVariants.{Mask, Range, Bitmask}
 use Rattle.field_defs.specs.declared.field.FieldDef.{FieldDef}
+use Rattle.field_defs.specs.declared.layout.TheConstants.{MAX_FIELDS}
 
 -- the key of a buffer: the bytes of each field, one field after the other
 abbrev pub key_of : List FieldDef → List ℕ → List ℕ
@@ -19,7 +20,7 @@ buffer_len_of defs = fold (λ n d. max n (d.offset + d.size)) 0 defs
 
 -- how many fields a layout may have
 abbrev pub max_fields : ℕ
-max_fields = 64
+max_fields = MAX_FIELDS
 
 -- how many bytes a key may have: the first field has one, and each other one at most eight
 abbrev pub max_key_len : ℕ

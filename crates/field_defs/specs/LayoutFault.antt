@@ -3,11 +3,13 @@
 -- four consecutive bytes, an 8-byte field into two of them). DPDK answers one number for all of
 -- these; here each check has a fault of its own, in this order.
 use Rattle.std.specs.Prelude.{ℕ, ◌+◌, ◌-◌, ◌==◌, List, [], ◌∷◌, length, filter, drop, sum_by}
-use Rattle.std.specs.Prelude.{slice_index_or, Bool, true, not, ◌&&◌, ◌||◌, nat_le, nat_lt, Option}
+use Rattle.std.specs.Prelude.{slice_index_or, Bool, not, ◌&&◌, ◌||◌, nat_le, nat_lt, Option}
 use Rattle.std.specs.Prelude.{if◌then◌else◌}
 use Rattle.std.specs.Option.{option_map}
 use Rattle.field_defs.specs.declared.field.FieldKind.TheVariants.{Mask}
 use Rattle.field_defs.specs.declared.field.FieldDef.{FieldDef}
+use Rattle.field_defs.specs.declared.lawful.TheConstants.{MAX_OFFSET, GROUP_BYTES, WIDE_SIZE}
+use Rattle.field_defs.specs.declared.lawful.TheConstants.{GROUP_NUMBERS}
 use Rattle.field_defs.specs.declared.lawful.DefCheck.{DefCheck}
 use Rattle.field_defs.specs.declared.lawful.DefCheck.TheVariants.{Index, Size, Order, Offset, Reach}
 use Rattle.field_defs.specs.declared.lawful.LayoutFault.{LayoutFault}
@@ -20,19 +22,19 @@ use Rattle.field_defs.specs.Faults.{fault_unless, first_of, failing_number}
 
 -- the greatest offset of a field
 abbrev pub max_offset : ℕ
-max_offset = 65535
+max_offset = MAX_OFFSET
 
 -- how many bytes of a key make one group
 abbrev pub group_bytes : ℕ
-group_bytes = 4
+group_bytes = GROUP_BYTES
 
 -- the size of a field that fills two groups
 abbrev pub wide_size : ℕ
-wide_size = 8
+wide_size = WIDE_SIZE
 
 -- how many numbers of groups there are
 abbrev pub group_numbers : ℕ
-group_numbers = 256
+group_numbers = GROUP_NUMBERS
 
 -- the definition at the place, where there is one
 abbrev pub def_at : List FieldDef → ℕ → FieldDef

@@ -1,5 +1,5 @@
 -- Examples of the faults of layouts, each checked by evaluation.
-use Rattle.std.specs.Prelude.{◌≡◌, ℕ, List, [], ◌∷◌, Option, Some, None, refl}
+use Rattle.std.specs.Prelude.{◌≡◌, ℕ, [], ◌∷◌, Some, None, refl}
 use Rattle.field_defs.specs.declared.field.FieldKind.TheVariants as kinds
 use Rattle.field_defs.specs.declared.field.FieldDef.{FieldDef}
 use Rattle.field_defs.specs.declared.lawful.LayoutFault.TheVariants.{NoFields, FieldIndex, BadSize}

@@ -1,14 +1,17 @@
 -- How a chain of extension headers is followed.
-use Rattle.std.proofs.Common.{◌≡◌, ℕ, zero, suc, ◌+◌, ◌*◌, ◌≤◌, ◌<◌, List, length, drop, slice_index, Bool, true, false, not, ◌&&◌, ◌||◌, Ok, Err, Result, inl, inr, refl, arith}
+use Rattle.std.proofs.Common.{◌≡◌, ℕ, zero, suc, ◌+◌, ◌*◌, ◌≤◌, ◌<◌, List, length, drop, slice_index, Bool, true, false}
+use Rattle.std.proofs.Common.{not, ◌&&◌, ◌||◌, Ok, Err, Result, inl, inr, refl, arith}
 use Rattle.std.specs.Prelude.{nat_le, ◌==◌, if◌then◌else◌, ◌⊎◌}
 use Rattle.std.proofs.lemmas.List.{length-drop}
-use Rattle.std.proofs.lemmas.Bool.{cases_Bool, leb-true, le-leb, lt-leb, eqb-true, not-true, not-false, and_parts, or_parts}
+use Rattle.std.proofs.lemmas.Bool.{cases_Bool, leb-true, le-leb, lt-leb, eqb-true, not-true, not-false, and_parts}
+use Rattle.std.proofs.lemmas.Bool.{or_parts}
 use Rattle.header_extract.specs.declared.class.Class.{Class}
 use Rattle.header_extract.specs.declared.class.Class.TheVariants.{Short}
 use Rattle.header_extract.specs.declared.ip6.Upper.{Upper}
 use Rattle.header_extract.specs.Class.{◌>>=◌}
 use Rattle.header_extract.specs.Ports.{no_ports, ports_of}
-use Rattle.header_extract.specs.Ip6.{Step, Leads, Ends, is_options, fragment, options_len, is_first_part, header_step, followed, upper_within, upper_of}
+use Rattle.header_extract.specs.Ip6.{Step, Leads, Ends, is_options, fragment, options_len, is_first_part, header_step}
+use Rattle.header_extract.specs.Ip6.{followed, upper_within, upper_of}
 
 -- a step goes on with fewer bytes
 abbrev IsShorter : List ℕ → Result Step Class → Type 0

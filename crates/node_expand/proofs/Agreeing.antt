@@ -1,19 +1,14 @@
 -- The bytes that agree with a bitmask lie between the value and the value with all other bits set.
-use Rattle.std.proofs.Common.{◌≡◌, ℕ, ◌+◌, ◌-◌, ◌<◌, ◌≤◌, Bool, true, false, cond, Option, Some, None, IsSome, refl}
-use Rattle.std.proofs.Common.{sym, ◌∙◌, ap, arith}
+use Rattle.std.proofs.Common.{◌≡◌, ℕ, ◌-◌, ◌<◌, ◌≤◌, Bool, true, false, cond, Some, None, IsSome, refl, sym, ◌∙◌, ap}
+use Rattle.std.proofs.Common.{arith}
 use Rattle.std.specs.Prelude.{bit_and, bit_or}
 use Rattle.std.specs.Int.Bits.{and_self, and_zero_r, or_add_and}
 use Rattle.std.proofs.lemmas.Nat.{and_le_l, and_comm, and_assoc, and-not, and_or_apart, le_or_l}
 use Rattle.std.proofs.lemmas.Bool.{eq-eqb, eqb-true}
-use Rattle.node_expand.specs.declared.edge.Edge.{Edge}
 use Rattle.node_expand.specs.declared.edge.Edge.TheVariants.{Free}
-use Rattle.node_expand.specs.declared.allowed.Allowed.TheVariants.{Between, Agreeing}
+use Rattle.node_expand.specs.declared.allowed.Allowed.TheVariants.{Agreeing}
 use Rattle.node_expand.specs.Allowed.{answer_of}
 use Rattle.node_expand.specs.Edges.{AreEnds}
-
--- a mask leaves nothing more to take away
-pub and_again : (value mask : ℕ) → bit_and (bit_and value mask) mask ≡ bit_and value mask
-and_again value mask = and_assoc mask value mask ∙ ap (bit_and value) (and_self mask)
 
 -- where an answer is, its test holds
 test_of : (test : Bool) → IsSome (cond test (Some Free) None) → test ≡ true

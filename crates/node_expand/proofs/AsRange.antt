@@ -1,25 +1,19 @@
 -- A mask is the range of the numbers that it lets through.
-use Rattle.std.proofs.Common.{◌≡◌, ℕ, ◌+◌, ◌-◌, ◌*◌, ◌^◌, ◌<◌, ◌≤◌, Bool, true, false, Option, Some, None, refl, sym}
-use Rattle.std.proofs.Common.{◌∙◌, ap, arith}
+use Rattle.std.proofs.Common.{◌≡◌, ℕ, ◌+◌, ◌-◌, ◌*◌, ◌^◌, ◌<◌, refl, sym, ◌∙◌, ap, arith}
 use Rattle.std.specs.Option.{option_map}
 use Rattle.std.proofs.lemmas.Bool.{leb-true, le-leb, ltb-true, lt-ltb, and_from}
 use Rattle.field_defs.specs.declared.field.FieldValue.{FieldValue}
 use Rattle.field_defs.specs.declared.field.FieldValue.TheVariants.{Mask, Range, Bitmask}
 use Rattle.field_defs.specs.FieldMatch.{CanMatch, is_wild}
-use Rattle.field_defs.proofs.Wild.{wild_is_every}
+use Rattle.field_defs.proofs.Offered.{wild_is_every}
 use Rattle.node_expand.specs.declared.edge.Edge.{Edge}
-use Rattle.node_expand.specs.Rest.{Rest, Interval, Live, mask_low, mask_high, as_range, rest_after, rest_step}
-use Rattle.node_expand.specs.Edges.{edge_of, rest_of, edge_after, edge_step, StandsBefore, is_change, is_cut}
+use Rattle.node_expand.specs.Rest.{Rest, Interval, Live, mask_low, mask_high, as_range, rest_step}
+use Rattle.node_expand.specs.Edges.{edge_of, rest_of, edge_after, edge_step, is_cut}
 use Rattle.node_expand.specs.Laws.{IsAsItsRange, ValuesAreTheirRanges}
 use Rattle.node_expand.proofs.Changes.{change_alike}
 use Rattle.node_expand.proofs.Standing.{mask_within, mask_filled}
 use Rattle.node_expand.proofs.Ranges.{mask_as_range, rest_as_range}
-
--- two tests that hold together are one
-same_truth : (one other : Bool) → (one ≡ true → other ≡ true) → (other ≡ true → one ≡ true) → one ≡ other
-same_truth true other there back = sym (there refl)
-same_truth false true there back = back refl
-same_truth false false there back = refl
+use Rattle.list_lemmas.proofs.Tests.{same_truth}
 
 module _ (value bits size : ℕ) where
   -- the range that the mask is

@@ -1,18 +1,14 @@
 -- What the bytes of an interval's ends at one place say of the rest after a byte there.
 use Rattle.std.proofs.Common.{◌≡◌, ℕ, zero, suc, ◌+◌, ◌-◌, ◌*◌, ◌/◌, ◌%◌, ◌^◌, ◌<◌, ◌≤◌, min, max, Bool, true, false}
 use Rattle.std.proofs.Common.{◌&&◌, if◌then◌else◌, eqb, ltb, Some, None, refl, sym, ◌∙◌, ap, inl, inr, arith}
-use Rattle.std.specs.Prelude.{bit_and, IsTrue}
+use Rattle.std.specs.Prelude.{bit_and}
 use Rattle.std.specs.Option.{option_map}
-use Rattle.std.proofs.Math.Nat.{pow-suc, mul_comm, zero-mod, le_trans, div-mul-le_self, mul-le-mul_right}
-use Rattle.std.proofs.Math.Arith.{mod-mul}
-use Rattle.std.proofs.Math.Pow.{ones_split}
-use Rattle.std.proofs.lemmas.Nat.{pow_pos, div-add-mod', mod_below, mod-mul-add, le-div}
+use Rattle.std.proofs.Math.Nat.{pow-suc, mul_comm, le_trans, div-mul-le_self, mul-le-mul_right}
+use Rattle.std.proofs.lemmas.Nat.{div-add-mod', mod_below, le-div}
 use Rattle.std.proofs.lemmas.Bool.{cases_lt, cases_eq, le-leb, lt-leb, lt-ltb, le-ltb, eq-eqb, ne_eqb}
-use Rattle.std.proofs.lemmas.Bool.Decides.{nat_tests}
-use Rattle.byte_numbers.proofs.Powers.{bytes_as_bits}
+use Rattle.list_lemmas.proofs.Powers.{shift_count, inner_low, inner_high, bytes_above_0}
 use Rattle.field_defs.specs.declared.field.FieldValue.{FieldValue}
 use Rattle.field_defs.specs.declared.field.FieldValue.TheVariants.{Mask, Range, Bitmask}
-use Rattle.field_defs.specs.FieldMatch.{is_size}
 use Rattle.node_expand.specs.declared.allowed.Allowed.{Allowed}
 use Rattle.node_expand.specs.declared.allowed.Allowed.TheVariants.{Between, Agreeing}
 use Rattle.node_expand.specs.declared.edge.Edge.{Edge}
@@ -20,11 +16,12 @@ use Rattle.node_expand.specs.declared.edge.Edge.TheVariants.{Free}
 use Rattle.node_expand.specs.Rest.{Interval, part, mask_low, mask_high, live_where, rest_after, rest_step}
 use Rattle.node_expand.specs.Edges.{edge_of, has_low, has_high, rest_of, edge_step, StandsBefore}
 use Rattle.node_expand.specs.Allowed.{answer_of, between, IsFilled}
-use Rattle.node_expand.proofs.Bits.{byte_of_end, bitmask_rest}
+use Rattle.node_expand.proofs.Bits.{bitmask_rest}
 use Rattle.node_expand.proofs.Completions.{rests_hold_completions}
 use Rattle.node_expand.proofs.EdgeRests.{rest_of_open, edge_says_rest}
 use Rattle.node_expand.proofs.Parts.{part_none, part_some}
-use Rattle.node_expand.proofs.Ranges.{closing, count_pos, range_rest}
+use Rattle.node_expand.proofs.Ranges.{closing, range_rest}
+use Rattle.list_lemmas.proofs.Numbers.{end_of_end, byte_of_end}
 
 -- the edge after a byte, by the quotients and remainders of the ends
 module _ (low high count byte : ℕ) (filled : low ≤ high) (positive : 0 < count) where
@@ -97,32 +94,6 @@ edge_closing zero low high byte =
     ]
 edge_closing (suc left) low high byte = refl
 
--- the end of a number's end
-end_of_end : (number count : ℕ) → 0 < count → number % (256 * count) % count ≡ number % count
-end_of_end number count positive =
-    let low : number % count < count = mod_below number count positive in
-    rw (mod-mul number {m = 256} (omega arith) positive) (mod-mul-add (number / count % 256) count (number % count) low)
-
--- the end of the greatest number of eight bytes is the greatest of fewer
-greatest_end : (bytes : ℕ) → bytes ≤ 8 → (2 ^ 64 - 1) % 256 ^ bytes ≡ 256 ^ bytes - 1
-greatest_end bytes within =
-    let bits : 64 - 8 * bytes + 8 * bytes ≡ 64 = omega arith in
-    let parts : 2 ^ 64 - 1 ≡ (2 ^ (64 - 8 * bytes) - 1) * 2 ^ (8 * bytes) + (2 ^ (8 * bytes) - 1) =
-    rw bits at (ones_split (64 - 8 * bytes) (8 * bytes)) in
-    rw (parts, ← bytes_as_bits bytes) (mod-mul-add (2 ^ (64 - 8 * bytes) - 1) (2 ^ (8 * bytes)) (2 ^ (8 * bytes) - 1)
-    (omega (arith, pow_pos (8 * bytes))))
-
--- an end that is inner keeps its last bytes, and another one is outermost in these
-inner_low : (inner : Bool) (low count : ℕ) → (if inner then low else 0) % count ≡ (if inner then low % count else 0)
-inner_low true low count = refl
-inner_low false low count = zero-mod count
-
--- the upper end likewise
-inner_high : (inner : Bool) (high bytes : ℕ) → bytes ≤ 8 →
-    (if inner then high else 2 ^ 64 - 1) % 256 ^ bytes ≡ (if inner then high % 256 ^ bytes else 256 ^ bytes - 1)
-inner_high true high bytes within = refl
-inner_high false high bytes within = greatest_end bytes within
-
 -- the lower and the upper end that an edge leaves of numbers from low to high
 abbrev low_of : Edge → ℕ → ℕ → ℕ
 low_of edge low count = if has_low edge then low % count else 0
@@ -151,10 +122,10 @@ module _ (low high size place : ℕ) (edge : Edge) (lawful : size ≤ 8) (begun 
       rw numbers (inner_low (has_low edge) low (256 * count)) in
       let upper : last % (256 * count) ≡ high_of edge high (256 ^ (size - place)) =
       rw (← numbers) (inner_high (has_high edge) high (size - place) (omega arith)) in
-      let low_byte = sym (byte_of_end first count (count_pos left)) in
-      let high_byte = sym (byte_of_end last count (count_pos left)) in
-      let low_end = sym (end_of_end first count (count_pos left)) in
-      let high_end = sym (end_of_end last count (count_pos left)) in
+      let low_byte = sym (byte_of_end first count (bytes_above_0 left)) in
+      let high_byte = sym (byte_of_end last count (bytes_above_0 left)) in
+      let low_end = sym (end_of_end first count (bytes_above_0 left)) in
+      let high_end = sym (end_of_end last count (bytes_above_0 left)) in
       rw (low_byte, high_byte, low_end, high_end, lower, upper) refl
 
   -- answer as the interval does
@@ -168,7 +139,7 @@ module _ (low high size place : ℕ) (edge : Edge) (lawful : size ≤ 8) (begun 
       let left : ℕ = size - (place + 1) in
       rw between_ends
       (sym (ap (option_map (edge_of (256 ^ left))) (range_rest _ _ (size - place) 1 byte left (omega arith))
-      ∙ edge_closing left _ _ byte ∙ edge_of_part _ _ (256 ^ left) byte filled (count_pos left)))
+      ∙ edge_closing left _ _ byte ∙ edge_of_part _ _ (256 ^ left) byte filled (bytes_above_0 left)))
 
   -- so some byte is allowed
   pub between_filled : IsFilled (between (if has_low edge then low else 0) (if has_high edge then high else 2 ^ 64 - 1)
@@ -177,7 +148,7 @@ module _ (low high size place : ℕ) (edge : Edge) (lawful : size ≤ 8) (begun 
       let left : ℕ = size - (place + 1) in
       let count : ℕ = 256 ^ left in
       let lower : ℕ = low_of edge low (256 ^ (size - place)) in
-      rw between_ends (le-div (lower / count) (high_of edge high (256 ^ (size - place))) count (count_pos left)
+      rw between_ends (le-div (lower / count) (high_of edge high (256 ^ (size - place))) count (bytes_above_0 left)
       (le_trans (div-mul-le_self lower count) filled))
 
 -- the step from an edge is a step from the interval that it stands for
@@ -216,12 +187,6 @@ pub record Answers (value : FieldValue) (size place : ℕ) (edge : Edge) (allowe
 abbrev pub bytes_of_ends : ℕ → ℕ → ℕ → ℕ → Edge → Allowed
 bytes_of_ends low high size place edge = between (if has_low edge then low else 0)
     (if has_high edge then high else 2 ^ 64 - 1) (2 ^ (8 * (size - 1 - place)))
-
--- how many bits lie behind a place, and how many numbers they can spell
-pub shift_count : (size place : ℕ) → 2 ^ (8 * (size - 1 - place)) ≡ 256 ^ (size - (place + 1))
-shift_count size place =
-    let behind : size - 1 - place ≡ size - (place + 1) = omega arith in
-    rw behind (bytes_as_bits (size - (place + 1)))
 
 -- what a range allows
 pub range_answers : (low high size place : ℕ) (edge : Edge) → size ≤ 8 → place < size →
@@ -269,8 +234,8 @@ agreeing_answer value mask size place byte edge begun =
     let behind : size - place ≡ suc left = omega arith in
     let block : 256 ^ suc left ≡ 256 * count = pow-suc 256 left ∙ mul_comm count 256 in
     let numbers : 256 ^ (size - place) ≡ 256 * count = rw behind block in
-    let value_byte = byte_of_end value count (count_pos left) in
-    let mask_byte = byte_of_end mask count (count_pos left) in
+    let value_byte = byte_of_end value count (bytes_above_0 left) in
+    let mask_byte = byte_of_end mask count (bytes_above_0 left) in
     rw (
       rest_of_open (Bitmask value mask) size place edge begun,
       lt-ltb place size begun,

@@ -4,7 +4,7 @@ use Rattle.std.proofs.Common.{eqb, ltb, Option, Some, None, IsSome, refl, sym, �
 use Rattle.std.specs.Prelude.{bit_and}
 use mathlib.Core.Bool.{beq}
 use Rattle.std.proofs.lemmas.Bool.{cases_lt, cases_order, cases_eq, lt-leb, le-leb, and_right, cond-false, lt-ltb}
-use Rattle.std.proofs.lemmas.Bool.{le-ltb, eq-eqb, ne_eqb, not-false, not_from_true}
+use Rattle.std.proofs.lemmas.Bool.{ne_eqb, not-false, not_from_true}
 use Rattle.std.proofs.lemmas.Bool.Decides.{nat_tests}
 use Rattle.field_defs.specs.declared.field.FieldValue.{FieldValue}
 use Rattle.node_expand.specs.declared.edge.Edge.{Edge}
@@ -14,6 +14,7 @@ use Rattle.node_expand.specs.Allowed.{answer_of, between, IsBetween}
 use Rattle.node_expand.specs.Edges.{edge_with, same_edge, same_answer, is_change, is_cut, edge_step, AreEnds}
 use Rattle.node_expand.specs.Edges.{AnswersWithin}
 use Rattle.node_expand.specs.Laws.{CutsAreChanges, UncutBytesAnswerAlike}
+use Rattle.list_lemmas.proofs.Tests.{marks_in_turn}
 
 -- an edge is itself
 same_edge-refl : (edge : Edge) → same_edge edge edge ≡ true
@@ -65,32 +66,6 @@ turns value mask byte above = rw (lt-ltb 0 byte above)
     agreeing false true = refl
     agreeing false false = refl
 
--- the bytes below the next one are marked, where those below this one are and this one is
-pub marked_more : (change : ℕ → Bool) (byte place : ℕ) (old : Bool) →
-    ((eqb place byte && change byte) || ((ltb place byte && change place) || old))
-    ≡ ((ltb place (byte + 1) && change place) || old)
-marked_more change byte place old =
-    elim (cases_order place byte) [
-      | inl here ↦ rw (
-        eq-eqb place byte here,
-        le-ltb place byte (omega arith),
-        lt-ltb place (byte + 1) (omega arith),
-        here,
-      ) refl
-      | inr other ↦ elim other [
-        | inl before ↦ rw (
-          ne_eqb place byte (λ e. omega arith),
-          lt-ltb place byte before,
-          lt-ltb place (byte + 1) (omega arith),
-        ) refl
-        | inr behind ↦ rw (
-          ne_eqb place byte (λ e. omega arith),
-          le-ltb place byte (omega arith),
-          le-ltb place (byte + 1) (omega arith),
-        ) refl
-      ]
-    ]
-
 -- nothing that isn't there is found
 none_from : (found : Option Edge) → (IsSome found → ⊥) → found ≡ None
 none_from None never = refl
@@ -124,24 +99,6 @@ pub unchanged_behind : (answer : ℕ → Option Edge) (first last byte : ℕ) �
 unchanged_behind answer first last byte ends below behind = no_change answer byte
     (none_from (answer byte) (λ some. omega (arith, (ends.none_outside byte below some).1)))
     (none_from (answer (byte - 1)) (λ some. omega (arith, (ends.none_outside (byte - 1) (omega arith) some).1)))
-
--- where nothing changes below a byte none is marked
-pub marked_none : (change : ℕ → Bool) (byte place : ℕ) (old : Bool) → (place < byte → change place ≡ false) →
-    old ≡ ((ltb place byte && change place) || old)
-marked_none change byte place old none =
-    elim (cases_lt place byte) [
-      | inl before ↦ rw (none before, and_right (ltb place byte) false refl) refl
-      | inr behind ↦ rw (le-ltb place byte behind) refl
-    ]
-
--- and where nothing changes from a byte on, all are marked
-pub marked_all : (change : ℕ → Bool) (byte place : ℕ) (old : Bool) → (byte ≤ place → change place ≡ false) →
-    ((ltb place byte && change place) || old) ≡ (change place || old)
-marked_all change byte place old none =
-    elim (cases_lt place byte) [
-      | inl before ↦ rw (lt-ltb place byte before) refl
-      | inr behind ↦ rw (none behind, and_right (ltb place byte) false refl) refl
-    ]
 
 -- what the bytes between two ends answer
 module _ (low high : ℕ) (low_inner high_inner : Bool) where
@@ -282,14 +239,6 @@ between_changes low high byte low_inner high_inner filled below =
         ]
       ]
     ]
-
--- one mark after the other
-marks_in_turn : (first second third fourth old : Bool) →
-    (first || (second || (third || (fourth || old)))) ≡ ((first || (second || (third || fourth))) || old)
-marks_in_turn true second third fourth old = refl
-marks_in_turn false true third fourth old = refl
-marks_in_turn false false true fourth old = refl
-marks_in_turn false false false fourth old = refl
 
 -- marks set one after the other are the changes, over the marks that were set before
 pub between_marks : (low high byte : ℕ) (low_inner high_inner old : Bool) → low ≤ high → byte < 256 →

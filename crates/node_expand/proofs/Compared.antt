@@ -1,5 +1,5 @@
 -- Rests are compared by their numbers.
-use Rattle.std.proofs.Common.{◌≡◌, ℕ, ◌==◌, ◌↔◌, ◌&&◌, true, refl, arith}
+use Rattle.std.proofs.Common.{◌≡◌, ◌==◌, true, refl}
 use Rattle.std.proofs.lemmas.Bool.{and_parts, and_from, eqb-true, eq-eqb}
 use Rattle.node_expand.specs.Rest.{Rest, Interval, Live, same_rest}
 use Rattle.node_expand.specs.Laws.{RestsAreCompared}

@@ -4,16 +4,17 @@ use Rattle.std.proofs.Common.{eqb, Option, Some, None, IsSome, refl, sym, ◌∙
 use Rattle.std.specs.Prelude.{bit_and}
 use Rattle.std.proofs.lemmas.Nat.{pow_pos, mod_below, same_from_place, and_le_l}
 use Rattle.std.proofs.lemmas.Bool.{cases_lt, le-leb, leb-true, and_parts, and_from, eqb-true, eq-eqb}
-use Rattle.byte_numbers.proofs.Powers.{bytes_as_bits}
+use Rattle.list_lemmas.proofs.Powers.{bytes_as_bits, bytes_above_0}
 use Rattle.field_defs.specs.declared.field.FieldValue.{FieldValue}
 use Rattle.field_defs.specs.declared.field.FieldValue.TheVariants.{Mask, Range, Bitmask}
 use Rattle.field_defs.specs.FieldMatch.{field_match}
 use Rattle.node_expand.specs.Rest.{Rest, Interval, part, mask_low, mask_high, live_where, rest_after}
 use Rattle.node_expand.specs.Laws.{HoldsCompletions, RestsHoldCompletions}
 use Rattle.node_expand.proofs.Parts.{part_none, part_some}
-use Rattle.node_expand.proofs.Ranges.{closing, count_pos, range_rest, rest_whole, rest_as_range, mask_as_range}
+use Rattle.node_expand.proofs.Ranges.{closing, range_rest, rest_whole, rest_as_range, mask_as_range}
 use Rattle.node_expand.proofs.EdgeRests.{live_only}
-use Rattle.node_expand.proofs.Bits.{shared_by_block, shared_in_blocks, agrees, bitmask_rest}
+use Rattle.node_expand.proofs.Bits.{agrees, bitmask_rest}
+use Rattle.list_lemmas.proofs.Bits.{shared_by_block, shared_in_blocks}
 
 -- What a part says of the numbers behind the prefix.
 record HoldsPart (low high count prefix : ℕ) (found : Option Rest) : Type 0 where
@@ -78,7 +79,7 @@ range_holds low high size place prefix within =
     let left : ℕ = size - place in
     let found : Option Rest = part low high (256 ^ left) prefix in
     let holds : HoldsPart low high (256 ^ left) prefix found =
-    part_holds low high (256 ^ left) prefix (count_pos left) in
+    part_holds low high (256 ^ left) prefix (bytes_above_0 left) in
     let is : rest_after (Range low high) size place prefix ≡ closing left found =
     range_rest low high size place prefix left (omega arith) in
     let closed = some_closing left found in
@@ -152,7 +153,7 @@ bitmask_holds value mask size place prefix within =
       live = rw is (
         λ h. (
           value % 256 ^ left,
-          mod_below value (256 ^ left) (count_pos left),
+          mod_below value (256 ^ left) (bytes_above_0 left),
           rw bits (completed_bits value mask (8 * left) prefix (rw bits at (live.0 h))),
         ),
         λ w. live.1 (rw bits (bits_agree value mask (8 * left) prefix w.0 (rw bits at w.1) (rw bits at w.2))),

@@ -1,9 +1,9 @@
 -- The rest that an edge stands for is the one that it was made of.
-use Rattle.std.proofs.Common.{◌≡◌, ℕ, ◌+◌, ◌-◌, ◌*◌, ◌%◌, ◌^◌, ◌<◌, ◌≤◌, min, max, Bool, true, false, cond, ltb, Option}
-use Rattle.std.proofs.Common.{Some, None, refl, sym, ◌∙◌, ap, inl, inr, arith}
+use Rattle.std.proofs.Common.{◌≡◌, ℕ, ◌+◌, ◌-◌, ◌*◌, ◌%◌, ◌^◌, ◌<◌, ◌≤◌, min, max, Bool, true, false, ltb, Option, Some}
+use Rattle.std.proofs.Common.{None, refl, sym, ◌∙◌, ap, inl, inr, arith}
 use Rattle.std.specs.Option.{option_map}
 use Rattle.std.proofs.lemmas.Nat.{mod-mul-add}
-use Rattle.std.proofs.lemmas.Bool.{cases_lt, cond-true, cond-false, lt-ltb, le-ltb, eq-eqb, ne_eqb}
+use Rattle.std.proofs.lemmas.Bool.{cases_lt, cond-true, cond-false, eq-eqb, ne_eqb}
 use Rattle.field_defs.specs.declared.field.FieldValue.{FieldValue}
 use Rattle.field_defs.specs.declared.field.FieldValue.TheVariants.{Mask, Range, Bitmask}
 use Rattle.node_expand.specs.declared.edge.Edge.{Edge}
@@ -12,7 +12,10 @@ use Rattle.node_expand.specs.Edges.{edge_with, edge_of, has_low, has_high, edge_
 use Rattle.node_expand.specs.Edges.{open_rest_of, rest_of}
 use Rattle.node_expand.specs.Laws.{EdgesSayRests, EdgesAreOneWhereRestsAre}
 use Rattle.node_expand.proofs.Parts.{part_none, part_some}
-use Rattle.node_expand.proofs.Ranges.{rest_whole, rest_open, count_pos}
+use Rattle.node_expand.proofs.Ranges.{rest_whole, rest_open}
+use Rattle.list_lemmas.proofs.Numbers.{outermost_low, outermost_high}
+use Rattle.list_lemmas.proofs.Options.{from_option_map}
+use Rattle.list_lemmas.proofs.Powers.{bytes_above_0}
 
 -- an edge has the lower end that it was made with
 pub has_low-edge_with : (low high : Bool) → has_low (edge_with low high) ≡ low
@@ -27,24 +30,6 @@ has_high-edge_with false false = refl
 has_high-edge_with true false = refl
 has_high-edge_with false true = refl
 has_high-edge_with true true = refl
-
--- an end that isn't inner is the outermost number
-outermost_low : (low inner : ℕ) → (0 < low → inner ≡ low) → cond (ltb 0 low) inner 0 ≡ low
-outermost_low low inner h =
-    elim (cases_lt 0 low) [
-      | inl above ↦ rw (lt-ltb 0 low above) (h above)
-      | inr none ↦
-          rw (le-ltb 0 low none) (omega arith)
-    ]
-
-outermost_high : (high inner last : ℕ) → high ≤ last → (high < last → inner ≡ high) →
-    cond (ltb high last) inner last ≡ high
-outermost_high high inner last within h =
-    elim (cases_lt high last) [
-      | inl below ↦ rw (lt-ltb high last below) (h below)
-      | inr end ↦
-          rw (le-ltb high last end) (omega arith)
-    ]
 
 -- the edge of a part leads back to it
 edge_says_part : (low high count prefix : ℕ) (before : Rest) → 0 < count → part low high count prefix ≡ Some before →
@@ -104,19 +89,13 @@ rest_says : (value : FieldValue) (size place prefix : ℕ) (before : Rest) → p
 rest_says value size place prefix before within is =
     elim (cases_lt place size) [
       | inl begun ↦ rest_of_open value size place _ begun
-          ∙ open_says value size (256 ^ (size - place)) prefix before (count_pos (size - place))
+          ∙ open_says value size (256 ^ (size - place)) prefix before (bytes_above_0 (size - place))
           (sym (rest_open value size place prefix begun) ∙ is)
       | inr end ↦
           let whole : place ≡ size = omega arith in
           let at_end = rw whole at is in
           rw whole (rest_of_whole value size _ ∙ sym (live_only _ before (sym (rest_whole value size prefix) ∙ at_end)))
     ]
-
--- what an option is made of, where a function makes it
-from_option_map : {A B : Type 0} (f : A → B) (found : Option A) (made : B) → option_map f found ≡ Some made →
-    (x : A) × (found ≡ Some x) × (f x ≡ made)
-from_option_map f None made is = absurd cc
-from_option_map f (Some x) made is = (x, refl, cc)
 
 -- an edge that is the form of a rest stands for it
 pub edge_says_rest : (value : FieldValue) (size place prefix : ℕ) (edge : Edge) → place ≤ size →

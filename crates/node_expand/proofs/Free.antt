@@ -1,25 +1,24 @@
 -- Where a value leaves all numbers it leaves all of them after more bytes.
 use Rattle.std.proofs.Common.{◌≡◌, ℕ, zero, suc, ◌+◌, ◌-◌, ◌*◌, ◌/◌, ◌^◌, ◌<◌, ◌≤◌, min, max, ◌==◌, ◌&&◌, not, true}
-use Rattle.std.proofs.Common.{false, ltb, nat_le, Option, Some, None, refl, sym, ◌∙◌, ap, arith}
-use Rattle.std.specs.Prelude.{bit_and}
+use Rattle.std.proofs.Common.{false, ltb, nat_le, Some, refl, sym, ◌∙◌, arith}
 use Rattle.std.specs.Option.{option_map}
 use Rattle.std.specs.Int.Bits.{and_zero_r}
 use Rattle.std.proofs.Math.Nat.{pow-suc, sub-zero, div-eq_of_lt, zero-div, mul-le-mul_right, one-le-pow}
 use Rattle.std.proofs.Math.Numerals.{add-one}
-use Rattle.std.proofs.lemmas.Nat.{pow-add, pow_pos}
+use Rattle.std.proofs.lemmas.Nat.{pow-add}
 use Rattle.std.proofs.lemmas.Bool.{and_parts, and_right, eqb-true, leb-true, ltb-true, le-ltb, false≢true}
-use Rattle.byte_numbers.proofs.Powers.{bytes_as_bits}
+use Rattle.list_lemmas.proofs.Powers.{bytes_as_bits, bytes_above_0}
 use Rattle.field_defs.specs.declared.field.FieldValue.{FieldValue}
 use Rattle.field_defs.specs.declared.field.FieldValue.TheVariants.{Mask, Range, Bitmask}
 use Rattle.field_defs.specs.FieldMatch.{CanMatch, is_wild}
 use Rattle.node_expand.specs.declared.edge.Edge.{Edge}
 use Rattle.node_expand.specs.declared.edge.Edge.TheVariants.{Free}
-use Rattle.node_expand.specs.Rest.{Rest, Interval, Live, part, mask_low, mask_high, rest_after, rest_step}
-use Rattle.node_expand.specs.Edges.{edge_with, edge_of, rest_of, edge_after, edge_step, same_edge, is_change, is_cut}
-use Rattle.node_expand.specs.Edges.{is_bitmask, AreEnds, AnswersWithin}
+use Rattle.node_expand.specs.Rest.{Interval, part, mask_low, mask_high, rest_step}
+use Rattle.node_expand.specs.Edges.{edge_of, edge_after, edge_step, same_edge, is_change, is_cut, is_bitmask, AreEnds}
+use Rattle.node_expand.specs.Edges.{AnswersWithin}
 use Rattle.node_expand.specs.Laws.{WildValuesStayFree, FreeEdgesStayFree}
 use Rattle.node_expand.proofs.Parts.{part_some}
-use Rattle.node_expand.proofs.Ranges.{closing, count_pos, range_rest, rest_as_range}
+use Rattle.node_expand.proofs.Ranges.{closing, range_rest}
 use Rattle.node_expand.proofs.Bits.{bitmask_rest}
 use Rattle.node_expand.proofs.EdgeRests.{rest_of_open}
 use Rattle.node_expand.proofs.Changes.{one_edge}
@@ -38,7 +37,7 @@ all_after : (size place prefix left : ℕ) → size ≡ place + left → prefix 
     part 0 (256 ^ size - 1) (256 ^ left) prefix ≡ Some (Interval 0 (256 ^ left - 1))
 all_after size place prefix left e within =
     let count : ℕ = 256 ^ left in
-    let positive : 0 < count = count_pos left in
+    let positive : 0 < count = bytes_above_0 left in
     let whole : 256 ^ size ≡ 256 ^ place * count = rw e (pow-add 256 place left) in
     let room : suc prefix * count ≤ 256 ^ place * count = mul-le-mul_right count within in
     let first : max 0 (prefix * count) - prefix * count ≡ 0 = omega arith in
@@ -93,12 +92,9 @@ wild_stays_free = record {
       rw add-one (pow-suc 256 place) in omega (arith, next, one-le-pow place 256 (omega arith))) in
       let next : 0 * 256 + byte < 256 ^ (place + 1) = omega (arith, more) in
       step_form value size place 0 byte Free begun below
-      (wild_after value size place 0 can wild (omega arith) (pow_pos' place))
+      (wild_after value size place 0 can wild (omega arith) (bytes_above_0 place))
       ∙ wild_after value size (place + 1) (0 * 256 + byte) can wild (omega arith) next;
 }
-  where
-    pow_pos' : (place : ℕ) → 0 < 256 ^ place
-    pow_pos' place = one-le-pow place 256 (omega arith)
 
 -- a free edge of a range stands for all numbers
 free_step : (low high size place byte : ℕ) → place < size → byte < 256 →

@@ -1,14 +1,14 @@
-pub mod Parts
-pub mod Ranges
-pub mod Bits
-pub mod Steps
-pub mod EdgeRests
-pub mod Completions
-pub mod Changes
-pub mod Masks
-pub mod Bytes
-pub mod Standing
-pub mod Compared
-pub mod AsRange
-pub mod Free
-pub mod Agreeing
+pub mod Offered
+mod Agreeing
+mod AsRange
+mod Bits
+mod Bytes
+mod Changes
+mod Compared
+mod Completions
+mod EdgeRests
+mod Free
+mod Parts
+mod Ranges
+mod Standing
+mod Steps

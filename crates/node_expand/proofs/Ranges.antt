@@ -1,25 +1,23 @@
 -- The rest of a range, and of a mask as a range, after some bytes and after one more.
-use Rattle.std.proofs.Common.{◌≡◌, ℕ, zero, suc, ◌+◌, ◌-◌, ◌*◌, ◌/◌, ◌%◌, ◌^◌, ◌<◌, min, max, ◌&&◌, cond, leb, eqb}
-use Rattle.std.proofs.Common.{Option, Some, None, refl, sym, ◌∙◌, ap, inl, inr, arith}
+use Rattle.std.proofs.Common.{◌≡◌, ℕ, zero, suc, ◌+◌, ◌-◌, ◌*◌, ◌/◌, ◌^◌, ◌<◌, min, max, ◌&&◌, cond, leb, eqb, Option}
+use Rattle.std.proofs.Common.{Some, None, refl, sym, ◌∙◌, ap, inl, inr, arith}
 use Rattle.std.specs.Option.{option_and_then, option_map}
-use Rattle.std.proofs.Math.Nat.{one-le-pow, pow-suc, mul_comm, div-add-mod', mul-le-mul_right}
-use Rattle.std.proofs.lemmas.Nat.{pow_pos, mod_below}
-use Rattle.std.proofs.lemmas.Bool.{cases_lt, cases_order, le-leb, lt-leb, eq-eqb, ne_eqb, cond-true, cond-false}
+use Rattle.std.proofs.Math.Nat.{pow-suc, mul_comm}
+use Rattle.std.proofs.lemmas.Nat.{pow_pos}
+use Rattle.std.proofs.lemmas.Bool.{cases_lt, le-leb, lt-leb, eq-eqb, ne_eqb, cond-true, cond-false}
 use Rattle.field_defs.specs.declared.field.FieldValue.{FieldValue}
 use Rattle.field_defs.specs.declared.field.FieldValue.TheVariants.{Mask, Range}
 use Rattle.field_defs.specs.FieldMatch.{field_match}
 use Rattle.node_expand.specs.Rest.{Rest, Interval, Live, part, mask_low, mask_high, live_where, open_rest, rest_after}
 use Rattle.node_expand.specs.Rest.{rest_step}
 use Rattle.node_expand.proofs.Parts.{part_none, part_some, part_inside, part_outside}
+use Rattle.list_lemmas.proofs.Powers.{bytes_above_0}
+use Rattle.list_lemmas.proofs.Numbers.{quotient_of_block}
 
 -- with no byte left an interval says no more than that it isn't empty
 abbrev pub closing : ℕ → Option Rest → Option Rest
 closing zero part = option_map (λ _. Live) part
 closing (suc left) part = part
-
--- some bytes can spell some number
-pub count_pos : (bytes : ℕ) → 0 < 256 ^ bytes
-count_pos bytes = one-le-pow bytes 256 (omega arith)
 
 -- a whole field is live where its number matches
 pub rest_whole : (value : FieldValue) (size number : ℕ) →
@@ -86,40 +84,14 @@ range_step low high size place prefix byte begun below =
     (elim (cases_lt (min high (prefix * (256 * count) + (256 * count - 1))) (max low (prefix * (256 * count)))) [
       | inl apart ↦ rw (
         part_none low high (256 * count) prefix apart,
-        part_outside low high count prefix byte (count_pos left) below apart,
+        part_outside low high count prefix byte (bytes_above_0 left) below apart,
       ) (closing-none left)
       | inr met ↦ rw (
         part_some low high (256 * count) prefix met,
-        part_inside low high count prefix byte (count_pos left) below met,
+        part_inside low high count prefix byte (bytes_above_0 left) below met,
       )
           (sym (range_rest _ _ (size - place) 1 byte left (omega arith)))
     ])
-
--- a quotient says in which block a number lies
-quotient_of_block : (number quotient count : ℕ) → 0 < count →
-    eqb (number / count) quotient ≡ (leb (quotient * count) number && leb number (quotient * count + (count - 1)))
-quotient_of_block number quotient count positive =
-    let whole : number / count * count + number % count ≡ number = div-add-mod' number count in
-    let short : number % count < count = mod_below number count positive in
-    elim (cases_order (number / count) quotient) [
-      | inl same ↦ rw (
-        eq-eqb (number / count) quotient same,
-        le-leb (quotient * count) number (omega (arith, ap (λ x. x * count) same)),
-        le-leb number (quotient * count + (count - 1)) (omega (arith, ap (λ x. x * count) same)),
-      )
-      | inr other ↦ elim other [
-        | inl less ↦ rw (
-          ne_eqb (number / count) quotient (λ e. omega arith),
-          lt-leb (quotient * count) number (omega (arith, mul-le-mul_right count less)),
-        )
-        | inr more ↦
-            rw (
-              ne_eqb (number / count) quotient (λ e. omega arith),
-              le-leb (quotient * count) number (omega (arith, mul-le-mul_right count more)),
-              lt-leb number (quotient * count + (count - 1)) (omega (arith, mul-le-mul_right count more)),
-            )
-      ]
-    ]
 
 -- what a mask lets through is a range
 pub mask_as_range : (value bits size number : ℕ) →

@@ -5,7 +5,7 @@ use Rattle.std.specs.Option.{option_map, option_and_then}
 use Rattle.std.proofs.Math.Nat.{pow-suc, div-eq_of_lt, mul-le-mul_right}
 use Rattle.std.proofs.Math.Numerals.{add-one}
 use Rattle.std.proofs.lemmas.Nat.{pow-add, pow_pos, shr_below}
-use Rattle.byte_numbers.proofs.Powers.{bytes_as_bits}
+use Rattle.list_lemmas.proofs.Powers.{bytes_as_bits}
 use Rattle.field_defs.specs.declared.field.FieldValue.{FieldValue}
 use Rattle.field_defs.specs.declared.field.FieldValue.TheVariants.{Mask, Range, Bitmask}
 use Rattle.node_expand.specs.declared.edge.Edge.{Edge}

@@ -1,13 +1,10 @@
 -- The best of some rules wins over all others.
-use Rattle.std.proofs.Common.{◌≡◌, ◌≢◌, ℕ, ℤ, zero, suc, ◌+◌, ◌<◌, ◌≤◌, ◌⊎◌, ◌↔◌, List, [], ◌∷◌, length, filter, get_or}
-use Rattle.std.proofs.Common.{cond, Bool, true, false, not, ◌&&◌, Option, Some, None, refl, sym, ap, ◌∙◌, inl, inr}
-use Rattle.std.proofs.Common.{arith, pos, zero-add}
-use Rattle.std.specs.List.{find, list_all, Contains, AllPairs, position_from, range_with_len, slice_get}
+use Rattle.std.proofs.Common.{◌≡◌, ℕ, suc, ◌+◌, ◌<◌, ◌↔◌, List, [], ◌∷◌, length, filter, cond, Bool, true, false, ◌&&◌}
+use Rattle.std.proofs.Common.{Option, Some, None, refl, sym, ap, ◌∙◌, inl, inr, arith, pos, zero-add}
+use Rattle.std.specs.List.{find, list_all, Contains, position_from, range_with_len, slice_get}
 use Rattle.std.specs.Option.{option_map_or}
-use Rattle.std.specs.List.Sorted.{IsStrictlyIncreasing}
 use Rattle.std.specs.Int.Signed.{le_z}
-use Rattle.std.proofs.lemmas.Bool.{cases_Bool, cases_eq, cases_lt, and_parts, and_from, cond_both, both_ways}
-use Rattle.std.proofs.lemmas.Int.{ints}
+use Rattle.std.proofs.lemmas.Bool.{cases_Bool, cases_eq, cases_lt, and_from, both_ways}
 use Rattle.std.proofs.lemmas.List.Kept.{AllPairs-from_increasing}
 use Rattle.std.proofs.lemmas.Option.{slice_get_past}
 use Rattle.rule_set.specs.Rule.{RuleView}
@@ -15,121 +12,11 @@ use Rattle.rule_set.specs.Winner.{applies, is_greatest}
 use Rattle.rule_set.specs.Among.{passes_at, priority_at, is_greatest_at, best_among}
 use Rattle.rule_set.specs.Laws.{WinsOver, IsBest, TheBestWinsOverAllOthers, TheWinnerIsAmongAllPlaces}
 use Rattle.rule_set.specs.Laws.{TestsMayBeMadeInTurn}
-use Rattle.rule_set.proofs.Find.{find_passes}
-
--- what a list has, element by element
-abbrev pub Has : List ℕ → ℕ → Type 0
-Has [] y = ⊥
-Has (x ∷ xs) y = (x ≡ y) ⊎ Has xs y
-
-contained : (xs : List ℕ) (y : ℕ) → Has xs y → Contains xs y
-contained [] y h = absurd h
-contained (x ∷ xs) y (inl is) = (zero, omega arith, is)
-contained (x ∷ xs) y (inr h) = let more = contained xs y h in (suc more.0, omega (arith, more.1), more.2)
-
-has_at : (xs : List ℕ) (y k : ℕ) → k < length xs → get_or xs k y ≡ y → Has xs y
-has_at [] y k within is = absurd (omega arith)
-has_at (x ∷ xs) y zero within is = inl is
-has_at (x ∷ xs) y (suc k) within is = inr (has_at xs y k (omega arith) is)
-
-has : (xs : List ℕ) (y : ℕ) → Contains xs y → Has xs y
-has xs y h = has_at xs y h.0 h.1 h.2
-
--- a filter keeps what passes
-has_passing : (p : ℕ → Bool) (xs : List ℕ) (y : ℕ) → Has (filter p xs) y → Has xs y × (p y ≡ true)
-has_passing p [] y h = absurd h
-has_passing p (x ∷ xs) y h = elim (cases_Bool (p x)) [
-  | inl e ↦ elim (rw e at h) [
-    | inl is ↦ (inl is, rw is at e)
-    | inr more ↦ let rest = has_passing p xs y more in (inr rest.0, rest.1)
-  ]
-  | inr e ↦ let rest = has_passing p xs y (rw e at h) in (inr rest.0, rest.1)
-]
-
-passing_has : (p : ℕ → Bool) (xs : List ℕ) (y : ℕ) → Has xs y → p y ≡ true → Has (filter p xs) y
-passing_has p [] y h passes = absurd h
-passing_has p (x ∷ xs) y (inl is) passes = rw (is, passes) (inl refl)
-passing_has p (x ∷ xs) y (inr more) passes =
-    cond_both (p x) (x ∷ filter p xs) (filter p xs) (λ ys. Has ys y) (λ _. inr (passing_has p xs y more passes))
-    (λ _. passing_has p xs y more passes)
-
--- what a test of all says of one
-all_has : (q : ℕ → Bool) (xs : List ℕ) (y : ℕ) → list_all q xs ≡ true → Has xs y → q y ≡ true
-all_has q [] y all h = absurd h
-all_has q (x ∷ xs) y all (inl is) = rw (← is) (and_parts (q x) (list_all q xs) all).0
-all_has q (x ∷ xs) y all (inr more) = all_has q xs y (and_parts (q x) (list_all q xs) all).1 more
-
-all_from_each : (q : ℕ → Bool) (xs : List ℕ) → ((y : ℕ) → Has xs y → q y ≡ true) → list_all q xs ≡ true
-all_from_each q [] each = refl
-all_from_each q (x ∷ xs) each = and_from (q x) (list_all q xs) (each x (inl refl))
-    (all_from_each q xs (λ y h. each y (inr h)))
-
--- what is found is in the list, and what isn't found fails
-found_has : (g : ℕ → Bool) (xs : List ℕ) (w : ℕ) → find g xs ≡ Some w → Has xs w
-found_has g [] w h = absurd cc
-found_has g (x ∷ xs) w h = elim (cases_Bool (g x)) [
-  | inl e ↦ let found = rw e at h in let same : x ≡ w = cc in inl same
-  | inr e ↦ inr (found_has g xs w (rw e at h))
-]
-
-not_found : (g : ℕ → Bool) (xs : List ℕ) (y : ℕ) → find g xs ≡ None → Has xs y → g y ≡ false
-not_found g [] y none h = absurd h
-not_found g (x ∷ xs) y none h = elim (cases_Bool (g x)) [
-  | inl e ↦ absurd (let found = rw e at none in cc)
-  | inr e ↦ elim h [
-    | inl is ↦ rw (← is) e
-    | inr more ↦ not_found g xs y (rw e at none) more
-  ]
-]
-
--- a list whose numbers rise
-abbrev Rising : List ℕ → Type 0
-Rising [] = Unit {0}
-Rising (x ∷ xs) = ((y : ℕ) → Has xs y → x < y) × Rising xs
-
-rising : (xs : List ℕ) → AllPairs (λ x y. x < y) xs → Rising xs
-rising [] h = tt
-rising (x ∷ xs) h = (
-  λ y has_y. (let at = contained xs y has_y in rw (at.2) at (h 0 (suc at.0) y (omega arith) (omega (arith, at.1)))),
-  rising xs (λ i j d below within. h (suc i) (suc j) d (omega arith) (omega arith)),
-)
-
--- what is found stands before all others that pass
-found_first : (g : ℕ → Bool) (xs : List ℕ) (w y : ℕ) → Rising xs → find g xs ≡ Some w → Has xs y → g y ≡ true → w ≤ y
-found_first g [] w y rises h has_y passes = absurd has_y
-found_first g (x ∷ xs) w y rises h has_y passes = elim (cases_Bool (g x)) [
-  | inl e ↦
-      let found = rw e at h in
-      let same : x ≡ w = cc in
-      elim has_y [
-        | inl is ↦ omega arith
-        | inr more ↦ omega (arith, rises.0 y more)
-      ]
-  | inr e ↦ elim has_y [
-    | inl is ↦ absurd (both_ways (g x) e (rw (← is) at passes))
-    | inr more ↦ found_first g xs w y rises.1 (rw e at h) more passes
-  ]
-]
-
--- a filter of rising numbers rises
-rising_filter : (p : ℕ → Bool) (xs : List ℕ) → Rising xs → Rising (filter p xs)
-rising_filter p [] h = tt
-rising_filter p (x ∷ xs) h =
-    cond_both (p x) (x ∷ filter p xs) (filter p xs) Rising
-    (λ _. (λ y has_y. h.0 y (has_passing p xs y has_y).0, rising_filter p xs h.1)) (λ _. rising_filter p xs h.1)
-
--- the order of priorities
-pub le_z_refl : (a : ℤ) → le_z a a ≡ true
-le_z_refl a = grind (arith, ints)
-
-pub le_z_trans : (a b c : ℤ) → le_z a b ≡ true → le_z b c ≡ true → le_z a c ≡ true
-le_z_trans a b c h k = grind (arith, ints)
-
-pub le_z_total : (a b : ℤ) → le_z a b ≡ false → le_z b a ≡ true
-le_z_total a b h = grind (arith, ints)
-
-pub le_z_both : (a b : ℤ) → le_z a b ≡ true → le_z b a ≡ true → a ≡ b
-le_z_both a b h k = grind (arith, ints)
+use Rattle.list_lemmas.proofs.First.{find_passes}
+use Rattle.list_lemmas.proofs.Integers.{le_z_refl, le_z_trans, le_z_total, le_z_both}
+use Rattle.list_lemmas.proofs.Elements.{filter_twice}
+use Rattle.list_lemmas.proofs.Members.{Has, contained, has, has_passing, passing_has, all_has, all_from_each, found_has}
+use Rattle.list_lemmas.proofs.Members.{not_found, Rising, rising, found_first, rising_filter, filter-none}
 
 -- some place has the greatest priority
 some_greatest : (rules : List RuleView) (x : ℕ) (xs : List ℕ) →
@@ -157,11 +44,6 @@ none_greatest rules [] none = refl
 none_greatest rules (x ∷ xs) none =
     let best = some_greatest rules x xs in
     absurd (both_ways _ (not_found (is_greatest_at rules (x ∷ xs)) (x ∷ xs) best.0 none best.1) best.2)
-
--- nothing is left of a list where each fails
-filter-none : (p : ℕ → Bool) (xs : List ℕ) → ((y : ℕ) → Has xs y → p y ≡ false) → filter p xs ≡ []
-filter-none p [] fails = refl
-filter-none p (x ∷ xs) fails = rw (fails x (inl refl)) (filter-none p xs (λ y h. fails y (inr h)))
 
 -- of two places not both win over the other
 wins_once : (rules : List RuleView) (one other : ℕ) → WinsOver rules one other → WinsOver rules other one → ⊥
@@ -264,15 +146,6 @@ best_wins = record {
       );
   none = none_passes;
 }
-
--- two tests, one after the other
-filter_twice : (p q both : ℕ → Bool) (xs : List ℕ) → ((x : ℕ) → both x ≡ (p x && q x)) →
-    filter both xs ≡ filter q (filter p xs)
-filter_twice p q both [] same = refl
-filter_twice p q both (x ∷ xs) same = elim (cases_Bool (p x)) [
-  | inl e ↦ rw (same x, e) (ap (λ rest. cond (q x) (x ∷ rest) rest) (filter_twice p q both xs same))
-  | inr e ↦ rw (same x, e) (filter_twice p q both xs same)
-]
 
 passes_both : (first second : RuleView → Bool) (found : Option RuleView) →
     option_map_or (λ rule. first rule && second rule) found false

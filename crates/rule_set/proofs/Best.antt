@@ -1,12 +1,11 @@
 -- The winner so far, as one more rule comes to the end of a list.
-use Rattle.std.proofs.Common.{◌≡◌, ℕ, ℤ, List, [], ◌∷◌, ◌++◌, filter, Bool, true, false, IsTrue, not, ◌&&◌, Option}
-use Rattle.std.proofs.Common.{Some, None, refl, sym, ap, ◌∙◌, inl, inr, arith, zero-add}
+use Rattle.std.proofs.Common.{◌≡◌, ℕ, List, [], ◌∷◌, ◌++◌, filter, Bool, true, false, IsTrue, not, ◌&&◌, Option, Some}
+use Rattle.std.proofs.Common.{None, refl, sym, ap, ◌∙◌, inl, inr, zero-add}
 use Rattle.std.specs.List.{find, list_all}
 use Rattle.std.specs.Option.{MatchOption, option_map, option_map_or}
 use Rattle.std.specs.Int.Signed.{le_z}
 use Rattle.std.proofs.lemmas.Bool.{cases_Bool, and_parts, and_from, and_left, and_right, and_cases, not-true, not-false}
 use Rattle.std.proofs.lemmas.Bool.{not_from_false, false_from_ne_true, both_ways, false≢true}
-use Rattle.std.proofs.lemmas.Int.{ints}
 use Rattle.std.proofs.lemmas.List.{append-nil}
 use Rattle.std.proofs.lemmas.List.Elements.{filter-append}
 use Rattle.std.proofs.lemmas.List.Folds.{list_all-append}
@@ -15,18 +14,10 @@ use Rattle.field_defs.specs.declared.field.FieldDef.{FieldDef}
 use Rattle.rule_set.specs.declared.rule.RuleTag.{RuleTag}
 use Rattle.rule_set.specs.Rule.{RuleView}
 use Rattle.rule_set.specs.Winner.{applies, is_greatest, userdata_at, verdict}
-use Rattle.rule_set.proofs.Find.{find-append_some, find-append_none, find_agree, find_passes, find_among, find_none}
-use Rattle.rule_set.proofs.Find.{list_all_weaker, position_of_found}
-
--- the order of priorities
-le_z_refl : (a : ℤ) → le_z a a ≡ true
-le_z_refl a = grind (arith, ints)
-
-le_z_trans : (a b c : ℤ) → le_z a b ≡ true → le_z b c ≡ true → le_z a c ≡ true
-le_z_trans a b c h k = grind (arith, ints)
-
-le_z_total : (a b : ℤ) → le_z a b ≡ false → le_z b a ≡ true
-le_z_total a b h = grind (arith, ints)
+use Rattle.list_lemmas.proofs.First.{find-append_some, find-append_none, find_agree, find_passes, find_among, find_none}
+use Rattle.list_lemmas.proofs.First.{position_of_found}
+use Rattle.list_lemmas.proofs.Elements.{list_all_weaker}
+use Rattle.list_lemmas.proofs.Integers.{le_z_refl, le_z_trans, le_z_total}
 
 -- the rule passes the test, and none of the others has a greater priority
 abbrev tops : (RuleView → Bool) → List RuleView → RuleView → Bool

@@ -1,7 +1,6 @@
 -- A rule's values against a key, field by field.
 use Rattle.std.proofs.Common.{◌≡◌, ℕ, zero, suc, ◌+◌, ◌<◌, ◌≤◌, List, [], ◌∷◌, length, get_or, take, drop, true, ◌&&◌}
-use Rattle.std.proofs.Common.{sym, ap, ◌∙◌, refl, arith}
-use Rattle.std.specs.List.{AllZip}
+use Rattle.std.proofs.Common.{sym, ap, ◌∙◌, arith}
 use Rattle.std.proofs.lemmas.List.{drop_more, drop_all}
 use Rattle.byte_numbers.specs.Number.{number_of}
 use Rattle.field_defs.specs.declared.field.FieldDef.{FieldDef}
@@ -10,14 +9,7 @@ use Rattle.field_defs.specs.FieldMatch.{field_match, CanMatch}
 use Rattle.rule_set.specs.Rule.{CanMatchAll}
 use Rattle.rule_set.specs.Winner.{rule_match}
 
--- a relation at each place holds of lists of one length
-pub length-AllZip : (R : FieldDef → FieldValue → Type 0) (defs : List FieldDef) (values : List FieldValue)
-    → AllZip R defs values → length values ≡ length defs
-length-AllZip R [] [] all = refl
-length-AllZip R [] (value ∷ values) all = absurd all
-length-AllZip R (def ∷ defs) [] all = absurd all
-length-AllZip R (def ∷ defs) (value ∷ values) all = ap suc (length-AllZip R defs values all.1)
-
+-- a value at a place can be asked about the numbers of its field's size
 can_match_at : (defs : List FieldDef) (values : List FieldValue) (i : ℕ) (d : FieldDef) (v : FieldValue) →
     CanMatchAll defs values → i < length defs → CanMatch (get_or values i v) (get_or defs i d).size
 can_match_at [] values i d v can h = absurd (omega arith)

@@ -1,14 +1,14 @@
 -- Numbers of the rules are below one another exactly where the rules come below one another.
-use Rattle.std.proofs.Common.{◌≡◌, ℕ, ℤ, zero, suc, ◌+◌, ◌-◌, ◌*◌, ◌<◌, ◌≤◌, ◌&&◌, ◌||◌, List, [], ◌∷◌, ◌++◌, length}
-use Rattle.std.proofs.Common.{get_or, map, cond, Bool, true, false, not, nat_lt, None, pos, negsuc, refl, sym, ap, ◌∙◌}
-use Rattle.std.proofs.Common.{arith, zero-add, take}
-use Rattle.std.specs.Prelude.{All, slice_get}
-use Rattle.std.specs.List.{count_by, range_with_len}
+use Rattle.std.proofs.Common.{◌≡◌, ℕ, suc, ◌+◌, ◌-◌, ◌*◌, ◌<◌, ◌≤◌, ◌&&◌, ◌||◌, List, [], ◌∷◌, ◌++◌, length, get_or}
+use Rattle.std.proofs.Common.{map, cond, not, nat_lt, pos, sym, ap, ◌∙◌, arith, zero-add, take}
+use Rattle.std.specs.Prelude.{All}
+use Rattle.std.specs.List.{range_with_len}
 use Rattle.std.specs.Option.{option_map_or}
 use Rattle.std.specs.Int.Signed.{le_z}
 use Rattle.std.proofs.lemmas.Bool.Decides.{nat_tests}
 use Rattle.std.specs.List.Sorted.{IsPermutation}
 use Rattle.std.proofs.lemmas.List.{map-append, length-map, take_more}
+use Rattle.std.proofs.lemmas.Simd.{map-map}
 use Rattle.std.proofs.lemmas.List.FromFn.{length-range_with_len}
 use Rattle.std.proofs.lemmas.List.Sorted.{sum_by-IsPermutation}
 use Rattle.std.proofs.lemmas.Option.{slice_get-get_or}
@@ -18,8 +18,9 @@ use Rattle.rule_set.specs.RuleSet.{IsRuleSet}
 use Rattle.rule_set.specs.Among.{priority_at}
 use Rattle.rule_set.specs.Rank.{comes_below, rank_of, ranks_of}
 use Rattle.rule_set.specs.Keys.{order_key, keys_of, rank_among, HasLawfulPriority}
-use Rattle.rule_set.proofs.Counts.{count_by-cons, range_with_len-more}
 use Rattle.rule_set.proofs.Lawful.{tag_lawful}
+use Rattle.list_lemmas.proofs.Integers.{natural_from_le_z}
+use Rattle.list_lemmas.proofs.Counts.{map_agree, count_agree, range_with_len-more}
 
 -- the priority of a rule that is there
 priority_of : (rules : List RuleView) (place : ℕ) (d : RuleView) → place < length rules →
@@ -45,11 +46,6 @@ keys_more rules keys place d below so_far =
     ∙ ap (λ end. map key (range_with_len 0 place) ++ end ∷ []) (sym last)
     ∙ sym (ap (map key) more ∙ map-append key (range_with_len 0 place) (place ∷ []))
 
--- a priority that isn't negative is a number
-number_of_priority : (priority : ℤ) → le_z (pos 0) priority ≡ true → (n : ℕ) × (priority ≡ pos n)
-number_of_priority (pos n) h = (n, refl)
-number_of_priority (negsuc n) h = absurd (cc)
-
 -- keys compare as priorities and then as places
 keys_compare : (a b p q : ℕ) → p < max_rules → q < max_rules →
     nat_lt (b * max_rules + (max_rules - 1 - q)) (a * max_rules + (max_rules - 1 - p))
@@ -62,32 +58,10 @@ key_below : (rules : List RuleView) (place other : ℕ) → length rules ≤ max
     ≡ comes_below rules place other
 key_below rules place other few lawful here there =
     let d : RuleView = record { tag = record { category_mask = 0; priority = pos 0; userdata = 0 }; fields = [] } in
-    let one = number_of_priority _ (lawful place d here).not_below in
-    let two = number_of_priority _ (lawful other d there).not_below in
+    let one = natural_from_le_z _ (lawful place d here).not_below in
+    let two = natural_from_le_z _ (lawful other d there).not_below in
     rw (priority_of rules place d here ∙ one.1, priority_of rules other d there ∙ two.1)
     (keys_compare one.0 two.0 place other (omega arith) (omega arith))
-
--- what agrees at each number of a range gives the same over it
-map_agree : (f g : ℕ → ℕ) (first n : ℕ) → ((x : ℕ) → first ≤ x → x < first + n → f x ≡ g x) →
-    map f (range_with_len first n) ≡ map g (range_with_len first n)
-map_agree f g first zero agree = refl
-map_agree f g first (suc n) agree =
-    rw (agree first (omega arith) (omega arith))
-    (ap (λ rest. g first ∷ rest) (map_agree f g (first + 1) n (λ x above below. agree x (omega arith) (omega arith))))
-
-count_agree : (test : ℕ → Bool) (key : ℕ → ℕ) (same : ℕ → Bool) (first n : ℕ) →
-    ((x : ℕ) → first ≤ x → x < first + n → test (key x) ≡ same x) →
-    count_by test (map key (range_with_len first n)) ≡ count_by same (range_with_len first n)
-count_agree test key same first zero agree = refl
-count_agree test key same first (suc n) agree =
-    let rest = count_agree test key same (first + 1) n (λ x above below. agree x (omega arith) (omega arith)) in
-    count_by-cons test (key first) (map key (range_with_len (first + 1) n))
-    ∙ rw (agree first (omega arith) (omega arith), rest) refl
-    ∙ sym (count_by-cons same first (range_with_len (first + 1) n))
-
-map_twice : (f : ℕ → ℕ) (g : ℕ → ℕ) (xs : List ℕ) → map f (map g xs) ≡ map (λ x. f (g x)) xs
-map_twice f g [] = refl
-map_twice f g (x ∷ xs) = ap (λ rest. f (g x) ∷ rest) (map_twice f g xs)
 
 -- ranks among the keys are the ranks
 pub ranks_from_keys : (rules : List RuleView) → length rules ≤ max_rules → All HasLawfulPriority rules →
@@ -96,7 +70,7 @@ unfolding keys_of ranks_of
 ranks_from_keys rules few lawful =
     let n : ℕ = length rules in
     let key : ℕ → ℕ = λ p. order_key (priority_at rules p) p in
-    map_twice (rank_among (map key (range_with_len 0 n))) key (range_with_len 0 n)
+    map-map (rank_among (map key (range_with_len 0 n))) key (range_with_len 0 n)
     ∙ map_agree (λ p. rank_among (map key (range_with_len 0 n)) (key p)) (rank_of rules) 0 n
     (λ place above below. ap (λ count. 1 + count)
     (count_agree (λ other. nat_lt other (key place)) key (comes_below rules place) 0 n

@@ -1,22 +1,20 @@
 -- A rule has no fault exactly where it is lawful.
-use Rattle.std.proofs.Common.{◌≡◌, ℕ, zero, suc, ◌<◌, ◌≤◌, ◌==◌, ◌&&◌, ◌↔◌, List, [], ◌∷◌, length, get_or, Bool, true}
-use Rattle.std.proofs.Common.{false, not, Option, Some, None, IsTrue, refl, sym, ap, ◌∙◌, arith, pos}
-use Rattle.std.specs.List.{AllZip, zip, prefix_len, list_all, list_any}
+use Rattle.std.proofs.Common.{◌≡◌, ℕ, ◌<◌, ◌&&◌, List, [], ◌∷◌, length, get_or, Bool, true, not, None, refl, arith, pos}
+use Rattle.std.specs.List.{AllZip, zip, prefix_len, list_any}
 use Rattle.std.specs.Int.Signed.{le_z}
-use Rattle.std.proofs.lemmas.Bool.{eqb-true, eq-eqb, le-ltb, and_parts, and_from}
+use Rattle.std.proofs.lemmas.Bool.{eqb-true, eq-eqb, le-ltb, and_parts}
 use Rattle.std.proofs.lemmas.List.Sums.{AllPass-from_list_all}
 use Rattle.field_defs.specs.declared.field.FieldKind.TheVariants as kinds
 use Rattle.field_defs.specs.declared.field.FieldDef.{FieldDef}
 use Rattle.field_defs.specs.declared.field.FieldValue.{FieldValue}
 use Rattle.field_defs.specs.declared.field.FieldValue.TheVariants.{Mask}
-use Rattle.field_defs.specs.FieldMatch.{is_size, CanMatch}
+use Rattle.field_defs.specs.FieldMatch.{is_size}
 use Rattle.field_defs.specs.Lawful.{IsLayout}
-use Rattle.field_defs.specs.Faults.{first_of, fault_unless}
-use Rattle.field_defs.proofs.Faultless.{none_at, passes_test, lawful_sizes}
+use Rattle.field_defs.specs.Faults.{fault_unless}
+use Rattle.field_defs.proofs.Offered.{none_at, passes_test, lawful_sizes}
 use Rattle.rule_set.specs.declared.rule.RuleTag.{RuleTag}
-use Rattle.rule_set.specs.declared.check.RuleFault.{RuleFault}
-use Rattle.rule_set.specs.declared.check.RuleFault.TheVariants.{FieldCount, FieldKind, NoCategory, PriorityRange}
-use Rattle.rule_set.specs.declared.check.RuleFault.TheVariants.{FieldTooWide, MaskTooLong, EmptyRange}
+use Rattle.rule_set.specs.declared.check.RuleFault.TheVariants.{FieldKind, NoCategory, PriorityRange, FieldTooWide}
+use Rattle.rule_set.specs.declared.check.RuleFault.TheVariants.{MaskTooLong, EmptyRange}
 use Rattle.rule_set.specs.Limits.{max_priority}
 use Rattle.rule_set.specs.Winner.{is_in_category}
 use Rattle.rule_set.specs.Fault.{categories, rule_fault, faults, failing_place, is_of_kind, is_narrow, is_mask_short}
@@ -25,8 +23,9 @@ use Rattle.rule_set.specs.Lawful.{IsLawfulValue, IsLawfulTag, IsLawfulRule}
 use Rattle.rule_set.specs.Laws.{FaultlessRulesAreLawful}
 use Rattle.rule_set.specs.Rule.{RuleView, RuleSetView, CanMatchAll}
 use Rattle.rule_set.specs.RuleSet.{IsRuleSet}
-use Rattle.rule_set.proofs.Fields.{length-AllZip}
-use Rattle.rule_set.proofs.Passing.{no_place, passes_at, all_zip_from_places}
+use Rattle.list_lemmas.proofs.Elements.{length-AllZip, AllZip-from_places}
+use Rattle.list_lemmas.proofs.Options.{no_number}
+use Rattle.rule_set.proofs.Passing.{passes_at}
 
 -- each value of a rule without fault is lawful for its field
 values_lawful : (layout : List FieldDef) (tag : RuleTag) (values : List FieldValue) → IsLayout layout →
@@ -37,19 +36,19 @@ values_lawful layout tag values lawful none_there =
     let v : FieldValue = Mask 0 0 in
     let none = none_at (faults layout tag values) in
     let same : length values ≡ length layout = eqb-true _ _ (passes_test _ _ (none 0 none_there)) in
-    all_zip_from_places IsLawfulValue layout values d v same
+    AllZip-from_places IsLawfulValue layout values d v same
     (λ i h. record {
-      kind = passes_at is_of_kind layout values i d v (no_place FieldKind _ (none 1 none_there)) h
+      kind = passes_at is_of_kind layout values i d v (no_number FieldKind _ (none 1 none_there)) h
           (omega (arith, same));
       can_match = record {
         lawful_size = AllPass-from_list_all (λ (def : FieldDef). is_size def.size) layout
             (lawful_sizes layout lawful) i d h;
-        within_size = passes_at is_narrow layout values i d v (no_place FieldTooWide _ (none 4 none_there)) h
+        within_size = passes_at is_narrow layout values i d v (no_number FieldTooWide _ (none 4 none_there)) h
             (omega (arith, same));
-        mask_within = passes_at is_mask_short layout values i d v (no_place MaskTooLong _ (none 5 none_there)) h
+        mask_within = passes_at is_mask_short layout values i d v (no_number MaskTooLong _ (none 5 none_there)) h
             (omega (arith, same));
       };
-      filled = passes_at is_filled layout values i d v (no_place EmptyRange _ (none 6 none_there)) h
+      filled = passes_at is_filled layout values i d v (no_number EmptyRange _ (none 6 none_there)) h
           (omega (arith, same));
     })
 

@@ -1,11 +1,10 @@
-pub mod Among
-pub mod Best
-pub mod Counts
-pub mod CategoryBits
-pub mod Fields
-pub mod Find
-pub mod Held
-pub mod Keys
-pub mod Lawful
-pub mod Passing
-pub mod RankOrder
+pub mod Offered
+mod Among
+mod Best
+mod CategoryBits
+mod Deciding
+mod Fields
+mod Keys
+mod Lawful
+mod Passing
+mod RankOrder

@@ -1,17 +1,18 @@
 -- Ranks order the rules of a set as they win.
-use Rattle.std.proofs.Common.{◌≡◌, ◌≢◌, ℕ, ℤ, zero, suc, ◌+◌, ◌<◌, ◌≤◌, ◌&&◌, ◌||◌, ◌⊎◌, ◌↔◌, List, [], ◌∷◌, length}
-use Rattle.std.proofs.Common.{cond, Bool, true, false, not, nat_lt, Some, refl, sym, ap, ◌∙◌, inl, inr, arith, zero-add}
-use Rattle.std.specs.List.{count_by, range_with_len, Contains}
+use Rattle.std.proofs.Common.{◌≡◌, ◌≢◌, ℕ, ℤ, ◌<◌, ◌≤◌, ◌&&◌, ◌||◌, ◌⊎◌, ◌↔◌, List, length, Bool, true, false, not}
+use Rattle.std.proofs.Common.{nat_lt, refl, ap, inl, inr, arith}
+use Rattle.std.specs.List.{range_with_len}
 use Rattle.std.specs.Int.Signed.{le_z}
-use Rattle.std.proofs.lemmas.Bool.{cases_Bool, cases_order, cases_eq, and_parts, and_from, lt-ltb, le-ltb, ltb-true}
-use Rattle.std.proofs.lemmas.Bool.{both_ways}
+use Rattle.std.proofs.lemmas.Bool.{cases_Bool, cases_order, cases_eq, and_parts, lt-ltb, le-ltb, ltb-true, both_ways}
 use Rattle.std.proofs.lemmas.List.FromFn.{length-range_with_len}
 use Rattle.rule_set.specs.Rule.{RuleView}
-use Rattle.rule_set.specs.Among.{passes_at, priority_at, best_among}
+use Rattle.rule_set.specs.Among.{priority_at}
 use Rattle.rule_set.specs.Rank.{comes_below, rank_of}
-use Rattle.rule_set.specs.Laws.{WinsOver, IsBest, RanksOrderRules, HasGreatestRank, TheBestHasTheGreatestRank}
-use Rattle.rule_set.proofs.Among.{Has, le_z_refl, le_z_trans, le_z_total, le_z_both, best_wins, passes_there}
-use Rattle.rule_set.proofs.Counts.{count_by-cons}
+use Rattle.rule_set.specs.Laws.{WinsOver, RanksOrderRules, TheBestHasTheGreatestRank}
+use Rattle.rule_set.proofs.Among.{best_wins, passes_there}
+use Rattle.list_lemmas.proofs.Counts.{count_all, count_lt}
+use Rattle.list_lemmas.proofs.Members.{in_range}
+use Rattle.list_lemmas.proofs.Integers.{le_z_refl, le_z_trans, le_z_total, le_z_both}
 
 -- of two priorities and places the second comes below the first
 abbrev below : ℤ → ℤ → ℕ → ℕ → Bool
@@ -72,39 +73,6 @@ below_total a b p q apart = elim (cases_Bool (le_z a b)) [
     ]
   ]
 ]
-
--- a weaker test counts no fewer, and more where it passes something more
-count_le : (f g : ℕ → Bool) (xs : List ℕ) → ((x : ℕ) → f x ≡ true → g x ≡ true) → count_by f xs ≤ count_by g xs
-count_le f g [] weaker = omega arith
-count_le f g (x ∷ xs) weaker =
-    rw (count_by-cons f x xs, count_by-cons g x xs) (elim (cases_Bool (f x)) [
-      | inl e ↦ rw (e, weaker x e) (omega (arith, count_le f g xs weaker))
-      | inr e ↦ rw e (omega (arith, count_le f g xs weaker))
-    ])
-
-count_lt : (f g : ℕ → Bool) (xs : List ℕ) (y : ℕ) → ((x : ℕ) → f x ≡ true → g x ≡ true) → Has xs y → f y ≡ false →
-    g y ≡ true → count_by f xs < count_by g xs
-count_lt f g [] y weaker h fails passes = absurd h
-count_lt f g (x ∷ xs) y weaker (inl is) fails passes =
-    rw (count_by-cons f x xs, count_by-cons g x xs, is, fails, passes) (omega (arith, count_le f g xs weaker))
-count_lt f g (x ∷ xs) y weaker (inr more) fails passes =
-    let rest = count_lt f g xs y weaker more fails passes in
-    rw (count_by-cons f x xs, count_by-cons g x xs) (elim (cases_Bool (f x)) [
-      | inl e ↦ rw (e, weaker x e) (omega (arith, rest))
-      | inr e ↦ rw e (omega (arith, rest))
-    ])
-
--- a range has its numbers
-in_range : (first n x : ℕ) → first ≤ x → x < first + n → Has (range_with_len first n) x
-in_range first zero x above under = absurd (omega arith)
-in_range first (suc n) x above under = elim (cases_eq first x) [
-  | inl here ↦ inl here
-  | inr later ↦ inr (in_range (first + 1) n x (omega arith) (omega arith))
-]
-
-count_all : (xs : List ℕ) → count_by (λ x. true) xs ≡ length xs
-count_all [] = refl
-count_all (x ∷ xs) = count_by-cons (λ y. true) x xs ∙ omega (arith, count_all xs)
 
 -- a rule that comes below another has a lower rank
 lower_rank : (rules : List RuleView) (place other : ℕ) → other < length rules → comes_below rules place other ≡ true →

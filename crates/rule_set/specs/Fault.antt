@@ -3,8 +3,8 @@
 -- a value for each field, some category, and a priority from 0 to 536,870,911; DPDK refuses
 -- userdata 0 too, and here it is lawful). DPDK answers one number for all of these; here each kind
 -- of check has a fault of its own, and the kinds have an order.
-use Rattle.std.specs.Prelude.{ℕ, pos, ◌==◌, List, [], ◌∷◌, length, position, Bool, true, false, not}
-use Rattle.std.specs.Prelude.{◌&&◌, Option, Some, None}
+use Rattle.std.specs.Prelude.{ℕ, pos, ◌==◌, List, [], ◌∷◌, length, position, Bool, not}
+use Rattle.std.specs.Prelude.{◌&&◌, Option}
 use Rattle.std.specs.List.{list_any, range_with_len, zip}
 use Rattle.std.specs.Option.{option_map}
 use Rattle.std.specs.Int.Signed.{le_z}
@@ -20,12 +20,12 @@ use Rattle.rule_set.specs.declared.check.RuleFault.{RuleFault}
 use Rattle.rule_set.specs.declared.check.RuleFault.TheVariants.{FieldCount, FieldKind, NoCategory}
 use Rattle.rule_set.specs.declared.check.RuleFault.TheVariants.{PriorityRange, FieldTooWide}
 use Rattle.rule_set.specs.declared.check.RuleFault.TheVariants.{MaskTooLong, EmptyRange}
-use Rattle.rule_set.specs.Limits.{max_priority}
+use Rattle.rule_set.specs.Limits.{max_priority, max_categories}
 use Rattle.rule_set.specs.Winner.{is_in_category}
 
 -- the sixteen categories
 unfoldable pub categories : List ℕ
-categories = range_with_len 0 16
+categories = range_with_len 0 max_categories
 
 -- the value is of its field's kind
 abbrev pub is_of_kind : FieldDef → FieldValue → Bool

@@ -1,6 +1,6 @@
 -- Numbers that order the rules of a set as their ranks do.
 use Rattle.std.specs.Prelude.{◌≡◌, ℕ, ℤ, ◌+◌, ◌-◌, ◌*◌, pos, unsigned_abs, nat_lt, List, length}
-use Rattle.std.specs.Prelude.{map, Bool, true}
+use Rattle.std.specs.Prelude.{map, true}
 use Rattle.std.specs.List.{count_by, range_with_len}
 use Rattle.std.specs.Int.Signed.{le_z}
 use Rattle.rule_set.specs.Rule.{RuleView}

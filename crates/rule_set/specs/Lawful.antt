@@ -1,5 +1,5 @@
 -- Which rules are lawful, said of the rule as a whole.
-use Rattle.std.specs.Prelude.{◌≡◌, pos, List, IsTrue}
+use Rattle.std.specs.Prelude.{pos, List, IsTrue}
 use Rattle.std.specs.List.{AllZip, list_any}
 use Rattle.std.specs.Int.Signed.{le_z}
 use Rattle.field_defs.specs.declared.field.FieldDef.{FieldDef}

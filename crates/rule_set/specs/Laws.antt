@@ -1,6 +1,6 @@
 -- Laws of rules and winners, over the definitions alone.
-use Rattle.std.specs.Prelude.{◌≡◌, ◌≢◌, ℕ, ◌<◌, ◌≤◌, ◌↔◌, ◌⊎◌, List, filter, Bool, true, false, not}
-use Rattle.std.specs.Prelude.{◌&&◌, Option, Some, None, length, IsTrue}
+use Rattle.std.specs.Prelude.{◌≡◌, ◌≢◌, ℕ, ◌<◌, ◌≤◌, ◌↔◌, ◌⊎◌, List, filter, Bool, true, false}
+use Rattle.std.specs.Prelude.{◌&&◌, Some, None, length}
 use Rattle.std.specs.List.{Contains, range_with_len}
 use Rattle.std.specs.List.Sorted.{IsStrictlyIncreasing}
 use Rattle.std.specs.Int.Signed.{le_z}

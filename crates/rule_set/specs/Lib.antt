@@ -3,6 +3,9 @@ pub mod Categories
 pub mod CategoriesExamples
 pub mod Fault
 pub mod FaultExamples
+pub mod GroupLaws
+pub mod Groups
+pub mod GroupsExamples
 pub mod Keys
 pub mod Lawful
 pub mod Laws

@@ -2,6 +2,10 @@
 
 ghost use Rattle.std.specs.Prelude.{◌≡◌, ◌<◌, ◌≤◌, ◌↔◌, IsTrue, IsSome, IfSome};
 ghost use Rattle.rule_set.specs.Categories.{is_count_of_categories};
+ghost use Rattle.rule_set.specs.Limits.{max_categories};
+
+/// How many categories there are (`RTE_ACL_MAX_CATEGORIES` of DPDK's `rte_acl.h`).
+pub const MAX_CATEGORIES: usize = 16;
 
 /// How many categories a classification takes: 1, 4, 8, 12 or 16, counted from category 0 on.
 ///
@@ -30,7 +34,7 @@ impl Categories {
     pub fn count(&self) -> usize
         ensures value { result ≡ self.now.count }
         ensures some { 0 < result }
-        ensures bound { result ≤ 16 }
+        ensures bound { result ≤ max_categories }
     {
         self.count
     }

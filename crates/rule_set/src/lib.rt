@@ -10,7 +10,8 @@
 //! - `plain`: the verdict, by one pass over the rules
 //! - `rank`: numbers that say which of two rules wins
 //! - `categories`: how many categories a classification takes
-//! - `laws`: what lawful means field by field, and winners by priorities, places and ranks
+//! - `laws`: what lawful means field by field, winners by priorities, places and ranks, and the
+//!   winners of groups of rules
 #![tactic(auto)]
 
 mod categories;
@@ -21,7 +22,7 @@ mod rank;
 mod rule;
 mod set;
 
-pub use categories::Categories;
+pub use categories::{Categories, MAX_CATEGORIES};
 pub use check::{MAX_PRIORITY, RuleFault, check_rule};
 pub use plain::plain_verdict;
 pub use rank::ranks;

@@ -3,6 +3,7 @@
 ghost use Rattle.std.specs.Prelude.{◌≡◌, ◌<◌, length, not, MatchOption, IsTrue};
 ghost use Rattle.std.specs.Int.Signed.{le_z};
 ghost use Rattle.field_defs.specs.Layout.{key_len_of};
+ghost use Rattle.rule_set.specs.Limits.{max_categories};
 ghost use Rattle.rule_set.specs.Rule.{CanMatchAll};
 ghost use Rattle.rule_set.specs.Winner.{rule_match, is_in_category, verdict};
 
@@ -15,12 +16,12 @@ use field_defs::{FieldDef, FieldValue, field_matches};
 /// rule matches.
 ///
 /// `key` has the bytes of the layout's fields, one field after the other, each in network order,
-/// and `category` is below 16. Of rules of equal priority the one added first wins. It refuses
-/// nothing and takes no memory. Source: DPDK Programmer's Guide, "Packet Classification and Access
-/// Control".
+/// and `category` is below [`MAX_CATEGORIES`](crate::MAX_CATEGORIES). Of rules of equal priority
+/// the one added first wins. It refuses nothing and takes no memory. Source: DPDK Programmer's
+/// Guide, "Packet Classification and Access Control".
 pub fn plain_verdict(rules: &RuleSet, key: &[u8], category: u32) -> u32
     requires key { length key.now ≡ key_len_of rules.now.layout }
-    requires category { category < 16 }
+    requires category { category < max_categories }
     ensures { result ≡ verdict rules.now.layout rules.now.rules key.now category }
 {
     let defs = rules.layout().fields();
@@ -40,7 +41,7 @@ pub fn plain_verdict(rules: &RuleSet, key: &[u8], category: u32) -> u32
 
 /// Whether the rule of the tag takes part in the category.
 fn is_in_category(tag: &RuleTag, category: u32) -> bool
-    requires { category < 16 }
+    requires { category < max_categories }
     ensures { result ≡ is_in_category tag.now category }
 {
     tag.category_mask >> category & 1 == 1

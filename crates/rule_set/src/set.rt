@@ -2,7 +2,7 @@
 
 ghost use Rattle.std.specs.Prelude.{◌≡◌, ◌==◌, ◌<◌, ◌≤◌, ◌↔◌, nat_le, take, [], ◌∷◌, ◌++◌, length};
 ghost use Rattle.std.specs.Prelude.{slice_get};
-ghost use Rattle.std.specs.Prelude.{Some, OnOk, OnErr};
+ghost use Rattle.std.specs.Prelude.{Some, None, OnOk, OnErr};
 ghost use Rattle.rule_set.specs.declared.check.RuleFault.{RuleFault};
 ghost use Rattle.rule_set.specs.Limits.{max_rules};
 ghost use Rattle.rule_set.specs.Fault.{rule_fault};
@@ -10,7 +10,7 @@ ghost use Rattle.rule_set.specs.Fault.{rule_fault};
 use crate::check::{RuleFault, check_rule};
 use crate::rule::StoredRule;
 use field_defs::Layout;
-use std::alloc::Global;
+use std::alloc::{AllocError, Global};
 use std::marker::Model;
 use thiserror::Error;
 
@@ -30,7 +30,8 @@ pub enum PushFault {
 
 /// Rules that are lawful for one layout, in the order in which they were added, at most 262,144.
 ///
-/// Contracts see the layout and the list of the rules. No call but `push` takes memory.
+/// Contracts see the layout and the list of the rules. No call but `push` and `push_lawful` takes
+/// memory.
 #[derive(Debug, Drop)]
 pub struct RuleSet {
     layout: Layout,
@@ -61,7 +62,7 @@ impl RuleSet {
         }
     }
 
-    /// Adds the rule behind the others, if it is lawful for the layout.
+    /// Adds the rule after the others, if it is lawful for the layout.
     ///
     /// The set isn't full ([`RuleSet::is_full`]). It takes the memory for one more. `Rule` comes
     /// exactly where [`check_rule`] refuses the rule, with its fault, and `OutOfMemory` only for a
@@ -75,7 +76,25 @@ impl RuleSet {
         ensures err { OnErr result (self.new ≡ self.old) }
     {
         check_rule(&self.layout, &rule.tag(), rule.fields()).map_err(PushFault::Rule)?;
-        self.rules.push(rule).map_err(|_| PushFault::OutOfMemory)
+        match self.push_lawful(rule) {
+            Ok(()) => Ok(()),
+            Err(AllocError) => Err(PushFault::OutOfMemory),
+        }
+    }
+
+    /// Adds a rule after the others that the caller knows to be lawful for the layout.
+    ///
+    /// The set isn't full ([`RuleSet::is_full`]). It takes the memory for one more, and is refused
+    /// only where there is none. A refusal leaves the set as it was.
+    pub fn push_lawful(&mut self, rule: StoredRule) -> Result<(), AllocError>
+        requires room { length self.old.rules < max_rules }
+        requires lawful { rule_fault self.old.layout rule.tag rule.fields ≡ None }
+        ensures ok { OnOk result
+            (self.new ≡ record self.old { rules = self.old.rules ++ rule ∷ [] }) }
+        ensures err { OnErr result (self.new ≡ self.old) }
+    {
+        self.rules.push(rule)?;
+        Ok(())
     }
 
     /// Takes the rules from the place `len` on out again, so that a caller can add some rules or

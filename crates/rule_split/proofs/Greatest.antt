@@ -4,7 +4,7 @@ use Rattle.std.proofs.Common.{false, refl, sym, ◌∙◌, inl, inr, arith}
 use Rattle.std.specs.Prelude.{fold, max}
 use Rattle.std.proofs.lemmas.Bool.{cases_lt, eq-eqb, eqb-true, both_ways}
 use Rattle.std.proofs.lemmas.List.Sums.{fails_before_first, passes_at_first, position_or_len_is}
-use Rattle.rule_groups.specs.Groups.{greatest}
+use Rattle.rule_set.specs.Groups.{greatest}
 use Rattle.rule_split.specs.Divide.{greatest_place}
 
 -- the maximum is where it starts, or some number that is met

@@ -18,8 +18,9 @@ use Rattle.std.proofs.lemmas.List.Sorted.{IsPermutation-refl, IsPermutation-sym,
 use Rattle.std.proofs.lemmas.List.Sorted.{IsPermutation-append_left, IsPermutation-append_right}
 use Rattle.std.proofs.Math.Seq.{drop-cons}
 use Rattle.rule_set.specs.Rule.{RuleSetView}
-use Rattle.rule_groups.specs.Groups.{IsPartition}
-use Rattle.rule_groups.proofs.Deciding.{places_in, increasing_range, place_of_set}
+use Rattle.rule_set.specs.Groups.{IsPartition}
+use Rattle.rule_set.proofs.Offered.{places_in, place_of_set}
+use Rattle.list_lemmas.proofs.Counts.{increasing_range}
 use Rattle.trie_merge.specs.Levels.{IsGroup}
 use Rattle.rule_split.specs.Split.{can_split, capped, total, most_words, split_place, split_at, turn, turns}
 use Rattle.rule_split.specs.Split.{first_groups, groups_by, groups_of, words_of_group, max_groups}

@@ -5,7 +5,7 @@ use Rattle.std.proofs.lemmas.List.{length-map}
 use Rattle.std.proofs.lemmas.List.Sums.{sum_by-cons}
 use Rattle.std.proofs.lemmas.List.Elements.{All-head, All-tail}
 use Rattle.rule_set.specs.Rule.{RuleSetView}
-use Rattle.rule_groups.specs.Groups.{IsPartition}
+use Rattle.rule_set.specs.Groups.{IsPartition}
 use Rattle.trie_merge.specs.Levels.{levels_of, row_words}
 use Rattle.rule_split.specs.declared.counted.Counted.{Counted}
 use Rattle.rule_split.specs.declared.counted.Counted.TheVariants.{Fits, TooLarge}

@@ -7,7 +7,7 @@ use Rattle.field_defs.specs.Lawful.{IsLayout}
 use Rattle.rule_set.specs.Rule.{RuleView}
 use Rattle.rule_set.specs.Fault.{rule_fault}
 use Rattle.rule_set.specs.Lawful.{IsLawfulValue}
-use Rattle.rule_set.proofs.Lawful.{faultless_rules}
+use Rattle.rule_set.proofs.Offered.{faultless_rules}
 
 -- there is a lawful value for each field
 pub values_of_rule : (layout : List FieldDef) (rule : RuleView) → IsLayout layout →

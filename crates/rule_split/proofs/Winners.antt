@@ -1,5 +1,5 @@
 -- The winner of all rules is one of the groups' winners.
-use Rattle.rule_groups.proofs.Deciding.{groups_decide}
+use Rattle.rule_set.proofs.Offered.{groups_decide}
 use Rattle.rule_split.specs.Split.{groups_of}
 use Rattle.rule_split.specs.Laws.{TheWinnerHasTheGreatestRank}
 use Rattle.rule_split.proofs.Groups.{split_once}

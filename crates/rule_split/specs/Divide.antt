@@ -10,7 +10,7 @@ use Rattle.field_defs.specs.declared.field.FieldValue.TheVariants.{Mask}
 use Rattle.field_defs.specs.FieldMatch.{is_wild}
 use Rattle.field_defs.specs.LayoutFault.{def_at}
 use Rattle.rule_set.specs.Rule.{RuleSetView}
-use Rattle.rule_groups.specs.Groups.{greatest}
+use Rattle.rule_set.specs.Groups.{greatest}
 use Rattle.trie_merge.specs.RuleRest.{values_of}
 
 -- the rule of that number is wild in the field of that place

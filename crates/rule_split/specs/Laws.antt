@@ -5,8 +5,8 @@ use Rattle.rule_set.specs.Rule.{RuleSetView}
 use Rattle.rule_set.specs.Rank.{rank_of}
 use Rattle.rule_set.specs.Among.{winner_among}
 use Rattle.rule_set.specs.Winner.{winner}
-use Rattle.rule_groups.specs.Groups.{IsPartition, rank_or_none, greatest}
-use Rattle.rule_groups.specs.Laws.{winners_ranks}
+use Rattle.rule_set.specs.Groups.{IsPartition, rank_or_none, greatest}
+use Rattle.rule_set.specs.GroupLaws.{winners_ranks}
 use Rattle.trie_merge.specs.Levels.{IsGroup, LevelsView, row_words}
 use Rattle.rule_split.specs.Split.{groups_of, total_of, plan_of, max_groups}
 

@@ -7,7 +7,7 @@ use Rattle.std.specs.List.{position, range_with_len, sum_by}
 use Rattle.std.specs.Option.{option_map_or}
 use Rattle.std.proofs.Common.{zero, suc}
 use Rattle.rule_set.specs.Rule.{RuleSetView}
-use Rattle.rule_groups.specs.Groups.{greatest}
+use Rattle.rule_set.specs.Groups.{greatest}
 use Rattle.trie_merge.specs.Levels.{LevelsView, levels_of, row_words}
 use Rattle.rule_split.specs.Divide.{divided}
 

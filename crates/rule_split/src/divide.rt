@@ -2,7 +2,7 @@
 
 ghost use Rattle.std.specs.Prelude.{◌≡◌, ◌<◌, ◌≢◌, [], ◌∷◌, length, take, drop, All, IfOk};
 ghost use Rattle.trie_merge.specs.Levels.{IsGroup};
-ghost use Rattle.rule_groups.specs.Groups.{greatest};
+ghost use Rattle.rule_set.specs.Groups.{greatest};
 ghost use Rattle.rule_split.specs.Divide.{is_wild_in, wild_rules, bound_rules, smaller_side};
 ghost use Rattle.rule_split.specs.Divide.{smaller_sides, greatest_place, half_of, divided};
 

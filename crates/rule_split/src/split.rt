@@ -4,7 +4,7 @@ ghost use Rattle.std.specs.Prelude.{◌≡◌, ℕ, ◌+◌, ◌<◌, ◌≤◌,
 ghost use Rattle.std.specs.Prelude.{All, [], slice_index_or, Err, IfOk, OnOk};
 ghost use Rattle.std.specs.Option.{option_to_list};
 ghost use Rattle.std.specs.List.{filter_map, position, range_with_len, sum_by};
-ghost use Rattle.rule_groups.specs.Groups.{IsPartition};
+ghost use Rattle.rule_set.specs.Groups.{IsPartition};
 ghost use Rattle.trie_merge.specs.Levels.{max_cap, row_words};
 ghost use Rattle.rule_split.specs.declared.answer.PlanFault.TheVariants.{TooLarge};
 ghost use Rattle.rule_split.specs.Counted.{group_in, levels_in, words_counted, most_counted};

@@ -15,14 +15,13 @@ use Rattle.std.specs.List.Sorted.{IsStrictlyIncreasing}
 use Rattle.std.proofs.lemmas.List.Sorted.{Contains-permutation}
 use Rattle.field_defs.specs.declared.field.FieldDef.{FieldDef}
 use Rattle.field_defs.specs.Layout.{key_len_of}
-use Rattle.field_defs.proofs.Faultless.{short_keys}
+use Rattle.field_defs.proofs.Offered.{short_keys}
 use Rattle.rule_set.specs.Rule.{RuleView, RuleSetView}
 use Rattle.rule_set.specs.Winner.{rule_match, is_in_category, winner, userdata_at}
 use Rattle.rule_set.specs.Among.{passes_at, best_among, winner_among}
 use Rattle.rule_set.specs.Rank.{rank_of}
-use Rattle.rule_set.proofs.Among.{tests_in_turn}
-use Rattle.rule_groups.specs.Groups.{IsPartition, rank_or_none, greatest}
-use Rattle.rule_groups.proofs.Deciding.{groups_decide, places_in, place_of_group}
+use Rattle.rule_set.proofs.Offered.{tests_in_turn, groups_decide, places_in, place_of_group}
+use Rattle.rule_set.specs.Groups.{IsPartition, rank_or_none, greatest}
 use Rattle.trie_merge.specs.RuleRest.{values_of}
 use Rattle.trie_merge.specs.Follow.{matching, followed, IsAnswer}
 use Rattle.trie_merge.specs.Kept.{kept_places, kept_bits}

@@ -12,7 +12,8 @@ use Rattle.field_defs.specs.Lawful.{IsLayout}
 use Rattle.field_defs.specs.LayoutFault.{layout_fault, layout_faults, def_at, is_in_order, is_filled_group}
 use Rattle.field_defs.specs.declared.lawful.LayoutFault.TheVariants.{FirstNotOneByte, InputOrder, GroupSize}
 use Rattle.field_defs.specs.declared.lawful.LayoutFault.{LayoutFault}
-use Rattle.field_defs.proofs.Faultless.{none_at, passes_test, no_number, passes_each, short_keys}
+use Rattle.field_defs.proofs.Offered.{none_at, passes_test, passes_each, short_keys}
+use Rattle.list_lemmas.proofs.Options.{no_number}
 use Rattle.flat_table.specs.Groups.{is_key_len}
 
 -- the bytes of the fields of the groups below one

@@ -7,12 +7,12 @@ use Rattle.std.specs.Option.{option_map_or}
 use Rattle.std.proofs.lemmas.Bool.{cases_Bool}
 use Rattle.std.proofs.lemmas.List.Elements.{All-from_recursion}
 use Rattle.field_defs.specs.Layout.{key_len_of}
-use Rattle.field_defs.proofs.Faultless.{short_keys}
+use Rattle.field_defs.proofs.Offered.{short_keys}
 use Rattle.rule_set.specs.Rule.{RuleView, RuleSetView}
 use Rattle.rule_set.specs.Fault.{categories}
 use Rattle.rule_set.specs.Winner.{is_in_category}
 use Rattle.rule_set.specs.Among.{passes_at, best_among, is_greatest_at}
-use Rattle.rule_set.proofs.Among.{passes_there}
+use Rattle.rule_set.proofs.Offered.{passes_there}
 use Rattle.trie_merge.specs.State.{Held, state, is_live}
 use Rattle.trie_merge.specs.Found.{prefixes}
 use Rattle.trie_merge.specs.Kept.{kept_places}

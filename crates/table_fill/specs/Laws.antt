@@ -3,7 +3,7 @@ use Rattle.std.specs.Prelude.{ℕ, ◌+◌, ◌<◌, ◌≤◌, List, All, lengt
 use Rattle.field_defs.specs.Lawful.{IsLayout}
 use Rattle.rule_set.specs.Rule.{RuleView, RuleSetView}
 use Rattle.rule_set.specs.RuleSet.{IsRuleSet}
-use Rattle.rule_groups.specs.Groups.{IsPartition}
+use Rattle.rule_set.specs.Groups.{IsPartition}
 use Rattle.trie_merge.specs.Levels.{levels_of}
 use Rattle.flat_table.specs.Sound.{most_tries, most_words, row_len}
 use Rattle.flat_table.specs.Walk.{userdatas}

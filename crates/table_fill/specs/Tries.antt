@@ -5,7 +5,7 @@ use Rattle.std.specs.Prelude.{[], ◌∷◌, All, length, map, sum_by, slice_ind
 use Rattle.std.specs.Prelude.{if◌then◌else◌}
 use Rattle.field_defs.specs.Layout.{key_len_of}
 use Rattle.rule_set.specs.Rule.{RuleSetView}
-use Rattle.rule_groups.specs.Groups.{IsPartition}
+use Rattle.rule_set.specs.Groups.{IsPartition}
 use Rattle.trie_merge.specs.declared.run.Run.{Run}
 use Rattle.trie_merge.specs.declared.run.Succ.{Succ}
 use Rattle.trie_merge.specs.declared.run.Succ.TheVariants.{Dead, State, Row}

@@ -4,7 +4,7 @@ ghost use Rattle.std.specs.Prelude.{◌≡◌, ◌+◌, ◌*◌, ◌≤◌, leng
 ghost use Rattle.field_defs.specs.Layout.{key_len_of};
 ghost use Rattle.field_defs.specs.Lawful.{IsLayout};
 ghost use Rattle.rule_set.specs.RuleSet.{IsRuleSet};
-ghost use Rattle.rule_groups.specs.Groups.{IsPartition};
+ghost use Rattle.rule_set.specs.Groups.{IsPartition};
 ghost use Rattle.trie_merge.specs.Levels.{LevelsView, levels_of};
 ghost use Rattle.flat_table.specs.Sound.{most_tries, most_words, row_len};
 ghost use Rattle.table_fill.specs.Filled.{table_of_tries, filled};

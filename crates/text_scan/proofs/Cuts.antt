@@ -1,92 +1,56 @@
 -- Texts that are cut at the first separator.
-use Rattle.std.proofs.Common.{◌≡◌, ℕ, zero, suc, ◌+◌, ◌<◌, eqb, true, false, List, [], ◌∷◌, length, take, drop, map}
-use Rattle.std.proofs.Common.{Some, None, refl, ap, ◌∙◌, arith, inl, inr}
-use Rattle.std.proofs.lemmas.Bool.{cases_Bool, cond-false, ne_eqb, or_right, false_from_ne_true, and_parts, eq-eqb}
-use Rattle.std.proofs.lemmas.Bool.{not-true}
-use Rattle.std.proofs.lemmas.List.Sums.{position_or_len_is}
+use Rattle.std.proofs.Common.{◌≡◌, ℕ, suc, ◌+◌, ◌<◌, eqb, true, List, [], ◌∷◌, length, take, drop, map, Some, None}
+use Rattle.std.proofs.Common.{refl, ap, ◌∙◌, arith, get_or, ◌-◌, ◌++◌, ◌&&◌, not, Bool, sym, append_assoc, add-one}
+use Rattle.std.proofs.lemmas.Bool.{cond-false, ne_eqb, false_from_ne_true, and_parts, eq-eqb, not-true}
+use Rattle.std.proofs.lemmas.List.Sums.{position_or_len_is, AllPass-from_list_all}
 use Rattle.std.specs.Str.Lines.{strip_carriage_return}
-use Rattle.std.specs.List.{onto_first, list_any}
+use Rattle.std.specs.List.{list_all, position_or_len}
 use Rattle.memchr.specs.Find.{Nowhere, NoneBefore, Passes, is_byte}
 use Rattle.text_scan.specs.Parts.{carriage_return, line_feed, parts_of, cut_at, without_empty_end, lines_of}
-use Rattle.std.proofs.Common.{get_or, ◌-◌, ◌++◌, ◌&&◌, not, Bool, sym, append_assoc}
-use Rattle.std.proofs.Math.Seq.{take-append_seam, drop-append_seam}
-use Rattle.std.proofs.lemmas.List.{length_push}
-use Rattle.std.proofs.lemmas.List.Splits.{slice_split_at}
-use Rattle.std.proofs.lemmas.List.Sums.{AllPass-from_list_all}
-use Rattle.std.specs.List.{All, list_all, position_or_len}
+use Rattle.std.proofs.Math.Seq.{take-append_seam}
+use Rattle.std.proofs.lemmas.List.{length_push, drop_at, get_or_default}
+use Rattle.std.proofs.lemmas.List.Folds.{list_any_none, list_any_at}
+use Rattle.std.proofs.lemmas.List.Splits.{slice_split_at, slice_split_first}
+use Rattle.text_scan.proofs.Separators.{Lacks, parts_of_one, some_part}
+use Rattle.list_lemmas.proofs.Elements.{any-append, place-append}
 
--- a text without a separator is its only part
+-- a text in which no separator is found lacks it
+lacks : (separator : ℕ) (text : List ℕ) → Nowhere (Passes (is_byte separator) text) 0 (length text)
+    → Lacks separator text
+lacks separator text nowhere k d inside = false_from_ne_true _ (λ here. nowhere k (omega arith) inside
+    (ap (λ c. eqb c separator) (get_or_default text k 0 d inside) ∙ here))
+
+-- it is its only part, and isn't cut
 pub parts_of-whole : (separator : ℕ) (text : List ℕ) → Nowhere (Passes (is_byte separator) text) 0 (length text)
     → parts_of separator text ≡ text ∷ []
-parts_of-whole separator [] nowhere = refl
-parts_of-whole separator (b ∷ bs) nowhere =
-    elim (cases_Bool (eqb b separator)) [
-      | inl same ↦ absurd (nowhere 0 (omega arith) (omega arith) same)
-      | inr other ↦
-          let rest = parts_of-whole separator bs (λ k low high. nowhere (suc k) (omega arith) (omega arith)) in
-          rw other (ap (onto_first b) rest)
-    ]
-
--- the first part ends at the first separator
-pub parts_of-cut : (separator : ℕ) (text : List ℕ) (place : ℕ)
-    → NoneBefore (Passes (is_byte separator) text) 0 (length text) place → Passes (is_byte separator) text place
-    → parts_of separator text ≡ take place text ∷ parts_of separator (drop (suc place) text)
-parts_of-cut separator [] place first here = absurd (omega (arith, first.high))
-parts_of-cut separator (b ∷ bs) zero first here = rw here refl
-parts_of-cut separator (b ∷ bs) (suc place) first here =
-    let tail : NoneBefore (Passes (is_byte separator) bs) 0 (length bs) place = record {
-      low = omega arith;
-      high = omega (arith, first.high);
-      before = λ k low high. first.before (suc k) (omega arith) (omega arith);
-    } in
-    elim (cases_Bool (eqb b separator)) [
-      | inl same ↦ absurd (first.before 0 (omega arith) (omega arith) same)
-      | inr other ↦ rw other (ap (onto_first b) (parts_of-cut separator bs place tail here))
-    ]
-
--- a separator stands nowhere, and so no byte is one
-contains-none : (separator : ℕ) (text : List ℕ) → Nowhere (Passes (is_byte separator) text) 0 (length text)
-    → list_any (λ c. eqb c separator) text ≡ false
-contains-none separator [] nowhere = refl
-contains-none separator (b ∷ bs) nowhere =
-    elim (cases_Bool (eqb b separator)) [
-      | inl same ↦ absurd (nowhere 0 (omega arith) (omega arith) same)
-      | inr other ↦ rw other (contains-none separator bs (λ k low high. nowhere (suc k) (omega arith) (omega arith)))
-    ]
+parts_of-whole separator text nowhere = parts_of_one separator text (lacks separator text nowhere)
 
 pub cut_at-none : (separator : ℕ) (text : List ℕ) → Nowhere (Passes (is_byte separator) text) 0 (length text)
     → cut_at separator text ≡ None
-cut_at-none separator text nowhere = rw (contains-none separator text nowhere) refl
+cut_at-none separator text nowhere =
+    rw (list_any_none (λ c. eqb c separator) text (lacks separator text nowhere)) refl
 
-contains-some : (separator : ℕ) (text : List ℕ) (place : ℕ) → place < length text
-    → Passes (is_byte separator) text place → list_any (λ c. eqb c separator) text ≡ true
-contains-some separator [] place inside here = absurd (omega arith)
-contains-some separator (b ∷ bs) zero inside here = rw here refl
-contains-some separator (b ∷ bs) (suc place) inside here =
-    or_right (eqb b separator) _ (contains-some separator bs place (omega arith) here)
+-- the place that is found is that of the first separator
+place_is : (separator : ℕ) (text : List ℕ) (place : ℕ)
+    → NoneBefore (Passes (is_byte separator) text) 0 (length text) place → Passes (is_byte separator) text place
+    → position_or_len (λ c. eqb c separator) text ≡ place
+place_is separator text place first here =
+    position_or_len_is (λ c. eqb c separator) text place 0 (omega (arith, first.high))
+    (λ k below. false_from_ne_true _ (first.before k (omega arith) below)) (λ inside. here)
 
--- a text is cut at the first separator
+-- the first part ends there, and there a text is cut
+pub parts_of-cut : (separator : ℕ) (text : List ℕ) (place : ℕ)
+    → NoneBefore (Passes (is_byte separator) text) 0 (length text) place → Passes (is_byte separator) text place
+    → parts_of separator text ≡ take place text ∷ parts_of separator (drop (suc place) text)
+parts_of-cut separator text place first here =
+    let at = place_is separator text place first here in
+    slice_split_first (λ c. eqb c separator) text 0 (omega (arith, at, first.high)) ∙ rw (at, add-one) refl
+
 pub cut_at-some : (separator : ℕ) (text : List ℕ) (place : ℕ)
     → NoneBefore (Passes (is_byte separator) text) 0 (length text) place → Passes (is_byte separator) text place
     → cut_at separator text ≡ Some (take place text, drop (place + 1) text)
 cut_at-some separator text place first here =
-    let before = λ (k : ℕ) (below : k < place). false_from_ne_true _ (first.before k (omega arith) below) in
-    let at = position_or_len_is (λ c. eqb c separator) text place 0 (omega (arith, first.high)) before
-    (λ inside. here) in
-    rw (contains-some separator text place first.high here, at) refl
-
--- a text has a part
-pub parts_of-some : (separator : ℕ) (text : List ℕ) → 0 < length (parts_of separator text)
-parts_of-some separator [] = omega arith
-parts_of-some separator (b ∷ bs) =
-    elim (cases_Bool (eqb b separator)) [
-      | inl same ↦ rw same (omega arith)
-      | inr other ↦ rw other (length-onto_first b (parts_of separator bs))
-    ]
-  where
-    length-onto_first : (b : ℕ) (texts : List (List ℕ)) → 0 < length (onto_first b texts)
-    length-onto_first b [] = omega arith
-    length-onto_first b (text ∷ texts) = omega arith
+    rw (list_any_at (λ c. eqb c separator) text place 0 first.high here, place_is separator text place first here) refl
 
 -- a text with a byte and without LF is its only line
 pub lines_of-whole : (text : List ℕ) → 0 < length text → Nowhere (Passes (is_byte line_feed) text) 0 (length text)
@@ -108,20 +72,7 @@ lines_of-cut text place first here =
     let rest = drop (suc place) text in
     ap (λ parts. map strip_carriage_return (without_empty_end parts)) (parts_of-cut line_feed text place first here)
     ∙ ap (map strip_carriage_return)
-    (without_empty_end-more (take place text) (parts_of line_feed rest) (parts_of-some line_feed rest))
-
--- a separator stands in a text that has it
-any-append : (p : ℕ → Bool) (before rest : List ℕ) (c : ℕ) → p c ≡ true → list_any p (before ++ c ∷ rest) ≡ true
-any-append p [] rest c here = rw here refl
-any-append p (b ∷ before) rest c here = or_right (p b) _ (any-append p before rest c here)
-
--- and no place before it does, where the text before it lacks it
-place-append : (p : ℕ → Bool) (before rest : List ℕ) (c : ℕ) → list_all (λ b. not (p b)) before ≡ true → p c ≡ true
-    → position_or_len p (before ++ c ∷ rest) ≡ length before
-place-append p [] rest c lacks here = rw here refl
-place-append p (b ∷ before) rest c lacks here =
-    let parts = and_parts (not (p b)) _ lacks in
-    rw parts.0 (omega (arith, place-append p before rest c parts.1 here))
+    (without_empty_end-more (take place text) (parts_of line_feed rest) (some_part line_feed rest))
 
 -- a text is cut where its first separator was put
 pub cut_at-append : (separator : ℕ) (before rest : List ℕ) → list_all (λ b. not (eqb b separator)) before ≡ true
@@ -131,18 +82,16 @@ cut_at-append separator before rest lacks =
     let here : is_it separator ≡ true = eq-eqb separator separator refl in
     let place = place-append is_it before rest separator lacks here in
     let first = take-append_seam before (separator ∷ rest) in
-    let longer : length before + 1 ≡ length (before ++ separator ∷ []) = sym (length_push before separator) in
     let second : drop (length before + 1) (before ++ separator ∷ rest) ≡ rest =
-    ap (λ n. drop n (before ++ separator ∷ rest)) longer
-    ∙ ap (drop (length (before ++ separator ∷ []))) (sym (append_assoc before (separator ∷ []) rest))
-    ∙ drop-append_seam (before ++ separator ∷ []) rest in
+    ap (drop (length before + 1)) (sym (append_assoc before (separator ∷ []) rest))
+    ∙ drop_at (before ++ separator ∷ []) rest (length before + 1) (length_push before separator) in
     rw (any-append is_it before rest separator here, place, first, second) refl
 
 -- bytes that end no line
 abbrev pub ends_no_line : ℕ → Bool
 ends_no_line c = not (eqb c line_feed) && not (eqb c carriage_return)
 
-lacks_line_feed : (text : List ℕ) → list_all ends_no_line text ≡ true → All (λ c. eqb c line_feed ≡ false) text
+lacks_line_feed : (text : List ℕ) → list_all ends_no_line text ≡ true → Lacks line_feed text
 lacks_line_feed text plain = λ k d inside.
     not-true _ (and_parts _ _ (AllPass-from_list_all ends_no_line text plain k d inside)).0
 

@@ -1,13 +1,12 @@
 -- The text of an IPv6 address, read part by part.
-use Rattle.std.proofs.Common.{◌≡◌, ℕ, zero, suc, ◌+◌, ◌-◌, ◌*◌, ◌^◌, ◌<◌, ◌≤◌, Bool, true, false, ◌&&◌, cond, eqb}
-use Rattle.std.proofs.Common.{nat_le, List, [], ◌∷◌, ◌++◌, length, take, get_or, Some, None, refl, sym, ap, ◌∙◌, arith}
-use Rattle.std.proofs.Common.{inl, inr, zero-add, length-append}
-use Rattle.std.proofs.Math.Nat.{pow-le-pow_right}
+use Rattle.std.proofs.Common.{◌≡◌, ℕ, zero, suc, ◌+◌, ◌-◌, ◌*◌, ◌^◌, ◌<◌, ◌≤◌, true, false, ◌&&◌, cond, eqb, nat_le}
+use Rattle.std.proofs.Common.{List, [], ◌∷◌, ◌++◌, length, take, get_or, Some, None, refl, sym, ap, ◌∙◌, arith, inl}
+use Rattle.std.proofs.Common.{inr, zero-add, length-append}
 use Rattle.std.proofs.lemmas.Bool.{and_left, and_right, and_from, and_parts, cond-true, cond-false, cases_Bool}
 use Rattle.std.proofs.lemmas.Bool.{cond_both, or_left, and_cases, lt-leb, leb-false, le-leb}
 use Rattle.std.proofs.lemmas.Grind.{flat_map-append}
 use Rattle.std.proofs.lemmas.List.{take_more, length_push, take_at, append-nil}
-use Rattle.std.proofs.lemmas.List.Folds.{list_all-append, list_all_more}
+use Rattle.std.proofs.lemmas.List.Folds.{list_all-append}
 use Rattle.std.proofs.lemmas.List.Sums.{fold-append}
 use Rattle.std.specs.List.{list_all}
 use Rattle.text_scan.specs.declared.pieces.Pieces.{Pieces}
@@ -19,13 +18,7 @@ use Rattle.text_scan.specs.Ip6.{has_gap, groups_before, groups_behind, is_shorte
 use Rattle.text_scan.specs.Pieces.{with_pieces, pieces_from}
 use Rattle.text_scan.proofs.Powers.{joined-filled}
 use Rattle.text_scan.proofs.Separators.{Lacks-digits, parts_of_one}
-
--- one part on
-pub list_all_next : (p : List ℕ → Bool) (parts : List (List ℕ)) (n : ℕ) (part : List ℕ)
-    → (n < length parts) × (part ≡ get_or parts n part) → list_all p (take n parts) ≡ true → p part ≡ true
-    → list_all p (take (n + 1) parts) ≡ true
-list_all_next p parts n part at before here =
-    list_all_more p parts n part at.0 ∙ and_from (list_all p (take n parts)) _ before (ap p (sym at.1) ∙ here)
+use Rattle.list_lemmas.proofs.Tests.{and_true}
 
 -- a group is no IPv4 address: it has no dot
 pub group_no_ip4 : (part : List ℕ) → is_ip6_group part ≡ true → is_ip4 part ≡ false
@@ -76,11 +69,6 @@ with_pieces-append before xs ys =
     let value = sym (fold-append (λ n x. n * 65536 + x) before.value xs ys) in
     λ i. record { count = count i; value = value i }
 
--- fewer than eight pieces spell one of 112 bits
-pub seven_pieces : (value count : ℕ) → value < 65536 ^ count → count < 8 → value < 2 ^ 112
-seven_pieces value count before few =
-    omega (arith, pow-le-pow_right {n = 65536} (omega arith) {i = count} {j = 7} (omega arith))
-
 -- the number of a group behind those of the groups before it
 pub pieces_next : (parts : List (List ℕ)) (n number : ℕ) (part : List ℕ) (pieces : Pieces)
     → (n < length parts) × (part ≡ get_or parts n part) → is_ip6_group part ≡ true → number ≡ place_value 16 part
@@ -99,10 +87,6 @@ groups_are_ends [] all = refl
 groups_are_ends (group ∷ groups) all =
     let parts = and_parts (is_ip6_group group) (are_groups groups) all in
     and_from (is_ip6_end group) _ (or_left (is_ip6_group group) (is_ip4 group) parts.0) (groups_are_ends groups parts.1)
-
-and_true : (test : Bool) → (test && true) ≡ test
-and_true true = refl
-and_true false = refl
 
 -- groups and a last part that may be an IPv4 address
 pub are_last_groups_push : (front : List (List ℕ)) (last : List ℕ)

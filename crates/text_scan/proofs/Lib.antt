@@ -1,16 +1,14 @@
-pub mod PlaceValues
-pub mod DigitTexts
-pub mod Forms
-pub mod AddressBytes
-pub mod Cuts
-pub mod Gaps
-pub mod Guards
-pub mod Ip6Texts
-pub mod Joins
-pub mod Numerals
-pub mod Separators
-pub mod Powers
-pub mod ReadBack
-pub mod Spellings
-pub mod Words
-pub mod Writes
+pub mod Offered
+mod AddressBytes
+mod Cuts
+mod Forms
+mod Gaps
+mod Ip6Texts
+mod Numerals
+mod PlaceValues
+mod Powers
+mod ReadBack
+mod Separators
+mod Spellings
+mod Words
+mod Writes

@@ -20,17 +20,13 @@ place_value-append base (c ∷ cs) ds =
     ap (λ n. base ^ n) (length-append cs ds) ∙ pow-add base (length cs) (length ds) in
     rw (powers, place_value-append base cs ds) (omega arith)
 
--- one digit more moves the others up by one power
-pub place_value_push : (base : ℕ) (cs : List ℕ) (c : ℕ)
-    → place_value base (cs ++ c ∷ []) ≡ place_value base cs * base + digit_value c
-place_value_push base cs c =
-    rw (place_value-append base cs (c ∷ []), pow-suc base 0, pow-zero base) (omega arith)
-
 -- a front of the digits, one digit on
 pub place_value_more : (base : ℕ) (cs : List ℕ) (i : ℕ) → i < length cs
     → place_value base (take (i + 1) cs) ≡ place_value base (take i cs) * base + digit_value (get_or cs i 0)
-place_value_more base cs i lt = ap (place_value base) (take_more cs i 0 lt)
-    ∙ place_value_push base (take i cs) (get_or cs i 0)
+place_value_more base cs i lt =
+    let c = get_or cs i 0 in
+    ap (place_value base) (take_more cs i 0 lt) ∙ place_value-append base (take i cs) (c ∷ [])
+    ∙ rw (pow-suc base 0, pow-zero base) (omega arith)
 
 -- a front of the digits spells no more than all of them
 pub place_value-take_le : (base : ℕ) (cs : List ℕ) (i : ℕ) → 1 ≤ base

@@ -1,12 +1,12 @@
 -- Texts taken apart word by word.
 use Rattle.std.proofs.Common.{◌≡◌, ℕ, suc, ◌<◌, Bool, true, false, not, eqb, List, [], ◌∷◌, ◌++◌, length, take, drop}
-use Rattle.std.proofs.Common.{refl, sym}
-use Rattle.std.proofs.Common.{ap, ◌∙◌, arith, inl, inr}
+use Rattle.std.proofs.Common.{refl, sym, ap, ◌∙◌, arith, inl, inr}
 use Rattle.std.proofs.Math.Seq.{take-append_seam, drop-append_seam}
 use Rattle.std.specs.Prelude.{filter}
 use Rattle.std.specs.List.{list_all, prefix_len, slice_split}
 use Rattle.std.proofs.lemmas.Bool.{cases_Bool, ne_eqb, and_parts, not-true}
 use Rattle.std.proofs.lemmas.List.Folds.{length-prefix_len}
+use Rattle.list_lemmas.proofs.Elements.{prefix_len-whole}
 use Rattle.text_scan.specs.Parts.{is_blank, after_blanks, first_word, after_word, words_of}
 
 -- a part that has a byte
@@ -104,17 +104,14 @@ abbrev pub EndsWord : List ℕ → Type 0
 EndsWord [] = Unit {0}
 EndsWord (c ∷ cs) = is_blank c ≡ true
 
-word_len : (word rest : List ℕ) → IsWord word → EndsWord rest
-    → prefix_len (λ c. not (is_blank c)) (word ++ rest) ≡ length word
-word_len [] [] is ends = refl
-word_len [] (c ∷ rest) is ends = rw ends refl
-word_len (d ∷ word) rest is ends =
-    let parts = and_parts (not (is_blank d)) _ is in
-    rw parts.0 (omega (arith, word_len word rest parts.1 ends))
+no_word : (rest : List ℕ) → EndsWord rest → prefix_len (λ c. not (is_blank c)) rest ≡ 0
+no_word [] ends = refl
+no_word (c ∷ rest) ends = rw ends refl
 
 -- the first word, and what follows it
 pub first_word-append : (word rest : List ℕ) → IsWord word → EndsWord rest → first_word (word ++ rest) ≡ word
-first_word-append word rest is ends = ap (λ n. take n (word ++ rest)) (word_len word rest is ends)
+first_word-append word rest is ends =
+    ap (λ n. take n (word ++ rest)) (prefix_len-whole (λ c. not (is_blank c)) word rest is (no_word rest ends))
     ∙ take-append_seam word rest
 
 pub after_word-append : (word rest : List ℕ) → IsWord word → EndsWord rest → after_word (word ++ rest) ≡ rest

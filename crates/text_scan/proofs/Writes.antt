@@ -1,20 +1,14 @@
 -- A text that is written piece by piece at the beginning of a buffer.
-use Rattle.std.proofs.Common.{◌≡◌, ℕ, ◌+◌, ◌-◌, ◌<◌, ◌≤◌, List, [], ◌∷◌, ◌++◌, length, take, drop, slice_set, refl, sym}
-use Rattle.std.proofs.Common.{ap, ◌∙◌, arith, length-append}
-use Rattle.std.proofs.lemmas.List.{drop-drop, drop-set-lt, take_more_set}
+use Rattle.std.proofs.Common.{◌≡◌, ℕ, ◌+◌, ◌<◌, List, [], ◌∷◌, ◌++◌, length, take, drop, slice_set, refl, sym, ap, ◌∙◌}
+use Rattle.std.proofs.Common.{arith, length-append}
+use Rattle.std.proofs.lemmas.List.{drop-set-lt, take_more_set}
+use Rattle.list_lemmas.proofs.Parts.{drop_later}
 
 -- the buffer holds the text, and behind it what it held at the start
 pub record Holds (buffer start text : List ℕ) (len : ℕ) : Type 0 where
   pub counted : len ≡ length text
   pub shown : take len buffer ≡ text
   pub kept : drop len buffer ≡ drop len start
-
--- what is equal from a place on is so from any later place on
-drop_later : (xs ys : List ℕ) (n m : ℕ) → drop n xs ≡ drop n ys → n ≤ m → drop m xs ≡ drop m ys
-drop_later xs ys n m same later =
-    let whole : n + (m - n) ≡ m = omega arith in
-    ap (λ k. drop k xs) (sym whole) ∙ sym (drop-drop (m - n) n xs) ∙ ap (drop (m - n)) same ∙ drop-drop (m - n) n ys
-    ∙ ap (λ k. drop k ys) whole
 
 -- a piece behind the text
 pub Holds_piece : (buffer start text piece after : List ℕ) (len next : ℕ) → Holds buffer start text len

@@ -11,7 +11,7 @@ use Rattle.std.proofs.lemmas.List.Elements.{filter-append}
 use Rattle.std.proofs.lemmas.List.Sums.{sum_by-cons}
 use Rattle.node_expand.specs.declared.edge.Edge.{Edge}
 use Rattle.node_expand.specs.Edges.{edge_step}
-use Rattle.node_expand.proofs.Changes.{cuts_are_changes}
+use Rattle.node_expand.proofs.Offered.{cuts_are_changes}
 use Rattle.rule_set.specs.Rule.{RuleSetView}
 use Rattle.trie_merge.specs.declared.run.Run.{Run}
 use Rattle.trie_merge.specs.State.{is_live}

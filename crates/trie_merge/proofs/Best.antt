@@ -18,7 +18,8 @@ use Rattle.trie_merge.specs.Row.{is_better, winner_of, row_of}
 use Rattle.trie_merge.proofs.Categories.{length-categories, category_at}
 use Rattle.rule_set.specs.Winner.{is_in_category}
 use Rattle.rule_set.specs.Among.{passes_at, priority_at, is_greatest_at, best_among}
-use Rattle.rule_set.proofs.Find.{find-append_some, find-append_none, find_agree, list_all_weaker}
+use Rattle.list_lemmas.proofs.First.{find-append_some, find-append_none, find_agree}
+use Rattle.list_lemmas.proofs.Elements.{list_all_weaker}
 
 le_refl : (a : ℤ) → le_z a a ≡ true
 le_refl a = grind (arith, ints)

@@ -10,7 +10,7 @@ use Rattle.std.proofs.lemmas.List.Elements.{recursion_from_All}
 use Rattle.std.proofs.lemmas.List.{take_more, take_all, length-take-le, length-drop, append-nil, append_assoc}
 use Rattle.std.proofs.lemmas.List.{take-append-drop, length-map}
 use Rattle.field_defs.specs.Layout.{key_len_of}
-use Rattle.field_defs.proofs.Faultless.{short_keys}
+use Rattle.field_defs.proofs.Offered.{short_keys}
 use Rattle.rule_set.specs.Rule.{RuleSetView}
 use Rattle.rule_set.specs.Winner.{rule_match}
 use Rattle.rule_set.specs.Fault.{categories}

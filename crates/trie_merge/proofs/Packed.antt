@@ -22,11 +22,9 @@ use Rattle.node_expand.specs.declared.edge.Edge.{Edge}
 use Rattle.node_expand.specs.declared.edge.Edge.TheVariants.{Free}
 use Rattle.node_expand.specs.Rest.{Rest, Live, live_where, rest_after, rest_step}
 use Rattle.node_expand.specs.Edges.{edge_of, rest_of, edge_after, edge_step, StandsBefore}
-use Rattle.node_expand.proofs.Ranges.{rest_whole}
-use Rattle.node_expand.proofs.Steps.{rest_steps}
-use Rattle.node_expand.proofs.Standing.{range_start, mask_start, bitmask_start, step_form, starts}
-use Rattle.node_expand.proofs.EdgeRests.{edges_say, edges_are_one}
-use Rattle.node_expand.proofs.Free.{wild_stays_free}
+use Rattle.node_expand.proofs.Offered.{rest_whole, rest_steps}
+use Rattle.node_expand.proofs.Offered.{range_start, mask_start, bitmask_start, step_form, starts}
+use Rattle.node_expand.proofs.Offered.{edges_say, edges_are_one, wild_stays_free}
 use Rattle.trie_merge.specs.RuleRest.{values_rest}
 use Rattle.trie_merge.specs.Entry.{FieldPlace, field_at}
 use Rattle.trie_merge.specs.Kept.{is_wild_at}

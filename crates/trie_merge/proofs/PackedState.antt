@@ -19,12 +19,12 @@ use Rattle.field_defs.specs.Layout.{key_len_of}
 use Rattle.rule_set.specs.Rule.{RuleView, RuleSetView}
 use Rattle.rule_set.specs.RuleSet.{IsRuleSet}
 use Rattle.rule_set.specs.Lawful.{IsLawfulValue}
-use Rattle.rule_set.proofs.Lawful.{faultless_rules}
+use Rattle.rule_set.proofs.Offered.{faultless_rules}
 use Rattle.node_expand.specs.declared.edge.Edge.{Edge}
 use Rattle.node_expand.specs.declared.edge.Edge.TheVariants.{Free, Low, High, Both}
 use Rattle.node_expand.specs.Rest.{Rest, same_rest}
 use Rattle.node_expand.specs.Edges.{edge_step, StandsBefore}
-use Rattle.node_expand.proofs.Compared.{rests_compared}
+use Rattle.node_expand.proofs.Offered.{rests_compared}
 use Rattle.trie_merge.specs.RuleRest.{values_of, values_rest, rule_rest}
 use Rattle.trie_merge.specs.State.{Held, state, same_state, is_live}
 use Rattle.trie_merge.specs.Kept.{is_wild_at, is_wild_place}

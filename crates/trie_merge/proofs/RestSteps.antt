@@ -16,8 +16,7 @@ use Rattle.field_defs.specs.Layout.{key_len_of}
 use Rattle.rule_set.specs.Rule.{RuleSetView}
 use Rattle.rule_set.specs.Lawful.{IsLawfulValue}
 use Rattle.node_expand.specs.Rest.{Rest, live_where, rest_after, rest_step}
-use Rattle.node_expand.proofs.Ranges.{rest_whole}
-use Rattle.node_expand.proofs.Steps.{rest_steps}
+use Rattle.node_expand.proofs.Offered.{rest_whole, rest_steps}
 use Rattle.trie_merge.specs.RuleRest.{values_rest, values_step, values_of, rule_rest, rule_step}
 use Rattle.trie_merge.specs.State.{Held, state, state_step, state_through}
 use Rattle.trie_merge.proofs.Packed.{AreBytes, number_push}

@@ -12,7 +12,7 @@ use Rattle.byte_numbers.specs.Number.{number_of}
 use Rattle.field_defs.specs.declared.field.FieldDef.{FieldDef}
 use Rattle.field_defs.specs.FieldMatch.{field_match}
 use Rattle.field_defs.specs.Layout.{key_len_of}
-use Rattle.field_defs.proofs.Faultless.{short_keys}
+use Rattle.field_defs.proofs.Offered.{short_keys}
 use Rattle.rule_set.specs.Rule.{RuleSetView}
 use Rattle.rule_set.specs.Winner.{rule_match}
 use Rattle.node_expand.specs.Rest.{Live}

@@ -12,7 +12,7 @@ use Rattle.std.proofs.lemmas.List.Elements.{recursion_from_All, All-from_recursi
 use Rattle.node_expand.specs.declared.edge.Edge.{Edge}
 use Rattle.node_expand.specs.declared.edge.Edge.TheVariants.{Free, Low, High, Both}
 use Rattle.node_expand.specs.Edges.{edge_step}
-use Rattle.node_expand.proofs.Changes.{cuts_are_changes}
+use Rattle.node_expand.proofs.Offered.{cuts_are_changes}
 use Rattle.trie_merge.specs.Entry.{ColumnView, number_in, entry_of, edge_before, value_in, entry_step, entries_step}
 use Rattle.trie_merge.specs.Entry.{is_entry_cut}
 use Rattle.trie_merge.specs.Lists.{interval_at}

@@ -13,7 +13,7 @@ use Rattle.field_defs.specs.Lawful.{IsLayout}
 use Rattle.rule_set.specs.Lawful.{IsLawfulValue}
 use Rattle.rule_set.specs.Rule.{RuleView}
 use Rattle.rule_set.specs.Fault.{rule_fault}
-use Rattle.rule_set.proofs.Lawful.{faultless_rules}
+use Rattle.rule_set.proofs.Offered.{faultless_rules}
 use Rattle.trie_merge.specs.Kept.{is_wild_at}
 use Rattle.trie_merge.specs.Entry.{FieldPlace, field_at}
 use Rattle.trie_merge.proofs.Packed.{field_at_in, field_at_behind, further_value}

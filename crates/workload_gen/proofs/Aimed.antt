@@ -14,7 +14,7 @@ use Rattle.field_defs.specs.Layout.{ip4_fields}
 use Rattle.rule_set.specs.Rule.{RuleView}
 use Rattle.rule_set.specs.Lawful.{IsLawfulValue}
 use Rattle.rule_set.specs.Winner.{rule_match}
-use Rattle.rule_set.proofs.Lawful.{faultless_rules}
+use Rattle.rule_set.proofs.Offered.{faultless_rules}
 use Rattle.workload_gen.specs.Laws.{AimedPacketsMatch}
 use Rattle.workload_gen.specs.Packet.{aimed_packet, first_number, packet_key}
 use Rattle.workload_gen.specs.Rule.{last_port}

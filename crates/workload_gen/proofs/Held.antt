@@ -9,7 +9,7 @@ use Rattle.field_defs.specs.Layout.{ip4_fields}
 use Rattle.rule_set.specs.Fault.{rule_fault}
 use Rattle.rule_set.specs.Lawful.{IsLawfulValue}
 use Rattle.rule_set.specs.Rule.{RuleView}
-use Rattle.rule_set.proofs.Lawful.{faultless_rules}
+use Rattle.rule_set.proofs.Offered.{faultless_rules}
 use Rattle.workload_gen.specs.Packet.{first_number}
 use Rattle.workload_gen.proofs.Lawful.{ip4_is_layout}
 

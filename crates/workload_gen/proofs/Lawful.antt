@@ -16,8 +16,7 @@ use Rattle.field_defs.specs.Layout.{ip4_fields}
 use Rattle.field_defs.specs.Lawful.{IsLayout}
 use Rattle.rule_set.specs.Fault.{rule_fault}
 use Rattle.rule_set.specs.Lawful.{IsLawfulTag, IsLawfulValue}
-use Rattle.rule_set.proofs.CategoryBits.{some_category}
-use Rattle.rule_set.proofs.Lawful.{faultless_rules}
+use Rattle.rule_set.proofs.Offered.{some_category, faultless_rules}
 use Rattle.workload_gen.specs.Rule.{address, category_masks, protocol_value, source_value, destination_value}
 use Rattle.workload_gen.specs.Rule.{choice, destination_bits, destination_ports, first_user_port, last_port}
 use Rattle.workload_gen.specs.Rule.{ports_behind, rule_of, source_bits}

@@ -5,6 +5,8 @@ use Rattle.field_defs.specs.declared.field.FieldValue.{FieldValue}
 use Rattle.field_defs.specs.declared.field.FieldValue.TheVariants.{Mask, Range, Bitmask}
 use Rattle.rule_set.specs.declared.rule.RuleTag.{RuleTag}
 use Rattle.rule_set.specs.Rule.{RuleView}
+use Rattle.workload_gen.specs.declared.rule.TheConstants.{LAST_PORT, FIRST_USER_PORT, PORTS_BEHIND}
+use Rattle.workload_gen.specs.declared.rule.TheConstants.{PRIORITIES, CATEGORY_MASKS}
 
 -- the protocol number of TCP (IANA)
 abbrev pub tcp : ℕ
@@ -24,15 +26,15 @@ network = 0x0A000000
 
 -- the greatest port
 abbrev pub last_port : ℕ
-last_port = 65535
+last_port = LAST_PORT
 
 -- the first port that a program without special rights may use
 abbrev pub first_user_port : ℕ
-first_user_port = 1024
+first_user_port = FIRST_USER_PORT
 
 -- how many ports a range has behind its first one, at most
 abbrev pub ports_behind : ℕ
-ports_behind = 100
+ports_behind = PORTS_BEHIND
 
 -- how many bits of a source decide
 abbrev pub source_bits : List ℕ
@@ -44,11 +46,11 @@ destination_bits = 0 ∷ 16 ∷ 24 ∷ 32 ∷ []
 
 -- how many priorities a workload has
 abbrev pub priorities : ℕ
-priorities = 1000
+priorities = PRIORITIES
 
 -- how many masks name some of 16 categories
 abbrev pub category_masks : ℕ
-category_masks = 65535
+category_masks = CATEGORY_MASKS
 
 -- an address of the network, by the low 24 bits of a word
 abbrev pub address : ℕ → ℕ

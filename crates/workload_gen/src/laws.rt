@@ -8,6 +8,7 @@ pub fn keys_come_one_by_one()
 {}
 
 /// A packet that is aimed at a rule matches it.
+#[tactic(auto, using(crate::proofs::Aimed::aimed_packets_match))]
 pub fn aimed_packets_match()
     ensures { AimedPacketsMatch }
 {}

@@ -9,7 +9,7 @@ use crate::packet::{KEY_LEN, Packet};
 use crate::rule::rule;
 use field_defs::ip4_layout;
 use rand_pcg::Lcg64Xsh32;
-use rule_set::{PushFault, RuleSet, StoredRule};
+use rule_set::{RuleSet, StoredRule};
 use std::alloc::{AllocError, Global};
 use std::marker::Model;
 
@@ -47,11 +47,7 @@ pub fn make_rules(alloc: Global, seed: u64, count: u32) -> Result<Workload, Allo
     let mut rules = RuleSet::new(alloc, ip4_layout());
     for place in 0..count {
         let drawn = rule(alloc, place + 1, draw(&mut generator))?;
-        match rules.push(drawn) {
-            Ok(()) => {}
-            Err(PushFault::OutOfMemory) => return Err(AllocError),
-            Err(PushFault::Rule(_)) => unreachable!(),
-        }
+        rules.push_lawful(drawn)?;
     }
     Ok(Workload { rules, generator })
 }

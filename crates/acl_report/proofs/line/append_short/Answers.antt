@@ -1,7 +1,7 @@
 -- A number of 32 bits has at most 10 digits.
 use Rattle.std.proofs.Common.{◌+◌, ◌∙◌, ap, arith, length, decimal}
-use Rattle.acl_report.proofs.Digits.{short_digits}
 use Rattle.acl_report.proofs.line.append_short.Goals as goal
+use Rattle.list_lemmas.proofs.Digits.{short_digits}
 
 pub append_digits-requires : goal.append_digits-requires
 append_digits-requires c =

@@ -1,6 +1,6 @@
 -- A number between two powers of ten has as many digits as the greater one has zeros.
-use Rattle.acl_report.proofs.Digits.{digits_between}
 use Rattle.acl_report.proofs.line.digits_in.Goals as goal
+use Rattle.list_lemmas.proofs.Digits.{digits_between}
 
 pub returns : goal.returns
 returns c =

@@ -1,4 +1,5 @@
 use Rattle.std.proofs.Common.{◌≡◌, Err, inl, inr, sym, ap, ◌∙◌, ⊎_elim, rules}
+use Rattle.std.proofs.lemmas.Bool.{ltb-false}
 use Rattle.classbench_reader.proofs.FileLines.{IsNextLine, IsReadUpTo-none, IsReadUpTo-more, told_fault, met_fault}
 use Rattle.classbench_reader.proofs.FileLines.{rule_file-all, has_room}
 use Rattle.classbench_reader.proofs.rule_file.read_rules.Goals as goal
@@ -13,7 +14,7 @@ pub returns-in_err-add_line-clause-line : goal.returns-in_err-add_line-clause-li
 returns-in_err-add_line-clause-line c = λ fault told.
     let next : IsNextLine c.args.bytes.now c.loop-line.file c.loop-line.number c.loop-line.ordinal c.loop-line.left.now
     c.in-Some.line.now c.in-Some.rest.now = record {
-      short = c.if-bytes-gt-MAX_RULE_FILE.false;
+      short = ltb-false _ _ (sym c.is_too_long.ensures ∙ c.if-is_too_long.false);
       read = c.loop-line.invariant;
       cut = c.in-Some.ensures.lines;
       shorter = c.in-Some.ensures.shorter;
@@ -27,7 +28,7 @@ pub returns-in_err-add_line-clause-refused : goal.returns-in_err-add_line-clause
 returns-in_err-add_line-clause-refused c = λ fault is.
     let next : IsNextLine c.args.bytes.now c.loop-line.file c.loop-line.number c.loop-line.ordinal c.loop-line.left.now
     c.in-Some.line.now c.in-Some.rest.now = record {
-      short = c.if-bytes-gt-MAX_RULE_FILE.false;
+      short = ltb-false _ _ (sym c.is_too_long.ensures ∙ c.if-is_too_long.false);
       read = c.loop-line.invariant;
       cut = c.in-Some.ensures.lines;
       shorter = c.in-Some.ensures.shorter;
@@ -42,7 +43,7 @@ pub loop-line-preserved-in_ok-add_line : goal.loop-line-preserved-in_ok-add_line
 loop-line-preserved-in_ok-add_line c =
     let next : IsNextLine c.args.bytes.now c.loop-line.file c.loop-line.number c.loop-line.ordinal c.loop-line.left.now
     c.in-Some.line.now c.in-Some.rest.now = record {
-      short = c.if-bytes-gt-MAX_RULE_FILE.false;
+      short = ltb-false _ _ (sym c.is_too_long.ensures ∙ c.if-is_too_long.false);
       read = c.loop-line.invariant;
       cut = c.in-Some.ensures.lines;
       shorter = c.in-Some.ensures.shorter;
@@ -52,10 +53,11 @@ loop-line-preserved-in_ok-add_line c =
 
 pub returns-clause-rules : goal.returns-clause-rules
 returns-clause-rules c =
-    rule_file-all _ _ _ _ _ c.if-bytes-gt-MAX_RULE_FILE.false c.loop-line.invariant c.in_default.ensures.lines
+    let short = ltb-false _ _ (sym c.is_too_long.ensures ∙ c.if-is_too_long.false) in
+    rule_file-all _ _ _ _ _ short c.loop-line.invariant c.in_default.ensures.lines
 
 pub returns-clause-refused : goal.returns-clause-refused
 returns-clause-refused c = λ fault refused.
-    let held = rule_file-all _ _ _ _ _ c.if-bytes-gt-MAX_RULE_FILE.false c.loop-line.invariant
-    c.in_default.ensures.lines in
+    let short = ltb-false _ _ (sym c.is_too_long.ensures ∙ c.if-is_too_long.false) in
+    let held = rule_file-all _ _ _ _ _ short c.loop-line.invariant c.in_default.ensures.lines in
     absurd (let rules = held.rules in cc)

@@ -5,8 +5,9 @@ use Rattle.header_extract.specs.declared.class.Class.TheVariants.{Ip4, Short}
 use Rattle.header_extract.specs.Class.{or_short}
 use Rattle.header_extract.specs.Ip4.{protocol_of, ip4_ports}
 use Rattle.header_extract.proofs.Ip4Packets.{HasHeader, ip4_class-key, ip4_class-cut}
-use Rattle.header_extract.proofs.Keys.{take-both, Extracts-written}
+use Rattle.header_extract.proofs.Keys.{Extracts-written}
 use Rattle.header_extract.proofs.ip4.extract_ip4.Goals as goal
+use Rattle.list_lemmas.proofs.Parts.{take-both}
 
 pub returns-in-Some : goal.returns-in-Some
 returns-in-Some c =

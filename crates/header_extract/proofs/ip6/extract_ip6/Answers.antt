@@ -4,8 +4,9 @@ use Rattle.header_extract.specs.declared.class.Class.TheVariants.{Ip6, Short}
 use Rattle.header_extract.specs.Class.{or_short}
 use Rattle.header_extract.specs.Ip6.{upper_of}
 use Rattle.header_extract.proofs.Ip6Packets.{ip6_class-key, ip6_class-cut}
-use Rattle.header_extract.proofs.Keys.{take-both, Extracts-written}
+use Rattle.header_extract.proofs.Keys.{Extracts-written}
 use Rattle.header_extract.proofs.ip6.extract_ip6.Goals as goal
+use Rattle.list_lemmas.proofs.Parts.{take-both}
 
 pub returns-in-Some : goal.returns-in-Some
 returns-in-Some c =

@@ -3,7 +3,8 @@ use Rattle.std.proofs.lemmas.List.{take_rest}
 use Rattle.header_extract.specs.declared.class.Class.TheVariants.{Short}
 use Rattle.header_extract.specs.Class.{or_short}
 use Rattle.header_extract.specs.Ip6.{upper_of}
-use Rattle.header_extract.proofs.Chains.{upper_of-leads, upper_of-ends, upper_of-fails, upper_of-last, header_step-short, header_step-cut, header_step-leads, header_step-later}
+use Rattle.header_extract.proofs.Chains.{upper_of-leads, upper_of-ends, upper_of-fails, upper_of-last}
+use Rattle.header_extract.proofs.Chains.{header_step-short, header_step-cut, header_step-leads, header_step-later}
 use Rattle.header_extract.proofs.ip6.find_upper.Goals as goal
 
 pub loop-left-preserved : goal.loop-left-preserved

@@ -1,9 +1,10 @@
-use Rattle.std.proofs.Common.{◌≡◌, ◌+◌, ◌<◌, ◌≤◌, min, false, arith, get_or, ◌∙◌}
+use Rattle.std.proofs.Common.{false, arith, get_or, ◌∙◌}
 use Rattle.node_expand.specs.declared.allowed.Allowed.TheVariants.{Agreeing}
 use Rattle.node_expand.specs.Edges.{is_change}
 use Rattle.node_expand.specs.Allowed.{answer_of}
-use Rattle.node_expand.proofs.Changes.{turns, marked_none, marked_more, marked_all, unchanged_before, unchanged_behind}
+use Rattle.node_expand.proofs.Changes.{turns, unchanged_before, unchanged_behind}
 use Rattle.node_expand.proofs.allowed.mark_agreeing.Goals as goal
+use Rattle.list_lemmas.proofs.Tests.{marked_more, marked_none, marked_all}
 
 pub loop-byte-init : goal.loop-byte-init
 loop-byte-init c = λ place within.

@@ -1,7 +1,7 @@
 use Rattle.std.proofs.Common.{arith}
 use Rattle.node_expand.specs.Rest.{mask_low, mask_high}
-use Rattle.node_expand.proofs.Masks.{high_bits, low_bits_set}
 use Rattle.node_expand.proofs.allowed.mask_ends.Goals as goal
+use Rattle.list_lemmas.proofs.Bits.{high_bits, low_bits_set}
 
 pub returns-clause-low : goal.returns-clause-low
 unfolding mask_low

@@ -1,6 +1,6 @@
 use Rattle.std.proofs.lemmas.Bool.{ltb-true, leb-true, and_parts}
 use Rattle.node_expand.specs.declared.edge.Edge.TheVariants.{Free}
-use Rattle.field_defs.proofs.Sizes.{size_at_least_1}
+use Rattle.field_defs.proofs.Offered.{size_at_least_1}
 use Rattle.node_expand.proofs.Standing.{Starts, starts, range_start, mask_start, bitmask_start}
 use Rattle.node_expand.proofs.expand.start_edge.Goals as goal
 use Rattle.node_expand.proofs.expand.start_edge.Goals.{After-whole_edge, After-whole_edge-in-Range, In-Bitmask}

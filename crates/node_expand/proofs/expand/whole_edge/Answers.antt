@@ -1,5 +1,5 @@
 use Rattle.node_expand.specs.Edges.{edge_of}
-use Rattle.byte_numbers.proofs.Powers.{bytes_as_bits}
+use Rattle.list_lemmas.proofs.Powers.{bytes_as_bits}
 use Rattle.node_expand.proofs.expand.whole_edge.Goals as goal
 
 pub returns : goal.returns

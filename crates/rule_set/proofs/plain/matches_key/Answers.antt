@@ -6,9 +6,10 @@ use Rattle.std.proofs.lemmas.Slice.Zip.{zip_turn, zip_end}
 use Rattle.byte_numbers.specs.Number.{number_of}
 use Rattle.field_defs.specs.declared.field.FieldDef.{FieldDef}
 use Rattle.field_defs.specs.FieldMatch.{field_match, CanMatch}
-use Rattle.field_defs.proofs.Sizes.{size_at_most_8}
+use Rattle.field_defs.proofs.Offered.{size_at_most_8}
 use Rattle.rule_set.specs.Winner.{rule_match}
-use Rattle.rule_set.proofs.Fields.{length-AllZip, can_match_pair, rule_match-drop, rule_match-drop_all}
+use Rattle.rule_set.proofs.Fields.{can_match_pair, rule_match-drop, rule_match-drop_all}
+use Rattle.list_lemmas.proofs.Elements.{length-AllZip}
 use Rattle.rule_set.proofs.plain.matches_key.Goals as goal
 
 pub network_number-requires : goal.network_number-requires

@@ -1,4 +1,4 @@
-use Rattle.std.proofs.Common.{◌≡◌, ◌++◌, ◌∷◌, [], get_or, length, take, ◌∙◌, sym, ap, arith, length-append}
+use Rattle.std.proofs.Common.{◌≡◌, ◌++◌, ◌∷◌, [], get_or, length, ◌∙◌, ap, arith, length-append}
 use Rattle.rule_set.specs.Keys.{keys_of, order_key}
 use Rattle.rule_set.proofs.Keys.{keys_more}
 use Rattle.rule_set.proofs.rank.order_keys.Goals as goal

@@ -1,7 +1,7 @@
-use Rattle.std.proofs.Common.{◌≡◌, ℕ, length, Bool, nat_lt, arith, rules}
+use Rattle.std.proofs.Common.{ℕ, Bool, nat_lt, arith, rules}
 use Rattle.std.proofs.lemmas.List.Sorted.{IsPartitionPoint-from_clause, IsPartitionedBy-ltb}
-use Rattle.rule_set.proofs.Counts.{count_at_point}
 use Rattle.rule_set.proofs.rank.rank_in.Goals as goal
+use Rattle.list_lemmas.proofs.Counts.{count_at_point}
 
 pub returns : goal.returns
 returns c =

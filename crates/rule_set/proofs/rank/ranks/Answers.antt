@@ -1,4 +1,4 @@
-use Rattle.std.proofs.Common.{◌≡◌, ◌≤◌, length, map, ◌∙◌, sym, ap, arith}
+use Rattle.std.proofs.Common.{◌≡◌, length, map, ◌∙◌, ap, arith}
 use Rattle.rule_set.specs.Keys.{keys_of, rank_among}
 use Rattle.rule_set.specs.Rank.{ranks_of}
 use Rattle.rule_set.proofs.Keys.{lawful_priorities, ranks_from_keys, length-keys_of}

@@ -1,7 +1,6 @@
-use Rattle.std.proofs.Common.{◌≡◌, ◌∙◌, sym, ap, arith, get_or}
+use Rattle.std.proofs.Common.{◌∙◌, arith}
 use Rattle.std.specs.List.Sorted.{IsPermutation}
 use Rattle.std.proofs.lemmas.List.Sorted.{IsNonDecreasingBy-from_sort}
-use Rattle.rule_set.specs.Keys.{rank_among}
 use Rattle.rule_set.proofs.Keys.{ranks_more}
 use Rattle.rule_set.proofs.rank.ranks_of_keys.Goals as goal
 

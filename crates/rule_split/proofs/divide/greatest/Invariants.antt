@@ -1,5 +1,5 @@
 use Rattle.std.proofs.Common.{◌≡◌, take}
-use Rattle.rule_groups.specs.Groups.{greatest}
+use Rattle.rule_set.specs.Groups.{greatest}
 use Rattle.rule_split.proofs.divide.greatest.Given as goal
 
 abbrev pub invariant-loop-number : goal.invariant-loop-number

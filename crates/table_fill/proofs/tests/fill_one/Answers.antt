@@ -1,7 +1,7 @@
 use Rattle.std.proofs.Common.{◌≡◌, ◌-◌, ◌∷◌, [], ℕ, List, sym, ◌∙◌, subst, length, arith}
 use Rattle.std.specs.List.{range_with_len}
 use Rattle.std.proofs.lemmas.List.Elements.{All-from_recursion}
-use Rattle.rule_groups.specs.Groups.{IsPartition}
+use Rattle.rule_set.specs.Groups.{IsPartition}
 use Rattle.trie_merge.specs.Levels.{LevelsView, levels_of, IsGroup}
 use Rattle.table_fill.proofs.Partitions.{group_of_range, one_group, own_group}
 use Rattle.table_fill.proofs.tests.fill_one.Goals as goal

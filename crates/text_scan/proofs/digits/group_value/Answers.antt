@@ -1,9 +1,9 @@
 use Rattle.std.proofs.Common.{◌≡◌, ℕ, List, ◌^◌, ◌-◌, ◌≤◌, false, ◌&&◌, nat_le, length, arith, sym, ◌∙◌, inl, inr}
 use Rattle.std.proofs.lemmas.Bool.{and_parts, and_right, cases_Bool, leb-false, cond-false}
 use Rattle.text_scan.specs.Digits.{place_value, are_digits, is_group}
-use Rattle.text_scan.proofs.Guards.{test_passed, test_failed, second_failed}
 use Rattle.text_scan.proofs.PlaceValues.{short_group}
 use Rattle.text_scan.proofs.digits.group_value.Goals as goal
+use Rattle.list_lemmas.proofs.Tests.{test_passed, test_failed, second_failed}
 
 -- up to four digits spell no more than 64 bits hold, so only another byte is refused
 other_byte : (base : ℕ) (text : List ℕ) → 2 ≤ base → base ≤ 16 → length text ≤ 4

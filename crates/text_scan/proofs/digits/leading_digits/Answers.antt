@@ -1,9 +1,9 @@
 use Rattle.std.proofs.Common.{◌≡◌, ℕ, List, Some, ◌^◌, ◌-◌, true, false, nat_le, take, length, arith, sym, ap, ◌∙◌}
 use Rattle.std.proofs.lemmas.Bool.{and_parts, and_from, and_right, le-leb, cond-true, cond-false}
 use Rattle.text_scan.specs.Digits.{place_value, are_digits, run_of}
-use Rattle.text_scan.proofs.Guards.{test_passed, test_failed, second_failed}
 use Rattle.text_scan.proofs.PlaceValues.{are_digits_run, take-length-run}
 use Rattle.text_scan.proofs.digits.leading_digits.Goals as goal
+use Rattle.list_lemmas.proofs.Tests.{test_passed, test_failed, second_failed}
 
 -- the digits that were cut off are the run
 run_is : (base len : ℕ) (text : List ℕ) → len ≡ length (run_of base text) → take len text ≡ run_of base text

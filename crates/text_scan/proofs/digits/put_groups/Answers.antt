@@ -3,15 +3,10 @@ use Rattle.std.proofs.Common.{◌∙◌, append_assoc, length-set}
 use Rattle.std.proofs.lemmas.List.{get_or-map, length-map}
 use Rattle.std.specs.Fmt.{digits}
 use Rattle.std.specs.List.{join_with_byte}
-use Rattle.text_scan.proofs.Joins.{join_with_byte_first, join_with_byte_more, first_part_fits, next_part_fits}
 use Rattle.text_scan.proofs.Writes.{Holds, Holds_byte, Holds_piece, Holds_text}
 use Rattle.text_scan.proofs.digits.put_groups.Goals as goal
 use Rattle.text_scan.proofs.digits.put_groups.Goals.{then-place-gt0, else-place-gt0}
-
--- what is written of a group stands in the list of all that is written
-part_at : (write : ℕ → List ℕ) (groups : List ℕ) (place : ℕ) → place < length groups
-    → get_or (map write groups) place [] ≡ write (get_or groups place 0)
-part_at write groups place inside = get_or-map write groups place 0 [] inside
+use Rattle.list_lemmas.proofs.Joins.{join_with_byte_more, join_with_byte_first, first_part_fits, next_part_fits}
 
 pub bounds-into-len : goal.bounds-into-len
 bounds-into-len c =
@@ -30,7 +25,7 @@ put_digits-len-requires-clause-room c =
     let parts = map write c.args.groups.now in
     let place = c.loop-place.place in
     let lengths = length-map c.args.groups.now write in
-    let part = ap length (part_at write c.args.groups.now place (omega arith)) in
+    let part = ap length (get_or-map write c.args.groups.now place 0 [] (omega arith)) in
     elim c.if-place-gt0.branch [
       | then-place-gt0 w ↦
           omega (
@@ -64,7 +59,7 @@ loop-place-preserved c =
     let part = write (get_or c.args.groups.now place 0) in
     let put = c.put_digits-len in
     let lengths = length-map c.args.groups.now write in
-    let is = part_at write c.args.groups.now place (omega arith) in
+    let is = get_or-map write c.args.groups.now place 0 [] (omega arith) in
     elim c.if-place-gt0.branch [
       | then-place-gt0 w ↦
           let room : c.loop-place.len < length c.loop-place.into =

@@ -1,10 +1,10 @@
 use Rattle.std.proofs.Common.{◌+◌, arith, ap}
 use Rattle.std.proofs.lemmas.Bool.{and_parts}
 use Rattle.std.proofs.lemmas.List.{take_rest}
-use Rattle.text_scan.proofs.Guards.{test_passed}
-use Rattle.text_scan.proofs.Powers.{moved_to_top, top_and_bottom}
 use Rattle.text_scan.proofs.Ip6Texts.{ip6_of_shortened}
 use Rattle.text_scan.proofs.ip6.ip6_text.Goals as goal
+use Rattle.list_lemmas.proofs.Powers.{moved_to_top, top_and_bottom}
+use Rattle.list_lemmas.proofs.Tests.{test_passed}
 
 pub overflow_add-result : goal.overflow_add-result
 overflow_add-result c =

@@ -1,7 +1,7 @@
 use Rattle.std.proofs.Common.{◌*◌, ◌/◌, ◌%◌, ◌^◌, ap, ◌∙◌}
 use Rattle.std.proofs.lemmas.Nat.{and_mask}
-use Rattle.text_scan.proofs.Powers.{power_of_two}
 use Rattle.text_scan.proofs.ip6.piece_at.Goals as goal
+use Rattle.list_lemmas.proofs.Powers.{power_of_two}
 
 pub returns : goal.returns
 returns c = and_mask (c.args.value / 2 ^ (16 * c.args.place)) 16

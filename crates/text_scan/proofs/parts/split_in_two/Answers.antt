@@ -1,9 +1,9 @@
 use Rattle.std.proofs.Common.{arith}
-use Rattle.text_scan.proofs.Cuts.{parts_of-some}
+use Rattle.text_scan.proofs.Separators.{some_part}
 use Rattle.text_scan.proofs.parts.split_in_two.Goals as goal
 
 -- a second separator makes a third part
 pub returns-in-Some : goal.returns-in-Some
 returns-in-Some c =
     rw (c.in_ok-before.ensures.parts, c.in-Some.ensures.parts) (
-    record { parts = λ two. omega (arith, parts_of-some c.args.separator c.in-Some.field-0.1.now) })
+    record { parts = λ two. omega (arith, some_part c.args.separator c.in-Some.field-0.1.now) })

@@ -6,10 +6,10 @@ use Rattle.text_scan.specs.declared.pieces.Pieces.{Pieces}
 use Rattle.text_scan.specs.Parts.{colon, parts_of}
 use Rattle.text_scan.specs.Ip6.{is_ip6_end, are_groups, are_last_groups, groups_of, pieces_of, pieces_of_all}
 use Rattle.text_scan.specs.Pieces.{pieces_from, with_pieces}
-use Rattle.text_scan.proofs.Guards.{test_passed, test_failed}
 use Rattle.text_scan.proofs.Ip6Texts.{read_last, refused_before_last}
 use Rattle.text_scan.proofs.Separators.{Lacks-drop, parts_of_one, parts_of_split}
 use Rattle.text_scan.proofs.pieces.last_pieces.Goals as goal
+use Rattle.list_lemmas.proofs.Tests.{test_passed, test_failed}
 
 -- what is answered of groups
 abbrev answer : List (List ℕ) → Option Pieces

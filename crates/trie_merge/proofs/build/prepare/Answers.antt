@@ -1,5 +1,5 @@
 use Rattle.field_defs.specs.Lawful.{IsLayout}
-use Rattle.field_defs.proofs.Faultless.{short_keys}
+use Rattle.field_defs.proofs.Offered.{short_keys}
 use Rattle.trie_merge.proofs.build.prepare.Goals as goal
 
 pub new-requires-clause-some : goal.new-requires-clause-some

@@ -1,5 +1,5 @@
 use Rattle.std.proofs.Common.{◌≡◌, ◌<◌, ◌==◌, length, get_or, Err, ◌+◌, ap, subst, sym}
-use Rattle.field_defs.proofs.Faultless.{short_keys}
+use Rattle.field_defs.proofs.Offered.{short_keys}
 use Rattle.trie_merge.specs.declared.merge.MergeFault.TheVariants.{OverCap}
 use Rattle.trie_merge.specs.Entry.{column_at}
 use Rattle.trie_merge.specs.Kept.{kept_places}

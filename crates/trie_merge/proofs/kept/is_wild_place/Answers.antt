@@ -5,7 +5,7 @@ use Rattle.field_defs.specs.Lawful.{IsLayout}
 use Rattle.trie_merge.specs.RuleRest.{values_of}
 use Rattle.trie_merge.specs.Kept.{is_wild_at, is_wild_place}
 use Rattle.trie_merge.proofs.PackedState.{values_there}
-use Rattle.rule_set.proofs.Lawful.{faultless_rules}
+use Rattle.rule_set.proofs.Offered.{faultless_rules}
 use Rattle.trie_merge.proofs.kept.is_wild_place.Goals as goal
 
 pub loop-number-init : goal.loop-number-init

@@ -1,12 +1,9 @@
 -- Each turn draws one more rule, which is lawful.
-use Rattle.std.proofs.Common.{◌≡◌, ℕ, ◌+◌, ◌^◌, ◌<◌, Err, None, ap, ◌∙◌, arith, slice_index}
-use Rattle.field_defs.specs.Layout.{ip4_fields}
-use Rattle.rule_set.specs.Fault.{rule_fault}
+use Rattle.std.proofs.Common.{◌≡◌, ◌+◌, ap, ◌∙◌, arith}
 use Rattle.workload_gen.specs.Draws.{seeded, words_of}
 use Rattle.workload_gen.specs.Rule.{rule_of}
 use Rattle.workload_gen.specs.Workload.{rule_words}
 use Rattle.workload_gen.proofs.Drawing.{length-rules_of, rules_more, state_more}
-use Rattle.workload_gen.proofs.Lawful.{rule_of_words}
 use Rattle.workload_gen.proofs.Words.{after_none}
 use Rattle.workload_gen.proofs.workload.make_rules.Goals as goal
 
@@ -16,19 +13,14 @@ loop-place-init c = record {
   state = c.seeded-generator.ensures ∙ after_none (seeded c.args.seed);
 }
 
-pub push-requires : goal.push-requires
-push-requires c =
+pub push_lawful-requires : goal.push_lawful-requires
+push_lawful-requires c =
     let held = ap (λ s. s.rules) c.loop-place.invariant.rules in
-    rw held (omega (arith, length-rules_of c.args.seed c.loop-place.place))
-
-pub unreachable-requires : goal.unreachable-requires
-unreachable-requires c =
-    let fault = c.in-Err-Rule.field-0-0 in
-    let refused = (c.push.ensures.refused fault).0 (c.in-Err-Rule.is ∙ ap Err c.in-Err-Rule.field-0-is) in
     let layout = ap (λ s. s.layout) c.loop-place.invariant.rules in
-    let refused_for_ip4 = rw layout at refused in
-    let lawful = c.in_ok-drawn.ensures.lawful in
-    cc
+    record {
+      room = rw held (omega (arith, length-rules_of c.args.seed c.loop-place.place));
+      lawful = rw layout c.in_ok-drawn.ensures.lawful;
+    }
 
 pub loop-place-preserved : goal.loop-place-preserved
 loop-place-preserved c =
@@ -38,6 +30,7 @@ loop-place-preserved c =
     let words : c.draw.result ≡ rule_words seed place = c.draw.ensures.words ∙ ap (words_of 6) held.state in
     let drawn = c.in_ok-drawn.ensures.ok ∙ ap (rule_of (place + 1)) words in
     record {
-      rules = c.in-Ok.ensures.ok ∙ rules_more seed place c.loop-place.rules c.in_ok-drawn.drawn held.rules drawn;
+      rules = c.in_ok-push_lawful.ensures.ok
+          ∙ rules_more seed place c.loop-place.rules c.in_ok-drawn.drawn held.rules drawn;
       state = c.draw.ensures.state ∙ state_more seed place c.loop-place.generator held.state;
     }

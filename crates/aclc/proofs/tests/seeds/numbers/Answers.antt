@@ -1,7 +1,7 @@
 -- the numbers below the place reached, and one more
 use Rattle.std.proofs.Common.{◌≡◌, List, ℕ, suc, ◌+◌, ◌++◌, ◌∷◌, [], sym, ◌∙◌, ap, arith}
 use Rattle.std.specs.List.{range_with_len}
-use Rattle.rule_set.proofs.Counts.{range_with_len-more}
+use Rattle.list_lemmas.proofs.Counts.{range_with_len-more}
 use Rattle.aclc.proofs.tests.seeds.numbers.Goals as goal
 
 one_more : (first count : ℕ) → range_with_len first (count + 1) ≡ range_with_len first count ++ (first + count) ∷ []

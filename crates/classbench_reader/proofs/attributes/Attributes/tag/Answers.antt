@@ -3,7 +3,7 @@ use Rattle.std.proofs.lemmas.Int.{ints}
 use Rattle.std.proofs.lemmas.Bool.{ne_eqb}
 use Rattle.std.specs.Prelude.{bit_and}
 use Rattle.rule_set.specs.declared.rule.RuleTag.{RuleTag}
-use Rattle.rule_set.proofs.CategoryBits.{some_category}
+use Rattle.rule_set.proofs.Offered.{some_category}
 use Rattle.classbench_reader.proofs.attributes.Attributes.tag.Goals as goal
 
 pub returns-clause-lawful : goal.returns-clause-lawful

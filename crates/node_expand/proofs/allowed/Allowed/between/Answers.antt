@@ -1,6 +1,6 @@
 use Rattle.node_expand.specs.Allowed.{between}
-use Rattle.node_expand.proofs.Masks.{some_bit_set, some_bit_clear}
 use Rattle.node_expand.proofs.allowed.Allowed.between.Goals as goal
+use Rattle.list_lemmas.proofs.Bits.{some_bit_set, some_bit_clear}
 
 pub returns : goal.returns
 unfolding between

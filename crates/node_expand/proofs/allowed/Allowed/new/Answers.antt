@@ -1,10 +1,11 @@
-use Rattle.node_expand.proofs.Agreeing.{and_again}
 use Rattle.std.proofs.lemmas.Bool.{true≢false}
 use Rattle.node_expand.proofs.Changes.{ends_between}
-use Rattle.node_expand.proofs.Bytes.{Answers, range_answers, mask_answers, agreeing_answer, shift_count}
-use Rattle.field_defs.proofs.Sizes.{size_at_most_8}
+use Rattle.node_expand.proofs.Bytes.{Answers, range_answers, mask_answers, agreeing_answer}
+use Rattle.field_defs.proofs.Offered.{size_at_most_8}
 use Rattle.node_expand.proofs.allowed.Allowed.new.Goals as goal
 use Rattle.node_expand.proofs.allowed.Allowed.new.Goals.{After-between, After-between-in-Range}
+use Rattle.list_lemmas.proofs.Powers.{shift_count}
+use Rattle.list_lemmas.proofs.Bits.{and_again}
 
 -- the ends of a range answer
 range : (c : After-between-in-Range) → Answers c.args.value.now c.args.size c.args.place c.args.edge

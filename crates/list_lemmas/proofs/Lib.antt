@@ -1,0 +1,14 @@
+pub mod Bits
+pub mod Counts
+pub mod Digits
+pub mod Elements
+pub mod First
+pub mod Integers
+pub mod Joins
+pub mod Maxima
+pub mod Members
+pub mod Numbers
+pub mod Options
+pub mod Parts
+pub mod Powers
+pub mod Tests
