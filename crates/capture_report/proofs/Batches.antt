@@ -38,7 +38,7 @@ IsTaking-none start count packets state view none is = record {
   state_is = is ∙ ap (λ n. state_of start n progress.Reading) (omega (arith, ap length none));
 }
 
--- keys behind keys
+-- keys after keys
 all_keys : (packets packets_new more : List FrameClass) → packets_new ≡ packets ++ more → All IsPacket packets →
     All IsPacket more → All IsPacket packets_new
 all_keys packets packets_new more is keys added =

@@ -20,8 +20,8 @@ use Rattle.pcap_reader.proofs.FillLaws.{KeepsReading-join}
 use Rattle.pcap_reader.proofs.AnswersLaws.{capture_of-read, whole_records-none}
 use Rattle.command_plan.specs.declared.status.Status.{Status}
 use Rattle.command_plan.specs.declared.status.Status.TheVariants.{CaptureRefused, ReadFault, WriteFault, OutOfMemory}
-use Rattle.capture_report.specs.Printing.{Printing}
-use Rattle.capture_report.specs.Report.{lines_of_records, steps_of_records}
+use Rattle.capture_report.specs.ReportForm.{ReportForm}
+use Rattle.capture_report.specs.Report.{lines_of_records, transitions_of_records}
 use Rattle.capture_report.specs.Taken.{stands}
 use Rattle.command_plan.specs.Plan.{Outcome, Plan, Give, silent, found, settled}
 use Rattle.command_plan.specs.Follow.{Given, Within, IsEnough, IsOpened, IsOneOf, said_in, status_within}
@@ -29,7 +29,7 @@ use Rattle.command_plan.specs.Endings.{is_decided, is_usage}
 use Rattle.capture_report.specs.CaptureOutcome.{refusal, report, report_of_capture, reported, lines_so_far}
 use Rattle.capture_report.specs.CaptureOutcome.{status_of_fault, text_of_records}
 use Rattle.command_plan.specs.Effects.{Outside, outside, files_of, opened_of, heard_of, earlier_of, KeepsFiles, Ends}
-use Rattle.capture_report.specs.Prints.{KeepsUp, Reports}
+use Rattle.capture_report.specs.PrintsCapture.{KeepsUp, Reports}
 use Rattle.capture_report.specs.Streams.{Reading, Whole, Part, records_read, text_of, IsUnbroken, AreRead, IsStatus}
 use Rattle.capture_report.specs.Streams.{BreaksOffSoon, Streams}
 use Rattle.command_plan.proofs.Gained.{Gains-none}
@@ -106,19 +106,19 @@ part_undecided status ending (inl within) decided =
 part_undecided status ending (inr (inl write)) decided = false≢true (sym (ap is_decided write) ∙ decided)
 part_undecided status ending (inr (inr full)) decided = false≢true (sym (ap is_decided full) ∙ decided)
 
-Ends-part : (printing : Printing) (name given : List ℕ) (ending : Ending) (old new : Outside) (status : Status) →
+Ends-part : (form : ReportForm) (name given : List ℕ) (ending : Ending) (old new : Outside) (status : Status) →
     HearsFile name given ending old.desk new.desk → IsOpened ending →
-    PutsPart (lines_so_far printing given) ending old new status →
-    Ends (reported printing name) old new status
-Ends-part printing name given ending old new status h opened p = record {
-  reached = Within (file_of name given ending) (lines_so_far printing given);
+    PutsPart (lines_so_far form given) ending old new status →
+    Ends (reported form name) old new status
+Ends-part form name given ending old new status h opened p = record {
+  reached = Within (file_of name given ending) (lines_so_far form given);
   follows = inr (
     file_of name given ending,
     refl,
     h.told,
     inl (
       h.heard,
-      ap (Within (file_of name given ending)) (said-opened ending (lines_so_far printing given) opened),
+      ap (Within (file_of name given ending)) (said-opened ending (lines_so_far form given) opened),
     ),
   );
   ended = p.ended;
@@ -163,22 +163,22 @@ all_decided outcome old new status p other =
       | inr write ↦ absurd (other write)
     ]
 
-Ends-whole : (printing : Printing) (name given : List ℕ) (ending : Ending) (old new : Outside) (status : Status) →
+Ends-whole : (form : ReportForm) (name given : List ℕ) (ending : Ending) (old new : Outside) (status : Status) →
     HearsFile name given ending old.desk new.desk → IsUnbroken ending →
-    ((more : List ℕ) → (ending ≡ Ended → more ≡ []) → report printing (given ++ more) ≡ report printing given) →
-    PutsAll (report printing given) old.out new.out status → new.steps ≡ old.steps + (report printing given).steps →
-    Ends (reported printing name) old new status
-Ends-whole printing name given ending old new status h unbroken long p steps =
+    ((more : List ℕ) → (ending ≡ Ended → more ≡ []) → report form (given ++ more) ≡ report form given) →
+    PutsAll (report form given) old.out new.out status → new.steps ≡ old.steps + (report form given).steps →
+    Ends (reported form name) old new status
+Ends-whole form name given ending old new status h unbroken long p steps =
     let never : (is_decided status ≡ false) → status ≢ WriteFault → ⊥ =
-    λ isnt other. false≢true (sym isnt ∙ all_decided (report printing given) old.out new.out status p other) in
+    λ isnt other. false≢true (sym isnt ∙ all_decided (report form given) old.out new.out status p other) in
     record {
-      reached = Given (report printing given);
+      reached = Given (report form given);
       follows = inr (
         file_of name given ending,
         refl,
         h.told,
         inr (
-          enough_from ending (λ bytes. Give (report printing bytes)) name given unbroken
+          enough_from ending (λ bytes. Give (report form bytes)) name given unbroken
               (λ more rest. ap Give (long more rest)),
           (h.heard, refl),
         ),
@@ -202,11 +202,11 @@ Ends-whole printing name given ending old new status h unbroken long p steps =
     }
 
 -- the file can't be opened
-pub Reports-unopened : {T E : Type 0} (printing : Printing) (name : List ℕ) (old new : DeskView) (out : SinkView)
+pub Reports-unopened : {T E : Type 0} (form : ReportForm) (name : List ℕ) (old new : DeskView) (out : SinkView)
     (steps : ℕ) (e : E) →
     OpensFile {T = T} name old new (Err e) →
-    Reports printing name (outside old out steps) (outside new out steps) ReadFault
-Reports-unopened printing name old new out steps e opens = record {
+    Reports form name (outside old out steps) (outside new out steps) ReadFault
+Reports-unopened form name old new out steps e opens = record {
   ends = record {
     reached = Within (opening_of name false) [];
     follows = inr (
@@ -224,7 +224,7 @@ Reports-unopened printing name old new out steps e opens = record {
     read_fault = λ r.
         CannotRead-because _ _ old new
         (λ files told none.
-        ap (λ o. (settled (option_map_or (λ bytes. found (Give (report printing bytes)) files) o
+        ap (λ o. (settled (option_map_or (λ bytes. found (Give (report form bytes)) files) o
         (Err ReadFault))).status) none)
         (cannot_open name old new opens.cause opens.there);
     write_fault = λ w. absurd (cc);
@@ -238,17 +238,17 @@ Reports-unopened printing name old new out steps e opens = record {
 }
 
 -- there is no memory to read the file
-pub Reports-full : {T E : Type 0} (printing : Printing) (name : List ℕ) (old mid new : DeskView) (out : SinkView)
+pub Reports-full : {T E : Type 0} (form : ReportForm) (name : List ℕ) (old mid new : DeskView) (out : SinkView)
     (steps : ℕ) (x : T) →
     OpensFile {E = E} name old mid (Ok x) → new ≡ mid →
-    Reports printing name (outside old out steps) (outside new out steps) OutOfMemory
-Reports-full {T} {E} printing name old mid new out steps x opens same =
+    Reports form name (outside old out steps) (outside new out steps) OutOfMemory
+Reports-full {T} {E} form name old mid new out steps x opens same =
     let keeps : KeepsReading mid mid =
     record { reading = refl; absent = refl; counts = record { read_faults = omega arith; absent = omega arith } } in
     let h = HearsFile-read {E = E} name [] GoesOn old mid mid x opens (ReadsOn-none mid) (λ e. absurd (cc)) keeps in
     rw same
     record {
-      ends = Ends-part printing name [] GoesOn (outside old out steps) (outside mid out steps) OutOfMemory h tt
+      ends = Ends-part form name [] GoesOn (outside old out steps) (outside mid out steps) OutOfMemory h tt
           record {
             ended = inr (inr refl);
             text = λ other full. absurd (full refl);
@@ -264,25 +264,25 @@ Reports-full {T} {E} printing name old mid new out steps x opens same =
     }
 
 -- the file header has a fault
-header_refused : {T E : Type 0} (printing : Printing) (name given : List ℕ) (ending : Ending)
+header_refused : {T E : Type 0} (form : ReportForm) (name given : List ℕ) (ending : Ending)
     (fault : CaptureFault) (old mid new : DeskView)
     (out : SinkView) (steps : ℕ) (x : T) → OpensFile {E = E} name old mid (Ok x) →
     ReadsOn (stands ending) given mid new →
     (ending ≡ Ended → IsAtEnd new) → KeepsReading mid new → IsUnbroken ending →
     ((more : List ℕ) → (ending ≡ Ended → more ≡ []) → start_of (given ++ more) ≡ Err fault) →
-    Reports printing name (outside old out steps) (outside new out steps) (CaptureRefused fault)
-header_refused {T} {E} printing name given ending fault old mid new out steps x opens reads at_end keeps unbroken
+    Reports form name (outside old out steps) (outside new out steps) (CaptureRefused fault)
+header_refused {T} {E} form name given ending fault old mid new out steps x opens reads at_end keeps unbroken
     says =
     let h = HearsFile-read {E = E} name given ending old mid new x opens reads at_end keeps in
     let is : (more : List ℕ) → (ending ≡ Ended → more ≡ []) →
-    report printing (given ++ more) ≡ silent (CaptureRefused fault) =
+    report form (given ++ more) ≡ silent (CaptureRefused fault) =
     λ more rest. (let s = says more rest in rw s refl) in
-    let alone : report printing given ≡ silent (CaptureRefused fault) =
-    ap (report printing) (sym (append-nil given)) ∙ is [] (λ e. refl) in
+    let alone : report form given ≡ silent (CaptureRefused fault) =
+    ap (report form) (sym (append-nil given)) ∙ is [] (λ e. refl) in
     let puts : PutsAll (silent (CaptureRefused fault)) out out (CaptureRefused fault) =
     record { decided = refl; lawful = refl; puts = inl (refl, Gains-none out); count = omega arith } in
     record {
-      ends = Ends-whole printing name given ending (outside old out steps) (outside new out steps)
+      ends = Ends-whole form name given ending (outside old out steps) (outside new out steps)
           (CaptureRefused fault) h unbroken
           (λ more rest. is more rest ∙ sym alone)
           (subst (λ (o : Outcome). PutsAll o out out (CaptureRefused fault)) (sym alone) puts)
@@ -292,39 +292,39 @@ header_refused {T} {E} printing name given ending fault old mid new out steps x 
       keeps_up = λ w. absurd (cc);
     }
 
-header_decided : {T E : Type 0} (printing : Printing) (name given : List ℕ) (fault : CaptureFault)
+header_decided : {T E : Type 0} (form : ReportForm) (name given : List ℕ) (fault : CaptureFault)
     (old mid new : DeskView) (out : SinkView) (steps : ℕ) (x : T) →
     OpensFile {E = E} name old mid (Ok x) → ReadsOn and_goes_on given mid new → KeepsReading mid new →
     start_of given ≡ Err fault →
     (fault ≡ faults.HeaderCut → ⊥) →
-    Reports printing name (outside old out steps) (outside new out steps) (CaptureRefused fault)
-header_decided {T} {E} printing name given fault old mid new out steps x opens reads keeps says isnt =
-    header_refused {E = E} printing name given GoesOn fault old mid new out steps x opens reads
+    Reports form name (outside old out steps) (outside new out steps) (CaptureRefused fault)
+header_decided {T} {E} form name given fault old mid new out steps x opens reads keeps says isnt =
+    header_refused {E = E} form name given GoesOn fault old mid new out steps x opens reads
     (λ e. absurd (cc)) keeps tt
     (λ more rest. (start_of-more given more (Err fault) says
     (λ e. isnt (let same : fault ≡ faults.HeaderCut = cc in same))).0)
 
-header_cut : {T E : Type 0} (printing : Printing) (name given : List ℕ) (fault : CaptureFault)
+header_cut : {T E : Type 0} (form : ReportForm) (name given : List ℕ) (fault : CaptureFault)
     (old mid new : DeskView) (out : SinkView) (steps : ℕ) (x : T) →
     OpensFile {E = E} name old mid (Ok x) → ReadsOn (stands Ended) given mid new → IsAtEnd new →
     KeepsReading mid new →
     start_of given ≡ Err fault →
-    Reports printing name (outside old out steps) (outside new out steps) (CaptureRefused fault)
-header_cut {T} {E} printing name given fault old mid new out steps x opens reads end keeps says =
-    header_refused {E = E} printing name given Ended fault old mid new out steps x opens reads (λ e. end) keeps tt
+    Reports form name (outside old out steps) (outside new out steps) (CaptureRefused fault)
+header_cut {T} {E} form name given fault old mid new out steps x opens reads end keeps says =
+    header_refused {E = E} form name given Ended fault old mid new out steps x opens reads (λ e. end) keeps tt
     (λ more rest. ap start_of (ap (λ (l : List ℕ). given ++ l) (rest refl) ∙ append-nil given) ∙ says)
 
-pub Reports-header : {T E : Type 0} (fault : CaptureFault) (printing : Printing) (name : List ℕ)
+pub Reports-header : {T E : Type 0} (fault : CaptureFault) (form : ReportForm) (name : List ℕ)
     (old mid new : DeskView) (out : SinkView) (steps : ℕ) (x : T) →
     OpensFile {E = E} name old mid (Ok x) → (reads : ReadsStart mid new (Err fault)) →
-    Reports printing name (outside old out steps) (outside new out steps) (refusal fault)
-Reports-header {T} {E} faults.ReadFault printing name old mid new out steps x opens reads =
+    Reports form name (outside old out steps) (outside new out steps) (refusal fault)
+Reports-header {T} {E} faults.ReadFault form name old mid new out steps x opens reads =
     let h = HearsFile-read {E = E} name reads.given BrokenOff old mid new x opens reads.reads
     (λ e. absurd (cc)) reads.keeps in
-    let none : lines_so_far printing reads.given ≡ [] =
-    ap (lines_of_records printing) (whole_records-none reads.given faults.ReadFault reads.answer) in
+    let none : lines_so_far form reads.given ≡ [] =
+    ap (lines_of_records form) (whole_records-none reads.given faults.ReadFault reads.answer) in
     record {
-      ends = Ends-part printing name reads.given BrokenOff (outside old out steps) (outside new out steps) ReadFault
+      ends = Ends-part form name reads.given BrokenOff (outside old out steps) (outside new out steps) ReadFault
           h tt
           record {
             ended = inl refl;
@@ -339,29 +339,29 @@ Reports-header {T} {E} faults.ReadFault printing name old mid new out steps x op
       opened = λ files told reported. absurd (false≢true reported);
       keeps_up = λ w. absurd (cc);
     }
-Reports-header {T} {E} faults.HeaderCut printing name old mid new out steps x opens reads =
-    header_cut {E = E} printing name reads.given faults.HeaderCut old mid new out steps x opens reads.reads
+Reports-header {T} {E} faults.HeaderCut form name old mid new out steps x opens reads =
+    header_cut {E = E} form name reads.given faults.HeaderCut old mid new out steps x opens reads.reads
     (reads.end refl) reads.keeps reads.answer
-Reports-header {T} {E} (faults.RecordCut n) printing name old mid new out steps x opens reads =
-    header_cut {E = E} printing name reads.given (faults.RecordCut n) old mid new out steps x opens reads.reads
+Reports-header {T} {E} (faults.RecordCut n) form name old mid new out steps x opens reads =
+    header_cut {E = E} form name reads.given (faults.RecordCut n) old mid new out steps x opens reads.reads
     (reads.end refl) reads.keeps reads.answer
-Reports-header {T} {E} faults.Magic printing name old mid new out steps x opens reads =
-    header_decided {E = E} printing name reads.given faults.Magic old mid new out steps x opens reads.reads
+Reports-header {T} {E} faults.Magic form name old mid new out steps x opens reads =
+    header_decided {E = E} form name reads.given faults.Magic old mid new out steps x opens reads.reads
     reads.keeps
     reads.answer (λ e. absurd (cc))
-Reports-header {T} {E} faults.Version printing name old mid new out steps x opens reads =
-    header_decided {E = E} printing name reads.given faults.Version old mid new out steps x opens reads.reads
+Reports-header {T} {E} faults.Version form name old mid new out steps x opens reads =
+    header_decided {E = E} form name reads.given faults.Version old mid new out steps x opens reads.reads
     reads.keeps
     reads.answer (λ e. absurd (cc))
-Reports-header {T} {E} faults.LinkType printing name old mid new out steps x opens reads =
-    header_decided {E = E} printing name reads.given faults.LinkType old mid new out steps x opens reads.reads
+Reports-header {T} {E} faults.LinkType form name old mid new out steps x opens reads =
+    header_decided {E = E} form name reads.given faults.LinkType old mid new out steps x opens reads.reads
     reads.keeps
     reads.answer (λ e. absurd (cc))
-Reports-header {T} {E} (faults.RecordTooLong n) printing name old mid new out steps x opens reads =
-    header_decided {E = E} printing name reads.given
+Reports-header {T} {E} (faults.RecordTooLong n) form name old mid new out steps x opens reads =
+    header_decided {E = E} form name reads.given
     (faults.RecordTooLong n) old mid new out steps x opens reads.reads reads.keeps reads.answer (λ e. absurd (cc))
-Reports-header {T} {E} faults.TooManyRecords printing name old mid new out steps x opens reads =
-    header_decided {E = E} printing name reads.given faults.TooManyRecords old mid new out steps x opens reads.reads
+Reports-header {T} {E} faults.TooManyRecords form name old mid new out steps x opens reads =
+    header_decided {E = E} form name reads.given faults.TooManyRecords old mid new out steps x opens reads.reads
     reads.keeps reads.answer (λ e. absurd (cc))
 
 keeps_up_from : (name given : List ℕ) (ending : Ending) (text : List ℕ) (records : List CaptureRecord)
@@ -387,19 +387,19 @@ fault_decided : (fault : Option CaptureFault) →
 fault_decided None = (refl, refl)
 fault_decided (Some fault) = (refl, refl)
 
--- what was streamed behind a file header
-streamed : (read : Reading) (printing : Printing) (name given : List ℕ) (ending : Ending) (old new : Outside)
+-- what was streamed after a file header
+streamed : (read : Reading) (form : ReportForm) (name given : List ℕ) (ending : Ending) (old new : Outside)
     (status : Status) (start : Start)
-    (behind : List ℕ) → HearsFile name given ending old.desk new.desk →
-    ((more : List ℕ) → capture_of (given ++ more) ≡ Ok (records_behind start 0 (behind ++ more))) →
-    AreRead start behind ending read →
-    ((IsStatus ending read status × Gains (text_of printing read) old.out new.out)
-    ⊎ ((status ≡ WriteFault) × BreaksOffSoon (text_of printing read) (length (records_read read)) old.out new.out)) →
+    (later : List ℕ) → HearsFile name given ending old.desk new.desk →
+    ((more : List ℕ) → capture_of (given ++ more) ≡ Ok (records_behind start 0 (later ++ more))) →
+    AreRead start later ending read →
+    ((IsStatus ending read status × Gains (text_of form read) old.out new.out)
+    ⊎ ((status ≡ WriteFault) × BreaksOffSoon (text_of form read) (length (records_read read)) old.out new.out)) →
     (status ≡ ReadFault → Rose old.desk.read_faults new.desk.read_faults) → old.out.faults ≤ new.out.faults →
     IsOpened ending →
-    new.steps ≡ old.steps + steps_of_records printing.tables (records_read read) →
-    Reports printing name old new status
-streamed (Whole records fault) printing name given ending old new status start behind h is bytes ended rose count
+    new.steps ≡ old.steps + transitions_of_records form.tables (records_read read) →
+    Reports form name old new status
+streamed (Whole records fault) form name given ending old new status start later h is bytes ended rose count
     opened steps =
     let all : (more : List ℕ) → (ending ≡ Ended → more ≡ []) →
     capture_of (given ++ more) ≡ Ok (record { records = records; fault = fault }) =
@@ -407,7 +407,7 @@ streamed (Whole records fault) printing name given ending old new status start b
     let alone : capture_of given ≡ Ok (record { records = records; fault = fault }) =
     ap capture_of (sym (append-nil given)) ∙ all [] (λ e. refl) in
     let expected : Outcome =
-    report_of_capture printing (Ok (record { records = records; fault = fault })) in
+    report_of_capture form (Ok (record { records = records; fault = fault })) in
     let puts : PutsAll expected old.out new.out status = record {
       decided = (fault_decided fault).0;
       lawful = (fault_decided fault).1;
@@ -415,17 +415,17 @@ streamed (Whole records fault) printing name given ending old new status start b
         | inl done ↦ inl (done.0, done.1)
         | inr failed ↦ inr (
           failed.0,
-          prefix_from (text_of_records printing records fault)
+          prefix_from (text_of_records form records fault)
               (length records) old.out new.out failed.1,
           failed.1.rose,
         )
       ];
       count = count;
     } in
-    let reported_as : expected ≡ report printing given = ap (report_of_capture printing) (sym alone) in
+    let reported_as : expected ≡ report form given = ap (report_of_capture form) (sym alone) in
     record {
-      ends = Ends-whole printing name given ending old new status h (bytes.0)
-          (λ more rest. ap (report_of_capture printing) (all more rest ∙ sym alone))
+      ends = Ends-whole form name given ending old new status h (bytes.0)
+          (λ more rest. ap (report_of_capture form) (all more rest ∙ sym alone))
           (subst (λ (o : Outcome). PutsAll o old.out new.out status) reported_as puts)
           (steps ∙ ap (λ (o : Outcome). old.steps + o.steps) reported_as);
       lawful = elim (all_ended expected old.out new.out status puts) [
@@ -436,19 +436,19 @@ streamed (Whole records fault) printing name given ending old new status start b
       keeps_up = λ w. elim ended [
         | inl done ↦ absurd (false≢true (ap is_decided (sym w ∙ done.0) ∙ (fault_decided fault).0))
         | inr failed ↦
-            keeps_up_from name given ending (text_of_records printing records fault) records old new h
+            keeps_up_from name given ending (text_of_records form records fault) records old new h
             (ap records_in alone) failed.1
       ];
     }
-streamed (Part records) printing name given ending old new status start behind h is bytes ended rose count
+streamed (Part records) form name given ending old new status start later h is bytes ended rose count
     opened steps =
     let whole : whole_records given ≡ records =
     ap (λ l. records_in (capture_of l)) (sym (append-nil given)) ∙ ap records_in (is [])
-    ∙ ap (λ l. (records_behind start 0 l).records) (append-nil behind) ∙ bytes in
-    let lines : lines_so_far printing given ≡ lines_of_records printing records =
-    ap (lines_of_records printing) whole in
+    ∙ ap (λ l. (records_behind start 0 l).records) (append-nil later) ∙ bytes in
+    let lines : lines_so_far form given ≡ lines_of_records form records =
+    ap (lines_of_records form) whole in
     record {
-      ends = Ends-part printing name given ending old new status h opened
+      ends = Ends-part form name given ending old new status h opened
           record {
             ended = elim ended [
               | inl broken ↦ inl (broken.0.0 ∙ ap status_within (sym broken.0.1))
@@ -458,7 +458,7 @@ streamed (Part records) printing name given ending old new status start behind h
             prefix = λ w. elim ended [
               | inl broken ↦ (let e : ReadFault ≡ WriteFault = sym broken.0.0 ∙ w in absurd (cc))
               | inr failed ↦ rw lines
-                  (prefix_from (lines_of_records printing records) (length records) old.out new.out failed.1)
+                  (prefix_from (lines_of_records form records) (length records) old.out new.out failed.1)
             ];
             full = λ e. elim ended [
               | inl broken ↦ (let r : ReadFault ≡ OutOfMemory = sym broken.0.0 ∙ e in absurd (cc))
@@ -476,23 +476,23 @@ streamed (Part records) printing name given ending old new status start behind h
       keeps_up = λ w. elim ended [
         | inl broken ↦ (let e : ReadFault ≡ WriteFault = sym broken.0.0 ∙ w in absurd (cc))
         | inr failed ↦ keeps_up_from name given ending
-            (lines_of_records printing records) records old new h whole failed.1
+            (lines_of_records form records) records old new h whole failed.1
       ];
     }
 
 -- the records are read and printed
-pub Reports-streamed : {T E : Type 0} (printing : Printing) (name : List ℕ) (start : Start)
+pub Reports-streamed : {T E : Type 0} (form : ReportForm) (name : List ℕ) (start : Start)
     (old opened mid new : DeskView) (out_old out_new : SinkView) (steps_old steps_new : ℕ)
     (x : T) (status : Status) → OpensFile {E = E} name old opened (Ok x) → ReadsStart opened mid (Ok start) →
-    Streams printing start (outside mid out_old steps_old) (outside new out_new steps_new) status →
-    Reports printing name (outside old out_old steps_old) (outside new out_new steps_new) status
-Reports-streamed {T} {E} printing name start old opened mid new out_old out_new steps_old steps_new x status opens
+    Streams form start (outside mid out_old steps_old) (outside new out_new steps_new) status →
+    Reports form name (outside old out_old steps_old) (outside new out_new steps_new) status
+Reports-streamed {T} {E} form name start old opened mid new out_old out_new steps_old steps_new x status opens
     header s =
     let given = header.given ++ s.given in
     let reads = ReadsOn-then (stands s.ending) header.given s.given opened mid new header.reads s.reads in
     let h = HearsFile-read {E = E} name given s.ending old opened new x opens reads s.at_end
     (KeepsReading-join opened mid new header.keeps s.keeps) in
-    streamed s.read printing name given s.ending (outside old out_old steps_old) (outside new out_new steps_new)
+    streamed s.read form name given s.ending (outside old out_old steps_old) (outside new out_new steps_new)
     status
     start s.given h
     (λ more. ap capture_of (append_assoc header.given s.given more)

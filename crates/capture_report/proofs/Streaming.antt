@@ -1,4 +1,4 @@
--- The printing of a capture, batch by batch.
+-- The form of a capture, batch by batch.
 use Rattle.std.proofs.Common.{◌≡◌, ℕ, ◌+◌, ◌≤◌, List, [], ◌++◌, length, map, All, Some, None, Result, Ok, Err, inl}
 use Rattle.std.proofs.Common.{inr, refl, sym, subst, ap, ◌∙◌, append_assoc, append-nil, length-append, arith}
 use Rattle.std.proofs.lemmas.List.{length-map, map-append}
@@ -21,56 +21,56 @@ use Rattle.capture_report.specs.declared.batch.BatchEnd.TheVariants.{Full, End, 
 use Rattle.command_plan.specs.declared.status.Status.{Status}
 use Rattle.command_plan.specs.declared.status.Status.TheVariants.{CaptureRefused, WriteFault}
 use Rattle.capture_report.specs.Packet.{IsPacket, packet_of}
-use Rattle.capture_report.specs.Printing.{Printing}
+use Rattle.capture_report.specs.ReportForm.{ReportForm}
 use Rattle.capture_report.specs.Report.{counted_all, counts_of_records, lines_of_packets, lines_of_records}
-use Rattle.capture_report.specs.Report.{steps_of_packets, steps_of_records}
+use Rattle.capture_report.specs.Report.{transitions_of_packets, transitions_of_records}
 use Rattle.capture_report.specs.Taken.{max_batch, stands, ending_of, AreAll, Took, TakesBatch}
 use Rattle.capture_report.specs.CaptureOutcome.{last_lines, last_text, refusal}
 use Rattle.command_plan.specs.Follow.{IsOpened}
 use Rattle.command_plan.specs.Effects.{Outside, PutsLast}
 use Rattle.capture_report.specs.Streams.{Whole, Part, IsUnbroken, Streams}
 use Rattle.capture_report.proofs.Taking.{Took-none, Took-then, AreOfBatch-part}
-use Rattle.capture_report.proofs.LineLaws.{steps_of_records-append, lines_of_records-append, counts_of_records-append}
+use Rattle.capture_report.proofs.LineLaws.{transitions_of_records-append, lines_of_records-append, counts_of_records-append}
 use Rattle.capture_report.proofs.LineLaws.{packets_counted, lines_in-records}
 use Rattle.command_plan.proofs.Gained.{Gains-none}
 
 -- some records were taken, and their lines were put
-pub record IsPrinting (printing : Printing) (start : Start) (counts : Counts) (taken : ℕ) (state : CaptureState)
+pub record IsPrinting (form : ReportForm) (start : Start) (counts : Counts) (transitions : ℕ) (state : CaptureState)
     (old new : Outside) : Type 0 where
   pub records : List CaptureRecord
   pub given : List ℕ
   pub took : Took start 0 records given old.desk new.desk Full
-  pub printed : Gains (lines_of_records printing records) old.out new.out
+  pub printed : Gains (lines_of_records form records) old.out new.out
   pub counted : counts ≡ counts_of_records records
   pub packets : All IsPacket (map packet_of records)
-  pub taken_is : taken ≡ steps_of_records printing.tables records
-  pub steps : new.steps ≡ old.steps + steps_of_records printing.tables records
+  pub transitions_are : transitions ≡ transitions_of_records form.tables records
+  pub steps : new.steps ≡ old.steps + transitions_of_records form.tables records
   pub state_is : state ≡ state_of start (length records) progress.Reading
   pub count : old.out.faults ≤ new.out.faults
 
-pub IsPrinting-none : (printing : Printing) (start : Start) (counts : Counts) (state : CaptureState)
+pub IsPrinting-none : (form : ReportForm) (start : Start) (counts : Counts) (state : CaptureState)
     (view : Outside) →
-    counts ≡ counts_of_records [] → state ≡ begun start → IsPrinting printing start counts 0 state view view
-IsPrinting-none printing start counts state view none is = record {
+    counts ≡ counts_of_records [] → state ≡ begun start → IsPrinting form start counts 0 state view view
+IsPrinting-none form start counts state view none is = record {
   records = [];
   given = [];
   took = Took-none start 0 view.desk;
   printed = Gains-none view.out;
   counted = none;
   packets = All-nil IsPacket;
-  taken_is = refl;
+  transitions_are = refl;
   steps = omega arith;
   state_is = is;
   count = omega arith;
 }
 
 -- there is room to count one batch more
-pub packets_few : (printing : Printing) (start : Start) (counts : Counts) (taken : ℕ) (state : CaptureState)
+pub packets_few : (form : ReportForm) (start : Start) (counts : Counts) (transitions : ℕ) (state : CaptureState)
     (old mid new : Outside)
-    (packets : List FrameClass) (stop : BatchEnd) → IsPrinting printing start counts taken state old mid →
+    (packets : List FrameClass) (stop : BatchEnd) → IsPrinting form start counts transitions state old mid →
     TakesBatch state.start state.count packets mid.desk new.desk stop →
     counts.packets + length packets ≤ max_records
-packets_few printing start counts taken state old mid new packets stop h batch =
+packets_few form start counts transitions state old mid new packets stop h batch =
     let so_far = h.took.room (omega arith) in
     let number : state.count ≡ length h.records = ap (λ s. s.count) h.state_is in
     let all = batch.took.room (omega (arith, so_far, number)) in
@@ -85,12 +85,12 @@ packets_few printing start counts taken state old mid new packets stop h batch =
     )
 
 -- what was taken with one batch more
-batch_taken : (printing : Printing) (start : Start) (counts : Counts) (taken : ℕ) (state : CaptureState)
+batch_taken : (form : ReportForm) (start : Start) (counts : Counts) (transitions : ℕ) (state : CaptureState)
     (old mid new : Outside)
-    (packets : List FrameClass) (stop : BatchEnd) (h : IsPrinting printing start counts taken state old mid)
+    (packets : List FrameClass) (stop : BatchEnd) (h : IsPrinting form start counts transitions state old mid)
     (batch : TakesBatch state.start state.count packets mid.desk new.desk stop) →
     Took start 0 (h.records ++ batch.records) (h.given ++ batch.given) old.desk new.desk stop
-batch_taken printing start counts taken state old mid new packets stop h batch =
+batch_taken form start counts transitions state old mid new packets stop h batch =
     let number : state.count ≡ 0 + length h.records = omega (arith, ap (λ s. s.count) h.state_is) in
     let from : Took start (0 + length h.records) batch.records batch.given mid.desk new.desk stop =
     subst (λ (n : ℕ). Took start n batch.records batch.given mid.desk new.desk stop) number
@@ -99,105 +99,105 @@ batch_taken printing start counts taken state old mid new packets stop h batch =
     Took-then start 0 h.records batch.records h.given batch.given old.desk mid.desk new.desk stop h.took from
 
 -- the lines with those of one batch more
-batch_lines : (printing : Printing) (start : Start) (counts : Counts) (taken : ℕ) (state : CaptureState)
+batch_lines : (form : ReportForm) (start : Start) (counts : Counts) (transitions : ℕ) (state : CaptureState)
     (old mid : Outside)
     (packets : List FrameClass)
-    (h : IsPrinting printing start counts taken state old mid) (records : List CaptureRecord) →
+    (h : IsPrinting form start counts transitions state old mid) (records : List CaptureRecord) →
     packets ≡ map packet_of records →
-    lines_of_records printing (h.records ++ records)
-    ≡ lines_of_records printing h.records ++ lines_of_packets printing (counts.packets + 1) packets
-batch_lines printing start counts taken state old mid packets h records are =
-    lines_of_records-append printing h.records records (counts.packets + 1)
+    lines_of_records form (h.records ++ records)
+    ≡ lines_of_records form h.records ++ lines_of_packets form (counts.packets + 1) packets
+batch_lines form start counts transitions state old mid packets h records are =
+    lines_of_records-append form h.records records (counts.packets + 1)
     (omega (arith, ap (λ c. c.packets) h.counted, packets_counted h.records))
-    ∙ ap (λ (l : List FrameClass). lines_of_records printing h.records
-    ++ lines_of_packets printing (counts.packets + 1) l) (sym are)
+    ∙ ap (λ (l : List FrameClass). lines_of_records form h.records
+    ++ lines_of_packets form (counts.packets + 1) l) (sym are)
 
 -- one batch more was taken and printed, of which the last record may be the last of the capture
-pub record HasPrinted (printing : Printing) (start : Start) (counts : Counts) (taken : ℕ) (old new : Outside)
+pub record HasPrinted (form : ReportForm) (start : Start) (counts : Counts) (transitions : ℕ) (old new : Outside)
     (stop : BatchEnd) : Type 0 where
   pub records : List CaptureRecord
   pub given : List ℕ
   pub took : Took start 0 records given old.desk new.desk stop
-  pub printed : Gains (lines_of_records printing records) old.out new.out
+  pub printed : Gains (lines_of_records form records) old.out new.out
   pub counted : counts ≡ counts_of_records records
   pub packets : All IsPacket (map packet_of records)
-  pub taken_is : taken ≡ steps_of_records printing.tables records
-  pub steps : new.steps ≡ old.steps + steps_of_records printing.tables records
+  pub transitions_are : transitions ≡ transitions_of_records form.tables records
+  pub steps : new.steps ≡ old.steps + transitions_of_records form.tables records
   pub count : old.out.faults ≤ new.out.faults
 
 -- the packets and the steps with those of one batch more
-batch_packets : (printing : Printing) (start : Start) (counts : Counts) (taken : ℕ) (state : CaptureState)
+batch_packets : (form : ReportForm) (start : Start) (counts : Counts) (transitions : ℕ) (state : CaptureState)
     (old mid new : Outside) (packets : List FrameClass) (stop : BatchEnd)
-    (h : IsPrinting printing start counts taken state old mid)
+    (h : IsPrinting form start counts transitions state old mid)
     (batch : TakesBatch state.start state.count packets mid.desk new.desk stop) →
     All IsPacket (map packet_of (h.records ++ batch.records))
-batch_packets printing start counts taken state old mid new packets stop h batch =
+batch_packets form start counts transitions state old mid new packets stop h batch =
     subst (All IsPacket) (sym (map-append packet_of h.records batch.records))
     (All-append IsPacket (map packet_of h.records) (map packet_of batch.records) h.packets
     (subst (All IsPacket) batch.packets_are batch.keys))
 
 -- one batch more takes so many steps more
-batch_steps : (printing : Printing) (start : Start) (counts : Counts) (taken : ℕ) (state : CaptureState)
+batch_steps : (form : ReportForm) (start : Start) (counts : Counts) (transitions : ℕ) (state : CaptureState)
     (old mid new : Outside) (packets : List FrameClass) (stop : BatchEnd)
-    (h : IsPrinting printing start counts taken state old mid)
+    (h : IsPrinting form start counts transitions state old mid)
     (batch : TakesBatch state.start state.count packets mid.desk new.desk stop) →
-    steps_of_records printing.tables (h.records ++ batch.records)
-    ≡ steps_of_records printing.tables h.records + steps_of_packets printing.tables packets
-batch_steps printing start counts taken state old mid new packets stop h batch =
-    steps_of_records-append printing.tables h.records batch.records
-    ∙ ap (λ (l : List FrameClass). steps_of_records printing.tables h.records + steps_of_packets printing.tables l)
+    transitions_of_records form.tables (h.records ++ batch.records)
+    ≡ transitions_of_records form.tables h.records + transitions_of_packets form.tables packets
+batch_steps form start counts transitions state old mid new packets stop h batch =
+    transitions_of_records-append form.tables h.records batch.records
+    ∙ ap (λ (l : List FrameClass). transitions_of_records form.tables h.records + transitions_of_packets form.tables l)
     (sym batch.packets_are)
 
 -- What the lines of a batch came to: they were put, and its packets and their steps were counted.
-pub record PutsBatch {T E : Type 0} (printing : Printing) (packets : List FrameClass) (counts counts_new : Counts)
-    (taken taken_new : ℕ) (mid new : Outside) (result : Result T E) : Type 0 where
-  pub puts : Puts (lines_of_packets printing (counts.packets + 1) packets) mid.out new.out result
+pub record PutsBatch {T E : Type 0} (form : ReportForm) (packets : List FrameClass) (counts counts_new : Counts)
+    (transitions transitions_new : ℕ) (mid new : Outside) (result : Result T E) : Type 0 where
+  pub puts : Puts (lines_of_packets form (counts.packets + 1) packets) mid.out new.out result
   pub counted : counts_new ≡ counted_all packets counts
-  pub taken_more : taken_new ≡ taken + steps_of_packets printing.tables packets
-  pub steps : new.steps ≡ mid.steps + steps_of_packets printing.tables packets
+  pub transitions_more : transitions_new ≡ transitions + transitions_of_packets form.tables packets
+  pub steps : new.steps ≡ mid.steps + transitions_of_packets form.tables packets
 
-pub HasPrinted-batch : {T E : Type 0} (printing : Printing) (start : Start) (counts counts_new : Counts)
-    (taken taken_new : ℕ) (state : CaptureState)
+pub HasPrinted-batch : {T E : Type 0} (form : ReportForm) (start : Start) (counts counts_new : Counts)
+    (transitions transitions_new : ℕ) (state : CaptureState)
     (old mid new : Outside) (packets : List FrameClass) (stop : BatchEnd) (x : T) →
-    IsPrinting printing start counts taken state old mid →
+    IsPrinting form start counts transitions state old mid →
     TakesBatch state.start state.count packets mid.desk new.desk stop →
-    PutsBatch {E = E} printing packets counts counts_new taken taken_new mid new (Ok x) →
-    HasPrinted printing start counts_new taken_new old new stop
-HasPrinted-batch printing start counts counts_new taken taken_new state old mid new packets stop x h batch put =
-    let more = batch_steps printing start counts taken state old mid new packets stop h batch in
+    PutsBatch {E = E} form packets counts counts_new transitions transitions_new mid new (Ok x) →
+    HasPrinted form start counts_new transitions_new old new stop
+HasPrinted-batch form start counts counts_new transitions transitions_new state old mid new packets stop x h batch put =
+    let more = batch_steps form start counts transitions state old mid new packets stop h batch in
     record {
       records = h.records ++ batch.records;
       given = h.given ++ batch.given;
-      took = batch_taken printing start counts taken state old mid new packets stop h batch;
+      took = batch_taken form start counts transitions state old mid new packets stop h batch;
       printed =
-          rw (batch_lines printing start counts taken state old mid packets h batch.records batch.packets_are)
-          (Gains-then (lines_of_records printing h.records)
-          (lines_of_packets printing (counts.packets + 1) packets) old.out mid.out new.out
+          rw (batch_lines form start counts transitions state old mid packets h batch.records batch.packets_are)
+          (Gains-then (lines_of_records form h.records)
+          (lines_of_packets form (counts.packets + 1) packets) old.out mid.out new.out
           h.printed put.puts.whole);
       counted =
           put.counted ∙ ap (λ (l : List FrameClass). counted_all l counts) batch.packets_are
           ∙ ap (counted_all (map packet_of batch.records)) h.counted
           ∙ counts_of_records-append h.records batch.records;
-      packets = batch_packets printing start counts taken state old mid new packets stop h batch;
-      taken_is = omega (arith, put.taken_more, h.taken_is, more);
+      packets = batch_packets form start counts transitions state old mid new packets stop h batch;
+      transitions_are = omega (arith, put.transitions_more, h.transitions_are, more);
       steps = omega (arith, put.steps, h.steps, more);
       count = omega (arith, h.count, put.puts.count);
     }
 
 -- and the next batch comes
-pub IsPrinting-batch : {T E : Type 0} (printing : Printing) (start : Start) (counts counts_new : Counts)
-    (taken taken_new : ℕ) (state state_new : CaptureState)
+pub IsPrinting-batch : {T E : Type 0} (form : ReportForm) (start : Start) (counts counts_new : Counts)
+    (transitions transitions_new : ℕ) (state state_new : CaptureState)
     (old mid new : Outside) (packets : List FrameClass) (x : T) →
-    IsPrinting printing start counts taken state old mid →
+    IsPrinting form start counts transitions state old mid →
     TakesBatch state.start state.count packets mid.desk new.desk Full →
-    PutsBatch {E = E} printing packets counts counts_new taken taken_new mid new (Ok x) →
+    PutsBatch {E = E} form packets counts counts_new transitions transitions_new mid new (Ok x) →
     state_new ≡ state_of state.start (state.count + max_batch) progress.Reading →
-    IsPrinting printing start counts_new taken_new state_new old new
+    IsPrinting form start counts_new transitions_new state_new old new
 unfolding HasPrinted-batch
-IsPrinting-batch {T} {E} printing start counts counts_new taken taken_new state state_new old mid new packets x h
+IsPrinting-batch {T} {E} form start counts counts_new transitions transitions_new state state_new old mid new packets x h
     batch
     put is =
-    let all = HasPrinted-batch {E = E} printing start counts counts_new taken taken_new state old mid new packets Full
+    let all = HasPrinted-batch {E = E} form start counts counts_new transitions transitions_new state old mid new packets Full
     x
     h batch put in
     let number : state.count + max_batch ≡ length (h.records ++ batch.records) =
@@ -216,7 +216,7 @@ IsPrinting-batch {T} {E} printing start counts counts_new taken taken_new state 
       printed = all.printed;
       counted = all.counted;
       packets = all.packets;
-      taken_is = all.taken_is;
+      transitions_are = all.transitions_are;
       steps = all.steps;
       state_is =
           is ∙ ap (λ (s : Start). state_of s (state.count + max_batch) progress.Reading)
@@ -247,17 +247,17 @@ unbroken_opened Ended unbroken = tt
 unbroken_opened BrokenOff unbroken = tt
 
 -- where the lines of a batch couldn't be put
-pub Streams-failed : {T E : Type 0} (printing : Printing) (start : Start) (counts counts_new : Counts)
-    (taken taken_new : ℕ) (state : CaptureState)
+pub Streams-failed : {T E : Type 0} (form : ReportForm) (start : Start) (counts counts_new : Counts)
+    (transitions transitions_new : ℕ) (state : CaptureState)
     (old mid new : Outside) (packets : List FrameClass) (stop : BatchEnd) (e : E) →
-    IsPrinting printing start counts taken state old mid →
+    IsPrinting form start counts transitions state old mid →
     TakesBatch state.start state.count packets mid.desk new.desk stop →
-    PutsBatch {T = T} printing packets counts counts_new taken taken_new mid new (Err e) →
-    Streams printing start old new WriteFault
-Streams-failed printing start counts counts_new taken taken_new state old mid new packets stop e h batch put =
-    let took = batch_taken printing start counts taken state old mid new packets stop h batch in
-    let more = batch_steps printing start counts taken state old mid new packets stop h batch in
-    let lines = lines_of_records printing h.records in
+    PutsBatch {T = T} form packets counts counts_new transitions transitions_new mid new (Err e) →
+    Streams form start old new WriteFault
+Streams-failed form start counts counts_new transitions transitions_new state old mid new packets stop e h batch put =
+    let took = batch_taken form start counts transitions state old mid new packets stop h batch in
+    let more = batch_steps form start counts transitions state old mid new packets stop h batch in
+    let lines = lines_of_records form h.records in
     let prefix = put.puts.prefix in
     record {
       given = h.given ++ batch.given;
@@ -268,20 +268,20 @@ Streams-failed printing start counts counts_new taken taken_new state old mid ne
       at_end = took.at_end;
       keeps = took.keeps;
       bytes = AreOfBatch-part stop start (h.given ++ batch.given) (h.records ++ batch.records) took.bytes;
-      packets = batch_packets printing start counts taken state old mid new packets stop h batch;
+      packets = batch_packets form start counts transitions state old mid new packets stop h batch;
       answer = inr (
         refl,
         record {
           put = lines ++ prefix.prefix;
           rest = prefix.rest;
           parts =
-              batch_lines printing start counts taken state old mid packets h batch.records batch.packets_are
+              batch_lines form start counts transitions state old mid packets h batch.records batch.packets_are
               ∙ ap (λ l. lines ++ l) prefix.parts
               ∙ sym (append_assoc lines prefix.prefix prefix.rest);
           gains = Gains-then lines prefix.prefix old.out mid.out new.out h.printed prefix.gains;
           few = omega (
             arith,
-            lines_in-records printing h.records prefix.prefix,
+            lines_in-records form h.records prefix.prefix,
             length-append h.records batch.records,
             batch.few,
             ap length batch.packets_are,
@@ -296,12 +296,12 @@ Streams-failed printing start counts counts_new taken taken_new state old mid ne
     }
 
 -- the capture ended, and the last lines were put or not
-pub Streams-ended : (printing : Printing) (start : Start) (counts : Counts) (taken : ℕ) (old mid new : Outside)
+pub Streams-ended : (form : ReportForm) (start : Start) (counts : Counts) (transitions : ℕ) (old mid new : Outside)
     (status : Status) →
-    HasPrinted printing start counts taken old mid End → new.desk ≡ mid.desk → new.steps ≡ mid.steps →
-    PutsLast (last_text printing counts taken) mid.out new.out status →
-    Streams printing start old new status
-Streams-ended printing start counts taken old mid new status h same same_steps puts = record {
+    HasPrinted form start counts transitions old mid End → new.desk ≡ mid.desk → new.steps ≡ mid.steps →
+    PutsLast (last_text form counts transitions) mid.out new.out status →
+    Streams form start old new status
+Streams-ended form start counts transitions old mid new status h same same_steps puts = record {
   given = h.given;
   ending = Ended;
   opened = tt;
@@ -314,19 +314,19 @@ Streams-ended printing start counts taken old mid new status h same same_steps p
   answer = elim puts.puts [
     | inl done ↦ inl (
       done.0,
-      Gains-then (lines_of_records printing h.records) line old.out mid.out new.out h.printed (rw is_line at done.1),
+      Gains-then (lines_of_records form h.records) line old.out mid.out new.out h.printed (rw is_line at done.1),
     )
     | inr failed ↦ inr (
       failed.0,
       record {
-        put = lines_of_records printing h.records ++ failed.1.prefix;
+        put = lines_of_records form h.records ++ failed.1.prefix;
         rest = failed.1.rest;
         parts =
-            ap (λ l. lines_of_records printing h.records ++ l) (sym is_line ∙ failed.1.parts)
-            ∙ sym (append_assoc (lines_of_records printing h.records) failed.1.prefix failed.1.rest);
-        gains = Gains-then (lines_of_records printing h.records) failed.1.prefix old.out mid.out new.out h.printed
+            ap (λ l. lines_of_records form h.records ++ l) (sym is_line ∙ failed.1.parts)
+            ∙ sym (append_assoc (lines_of_records form h.records) failed.1.prefix failed.1.rest);
+        gains = Gains-then (lines_of_records form h.records) failed.1.prefix old.out mid.out new.out h.printed
             failed.1.gains;
-        few = omega (arith, lines_in-records printing h.records failed.1.prefix);
+        few = omega (arith, lines_in-records form h.records failed.1.prefix);
         rose = omega (arith, h.count, failed.2);
       },
     )
@@ -337,24 +337,24 @@ Streams-ended printing start counts taken old mid new status h same same_steps p
 }
   where
     line : List ℕ
-    line = last_lines printing h.records None
+    line = last_lines form h.records None
 
-    is_line : last_text printing counts taken ≡ line
+    is_line : last_text form counts transitions ≡ line
     is_line =
-        ap (λ (c : Counts). last_text printing c taken) h.counted
-        ∙ ap (last_text printing (counts_of_records h.records)) h.taken_is
+        ap (λ (c : Counts). last_text form c transitions) h.counted
+        ∙ ap (last_text form (counts_of_records h.records)) h.transitions_are
 
--- a fault of the capture, behind all lines
-fault_whole : (printing : Printing) (start : Start) (old new : Outside) (given : List ℕ)
+-- a fault of the capture, after all lines
+fault_whole : (form : ReportForm) (start : Start) (old new : Outside) (given : List ℕ)
     (records : List CaptureRecord) (ending : Ending)
     (fault : CaptureFault) (status : Status) → ReadsOn (stands ending) given old.desk new.desk →
     (ending ≡ Ended → IsAtEnd new.desk) →
     KeepsReading old.desk new.desk → IsUnbroken ending → AreAll start 0 given ending records (Some fault) →
-    Gains (lines_of_records printing records) old.out new.out → old.out.faults ≤ new.out.faults →
+    Gains (lines_of_records form records) old.out new.out → old.out.faults ≤ new.out.faults →
     status ≡ CaptureRefused fault → All IsPacket (map packet_of records) →
-    new.steps ≡ old.steps + steps_of_records printing.tables records →
-    Streams printing start old new status
-fault_whole printing start old new given records ending fault status reads at_end keeps unbroken all printed count
+    new.steps ≡ old.steps + transitions_of_records form.tables records →
+    Streams form start old new status
+fault_whole form start old new given records ending fault status reads at_end keeps unbroken all printed count
     is packets steps = record {
       given = given;
       ending = ending;
@@ -365,17 +365,17 @@ fault_whole printing start old new given records ending fault status reads at_en
       keeps = keeps;
       bytes = (unbroken, all);
       packets = packets;
-      answer = inl (is, rw (append-nil (lines_of_records printing records)) printed);
+      answer = inl (is, rw (append-nil (lines_of_records form records)) printed);
       read_fault = λ e. absurd (cc);
       steps = steps;
       count = count;
     }
 
-pub Streams-fault : (fault : CaptureFault) (printing : Printing) (start : Start) (counts : Counts) (taken : ℕ)
+pub Streams-fault : (fault : CaptureFault) (form : ReportForm) (start : Start) (counts : Counts) (transitions : ℕ)
     (old new : Outside) (status : Status) →
-    HasPrinted printing start counts taken old new (Fault fault) → status ≡ refusal fault →
-    Streams printing start old new status
-Streams-fault faults.ReadFault printing start counts taken old new status h is = record {
+    HasPrinted form start counts transitions old new (Fault fault) → status ≡ refusal fault →
+    Streams form start old new status
+Streams-fault faults.ReadFault form start counts transitions old new status h is = record {
   given = h.given;
   ending = BrokenOff;
   opened = tt;
@@ -390,31 +390,31 @@ Streams-fault faults.ReadFault printing start counts taken old new status h is =
   steps = h.steps;
   count = h.count;
 }
-Streams-fault faults.HeaderCut printing start counts taken old new status h is =
-    fault_whole printing start old new h.given h.records Ended faults.HeaderCut status h.took.reads h.took.at_end
+Streams-fault faults.HeaderCut form start counts transitions old new status h is =
+    fault_whole form start old new h.given h.records Ended faults.HeaderCut status h.took.reads h.took.at_end
     h.took.keeps tt h.took.bytes
     h.printed h.count is h.packets h.steps
-Streams-fault faults.Magic printing start counts taken old new status h is =
-    fault_whole printing start old new h.given h.records GoesOn faults.Magic status h.took.reads h.took.at_end
+Streams-fault faults.Magic form start counts transitions old new status h is =
+    fault_whole form start old new h.given h.records GoesOn faults.Magic status h.took.reads h.took.at_end
     h.took.keeps tt h.took.bytes
     h.printed h.count is h.packets h.steps
-Streams-fault faults.Version printing start counts taken old new status h is =
-    fault_whole printing start old new h.given h.records GoesOn faults.Version status h.took.reads h.took.at_end
+Streams-fault faults.Version form start counts transitions old new status h is =
+    fault_whole form start old new h.given h.records GoesOn faults.Version status h.took.reads h.took.at_end
     h.took.keeps tt h.took.bytes
     h.printed h.count is h.packets h.steps
-Streams-fault faults.LinkType printing start counts taken old new status h is =
-    fault_whole printing start old new h.given h.records GoesOn faults.LinkType status h.took.reads h.took.at_end
+Streams-fault faults.LinkType form start counts transitions old new status h is =
+    fault_whole form start old new h.given h.records GoesOn faults.LinkType status h.took.reads h.took.at_end
     h.took.keeps tt h.took.bytes
     h.printed h.count is h.packets h.steps
-Streams-fault (faults.RecordCut n) printing start counts taken old new status h is =
-    fault_whole printing start old new h.given h.records Ended
+Streams-fault (faults.RecordCut n) form start counts transitions old new status h is =
+    fault_whole form start old new h.given h.records Ended
     (faults.RecordCut n) status h.took.reads h.took.at_end h.took.keeps tt h.took.bytes
     h.printed h.count is h.packets h.steps
-Streams-fault (faults.RecordTooLong n) printing start counts taken old new status h is =
-    fault_whole printing start old new h.given h.records GoesOn
+Streams-fault (faults.RecordTooLong n) form start counts transitions old new status h is =
+    fault_whole form start old new h.given h.records GoesOn
     (faults.RecordTooLong n) status h.took.reads h.took.at_end h.took.keeps tt
     h.took.bytes h.printed h.count is h.packets h.steps
-Streams-fault faults.TooManyRecords printing start counts taken old new status h is =
-    fault_whole printing start old new h.given h.records GoesOn faults.TooManyRecords status h.took.reads
+Streams-fault faults.TooManyRecords form start counts transitions old new status h is =
+    fault_whole form start old new h.given h.records GoesOn faults.TooManyRecords status h.took.reads
     h.took.at_end h.took.keeps tt
     h.took.bytes h.printed h.count is h.packets h.steps

@@ -20,20 +20,20 @@ use Rattle.capture_report.specs.declared.batch.BatchEnd.{BatchEnd}
 use Rattle.capture_report.specs.declared.batch.BatchEnd.TheVariants.{Full, End, Fault}
 use Rattle.capture_report.specs.Taken.{onto, ending_of, stands, AreRecords, AreAll, AreOfBatch, Took}
 
-onto-none : (behind : Recorded) → behind ≡ onto [] behind
-onto-none behind = refl
+onto-none : (later : Recorded) → later ≡ onto [] later
+onto-none later = refl
 
-onto-then : (first second : List CaptureRecord) (behind : Recorded) →
-    onto first (onto second behind) ≡ onto (first ++ second) behind
-onto-then first second behind =
-    ap (λ records. let all : Recorded = record { records = records; fault = behind.fault } in all)
-    (sym (append_assoc first second behind.records))
+onto-then : (first second : List CaptureRecord) (later : Recorded) →
+    onto first (onto second later) ≡ onto (first ++ second) later
+onto-then first second later =
+    ap (λ records. let all : Recorded = record { records = records; fault = later.fault } in all)
+    (sym (append_assoc first second later.records))
 
 -- nothing was taken yet
 pub Took-none : (start : Start) (count : ℕ) (view : DeskView) → Took start count [] [] view view Full
 Took-none start count view = record {
-  bytes = λ behind. ap (λ n. records_behind start n behind) (sym (add-zero count))
-      ∙ onto-none (records_behind start (count + 0) behind);
+  bytes = λ later. ap (λ n. records_behind start n later) (sym (add-zero count))
+      ∙ onto-none (records_behind start (count + 0) later);
   reads = ReadsOn-none view;
   at_end = λ e. absurd (cc);
   read_fault = λ e. absurd (cc);
@@ -46,30 +46,30 @@ Took-none start count view = record {
 }
 
 -- records, and then more bytes
-behind_records : (start : Start) (count : ℕ) (first : List CaptureRecord) (given more : List ℕ) →
+records_later : (start : Start) (count : ℕ) (first : List CaptureRecord) (given more : List ℕ) →
     AreRecords start count given first →
-    (behind : List ℕ) →
-    records_behind start count ((given ++ more) ++ behind)
-    ≡ onto first (records_behind start (count + length first) (more ++ behind))
-behind_records start count first given more are behind =
-    ap (records_behind start count) (append_assoc given more behind) ∙ are (more ++ behind)
+    (later : List ℕ) →
+    records_behind start count ((given ++ more) ++ later)
+    ≡ onto first (records_behind start (count + length first) (more ++ later))
+records_later start count first given more are later =
+    ap (records_behind start count) (append_assoc given more later) ∙ are (more ++ later)
 
 AreRecords-then : (start : Start) (count : ℕ) (first second : List CaptureRecord) (given more : List ℕ) →
     AreRecords start count given first →
     AreRecords start (count + length first) more second → AreRecords start count (given ++ more) (first ++ second)
-AreRecords-then start count first second given more a b behind =
+AreRecords-then start count first second given more a b later =
     let sum : (count + length first) + length second ≡ count + length (first ++ second) =
     omega (arith, length-append first second) in
-    behind_records start count first given more a behind ∙ ap (onto first) (b behind)
-    ∙ onto-then first second (records_behind start ((count + length first) + length second) behind)
-    ∙ ap (λ n. onto (first ++ second) (records_behind start n behind)) sum
+    records_later start count first given more a later ∙ ap (onto first) (b later)
+    ∙ onto-then first second (records_behind start ((count + length first) + length second) later)
+    ∙ ap (λ n. onto (first ++ second) (records_behind start n later)) sum
 
 AreAll-then : (start : Start) (count : ℕ) (first second : List CaptureRecord) (given more : List ℕ) (ending : Ending)
     (fault : Option CaptureFault) →
     AreRecords start count given first → AreAll start (count + length first) more ending second fault →
     AreAll start count (given ++ more) ending (first ++ second) fault
-AreAll-then start count first second given more ending fault a b behind rest =
-    behind_records start count first given more a behind ∙ ap (onto first) (b behind rest)
+AreAll-then start count first second given more ending fault a b later rest =
+    records_later start count first given more a later ∙ ap (onto first) (b later rest)
 
 ArePart-then : (start : Start) (count : ℕ) (first second : List CaptureRecord) (given more : List ℕ) →
     AreRecords start count given first → (records_behind start (count + length first) more).records ≡ second →
@@ -148,9 +148,9 @@ AreOfBatch-part (Fault TooManyRecords) start given records are =
     AreAll-part start 0 given GoesOn records (Some TooManyRecords) are
 
 -- there is a record only where there may be one more
-record_few : (start : Start) (count : ℕ) (given captured behind : List ℕ) →
-    next_of start.order count given ≡ Record captured behind → count < max_records
-record_few start count given captured behind next =
+record_few : (start : Start) (count : ℕ) (given captured later : List ℕ) →
+    next_of start.order count given ≡ Record captured later → count < max_records
+record_few start count given captured later next =
     elim (cases_eq (length given) 0) [
       | inl none ↦
           let ends : next_of start.order count given ≡ NoMore = rw (eq-eqb (length given) 0 none) refl in
@@ -166,11 +166,11 @@ pub Took-record : (start : Start) (count : ℕ) (captured : List ℕ) (old new :
     (reads : ReadsNext start.order count old new (Ok (Some captured))) →
     Took start count (record { link = start.link; bytes = captured } ∷ []) reads.given old new Full
 Took-record start count captured old new reads = record {
-  bytes = λ behind.
-      let next : next_of start.order count (reads.given ++ behind) ≡ Record captured behind =
-      next_of-append start.order count reads.given behind (subst IsDecided (sym reads.answer) tt)
-      ∙ ap (λ n. with_behind n behind) reads.answer in
-      records_behind-record start count (reads.given ++ behind) captured behind next;
+  bytes = λ later.
+      let next : next_of start.order count (reads.given ++ later) ≡ Record captured later =
+      next_of-append start.order count reads.given later (subst IsDecided (sym reads.answer) tt)
+      ∙ ap (λ n. with_behind n later) reads.answer in
+      records_behind-record start count (reads.given ++ later) captured later next;
   reads = reads.reads;
   at_end = λ e. absurd (cc);
   read_fault = λ e. absurd (cc);

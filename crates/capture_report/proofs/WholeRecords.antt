@@ -12,7 +12,7 @@ use Rattle.pcap_reader.specs.Capture.{whole_records, records_in}
 use Rattle.pcap_reader.proofs.NextLaws.{IsDecided, with_behind, next_of-append}
 use Rattle.pcap_reader.proofs.CaptureLaws.{IsShorter, next_of-shorter, next_cases, records_behind-record}
 use Rattle.pcap_reader.proofs.CaptureLaws.{records_behind-end, records_behind-fault}
-use Rattle.capture_report.specs.Printing.{Printing}
+use Rattle.capture_report.specs.ReportForm.{ReportForm}
 use Rattle.capture_report.specs.Report.{lines_of_packets, lines_of_records}
 use Rattle.capture_report.specs.CaptureOutcome.{last_lines, lines_so_far, report, report_of_capture}
 use Rattle.capture_report.specs.Packet.{packet_of}
@@ -44,22 +44,22 @@ records_more (suc fuel) start count left more enough =
       | inr (inr fails) ↦ none_first _ _ (ap (λ r. r.records) (records_behind-fault start count left fails.0 fails.1))
     ]
   where
-    record_first : (captured behind : List ℕ) → next_of start.order count left ≡ Record captured behind →
-        AreFirst (records_behind start (count + 1) behind).records
-        (records_behind start (count + 1) (behind ++ more)).records →
+    record_first : (captured later : List ℕ) → next_of start.order count left ≡ Record captured later →
+        AreFirst (records_behind start (count + 1) later).records
+        (records_behind start (count + 1) (later ++ more)).records →
         AreFirst (records_behind start count left).records (records_behind start count (left ++ more)).records
-    record_first captured behind next later =
+    record_first captured later next follow =
         let one : CaptureRecord = record { link = start.link; bytes = captured } in
-        let longer : next_of start.order count (left ++ more) ≡ Record captured (behind ++ more) =
+        let longer : next_of start.order count (left ++ more) ≡ Record captured (later ++ more) =
         next_of-append start.order count left more (subst IsDecided (sym next) tt)
         ∙ ap (λ n. with_behind n more) next in
         record {
-          rest = later.rest;
+          rest = follow.rest;
           parts =
-              ap (λ r. r.records) (records_behind-record start count (left ++ more) captured (behind ++ more) longer)
-              ∙ ap (λ l. one ∷ l) later.parts
-              ∙ ap (λ (l : List CaptureRecord). l ++ later.rest)
-              (sym (ap (λ r. r.records) (records_behind-record start count left captured behind next)));
+              ap (λ r. r.records) (records_behind-record start count (left ++ more) captured (later ++ more) longer)
+              ∙ ap (λ l. one ∷ l) follow.parts
+              ∙ ap (λ (l : List CaptureRecord). l ++ follow.rest)
+              (sym (ap (λ r. r.records) (records_behind-record start count left captured later next)));
         }
 
 -- what a file header says is said by its first bytes
@@ -96,33 +96,33 @@ whole_first bytes more (Ok start) says =
       parts = all ∙ first.parts ∙ ap (λ (l : List CaptureRecord). l ++ first.rest) (sym alone);
     }
 
-lines_first : (printing : Printing) (front all : List CaptureRecord) (behind : List ℕ) → AreFirst front all →
-    BeginsWith (lines_of_records printing front) (lines_of_records printing all ++ behind)
-lines_first printing front all behind first =
-    let rest = lines_of_packets printing (length front + 1) (map packet_of first.rest) in
+lines_first : (form : ReportForm) (front all : List CaptureRecord) (later : List ℕ) → AreFirst front all →
+    BeginsWith (lines_of_records form front) (lines_of_records form all ++ later)
+lines_first form front all later first =
+    let rest = lines_of_packets form (length front + 1) (map packet_of first.rest) in
     record {
-      rest = rest ++ behind;
+      rest = rest ++ later;
       parts =
-          ap (λ l. l ++ behind)
-          (ap (lines_of_records printing) first.parts
-          ∙ lines_of_records-append printing front first.rest (length front + 1) refl)
-          ∙ append_assoc (lines_of_records printing front) rest behind;
+          ap (λ l. l ++ later)
+          (ap (lines_of_records form) first.parts
+          ∙ lines_of_records-append form front first.rest (length front + 1) refl)
+          ∙ append_assoc (lines_of_records form front) rest later;
     }
 
 no_front : (front rest : List CaptureRecord) → [] ≡ front ++ rest → front ≡ []
 no_front [] rest e = refl
 no_front (r ∷ rs) rest e = absurd (cc)
 
-reported_first : (printing : Printing) (front : List CaptureRecord) (capture : Result Recorded CaptureFault) →
+reported_first : (form : ReportForm) (front : List CaptureRecord) (capture : Result Recorded CaptureFault) →
     AreFirst front (records_in capture) →
-    BeginsWith (lines_of_records printing front) (report_of_capture printing capture).text
-reported_first printing front (Ok capture) first =
-    lines_first printing front capture.records (last_lines printing capture.records capture.fault) first
-reported_first printing front (Err fault) first = rw (no_front front first.rest first.parts) (BeginsWith-nothing [])
+    BeginsWith (lines_of_records form front) (report_of_capture form capture).text
+reported_first form front (Ok capture) first =
+    lines_first form front capture.records (last_lines form capture.records capture.fault) first
+reported_first form front (Err fault) first = rw (no_front front first.rest first.parts) (BeginsWith-nothing [])
 
 -- The lines of the whole records of the first bytes are the first part of the report.
-pub report-begins : (printing : Printing) (bytes more : List ℕ) →
-    BeginsWith (lines_so_far printing bytes) (report printing (bytes ++ more)).text
-report-begins printing bytes more =
-    reported_first printing (whole_records bytes) (capture_of (bytes ++ more))
+pub report-begins : (form : ReportForm) (bytes more : List ℕ) →
+    BeginsWith (lines_so_far form bytes) (report form (bytes ++ more)).text
+report-begins form bytes more =
+    reported_first form (whole_records bytes) (capture_of (bytes ++ more))
     (whole_first bytes more (start_of bytes) refl)

@@ -48,16 +48,16 @@ stands GoesOn = and_goes_on
 stands Ended = with_ending Ended
 stands BrokenOff = with_ending BrokenOff
 
--- records in front of what is recorded behind them
+-- records in front of what is recorded after them
 abbrev pub onto : List CaptureRecord → Recorded → Recorded
-onto records behind = record { records = records ++ behind.records; fault = behind.fault }
+onto records later = record { records = records ++ later.records; fault = later.fault }
 
--- The bytes are these records, whatever stands behind them, where so many records stand in front.
+-- The bytes are these records, whatever stands after them, where so many records stand in front.
 abbrev pub AreRecords : Start → ℕ → List ℕ → List CaptureRecord → Type 0
 AreRecords start count given records =
-    (behind : List ℕ) →
-    records_behind start count (given ++ behind)
-    ≡ onto records (records_behind start (count + length records) behind)
+    (later : List ℕ) →
+    records_behind start count (given ++ later)
+    ≡ onto records (records_behind start (count + length records) later)
 
 -- The bytes are all of these records and their ending, whatever else the file may have.
 abbrev pub AreAll : Start → ℕ → List ℕ → Ending → List CaptureRecord → Option CaptureFault → Type 0
@@ -74,7 +74,7 @@ AreOfBatch start count given records (Fault ReadFault) =
 AreOfBatch start count given records (Fault fault) =
     AreAll start count given (ending_of_fault fault) records (Some fault)
 
--- These records were read, behind so many others, and nothing else.
+-- These records were read, after so many others, and nothing else.
 pub record Took (start : Start) (count : ℕ) (records : List CaptureRecord) (given : List ℕ)
     (old new : DeskView) (stop : BatchEnd) : Type 0 where
   pub bytes : AreOfBatch start count given records stop
@@ -84,7 +84,7 @@ pub record Took (start : Start) (count : ℕ) (records : List CaptureRecord) (gi
   pub keeps : KeepsReading old new
   pub room : count ≤ max_records → count + length records ≤ max_records
 
--- A batch of records was read, behind so many others, and these are their packets.
+-- A batch of records was read, after so many others, and these are their packets.
 pub record TakesBatch (start : Start) (count : ℕ) (packets : List FrameClass) (old new : DeskView)
     (stop : BatchEnd) : Type 0 where
   pub records : List CaptureRecord
@@ -107,7 +107,7 @@ end_of (Ok None) = Some End
 end_of (Ok (Some captured)) = None
 end_of (Err fault) = Some (Fault fault)
 
--- The next record was asked for, and its packet was put behind the others.
+-- The next record was asked for, and its packet was put after the others.
 pub record TakesRecord (state_old state_new : CaptureState)
     (packets_old packets_new : List FrameClass) (old new : DeskView)
     (result : Option BatchEnd) : Type 0 where

@@ -19,7 +19,7 @@ pub enum BatchEnd {
     Full,
     /// The capture has no more records.
     End,
-    /// The capture has a fault behind its records, or can't be read.
+    /// The capture has a fault after its records, or can't be read.
     Fault(CaptureFault),
 }
 
@@ -45,7 +45,7 @@ pub fn take_batch<D: Desk>(capture: &mut Capture, desk: &mut D, packets: &mut Pa
     BatchEnd::Full
 }
 
-/// Takes the next record behind the others, or says why there is none.
+/// Takes the next record after the others, or says why there is none.
 fn take_record<D: Desk>(
     capture: &mut Capture,
     desk: &mut D,

@@ -4,11 +4,11 @@ use Rattle.command_plan.specs.Effects.{outside}
 use Rattle.capture_report.proofs.LineLaws.{counts-none, records_add_up, counted_all-packets}
 use Rattle.capture_report.proofs.Streaming.{IsPrinting-none, IsPrinting-batch, HasPrinted-batch, Streams-failed}
 use Rattle.capture_report.proofs.Streaming.{Streams-ended, Streams-fault, packets_few}
-use Rattle.capture_report.proofs.print.print_records.Goals as goal
+use Rattle.capture_report.proofs.conductor.print_records.Goals as goal
 
 pub batches-init : goal.batches-init
 batches-init g c = record {
-  printing = IsPrinting-none c.args.printer.now c.args.capture.now.start c.default-counts.result c.args.capture.now
+  printed = IsPrinting-none c.args.form.now c.args.capture.now.start c.default-counts.result c.args.capture.now
       (outside (g.D.Desk.view c.args.desk.now) (g.O.Sink.view c.args.out.now) c.args.steps.now)
       (counts-none c.default-counts.result c.default-counts.ensures) c.requires.begun;
   bound = omega arith;
@@ -19,13 +19,13 @@ pub put_lines-requires-clause-next : goal.put_lines-requires-clause-next
 put_lines-requires-clause-next g c =
     let desk = g.D.Desk.view in
     let out = g.O.Sink.view c.batches.out in
-    let printing = c.batches.invariant.printing in record {
-      classes = records_add_up printing.records c.batches.counts printing.counted;
-      few = packets_few c.args.printer.now c.args.capture.now.start c.batches.counts c.batches.taken c.batches.capture
+    let so_far = c.batches.invariant.printed in record {
+      classes = records_add_up so_far.records c.batches.counts so_far.counted;
+      few = packets_few c.args.form.now c.args.capture.now.start c.batches.counts c.batches.transitions c.batches.capture
           (outside (desk c.args.desk.now) (g.O.Sink.view c.args.out.now) c.args.steps.now)
           (outside (desk c.batches.desk) out c.batches.steps)
           (outside (desk c.take_batch-end.new.desk) out c.batches.steps) c.take_batch-end.new.packets _
-          printing c.take_batch-end.ensures.batch;
+          so_far c.take_batch-end.ensures.batch;
       own = c.take_batch-end.ensures.batch.keys;
     }
 
@@ -33,18 +33,18 @@ pub returns-in-Err : goal.returns-in-Err
 returns-in-Err g c =
     let desk = g.D.Desk.view in
     let out = g.O.Sink.view in
-    Streams-failed c.args.printer.now c.args.capture.now.start c.batches.counts c.put_lines.new.counts c.batches.taken
-    c.put_lines.new.taken c.batches.capture
+    Streams-failed c.args.form.now c.args.capture.now.start c.batches.counts c.put_lines.new.counts c.batches.transitions
+    c.put_lines.new.transitions c.batches.capture
     (outside (desk c.args.desk.now) (out c.args.out.now) c.args.steps.now)
     (outside (desk c.batches.desk) (out c.batches.out) c.batches.steps)
     (outside (desk c.take_batch-end.new.desk) (out c.put_lines.new.out) c.put_lines.new.steps)
     c.take_batch-end.new.packets
     c.take_batch-end.result
-    c.in-Err.field-0 c.batches.invariant.printing c.take_batch-end.ensures.batch
+    c.in-Err.field-0 c.batches.invariant.printed c.take_batch-end.ensures.batch
     record {
       puts = c.in-Err.ensures.puts;
       counted = c.in-Err.ensures.counts;
-      taken_more = c.in-Err.ensures.taken;
+      transitions_more = c.in-Err.ensures.transitions;
       steps = c.in-Err.ensures.steps;
     }
 
@@ -54,11 +54,11 @@ batches-smaller g c =
     let out = g.O.Sink.view in
     let packets = c.take_batch-end.new.packets in
     let few =
-    packets_few c.args.printer.now c.args.capture.now.start c.batches.counts c.batches.taken c.batches.capture
+    packets_few c.args.form.now c.args.capture.now.start c.batches.counts c.batches.transitions c.batches.capture
     (outside (desk c.args.desk.now) (out c.args.out.now) c.args.steps.now)
     (outside (desk c.batches.desk) (out c.batches.out) c.batches.steps)
     (outside (desk c.take_batch-end.new.desk) (out c.put_lines.new.out) c.put_lines.new.steps) packets _
-    c.batches.invariant.printing
+    c.batches.invariant.printed
     c.in-Full.ensures.batch in
     omega (
       arith,
@@ -73,18 +73,18 @@ batches-preserved g c =
     let desk = g.D.Desk.view in
     let out = g.O.Sink.view in
     record {
-      printing = IsPrinting-batch c.args.printer.now c.args.capture.now.start c.batches.counts c.put_lines.new.counts
-          c.batches.taken c.put_lines.new.taken c.batches.capture
+      printed = IsPrinting-batch c.args.form.now c.args.capture.now.start c.batches.counts c.put_lines.new.counts
+          c.batches.transitions c.put_lines.new.transitions c.batches.capture
           c.take_batch-end.new.capture (outside (desk c.args.desk.now) (out c.args.out.now) c.args.steps.now)
           (outside (desk c.batches.desk) (out c.batches.out) c.batches.steps)
           (outside (desk c.take_batch-end.new.desk) (out c.put_lines.new.out) c.put_lines.new.steps)
           c.take_batch-end.new.packets
           c.in-Ok.field-0
-          c.batches.invariant.printing c.in-Full.ensures.batch
+          c.batches.invariant.printed c.in-Full.ensures.batch
           record {
             puts = c.in-Ok.ensures.puts;
             counted = c.in-Ok.ensures.counts;
-            taken_more = c.in-Ok.ensures.taken;
+            transitions_more = c.in-Ok.ensures.transitions;
             steps = c.in-Ok.ensures.steps;
           }
           (c.in-Full.ensures.state refl);
@@ -98,17 +98,17 @@ returns-in-End g c =
     let out = g.O.Sink.view in
     let old = outside (desk c.args.desk.now) (out c.args.out.now) c.args.steps.now in
     let mid = outside (desk c.take_batch-end.new.desk) (out c.put_lines.new.out) c.put_lines.new.steps in
-    Streams-ended c.args.printer.now c.args.capture.now.start c.put_lines.new.counts c.put_lines.new.taken old mid
+    Streams-ended c.args.form.now c.args.capture.now.start c.put_lines.new.counts c.put_lines.new.transitions old mid
     (outside (desk c.take_batch-end.new.desk) (out c.print_last.new.out) c.put_lines.new.steps) c.print_last.result
-    (HasPrinted-batch c.args.printer.now c.args.capture.now.start c.batches.counts c.put_lines.new.counts
-    c.batches.taken c.put_lines.new.taken c.batches.capture old
+    (HasPrinted-batch c.args.form.now c.args.capture.now.start c.batches.counts c.put_lines.new.counts
+    c.batches.transitions c.put_lines.new.transitions c.batches.capture old
     (outside (desk c.batches.desk) (out c.batches.out) c.batches.steps) mid c.take_batch-end.new.packets _
     c.in-Ok.field-0
-    c.batches.invariant.printing c.in-End.ensures.batch
+    c.batches.invariant.printed c.in-End.ensures.batch
     record {
       puts = c.in-Ok.ensures.puts;
       counted = c.in-Ok.ensures.counts;
-      taken_more = c.in-Ok.ensures.taken;
+      transitions_more = c.in-Ok.ensures.transitions;
       steps = c.in-Ok.ensures.steps;
     })
     refl refl c.print_last.ensures
@@ -119,18 +119,18 @@ returns-in-Fault g c =
     let out = g.O.Sink.view in
     let old = outside (desk c.args.desk.now) (out c.args.out.now) c.args.steps.now in
     let new = outside (desk c.take_batch-end.new.desk) (out c.put_lines.new.out) c.put_lines.new.steps in
-    Streams-fault c.in-Fault.fault c.args.printer.now c.args.capture.now.start c.put_lines.new.counts
-    c.put_lines.new.taken old new
+    Streams-fault c.in-Fault.fault c.args.form.now c.args.capture.now.start c.put_lines.new.counts
+    c.put_lines.new.transitions old new
     c.refused.result
-    (HasPrinted-batch c.args.printer.now c.args.capture.now.start c.batches.counts c.put_lines.new.counts
-    c.batches.taken c.put_lines.new.taken c.batches.capture old
+    (HasPrinted-batch c.args.form.now c.args.capture.now.start c.batches.counts c.put_lines.new.counts
+    c.batches.transitions c.put_lines.new.transitions c.batches.capture old
     (outside (desk c.batches.desk) (out c.batches.out) c.batches.steps) new c.take_batch-end.new.packets _
     c.in-Ok.field-0
-    c.batches.invariant.printing c.in-Fault.ensures.batch
+    c.batches.invariant.printed c.in-Fault.ensures.batch
     record {
       puts = c.in-Ok.ensures.puts;
       counted = c.in-Ok.ensures.counts;
-      taken_more = c.in-Ok.ensures.taken;
+      transitions_more = c.in-Ok.ensures.transitions;
       steps = c.in-Ok.ensures.steps;
     })
     c.refused.ensures

@@ -2,18 +2,18 @@
 use Rattle.std.proofs.Common.{◌-◌, ◌*◌, ◌≤◌}
 use Rattle.std.specs.Bool.{IsTrue}
 use Rattle.pcap_reader.specs.Capture.{max_records}
-use Rattle.capture_report.specs.Batch.{max_steps}
+use Rattle.capture_report.specs.Batch.{max_transitions}
 use Rattle.command_plan.specs.Effects.{outside}
 use Rattle.capture_report.proofs.Streaming.{IsPrinting}
-use Rattle.capture_report.proofs.print.print_records.Given as goal
+use Rattle.capture_report.proofs.conductor.print_records.Given as goal
 
 abbrev pub invariant-batches : goal.invariant-batches
 invariant-batches g l =
     let desk = g.D.Desk.view in
     let out = g.O.Sink.view in record {
-      printing : IsPrinting l.printer l.fn.capture.start l.counts l.taken l.capture
+      printed : IsPrinting l.form l.fn.capture.start l.counts l.transitions l.capture
           (outside (desk l.fn.desk) (out l.fn.out) l.fn.steps) (outside (desk l.desk) (out l.out) l.steps);
-      bound : l.taken ≤ l.counts.packets * (2 * max_steps);
+      bound : l.transitions ≤ l.counts.packets * (2 * max_transitions);
       reading : IsTrue (desk l.desk).reading;
     }
 
