@@ -16,7 +16,7 @@ use Rattle.acl_report.specs.declared.packet.TheConstants.{MAX_VERDICTS}
 use Rattle.acl_report.specs.Packet.{packet_text}
 use Rattle.acl_outside.specs.Desk.{File}
 use Rattle.pcap_reader.specs.declared.fault.CaptureFault.{CaptureFault}
-use Rattle.pcap_reader.specs.declared.start.Start.{Start}
+use Rattle.pcap_reader.specs.Reader.{CaptureState}
 use Rattle.pcap_reader.specs.Capture.{CaptureRecord}
 use Rattle.capture_report.specs.declared.form.PrintOptions.{PrintOptions}
 use Rattle.command_plan.specs.declared.status.Status.{Status}
@@ -98,10 +98,10 @@ module _ (classifier : Classifier) (tables : Tables) (options : PrintOptions) (a
   text_same (Part records) all = sym (lines_same 1 (map packet_of records) all)
 
   -- what was streamed by the tables
-  pub Streams-alike : (start : Start) (old new : Outside) (status : Status) →
-      Streams (form_by (ByTables tables) tables options) start old new status →
-      Streams (form_by classifier tables options) start old new status
-  Streams-alike start old new status s =
+  pub Streams-alike : (state : CaptureState) (old new : Outside) (status : Status) →
+      Streams (form_by (ByTables tables) tables options) state old new status →
+      Streams (form_by classifier tables options) state old new status
+  Streams-alike state old new status s =
       let same = text_same s.read s.packets in
       record {
         given = s.given;

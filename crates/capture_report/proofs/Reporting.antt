@@ -11,13 +11,10 @@ use Rattle.acl_outside.specs.Sink.{SinkView, Gains, GainsPrefix}
 use Rattle.acl_outside.proofs.HeardLaws.{ReadsOn-none, ReadsOn-then}
 use Rattle.pcap_reader.specs.declared.fault.CaptureFault.{CaptureFault}
 use Rattle.pcap_reader.specs.declared.fault.CaptureFault.TheVariants as faults
-use Rattle.pcap_reader.specs.declared.start.Start.{Start}
-use Rattle.pcap_reader.specs.Start.{start_of}
-use Rattle.pcap_reader.specs.Capture.{CaptureRecord, records_behind, capture_of, whole_records, records_in}
+use Rattle.pcap_reader.specs.Capture.{CaptureRecord, capture_of, whole_records, records_in}
 use Rattle.pcap_reader.specs.Fill.{KeepsReading, IsAtEnd}
-use Rattle.pcap_reader.specs.Reader.{ReadsStart}
+use Rattle.pcap_reader.specs.Reader.{CaptureState, ReadsStart}
 use Rattle.pcap_reader.proofs.FillLaws.{KeepsReading-join}
-use Rattle.pcap_reader.proofs.AnswersLaws.{capture_of-read, whole_records-none}
 use Rattle.command_plan.specs.declared.status.Status.{Status}
 use Rattle.command_plan.specs.declared.status.Status.TheVariants.{CaptureRefused, ReadFault, WriteFault, OutOfMemory}
 use Rattle.capture_report.specs.ReportForm.{ReportForm}
@@ -36,7 +33,8 @@ use Rattle.command_plan.proofs.Gained.{Gains-none}
 use Rattle.command_plan.proofs.Inputs.{heard_file, part_told, opened_told, opened_absent, kept_files, cannot_open}
 use Rattle.command_plan.proofs.Inputs.{unopened_kept}
 use Rattle.command_plan.proofs.Links.{CannotRead-because}
-use Rattle.capture_report.proofs.WholeRecords.{start_of-more}
+use Rattle.capture_report.specs.NextRecord.{records_from}
+use Rattle.capture_report.proofs.Reader.{ReadHeader, RefusedHeader, RefusedHeader-from, BrokenHeader, BrokenHeader-from}
 
 -- an opened file, of which these bytes were heard
 abbrev file_of : List ℕ → List ℕ → Ending → Heard
@@ -264,27 +262,24 @@ Reports-full {T} {E} form name old mid new out steps x opens same =
     }
 
 -- the file header has a fault
-header_refused : {T E : Type 0} (form : ReportForm) (name given : List ℕ) (ending : Ending)
-    (fault : CaptureFault) (old mid new : DeskView)
-    (out : SinkView) (steps : ℕ) (x : T) → OpensFile {E = E} name old mid (Ok x) →
-    ReadsOn (stands ending) given mid new →
-    (ending ≡ Ended → IsAtEnd new) → KeepsReading mid new → IsUnbroken ending →
-    ((more : List ℕ) → (ending ≡ Ended → more ≡ []) → start_of (given ++ more) ≡ Err fault) →
+header_refused : {T E : Type 0} (form : ReportForm) (name : List ℕ) (fault : CaptureFault) (old mid new : DeskView)
+    (out : SinkView) (steps : ℕ) (x : T) → OpensFile {E = E} name old mid (Ok x) → RefusedHeader fault mid new →
     Reports form name (outside old out steps) (outside new out steps) (CaptureRefused fault)
-header_refused {T} {E} form name given ending fault old mid new out steps x opens reads at_end keeps unbroken
-    says =
-    let h = HearsFile-read {E = E} name given ending old mid new x opens reads at_end keeps in
-    let is : (more : List ℕ) → (ending ≡ Ended → more ≡ []) →
+header_refused {T} {E} form name fault old mid new out steps x opens header =
+    let given = header.given in
+    let h = HearsFile-read {E = E} name given header.ending old mid new x opens header.reads header.at_end
+    header.keeps in
+    let is : (more : List ℕ) → (header.ending ≡ Ended → more ≡ []) →
     report form (given ++ more) ≡ silent (CaptureRefused fault) =
-    λ more rest. (let s = says more rest in rw s refl) in
+    λ more none. ap (report_of_capture form) (header.says more none) in
     let alone : report form given ≡ silent (CaptureRefused fault) =
     ap (report form) (sym (append-nil given)) ∙ is [] (λ e. refl) in
     let puts : PutsAll (silent (CaptureRefused fault)) out out (CaptureRefused fault) =
     record { decided = refl; lawful = refl; puts = inl (refl, Gains-none out); count = omega arith } in
     record {
-      ends = Ends-whole form name given ending (outside old out steps) (outside new out steps)
-          (CaptureRefused fault) h unbroken
-          (λ more rest. is more rest ∙ sym alone)
+      ends = Ends-whole form name given header.ending (outside old out steps) (outside new out steps)
+          (CaptureRefused fault) h header.unbroken
+          (λ more none. is more none ∙ sym alone)
           (subst (λ (o : Outcome). PutsAll o out out (CaptureRefused fault)) (sym alone) puts)
           (omega (arith, ap (λ (o : Outcome). o.steps) alone));
       lawful = refl;
@@ -292,46 +287,22 @@ header_refused {T} {E} form name given ending fault old mid new out steps x open
       keeps_up = λ w. absurd (cc);
     }
 
-header_decided : {T E : Type 0} (form : ReportForm) (name given : List ℕ) (fault : CaptureFault)
-    (old mid new : DeskView) (out : SinkView) (steps : ℕ) (x : T) →
-    OpensFile {E = E} name old mid (Ok x) → ReadsOn and_goes_on given mid new → KeepsReading mid new →
-    start_of given ≡ Err fault →
-    (fault ≡ faults.HeaderCut → ⊥) →
-    Reports form name (outside old out steps) (outside new out steps) (CaptureRefused fault)
-header_decided {T} {E} form name given fault old mid new out steps x opens reads keeps says isnt =
-    header_refused {E = E} form name given GoesOn fault old mid new out steps x opens reads
-    (λ e. absurd (cc)) keeps tt
-    (λ more rest. (start_of-more given more (Err fault) says
-    (λ e. isnt (let same : fault ≡ faults.HeaderCut = cc in same))).0)
-
-header_cut : {T E : Type 0} (form : ReportForm) (name given : List ℕ) (fault : CaptureFault)
-    (old mid new : DeskView) (out : SinkView) (steps : ℕ) (x : T) →
-    OpensFile {E = E} name old mid (Ok x) → ReadsOn (stands Ended) given mid new → IsAtEnd new →
-    KeepsReading mid new →
-    start_of given ≡ Err fault →
-    Reports form name (outside old out steps) (outside new out steps) (CaptureRefused fault)
-header_cut {T} {E} form name given fault old mid new out steps x opens reads end keeps says =
-    header_refused {E = E} form name given Ended fault old mid new out steps x opens reads (λ e. end) keeps tt
-    (λ more rest. ap start_of (ap (λ (l : List ℕ). given ++ l) (rest refl) ∙ append-nil given) ∙ says)
-
-pub Reports-header : {T E : Type 0} (fault : CaptureFault) (form : ReportForm) (name : List ℕ)
-    (old mid new : DeskView) (out : SinkView) (steps : ℕ) (x : T) →
-    OpensFile {E = E} name old mid (Ok x) → (reads : ReadsStart mid new (Err fault)) →
-    Reports form name (outside old out steps) (outside new out steps) (refusal fault)
-Reports-header {T} {E} faults.ReadFault form name old mid new out steps x opens reads =
-    let h = HearsFile-read {E = E} name reads.given BrokenOff old mid new x opens reads.reads
-    (λ e. absurd (cc)) reads.keeps in
-    let none : lines_so_far form reads.given ≡ [] =
-    ap (lines_of_records form) (whole_records-none reads.given faults.ReadFault reads.answer) in
+-- the reading broke off in the file header
+header_broken : {T E : Type 0} (form : ReportForm) (name : List ℕ) (old mid new : DeskView) (out : SinkView)
+    (steps : ℕ) (x : T) → OpensFile {E = E} name old mid (Ok x) → BrokenHeader mid new →
+    Reports form name (outside old out steps) (outside new out steps) ReadFault
+header_broken {T} {E} form name old mid new out steps x opens header =
+    let h = HearsFile-read {E = E} name header.given BrokenOff old mid new x opens header.reads
+    (λ e. absurd (cc)) header.keeps in
+    let none : lines_so_far form header.given ≡ [] = ap (lines_of_records form) header.none in
     record {
-      ends = Ends-part form name reads.given BrokenOff (outside old out steps) (outside new out steps) ReadFault
-          h tt
+      ends = Ends-part form name header.given BrokenOff (outside old out steps) (outside new out steps) ReadFault h tt
           record {
             ended = inl refl;
             text = λ other full. rw none (Gains-none out);
             prefix = λ w. absurd (cc);
             full = λ e. absurd (cc);
-            read_fault = λ e. omega (arith, opens.counts.read_faults, reads.read_fault refl);
+            read_fault = λ e. omega (arith, opens.counts.read_faults, header.read_fault);
             write_fault = λ w. absurd (cc);
             count = omega arith;
           };
@@ -339,30 +310,16 @@ Reports-header {T} {E} faults.ReadFault form name old mid new out steps x opens 
       opened = λ files told reported. absurd (false≢true reported);
       keeps_up = λ w. absurd (cc);
     }
-Reports-header {T} {E} faults.HeaderCut form name old mid new out steps x opens reads =
-    header_cut {E = E} form name reads.given faults.HeaderCut old mid new out steps x opens reads.reads
-    (reads.end refl) reads.keeps reads.answer
-Reports-header {T} {E} (faults.RecordCut n) form name old mid new out steps x opens reads =
-    header_cut {E = E} form name reads.given (faults.RecordCut n) old mid new out steps x opens reads.reads
-    (reads.end refl) reads.keeps reads.answer
-Reports-header {T} {E} faults.Magic form name old mid new out steps x opens reads =
-    header_decided {E = E} form name reads.given faults.Magic old mid new out steps x opens reads.reads
-    reads.keeps
-    reads.answer (λ e. absurd (cc))
-Reports-header {T} {E} faults.Version form name old mid new out steps x opens reads =
-    header_decided {E = E} form name reads.given faults.Version old mid new out steps x opens reads.reads
-    reads.keeps
-    reads.answer (λ e. absurd (cc))
-Reports-header {T} {E} faults.LinkType form name old mid new out steps x opens reads =
-    header_decided {E = E} form name reads.given faults.LinkType old mid new out steps x opens reads.reads
-    reads.keeps
-    reads.answer (λ e. absurd (cc))
-Reports-header {T} {E} (faults.RecordTooLong n) form name old mid new out steps x opens reads =
-    header_decided {E = E} form name reads.given
-    (faults.RecordTooLong n) old mid new out steps x opens reads.reads reads.keeps reads.answer (λ e. absurd (cc))
-Reports-header {T} {E} faults.TooManyRecords form name old mid new out steps x opens reads =
-    header_decided {E = E} form name reads.given faults.TooManyRecords old mid new out steps x opens reads.reads
-    reads.keeps reads.answer (λ e. absurd (cc))
+
+pub Reports-header : {T E : Type 0} (fault : CaptureFault) (form : ReportForm) (name : List ℕ)
+    (old mid new : DeskView) (out : SinkView) (steps : ℕ) (x : T) →
+    OpensFile {E = E} name old mid (Ok x) → ReadsStart mid new (Err fault) →
+    Reports form name (outside old out steps) (outside new out steps) (refusal fault)
+Reports-header {T} {E} faults.ReadFault form name old mid new out steps x opens reads =
+    header_broken {E = E} form name old mid new out steps x opens (BrokenHeader-from mid new reads)
+Reports-header {T} {E} fault form name old mid new out steps x opens reads =
+    header_refused {E = E} form name fault old mid new out steps x opens
+    (RefusedHeader-from fault mid new (λ e. absurd (cc)) reads)
 
 keeps_up_from : (name given : List ℕ) (ending : Ending) (text : List ℕ) (records : List CaptureRecord)
     (old new : Outside) →
@@ -389,17 +346,16 @@ fault_decided (Some fault) = (refl, refl)
 
 -- what was streamed after a file header
 streamed : (read : Reading) (form : ReportForm) (name given : List ℕ) (ending : Ending) (old new : Outside)
-    (status : Status) (start : Start)
-    (later : List ℕ) → HearsFile name given ending old.desk new.desk →
-    ((more : List ℕ) → capture_of (given ++ more) ≡ Ok (records_behind start 0 (later ++ more))) →
-    AreRead start later ending read →
+    (status : Status) (state : CaptureState) (later : List ℕ) → HearsFile name given ending old.desk new.desk →
+    ((more : List ℕ) → capture_of (given ++ more) ≡ Ok (records_from state (later ++ more))) →
+    AreRead state later ending read →
     ((IsStatus ending read status × Gains (text_of form read) old.out new.out)
     ⊎ ((status ≡ WriteFault) × BreaksOffSoon (text_of form read) (length (records_read read)) old.out new.out)) →
     (status ≡ ReadFault → Rose old.desk.read_faults new.desk.read_faults) → old.out.faults ≤ new.out.faults →
     IsOpened ending →
     new.steps ≡ old.steps + transitions_of_records form.tables (records_read read) →
     Reports form name old new status
-streamed (Whole records fault) form name given ending old new status start later h is bytes ended rose count
+streamed (Whole records fault) form name given ending old new status state later h is bytes ended rose count
     opened steps =
     let all : (more : List ℕ) → (ending ≡ Ended → more ≡ []) →
     capture_of (given ++ more) ≡ Ok (record { records = records; fault = fault }) =
@@ -440,11 +396,11 @@ streamed (Whole records fault) form name given ending old new status start later
             (ap records_in alone) failed.1
       ];
     }
-streamed (Part records) form name given ending old new status start later h is bytes ended rose count
+streamed (Part records) form name given ending old new status state later h is bytes ended rose count
     opened steps =
     let whole : whole_records given ≡ records =
     ap (λ l. records_in (capture_of l)) (sym (append-nil given)) ∙ ap records_in (is [])
-    ∙ ap (λ l. (records_behind start 0 l).records) (append-nil later) ∙ bytes in
+    ∙ ap (λ l. (records_from state l).records) (append-nil later) ∙ bytes in
     let lines : lines_so_far form given ≡ lines_of_records form records =
     ap (lines_of_records form) whole in
     record {
@@ -481,22 +437,20 @@ streamed (Part records) form name given ending old new status start later h is b
     }
 
 -- the records are read and printed
-pub Reports-streamed : {T E : Type 0} (form : ReportForm) (name : List ℕ) (start : Start)
+pub Reports-streamed : {T E : Type 0} (form : ReportForm) (name : List ℕ) (state : CaptureState)
     (old opened mid new : DeskView) (out_old out_new : SinkView) (steps_old steps_new : ℕ)
-    (x : T) (status : Status) → OpensFile {E = E} name old opened (Ok x) → ReadsStart opened mid (Ok start) →
-    Streams form start (outside mid out_old steps_old) (outside new out_new steps_new) status →
+    (x : T) (status : Status) → OpensFile {E = E} name old opened (Ok x) → ReadHeader state opened mid →
+    Streams form state (outside mid out_old steps_old) (outside new out_new steps_new) status →
     Reports form name (outside old out_old steps_old) (outside new out_new steps_new) status
-Reports-streamed {T} {E} form name start old opened mid new out_old out_new steps_old steps_new x status opens
+Reports-streamed {T} {E} form name state old opened mid new out_old out_new steps_old steps_new x status opens
     header s =
     let given = header.given ++ s.given in
     let reads = ReadsOn-then (stands s.ending) header.given s.given opened mid new header.reads s.reads in
     let h = HearsFile-read {E = E} name given s.ending old opened new x opens reads s.at_end
     (KeepsReading-join opened mid new header.keeps s.keeps) in
     streamed s.read form name given s.ending (outside old out_old steps_old) (outside new out_new steps_new)
-    status
-    start s.given h
-    (λ more. ap capture_of (append_assoc header.given s.given more)
-    ∙ capture_of-read header.given (s.given ++ more) start header.answer)
+    status state s.given h
+    (λ more. ap capture_of (append_assoc header.given s.given more) ∙ header.says (s.given ++ more))
     s.bytes s.answer
     (λ e. omega (arith, opens.counts.read_faults, header.keeps.counts.read_faults, s.read_fault e)) s.count
     s.opened s.steps

@@ -2,6 +2,7 @@ pub mod Packet
 pub mod Classifier
 pub mod ReportForm
 pub mod Report
+pub mod NextRecord
 pub mod Taken
 pub mod CaptureOutcome
 pub mod PrintsCapture

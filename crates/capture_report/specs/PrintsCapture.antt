@@ -1,4 +1,4 @@
--- What form the report of a capture promises.
+-- What printing the report of a capture promises.
 use Rattle.std.specs.Prelude.{◌≡◌, ℕ, ◌+◌, ◌≤◌, ◌⊎◌, List, ◌∷◌, length, false, true}
 use Rattle.std.specs.Prelude.{Some}
 use Rattle.acl_outside.specs.Desk.{File}
@@ -37,7 +37,7 @@ pub record Reports (form : ReportForm) (name : List ℕ) (old new : Outside)
       opened_of new.desk ≡ Some (Some name)
   pub keeps_up : status ≡ WriteFault → KeepsUp name old new
 
--- All that form a capture from tables promises.
+-- All that printing a capture from tables promises.
 pub record PrintsCapture (tables : Tables) (options : PrintOptions) (name : List ℕ)
     (old new : Outside) (status : Status) : Type 0 where
   -- the report is that of the tables, for every desk and sink
@@ -49,7 +49,7 @@ pub record PrintsCapture (tables : Tables) (options : PrintOptions) (name : List
   pub told : (files : List File) → files_of old.desk ≡ Some files →
       EndsAsTold (settled (found
       (reported (form_by (ByTables tables) tables options) name) files)) old new status
-  -- where the outside has no fault, only memory keeps the form from its outcome
+  -- where the outside has no fault, only memory keeps the printing from its outcome
   pub complete : HasNoFault old new → (files : List File) → files_of old.desk ≡ Some files →
       (status ≡ (settled (found
       (reported (form_by (ByTables tables) tables options) name) files)).status)

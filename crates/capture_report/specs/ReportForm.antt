@@ -13,7 +13,7 @@ pub record ReportForm : Type 0 where
   pub stats : Bool
   pub marks : Bool
 
--- by the options of a form
+-- the form that options ask for
 abbrev pub form_by : Classifier → Tables → PrintOptions → ReportForm
 form_by classifier tables options = record {
   classifier = classifier;

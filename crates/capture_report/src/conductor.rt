@@ -2,8 +2,8 @@
 
 ghost use Rattle.std.specs.Prelude.{◌≡◌, ◌+◌, ◌*◌, ◌≤◌, IsTrue, length};
 ghost use Rattle.acl_outside.specs.Sink.{Puts};
-ghost use Rattle.pcap_reader.specs.Reader.{begun};
 ghost use Rattle.command_plan.specs.Effects.{PutsLast, outside};
+ghost use Rattle.capture_report.specs.NextRecord.{IsBegun};
 ghost use Rattle.capture_report.specs.Report.{counted_all, lines_of_packets};
 ghost use Rattle.capture_report.specs.Report.{transitions_of_packets};
 ghost use Rattle.capture_report.specs.CaptureOutcome.{last_text};
@@ -35,8 +35,8 @@ pub fn print_records<D: Desk, O: Sink, L: Ledger>(
     steps: &mut Steps<L>,
 ) -> Status
     requires reading { IsTrue (D.view desk.old).reading }
-    requires begun { capture.old ≡ begun capture.old.start }
-    ensures { Streams form.now capture.old.start
+    requires begun { IsBegun capture.old }
+    ensures { Streams form.now capture.old
         (outside (D.view desk.old) (O.view out.old) steps.old)
         (outside (D.view desk.new) (O.view out.new) steps.new) result }
 {

@@ -32,7 +32,7 @@ pub struct PrintOptions {
 
 /// The tables of both families, and how their answers are printed.
 ///
-/// Contracts see a form by the tables.
+/// Contracts see the form of a report by the tables.
 #[derive(Drop)]
 pub struct FormByTables<'a> {
     ip4: &'a Table,

@@ -4,6 +4,7 @@ use Rattle.capture_report.specs.CaptureOutcome.{refusal}
 use Rattle.capture_report.specs.ReportForm.{form_by}
 use Rattle.command_plan.specs.Effects.{outside}
 use Rattle.capture_report.proofs.Alike.{Reports-no_room, Streams-alike, PrintsCapture-from, categories_few}
+use Rattle.capture_report.proofs.Reader.{ReadHeader-from}
 use Rattle.capture_report.proofs.Reporting.{Reports-unopened, Reports-full, Reports-header, Reports-streamed}
 use Rattle.capture_report.proofs.capture.print_packets.Goals as goal
 
@@ -28,11 +29,13 @@ returns-in-Ok-begin g c =
     let tables : Tables = record { ip4 = c.args.ip4.now; ip6 = c.args.ip6.now } in
     PrintsCapture-from tables c.args.options.now c.args.capture.now _ _ _
     (λ classifier answers. Reports-streamed (form_by classifier tables c.args.options.now) c.args.capture.now
-    c.in-Ok-begin.capture.start (desk c.args.desk.now)
+    c.in-Ok-begin.capture (desk c.args.desk.now)
     (desk c.open_file.new.self)
     (desk c.begin.new.desk) (desk c.print_records.new.desk) (out c.args.out.now)
     (out c.print_records.new.out) c.args.steps.now c.print_records.new.steps c.in-Ok-open_file.field-0
-    c.print_records.result c.in-Ok-open_file.ensures c.in-Ok-begin.ensures.1
+    c.print_records.result c.in-Ok-open_file.ensures
+    (ReadHeader-from c.in-Ok-begin.capture (desk c.open_file.new.self) (desk c.begin.new.desk) c.in-Ok-begin.ensures.0
+    c.in-Ok-begin.ensures.1)
     (Streams-alike classifier tables c.args.options.now answers
     (categories_few c.args.options.now.cats.count c.args.options.now.cats.lawful) _ _ _ _
     (rw c.new-form.ensures at c.print_records.ensures)))

@@ -2,30 +2,35 @@
 use Rattle.std.proofs.Common.{refl, ap, arith}
 use Rattle.command_plan.specs.Effects.{outside}
 use Rattle.capture_report.proofs.LineLaws.{counts-none, records_add_up, counted_all-packets}
-use Rattle.capture_report.proofs.Streaming.{IsPrinting-none, IsPrinting-batch, HasPrinted-batch, Streams-failed}
-use Rattle.capture_report.proofs.Streaming.{Streams-ended, Streams-fault, packets_few}
+use Rattle.capture_report.proofs.Reader.{begun-goes_on}
+use Rattle.capture_report.proofs.Streaming.{HasPrinted-none, HasPrinted-batch, Streams-failed}
+use Rattle.capture_report.proofs.Streaming.{Streams-ended, Streams-fault, packets_few, standing}
 use Rattle.capture_report.proofs.conductor.print_records.Goals as goal
 
 pub batches-init : goal.batches-init
 batches-init g c = record {
-  printed = IsPrinting-none c.args.form.now c.args.capture.now.start c.default-counts.result c.args.capture.now
+  printed = HasPrinted-none c.args.form.now c.args.capture.now c.default-counts.result
       (outside (g.D.Desk.view c.args.desk.now) (g.O.Sink.view c.args.out.now) c.args.steps.now)
-      (counts-none c.default-counts.result c.default-counts.ensures) c.requires.begun;
+      (counts-none c.default-counts.result c.default-counts.ensures);
   bound = omega arith;
   reading = c.requires.reading;
+  state = begun-goes_on c.args.capture.now c.requires.begun;
 }
 
 pub put_lines-requires-clause-next : goal.put_lines-requires-clause-next
 put_lines-requires-clause-next g c =
     let desk = g.D.Desk.view in
-    let out = g.O.Sink.view c.batches.out in
-    let so_far = c.batches.invariant.printed in record {
+    let out = g.O.Sink.view in
+    let so_far = c.batches.invariant.printed in
+    record {
       classes = records_add_up so_far.records c.batches.counts so_far.counted;
-      few = packets_few c.args.form.now c.args.capture.now.start c.batches.counts c.batches.transitions c.batches.capture
-          (outside (desk c.args.desk.now) (g.O.Sink.view c.args.out.now) c.args.steps.now)
-          (outside (desk c.batches.desk) out c.batches.steps)
-          (outside (desk c.take_batch-end.new.desk) out c.batches.steps) c.take_batch-end.new.packets _
-          so_far c.take_batch-end.ensures.batch;
+      few = packets_few c.args.form.now c.args.capture.now
+          (outside (desk c.args.desk.now) (out c.args.out.now) c.args.steps.now)
+          (standing c.batches.capture c.batches.counts c.batches.transitions
+          (outside (desk c.batches.desk) (out c.batches.out) c.batches.steps))
+          c.take_batch-end.new.capture c.take_batch-end.new.packets
+          (outside (desk c.take_batch-end.new.desk) (out c.batches.out) c.batches.steps) _ so_far
+          c.take_batch-end.ensures.batch c.requires.begun;
       own = c.take_batch-end.ensures.batch.keys;
     }
 
@@ -33,14 +38,14 @@ pub returns-in-Err : goal.returns-in-Err
 returns-in-Err g c =
     let desk = g.D.Desk.view in
     let out = g.O.Sink.view in
-    Streams-failed c.args.form.now c.args.capture.now.start c.batches.counts c.put_lines.new.counts c.batches.transitions
-    c.put_lines.new.transitions c.batches.capture
+    Streams-failed c.args.form.now c.args.capture.now
     (outside (desk c.args.desk.now) (out c.args.out.now) c.args.steps.now)
-    (outside (desk c.batches.desk) (out c.batches.out) c.batches.steps)
-    (outside (desk c.take_batch-end.new.desk) (out c.put_lines.new.out) c.put_lines.new.steps)
-    c.take_batch-end.new.packets
-    c.take_batch-end.result
-    c.in-Err.field-0 c.batches.invariant.printed c.take_batch-end.ensures.batch
+    (standing c.batches.capture c.batches.counts c.batches.transitions
+    (outside (desk c.batches.desk) (out c.batches.out) c.batches.steps))
+    (standing c.take_batch-end.new.capture c.put_lines.new.counts c.put_lines.new.transitions
+    (outside (desk c.take_batch-end.new.desk) (out c.put_lines.new.out) c.put_lines.new.steps))
+    c.take_batch-end.new.packets c.take_batch-end.result c.in-Err.field-0 c.batches.invariant.printed
+    c.take_batch-end.ensures.batch
     record {
       puts = c.in-Err.ensures.puts;
       counted = c.in-Err.ensures.counts;
@@ -54,12 +59,13 @@ batches-smaller g c =
     let out = g.O.Sink.view in
     let packets = c.take_batch-end.new.packets in
     let few =
-    packets_few c.args.form.now c.args.capture.now.start c.batches.counts c.batches.transitions c.batches.capture
+    packets_few c.args.form.now c.args.capture.now
     (outside (desk c.args.desk.now) (out c.args.out.now) c.args.steps.now)
-    (outside (desk c.batches.desk) (out c.batches.out) c.batches.steps)
-    (outside (desk c.take_batch-end.new.desk) (out c.put_lines.new.out) c.put_lines.new.steps) packets _
-    c.batches.invariant.printed
-    c.in-Full.ensures.batch in
+    (standing c.batches.capture c.batches.counts c.batches.transitions
+    (outside (desk c.batches.desk) (out c.batches.out) c.batches.steps))
+    c.take_batch-end.new.capture packets
+    (outside (desk c.take_batch-end.new.desk) (out c.put_lines.new.out) c.put_lines.new.steps) _
+    c.batches.invariant.printed c.in-Full.ensures.batch c.requires.begun in
     omega (
       arith,
       few,
@@ -73,23 +79,22 @@ batches-preserved g c =
     let desk = g.D.Desk.view in
     let out = g.O.Sink.view in
     record {
-      printed = IsPrinting-batch c.args.form.now c.args.capture.now.start c.batches.counts c.put_lines.new.counts
-          c.batches.transitions c.put_lines.new.transitions c.batches.capture
-          c.take_batch-end.new.capture (outside (desk c.args.desk.now) (out c.args.out.now) c.args.steps.now)
-          (outside (desk c.batches.desk) (out c.batches.out) c.batches.steps)
-          (outside (desk c.take_batch-end.new.desk) (out c.put_lines.new.out) c.put_lines.new.steps)
-          c.take_batch-end.new.packets
-          c.in-Ok.field-0
-          c.batches.invariant.printed c.in-Full.ensures.batch
+      printed = HasPrinted-batch c.args.form.now c.args.capture.now
+          (outside (desk c.args.desk.now) (out c.args.out.now) c.args.steps.now)
+          (standing c.batches.capture c.batches.counts c.batches.transitions
+          (outside (desk c.batches.desk) (out c.batches.out) c.batches.steps))
+          (standing c.take_batch-end.new.capture c.put_lines.new.counts c.put_lines.new.transitions
+          (outside (desk c.take_batch-end.new.desk) (out c.put_lines.new.out) c.put_lines.new.steps))
+          c.take_batch-end.new.packets _ c.in-Ok.field-0 c.batches.invariant.printed c.in-Full.ensures.batch
           record {
             puts = c.in-Ok.ensures.puts;
             counted = c.in-Ok.ensures.counts;
             transitions_more = c.in-Ok.ensures.transitions;
             steps = c.in-Ok.ensures.steps;
-          }
-          (c.in-Full.ensures.state refl);
+          };
       bound = c.in-Ok.ensures.bound;
       reading = rw c.in-Full.ensures.batch.took.keeps.reading c.batches.invariant.reading;
+      state = c.in-Full.ensures.batch.took.goes_on refl c.batches.invariant.state;
     }
 
 pub returns-in-End : goal.returns-in-End
@@ -97,14 +102,14 @@ returns-in-End g c =
     let desk = g.D.Desk.view in
     let out = g.O.Sink.view in
     let old = outside (desk c.args.desk.now) (out c.args.out.now) c.args.steps.now in
-    let mid = outside (desk c.take_batch-end.new.desk) (out c.put_lines.new.out) c.put_lines.new.steps in
-    Streams-ended c.args.form.now c.args.capture.now.start c.put_lines.new.counts c.put_lines.new.transitions old mid
+    let now = standing c.take_batch-end.new.capture c.put_lines.new.counts c.put_lines.new.transitions
+    (outside (desk c.take_batch-end.new.desk) (out c.put_lines.new.out) c.put_lines.new.steps) in
+    Streams-ended c.args.form.now c.args.capture.now old now
     (outside (desk c.take_batch-end.new.desk) (out c.print_last.new.out) c.put_lines.new.steps) c.print_last.result
-    (HasPrinted-batch c.args.form.now c.args.capture.now.start c.batches.counts c.put_lines.new.counts
-    c.batches.transitions c.put_lines.new.transitions c.batches.capture old
-    (outside (desk c.batches.desk) (out c.batches.out) c.batches.steps) mid c.take_batch-end.new.packets _
-    c.in-Ok.field-0
-    c.batches.invariant.printed c.in-End.ensures.batch
+    (HasPrinted-batch c.args.form.now c.args.capture.now old
+    (standing c.batches.capture c.batches.counts c.batches.transitions
+    (outside (desk c.batches.desk) (out c.batches.out) c.batches.steps)) now
+    c.take_batch-end.new.packets _ c.in-Ok.field-0 c.batches.invariant.printed c.in-End.ensures.batch
     record {
       puts = c.in-Ok.ensures.puts;
       counted = c.in-Ok.ensures.counts;
@@ -118,15 +123,13 @@ returns-in-Fault g c =
     let desk = g.D.Desk.view in
     let out = g.O.Sink.view in
     let old = outside (desk c.args.desk.now) (out c.args.out.now) c.args.steps.now in
-    let new = outside (desk c.take_batch-end.new.desk) (out c.put_lines.new.out) c.put_lines.new.steps in
-    Streams-fault c.in-Fault.fault c.args.form.now c.args.capture.now.start c.put_lines.new.counts
-    c.put_lines.new.transitions old new
-    c.refused.result
-    (HasPrinted-batch c.args.form.now c.args.capture.now.start c.batches.counts c.put_lines.new.counts
-    c.batches.transitions c.put_lines.new.transitions c.batches.capture old
-    (outside (desk c.batches.desk) (out c.batches.out) c.batches.steps) new c.take_batch-end.new.packets _
-    c.in-Ok.field-0
-    c.batches.invariant.printed c.in-Fault.ensures.batch
+    let now = standing c.take_batch-end.new.capture c.put_lines.new.counts c.put_lines.new.transitions
+    (outside (desk c.take_batch-end.new.desk) (out c.put_lines.new.out) c.put_lines.new.steps) in
+    Streams-fault c.in-Fault.fault c.args.form.now c.args.capture.now old now c.refused.result
+    (HasPrinted-batch c.args.form.now c.args.capture.now old
+    (standing c.batches.capture c.batches.counts c.batches.transitions
+    (outside (desk c.batches.desk) (out c.batches.out) c.batches.steps)) now
+    c.take_batch-end.new.packets _ c.in-Ok.field-0 c.batches.invariant.printed c.in-Fault.ensures.batch
     record {
       puts = c.in-Ok.ensures.puts;
       counted = c.in-Ok.ensures.counts;
