@@ -6,7 +6,7 @@ ghost use Rattle.flat_table.specs.Sound.{most_tries};
 ghost use Rattle.scalar_walk.specs.Rows.{winners_of};
 ghost use Rattle.acl_report.specs.declared.packet.TheConstants.{MAX_VERDICTS};
 ghost use Rattle.capture_report.specs.Classifier.{ByTables, key_len_of_family};
-ghost use Rattle.capture_report.specs.Printing.{printing_by};
+ghost use Rattle.capture_report.specs.ReportForm.{form_by};
 ghost use Rattle.capture_report.specs.Packet.{IsPacket};
 ghost use Rattle.capture_report.specs.Batch.{dashes_on, table_of};
 
@@ -24,7 +24,7 @@ use std::marker::Model;
 pub struct PrintOptions {
     /// How many categories are shown of each packet, from category 0 on.
     pub cats: Categories,
-    /// Whether the sizes of the tables and the transitions are told behind a whole capture.
+    /// Whether the sizes of the tables and the transitions are told after a whole capture.
     pub stats: bool,
     /// Whether a dash marks where no rule matches. Otherwise the digit 0 stands there.
     pub marks: bool,
@@ -32,44 +32,44 @@ pub struct PrintOptions {
 
 /// The tables of both families, and how their answers are printed.
 ///
-/// Contracts see a printing by the tables.
+/// Contracts see the form of a report by the tables.
 #[derive(Drop)]
-pub struct Printer<'a> {
+pub struct FormByTables<'a> {
     ip4: &'a Table,
     ip6: &'a Table,
     options: PrintOptions,
 }
 
-impl<'a> Model for Printer<'a> {
+impl<'a> Model for FormByTables<'a> {
     ghost use Rattle.std.specs.Prelude.{◌≡◌, ◌≤◌, length};
     ghost use Rattle.capture_report.specs.Classifier.{ByTables};
-    ghost use Rattle.capture_report.specs.Printing.{Printing, printing_by};
-    ghost use Rattle.capture_report.specs.Batch.{IsPrinter};
+    ghost use Rattle.capture_report.specs.ReportForm.{ReportForm, form_by};
+    ghost use Rattle.capture_report.specs.Batch.{IsFormByTables};
 
-    ghost Value = { Printing };
+    ghost Value = { ReportForm };
 
-    ghost view = { λ p. printing_by (ByTables (record { ip4 = p.ip4.now; ip6 = p.ip6.now }))
+    ghost view = { λ p. form_by (ByTables (record { ip4 = p.ip4.now; ip6 = p.ip6.now }))
         (record { ip4 = p.ip4.now; ip6 = p.ip6.now }) p.options };
 
-    ghost invariant = { λ p. IsPrinter (record { ip4 = p.ip4.now; ip6 = p.ip6.now })
+    ghost invariant = { λ p. IsFormByTables (record { ip4 = p.ip4.now; ip6 = p.ip6.now })
         p.options.cats.count };
 }
 
 /// No dash is shown.
 const NO_DASHES: [bool; MAX_VERDICTS] = [false; MAX_VERDICTS];
 
-impl<'a> Printer<'a> {
+impl<'a> FormByTables<'a> {
     /// What prints by these tables, whose keys have 13 and 37 bytes. It takes no memory.
-    pub fn new(ip4: &'a Table, ip6: &'a Table, options: PrintOptions) -> Printer<'a>
+    pub fn new(ip4: &'a Table, ip6: &'a Table, options: PrintOptions) -> FormByTables<'a>
         requires ip4 { ip4.now.key_len ≡ 13 }
         requires ip6 { ip6.now.key_len ≡ 37 }
-        ensures { result ≡ printing_by (ByTables (record { ip4 = ip4.now; ip6 = ip6.now }))
+        ensures { result ≡ form_by (ByTables (record { ip4 = ip4.now; ip6 = ip6.now }))
             (record { ip4 = ip4.now; ip6 = ip6.now }) options }
     {
         prove!(ip4.tries() <= MAX_TRIES);
         prove!(ip6.tries() <= MAX_TRIES);
         prove!(options.cats.count() <= MAX_VERDICTS);
-        Printer { ip4, ip6, options }
+        FormByTables { ip4, ip6, options }
     }
 
     /// The table of a family.

@@ -2,7 +2,7 @@
 use Rattle.std.proofs.Common.{◌∷◌, [], ◌++◌, Bool, false, not, map, take, slice_index_or, length-set, ap, sym, ◌∙◌}
 use Rattle.std.proofs.Common.{arith}
 use Rattle.std.proofs.lemmas.List.{map-append, take_all, take_more, take_more_set}
-use Rattle.capture_report.proofs.printing.unmatched.Goals as goal
+use Rattle.capture_report.proofs.form.unmatched.Goals as goal
 
 pub loop-category-preserved : goal.loop-category-preserved
 loop-category-preserved c =

@@ -4,13 +4,13 @@ ghost use Rattle.std.specs.Prelude.{◌≡◌, ◌+◌, ◌*◌, ◌≤◌, ◌+
 ghost use Rattle.capture_report.specs.Taken.{max_batch};
 ghost use Rattle.capture_report.specs.Packet.{IsPacket};
 ghost use Rattle.capture_report.specs.Batch.{is_of, keys_of, number_of, verdicts_of};
-ghost use Rattle.capture_report.specs.Batch.{steps_of_family, max_steps, table_of};
-ghost use Rattle.capture_report.specs.declared.walked.TheConstants.{BATCH_KEYS, BATCH_VERDICTS};
+ghost use Rattle.capture_report.specs.Batch.{transitions_of_family, max_transitions, table_of};
+ghost use Rattle.capture_report.specs.declared.verdicts.TheConstants.{BATCH_KEYS, BATCH_VERDICTS};
 
 use crate::batch::MAX_BATCH;
+use crate::form::FormByTables;
 use crate::lines::put_at;
 use crate::packet::{IP6_KEY, Packet};
-use crate::printing::Printer;
 use acl_report::MAX_VERDICTS;
 use field_defs::Family;
 use flat_table::Steps;
@@ -26,11 +26,11 @@ pub const BATCH_VERDICTS: usize = MAX_BATCH * MAX_VERDICTS;
 
 /// What the walks of the keys of a family came to.
 #[derive(Clone, Copy)]
-pub struct Walked {
+pub struct FamilyVerdicts {
     /// How many verdicts were written.
     pub verdicts: usize,
     /// How many words the walks took.
-    pub taken: u64,
+    pub transitions: u64,
 }
 
 /// Walks the keys of the packets of a family through its table, and writes their verdicts to the
@@ -39,35 +39,35 @@ pub struct Walked {
 /// There are at most 64 packets. `keys` has room for their keys, [`BATCH_KEYS`] bytes, which are
 /// overwritten, and `verdicts` has [`BATCH_VERDICTS`] elements. It takes no memory.
 pub fn walk_keys<L: Ledger>(
-    printer: &Printer<'_>,
+    form: &FormByTables<'_>,
     family: Family,
     packets: &[Packet],
     keys: &mut [u8],
     verdicts: &mut [u32],
     steps: &mut Steps<L>,
-) -> Walked
+) -> FamilyVerdicts
     requires few { length packets.now ≤ max_batch }
     requires packets { All IsPacket packets.now }
     requires keys { BATCH_KEYS ≤ length keys.old }
     requires verdicts { length verdicts.old ≡ BATCH_VERDICTS }
     ensures within { result.verdicts ≤ BATCH_VERDICTS }
     ensures verdicts { take result.verdicts verdicts.new ≡ verdicts_of family
-        (table_of family printer.now.tables) printer.now.categories packets.now }
-    ensures taken { result.taken
-        ≡ steps_of_family family (table_of family printer.now.tables) packets.now }
-    ensures bound { result.taken ≤ length packets.now * max_steps }
-    ensures steps { steps.new ≡ steps.old + result.taken }
+        (table_of family form.now.tables) form.now.categories packets.now }
+    ensures transitions { result.transitions
+        ≡ transitions_of_family family (table_of family form.now.tables) packets.now }
+    ensures bound { result.transitions ≤ length packets.now * max_transitions }
+    ensures steps { steps.new ≡ steps.old + result.transitions }
     ensures len { length verdicts.new ≡ BATCH_VERDICTS }
     ensures keys { length keys.new ≡ length keys.old }
 {
-    let (table, categories) = (printer.table(family), printer.categories());
+    let (table, categories) = (form.table(family), form.categories());
     let gathered = gather_keys(family, packets, keys);
     let count = gathered.packets * categories.count();
     let keys = &keys[..gathered.bytes];
-    let taken = classify_scalar(table, keys, categories, &mut verdicts[..count], steps);
-    Walked {
+    let transitions = classify_scalar(table, keys, categories, &mut verdicts[..count], steps);
+    FamilyVerdicts {
         verdicts: count,
-        taken,
+        transitions,
     }
 }
 

@@ -4,13 +4,13 @@ use Rattle.std.proofs.lemmas.List.{length-take-le}
 use Rattle.std.proofs.Math.Nat.{mul-le-mul}
 use Rattle.flat_table.specs.Table.{TableView}
 use Rattle.flat_table.specs.Batch.{LengthsFit, batch_verdicts, batch_steps}
-use Rattle.capture_report.specs.Batch.{number_of, verdicts_of, steps_of_family, table_of}
-use Rattle.capture_report.proofs.Keys.{keys_fit, batch_verdicts_are, batch_steps_are, family_steps_bound, some_bytes}
+use Rattle.capture_report.specs.Batch.{number_of, verdicts_of, transitions_of_family, table_of}
+use Rattle.capture_report.proofs.Keys.{keys_fit, batch_verdicts_are, batch_transitions_are, family_transitions_bound, some_bytes}
 use Rattle.capture_report.proofs.Keys.{few_bytes, verdicts_len, front-is}
-use Rattle.capture_report.proofs.walked.walk_keys.Goals as goal
+use Rattle.capture_report.proofs.verdicts.walk_keys.Goals as goal
 
-pub classify_scalar-taken-requires : goal.classify_scalar-taken-requires
-classify_scalar-taken-requires g c =
+pub classify_scalar-transitions-requires : goal.classify_scalar-transitions-requires
+classify_scalar-transitions-requires g c =
     let table = c.table-table.result.now in
     let gathered = c.gather_keys-gathered in
     let room = length (take (gathered.result.packets * c.count.result) c.args.verdicts.now) in
@@ -32,8 +32,8 @@ returns-clause-verdicts g c =
     let table = c.table-table.result.now in
     let gathered = c.gather_keys-gathered in
     let count = c.categories-categories.result.count in
-    let out = c.classify_scalar-taken.new.out in
-    let is_out = c.classify_scalar-taken.ensures.verdicts
+    let out = c.classify_scalar-transitions.new.out in
+    let is_out = c.classify_scalar-transitions.ensures.verdicts
     ∙ ap (batch_verdicts table count) gathered.ensures.keys
     ∙ batch_verdicts_are c.args.family table c.table-table.ensures.key_len count c.args.packets.now
     c.requires.packets (some_bytes c.args.family table.key_len c.table-table.ensures.key_len) in
@@ -43,31 +43,31 @@ returns-clause-verdicts g c =
     ∙ ap (λ (k : ℕ). gathered.result.packets * k) (sym c.count.ensures.value) in
     front-is (gathered.result.packets * c.count.result) out _ len ∙ is_out
     ∙ ap (λ (t : TableView). verdicts_of c.args.family t count c.args.packets.now) c.table-table.ensures.table
-    ∙ ap (λ (k : ℕ). verdicts_of c.args.family (table_of c.args.family c.args.printer.now.tables) k c.args.packets.now)
+    ∙ ap (λ (k : ℕ). verdicts_of c.args.family (table_of c.args.family c.args.form.now.tables) k c.args.packets.now)
     c.categories-categories.ensures
 
-pub returns-clause-taken : goal.returns-clause-taken
-returns-clause-taken g c =
+pub returns-clause-transitions : goal.returns-clause-transitions
+returns-clause-transitions g c =
     let table = c.table-table.result.now in
-    c.classify_scalar-taken.ensures.taken ∙ ap (batch_steps table) c.gather_keys-gathered.ensures.keys
-    ∙ batch_steps_are c.args.family table c.table-table.ensures.key_len c.args.packets.now c.requires.packets
+    c.classify_scalar-transitions.ensures.taken ∙ ap (batch_steps table) c.gather_keys-gathered.ensures.keys
+    ∙ batch_transitions_are c.args.family table c.table-table.ensures.key_len c.args.packets.now c.requires.packets
     (some_bytes c.args.family table.key_len c.table-table.ensures.key_len)
-    ∙ ap (λ (t : TableView). steps_of_family c.args.family t c.args.packets.now) c.table-table.ensures.table
+    ∙ ap (λ (t : TableView). transitions_of_family c.args.family t c.args.packets.now) c.table-table.ensures.table
 
 pub returns-clause-bound : goal.returns-clause-bound
 returns-clause-bound g c =
     let table = c.table-table.result.now in
-    let taken = c.classify_scalar-taken.ensures.taken ∙ ap (batch_steps table) c.gather_keys-gathered.ensures.keys
-    ∙ batch_steps_are c.args.family table c.table-table.ensures.key_len c.args.packets.now c.requires.packets
+    let transitions = c.classify_scalar-transitions.ensures.taken ∙ ap (batch_steps table) c.gather_keys-gathered.ensures.keys
+    ∙ batch_transitions_are c.args.family table c.table-table.ensures.key_len c.args.packets.now c.requires.packets
     (some_bytes c.args.family table.key_len c.table-table.ensures.key_len) in
     omega (
       arith,
-      taken,
-      family_steps_bound c.args.family table c.args.packets.now c.table-table.ensures.tries
+      transitions,
+      family_transitions_bound c.args.family table c.args.packets.now c.table-table.ensures.tries
           (few_bytes c.args.family table.key_len c.table-table.ensures.key_len),
     )
 
 pub returns-clause-steps : goal.returns-clause-steps
 returns-clause-steps g c =
-    c.classify_scalar-taken.ensures.steps
-    ∙ ap (λ (n : ℕ). c.args.steps.now + n) (sym c.classify_scalar-taken.ensures.taken)
+    c.classify_scalar-transitions.ensures.steps
+    ∙ ap (λ (n : ℕ). c.args.steps.now + n) (sym c.classify_scalar-transitions.ensures.taken)

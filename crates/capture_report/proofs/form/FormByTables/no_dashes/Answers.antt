@@ -1,7 +1,7 @@
 -- No dash is shown where marks aren't asked for.
 use Rattle.std.proofs.Common.{◌≡◌, ap, sym, false, ◌∙◌}
 use Rattle.capture_report.proofs.Shown.{unmarked}
-use Rattle.capture_report.proofs.printing.Printer.no_dashes.Goals as goal
+use Rattle.capture_report.proofs.form.FormByTables.no_dashes.Goals as goal
 
 pub returns-else-self-clause-dashes : goal.returns-else-self-clause-dashes
 returns-else-self-clause-dashes c =

@@ -2,7 +2,7 @@
 use Rattle.std.proofs.Common.{◌≡◌, ◌+◌, ◌*◌, ◌≤◌, ◌++◌, length, drop, take}
 use Rattle.capture_report.specs.declared.packet.TheConstants.{IP6_KEY}
 use Rattle.capture_report.specs.Batch.{keys_of, number_of}
-use Rattle.capture_report.proofs.walked.gather_keys.Given as goal
+use Rattle.capture_report.proofs.verdicts.gather_keys.Given as goal
 
 abbrev pub invariant-loop-packet : goal.invariant-loop-packet
 invariant-loop-packet l =
