@@ -68,9 +68,22 @@ impl AclContext {
           table = None;
         } }
     {
+        AclContext::holding(alloc, RuleSet::new(alloc, layout), max_rules)
+    }
+
+    /// A context that holds the rules of the set, as they stand, and no table.
+    ///
+    /// It takes the set itself: no rule is checked or copied again. It may hold up to `max_rules`
+    /// rules, which is at most 262,144 and no less than the set has. It refuses nothing and takes
+    /// no memory.
+    pub fn holding(alloc: Global, set: RuleSet, max_rules: u32) -> Self
+        requires few { length set.rules ≤ max_rules }
+        requires limit { max_rules ≤ MAX_RULES }
+        ensures { result ≡ record { set = set; max_rules = max_rules; table = None } }
+    {
         AclContext {
             alloc,
-            rules: RuleSet::new(alloc, layout),
+            rules: set,
             max_rules,
             table: None,
         }

@@ -5,7 +5,7 @@ ghost use Rattle.std.specs.Prelude.{◌≡◌, ◌<◌};
 use crate::{AclContext, AddFault, BuildFault};
 use field_defs::{FieldValue, ip4_layout};
 use flat_table::Steps;
-use rule_set::{Categories, Rule, RuleFault, RuleTag};
+use rule_set::{Categories, Rule, RuleFault, RuleSet, RuleTag};
 use std::marker::Brand;
 use std::process::Abort;
 use std::sync::ledger::{Blank, Ledger};
@@ -97,5 +97,19 @@ fn a_list_that_is_half_refused_leaves_nothing(rt: HostRuntime) -> Result<(), Fai
     context.add_stored(&[wild(1, 7).store(rt.alloc())?])?;
     assert_eq!(rt; context.rules().len(), 1);
     assert!(rt; context.table().is_none());
+    Ok(())
+}
+
+#[test]
+fn a_context_made_of_a_set_holds_its_rules(rt: HostRuntime) -> Result<(), Fail> {
+    let mut set = RuleSet::new(rt.alloc(), ip4_layout());
+    set.push(wild(1, 7).store(rt.alloc())?)?;
+    let mut context = AclContext::holding(rt.alloc(), set, 1);
+    assert_eq!(rt; context.add_rules(&[wild(1, 8)]), Err(AddFault::Full));
+    expect(&rt, &context, None);
+    context.build(33)?;
+    expect(&rt, &context, Some([7, 7]));
+    context.reset();
+    assert!(rt; context.rules().is_empty());
     Ok(())
 }

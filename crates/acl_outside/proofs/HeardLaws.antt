@@ -40,7 +40,7 @@ change_newest-alone change (file ∷ files) = refl
 
 same_content : (content : Option Content) → Steps (Gives []) content content
 same_content None = tt
-same_content (Some content) = record { files = refl; opened = refl; left = refl }
+same_content (Some content) = record { files = refl; opened = refl; left = refl; created = refl }
 
 -- nothing was asked yet
 pub ReadsOn-none : (view : DeskView) → ReadsOn and_goes_on [] view view

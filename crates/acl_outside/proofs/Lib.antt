@@ -1,5 +1,7 @@
 pub mod ToldLaws
+pub mod KeptLaws
 pub mod HeardLaws
+pub mod MadeLaws
 pub mod ReadingLaws
 pub mod WritingLaws
 pub mod FileLaws

@@ -12,6 +12,7 @@ pub Gives-append : (first second : List ℕ) (old mid new : Content) → Gives f
 Gives-append first second old mid new a b = record {
   files = b.files ∙ a.files;
   opened = b.opened ∙ a.opened;
+  created = b.created ∙ a.created;
   left = a.left ∙ ap (λ xs. first ++ xs) b.left ∙ sym (append_assoc first second new.left);
 }
 
@@ -23,6 +24,7 @@ Gives-capped cap bytes full old new given = record {
   opened = given.opened;
   given = sym (ap (take cap) given.left ∙ take_at bytes new.left cap full);
   left = sym (ap (drop cap) given.left ∙ drop_at bytes new.left cap full);
+  created = given.created;
 }
 
 -- all bytes that were left, of which the cap allows as many
@@ -35,6 +37,7 @@ Gives-whole cap bytes few old new ended given =
       opened = given.opened;
       given = sym (ap (take cap) whole ∙ take_all cap bytes few);
       left = ended ∙ sym (ap (drop cap) whole ∙ drop_all cap bytes few);
+      created = given.created;
     }
 
 -- Bytes were given, and then no more: nothing was left.
@@ -49,17 +52,18 @@ Steps-to_end cap bytes few (Some old) (Some mid) (Some new) given ended last =
       files = last.files ∙ given.files;
       opened = last.opened ∙ given.opened;
       left = given.left ∙ ap (λ xs. bytes ++ xs) last.left;
+      created = last.created ∙ given.created;
     }
 Steps-to_end cap bytes few None (Some mid) new given ended last = absurd given
 Steps-to_end cap bytes few (Some old) None new given ended last = absurd given
 Steps-to_end cap bytes few None None (Some new) given ended last = absurd last
 Steps-to_end cap bytes few (Some old) (Some mid) None given ended last = absurd last
 
--- what was read behind the first len bytes of a list stands behind them
-pub take-read_behind : (n len count : ℕ) (xs read rest behind : List ℕ) → len ≤ length xs → count ≤ length read →
+-- what was read after the first len bytes of a list stands after them
+pub take-read_after : (n len count : ℕ) (xs read rest later : List ℕ) → len ≤ length xs → count ≤ length read →
     len + count ≤ n →
-    take (len + count) (take n ((take len xs ++ (read ++ rest)) ++ behind)) ≡ take len xs ++ take count read
-take-read_behind n len count xs read rest behind in_list in_read in_all =
+    take (len + count) (take n ((take len xs ++ (read ++ rest)) ++ later)) ≡ take len xs ++ take count read
+take-read_after n len count xs read rest later in_list in_read in_all =
     let all : List ℕ = take len xs ++ (read ++ rest) in
     let front : length (take len xs) ≡ len = length-take-le len xs in_list in
     let long : len + count ≤ length all = omega (
@@ -67,15 +71,15 @@ take-read_behind n len count xs read rest behind in_list in_read in_all =
       length-append (take len xs) (read ++ rest),
       length-append read rest,
     ) in
-    take-take (len + count) n (all ++ behind) in_all ∙ take-append-le (len + count) all behind long ∙
+    take-take (len + count) n (all ++ later) in_all ∙ take-append-le (len + count) all later long ∙
     subst (λ k. take (k + count) all ≡ take len xs ++ take count (read ++ rest)) front
     (take-append-add (take len xs) (read ++ rest) count) ∙
     ap (λ ys. take len xs ++ ys) (take-append-le count read rest in_read)
 
--- and where nothing was read behind them, the first len bytes are what they were
-pub take-read_end : (n len : ℕ) (xs read rest behind before : List ℕ) → len ≤ length xs → len ≤ n →
+-- and where nothing was read after them, the first len bytes are what they were
+pub take-read_end : (n len : ℕ) (xs read rest later before : List ℕ) → len ≤ length xs → len ≤ n →
     take len xs ≡ take len before →
-    take len (take n ((take len xs ++ (read ++ rest)) ++ behind)) ≡ take len before
-take-read_end n len xs read rest behind before in_list in_all kept =
-    ap (λ k. take k (take n ((take len xs ++ (read ++ rest)) ++ behind))) (sym (add-zero len)) ∙
-    take-read_behind n len 0 xs read rest behind in_list (omega arith) (omega arith) ∙ append-nil (take len xs) ∙ kept
+    take len (take n ((take len xs ++ (read ++ rest)) ++ later)) ≡ take len before
+take-read_end n len xs read rest later before in_list in_all kept =
+    ap (λ k. take k (take n ((take len xs ++ (read ++ rest)) ++ later))) (sym (add-zero len)) ∙
+    take-read_after n len 0 xs read rest later in_list (omega arith) (omega arith) ∙ append-nil (take len xs) ∙ kept

@@ -1,6 +1,6 @@
--- What a desk shows of the files that it reads, what it answered so far, and what each call changes
--- of that.
-use Rattle.std.specs.Prelude.{◌≡◌, ℕ, ◌≤◌, ◌⊎◌, List, [], ◌∷◌, ◌++◌, length, take, Bool, Option, Some, None, Result, Ok, Err, is_ok, IsSome, IfOk, OnOk, OnErr, if◌then◌else◌}
+-- What a desk shows of the files that it reads and makes, what it answered so far, and what each
+-- call changes of that.
+use Rattle.std.specs.Prelude.{◌≡◌, ◌≢◌, ℕ, ◌<◌, ◌≤◌, ◌⊎◌, List, [], ◌∷◌, ◌++◌, length, take, Bool, true, false, Option, Some, None, Result, Ok, Err, is_ok, IsSome, IfOk, OnOk, OnErr, if◌then◌else◌}
 use Rattle.std.specs.Str.{bytes_eq}
 use Rattle.acl_outside.specs.Fault.{Rose}
 use Rattle.acl_outside.specs.Told.{Steps}
@@ -10,26 +10,47 @@ pub record File : Type 0 where
   pub name : List ℕ
   pub bytes : List ℕ
 
--- the files of a desk, the name of the opened one, and what is left to read of it
+-- the files of a desk, the name of the opened one, what is left to read of it, and the name of the
+-- one that is created and not finished
 pub record Content : Type 0 where
   pub files : List File
   pub opened : Option (List ℕ)
   pub left : List ℕ
+  pub created : Option (List ℕ)
 
--- An answer of a desk: the file of this name was opened or not, or a read with room for so many
--- bytes gave these or failed.
+-- An answer of a desk: the file of this name was opened or not, a read with room for so many bytes
+-- gave these or failed, the file of this name was created or not, a write took these bytes or
+-- failed, or the created file was finished or not.
 pub data Answer : Type 0 where
   Opening : (name : List ℕ) → (succeeded : Bool) → Answer
   Reading : (room : ℕ) → (given : Option (List ℕ)) → Answer
+  Creating : (name : List ℕ) → (succeeded : Bool) → Answer
+  Writing : (taken : Option (List ℕ)) → Answer
+  Finishing : (succeeded : Bool) → Answer
 
 -- What a desk shows: its files where it tells them, its answers so far, newest first, whether a
--- file is opened, and the counts of its faults.
+-- file is opened, whether one is created and not finished, and the counts of its faults.
 pub record DeskView : Type 0 where
   pub content : Option Content
   pub answers : List Answer
   pub reading : Bool
+  pub writing : Bool
   pub read_faults : ℕ
   pub absent : ℕ
+  pub write_faults : ℕ
+
+-- the last call that wasn't a read or a write was a finish that succeeded
+abbrev pub is_finished : List Answer → Bool
+is_finished [] = false
+is_finished (Opening name succeeded ∷ earlier) = false
+is_finished (Reading room given ∷ earlier) = is_finished earlier
+is_finished (Creating name succeeded ∷ earlier) = false
+is_finished (Writing taken ∷ earlier) = is_finished earlier
+is_finished (Finishing succeeded ∷ earlier) = succeeded
+
+-- the created file is finished, and no file was opened or created since
+abbrev pub finished : DeskView → Bool
+finished desk = is_finished desk.answers
 
 -- the bytes of the named file, or none where no such file is there
 abbrev pub bytes_of : List File → List ℕ → Option (List ℕ)
@@ -37,28 +58,52 @@ bytes_of [] name = None
 bytes_of (file ∷ files) name = if bytes_eq file.name name then Some file.bytes else bytes_of files
     name
 
+-- The named file has these bytes now, and every other file is as it was.
+pub record Holds (name bytes : List ℕ) (old new : List File) : Type 0 where
+  pub named : bytes_of new name ≡ Some bytes
+  pub others : (other : List ℕ) → other ≢ name → bytes_of new other ≡ bytes_of old other
+
 -- The named file is opened, at its beginning.
 pub record Opens (name : List ℕ) (old new : Content) : Type 0 where
   pub files : new.files ≡ old.files
   pub opened : new.opened ≡ Some name
   pub left : bytes_of old.files name ≡ Some new.left
+  pub created : new.created ≡ None
 
--- No file is opened any more.
+-- No file is opened or created any more.
 pub record GivesUp (old new : Content) : Type 0 where
   pub files : new.files ≡ old.files
   pub opened : new.opened ≡ None
   pub left : new.left ≡ []
+  pub created : new.created ≡ None
 
 -- These bytes were read: they are the first of what was left.
 pub record Gives (bytes : List ℕ) (old new : Content) : Type 0 where
   pub files : new.files ≡ old.files
   pub opened : new.opened ≡ old.opened
   pub left : old.left ≡ bytes ++ new.left
+  pub created : new.created ≡ old.created
+
+-- The named file is created: it is empty, whether or not it was there.
+pub record Creates (name : List ℕ) (old new : Content) : Type 0 where
+  pub files : Holds name [] old.files new.files
+  pub opened : new.opened ≡ None
+  pub left : new.left ≡ []
+  pub created : new.created ≡ Some name
+
+-- These bytes were written at the end of the created file.
+pub record Writes (bytes : List ℕ) (old new : Content) : Type 0 where
+  pub files : (name had : List ℕ) → old.created ≡ Some name → bytes_of old.files name ≡ Some had →
+      Holds name (had ++ bytes) old.files new.files
+  pub opened : new.opened ≡ old.opened
+  pub left : new.left ≡ old.left
+  pub created : new.created ≡ old.created
 
 -- Counts of faults never fall.
 pub record KeepsCounts (old new : DeskView) : Type 0 where
   pub read_faults : old.read_faults ≤ new.read_faults
   pub absent : old.absent ≤ new.absent
+  pub write_faults : old.write_faults ≤ new.write_faults
 
 -- All that a desk promises of an opening.
 pub record OpensFile {T E : Type 0} (name : List ℕ) (old new : DeskView) (result : Result T E) :
@@ -66,18 +111,20 @@ pub record OpensFile {T E : Type 0} (name : List ℕ) (old new : DeskView) (resu
   pub opened : OnOk result (Steps (Opens name) old.content new.content)
   pub given_up : OnErr result (Steps GivesUp old.content new.content)
   pub reading : new.reading ≡ is_ok result
+  pub writing : new.writing ≡ false
   pub answer : new.answers ≡ Opening name (is_ok result) ∷ old.answers
   pub cause : OnErr result (Rose old.read_faults new.read_faults ⊎ Rose old.absent new.absent)
   -- a file that is there is never told to be absent
   pub there : (content : Content) → old.content ≡ Some content →
       IsSome (bytes_of content.files name) →
       (new.absent ≡ old.absent) × OnErr result (Rose old.read_faults new.read_faults)
+  pub write_faults : new.write_faults ≡ old.write_faults
   pub counts : KeepsCounts old new
 
--- what a read gave into a slice, or none where it failed
-abbrev pub given_by : {E : Type 0} → Result ℕ E → List ℕ → Option (List ℕ)
-given_by (Ok count) into = Some (take count into)
-given_by (Err fault) into = None
+-- the bytes of a slice that a read or a write moved, or none where it failed
+abbrev pub moved_by : {E : Type 0} → Result ℕ E → List ℕ → Option (List ℕ)
+moved_by (Ok count) slice = Some (take count slice)
+moved_by (Err fault) slice = None
 
 -- All that a desk promises of a read into a slice.
 pub record ReadsInto {E : Type 0} (into_old into_new : List ℕ) (old new : DeskView)
@@ -89,7 +136,50 @@ pub record ReadsInto {E : Type 0} (into_old into_new : List ℕ) (old new : Desk
   pub empty : into_old ≡ [] → result ≡ Ok 0
   pub lost_nothing : OnErr result (new.content ≡ old.content)
   pub reading : new.reading ≡ old.reading
-  pub answer : new.answers ≡ Reading (length into_old) (given_by result into_new) ∷ old.answers
+  pub writing : new.writing ≡ old.writing
+  pub answer : new.answers ≡ Reading (length into_old) (moved_by result into_new) ∷ old.answers
   pub cause : OnErr result (Rose old.read_faults new.read_faults)
+  pub absent : new.absent ≡ old.absent
+  pub write_faults : new.write_faults ≡ old.write_faults
+  pub counts : KeepsCounts old new
+
+-- All that a desk promises of a creation.
+pub record CreatesFile {T E : Type 0} (name : List ℕ) (old new : DeskView) (result : Result T E) :
+    Type 0 where
+  pub created : OnOk result (Steps (Creates name) old.content new.content)
+  pub given_up : OnErr result (Steps GivesUp old.content new.content)
+  pub reading : new.reading ≡ false
+  pub writing : new.writing ≡ is_ok result
+  pub answer : new.answers ≡ Creating name (is_ok result) ∷ old.answers
+  pub cause : OnErr result (Rose old.write_faults new.write_faults)
+  pub read_faults : new.read_faults ≡ old.read_faults
+  pub absent : new.absent ≡ old.absent
+  pub counts : KeepsCounts old new
+
+-- All that a desk promises of a write: it takes a prefix of the piece, of the length that it
+-- answers, or nothing where it fails.
+pub record WritesPiece {E : Type 0} (piece : List ℕ) (old new : DeskView) (result : Result ℕ E) :
+    Type 0 where
+  pub within : IfOk result (λ count. count ≤ length piece)
+  pub taken : IfOk result (λ count. Steps (Writes (take count piece)) old.content new.content)
+  pub progress : IfOk result (λ count. 0 < length piece → 0 < count)
+  pub empty : piece ≡ [] → result ≡ Ok 0
+  pub took_nothing : OnErr result (new.content ≡ old.content)
+  pub reading : new.reading ≡ old.reading
+  pub writing : new.writing ≡ old.writing
+  pub answer : new.answers ≡ Writing (moved_by result piece) ∷ old.answers
+  pub cause : OnErr result (Rose old.write_faults new.write_faults)
+  pub read_faults : new.read_faults ≡ old.read_faults
+  pub absent : new.absent ≡ old.absent
+  pub counts : KeepsCounts old new
+
+-- All that a desk promises of a finish: the writing ends, also where it fails.
+pub record FinishesFile {T E : Type 0} (old new : DeskView) (result : Result T E) : Type 0 where
+  pub ended : Steps GivesUp old.content new.content
+  pub reading : new.reading ≡ false
+  pub writing : new.writing ≡ false
+  pub answer : new.answers ≡ Finishing (is_ok result) ∷ old.answers
+  pub cause : OnErr result (Rose old.write_faults new.write_faults)
+  pub read_faults : new.read_faults ≡ old.read_faults
   pub absent : new.absent ≡ old.absent
   pub counts : KeepsCounts old new

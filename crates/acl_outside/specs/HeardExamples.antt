@@ -38,7 +38,7 @@ no_room = refl
 broken_read : heard (Reading 8 None ∷ two_reads) ≡ opening (1 ∷ 2 ∷ 3 ∷ []) BrokenOff ∷ []
 broken_read = refl
 
--- a file that is read on behind its end has grown
+-- a file that is read on after its end has grown
 grown_file : heard (Reading 8 (Some (4 ∷ [])) ∷ Reading 8 (Some []) ∷ two_reads) ≡
     opening (1 ∷ 2 ∷ 3 ∷ 4 ∷ []) GoesOn ∷ []
 grown_file = refl

@@ -6,8 +6,11 @@ pub mod Sink
 pub mod Answers
 pub mod Heard
 pub mod HeardExamples
+pub mod Made
+pub mod MadeExamples
 pub mod Reading
+pub mod Writing
 pub mod System
-pub mod Memory
 pub mod MemFile
+pub mod Memory
 pub mod MemoryExamples

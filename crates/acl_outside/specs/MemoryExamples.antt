@@ -1,8 +1,9 @@
 -- Examples of the desk and the sink over memory, each checked by evaluation.
-use Rattle.std.specs.Prelude.{◌≡◌, ℕ, List, [], ◌∷◌, true, false, Some, None, codes, refl}
+use Rattle.std.specs.Prelude.{◌≡◌, ℕ, List, [], ◌∷◌, replicate, Bool, true, false, Some, None, codes, refl}
 use Rattle.acl_outside.specs.Fault.{next_count}
 use Rattle.acl_outside.specs.Desk.{File, bytes_of}
-use Rattle.acl_outside.specs.Memory.{MemDeskView, MemSinkView, distinct_names, next_fails, has_file, read_len, put_fails, put_len}
+use Rattle.acl_outside.specs.MemFile.{MadeView, Opened, Created, takes_name}
+use Rattle.acl_outside.specs.Memory.{MemDeskView, MemSinkView, desk_over, distinct_names, all_files, content_of, next_read_fails, next_write_fails, has_file, read_len, write_fails, write_len, put_fails, put_len}
 
 abbrev file : List ℕ → List ℕ → File
 file name bytes = record { name = name; bytes = bytes }
@@ -32,46 +33,111 @@ one_name_twice = refl
 no_files : distinct_names [] ≡ true
 no_files = refl
 
--- a desk with the first file opened, whose second and fourth calls fail
-abbrev desk_after : ℕ → MemDeskView
-desk_after calls = record {
-  content = record { files = two_files; opened = Some (codes "rules"); left = 2 ∷ 3 ∷ 4 ∷ [] };
-  answers = [];
-  piece = 2;
-  failing = 2 ∷ 4 ∷ [];
-  calls = calls;
-  read_faults = 0;
-  absent = 0;
+-- a desk with the first file opened, whose second and fourth reading calls fail, and whose third
+-- writing call; it created no file yet, or one in place of the second file
+abbrev desk_after : ℕ → Bool → MemDeskView
+desk_after calls there = record (desk_over two_files 2 4 (2 ∷ 4 ∷ []) (3 ∷ [])) {
+  made = record { there = there; name = codes "rule"; bytes = 8 ∷ 9 ∷ []; room = 4 };
+  hand = Opened (codes "rules") (2 ∷ 3 ∷ 4 ∷ []);
+  reads = calls;
+  writes = calls;
 }
 
 -- calls are numbered from 1
-the_first_call : next_fails (desk_after 0) ≡ false
+the_first_call : next_read_fails (desk_after 0 false) ≡ false
 the_first_call = refl
 
-the_second_call : next_fails (desk_after 1) ≡ true
+the_second_call : next_read_fails (desk_after 1 false) ≡ true
 the_second_call = refl
 
-the_fourth_call : next_fails (desk_after 3) ≡ true
+the_fourth_call : next_read_fails (desk_after 3 false) ≡ true
 the_fourth_call = refl
 
-the_fifth_call : next_fails (desk_after 4) ≡ false
+the_fifth_call : next_read_fails (desk_after 4 false) ≡ false
 the_fifth_call = refl
 
-a_file_is_there : has_file (desk_after 0) (codes "rule") ≡ true
+-- writing calls have numbers of their own
+the_second_writing_call : next_write_fails (desk_after 1 false) ≡ false
+the_second_writing_call = refl
+
+the_third_writing_call : next_write_fails (desk_after 2 false) ≡ true
+the_third_writing_call = refl
+
+a_file_is_there : has_file (desk_after 0 false) (codes "rule") ≡ true
 a_file_is_there = refl
 
-a_file_is_absent : has_file (desk_after 0) (codes "captures") ≡ false
+a_file_is_absent : has_file (desk_after 0 false) (codes "captures") ≡ false
 a_file_is_absent = refl
 
+the_given_one : bytes_of (all_files (desk_after 0 false)) (codes "rule") ≡ Some []
+the_given_one = refl
+
+-- a created file stands in place of a given one, once
+the_created_one : all_files (desk_after 0 true) ≡
+    file (codes "rule") (8 ∷ 9 ∷ []) ∷ file (codes "rules") (1 ∷ 2 ∷ 3 ∷ 4 ∷ []) ∷ []
+the_created_one = refl
+
 -- a read gives no more than the piece, the slice and what is left
-bound_by_the_piece : read_len (desk_after 0) 100 ≡ 2
+bound_by_the_piece : read_len (desk_after 0 false) 100 ≡ 2
 bound_by_the_piece = refl
 
-bound_by_the_slice : read_len (desk_after 0) 1 ≡ 1
+bound_by_the_slice : read_len (desk_after 0 false) 1 ≡ 1
 bound_by_the_slice = refl
 
-bound_by_what_is_left : read_len (record (desk_after 0) { piece = 9 }) 100 ≡ 3
+bound_by_what_is_left : read_len (record (desk_after 0 false) { piece = 9 }) 100 ≡ 3
 bound_by_what_is_left = refl
+
+-- the room for a created file of these bytes, with room for four in all
+abbrev made_of : List ℕ → MadeView
+made_of bytes = record { there = true; name = codes "image"; bytes = bytes; room = 4 }
+
+-- a desk that has created this file
+abbrev desk_making : List ℕ → ℕ → MemDeskView
+desk_making bytes writes = record (desk_after 0 true) {
+  made = made_of bytes;
+  hand = Created;
+  writes = writes;
+}
+
+what_is_created : (content_of (desk_making [] 0)).created ≡ Some (codes "image")
+what_is_created = refl
+
+a_write_succeeds : write_fails (desk_making (7 ∷ []) 1) 9 ≡ false
+a_write_succeeds = refl
+
+a_listed_write_fails : write_fails (desk_making (7 ∷ []) 2) 9 ≡ true
+a_listed_write_fails = refl
+
+an_empty_write_succeeds : write_fails (desk_making (7 ∷ []) 2) 0 ≡ false
+an_empty_write_succeeds = refl
+
+a_full_file_takes_nothing : write_fails (desk_making (7 ∷ 7 ∷ 7 ∷ 7 ∷ []) 0) 1 ≡ true
+a_full_file_takes_nothing = refl
+
+write_bound_by_the_room : write_len (desk_making (7 ∷ 7 ∷ 7 ∷ []) 0) 9 ≡ 1
+write_bound_by_the_room = refl
+
+write_bound_by_the_piece : write_len (desk_making (7 ∷ []) 0) 9 ≡ 2
+write_bound_by_the_piece = refl
+
+write_bound_by_the_length : write_len (desk_making (7 ∷ []) 0) 1 ≡ 1
+write_bound_by_the_length = refl
+
+-- one file is created, and that again
+the_same_name : takes_name (made_of []) (codes "image") ≡ true
+the_same_name = refl
+
+another_name : takes_name (made_of []) (codes "images") ≡ false
+another_name = refl
+
+any_first_name : takes_name (record (made_of []) { there = false }) (codes "images") ≡ true
+any_first_name = refl
+
+the_longest_name : takes_name (record (made_of []) { there = false }) (replicate 255 7) ≡ true
+the_longest_name = refl
+
+a_name_too_long : takes_name (record (made_of []) { there = false }) (replicate 256 7) ≡ false
+a_name_too_long = refl
 
 -- a sink with room for two bytes more, whose second put fails
 abbrev sink_after : ℕ → MemSinkView

@@ -6,6 +6,7 @@ use Rattle.acl_outside.specs.Fault.{Rose}
 use Rattle.acl_outside.specs.Told.{Steps}
 use Rattle.acl_outside.specs.Desk.{Content, DeskView, Gives, KeepsCounts}
 use Rattle.acl_outside.specs.Heard.{Heard, BrokenOff, Ended, heard, change_newest, with_bytes, with_ending}
+use Rattle.acl_outside.specs.Made.{KeepsMade}
 use Rattle.acl_outside.specs.declared.reading.ReadAll.{ReadAll}
 use Rattle.acl_outside.specs.declared.reading.ReadAll.TheVariants.{ReadFault, OutOfMemory}
 
@@ -16,6 +17,7 @@ pub record GivesUpTo (cap : ℕ) (bytes : List ℕ) (old new : Content) : Type 0
   pub opened : new.opened ≡ old.opened
   pub given : bytes ≡ take cap old.left
   pub left : new.left ≡ drop cap old.left
+  pub created : new.created ≡ old.created
 
 -- The opened file gave these bytes, and then its reading stands as the change says. Nothing else
 -- was asked.
@@ -47,6 +49,8 @@ pub record ReadsUpTo (cap : ℕ) (old new : DeskView) (result : Result (Vec ℕ 
   pub heard : IfOk result (λ bytes. ReadsToEndOrCap cap bytes.items old new)
   pub lost : IfErr result (λ fault. (bytes : List ℕ) × ReadsOn (after_fault fault) bytes old new)
   pub reading : new.reading ≡ old.reading
+  pub writing : new.writing ≡ old.writing
   pub read_fault : result ≡ Err ReadFault → Rose old.read_faults new.read_faults
   pub absent : new.absent ≡ old.absent
+  pub made : KeepsMade old new
   pub counts : KeepsCounts old new

@@ -4,14 +4,18 @@ use Rattle.acl_outside.specs.Desk.{Answer, DeskView}
 use Rattle.acl_outside.specs.Sink.{SinkView}
 
 -- A desk over the system: the bytes that were read of the opened file and not given yet, what is
--- still to come of it with these, where that is known, its answers so far, whether a file is
--- opened, and the count of its read faults.
+-- still to come of it with these, where that is known, the bytes that the created file holds, where
+-- they are known, its answers so far, whether a file is opened, whether one is created and not
+-- finished, and the counts of its faults.
 pub record StdDeskView : Type 0 where
   pub held : List ℕ
   pub remaining : Option (List ℕ)
+  pub contents : Option (List ℕ)
   pub answers : List Answer
   pub reading : Bool
+  pub writing : Bool
   pub read_faults : ℕ
+  pub write_faults : ℕ
 
 -- what it shows as a desk: no content, and no file is told to be absent
 abbrev pub shown_std_desk : StdDeskView → DeskView
@@ -19,8 +23,10 @@ shown_std_desk desk = record {
   content = None;
   answers = desk.answers;
   reading = desk.reading;
+  writing = desk.writing;
   read_faults = desk.read_faults;
   absent = 0;
+  write_faults = desk.write_faults;
 }
 
 -- A sink over a writer of the system: the bytes that the writer holds, where they are known, those

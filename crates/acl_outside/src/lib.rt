@@ -5,18 +5,19 @@
 //! stands behind them: memory in tests, the system else. Clauses see of each what it tells, and
 //! what it answered so far.
 //!
-//! - `desk`: the trait of what reads files, and the answer of a call that failed
+//! - `desk`: the trait of what reads and makes files, and the answer of a call that failed
 //! - `sink`: the trait of what takes output
 //! - `reading`: a file from where it is read on to its end or a cap
 //! - `writing`: a piece as a whole
-//! - `mem_desk`, `mem_sink`, `listed`: files and output in memory, which fail where they are told
-//!   to
+//! - `mem_desk`, `made_file`, `mem_sink`, `listed`: files and output in memory, which fail where
+//!   they are told to
 //! - `std_desk`, `read_buffer`, `std_sink`: files and output streams of the system
 //! - `transcript`: what was asked and answered, which only clauses read
 #![tactic(auto)]
 
 mod desk;
 mod listed;
+mod made_file;
 mod mem_desk;
 mod mem_sink;
 mod read_buffer;
@@ -36,4 +37,4 @@ pub use reading::{ReadAll, read_up_to};
 pub use sink::Sink;
 pub use std_desk::StdDesk;
 pub use std_sink::StdSink;
-pub use writing::put_all;
+pub use writing::{put_all, write_all};

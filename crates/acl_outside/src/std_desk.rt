@@ -5,8 +5,10 @@ ghost use Rattle.std.specs.Io.KnownBytes.{Consumes, IsAtEnd, Keeps, prepend_know
 
 use crate::desk::{Desk, Failed};
 use crate::read_buffer::{BUFFER_SIZE, ReadBuffer, read_once};
+use crate::std_sink::write_once;
 use crate::transcript::Transcript;
 use std::fs;
+use std::fs::OpenFile;
 use std::io::Read;
 use std::marker::Model;
 use std::rt::Files;
@@ -17,16 +19,25 @@ use std::rt::Files;
 /// that reading a file takes one call of the system for each 32 KiB or for each slice, and one for
 /// the end, where the system gives as much at a time. A read that is interrupted before it gives a
 /// byte is made again. Every opening that fails is a read fault, also where the file isn't there. A
-/// folder can be opened, and reading it is a fault. Its count of read faults stands still at 2^64 -
-/// 1.
-/// Source: POSIX.1-2017, `open` and `read`.
+/// folder can be opened, and reading it is a fault.
+///
+/// Each write is one call of the system, so join what belongs together before it is written. A
+/// write that is interrupted before it takes a byte is made again, and one that takes no byte of a
+/// piece has failed. A finish asks the system to keep the file, and fails where it can't say that
+/// it does, as of a pipe.
+///
+/// Its counts of faults stand still at 2^64 - 1.
+/// Source: POSIX.1-2017, `open`, `read`, `write` and `fsync`.
 #[derive(Drop)]
 pub struct StdDesk<'a, R: Files> {
     rt: &'a R,
     opened: Option<R::File>,
     /// What was read of the opened file, and not given yet.
     buffer: ReadBuffer,
+    /// The created file, while it isn't finished.
+    created: Option<R::File>,
     read_faults: u64,
+    write_faults: u64,
     transcript: Transcript,
 }
 
@@ -42,9 +53,12 @@ impl<'a, R: Files> Model for StdDesk<'a, R> {
       held = desk.buffer;
       remaining = option_and_then (λ file. prepend_known desk.buffer (R.File.remaining file))
           desk.opened;
+      contents = option_and_then (λ file. R.File.contents file) desk.created;
       answers = answers_of desk.transcript.notes;
       reading = is_some desk.opened;
+      writing = is_some desk.created;
       read_faults = desk.read_faults;
+      write_faults = desk.write_faults;
     } };
 }
 
@@ -56,16 +70,21 @@ impl<'a, R: Files> StdDesk<'a, R> {
         ensures { result ≡ record {
           held = [];
           remaining = None;
+          contents = None;
           answers = [];
           reading = false;
+          writing = false;
           read_faults = 0;
+          write_faults = 0;
         } }
     {
         StdDesk {
             rt,
             opened: None,
             buffer: ReadBuffer::new(),
+            created: None,
             read_faults: 0,
+            write_faults: 0,
             transcript: Transcript::new(),
         }
     }
@@ -73,9 +92,9 @@ impl<'a, R: Files> StdDesk<'a, R> {
 
 impl<'a, R: Files> Desk for StdDesk<'a, R> {
     ghost use Rattle.std.specs.Prelude.{◌≡◌, ◌⊎◌, [], Ok, is_ok, take, IsTrue, IfOk, OnErr, if◌then◌else◌};
-    ghost use Rattle.std.specs.Io.KnownBytes.{Consumes, IsAtEnd, Keeps};
+    ghost use Rattle.std.specs.Io.KnownBytes.{Consumes, IsAtEnd, Keeps, WriteAppends};
     ghost use Rattle.acl_outside.specs.Fault.{next_count};
-    ghost use Rattle.acl_outside.specs.Desk.{OpensFile, ReadsInto};
+    ghost use Rattle.acl_outside.specs.Desk.{OpensFile, ReadsInto, CreatesFile, WritesPiece, FinishesFile};
     ghost use Rattle.acl_outside.specs.System.{shown_std_desk};
 
     ghost view = { shown_std_desk };
@@ -90,6 +109,7 @@ impl<'a, R: Files> Desk for StdDesk<'a, R> {
         ensures read_faults { self.new.read_faults ≡
             (if is_ok result then self.old.read_faults else next_count self.old.read_faults) }
     {
+        self.created = None;
         self.buffer.clear();
         self.opened = fs::open(self.rt, name).ok();
         if self.opened.is_none() {
@@ -132,6 +152,78 @@ impl<'a, R: Files> Desk for StdDesk<'a, R> {
                 Err(Failed)
             }
         }
+    }
+
+    fn create_file(&mut self, name: &str) -> Result<(), Failed>
+        ensures creates { CreatesFile name.now (shown_std_desk self.old) (shown_std_desk self.new)
+            result }
+
+        // Each failure is a write fault, and nothing else is.
+        ensures write_faults { self.new.write_faults ≡
+            (if is_ok result then self.old.write_faults else next_count self.old.write_faults) }
+    {
+        self.opened = None;
+        self.created = fs::create(self.rt, name).ok();
+        if self.created.is_none() {
+            self.write_faults = self.write_faults.saturating_add(1);
+            self.transcript.note_not_created(name);
+            return Err(Failed);
+        }
+        self.transcript.note_created(name);
+        Ok(())
+    }
+
+    fn write(&mut self, piece: &[u8]) -> Result<usize, Failed>
+        requires { IsTrue self.old.writing }
+
+        ensures writes { WritesPiece piece.now (shown_std_desk self.old)
+            (shown_std_desk self.new) result }
+
+        // The file gained the bytes that were taken, and nothing else.
+        ensures contents { WriteAppends self.old.contents self.new.contents result piece.now }
+        // Each failure is a write fault, and nothing else is.
+        ensures write_faults { self.new.write_faults ≡
+            (if is_ok result then self.old.write_faults else next_count self.old.write_faults) }
+    {
+        let Some(file) = &mut self.created else {
+            unreachable!()
+        };
+        if piece.is_empty() {
+            self.transcript.note_written(&[]);
+            return Ok(0);
+        }
+        match write_once(file, piece) {
+            Ok(count) => {
+                self.transcript.note_written(&piece[..count]);
+                Ok(count)
+            }
+            Err(Failed) => {
+                self.write_faults = self.write_faults.saturating_add(1);
+                self.transcript.note_not_written();
+                Err(Failed)
+            }
+        }
+    }
+
+    fn finish(&mut self) -> Result<(), Failed>
+        requires { IsTrue self.old.writing }
+
+        ensures finishes { FinishesFile (shown_std_desk self.old) (shown_std_desk self.new) result }
+        // Each failure is a write fault, and nothing else is.
+        ensures write_faults { self.new.write_faults ≡
+            (if is_ok result then self.old.write_faults else next_count self.old.write_faults) }
+    {
+        self.opened = None;
+        let Some(file) = self.created.take() else {
+            unreachable!()
+        };
+        if file.sync_all().is_err() {
+            self.write_faults = self.write_faults.saturating_add(1);
+            self.transcript.note_not_finished();
+            return Err(Failed);
+        }
+        self.transcript.note_finished();
+        Ok(())
     }
 }
 

@@ -87,7 +87,7 @@ impl<W: Write + Drop> Sink for StdSink<W> {
 
 /// Writes a prefix of the piece, which isn't empty, and says how many bytes it has. A write that is
 /// interrupted is made again, and one that takes nothing has failed.
-fn write_once<W: Write>(writer: &mut W, piece: &[u8]) -> Result<usize, Failed>
+pub(crate) fn write_once<W: Write>(writer: &mut W, piece: &[u8]) -> Result<usize, Failed>
     ensures within { IfOk result (λ count. (0 < count) × (count ≤ length piece.now)) }
     ensures bytes { WriteAppends (W.contents writer.old) (W.contents writer.new) result piece.now }
 {

@@ -2,6 +2,7 @@ ghost use Rattle.std.specs.Prelude.{◌≡◌, IsTrue};
 
 use crate::{
     Desk, Failed, MemDesk, MemFile, MemSink, ReadAll, Sink, StdDesk, StdSink, put_all, read_up_to,
+    write_all,
 };
 use std::alloc::{AllocError, Global};
 use std::io::{ErrorKind, Write};
@@ -46,7 +47,14 @@ fn a_file_in_memory_is_read_to_its_end_its_cap_or_its_fault(rt: HostRuntime) -> 
         let digits = file(alloc, "digits", b"0123456789")?;
         let files = vec![in alloc; file(alloc, "empty", b"")?, digits]?;
         assert!(rt; MemDesk::has_distinct_names(&files));
-        let mut desk = MemDesk::new(files, 3, vec![in alloc; failing]?);
+        let mut desk = MemDesk::new(
+            alloc,
+            files,
+            3,
+            0,
+            vec![in alloc; failing]?,
+            Vec::new(alloc),
+        )?;
 
         assert_eq!(rt; desk.open_file("digit"), Err(Failed));
         assert_eq!(rt; (desk.absent_count(), desk.read_fault_count()), (1, 0));
@@ -54,6 +62,68 @@ fn a_file_in_memory_is_read_to_its_end_its_cap_or_its_fault(rt: HostRuntime) -> 
         reads(&rt, &mut desk, cap, first.map(|text| text.as_bytes()));
         reads(&rt, &mut desk, 100, then.map(|text| text.as_bytes()));
     }
+    Ok(())
+}
+
+/// Creates the named file, writes two pieces and finishes it, up to the first failure.
+fn makes<D: Desk>(desk: &mut D, name: &str, first: &[u8], second: &[u8]) -> Result<(), Failed> {
+    desk.create_file(name)?;
+    write_all(desk, first)?;
+    write_all(desk, second)?;
+    desk.finish()
+}
+
+/// A desk with a file of ten digits, whose writes take three bytes, with room for eight.
+fn room_for_eight<R: Abort + AllocGlobal>(rt: &R, failing: u64) -> Result<MemDesk, AllocError> {
+    let alloc = rt.alloc();
+    let files = vec![in alloc; file(alloc, "digits", b"0123456789")?]?;
+    assert!(rt; MemDesk::has_distinct_names(&files));
+    let failing = vec![in alloc; failing]?;
+    MemDesk::new(alloc, files, 3, 8, Vec::new(alloc), failing)
+}
+
+#[test]
+fn a_file_in_memory_is_made_up_to_its_room_or_its_fault(rt: HostRuntime) -> Result<(), Fail> {
+    // Call 1 creates the file, and a file of no fault takes one call for each three bytes of a
+    // piece and one to finish. The name, the failing call, both pieces, whether all succeeds, and
+    // what the file holds afterwards.
+    let long = "n".repeat(rt.alloc(), 256)?;
+    let cases: [(&str, u64, &str, &str, bool, Option<&str>); 10] = [
+        ("image", 0, "01234", "567", true, Some("01234567")),
+        ("image", 0, "", "", true, Some("")),
+        ("image", 0, "01234", "5678", false, Some("01234567")),
+        ("image", 1, "01234", "567", false, None),
+        ("image", 2, "01234", "567", false, Some("")),
+        ("image", 3, "01234", "567", false, Some("012")),
+        ("image", 4, "01234", "567", false, Some("01234")),
+        ("image", 5, "01234", "567", false, Some("01234567")),
+        ("digits", 0, "76", "5", true, Some("765")),
+        (&long, 0, "", "", false, None),
+    ];
+    for (name, failing, first, second, succeeds, want) in cases {
+        let mut desk = room_for_eight(&rt, failing)?;
+        let made = makes(&mut desk, name, first.as_bytes(), second.as_bytes());
+        assert_eq!(rt; made.is_ok(), succeeds, "{name} {failing} {first} {second}");
+        assert_eq!(rt; desk.write_fault_count(), u64::from(!succeeds));
+        assert_eq!(rt; desk.file(name), want.map(|text| text.as_bytes()));
+        if want.is_some() {
+            desk.open_file(name)?;
+            reads(&rt, &mut desk, 100, want.map(|text| text.as_bytes()));
+        }
+    }
+    Ok(())
+}
+
+#[test]
+fn one_file_in_memory_is_made_and_made_anew(rt: HostRuntime) -> Result<(), Fail> {
+    let mut desk = room_for_eight(&rt, 0)?;
+    makes(&mut desk, "image", b"0123", b"4567")?;
+    assert_eq!(rt; desk.create_file("second"), Err(Failed));
+    assert_eq!(rt; desk.file("second"), None);
+    makes(&mut desk, "image", b"", b"9")?;
+    assert_eq!(rt; desk.file("image"), Some(b"9".as_slice()));
+    assert_eq!(rt; desk.file("digits"), Some(b"0123456789".as_slice()));
+    assert_eq!(rt; desk.write_fault_count(), 1);
     Ok(())
 }
 
@@ -105,6 +175,32 @@ fn a_file_of_the_system_is_read_as_it_was_written(rt: HostRuntime) -> Result<(),
     desk.open_file(".")?;
     reads(&rt, &mut desk, 10, None);
     fs::remove_file(&rt, path)?;
+    Ok(())
+}
+
+#[test]
+fn a_file_of_the_system_is_made_and_read_back(rt: HostRuntime) -> Result<(), Fail> {
+    let path = " acl_outside std_desk made ";
+    let alloc = rt.alloc();
+    let mut desk = StdDesk::new(&rt);
+    // What was there before is gone.
+    makes(&mut desk, path, b"earlier and longer", b"")?;
+    makes(&mut desk, path, b"packets", b" and rules")?;
+    desk.open_file(path)?;
+    reads(&rt, &mut desk, 100, Some(b"packets and rules".as_slice()));
+
+    // More than two buffers.
+    let mut long = Vec::new(alloc);
+    for place in 0u32..60_000 {
+        long.extend_from_slice(&place.to_be_bytes())?;
+    }
+    makes(&mut desk, path, &long, b"")?;
+    desk.open_file(path)?;
+    reads(&rt, &mut desk, 1_000_000, Some(&long));
+    fs::remove_file(&rt, path)?;
+
+    // A folder can't be written.
+    assert_eq!(rt; desk.create_file("."), Err(Failed));
     Ok(())
 }
 

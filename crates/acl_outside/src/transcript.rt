@@ -21,6 +21,24 @@ const FAILED: u64 = 3;
 /// A sink took bytes.
 const TAKEN: u64 = 4;
 
+/// A file was created.
+const CREATED: u64 = 5;
+
+/// A file could not be created.
+const NOT_CREATED: u64 = 6;
+
+/// A write took bytes.
+const WRITTEN: u64 = 7;
+
+/// A write failed.
+const NOT_WRITTEN: u64 = 8;
+
+/// The created file was finished.
+const FINISHED: u64 = 9;
+
+/// The created file could not be finished.
+const NOT_FINISHED: u64 = 10;
+
 /// The notes so far, newest first.
 #[derive(Drop)]
 pub(crate) struct Transcript {
@@ -49,7 +67,7 @@ impl Transcript {
 
 impl Transcript {
     ghost use Rattle.std.specs.Prelude.{◌≡◌, ◌∷◌, ◌++◌, true, false, Some, None};
-    ghost use Rattle.acl_outside.specs.Desk.{Opening, Reading};
+    ghost use Rattle.acl_outside.specs.Desk.{Opening, Reading, Creating, Writing, Finishing};
     ghost use Rattle.acl_outside.specs.Answers.{answers_of, taken_of};
 
     pub(crate) fn note_opened(&mut self, name: &str)
@@ -75,6 +93,43 @@ impl Transcript {
         ensures { answers_of self.new.notes ≡ Reading room None ∷ answers_of self.old.notes }
     {
         self.note(&[FAILED, room as u64], &[]);
+    }
+
+    pub(crate) fn note_created(&mut self, name: &str)
+        ensures { answers_of self.new.notes ≡ Creating name.now true ∷ answers_of self.old.notes }
+    {
+        self.note(&[CREATED], name.as_bytes());
+    }
+
+    pub(crate) fn note_not_created(&mut self, name: &str)
+        ensures { answers_of self.new.notes ≡ Creating name.now false ∷ answers_of self.old.notes }
+    {
+        self.note(&[NOT_CREATED], name.as_bytes());
+    }
+
+    pub(crate) fn note_written(&mut self, bytes: &[u8])
+        ensures { answers_of self.new.notes ≡ Writing (Some bytes.now)
+            ∷ answers_of self.old.notes }
+    {
+        self.note(&[WRITTEN], bytes);
+    }
+
+    pub(crate) fn note_not_written(&mut self)
+        ensures { answers_of self.new.notes ≡ Writing None ∷ answers_of self.old.notes }
+    {
+        self.note(&[NOT_WRITTEN], &[]);
+    }
+
+    pub(crate) fn note_finished(&mut self)
+        ensures { answers_of self.new.notes ≡ Finishing true ∷ answers_of self.old.notes }
+    {
+        self.note(&[FINISHED], &[]);
+    }
+
+    pub(crate) fn note_not_finished(&mut self)
+        ensures { answers_of self.new.notes ≡ Finishing false ∷ answers_of self.old.notes }
+    {
+        self.note(&[NOT_FINISHED], &[]);
     }
 
     pub(crate) fn note_taken(&mut self, bytes: &[u8])

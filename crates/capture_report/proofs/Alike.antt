@@ -12,23 +12,24 @@ use Rattle.rule_set.specs.Categories.{is_count_of_categories}
 use Rattle.header_extract.specs.declared.class.Class.{Class}
 use Rattle.header_extract.specs.declared.class.Class.TheVariants.{Ip4, Ip6, Other, Short}
 use Rattle.header_extract.specs.Class.{FrameClass}
+use Rattle.acl_report.specs.declared.packet.TheConstants.{MAX_VERDICTS}
 use Rattle.acl_report.specs.Packet.{packet_text}
 use Rattle.acl_outside.specs.Desk.{File}
 use Rattle.pcap_reader.specs.declared.fault.CaptureFault.{CaptureFault}
-use Rattle.pcap_reader.specs.declared.start.Start.{Start}
+use Rattle.pcap_reader.specs.Reader.{CaptureState}
 use Rattle.pcap_reader.specs.Capture.{CaptureRecord}
-use Rattle.capture_report.specs.declared.printing.PrintOptions.{PrintOptions}
+use Rattle.capture_report.specs.declared.form.PrintOptions.{PrintOptions}
 use Rattle.command_plan.specs.declared.status.Status.{Status}
 use Rattle.capture_report.specs.Packet.{IsPacket, packet_of}
-use Rattle.capture_report.specs.Classifier.{Classifier, ByTables, Tables, AnswersAs, IsKey, all_categories, answer_of}
-use Rattle.capture_report.specs.Printing.{Printing, printing_by}
+use Rattle.capture_report.specs.Classifier.{Classifier, ByTables, Tables, AnswersAs, IsKey, answer_of}
+use Rattle.capture_report.specs.ReportForm.{ReportForm, form_by}
 use Rattle.capture_report.specs.Report.{shown, answers_of, answers_on, line_of_packet, lines_of_packets}
 use Rattle.capture_report.specs.Report.{lines_of_records}
 use Rattle.capture_report.specs.CaptureOutcome.{last_lines, reported}
 use Rattle.command_plan.specs.declared.status.Status.TheVariants.{OutOfMemory}
 use Rattle.command_plan.specs.Follow.{Before}
 use Rattle.command_plan.specs.Effects.{Outside}
-use Rattle.capture_report.specs.Prints.{Reports, Prints}
+use Rattle.capture_report.specs.PrintsCapture.{Reports, PrintsCapture}
 use Rattle.command_plan.proofs.Gained.{Gains-none}
 use Rattle.capture_report.specs.Streams.{Reading, Whole, Part, records_read, text_of, Streams}
 use Rattle.command_plan.proofs.Told.{Ends-told, Ends-complete, IsFaithful}
@@ -43,25 +44,25 @@ map_below f g limit same a (suc n) within =
     ∙ ap (λ x. x ∷ map g (range_with_len (a + 1) n)) (same a (omega (arith, within)))
 
 module _ (classifier : Classifier) (tables : Tables) (options : PrintOptions) (answers : AnswersAs classifier tables)
-    (few : options.cats.count ≤ all_categories) where
-  alike : Printing
-  alike = printing_by classifier tables options
+    (few : options.cats.count ≤ MAX_VERDICTS) where
+  alike : ReportForm
+  alike = form_by classifier tables options
 
-  by_tables : Printing
-  by_tables = printing_by (ByTables tables) tables options
+  by_tables : ReportForm
+  by_tables = form_by (ByTables tables) tables options
 
   answers_same : (family : Family) (key : List ℕ) → IsKey family key →
-      answers_of (printing_by classifier tables options) family key
-      ≡ answers_of (printing_by (ByTables tables) tables options) family key
+      answers_of (form_by classifier tables options) family key
+      ≡ answers_of (form_by (ByTables tables) tables options) family key
   answers_same family key is =
       map_below (λ category. shown options.marks (answer_of classifier family key category))
-      (λ category. shown options.marks (answer_of (ByTables tables) family key category)) all_categories
+      (λ category. shown options.marks (answer_of (ByTables tables) family key category)) MAX_VERDICTS
       (λ category below. ap (shown options.marks) (answers family key category is below)) 0 options.cats.count
       (omega (arith, few))
 
   answers_on_same : (class : Class) (packet : FrameClass) → packet.class ≡ class → IsPacket packet →
-      answers_on class (printing_by classifier tables options) packet.key
-      ≡ answers_on class (printing_by (ByTables tables) tables options) packet.key
+      answers_on class (form_by classifier tables options) packet.key
+      ≡ answers_on class (form_by (ByTables tables) tables options) packet.key
   answers_on_same Ip4 packet is packet_is =
       answers_same family.Ip4 packet.key (record { bytes = packet_is.bytes; len = rw is at packet_is.len })
   answers_on_same Ip6 packet is packet_is =
@@ -70,37 +71,37 @@ module _ (classifier : Classifier) (tables : Tables) (options : PrintOptions) (a
   answers_on_same Short packet is packet_is = refl
 
   lines_same : (number : ℕ) (packets : List FrameClass) → All IsPacket packets →
-      lines_of_packets (printing_by classifier tables options) number packets
-      ≡ lines_of_packets (printing_by (ByTables tables) tables options) number packets
+      lines_of_packets (form_by classifier tables options) number packets
+      ≡ lines_of_packets (form_by (ByTables tables) tables options) number packets
   lines_same number [] all = refl
   lines_same number (p ∷ ps) all =
-      ap (λ l. line_of_packet (printing_by classifier tables options) number p ++ l)
+      ap (λ l. line_of_packet (form_by classifier tables options) number p ++ l)
       (lines_same (number + 1) ps (All-tail IsPacket p ps all))
-      ∙ ap (λ a. packet_text number p.class a ++ lines_of_packets (printing_by (ByTables tables) tables options)
+      ∙ ap (λ a. packet_text number p.class a ++ lines_of_packets (form_by (ByTables tables) tables options)
       (number + 1) ps)
       (answers_on_same p.class p refl (All-head IsPacket p ps all))
 
   last_same : (records : List CaptureRecord) (fault : Option CaptureFault) →
-      last_lines (printing_by classifier tables options) records fault
-      ≡ last_lines (printing_by (ByTables tables) tables options) records fault
+      last_lines (form_by classifier tables options) records fault
+      ≡ last_lines (form_by (ByTables tables) tables options) records fault
   last_same records None = refl
   last_same records (Some fault) = refl
 
   text_same : (read : Reading) → All IsPacket (map packet_of (records_read read)) →
-      text_of (printing_by (ByTables tables) tables options) read
-      ≡ text_of (printing_by classifier tables options) read
+      text_of (form_by (ByTables tables) tables options) read
+      ≡ text_of (form_by classifier tables options) read
   text_same (Whole records fault) all =
-      sym (ap (λ l. l ++ last_lines (printing_by classifier tables options) records fault)
+      sym (ap (λ l. l ++ last_lines (form_by classifier tables options) records fault)
       (lines_same 1 (map packet_of records) all)
-      ∙ ap (λ l. lines_of_records (printing_by (ByTables tables) tables options) records ++ l)
+      ∙ ap (λ l. lines_of_records (form_by (ByTables tables) tables options) records ++ l)
       (last_same records fault))
   text_same (Part records) all = sym (lines_same 1 (map packet_of records) all)
 
   -- what was streamed by the tables
-  pub Streams-alike : (start : Start) (old new : Outside) (status : Status) →
-      Streams (printing_by (ByTables tables) tables options) start old new status →
-      Streams (printing_by classifier tables options) start old new status
-  Streams-alike start old new status s =
+  pub Streams-alike : (state : CaptureState) (old new : Outside) (status : Status) →
+      Streams (form_by (ByTables tables) tables options) state old new status →
+      Streams (form_by classifier tables options) state old new status
+  Streams-alike state old new status s =
       let same = text_same s.read s.packets in
       record {
         given = s.given;
@@ -119,17 +120,17 @@ module _ (classifier : Classifier) (tables : Tables) (options : PrintOptions) (a
       }
 
 -- a lawful number of categories
-pub categories_few : (count : ℕ) → IsTrue (is_count_of_categories count) → count ≤ all_categories
+pub categories_few : (count : ℕ) → IsTrue (is_count_of_categories count) → count ≤ MAX_VERDICTS
 categories_few count lawful = grind (arith, nat_tests)
 
-report_faithful : (printing : Printing) (name : List ℕ) (files : List File) →
-    IsFaithful files (reported printing name)
-report_faithful printing name files = (λ front more. report-begins printing front more, λ front. tt)
+report_faithful : (form : ReportForm) (name : List ℕ) (files : List File) →
+    IsFaithful files (reported form name)
+report_faithful form name files = (λ front more. report-begins form front more, λ front. tt)
 
 -- there is no memory for a batch
-pub Reports-no_room : (printing : Printing) (name : List ℕ) (view : Outside) →
-    Reports printing name view view OutOfMemory
-Reports-no_room printing name view = record {
+pub Reports-no_room : (form : ReportForm) (name : List ℕ) (view : Outside) →
+    Reports form name view view OutOfMemory
+Reports-no_room form name view = record {
   ends = record {
     reached = Before name;
     follows = inl (refl, refl);
@@ -150,16 +151,16 @@ Reports-no_room printing name view = record {
 }
 
 -- what is printed by whatever answers as the tables do
-pub Prints-from : (tables : Tables) (options : PrintOptions) (name : List ℕ) (old new : Outside) (status : Status) →
+pub PrintsCapture-from : (tables : Tables) (options : PrintOptions) (name : List ℕ) (old new : Outside) (status : Status) →
     ((classifier : Classifier) → AnswersAs classifier tables →
-    Reports (printing_by classifier tables options) name old new status) →
-    Prints tables options name old new status
-Prints-from tables options name old new status all =
+    Reports (form_by classifier tables options) name old new status) →
+    PrintsCapture tables options name old new status
+PrintsCapture-from tables options name old new status all =
     let own = all (ByTables tables) (λ family key category is below. refl) in
-    let printing : Printing = printing_by (ByTables tables) tables options in
+    let form : ReportForm = form_by (ByTables tables) tables options in
     record {
       by_tables = own;
       alike = all;
-      told = Ends-told (reported printing name) old new status (report_faithful printing name) own.ends;
-      complete = Ends-complete (reported printing name) old new status own.ends;
+      told = Ends-told (reported form name) old new status (report_faithful form name) own.ends;
+      complete = Ends-complete (reported form name) old new status own.ends;
     }

@@ -23,9 +23,9 @@ use Rattle.header_extract.specs.declared.class.Class.TheVariants.{Ip4, Ip6, Othe
 use Rattle.header_extract.specs.Class.{FrameClass, key_len}
 use Rattle.capture_report.specs.Packet.{IsPacket}
 use Rattle.capture_report.specs.Classifier.{Tables, key_len_of_family}
-use Rattle.capture_report.specs.Report.{steps_on, steps_of_packets}
+use Rattle.capture_report.specs.Report.{transitions_on, transitions_of_packets}
 use Rattle.capture_report.specs.Taken.{max_batch}
-use Rattle.capture_report.specs.Batch.{is_of, keys_of, number_of, verdicts_of, steps_of_family, max_steps}
+use Rattle.capture_report.specs.Batch.{is_of, keys_of, number_of, verdicts_of, transitions_of_family, max_transitions}
 
 zero-add : (n : ℕ) → 0 + n ≡ n
 zero-add n = omega arith
@@ -56,7 +56,7 @@ range_first a n =
     ap (range_with_len a) (add-one n) ∙ at
 
 module _ (table : TableView) (key rest : List ℕ) (len : length key ≡ table.key_len) where
-  -- the first key of a batch, and those behind it
+  -- the first key of a batch, and those after it
   first_key : key_at table (key ++ rest) 0 ≡ key
   first_key =
       ap (λ (m : ℕ). take table.key_len (drop m (key ++ rest))) (let none : 0 * table.key_len ≡ 0 = omega arith in
@@ -66,14 +66,14 @@ module _ (table : TableView) (key rest : List ℕ) (len : length key ≡ table.k
 
   later_key : (k : ℕ) → key_at table (key ++ rest) (k + 1) ≡ key_at table rest k
   later_key k =
-      let behind : (k + 1) * table.key_len ≡ length key + k * table.key_len = omega (arith, len) in
-      ap (λ (m : ℕ). take table.key_len (drop m (key ++ rest))) behind
+      let later : (k + 1) * table.key_len ≡ length key + k * table.key_len = omega (arith, len) in
+      ap (λ (m : ℕ). take table.key_len (drop m (key ++ rest))) later
       ∙ ap (take table.key_len) (drop-append-add key rest (k * table.key_len))
 
-  verdicts_behind : (count n : ℕ) →
+  verdicts_later : (count n : ℕ) →
       first_verdicts table count (key ++ rest) (n + 1)
       ≡ key_verdicts table count key ++ first_verdicts table count rest n
-  verdicts_behind count n =
+  verdicts_later count n =
       ap (flat_map (λ k. key_verdicts table count (key_at table (key ++ rest) k))) (range_first 0 n)
       ∙ ap (λ l. key_verdicts table count (key_at table (key ++ rest) 0) ++ l)
       (shifted (λ k. key_verdicts table count (key_at table (key ++ rest) k))
@@ -81,9 +81,9 @@ module _ (table : TableView) (key rest : List ℕ) (len : length key ≡ table.k
       (λ k. ap (key_verdicts table count) (later_key k)) 0 n)
       ∙ ap (λ k. key_verdicts table count k ++ first_verdicts table count rest n) first_key
 
-  steps_behind : (n : ℕ) →
+  transitions_later : (n : ℕ) →
       first_steps table (key ++ rest) (n + 1) ≡ key_steps table key + first_steps table rest n
-  steps_behind n =
+  transitions_later n =
       let f : ℕ → ℕ = λ k. key_steps table (key_at table (key ++ rest) k) in
       let g : ℕ → ℕ = λ k. key_steps table (key_at table rest k) in
       omega (
@@ -124,23 +124,23 @@ module _ (family : Family) (table : TableView) (len : table.key_len ≡ key_len_
           ≡ verdicts_of family table count (p ∷ ps)
       go true own later =
           rw own
-          (verdicts_behind table p.key (keys_of family ps) (own_len p (All-head IsPacket p ps all) own) count
+          (verdicts_later table p.key (keys_of family ps) (own_len p (All-head IsPacket p ps all) own) count
           (number_of family ps)
           ∙ ap (λ l. key_verdicts table count p.key ++ l) later)
       go false own later = rw own later
 
-  steps_are : (packets : List FrameClass) → All IsPacket packets →
-      first_steps table (keys_of family packets) (number_of family packets) ≡ steps_of_family family table packets
-  steps_are [] all = refl
-  steps_are (p ∷ ps) all = go (is_of family p.class) refl (steps_are ps (All-tail IsPacket p ps all))
+  transitions_are : (packets : List FrameClass) → All IsPacket packets →
+      first_steps table (keys_of family packets) (number_of family packets) ≡ transitions_of_family family table packets
+  transitions_are [] all = refl
+  transitions_are (p ∷ ps) all = go (is_of family p.class) refl (transitions_are ps (All-tail IsPacket p ps all))
     where
       go : (own : Bool) → is_of family p.class ≡ own →
-          first_steps table (keys_of family ps) (number_of family ps) ≡ steps_of_family family table ps →
+          first_steps table (keys_of family ps) (number_of family ps) ≡ transitions_of_family family table ps →
           first_steps table (keys_of family (p ∷ ps)) (number_of family (p ∷ ps))
-          ≡ steps_of_family family table (p ∷ ps)
+          ≡ transitions_of_family family table (p ∷ ps)
       go true own later =
           rw own
-          (steps_behind table p.key (keys_of family ps) (own_len p (All-head IsPacket p ps all) own)
+          (transitions_later table p.key (keys_of family ps) (own_len p (All-head IsPacket p ps all) own)
           (number_of family ps)
           ∙ ap (λ n. key_steps table p.key + n) later)
       go false own later = rw own later
@@ -185,15 +185,15 @@ module _ (family : Family) (table : TableView) (len : table.key_len ≡ key_len_
       ap (first_verdicts table count (keys_of family packets)) (keys_number packets all some)
       ∙ verdicts_are count packets all
 
-  pub batch_steps_are : (packets : List FrameClass) → All IsPacket packets → 0 < table.key_len →
-      batch_steps table (keys_of family packets) ≡ steps_of_family family table packets
-  batch_steps_are packets all some =
-      ap (first_steps table (keys_of family packets)) (keys_number packets all some) ∙ steps_are packets all
+  pub batch_transitions_are : (packets : List FrameClass) → All IsPacket packets → 0 < table.key_len →
+      batch_steps table (keys_of family packets) ≡ transitions_of_family family table packets
+  batch_transitions_are packets all some =
+      ap (first_steps table (keys_of family packets)) (keys_number packets all some) ∙ transitions_are packets all
 
 -- the walks of a key take at most one word for each trie and byte
-key_steps_bound : (table : TableView) (key : List ℕ) → length table.roots ≤ most_tries → table.key_len ≤ 37 →
-    key_steps table key ≤ max_steps
-key_steps_bound table key tries len =
+key_transitions_bound : (table : TableView) (key : List ℕ) → length table.roots ≤ most_tries → table.key_len ≤ 37 →
+    key_steps table key ≤ max_transitions
+key_transitions_bound table key tries len =
     let each : All (λ trie. walk_steps table trie key ≤ 37) (tries_of table) =
     λ k d below. omega (
       arith,
@@ -210,17 +210,17 @@ key_steps_bound table key tries len =
     )
 
 -- and those of all packets
-pub family_steps_bound : (family : Family) (table : TableView) (packets : List FrameClass) →
+pub family_transitions_bound : (family : Family) (table : TableView) (packets : List FrameClass) →
     length table.roots ≤ most_tries → table.key_len ≤ 37 →
-    steps_of_family family table packets ≤ length packets * max_steps
-family_steps_bound family table [] tries len = omega arith
-family_steps_bound family table (p ∷ ps) tries len =
-    go (is_of family p.class) refl (family_steps_bound family table ps tries len)
+    transitions_of_family family table packets ≤ length packets * max_transitions
+family_transitions_bound family table [] tries len = omega arith
+family_transitions_bound family table (p ∷ ps) tries len =
+    go (is_of family p.class) refl (family_transitions_bound family table ps tries len)
   where
     go : (own : Bool) → is_of family p.class ≡ own →
-        steps_of_family family table ps ≤ length ps * max_steps →
-        steps_of_family family table (p ∷ ps) ≤ length (p ∷ ps) * max_steps
-    go true own later = rw own (omega (arith, key_steps_bound table p.key tries len, later))
+        transitions_of_family family table ps ≤ length ps * max_transitions →
+        transitions_of_family family table (p ∷ ps) ≤ length (p ∷ ps) * max_transitions
+    go true own later = rw own (omega (arith, key_transitions_bound table p.key tries len, later))
     go false own later = rw own (omega (arith, later))
 
 pub number_bound : (family : Family) (packets : List FrameClass) → number_of family packets ≤ length packets
@@ -242,43 +242,43 @@ few_bytes family.Ip4 len is = omega (arith, is)
 few_bytes family.Ip6 len is = omega (arith, is)
 
 -- the steps of a packet, by its family
-abbrev own_steps : Bool → ℕ → ℕ
-own_steps true steps = steps
-own_steps false steps = 0
+abbrev own_transitions : Bool → ℕ → ℕ
+own_transitions true steps = steps
+own_transitions false steps = 0
 
 one_of_both : (class : Class) (tables : Tables) (key : List ℕ) →
-    steps_on class tables key
-    ≡ own_steps (is_of family.Ip4 class) (key_steps tables.ip4 key)
-    + own_steps (is_of family.Ip6 class) (key_steps tables.ip6 key)
+    transitions_on class tables key
+    ≡ own_transitions (is_of family.Ip4 class) (key_steps tables.ip4 key)
+    + own_transitions (is_of family.Ip6 class) (key_steps tables.ip6 key)
 one_of_both Ip4 tables key = sym (add-zero (key_steps tables.ip4 key))
 one_of_both Ip6 tables key = sym (zero-add (key_steps tables.ip6 key))
 one_of_both Other tables key = refl
 one_of_both Short tables key = refl
 
 family_first : (family : Family) (table : TableView) (p : FrameClass) (ps : List FrameClass) →
-    steps_of_family family table (p ∷ ps)
-    ≡ own_steps (is_of family p.class) (key_steps table p.key) + steps_of_family family table ps
+    transitions_of_family family table (p ∷ ps)
+    ≡ own_transitions (is_of family p.class) (key_steps table p.key) + transitions_of_family family table ps
 family_first family table p ps = go (is_of family p.class) refl
   where
     go : (own : Bool) → is_of family p.class ≡ own →
-        steps_of_family family table (p ∷ ps)
-        ≡ own_steps (is_of family p.class) (key_steps table p.key) + steps_of_family family table ps
+        transitions_of_family family table (p ∷ ps)
+        ≡ own_transitions (is_of family p.class) (key_steps table p.key) + transitions_of_family family table ps
     go true own = rw own refl
-    go false own = rw own (sym (zero-add (steps_of_family family table ps)))
+    go false own = rw own (sym (zero-add (transitions_of_family family table ps)))
 
 -- the steps of packets are those of both families
-pub both_steps : (tables : Tables) (packets : List FrameClass) →
-    steps_of_packets tables packets
-    ≡ steps_of_family family.Ip4 tables.ip4 packets + steps_of_family family.Ip6 tables.ip6 packets
-both_steps tables [] = refl
-both_steps tables (p ∷ ps) =
+pub both_transitions : (tables : Tables) (packets : List FrameClass) →
+    transitions_of_packets tables packets
+    ≡ transitions_of_family family.Ip4 tables.ip4 packets + transitions_of_family family.Ip6 tables.ip6 packets
+both_transitions tables [] = refl
+both_transitions tables (p ∷ ps) =
     omega (
       arith,
-      sum_by-cons (λ (packet : FrameClass). steps_on packet.class tables packet.key) p ps,
+      sum_by-cons (λ (packet : FrameClass). transitions_on packet.class tables packet.key) p ps,
       one_of_both p.class tables p.key,
       family_first family.Ip4 tables.ip4 p ps,
       family_first family.Ip6 tables.ip6 p ps,
-      both_steps tables ps,
+      both_transitions tables ps,
     )
 
 -- so many verdicts of each key

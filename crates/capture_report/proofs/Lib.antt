@@ -1,4 +1,5 @@
-mod Batches
+mod Growing
+mod Reader
 mod LineLaws
 mod Reporting
 mod Streaming

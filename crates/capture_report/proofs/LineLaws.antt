@@ -14,34 +14,34 @@ use Rattle.acl_report.specs.Counts.{counted, counts_of, is_ip4, is_ip6, is_other
 use Rattle.acl_report.specs.Packet.{class_word, answer_words}
 use Rattle.capture_report.specs.Packet.{packet_of}
 use Rattle.capture_report.specs.Classifier.{Tables}
-use Rattle.capture_report.specs.Printing.{Printing}
-use Rattle.capture_report.specs.Report.{steps_on, steps_of_packets, steps_of_records, answers_on, line_of_packet}
+use Rattle.capture_report.specs.ReportForm.{ReportForm}
+use Rattle.capture_report.specs.Report.{transitions_on, transitions_of_packets, transitions_of_records, answers_on, line_of_packet}
 use Rattle.capture_report.specs.Report.{lines_of_packets, lines_of_records, classes_of, counts_of_records, counted_all}
 use Rattle.capture_report.specs.Report.{lines_in}
 
-lines_of_packets-append : (printing : Printing) (number : ℕ) (first second : List FrameClass) →
-    lines_of_packets printing number (first ++ second)
-    ≡ lines_of_packets printing number first ++ lines_of_packets printing (number + length first) second
-lines_of_packets-append printing number [] second =
-    ap (λ n. lines_of_packets printing n second) (sym (add-zero number))
-lines_of_packets-append printing number (p ∷ ps) second =
-    let line = line_of_packet printing number p in
-    let rest = lines_of_packets printing (number + 1) ps in
+lines_of_packets-append : (form : ReportForm) (number : ℕ) (first second : List FrameClass) →
+    lines_of_packets form number (first ++ second)
+    ≡ lines_of_packets form number first ++ lines_of_packets form (number + length first) second
+lines_of_packets-append form number [] second =
+    ap (λ n. lines_of_packets form n second) (sym (add-zero number))
+lines_of_packets-append form number (p ∷ ps) second =
+    let line = line_of_packet form number p in
+    let rest = lines_of_packets form (number + 1) ps in
     let sum : (number + 1) + length ps ≡ number + length (p ∷ ps) = omega arith in
-    ap (λ l. line ++ l) (lines_of_packets-append printing (number + 1) ps second)
-    ∙ sym (append_assoc line rest (lines_of_packets printing ((number + 1) + length ps) second))
-    ∙ ap (λ n. (line ++ rest) ++ lines_of_packets printing n second) sum
+    ap (λ l. line ++ l) (lines_of_packets-append form (number + 1) ps second)
+    ∙ sym (append_assoc line rest (lines_of_packets form ((number + 1) + length ps) second))
+    ∙ ap (λ n. (line ++ rest) ++ lines_of_packets form n second) sum
 
--- the lines of records, and then of those behind them
-pub lines_of_records-append : (printing : Printing) (first second : List CaptureRecord) (number : ℕ) →
+-- the lines of records, and then of those after them
+pub lines_of_records-append : (form : ReportForm) (first second : List CaptureRecord) (number : ℕ) →
     number ≡ length first + 1 →
-    lines_of_records printing (first ++ second)
-    ≡ lines_of_records printing first ++ lines_of_packets printing number (map packet_of second)
-lines_of_records-append printing first second number is =
+    lines_of_records form (first ++ second)
+    ≡ lines_of_records form first ++ lines_of_packets form number (map packet_of second)
+lines_of_records-append form first second number is =
     let sum : 1 + length (map packet_of first) ≡ number = omega (arith, is, length-map first packet_of) in
-    ap (lines_of_packets printing 1) (map-append packet_of first second)
-    ∙ lines_of_packets-append printing 1 (map packet_of first) (map packet_of second)
-    ∙ ap (λ n. lines_of_records printing first ++ lines_of_packets printing n (map packet_of second)) sum
+    ap (lines_of_packets form 1) (map-append packet_of first second)
+    ∙ lines_of_packets-append form 1 (map packet_of first) (map packet_of second)
+    ∙ ap (λ n. lines_of_records form first ++ lines_of_packets form n (map packet_of second)) sum
 
 counts_more : (classes : List Class) (class : Class) →
     counts_of (classes ++ class ∷ []) ≡ counted class (counts_of classes)
@@ -60,20 +60,20 @@ counted_all-counts first (p ∷ ps) =
     ∙ counted_all-counts (first ++ p ∷ []) ps
     ∙ ap (λ l. counts_of (classes_of l)) (append_assoc first (p ∷ []) ps)
 
--- the counts of records, and then of those behind them
+-- the counts of records, and then of those after them
 pub counts_of_records-append : (first second : List CaptureRecord) →
     counted_all (map packet_of second) (counts_of_records first) ≡ counts_of_records (first ++ second)
 counts_of_records-append first second =
     counted_all-counts (map packet_of first) (map packet_of second)
     ∙ ap (λ l. counts_of (classes_of l)) (sym (map-append packet_of first second))
 
--- the steps of records, and then of those behind them
-pub steps_of_records-append : (tables : Tables) (first second : List CaptureRecord) →
-    steps_of_records tables (first ++ second)
-    ≡ steps_of_records tables first + steps_of_packets tables (map packet_of second)
-steps_of_records-append tables first second =
-    ap (steps_of_packets tables) (map-append packet_of first second)
-    ∙ sum_by-append (λ (packet : FrameClass). steps_on packet.class tables packet.key) (map packet_of first)
+-- the steps of records, and then of those after them
+pub transitions_of_records-append : (tables : Tables) (first second : List CaptureRecord) →
+    transitions_of_records tables (first ++ second)
+    ≡ transitions_of_records tables first + transitions_of_packets tables (map packet_of second)
+transitions_of_records-append tables first second =
+    ap (transitions_of_packets tables) (map-append packet_of first second)
+    ∙ sum_by-append (λ (packet : FrameClass). transitions_on packet.class tables packet.key) (map packet_of first)
     (map packet_of second)
 
 -- the count of all records
@@ -117,36 +117,36 @@ ends_in_line_feed first words =
     sum_by-append f (first ++ spaced words) (line_feed ∷ []) in
     omega (arith, all, end)
 
-lines_in-packets : (printing : Printing) (number : ℕ) (packets : List FrameClass) →
-    length packets ≤ lines_in (lines_of_packets printing number packets)
-lines_in-packets printing number [] = omega arith
-lines_in-packets printing number (p ∷ ps) =
+lines_in-packets : (form : ReportForm) (number : ℕ) (packets : List FrameClass) →
+    length packets ≤ lines_in (lines_of_packets form number packets)
+lines_in-packets form number [] = omega arith
+lines_in-packets form number (p ∷ ps) =
     let f : ℕ → ℕ = λ byte. cond (byte == line_feed) 1 0 in
-    let line = line_of_packet printing number p in
+    let line = line_of_packet form number p in
     let ends : 1 ≤ lines_in line = ends_in_line_feed (decimal number)
-    (class_word p.class ∷ answer_words p.class (answers_on p.class printing p.key)) in
-    let all : lines_in (line ++ lines_of_packets printing (number + 1) ps)
-    ≡ lines_in line + lines_in (lines_of_packets printing (number + 1) ps) =
-    sum_by-append f line (lines_of_packets printing (number + 1) ps) in
+    (class_word p.class ∷ answer_words p.class (answers_on p.class form p.key)) in
+    let all : lines_in (line ++ lines_of_packets form (number + 1) ps)
+    ≡ lines_in line + lines_in (lines_of_packets form (number + 1) ps) =
+    sum_by-append f line (lines_of_packets form (number + 1) ps) in
     omega (
       arith,
       all,
       ends,
-      lines_in-packets printing (number + 1) ps,
+      lines_in-packets form (number + 1) ps,
     )
 
 -- a line for each record
-pub lines_in-records : (printing : Printing) (records : List CaptureRecord) (more : List ℕ) →
-    length records ≤ lines_in (lines_of_records printing records ++ more)
-lines_in-records printing records more =
+pub lines_in-records : (form : ReportForm) (records : List CaptureRecord) (more : List ℕ) →
+    length records ≤ lines_in (lines_of_records form records ++ more)
+lines_in-records form records more =
     let f : ℕ → ℕ = λ byte. cond (byte == line_feed) 1 0 in
-    let all : lines_in (lines_of_records printing records ++ more)
-    ≡ lines_in (lines_of_records printing records) + lines_in more =
-    sum_by-append f (lines_of_records printing records) more in
+    let all : lines_in (lines_of_records form records ++ more)
+    ≡ lines_in (lines_of_records form records) + lines_in more =
+    sum_by-append f (lines_of_records form records) more in
     omega (
       arith,
       all,
-      lines_in-packets printing 1 (map packet_of records),
+      lines_in-packets form 1 (map packet_of records),
       length-map records packet_of,
     )
 

@@ -11,17 +11,14 @@ use Rattle.acl_outside.specs.Sink.{SinkView, Gains, GainsPrefix}
 use Rattle.acl_outside.proofs.HeardLaws.{ReadsOn-none, ReadsOn-then}
 use Rattle.pcap_reader.specs.declared.fault.CaptureFault.{CaptureFault}
 use Rattle.pcap_reader.specs.declared.fault.CaptureFault.TheVariants as faults
-use Rattle.pcap_reader.specs.declared.start.Start.{Start}
-use Rattle.pcap_reader.specs.Start.{start_of}
-use Rattle.pcap_reader.specs.Capture.{CaptureRecord, records_behind, capture_of, whole_records, records_in}
+use Rattle.pcap_reader.specs.Capture.{CaptureRecord, capture_of, whole_records, records_in}
 use Rattle.pcap_reader.specs.Fill.{KeepsReading, IsAtEnd}
-use Rattle.pcap_reader.specs.Reader.{ReadsStart}
+use Rattle.pcap_reader.specs.Reader.{CaptureState, ReadsStart}
 use Rattle.pcap_reader.proofs.FillLaws.{KeepsReading-join}
-use Rattle.pcap_reader.proofs.AnswersLaws.{capture_of-read, whole_records-none}
 use Rattle.command_plan.specs.declared.status.Status.{Status}
 use Rattle.command_plan.specs.declared.status.Status.TheVariants.{CaptureRefused, ReadFault, WriteFault, OutOfMemory}
-use Rattle.capture_report.specs.Printing.{Printing}
-use Rattle.capture_report.specs.Report.{lines_of_records, steps_of_records}
+use Rattle.capture_report.specs.ReportForm.{ReportForm}
+use Rattle.capture_report.specs.Report.{lines_of_records, transitions_of_records}
 use Rattle.capture_report.specs.Taken.{stands}
 use Rattle.command_plan.specs.Plan.{Outcome, Plan, Give, silent, found, settled}
 use Rattle.command_plan.specs.Follow.{Given, Within, IsEnough, IsOpened, IsOneOf, said_in, status_within}
@@ -29,14 +26,15 @@ use Rattle.command_plan.specs.Endings.{is_decided, is_usage}
 use Rattle.capture_report.specs.CaptureOutcome.{refusal, report, report_of_capture, reported, lines_so_far}
 use Rattle.capture_report.specs.CaptureOutcome.{status_of_fault, text_of_records}
 use Rattle.command_plan.specs.Effects.{Outside, outside, files_of, opened_of, heard_of, earlier_of, KeepsFiles, Ends}
-use Rattle.capture_report.specs.Prints.{KeepsUp, Reports}
+use Rattle.capture_report.specs.PrintsCapture.{KeepsUp, Reports}
 use Rattle.capture_report.specs.Streams.{Reading, Whole, Part, records_read, text_of, IsUnbroken, AreRead, IsStatus}
 use Rattle.capture_report.specs.Streams.{BreaksOffSoon, Streams}
 use Rattle.command_plan.proofs.Gained.{Gains-none}
 use Rattle.command_plan.proofs.Inputs.{heard_file, part_told, opened_told, opened_absent, kept_files, cannot_open}
 use Rattle.command_plan.proofs.Inputs.{unopened_kept}
 use Rattle.command_plan.proofs.Links.{CannotRead-because}
-use Rattle.capture_report.proofs.WholeRecords.{start_of-more}
+use Rattle.capture_report.specs.NextRecord.{records_from}
+use Rattle.capture_report.proofs.Reader.{ReadHeader, RefusedHeader, RefusedHeader-from, BrokenHeader, BrokenHeader-from}
 
 -- an opened file, of which these bytes were heard
 abbrev file_of : List ℕ → List ℕ → Ending → Heard
@@ -106,19 +104,19 @@ part_undecided status ending (inl within) decided =
 part_undecided status ending (inr (inl write)) decided = false≢true (sym (ap is_decided write) ∙ decided)
 part_undecided status ending (inr (inr full)) decided = false≢true (sym (ap is_decided full) ∙ decided)
 
-Ends-part : (printing : Printing) (name given : List ℕ) (ending : Ending) (old new : Outside) (status : Status) →
+Ends-part : (form : ReportForm) (name given : List ℕ) (ending : Ending) (old new : Outside) (status : Status) →
     HearsFile name given ending old.desk new.desk → IsOpened ending →
-    PutsPart (lines_so_far printing given) ending old new status →
-    Ends (reported printing name) old new status
-Ends-part printing name given ending old new status h opened p = record {
-  reached = Within (file_of name given ending) (lines_so_far printing given);
+    PutsPart (lines_so_far form given) ending old new status →
+    Ends (reported form name) old new status
+Ends-part form name given ending old new status h opened p = record {
+  reached = Within (file_of name given ending) (lines_so_far form given);
   follows = inr (
     file_of name given ending,
     refl,
     h.told,
     inl (
       h.heard,
-      ap (Within (file_of name given ending)) (said-opened ending (lines_so_far printing given) opened),
+      ap (Within (file_of name given ending)) (said-opened ending (lines_so_far form given) opened),
     ),
   );
   ended = p.ended;
@@ -163,22 +161,22 @@ all_decided outcome old new status p other =
       | inr write ↦ absurd (other write)
     ]
 
-Ends-whole : (printing : Printing) (name given : List ℕ) (ending : Ending) (old new : Outside) (status : Status) →
+Ends-whole : (form : ReportForm) (name given : List ℕ) (ending : Ending) (old new : Outside) (status : Status) →
     HearsFile name given ending old.desk new.desk → IsUnbroken ending →
-    ((more : List ℕ) → (ending ≡ Ended → more ≡ []) → report printing (given ++ more) ≡ report printing given) →
-    PutsAll (report printing given) old.out new.out status → new.steps ≡ old.steps + (report printing given).steps →
-    Ends (reported printing name) old new status
-Ends-whole printing name given ending old new status h unbroken long p steps =
+    ((more : List ℕ) → (ending ≡ Ended → more ≡ []) → report form (given ++ more) ≡ report form given) →
+    PutsAll (report form given) old.out new.out status → new.steps ≡ old.steps + (report form given).steps →
+    Ends (reported form name) old new status
+Ends-whole form name given ending old new status h unbroken long p steps =
     let never : (is_decided status ≡ false) → status ≢ WriteFault → ⊥ =
-    λ isnt other. false≢true (sym isnt ∙ all_decided (report printing given) old.out new.out status p other) in
+    λ isnt other. false≢true (sym isnt ∙ all_decided (report form given) old.out new.out status p other) in
     record {
-      reached = Given (report printing given);
+      reached = Given (report form given);
       follows = inr (
         file_of name given ending,
         refl,
         h.told,
         inr (
-          enough_from ending (λ bytes. Give (report printing bytes)) name given unbroken
+          enough_from ending (λ bytes. Give (report form bytes)) name given unbroken
               (λ more rest. ap Give (long more rest)),
           (h.heard, refl),
         ),
@@ -202,11 +200,11 @@ Ends-whole printing name given ending old new status h unbroken long p steps =
     }
 
 -- the file can't be opened
-pub Reports-unopened : {T E : Type 0} (printing : Printing) (name : List ℕ) (old new : DeskView) (out : SinkView)
+pub Reports-unopened : {T E : Type 0} (form : ReportForm) (name : List ℕ) (old new : DeskView) (out : SinkView)
     (steps : ℕ) (e : E) →
     OpensFile {T = T} name old new (Err e) →
-    Reports printing name (outside old out steps) (outside new out steps) ReadFault
-Reports-unopened printing name old new out steps e opens = record {
+    Reports form name (outside old out steps) (outside new out steps) ReadFault
+Reports-unopened form name old new out steps e opens = record {
   ends = record {
     reached = Within (opening_of name false) [];
     follows = inr (
@@ -224,7 +222,7 @@ Reports-unopened printing name old new out steps e opens = record {
     read_fault = λ r.
         CannotRead-because _ _ old new
         (λ files told none.
-        ap (λ o. (settled (option_map_or (λ bytes. found (Give (report printing bytes)) files) o
+        ap (λ o. (settled (option_map_or (λ bytes. found (Give (report form bytes)) files) o
         (Err ReadFault))).status) none)
         (cannot_open name old new opens.cause opens.there);
     write_fault = λ w. absurd (cc);
@@ -238,17 +236,17 @@ Reports-unopened printing name old new out steps e opens = record {
 }
 
 -- there is no memory to read the file
-pub Reports-full : {T E : Type 0} (printing : Printing) (name : List ℕ) (old mid new : DeskView) (out : SinkView)
+pub Reports-full : {T E : Type 0} (form : ReportForm) (name : List ℕ) (old mid new : DeskView) (out : SinkView)
     (steps : ℕ) (x : T) →
     OpensFile {E = E} name old mid (Ok x) → new ≡ mid →
-    Reports printing name (outside old out steps) (outside new out steps) OutOfMemory
-Reports-full {T} {E} printing name old mid new out steps x opens same =
+    Reports form name (outside old out steps) (outside new out steps) OutOfMemory
+Reports-full {T} {E} form name old mid new out steps x opens same =
     let keeps : KeepsReading mid mid =
     record { reading = refl; absent = refl; counts = record { read_faults = omega arith; absent = omega arith } } in
     let h = HearsFile-read {E = E} name [] GoesOn old mid mid x opens (ReadsOn-none mid) (λ e. absurd (cc)) keeps in
     rw same
     record {
-      ends = Ends-part printing name [] GoesOn (outside old out steps) (outside mid out steps) OutOfMemory h tt
+      ends = Ends-part form name [] GoesOn (outside old out steps) (outside mid out steps) OutOfMemory h tt
           record {
             ended = inr (inr refl);
             text = λ other full. absurd (full refl);
@@ -264,27 +262,24 @@ Reports-full {T} {E} printing name old mid new out steps x opens same =
     }
 
 -- the file header has a fault
-header_refused : {T E : Type 0} (printing : Printing) (name given : List ℕ) (ending : Ending)
-    (fault : CaptureFault) (old mid new : DeskView)
-    (out : SinkView) (steps : ℕ) (x : T) → OpensFile {E = E} name old mid (Ok x) →
-    ReadsOn (stands ending) given mid new →
-    (ending ≡ Ended → IsAtEnd new) → KeepsReading mid new → IsUnbroken ending →
-    ((more : List ℕ) → (ending ≡ Ended → more ≡ []) → start_of (given ++ more) ≡ Err fault) →
-    Reports printing name (outside old out steps) (outside new out steps) (CaptureRefused fault)
-header_refused {T} {E} printing name given ending fault old mid new out steps x opens reads at_end keeps unbroken
-    says =
-    let h = HearsFile-read {E = E} name given ending old mid new x opens reads at_end keeps in
-    let is : (more : List ℕ) → (ending ≡ Ended → more ≡ []) →
-    report printing (given ++ more) ≡ silent (CaptureRefused fault) =
-    λ more rest. (let s = says more rest in rw s refl) in
-    let alone : report printing given ≡ silent (CaptureRefused fault) =
-    ap (report printing) (sym (append-nil given)) ∙ is [] (λ e. refl) in
+header_refused : {T E : Type 0} (form : ReportForm) (name : List ℕ) (fault : CaptureFault) (old mid new : DeskView)
+    (out : SinkView) (steps : ℕ) (x : T) → OpensFile {E = E} name old mid (Ok x) → RefusedHeader fault mid new →
+    Reports form name (outside old out steps) (outside new out steps) (CaptureRefused fault)
+header_refused {T} {E} form name fault old mid new out steps x opens header =
+    let given = header.given in
+    let h = HearsFile-read {E = E} name given header.ending old mid new x opens header.reads header.at_end
+    header.keeps in
+    let is : (more : List ℕ) → (header.ending ≡ Ended → more ≡ []) →
+    report form (given ++ more) ≡ silent (CaptureRefused fault) =
+    λ more none. ap (report_of_capture form) (header.says more none) in
+    let alone : report form given ≡ silent (CaptureRefused fault) =
+    ap (report form) (sym (append-nil given)) ∙ is [] (λ e. refl) in
     let puts : PutsAll (silent (CaptureRefused fault)) out out (CaptureRefused fault) =
     record { decided = refl; lawful = refl; puts = inl (refl, Gains-none out); count = omega arith } in
     record {
-      ends = Ends-whole printing name given ending (outside old out steps) (outside new out steps)
-          (CaptureRefused fault) h unbroken
-          (λ more rest. is more rest ∙ sym alone)
+      ends = Ends-whole form name given header.ending (outside old out steps) (outside new out steps)
+          (CaptureRefused fault) h header.unbroken
+          (λ more none. is more none ∙ sym alone)
           (subst (λ (o : Outcome). PutsAll o out out (CaptureRefused fault)) (sym alone) puts)
           (omega (arith, ap (λ (o : Outcome). o.steps) alone));
       lawful = refl;
@@ -292,46 +287,22 @@ header_refused {T} {E} printing name given ending fault old mid new out steps x 
       keeps_up = λ w. absurd (cc);
     }
 
-header_decided : {T E : Type 0} (printing : Printing) (name given : List ℕ) (fault : CaptureFault)
-    (old mid new : DeskView) (out : SinkView) (steps : ℕ) (x : T) →
-    OpensFile {E = E} name old mid (Ok x) → ReadsOn and_goes_on given mid new → KeepsReading mid new →
-    start_of given ≡ Err fault →
-    (fault ≡ faults.HeaderCut → ⊥) →
-    Reports printing name (outside old out steps) (outside new out steps) (CaptureRefused fault)
-header_decided {T} {E} printing name given fault old mid new out steps x opens reads keeps says isnt =
-    header_refused {E = E} printing name given GoesOn fault old mid new out steps x opens reads
-    (λ e. absurd (cc)) keeps tt
-    (λ more rest. (start_of-more given more (Err fault) says
-    (λ e. isnt (let same : fault ≡ faults.HeaderCut = cc in same))).0)
-
-header_cut : {T E : Type 0} (printing : Printing) (name given : List ℕ) (fault : CaptureFault)
-    (old mid new : DeskView) (out : SinkView) (steps : ℕ) (x : T) →
-    OpensFile {E = E} name old mid (Ok x) → ReadsOn (stands Ended) given mid new → IsAtEnd new →
-    KeepsReading mid new →
-    start_of given ≡ Err fault →
-    Reports printing name (outside old out steps) (outside new out steps) (CaptureRefused fault)
-header_cut {T} {E} printing name given fault old mid new out steps x opens reads end keeps says =
-    header_refused {E = E} printing name given Ended fault old mid new out steps x opens reads (λ e. end) keeps tt
-    (λ more rest. ap start_of (ap (λ (l : List ℕ). given ++ l) (rest refl) ∙ append-nil given) ∙ says)
-
-pub Reports-header : {T E : Type 0} (fault : CaptureFault) (printing : Printing) (name : List ℕ)
-    (old mid new : DeskView) (out : SinkView) (steps : ℕ) (x : T) →
-    OpensFile {E = E} name old mid (Ok x) → (reads : ReadsStart mid new (Err fault)) →
-    Reports printing name (outside old out steps) (outside new out steps) (refusal fault)
-Reports-header {T} {E} faults.ReadFault printing name old mid new out steps x opens reads =
-    let h = HearsFile-read {E = E} name reads.given BrokenOff old mid new x opens reads.reads
-    (λ e. absurd (cc)) reads.keeps in
-    let none : lines_so_far printing reads.given ≡ [] =
-    ap (lines_of_records printing) (whole_records-none reads.given faults.ReadFault reads.answer) in
+-- the reading broke off in the file header
+header_broken : {T E : Type 0} (form : ReportForm) (name : List ℕ) (old mid new : DeskView) (out : SinkView)
+    (steps : ℕ) (x : T) → OpensFile {E = E} name old mid (Ok x) → BrokenHeader mid new →
+    Reports form name (outside old out steps) (outside new out steps) ReadFault
+header_broken {T} {E} form name old mid new out steps x opens header =
+    let h = HearsFile-read {E = E} name header.given BrokenOff old mid new x opens header.reads
+    (λ e. absurd (cc)) header.keeps in
+    let none : lines_so_far form header.given ≡ [] = ap (lines_of_records form) header.none in
     record {
-      ends = Ends-part printing name reads.given BrokenOff (outside old out steps) (outside new out steps) ReadFault
-          h tt
+      ends = Ends-part form name header.given BrokenOff (outside old out steps) (outside new out steps) ReadFault h tt
           record {
             ended = inl refl;
             text = λ other full. rw none (Gains-none out);
             prefix = λ w. absurd (cc);
             full = λ e. absurd (cc);
-            read_fault = λ e. omega (arith, opens.counts.read_faults, reads.read_fault refl);
+            read_fault = λ e. omega (arith, opens.counts.read_faults, header.read_fault);
             write_fault = λ w. absurd (cc);
             count = omega arith;
           };
@@ -339,30 +310,16 @@ Reports-header {T} {E} faults.ReadFault printing name old mid new out steps x op
       opened = λ files told reported. absurd (false≢true reported);
       keeps_up = λ w. absurd (cc);
     }
-Reports-header {T} {E} faults.HeaderCut printing name old mid new out steps x opens reads =
-    header_cut {E = E} printing name reads.given faults.HeaderCut old mid new out steps x opens reads.reads
-    (reads.end refl) reads.keeps reads.answer
-Reports-header {T} {E} (faults.RecordCut n) printing name old mid new out steps x opens reads =
-    header_cut {E = E} printing name reads.given (faults.RecordCut n) old mid new out steps x opens reads.reads
-    (reads.end refl) reads.keeps reads.answer
-Reports-header {T} {E} faults.Magic printing name old mid new out steps x opens reads =
-    header_decided {E = E} printing name reads.given faults.Magic old mid new out steps x opens reads.reads
-    reads.keeps
-    reads.answer (λ e. absurd (cc))
-Reports-header {T} {E} faults.Version printing name old mid new out steps x opens reads =
-    header_decided {E = E} printing name reads.given faults.Version old mid new out steps x opens reads.reads
-    reads.keeps
-    reads.answer (λ e. absurd (cc))
-Reports-header {T} {E} faults.LinkType printing name old mid new out steps x opens reads =
-    header_decided {E = E} printing name reads.given faults.LinkType old mid new out steps x opens reads.reads
-    reads.keeps
-    reads.answer (λ e. absurd (cc))
-Reports-header {T} {E} (faults.RecordTooLong n) printing name old mid new out steps x opens reads =
-    header_decided {E = E} printing name reads.given
-    (faults.RecordTooLong n) old mid new out steps x opens reads.reads reads.keeps reads.answer (λ e. absurd (cc))
-Reports-header {T} {E} faults.TooManyRecords printing name old mid new out steps x opens reads =
-    header_decided {E = E} printing name reads.given faults.TooManyRecords old mid new out steps x opens reads.reads
-    reads.keeps reads.answer (λ e. absurd (cc))
+
+pub Reports-header : {T E : Type 0} (fault : CaptureFault) (form : ReportForm) (name : List ℕ)
+    (old mid new : DeskView) (out : SinkView) (steps : ℕ) (x : T) →
+    OpensFile {E = E} name old mid (Ok x) → ReadsStart mid new (Err fault) →
+    Reports form name (outside old out steps) (outside new out steps) (refusal fault)
+Reports-header {T} {E} faults.ReadFault form name old mid new out steps x opens reads =
+    header_broken {E = E} form name old mid new out steps x opens (BrokenHeader-from mid new reads)
+Reports-header {T} {E} fault form name old mid new out steps x opens reads =
+    header_refused {E = E} form name fault old mid new out steps x opens
+    (RefusedHeader-from fault mid new (λ e. absurd (cc)) reads)
 
 keeps_up_from : (name given : List ℕ) (ending : Ending) (text : List ℕ) (records : List CaptureRecord)
     (old new : Outside) →
@@ -387,19 +344,18 @@ fault_decided : (fault : Option CaptureFault) →
 fault_decided None = (refl, refl)
 fault_decided (Some fault) = (refl, refl)
 
--- what was streamed behind a file header
-streamed : (read : Reading) (printing : Printing) (name given : List ℕ) (ending : Ending) (old new : Outside)
-    (status : Status) (start : Start)
-    (behind : List ℕ) → HearsFile name given ending old.desk new.desk →
-    ((more : List ℕ) → capture_of (given ++ more) ≡ Ok (records_behind start 0 (behind ++ more))) →
-    AreRead start behind ending read →
-    ((IsStatus ending read status × Gains (text_of printing read) old.out new.out)
-    ⊎ ((status ≡ WriteFault) × BreaksOffSoon (text_of printing read) (length (records_read read)) old.out new.out)) →
+-- what was streamed after a file header
+streamed : (read : Reading) (form : ReportForm) (name given : List ℕ) (ending : Ending) (old new : Outside)
+    (status : Status) (state : CaptureState) (later : List ℕ) → HearsFile name given ending old.desk new.desk →
+    ((more : List ℕ) → capture_of (given ++ more) ≡ Ok (records_from state (later ++ more))) →
+    AreRead state later ending read →
+    ((IsStatus ending read status × Gains (text_of form read) old.out new.out)
+    ⊎ ((status ≡ WriteFault) × BreaksOffSoon (text_of form read) (length (records_read read)) old.out new.out)) →
     (status ≡ ReadFault → Rose old.desk.read_faults new.desk.read_faults) → old.out.faults ≤ new.out.faults →
     IsOpened ending →
-    new.steps ≡ old.steps + steps_of_records printing.tables (records_read read) →
-    Reports printing name old new status
-streamed (Whole records fault) printing name given ending old new status start behind h is bytes ended rose count
+    new.steps ≡ old.steps + transitions_of_records form.tables (records_read read) →
+    Reports form name old new status
+streamed (Whole records fault) form name given ending old new status state later h is bytes ended rose count
     opened steps =
     let all : (more : List ℕ) → (ending ≡ Ended → more ≡ []) →
     capture_of (given ++ more) ≡ Ok (record { records = records; fault = fault }) =
@@ -407,7 +363,7 @@ streamed (Whole records fault) printing name given ending old new status start b
     let alone : capture_of given ≡ Ok (record { records = records; fault = fault }) =
     ap capture_of (sym (append-nil given)) ∙ all [] (λ e. refl) in
     let expected : Outcome =
-    report_of_capture printing (Ok (record { records = records; fault = fault })) in
+    report_of_capture form (Ok (record { records = records; fault = fault })) in
     let puts : PutsAll expected old.out new.out status = record {
       decided = (fault_decided fault).0;
       lawful = (fault_decided fault).1;
@@ -415,17 +371,17 @@ streamed (Whole records fault) printing name given ending old new status start b
         | inl done ↦ inl (done.0, done.1)
         | inr failed ↦ inr (
           failed.0,
-          prefix_from (text_of_records printing records fault)
+          prefix_from (text_of_records form records fault)
               (length records) old.out new.out failed.1,
           failed.1.rose,
         )
       ];
       count = count;
     } in
-    let reported_as : expected ≡ report printing given = ap (report_of_capture printing) (sym alone) in
+    let reported_as : expected ≡ report form given = ap (report_of_capture form) (sym alone) in
     record {
-      ends = Ends-whole printing name given ending old new status h (bytes.0)
-          (λ more rest. ap (report_of_capture printing) (all more rest ∙ sym alone))
+      ends = Ends-whole form name given ending old new status h (bytes.0)
+          (λ more rest. ap (report_of_capture form) (all more rest ∙ sym alone))
           (subst (λ (o : Outcome). PutsAll o old.out new.out status) reported_as puts)
           (steps ∙ ap (λ (o : Outcome). old.steps + o.steps) reported_as);
       lawful = elim (all_ended expected old.out new.out status puts) [
@@ -436,19 +392,19 @@ streamed (Whole records fault) printing name given ending old new status start b
       keeps_up = λ w. elim ended [
         | inl done ↦ absurd (false≢true (ap is_decided (sym w ∙ done.0) ∙ (fault_decided fault).0))
         | inr failed ↦
-            keeps_up_from name given ending (text_of_records printing records fault) records old new h
+            keeps_up_from name given ending (text_of_records form records fault) records old new h
             (ap records_in alone) failed.1
       ];
     }
-streamed (Part records) printing name given ending old new status start behind h is bytes ended rose count
+streamed (Part records) form name given ending old new status state later h is bytes ended rose count
     opened steps =
     let whole : whole_records given ≡ records =
     ap (λ l. records_in (capture_of l)) (sym (append-nil given)) ∙ ap records_in (is [])
-    ∙ ap (λ l. (records_behind start 0 l).records) (append-nil behind) ∙ bytes in
-    let lines : lines_so_far printing given ≡ lines_of_records printing records =
-    ap (lines_of_records printing) whole in
+    ∙ ap (λ l. (records_from state l).records) (append-nil later) ∙ bytes in
+    let lines : lines_so_far form given ≡ lines_of_records form records =
+    ap (lines_of_records form) whole in
     record {
-      ends = Ends-part printing name given ending old new status h opened
+      ends = Ends-part form name given ending old new status h opened
           record {
             ended = elim ended [
               | inl broken ↦ inl (broken.0.0 ∙ ap status_within (sym broken.0.1))
@@ -458,7 +414,7 @@ streamed (Part records) printing name given ending old new status start behind h
             prefix = λ w. elim ended [
               | inl broken ↦ (let e : ReadFault ≡ WriteFault = sym broken.0.0 ∙ w in absurd (cc))
               | inr failed ↦ rw lines
-                  (prefix_from (lines_of_records printing records) (length records) old.out new.out failed.1)
+                  (prefix_from (lines_of_records form records) (length records) old.out new.out failed.1)
             ];
             full = λ e. elim ended [
               | inl broken ↦ (let r : ReadFault ≡ OutOfMemory = sym broken.0.0 ∙ e in absurd (cc))
@@ -476,27 +432,25 @@ streamed (Part records) printing name given ending old new status start behind h
       keeps_up = λ w. elim ended [
         | inl broken ↦ (let e : ReadFault ≡ WriteFault = sym broken.0.0 ∙ w in absurd (cc))
         | inr failed ↦ keeps_up_from name given ending
-            (lines_of_records printing records) records old new h whole failed.1
+            (lines_of_records form records) records old new h whole failed.1
       ];
     }
 
 -- the records are read and printed
-pub Reports-streamed : {T E : Type 0} (printing : Printing) (name : List ℕ) (start : Start)
+pub Reports-streamed : {T E : Type 0} (form : ReportForm) (name : List ℕ) (state : CaptureState)
     (old opened mid new : DeskView) (out_old out_new : SinkView) (steps_old steps_new : ℕ)
-    (x : T) (status : Status) → OpensFile {E = E} name old opened (Ok x) → ReadsStart opened mid (Ok start) →
-    Streams printing start (outside mid out_old steps_old) (outside new out_new steps_new) status →
-    Reports printing name (outside old out_old steps_old) (outside new out_new steps_new) status
-Reports-streamed {T} {E} printing name start old opened mid new out_old out_new steps_old steps_new x status opens
+    (x : T) (status : Status) → OpensFile {E = E} name old opened (Ok x) → ReadHeader state opened mid →
+    Streams form state (outside mid out_old steps_old) (outside new out_new steps_new) status →
+    Reports form name (outside old out_old steps_old) (outside new out_new steps_new) status
+Reports-streamed {T} {E} form name state old opened mid new out_old out_new steps_old steps_new x status opens
     header s =
     let given = header.given ++ s.given in
     let reads = ReadsOn-then (stands s.ending) header.given s.given opened mid new header.reads s.reads in
     let h = HearsFile-read {E = E} name given s.ending old opened new x opens reads s.at_end
     (KeepsReading-join opened mid new header.keeps s.keeps) in
-    streamed s.read printing name given s.ending (outside old out_old steps_old) (outside new out_new steps_new)
-    status
-    start s.given h
-    (λ more. ap capture_of (append_assoc header.given s.given more)
-    ∙ capture_of-read header.given (s.given ++ more) start header.answer)
+    streamed s.read form name given s.ending (outside old out_old steps_old) (outside new out_new steps_new)
+    status state s.given h
+    (λ more. ap capture_of (append_assoc header.given s.given more) ∙ header.says (s.given ++ more))
     s.bytes s.answer
     (λ e. omega (arith, opens.counts.read_faults, header.keeps.counts.read_faults, s.read_fault e)) s.count
     s.opened s.steps

@@ -15,9 +15,10 @@ use Rattle.header_extract.specs.declared.class.Class.TheVariants.{Ip4, Ip6, Othe
 use Rattle.header_extract.specs.Class.{FrameClass}
 use Rattle.acl_report.specs.declared.counts.Counts.{Counts}
 use Rattle.acl_report.specs.Counts.{counted}
+use Rattle.acl_report.specs.declared.packet.TheConstants.{MAX_VERDICTS}
 use Rattle.acl_report.specs.Packet.{answer, answers, packet_text}
-use Rattle.capture_report.specs.Classifier.{ByTables, all_categories, answer_of_table}
-use Rattle.capture_report.specs.Printing.{Printing}
+use Rattle.capture_report.specs.Classifier.{ByTables, answer_of_table}
+use Rattle.capture_report.specs.ReportForm.{ReportForm}
 use Rattle.capture_report.specs.Report.{shown, answers_on, line_of_packet}
 use Rattle.capture_report.specs.Batch.{verdicts_on, dashes_of, dashes_on}
 use Rattle.capture_report.proofs.LineLaws.{counted-packets}
@@ -41,14 +42,14 @@ module _ (table : TableView) (key : List ℕ) where
   is_dash true category = not (not (joined table key category == 0))
   is_dash false category = false
 
-  first_dashes : (marks : Bool) (printing : Printing) → printing.marks ≡ marks → (n : ℕ) → n ≤ all_categories →
-      take n (dashes_of printing table key) ≡ map (is_dash marks) (range_with_len 0 n)
+  first_dashes : (marks : Bool) (form : ReportForm) → form.marks ≡ marks → (n : ℕ) → n ≤ MAX_VERDICTS →
+      take n (dashes_of form table key) ≡ map (is_dash marks) (range_with_len 0 n)
   unfolding winners_of is_dash
-  first_dashes true printing is n few =
+  first_dashes true form is n few =
       rw is
       (ap (take n) (map_twice not (λ category. not (joined table key category == 0)) (range_with_len 0 16))
       ∙ take-map-range_with_len (λ category. not (not (joined table key category == 0))) 0 16 n few)
-  first_dashes false printing is n few =
+  first_dashes false form is n few =
       rw is
       (take-replicate n 16 false few
       ∙ splat_is_map (range_with_len 0 n) n false (length-range_with_len 0 n))
@@ -66,67 +67,67 @@ module _ (table : TableView) (key : List ℕ) where
         | inr other ↦ rw other.0 refl
       ]
 
-  table_shown : (printing : Printing) → printing.categories ≤ all_categories →
-      answers (key_verdicts table printing.categories key)
-      (take (length (key_verdicts table printing.categories key)) (dashes_of printing table key))
-      ≡ map (λ category. shown printing.marks (answer_of_table table key category))
-      (range_with_len 0 printing.categories)
-  table_shown printing few =
-      let n = printing.categories in
+  table_shown : (form : ReportForm) → form.categories ≤ MAX_VERDICTS →
+      answers (key_verdicts table form.categories key)
+      (take (length (key_verdicts table form.categories key)) (dashes_of form table key))
+      ≡ map (λ category. shown form.marks (answer_of_table table key category))
+      (range_with_len 0 form.categories)
+  table_shown form few =
+      let n = form.categories in
       let verdict : ℕ → ℕ = λ category. table_verdict table key category in
-      ap (λ (m : ℕ). answers (key_verdicts table n key) (take m (dashes_of printing table key)))
+      ap (λ (m : ℕ). answers (key_verdicts table n key) (take m (dashes_of form table key)))
       (length-map-range_with_len verdict 0 n)
-      ∙ ap (answers (key_verdicts table n key)) (first_dashes printing.marks printing refl n few)
-      ∙ pair_up verdict (is_dash printing.marks) (range_with_len 0 n)
-      ∙ map_same (λ category. answer (verdict category) (is_dash printing.marks category))
-      (λ category. shown printing.marks (answer_of_table table key category)) (one_shown printing.marks)
+      ∙ ap (answers (key_verdicts table n key)) (first_dashes form.marks form refl n few)
+      ∙ pair_up verdict (is_dash form.marks) (range_with_len 0 n)
+      ∙ map_same (λ category. answer (verdict category) (is_dash form.marks category))
+      (λ category. shown form.marks (answer_of_table table key category)) (one_shown form.marks)
       (range_with_len 0 n)
 
 -- what is shown of a packet by the tables
-shown_is : (printing : Printing) (class : Class) (key : List ℕ) → printing.classifier ≡ ByTables printing.tables →
-    printing.categories ≤ all_categories →
-    answers (verdicts_on class printing key)
-    (take (length (verdicts_on class printing key)) (dashes_on class printing key))
-    ≡ answers_on class printing key
-shown_is printing Ip4 key by_tables few = rw by_tables (table_shown printing.tables.ip4 key printing few)
-shown_is printing Ip6 key by_tables few = rw by_tables (table_shown printing.tables.ip6 key printing few)
-shown_is printing Other key by_tables few = refl
-shown_is printing Short key by_tables few = refl
+shown_is : (form : ReportForm) (class : Class) (key : List ℕ) → form.classifier ≡ ByTables form.tables →
+    form.categories ≤ MAX_VERDICTS →
+    answers (verdicts_on class form key)
+    (take (length (verdicts_on class form key)) (dashes_on class form key))
+    ≡ answers_on class form key
+shown_is form Ip4 key by_tables few = rw by_tables (table_shown form.tables.ip4 key form few)
+shown_is form Ip6 key by_tables few = rw by_tables (table_shown form.tables.ip6 key form few)
+shown_is form Other key by_tables few = refl
+shown_is form Short key by_tables few = refl
 
 -- where marks aren't asked for, no dash is shown of any packet
-pub unmarked : (printing : Printing) (class : Class) (key : List ℕ) → printing.marks ≡ false →
-    replicate all_categories false ≡ dashes_on class printing key
-unmarked printing Ip4 key is = rw is refl
-unmarked printing Ip6 key is = rw is refl
-unmarked printing Other key is = refl
-unmarked printing Short key is = refl
+pub unmarked : (form : ReportForm) (class : Class) (key : List ℕ) → form.marks ≡ false →
+    replicate MAX_VERDICTS false ≡ dashes_on class form key
+unmarked form Ip4 key is = rw is refl
+unmarked form Ip6 key is = rw is refl
+unmarked form Other key is = refl
+unmarked form Short key is = refl
 
 -- what is written of a packet of this number is its line
-pub line_by-is : (printing : Printing) (number : ℕ) (packet : FrameClass) (class : Class) (verdicts : List ℕ)
+pub line_by-is : (form : ReportForm) (number : ℕ) (packet : FrameClass) (class : Class) (verdicts : List ℕ)
     (dashes : List Bool) → class ≡ packet.class →
-    verdicts ≡ verdicts_on packet.class printing packet.key →
-    dashes ≡ take (length verdicts) (dashes_on packet.class printing packet.key) →
-    printing.classifier ≡ ByTables printing.tables → printing.categories ≤ all_categories →
-    packet_text number class (answers verdicts dashes) ≡ line_of_packet printing number packet
-line_by-is printing number packet class verdicts dashes is_shown is_verdicts is_dashes by_tables few =
-    let all : answers verdicts dashes ≡ answers_on packet.class printing packet.key =
+    verdicts ≡ verdicts_on packet.class form packet.key →
+    dashes ≡ take (length verdicts) (dashes_on packet.class form packet.key) →
+    form.classifier ≡ ByTables form.tables → form.categories ≤ MAX_VERDICTS →
+    packet_text number class (answers verdicts dashes) ≡ line_of_packet form number packet
+line_by-is form number packet class verdicts dashes is_shown is_verdicts is_dashes by_tables few =
+    let all : answers verdicts dashes ≡ answers_on packet.class form packet.key =
     ap (answers verdicts) is_dashes
-    ∙ ap (λ (v : List ℕ). answers v (take (length v) (dashes_on packet.class printing packet.key))) is_verdicts
-    ∙ shown_is printing packet.class packet.key by_tables few in
+    ∙ ap (λ (v : List ℕ). answers v (take (length v) (dashes_on packet.class form packet.key))) is_verdicts
+    ∙ shown_is form packet.class packet.key by_tables few in
     ap (λ k. packet_text number k (answers verdicts dashes)) is_shown ∙ ap (packet_text number packet.class) all
 
--- and so it is behind those that were counted
-pub line-is : (printing : Printing) (counts counts_new : Counts) (packet : FrameClass) (class : Class)
+-- and so it is after those that were counted
+pub line-is : (form : ReportForm) (counts counts_new : Counts) (packet : FrameClass) (class : Class)
     (verdicts : List ℕ) (dashes : List Bool) →
     counts_new ≡ counted class counts → class ≡ packet.class →
-    verdicts ≡ verdicts_on packet.class printing packet.key →
-    dashes ≡ take (length verdicts) (dashes_on packet.class printing packet.key) →
-    printing.classifier ≡ ByTables printing.tables → printing.categories ≤ all_categories →
+    verdicts ≡ verdicts_on packet.class form packet.key →
+    dashes ≡ take (length verdicts) (dashes_on packet.class form packet.key) →
+    form.classifier ≡ ByTables form.tables → form.categories ≤ MAX_VERDICTS →
     packet_text counts_new.packets class (answers verdicts dashes)
-    ≡ line_of_packet printing (counts.packets + 1) packet
-line-is printing counts counts_new packet class verdicts dashes is_counted is_shown is_verdicts is_dashes by_tables
+    ≡ line_of_packet form (counts.packets + 1) packet
+line-is form counts counts_new packet class verdicts dashes is_counted is_shown is_verdicts is_dashes by_tables
     few =
     let number : counts_new.packets ≡ counts.packets + 1 =
     ap (λ c. c.packets) is_counted ∙ counted-packets class counts in
-    line_by-is printing counts_new.packets packet class verdicts dashes is_shown is_verdicts is_dashes by_tables few
-    ∙ ap (λ n. line_of_packet printing n packet) number
+    line_by-is form counts_new.packets packet class verdicts dashes is_shown is_verdicts is_dashes by_tables few
+    ∙ ap (λ n. line_of_packet form n packet) number

@@ -4,236 +4,166 @@ use Rattle.std.proofs.Common.{inr, refl, sym, subst, ap, ◌∙◌, append_assoc
 use Rattle.std.proofs.lemmas.List.{length-map, map-append}
 use Rattle.std.proofs.lemmas.List.Elements.{All-nil, All-append}
 use Rattle.acl_outside.specs.Heard.{Ending, NotOpened, GoesOn, Ended, BrokenOff}
-use Rattle.acl_outside.specs.Reading.{ReadsOn}
 use Rattle.acl_outside.specs.Sink.{Gains, Puts}
 use Rattle.acl_outside.proofs.WritingLaws.{Gains-then}
 use Rattle.header_extract.specs.Class.{FrameClass}
 use Rattle.pcap_reader.specs.declared.fault.CaptureFault.{CaptureFault}
-use Rattle.pcap_reader.specs.declared.fault.CaptureFault.TheVariants as faults
-use Rattle.pcap_reader.specs.declared.progress.Progress.TheVariants as progress
-use Rattle.pcap_reader.specs.declared.start.Start.{Start}
+use Rattle.pcap_reader.specs.declared.fault.CaptureFault.TheVariants.{HeaderCut, RecordCut, ReadFault as CannotRead}
 use Rattle.pcap_reader.specs.Capture.{CaptureRecord, max_records}
-use Rattle.pcap_reader.specs.Fill.{KeepsReading, IsAtEnd}
-use Rattle.pcap_reader.specs.Reader.{CaptureState, state_of, begun}
+use Rattle.pcap_reader.specs.Reader.{CaptureState}
 use Rattle.acl_report.specs.declared.counts.Counts.{Counts}
 use Rattle.capture_report.specs.declared.batch.BatchEnd.{BatchEnd}
 use Rattle.capture_report.specs.declared.batch.BatchEnd.TheVariants.{Full, End, Fault}
 use Rattle.command_plan.specs.declared.status.Status.{Status}
 use Rattle.command_plan.specs.declared.status.Status.TheVariants.{CaptureRefused, WriteFault}
+use Rattle.capture_report.specs.NextRecord.{IsBegun}
 use Rattle.capture_report.specs.Packet.{IsPacket, packet_of}
-use Rattle.capture_report.specs.Printing.{Printing}
+use Rattle.capture_report.specs.ReportForm.{ReportForm}
 use Rattle.capture_report.specs.Report.{counted_all, counts_of_records, lines_of_packets, lines_of_records}
-use Rattle.capture_report.specs.Report.{steps_of_packets, steps_of_records}
-use Rattle.capture_report.specs.Taken.{max_batch, stands, ending_of, AreAll, Took, TakesBatch}
+use Rattle.capture_report.specs.Report.{transitions_of_packets, transitions_of_records}
+use Rattle.capture_report.specs.Taken.{max_batch, ending_of, ending_of_fault, AreAll, Took, TakesBatch}
 use Rattle.capture_report.specs.CaptureOutcome.{last_lines, last_text, refusal}
 use Rattle.command_plan.specs.Follow.{IsOpened}
 use Rattle.command_plan.specs.Effects.{Outside, PutsLast}
 use Rattle.capture_report.specs.Streams.{Whole, Part, IsUnbroken, Streams}
+use Rattle.capture_report.proofs.Reader.{begun-count}
 use Rattle.capture_report.proofs.Taking.{Took-none, Took-then, AreOfBatch-part}
-use Rattle.capture_report.proofs.LineLaws.{steps_of_records-append, lines_of_records-append, counts_of_records-append}
-use Rattle.capture_report.proofs.LineLaws.{packets_counted, lines_in-records}
+use Rattle.capture_report.proofs.LineLaws.{transitions_of_records-append, lines_of_records-append}
+use Rattle.capture_report.proofs.LineLaws.{counts_of_records-append, packets_counted, lines_in-records}
 use Rattle.command_plan.proofs.Gained.{Gains-none}
 
--- some records were taken, and their lines were put
-pub record IsPrinting (printing : Printing) (start : Start) (counts : Counts) (taken : ℕ) (state : CaptureState)
-    (old new : Outside) : Type 0 where
+-- how far the printing of a capture is: the reader's state, what was counted, and the outside
+pub record Standing : Type 0 where
+  pub state : CaptureState
+  pub counts : Counts
+  pub transitions : ℕ
+  pub outside : Outside
+
+-- one that stands so
+abbrev pub standing : CaptureState → Counts → ℕ → Outside → Standing
+standing state counts transitions outside =
+    record { state = state; counts = counts; transitions = transitions; outside = outside }
+
+-- Some records were taken from the state, and their lines were put.
+pub record HasPrinted (form : ReportForm) (state : CaptureState) (old : Outside) (now : Standing) (stop : BatchEnd)
+    : Type 0 where
   pub records : List CaptureRecord
   pub given : List ℕ
-  pub took : Took start 0 records given old.desk new.desk Full
-  pub printed : Gains (lines_of_records printing records) old.out new.out
-  pub counted : counts ≡ counts_of_records records
+  pub took : Took state now.state records given old.desk now.outside.desk stop
+  pub printed : Gains (lines_of_records form records) old.out now.outside.out
+  pub counted : now.counts ≡ counts_of_records records
   pub packets : All IsPacket (map packet_of records)
-  pub taken_is : taken ≡ steps_of_records printing.tables records
-  pub steps : new.steps ≡ old.steps + steps_of_records printing.tables records
-  pub state_is : state ≡ state_of start (length records) progress.Reading
-  pub count : old.out.faults ≤ new.out.faults
+  pub transitions_are : now.transitions ≡ transitions_of_records form.tables records
+  pub steps : now.outside.steps ≡ old.steps + transitions_of_records form.tables records
+  pub count : old.out.faults ≤ now.outside.out.faults
 
-pub IsPrinting-none : (printing : Printing) (start : Start) (counts : Counts) (state : CaptureState)
-    (view : Outside) →
-    counts ≡ counts_of_records [] → state ≡ begun start → IsPrinting printing start counts 0 state view view
-IsPrinting-none printing start counts state view none is = record {
+-- no record was taken yet
+pub HasPrinted-none : (form : ReportForm) (state : CaptureState) (counts : Counts) (view : Outside) →
+    counts ≡ counts_of_records [] →
+    HasPrinted form state view
+    (standing state counts 0 view) Full
+HasPrinted-none form state counts view none = record {
   records = [];
   given = [];
-  took = Took-none start 0 view.desk;
+  took = Took-none state view.desk;
   printed = Gains-none view.out;
   counted = none;
   packets = All-nil IsPacket;
-  taken_is = refl;
+  transitions_are = refl;
   steps = omega arith;
-  state_is = is;
   count = omega arith;
 }
 
--- there is room to count one batch more
-pub packets_few : (printing : Printing) (start : Start) (counts : Counts) (taken : ℕ) (state : CaptureState)
-    (old mid new : Outside)
-    (packets : List FrameClass) (stop : BatchEnd) → IsPrinting printing start counts taken state old mid →
-    TakesBatch state.start state.count packets mid.desk new.desk stop →
-    counts.packets + length packets ≤ max_records
-packets_few printing start counts taken state old mid new packets stop h batch =
-    let so_far = h.took.room (omega arith) in
-    let number : state.count ≡ length h.records = ap (λ s. s.count) h.state_is in
-    let all = batch.took.room (omega (arith, so_far, number)) in
-    omega (
-      arith,
-      all,
-      number,
-      ap (λ c. c.packets) h.counted,
-      packets_counted h.records,
-      ap length batch.packets_are,
-      length-map batch.records packet_of,
-    )
+-- What the lines of a batch came to: they were put, and its packets and their transitions were counted.
+pub record PutsBatch {T E : Type 0} (form : ReportForm) (packets : List FrameClass) (old new : Standing)
+    (result : Result T E) : Type 0 where
+  pub puts : Puts (lines_of_packets form (old.counts.packets + 1) packets) old.outside.out new.outside.out result
+  pub counted : new.counts ≡ counted_all packets old.counts
+  pub transitions_more : new.transitions ≡ old.transitions + transitions_of_packets form.tables packets
+  pub steps : new.outside.steps ≡ old.outside.steps + transitions_of_packets form.tables packets
 
--- what was taken with one batch more
-batch_taken : (printing : Printing) (start : Start) (counts : Counts) (taken : ℕ) (state : CaptureState)
-    (old mid new : Outside)
-    (packets : List FrameClass) (stop : BatchEnd) (h : IsPrinting printing start counts taken state old mid)
-    (batch : TakesBatch state.start state.count packets mid.desk new.desk stop) →
-    Took start 0 (h.records ++ batch.records) (h.given ++ batch.given) old.desk new.desk stop
-batch_taken printing start counts taken state old mid new packets stop h batch =
-    let number : state.count ≡ 0 + length h.records = omega (arith, ap (λ s. s.count) h.state_is) in
-    let from : Took start (0 + length h.records) batch.records batch.given mid.desk new.desk stop =
-    subst (λ (n : ℕ). Took start n batch.records batch.given mid.desk new.desk stop) number
-    (subst (λ (s : Start). Took s state.count batch.records batch.given mid.desk new.desk stop)
-    (ap (λ s. s.start) h.state_is) batch.took) in
-    Took-then start 0 h.records batch.records h.given batch.given old.desk mid.desk new.desk stop h.took from
+-- Some records were printed, and a batch more is there.
+module _ (form : ReportForm) (state : CaptureState) (old : Outside) (now : Standing) (next : CaptureState)
+    (packets : List FrameClass) (new : Outside) (stop : BatchEnd) (h : HasPrinted form state old now Full)
+    (batch : TakesBatch now.state next packets now.outside.desk new.desk stop) where
+  -- there is room to count it
+  pub packets_few : IsBegun state → now.counts.packets + length packets ≤ max_records
+  packets_few begun =
+      let none = begun-count state begun in
+      let so_far = h.took.few (omega (arith, none)) in
+      omega (
+        arith,
+        none,
+        batch.took.few so_far,
+        h.took.count,
+        batch.took.count,
+        ap (λ c. c.packets) h.counted,
+        packets_counted h.records,
+        ap length batch.packets_are,
+        length-map batch.records packet_of,
+      )
 
--- the lines with those of one batch more
-batch_lines : (printing : Printing) (start : Start) (counts : Counts) (taken : ℕ) (state : CaptureState)
-    (old mid : Outside)
-    (packets : List FrameClass)
-    (h : IsPrinting printing start counts taken state old mid) (records : List CaptureRecord) →
-    packets ≡ map packet_of records →
-    lines_of_records printing (h.records ++ records)
-    ≡ lines_of_records printing h.records ++ lines_of_packets printing (counts.packets + 1) packets
-batch_lines printing start counts taken state old mid packets h records are =
-    lines_of_records-append printing h.records records (counts.packets + 1)
-    (omega (arith, ap (λ c. c.packets) h.counted, packets_counted h.records))
-    ∙ ap (λ (l : List FrameClass). lines_of_records printing h.records
-    ++ lines_of_packets printing (counts.packets + 1) l) (sym are)
+  -- what was taken with it
+  all_taken : Took state next (h.records ++ batch.records) (h.given ++ batch.given) old.desk new.desk stop
+  all_taken =
+      Took-then state now.state next h.records batch.records h.given batch.given old.desk now.outside.desk new.desk
+      stop h.took batch.took
 
--- one batch more was taken and printed, of which the last record may be the last of the capture
-pub record HasPrinted (printing : Printing) (start : Start) (counts : Counts) (taken : ℕ) (old new : Outside)
-    (stop : BatchEnd) : Type 0 where
-  pub records : List CaptureRecord
-  pub given : List ℕ
-  pub took : Took start 0 records given old.desk new.desk stop
-  pub printed : Gains (lines_of_records printing records) old.out new.out
-  pub counted : counts ≡ counts_of_records records
-  pub packets : All IsPacket (map packet_of records)
-  pub taken_is : taken ≡ steps_of_records printing.tables records
-  pub steps : new.steps ≡ old.steps + steps_of_records printing.tables records
-  pub count : old.out.faults ≤ new.out.faults
+  -- the lines with its lines
+  all_lines : lines_of_records form (h.records ++ batch.records)
+      ≡ lines_of_records form h.records ++ lines_of_packets form (now.counts.packets + 1) packets
+  all_lines =
+      lines_of_records-append form h.records batch.records (now.counts.packets + 1)
+      (omega (arith, ap (λ c. c.packets) h.counted, packets_counted h.records))
+      ∙ ap (λ (l : List FrameClass). lines_of_records form h.records
+      ++ lines_of_packets form (now.counts.packets + 1) l) (sym batch.packets_are)
 
--- the packets and the steps with those of one batch more
-batch_packets : (printing : Printing) (start : Start) (counts : Counts) (taken : ℕ) (state : CaptureState)
-    (old mid new : Outside) (packets : List FrameClass) (stop : BatchEnd)
-    (h : IsPrinting printing start counts taken state old mid)
-    (batch : TakesBatch state.start state.count packets mid.desk new.desk stop) →
-    All IsPacket (map packet_of (h.records ++ batch.records))
-batch_packets printing start counts taken state old mid new packets stop h batch =
-    subst (All IsPacket) (sym (map-append packet_of h.records batch.records))
-    (All-append IsPacket (map packet_of h.records) (map packet_of batch.records) h.packets
-    (subst (All IsPacket) batch.packets_are batch.keys))
+  -- the packets with its packets
+  all_packets : All IsPacket (map packet_of (h.records ++ batch.records))
+  all_packets =
+      subst (All IsPacket) (sym (map-append packet_of h.records batch.records))
+      (All-append IsPacket (map packet_of h.records) (map packet_of batch.records) h.packets
+      (subst (All IsPacket) batch.packets_are batch.keys))
 
--- one batch more takes so many steps more
-batch_steps : (printing : Printing) (start : Start) (counts : Counts) (taken : ℕ) (state : CaptureState)
-    (old mid new : Outside) (packets : List FrameClass) (stop : BatchEnd)
-    (h : IsPrinting printing start counts taken state old mid)
-    (batch : TakesBatch state.start state.count packets mid.desk new.desk stop) →
-    steps_of_records printing.tables (h.records ++ batch.records)
-    ≡ steps_of_records printing.tables h.records + steps_of_packets printing.tables packets
-batch_steps printing start counts taken state old mid new packets stop h batch =
-    steps_of_records-append printing.tables h.records batch.records
-    ∙ ap (λ (l : List FrameClass). steps_of_records printing.tables h.records + steps_of_packets printing.tables l)
-    (sym batch.packets_are)
+  -- the transitions with its transitions
+  all_transitions : transitions_of_records form.tables (h.records ++ batch.records)
+      ≡ transitions_of_records form.tables h.records + transitions_of_packets form.tables packets
+  all_transitions =
+      transitions_of_records-append form.tables h.records batch.records
+      ∙ ap (λ (l : List FrameClass). transitions_of_records form.tables h.records
+      + transitions_of_packets form.tables l) (sym batch.packets_are)
 
--- What the lines of a batch came to: they were put, and its packets and their steps were counted.
-pub record PutsBatch {T E : Type 0} (printing : Printing) (packets : List FrameClass) (counts counts_new : Counts)
-    (taken taken_new : ℕ) (mid new : Outside) (result : Result T E) : Type 0 where
-  pub puts : Puts (lines_of_packets printing (counts.packets + 1) packets) mid.out new.out result
-  pub counted : counts_new ≡ counted_all packets counts
-  pub taken_more : taken_new ≡ taken + steps_of_packets printing.tables packets
-  pub steps : new.steps ≡ mid.steps + steps_of_packets printing.tables packets
-
-pub HasPrinted-batch : {T E : Type 0} (printing : Printing) (start : Start) (counts counts_new : Counts)
-    (taken taken_new : ℕ) (state : CaptureState)
-    (old mid new : Outside) (packets : List FrameClass) (stop : BatchEnd) (x : T) →
-    IsPrinting printing start counts taken state old mid →
-    TakesBatch state.start state.count packets mid.desk new.desk stop →
-    PutsBatch {E = E} printing packets counts counts_new taken taken_new mid new (Ok x) →
-    HasPrinted printing start counts_new taken_new old new stop
-HasPrinted-batch printing start counts counts_new taken taken_new state old mid new packets stop x h batch put =
-    let more = batch_steps printing start counts taken state old mid new packets stop h batch in
+-- a batch more was taken and printed
+pub HasPrinted-batch : {T E : Type 0} (form : ReportForm) (state : CaptureState) (old : Outside) (now new : Standing)
+    (packets : List FrameClass) (stop : BatchEnd) (x : T) →
+    HasPrinted form state old now Full →
+    TakesBatch now.state new.state packets now.outside.desk new.outside.desk stop →
+    PutsBatch {E = E} form packets now new (Ok x) → HasPrinted form state old new stop
+HasPrinted-batch form state old now new packets stop x h batch put =
+    let more = all_transitions form state old now new.state packets new.outside stop h batch in
     record {
       records = h.records ++ batch.records;
       given = h.given ++ batch.given;
-      took = batch_taken printing start counts taken state old mid new packets stop h batch;
+      took = all_taken form state old now new.state packets new.outside stop h batch;
       printed =
-          rw (batch_lines printing start counts taken state old mid packets h batch.records batch.packets_are)
-          (Gains-then (lines_of_records printing h.records)
-          (lines_of_packets printing (counts.packets + 1) packets) old.out mid.out new.out
-          h.printed put.puts.whole);
+          rw (all_lines form state old now new.state packets new.outside stop h batch)
+          (Gains-then (lines_of_records form h.records) (lines_of_packets form (now.counts.packets + 1) packets)
+          old.out now.outside.out new.outside.out h.printed put.puts.whole);
       counted =
-          put.counted ∙ ap (λ (l : List FrameClass). counted_all l counts) batch.packets_are
+          put.counted ∙ ap (λ (l : List FrameClass). counted_all l now.counts) batch.packets_are
           ∙ ap (counted_all (map packet_of batch.records)) h.counted
           ∙ counts_of_records-append h.records batch.records;
-      packets = batch_packets printing start counts taken state old mid new packets stop h batch;
-      taken_is = omega (arith, put.taken_more, h.taken_is, more);
+      packets = all_packets form state old now new.state packets new.outside stop h batch;
+      transitions_are = omega (arith, put.transitions_more, h.transitions_are, more);
       steps = omega (arith, put.steps, h.steps, more);
       count = omega (arith, h.count, put.puts.count);
     }
 
--- and the next batch comes
-pub IsPrinting-batch : {T E : Type 0} (printing : Printing) (start : Start) (counts counts_new : Counts)
-    (taken taken_new : ℕ) (state state_new : CaptureState)
-    (old mid new : Outside) (packets : List FrameClass) (x : T) →
-    IsPrinting printing start counts taken state old mid →
-    TakesBatch state.start state.count packets mid.desk new.desk Full →
-    PutsBatch {E = E} printing packets counts counts_new taken taken_new mid new (Ok x) →
-    state_new ≡ state_of state.start (state.count + max_batch) progress.Reading →
-    IsPrinting printing start counts_new taken_new state_new old new
-unfolding HasPrinted-batch
-IsPrinting-batch {T} {E} printing start counts counts_new taken taken_new state state_new old mid new packets x h
-    batch
-    put is =
-    let all = HasPrinted-batch {E = E} printing start counts counts_new taken taken_new state old mid new packets Full
-    x
-    h batch put in
-    let number : state.count + max_batch ≡ length (h.records ++ batch.records) =
-    omega (
-      arith,
-      ap (λ s. s.count) h.state_is,
-      batch.full refl,
-      ap length batch.packets_are,
-      length-map batch.records packet_of,
-      length-append h.records batch.records,
-    ) in
-    record {
-      records = h.records ++ batch.records;
-      given = h.given ++ batch.given;
-      took = all.took;
-      printed = all.printed;
-      counted = all.counted;
-      packets = all.packets;
-      taken_is = all.taken_is;
-      steps = all.steps;
-      state_is =
-          is ∙ ap (λ (s : Start). state_of s (state.count + max_batch) progress.Reading)
-          (ap (λ s. s.start) h.state_is)
-          ∙ ap (λ n. state_of start n progress.Reading) number;
-      count = all.count;
-    }
-
-fault_opened : (fault : CaptureFault) → IsOpened (ending_of (Fault fault))
-fault_opened faults.HeaderCut = tt
-fault_opened faults.Magic = tt
-fault_opened faults.Version = tt
-fault_opened faults.LinkType = tt
-fault_opened (faults.RecordCut n) = tt
-fault_opened (faults.RecordTooLong n) = tt
-fault_opened faults.TooManyRecords = tt
-fault_opened faults.ReadFault = tt
+fault_opened : (fault : CaptureFault) → IsOpened (ending_of_fault fault)
+fault_opened HeaderCut = tt
+fault_opened (RecordCut n) = tt
+fault_opened CannotRead = tt
+fault_opened fault = tt
 
 batch_opened : (stop : BatchEnd) → IsOpened (ending_of stop)
 batch_opened Full = tt
@@ -247,17 +177,15 @@ unbroken_opened Ended unbroken = tt
 unbroken_opened BrokenOff unbroken = tt
 
 -- where the lines of a batch couldn't be put
-pub Streams-failed : {T E : Type 0} (printing : Printing) (start : Start) (counts counts_new : Counts)
-    (taken taken_new : ℕ) (state : CaptureState)
-    (old mid new : Outside) (packets : List FrameClass) (stop : BatchEnd) (e : E) →
-    IsPrinting printing start counts taken state old mid →
-    TakesBatch state.start state.count packets mid.desk new.desk stop →
-    PutsBatch {T = T} printing packets counts counts_new taken taken_new mid new (Err e) →
-    Streams printing start old new WriteFault
-Streams-failed printing start counts counts_new taken taken_new state old mid new packets stop e h batch put =
-    let took = batch_taken printing start counts taken state old mid new packets stop h batch in
-    let more = batch_steps printing start counts taken state old mid new packets stop h batch in
-    let lines = lines_of_records printing h.records in
+pub Streams-failed : {T E : Type 0} (form : ReportForm) (state : CaptureState) (old : Outside) (now new : Standing)
+    (packets : List FrameClass) (stop : BatchEnd) (e : E) →
+    HasPrinted form state old now Full →
+    TakesBatch now.state new.state packets now.outside.desk new.outside.desk stop →
+    PutsBatch {T = T} form packets now new (Err e) → Streams form state old new.outside WriteFault
+Streams-failed form state old now new packets stop e h batch put =
+    let took = all_taken form state old now new.state packets new.outside stop h batch in
+    let more = all_transitions form state old now new.state packets new.outside stop h batch in
+    let lines = lines_of_records form h.records in
     let prefix = put.puts.prefix in
     record {
       given = h.given ++ batch.given;
@@ -267,21 +195,21 @@ Streams-failed printing start counts counts_new taken taken_new state old mid ne
       reads = took.reads;
       at_end = took.at_end;
       keeps = took.keeps;
-      bytes = AreOfBatch-part stop start (h.given ++ batch.given) (h.records ++ batch.records) took.bytes;
-      packets = batch_packets printing start counts taken state old mid new packets stop h batch;
+      bytes = AreOfBatch-part stop state new.state (h.given ++ batch.given) (h.records ++ batch.records) took.bytes;
+      packets = all_packets form state old now new.state packets new.outside stop h batch;
       answer = inr (
         refl,
         record {
           put = lines ++ prefix.prefix;
           rest = prefix.rest;
           parts =
-              batch_lines printing start counts taken state old mid packets h batch.records batch.packets_are
+              all_lines form state old now new.state packets new.outside stop h batch
               ∙ ap (λ l. lines ++ l) prefix.parts
               ∙ sym (append_assoc lines prefix.prefix prefix.rest);
-          gains = Gains-then lines prefix.prefix old.out mid.out new.out h.printed prefix.gains;
+          gains = Gains-then lines prefix.prefix old.out now.outside.out new.outside.out h.printed prefix.gains;
           few = omega (
             arith,
-            lines_in-records printing h.records prefix.prefix,
+            lines_in-records form h.records prefix.prefix,
             length-append h.records batch.records,
             batch.few,
             ap length batch.packets_are,
@@ -296,12 +224,12 @@ Streams-failed printing start counts counts_new taken taken_new state old mid ne
     }
 
 -- the capture ended, and the last lines were put or not
-pub Streams-ended : (printing : Printing) (start : Start) (counts : Counts) (taken : ℕ) (old mid new : Outside)
+pub Streams-ended : (form : ReportForm) (state : CaptureState) (old : Outside) (now : Standing) (new : Outside)
     (status : Status) →
-    HasPrinted printing start counts taken old mid End → new.desk ≡ mid.desk → new.steps ≡ mid.steps →
-    PutsLast (last_text printing counts taken) mid.out new.out status →
-    Streams printing start old new status
-Streams-ended printing start counts taken old mid new status h same same_steps puts = record {
+    HasPrinted form state old now End → new.desk ≡ now.outside.desk → new.steps ≡ now.outside.steps →
+    PutsLast (last_text form now.counts now.transitions) now.outside.out new.out status →
+    Streams form state old new status
+Streams-ended form state old now new status h same same_steps puts = record {
   given = h.given;
   ending = Ended;
   opened = tt;
@@ -314,19 +242,20 @@ Streams-ended printing start counts taken old mid new status h same same_steps p
   answer = elim puts.puts [
     | inl done ↦ inl (
       done.0,
-      Gains-then (lines_of_records printing h.records) line old.out mid.out new.out h.printed (rw is_line at done.1),
+      Gains-then (lines_of_records form h.records) line old.out now.outside.out new.out h.printed
+          (rw is_line at done.1),
     )
     | inr failed ↦ inr (
       failed.0,
       record {
-        put = lines_of_records printing h.records ++ failed.1.prefix;
+        put = lines_of_records form h.records ++ failed.1.prefix;
         rest = failed.1.rest;
         parts =
-            ap (λ l. lines_of_records printing h.records ++ l) (sym is_line ∙ failed.1.parts)
-            ∙ sym (append_assoc (lines_of_records printing h.records) failed.1.prefix failed.1.rest);
-        gains = Gains-then (lines_of_records printing h.records) failed.1.prefix old.out mid.out new.out h.printed
+            ap (λ l. lines_of_records form h.records ++ l) (sym is_line ∙ failed.1.parts)
+            ∙ sym (append_assoc (lines_of_records form h.records) failed.1.prefix failed.1.rest);
+        gains = Gains-then (lines_of_records form h.records) failed.1.prefix old.out now.outside.out new.out h.printed
             failed.1.gains;
-        few = omega (arith, lines_in-records printing h.records failed.1.prefix);
+        few = omega (arith, lines_in-records form h.records failed.1.prefix);
         rose = omega (arith, h.count, failed.2);
       },
     )
@@ -337,45 +266,38 @@ Streams-ended printing start counts taken old mid new status h same same_steps p
 }
   where
     line : List ℕ
-    line = last_lines printing h.records None
+    line = last_lines form h.records None
 
-    is_line : last_text printing counts taken ≡ line
+    is_line : last_text form now.counts now.transitions ≡ line
     is_line =
-        ap (λ (c : Counts). last_text printing c taken) h.counted
-        ∙ ap (last_text printing (counts_of_records h.records)) h.taken_is
+        ap (λ (c : Counts). last_text form c now.transitions) h.counted
+        ∙ ap (last_text form (counts_of_records h.records)) h.transitions_are
 
--- a fault of the capture, behind all lines
-fault_whole : (printing : Printing) (start : Start) (old new : Outside) (given : List ℕ)
-    (records : List CaptureRecord) (ending : Ending)
-    (fault : CaptureFault) (status : Status) → ReadsOn (stands ending) given old.desk new.desk →
-    (ending ≡ Ended → IsAtEnd new.desk) →
-    KeepsReading old.desk new.desk → IsUnbroken ending → AreAll start 0 given ending records (Some fault) →
-    Gains (lines_of_records printing records) old.out new.out → old.out.faults ≤ new.out.faults →
-    status ≡ CaptureRefused fault → All IsPacket (map packet_of records) →
-    new.steps ≡ old.steps + steps_of_records printing.tables records →
-    Streams printing start old new status
-fault_whole printing start old new given records ending fault status reads at_end keeps unbroken all printed count
-    is packets steps = record {
-      given = given;
-      ending = ending;
-      opened = unbroken_opened ending unbroken;
-      read = Whole records (Some fault);
-      reads = reads;
-      at_end = at_end;
-      keeps = keeps;
-      bytes = (unbroken, all);
-      packets = packets;
-      answer = inl (is, rw (append-nil (lines_of_records printing records)) printed);
-      read_fault = λ e. absurd (cc);
-      steps = steps;
-      count = count;
-    }
+-- a fault of the capture, after all lines
+fault_whole : (form : ReportForm) (state : CaptureState) (old : Outside) (now : Standing) (fault : CaptureFault)
+    (status : Status) (h : HasPrinted form state old now (Fault fault)) → IsUnbroken (ending_of_fault fault) →
+    AreAll state h.given (ending_of_fault fault) h.records (Some fault) → status ≡ CaptureRefused fault →
+    Streams form state old now.outside status
+fault_whole form state old now fault status h unbroken all is = record {
+  given = h.given;
+  ending = ending_of_fault fault;
+  opened = unbroken_opened (ending_of_fault fault) unbroken;
+  read = Whole h.records (Some fault);
+  reads = h.took.reads;
+  at_end = h.took.at_end;
+  keeps = h.took.keeps;
+  bytes = (unbroken, all);
+  packets = h.packets;
+  answer = inl (is, rw (append-nil (lines_of_records form h.records)) h.printed);
+  read_fault = λ e. absurd (cc);
+  steps = h.steps;
+  count = h.count;
+}
 
-pub Streams-fault : (fault : CaptureFault) (printing : Printing) (start : Start) (counts : Counts) (taken : ℕ)
-    (old new : Outside) (status : Status) →
-    HasPrinted printing start counts taken old new (Fault fault) → status ≡ refusal fault →
-    Streams printing start old new status
-Streams-fault faults.ReadFault printing start counts taken old new status h is = record {
+pub Streams-fault : (fault : CaptureFault) (form : ReportForm) (state : CaptureState) (old : Outside)
+    (now : Standing) (status : Status) →
+    HasPrinted form state old now (Fault fault) → status ≡ refusal fault → Streams form state old now.outside status
+Streams-fault CannotRead form state old now status h is = record {
   given = h.given;
   ending = BrokenOff;
   opened = tt;
@@ -390,31 +312,8 @@ Streams-fault faults.ReadFault printing start counts taken old new status h is =
   steps = h.steps;
   count = h.count;
 }
-Streams-fault faults.HeaderCut printing start counts taken old new status h is =
-    fault_whole printing start old new h.given h.records Ended faults.HeaderCut status h.took.reads h.took.at_end
-    h.took.keeps tt h.took.bytes
-    h.printed h.count is h.packets h.steps
-Streams-fault faults.Magic printing start counts taken old new status h is =
-    fault_whole printing start old new h.given h.records GoesOn faults.Magic status h.took.reads h.took.at_end
-    h.took.keeps tt h.took.bytes
-    h.printed h.count is h.packets h.steps
-Streams-fault faults.Version printing start counts taken old new status h is =
-    fault_whole printing start old new h.given h.records GoesOn faults.Version status h.took.reads h.took.at_end
-    h.took.keeps tt h.took.bytes
-    h.printed h.count is h.packets h.steps
-Streams-fault faults.LinkType printing start counts taken old new status h is =
-    fault_whole printing start old new h.given h.records GoesOn faults.LinkType status h.took.reads h.took.at_end
-    h.took.keeps tt h.took.bytes
-    h.printed h.count is h.packets h.steps
-Streams-fault (faults.RecordCut n) printing start counts taken old new status h is =
-    fault_whole printing start old new h.given h.records Ended
-    (faults.RecordCut n) status h.took.reads h.took.at_end h.took.keeps tt h.took.bytes
-    h.printed h.count is h.packets h.steps
-Streams-fault (faults.RecordTooLong n) printing start counts taken old new status h is =
-    fault_whole printing start old new h.given h.records GoesOn
-    (faults.RecordTooLong n) status h.took.reads h.took.at_end h.took.keeps tt
-    h.took.bytes h.printed h.count is h.packets h.steps
-Streams-fault faults.TooManyRecords printing start counts taken old new status h is =
-    fault_whole printing start old new h.given h.records GoesOn faults.TooManyRecords status h.took.reads
-    h.took.at_end h.took.keeps tt
-    h.took.bytes h.printed h.count is h.packets h.steps
+Streams-fault HeaderCut form state old now status h is =
+    fault_whole form state old now HeaderCut status h tt h.took.bytes is
+Streams-fault (RecordCut n) form state old now status h is =
+    fault_whole form state old now (RecordCut n) status h tt h.took.bytes is
+Streams-fault fault form state old now status h is = fault_whole form state old now fault status h tt h.took.bytes is

@@ -1,39 +1,31 @@
 -- Records that were taken, and then more.
-use Rattle.std.proofs.Common.{◌≡◌, ℕ, ◌+◌, ◌<◌, List, [], ◌∷◌, ◌++◌, length, Option, Some, None, Ok, Err, inl, inr}
-use Rattle.std.proofs.Common.{refl, sym, subst, ap, ◌∙◌, append_assoc, append-nil, add-zero, length-append, arith}
-use Rattle.std.proofs.lemmas.Bool.{cases_eq, cases_lt, eq-eqb}
+use Rattle.std.proofs.Common.{◌≡◌, ℕ, ◌+◌, ◌≤◌, List, [], ◌++◌, length, Option, Some, None}
+use Rattle.std.proofs.Common.{refl, sym, ap, ◌∙◌, append_assoc, append-nil, length-append, arith}
 use Rattle.acl_outside.specs.Desk.{DeskView}
-use Rattle.acl_outside.specs.Heard.{Ending, Ended, GoesOn}
+use Rattle.acl_outside.specs.Heard.{Ending, Ended}
 use Rattle.acl_outside.proofs.HeardLaws.{ReadsOn-none, ReadsOn-then}
 use Rattle.pcap_reader.specs.declared.fault.CaptureFault.{CaptureFault}
-use Rattle.pcap_reader.specs.declared.fault.CaptureFault.TheVariants.{HeaderCut, Magic, Version, LinkType, RecordCut}
-use Rattle.pcap_reader.specs.declared.fault.CaptureFault.TheVariants.{RecordTooLong, TooManyRecords, ReadFault}
-use Rattle.pcap_reader.specs.declared.start.Start.{Start}
-use Rattle.pcap_reader.specs.Capture.{CaptureRecord, Recorded, End as NoMore, Record, Fault as Failing, max_records}
-use Rattle.pcap_reader.specs.Capture.{next_of, records_behind}
-use Rattle.pcap_reader.specs.Reader.{ReadsNext}
+use Rattle.pcap_reader.specs.declared.fault.CaptureFault.TheVariants.{ReadFault}
+use Rattle.pcap_reader.specs.Capture.{CaptureRecord, Recorded}
+use Rattle.pcap_reader.specs.Reader.{CaptureState}
 use Rattle.pcap_reader.proofs.FillLaws.{KeepsReading-join}
-use Rattle.pcap_reader.proofs.NextLaws.{IsDecided, with_behind, next_of-append, next_of-too_many}
-use Rattle.pcap_reader.proofs.CaptureLaws.{records_behind-record, records_behind-end, records_behind-fault}
-use Rattle.pcap_reader.proofs.AnswersLaws.{no_records, unanswered}
 use Rattle.capture_report.specs.declared.batch.BatchEnd.{BatchEnd}
 use Rattle.capture_report.specs.declared.batch.BatchEnd.TheVariants.{Full, End, Fault}
-use Rattle.capture_report.specs.Taken.{onto, ending_of, stands, AreRecords, AreAll, AreOfBatch, Took}
+use Rattle.capture_report.specs.NextRecord.{records_from}
+use Rattle.capture_report.specs.Taken.{onto, ending_of, ending_of_fault, stands, AreRecords, AreAll, AreWhole}
+use Rattle.capture_report.specs.Taken.{AreOfBatch, Took}
+use Rattle.capture_report.proofs.Reader.{records_from-nothing}
 
-onto-none : (behind : Recorded) → behind ≡ onto [] behind
-onto-none behind = refl
-
-onto-then : (first second : List CaptureRecord) (behind : Recorded) →
-    onto first (onto second behind) ≡ onto (first ++ second) behind
-onto-then first second behind =
-    ap (λ records. let all : Recorded = record { records = records; fault = behind.fault } in all)
-    (sym (append_assoc first second behind.records))
+onto-then : (first second : List CaptureRecord) (later : Recorded) →
+    onto first (onto second later) ≡ onto (first ++ second) later
+onto-then first second later =
+    ap (λ records. let all : Recorded = record { records = records; fault = later.fault } in all)
+    (sym (append_assoc first second later.records))
 
 -- nothing was taken yet
-pub Took-none : (start : Start) (count : ℕ) (view : DeskView) → Took start count [] [] view view Full
-Took-none start count view = record {
-  bytes = λ behind. ap (λ n. records_behind start n behind) (sym (add-zero count))
-      ∙ onto-none (records_behind start (count + 0) behind);
+pub Took-none : (state : CaptureState) (view : DeskView) → Took state state [] [] view view Full
+Took-none state view = record {
+  bytes = λ later. refl;
   reads = ReadsOn-none view;
   at_end = λ e. absurd (cc);
   read_fault = λ e. absurd (cc);
@@ -42,241 +34,60 @@ Took-none start count view = record {
     absent = refl;
     counts = record { read_faults = omega arith; absent = omega arith };
   };
-  room = λ below. omega (arith, below);
+  goes_on = λ full may. may;
+  count = omega arith;
+  few = λ below. below;
 }
 
--- records, and then more bytes
-behind_records : (start : Start) (count : ℕ) (first : List CaptureRecord) (given more : List ℕ) →
-    AreRecords start count given first →
-    (behind : List ℕ) →
-    records_behind start count ((given ++ more) ++ behind)
-    ≡ onto first (records_behind start (count + length first) (more ++ behind))
-behind_records start count first given more are behind =
-    ap (records_behind start count) (append_assoc given more behind) ∙ are (more ++ behind)
+module _ (before mid : CaptureState) (first : List CaptureRecord) (given : List ℕ)
+    (a : AreRecords before mid given first) where
+  -- records, and then more bytes
+  records_later : (more later : List ℕ) →
+      records_from before ((given ++ more) ++ later) ≡ onto first (records_from mid (more ++ later))
+  records_later more later = ap (records_from before) (append_assoc given more later) ∙ a (more ++ later)
 
-AreRecords-then : (start : Start) (count : ℕ) (first second : List CaptureRecord) (given more : List ℕ) →
-    AreRecords start count given first →
-    AreRecords start (count + length first) more second → AreRecords start count (given ++ more) (first ++ second)
-AreRecords-then start count first second given more a b behind =
-    let sum : (count + length first) + length second ≡ count + length (first ++ second) =
-    omega (arith, length-append first second) in
-    behind_records start count first given more a behind ∙ ap (onto first) (b behind)
-    ∙ onto-then first second (records_behind start ((count + length first) + length second) behind)
-    ∙ ap (λ n. onto (first ++ second) (records_behind start n behind)) sum
+  AreAll-then : (second : List CaptureRecord) (more : List ℕ) (ending : Ending) (fault : Option CaptureFault) →
+      AreAll mid more ending second fault → AreAll before (given ++ more) ending (first ++ second) fault
+  AreAll-then second more ending fault b later none = records_later more later ∙ ap (onto first) (b later none)
 
-AreAll-then : (start : Start) (count : ℕ) (first second : List CaptureRecord) (given more : List ℕ) (ending : Ending)
-    (fault : Option CaptureFault) →
-    AreRecords start count given first → AreAll start (count + length first) more ending second fault →
-    AreAll start count (given ++ more) ending (first ++ second) fault
-AreAll-then start count first second given more ending fault a b behind rest =
-    behind_records start count first given more a behind ∙ ap (onto first) (b behind rest)
-
-ArePart-then : (start : Start) (count : ℕ) (first second : List CaptureRecord) (given more : List ℕ) →
-    AreRecords start count given first → (records_behind start (count + length first) more).records ≡ second →
-    (records_behind start count (given ++ more)).records ≡ first ++ second
-ArePart-then start count first second given more a b =
-    ap (λ r. r.records) (a more) ∙ ap (λ l. first ++ l) b
-
-AreOfBatch-then : (stop : BatchEnd) (start : Start) (count : ℕ) (first second : List CaptureRecord)
-    (given more : List ℕ) →
-    AreRecords start count given first → AreOfBatch start (count + length first) more second stop →
-    AreOfBatch start count (given ++ more) (first ++ second) stop
-AreOfBatch-then Full start count first second given more a b = AreRecords-then start count first second given more a b
-AreOfBatch-then End start count first second given more a b =
-    AreAll-then start count first second given more Ended None a b
-AreOfBatch-then (Fault ReadFault) start count first second given more a b =
-    ArePart-then start count first second given more a b
-AreOfBatch-then (Fault HeaderCut) start count first second given more a b =
-    AreAll-then start count first second given more Ended (Some HeaderCut) a b
-AreOfBatch-then (Fault Magic) start count first second given more a b =
-    AreAll-then start count first second given more GoesOn (Some Magic) a b
-AreOfBatch-then (Fault Version) start count first second given more a b =
-    AreAll-then start count first second given more GoesOn (Some Version) a b
-AreOfBatch-then (Fault LinkType) start count first second given more a b =
-    AreAll-then start count first second given more GoesOn (Some LinkType) a b
-AreOfBatch-then (Fault (RecordCut n)) start count first second given more a b =
-    AreAll-then start count first second given more Ended (Some (RecordCut n)) a b
-AreOfBatch-then (Fault (RecordTooLong n)) start count first second given more a b =
-    AreAll-then start count first second given more GoesOn (Some (RecordTooLong n)) a b
-AreOfBatch-then (Fault TooManyRecords) start count first second given more a b =
-    AreAll-then start count first second given more GoesOn (Some TooManyRecords) a b
+  AreOfBatch-then : (stop : BatchEnd) (after : CaptureState) (second : List CaptureRecord) (more : List ℕ) →
+      AreOfBatch mid after more second stop → AreOfBatch before after (given ++ more) (first ++ second) stop
+  AreOfBatch-then Full after second more b =
+      λ later. records_later more later ∙ ap (onto first) (b later) ∙ onto-then first second (records_from after later)
+  AreOfBatch-then End after second more b = AreAll-then second more Ended None b
+  AreOfBatch-then (Fault ReadFault) after second more b = ap (λ r. r.records) (a more) ∙ ap (λ l. first ++ l) b
+  AreOfBatch-then (Fault fault) after second more b =
+      AreAll-then second more (ending_of_fault fault) (Some fault) b
 
 -- records, and then more of them
-pub Took-then : (start : Start) (count : ℕ) (first second : List CaptureRecord) (given more : List ℕ)
-    (old mid new : DeskView) (stop : BatchEnd) →
-    Took start count first given old mid Full → Took start (count + length first) second more mid new stop →
-    Took start count (first ++ second) (given ++ more) old new stop
-Took-then start count first second given more old mid new stop a b = record {
-  bytes = AreOfBatch-then stop start count first second given more a.bytes b.bytes;
-  reads = ReadsOn-then (stands (ending_of stop)) given more old mid new a.reads b.reads;
+pub Took-then : (before mid after : CaptureState) (first second : List CaptureRecord) (given more : List ℕ)
+    (old between new : DeskView) (stop : BatchEnd) →
+    Took before mid first given old between Full → Took mid after second more between new stop →
+    Took before after (first ++ second) (given ++ more) old new stop
+Took-then before mid after first second given more old between new stop a b = record {
+  bytes = AreOfBatch-then before mid first given a.bytes stop after second more b.bytes;
+  reads = ReadsOn-then (stands (ending_of stop)) given more old between new a.reads b.reads;
   at_end = b.at_end;
   read_fault = λ e. omega (arith, a.keeps.counts.read_faults, b.read_fault e);
-  keeps = KeepsReading-join old mid new a.keeps b.keeps;
-  room = λ below. let first_few = a.room below in omega (arith, b.room first_few, length-append first second);
+  keeps = KeepsReading-join old between new a.keeps b.keeps;
+  goes_on = λ full may. b.goes_on full (a.goes_on refl may);
+  count = omega (arith, a.count, b.count, length-append first second);
+  few = λ below. b.few (a.few below);
 }
 
-AreAll-part : (start : Start) (count : ℕ) (given : List ℕ) (ending : Ending) (records : List CaptureRecord)
+AreAll-part : (state : CaptureState) (given : List ℕ) (ending : Ending) (records : List CaptureRecord)
     (fault : Option CaptureFault) →
-    AreAll start count given ending records fault → (records_behind start count given).records ≡ records
-AreAll-part start count given ending records fault all =
-    ap (λ l. (records_behind start count l).records) (sym (append-nil given))
-    ∙ ap (λ r. r.records) (all [] (λ e. refl))
+    AreAll state given ending records fault → AreWhole state given records
+AreAll-part state given ending records fault all =
+    ap (λ l. (records_from state l).records) (sym (append-nil given)) ∙ ap (λ r. r.records) (all [] (λ e. refl))
 
 -- the records are the whole ones of the bytes
-pub AreOfBatch-part : (stop : BatchEnd) (start : Start) (given : List ℕ) (records : List CaptureRecord) →
-    AreOfBatch start 0 given records stop →
-    (records_behind start 0 given).records ≡ records
-AreOfBatch-part Full start given records are =
-    ap (λ l. (records_behind start 0 l).records) (sym (append-nil given)) ∙ ap (λ r. r.records) (are [])
-    ∙ ap (λ l. records ++ l) none_left ∙ append-nil records
-  where
-    none_left : (records_behind start (0 + length records) []).records ≡ []
-    none_left = ap (λ r. r.records) (records_behind-end start (0 + length records) [] refl)
-AreOfBatch-part End start given records are = AreAll-part start 0 given Ended records None are
-AreOfBatch-part (Fault ReadFault) start given records are = are
-AreOfBatch-part (Fault HeaderCut) start given records are = AreAll-part start 0 given Ended records (Some HeaderCut)
-    are
-AreOfBatch-part (Fault Magic) start given records are = AreAll-part start 0 given GoesOn records (Some Magic) are
-AreOfBatch-part (Fault Version) start given records are = AreAll-part start 0 given GoesOn records (Some Version) are
-AreOfBatch-part (Fault LinkType) start given records are = AreAll-part start 0 given GoesOn records
-    (Some LinkType) are
-AreOfBatch-part (Fault (RecordCut n)) start given records are =
-    AreAll-part start 0 given Ended records (Some (RecordCut n)) are
-AreOfBatch-part (Fault (RecordTooLong n)) start given records are =
-    AreAll-part start 0 given GoesOn records (Some (RecordTooLong n)) are
-AreOfBatch-part (Fault TooManyRecords) start given records are =
-    AreAll-part start 0 given GoesOn records (Some TooManyRecords) are
-
--- there is a record only where there may be one more
-record_few : (start : Start) (count : ℕ) (given captured behind : List ℕ) →
-    next_of start.order count given ≡ Record captured behind → count < max_records
-record_few start count given captured behind next =
-    elim (cases_eq (length given) 0) [
-      | inl none ↦
-          let ends : next_of start.order count given ≡ NoMore = rw (eq-eqb (length given) 0 none) refl in
-          absurd (cc)
-      | inr some ↦ elim (cases_lt count max_records) [
-        | inl few ↦ few
-        | inr many ↦ let over = next_of-too_many start.order count given (omega arith) many in absurd (cc)
-      ]
-    ]
-
--- one record was taken
-pub Took-record : (start : Start) (count : ℕ) (captured : List ℕ) (old new : DeskView) →
-    (reads : ReadsNext start.order count old new (Ok (Some captured))) →
-    Took start count (record { link = start.link; bytes = captured } ∷ []) reads.given old new Full
-Took-record start count captured old new reads = record {
-  bytes = λ behind.
-      let next : next_of start.order count (reads.given ++ behind) ≡ Record captured behind =
-      next_of-append start.order count reads.given behind (subst IsDecided (sym reads.answer) tt)
-      ∙ ap (λ n. with_behind n behind) reads.answer in
-      records_behind-record start count (reads.given ++ behind) captured behind next;
-  reads = reads.reads;
-  at_end = λ e. absurd (cc);
-  read_fault = λ e. absurd (cc);
-  keeps = reads.keeps;
-  room = λ below. omega (arith, record_few start count reads.given captured [] reads.answer);
-}
-
-AreAll-end : (start : Start) (count : ℕ) (given : List ℕ) → next_of start.order count given ≡ NoMore →
-    AreAll start count given Ended [] None
-AreAll-end start count given next more rest =
-    ap (records_behind start count) (ap (λ l. given ++ l) (rest refl) ∙ append-nil given)
-    ∙ records_behind-end start count given next
-
-AreAll-cut : (start : Start) (count : ℕ) (given : List ℕ) (fault : CaptureFault) →
-    next_of start.order count given ≡ Failing fault →
-    AreAll start count given Ended [] (Some fault)
-AreAll-cut start count given fault next more rest =
-    ap (records_behind start count) (ap (λ l. given ++ l) (rest refl) ∙ append-nil given)
-    ∙ records_behind-fault start count given fault next
-
-AreAll-decided : (start : Start) (count : ℕ) (given : List ℕ) (fault : CaptureFault) →
-    next_of start.order count given ≡ Failing fault →
-    IsDecided (Failing fault) → AreAll start count given GoesOn [] (Some fault)
-AreAll-decided start count given fault next decided more rest =
-    records_behind-fault start count (given ++ more) fault
-    (next_of-append start.order count given more (subst IsDecided (sym next) decided)
-    ∙ ap (λ n. with_behind n more) next)
-
--- no record was there: the end of the capture
-pub Took-end : (start : Start) (count : ℕ) (old new : DeskView) →
-    (reads : ReadsNext start.order count old new (Ok None)) →
-    Took start count [] reads.given old new End
-Took-end start count old new reads = record {
-  bytes = AreAll-end start count reads.given reads.answer.0;
-  reads = reads.reads;
-  at_end = λ e. reads.end refl;
-  read_fault = λ e. absurd (cc);
-  keeps = reads.keeps;
-  room = λ below. omega (arith, below);
-}
-
--- no record was there: a fault
-pub Took-fault : (fault : CaptureFault) (start : Start) (count : ℕ) (old new : DeskView) →
-    (reads : ReadsNext start.order count old new (Err fault)) →
-    Took start count [] reads.given old new (Fault fault)
-Took-fault ReadFault start count old new reads = record {
-  bytes = no_records start count reads.given (unanswered start.order count reads.given ReadFault reads.answer);
-  reads = reads.reads;
-  at_end = λ e. absurd (cc);
-  read_fault = λ e. reads.read_fault refl;
-  keeps = reads.keeps;
-  room = λ below. omega (arith, below);
-}
-Took-fault HeaderCut start count old new reads = record {
-  bytes = AreAll-cut start count reads.given HeaderCut reads.answer;
-  reads = reads.reads;
-  at_end = λ e. reads.end refl;
-  read_fault = λ e. absurd (cc);
-  keeps = reads.keeps;
-  room = λ below. omega (arith, below);
-}
-Took-fault (RecordCut n) start count old new reads = record {
-  bytes = AreAll-cut start count reads.given (RecordCut n) reads.answer;
-  reads = reads.reads;
-  at_end = λ e. reads.end refl;
-  read_fault = λ e. absurd (cc);
-  keeps = reads.keeps;
-  room = λ below. omega (arith, below);
-}
-Took-fault Magic start count old new reads = record {
-  bytes = AreAll-decided start count reads.given Magic reads.answer tt;
-  reads = reads.reads;
-  at_end = λ e. absurd (cc);
-  read_fault = λ e. absurd (cc);
-  keeps = reads.keeps;
-  room = λ below. omega (arith, below);
-}
-Took-fault Version start count old new reads = record {
-  bytes = AreAll-decided start count reads.given Version reads.answer tt;
-  reads = reads.reads;
-  at_end = λ e. absurd (cc);
-  read_fault = λ e. absurd (cc);
-  keeps = reads.keeps;
-  room = λ below. omega (arith, below);
-}
-Took-fault LinkType start count old new reads = record {
-  bytes = AreAll-decided start count reads.given LinkType reads.answer tt;
-  reads = reads.reads;
-  at_end = λ e. absurd (cc);
-  read_fault = λ e. absurd (cc);
-  keeps = reads.keeps;
-  room = λ below. omega (arith, below);
-}
-Took-fault (RecordTooLong n) start count old new reads = record {
-  bytes = AreAll-decided start count reads.given (RecordTooLong n) reads.answer tt;
-  reads = reads.reads;
-  at_end = λ e. absurd (cc);
-  read_fault = λ e. absurd (cc);
-  keeps = reads.keeps;
-  room = λ below. omega (arith, below);
-}
-Took-fault TooManyRecords start count old new reads = record {
-  bytes = AreAll-decided start count reads.given TooManyRecords reads.answer tt;
-  reads = reads.reads;
-  at_end = λ e. absurd (cc);
-  read_fault = λ e. absurd (cc);
-  keeps = reads.keeps;
-  room = λ below. omega (arith, below);
-}
+pub AreOfBatch-part : (stop : BatchEnd) (before after : CaptureState) (given : List ℕ)
+    (records : List CaptureRecord) → AreOfBatch before after given records stop → AreWhole before given records
+AreOfBatch-part Full before after given records are =
+    ap (λ l. (records_from before l).records) (sym (append-nil given)) ∙ ap (λ r. r.records) (are [])
+    ∙ ap (λ l. records ++ l) (records_from-nothing after) ∙ append-nil records
+AreOfBatch-part End before after given records are = AreAll-part before given Ended records None are
+AreOfBatch-part (Fault ReadFault) before after given records are = are
+AreOfBatch-part (Fault fault) before after given records are =
+    AreAll-part before given (ending_of_fault fault) records (Some fault) are

@@ -13,10 +13,11 @@ use Rattle.header_extract.specs.declared.class.Class.TheVariants.{Ip4, Ip6, Othe
 use Rattle.header_extract.specs.Class.{FrameClass}
 use Rattle.pcap_reader.specs.Capture.{max_records}
 use Rattle.acl_report.specs.declared.counts.Counts.{Counts}
+use Rattle.acl_report.specs.declared.packet.TheConstants.{MAX_VERDICTS}
 use Rattle.acl_report.specs.Counts.{is_ip4, is_ip6}
 use Rattle.capture_report.specs.Packet.{IsPacket}
-use Rattle.capture_report.specs.Classifier.{Tables, all_categories}
-use Rattle.capture_report.specs.Printing.{Printing}
+use Rattle.capture_report.specs.Classifier.{Tables}
+use Rattle.capture_report.specs.ReportForm.{ReportForm}
 
 -- the table of a family
 abbrev pub table_of : Family → Tables → TableView
@@ -25,12 +26,12 @@ table_of family.Ip6 tables = tables.ip6
 
 -- The keys of the tables are those of their families, the tables have at most eight tries, and so
 -- many categories are lawful.
-pub record IsPrinter (tables : Tables) (categories : ℕ) : Type 0 where
+pub record IsFormByTables (tables : Tables) (categories : ℕ) : Type 0 where
   pub ip4_keys : tables.ip4.key_len ≡ 13
   pub ip6_keys : tables.ip6.key_len ≡ 37
   pub ip4_tries : length tables.ip4.roots ≤ most_tries
   pub ip6_tries : length tables.ip6.roots ≤ most_tries
-  pub few : categories ≤ all_categories
+  pub few : categories ≤ MAX_VERDICTS
 
 -- a frame that holds a packet of the family
 abbrev pub is_of : Family → Class → Bool
@@ -52,17 +53,17 @@ verdicts_of family table count (packet ∷ packets) =
     then key_verdicts table count packet.key ++ verdicts_of family table count packets
     else verdicts_of family table count packets
 
--- The packets come behind those that were counted, and there may be so many.
+-- The packets come after those that were counted, and there may be so many.
 pub record AreNext (counts : Counts) (packets : List FrameClass) : Type 0 where
   pub classes : counts.ip4 + counts.ip6 + counts.other + counts.short ≡ counts.packets
   pub few : counts.packets + length packets ≤ max_records
   pub own : All IsPacket packets
 
 -- These are the verdicts on the IPv4 packets, and those on the IPv6 packets.
-pub record AreAnswered (printing : Printing) (packets : List FrameClass) (ip4 ip6 : List ℕ)
+pub record AreAnswered (form : ReportForm) (packets : List FrameClass) (ip4 ip6 : List ℕ)
     : Type 0 where
-  pub on_ip4 : ip4 ≡ verdicts_of family.Ip4 printing.tables.ip4 printing.categories packets
-  pub on_ip6 : ip6 ≡ verdicts_of family.Ip6 printing.tables.ip6 printing.categories packets
+  pub on_ip4 : ip4 ≡ verdicts_of family.Ip4 form.tables.ip4 form.categories packets
+  pub on_ip6 : ip6 ≡ verdicts_of family.Ip6 form.tables.ip6 form.categories packets
 
 -- how many packets there are of the family
 abbrev pub number_of : Family → List FrameClass → ℕ
@@ -71,33 +72,33 @@ number_of family (packet ∷ packets) =
     if is_of family packet.class then number_of family packets + 1
     else number_of family packets
 
--- how many words the walks of their keys take
-abbrev pub steps_of_family : Family → TableView → List FrameClass → ℕ
-steps_of_family family table [] = 0
-steps_of_family family table (packet ∷ packets) =
+-- how many transitions the walks of their keys take
+abbrev pub transitions_of_family : Family → TableView → List FrameClass → ℕ
+transitions_of_family family table [] = 0
+transitions_of_family family table (packet ∷ packets) =
     if is_of family packet.class
-    then key_steps table packet.key + steps_of_family family table packets
-    else steps_of_family family table packets
+    then key_steps table packet.key + transitions_of_family family table packets
+    else transitions_of_family family table packets
 
--- how many words the walks of a packet take at most: one for each trie and byte of the key
-abbrev pub max_steps : ℕ
-max_steps = 8 * 37
+-- how many transitions a packet takes at most: one for each trie and byte of the key
+abbrev pub max_transitions : ℕ
+max_transitions = 8 * 37
 
 -- the verdicts of the tables on the key of a class
-abbrev pub verdicts_on : Class → Printing → List ℕ → List ℕ
-verdicts_on Ip4 printing key = key_verdicts printing.tables.ip4 printing.categories key
-verdicts_on Ip6 printing key = key_verdicts printing.tables.ip6 printing.categories key
-verdicts_on Other printing key = []
-verdicts_on Short printing key = []
+abbrev pub verdicts_on : Class → ReportForm → List ℕ → List ℕ
+verdicts_on Ip4 form key = key_verdicts form.tables.ip4 form.categories key
+verdicts_on Ip6 form key = key_verdicts form.tables.ip6 form.categories key
+verdicts_on Other form key = []
+verdicts_on Short form key = []
 
 -- for each category whether a dash is shown of the key: where marks are asked for and no rule wins
-abbrev pub dashes_of : Printing → TableView → List ℕ → List Bool
-dashes_of printing table key =
-    if printing.marks then map not (winners_of table key) else replicate all_categories false
+abbrev pub dashes_of : ReportForm → TableView → List ℕ → List Bool
+dashes_of form table key =
+    if form.marks then map not (winners_of table key) else replicate MAX_VERDICTS false
 
 -- the same of the key of a class
-abbrev pub dashes_on : Class → Printing → List ℕ → List Bool
-dashes_on Ip4 printing key = dashes_of printing printing.tables.ip4 key
-dashes_on Ip6 printing key = dashes_of printing printing.tables.ip6 key
-dashes_on Other printing key = replicate all_categories false
-dashes_on Short printing key = replicate all_categories false
+abbrev pub dashes_on : Class → ReportForm → List ℕ → List Bool
+dashes_on Ip4 form key = dashes_of form form.tables.ip4 key
+dashes_on Ip6 form key = dashes_of form form.tables.ip6 key
+dashes_on Other form key = replicate MAX_VERDICTS false
+dashes_on Short form key = replicate MAX_VERDICTS false

@@ -11,26 +11,26 @@ use Rattle.pcap_reader.specs.declared.fault.CaptureFault.TheVariants.{ReadFault 
 use Rattle.pcap_reader.specs.Capture.{CaptureRecord, Recorded, capture_of, whole_records}
 use Rattle.command_plan.specs.declared.status.Status.{Status}
 use Rattle.command_plan.specs.declared.status.Status.TheVariants.{Done, CaptureRefused, ReadFault}
-use Rattle.capture_report.specs.Printing.{Printing}
+use Rattle.capture_report.specs.ReportForm.{ReportForm}
 use Rattle.capture_report.specs.Report.{counts_of_records, lines_of_records, stats_of}
-use Rattle.capture_report.specs.Report.{steps_of_records}
+use Rattle.capture_report.specs.Report.{transitions_of_records}
 use Rattle.command_plan.specs.Plan.{Outcome, silent, Plan, Give, Read}
 
 -- the line of the counts, and those of the tables and transitions where they are asked for
-abbrev pub last_text : Printing → Counts → ℕ → List ℕ
-last_text printing counts steps = packets_text counts ++ stats_of printing steps
+abbrev pub last_text : ReportForm → Counts → ℕ → List ℕ
+last_text form counts transitions = packets_text counts ++ stats_of form transitions
 
--- the last lines: those of the counts and of the tables behind a whole capture, and none where a
+-- the last lines: those of the counts and of the tables after a whole capture, and none where a
 -- fault ends it
-abbrev pub last_lines : Printing → List CaptureRecord → Option CaptureFault → List ℕ
-last_lines printing records None =
-    last_text printing (counts_of_records records) (steps_of_records printing.tables records)
-last_lines printing records (Some fault) = []
+abbrev pub last_lines : ReportForm → List CaptureRecord → Option CaptureFault → List ℕ
+last_lines form records None =
+    last_text form (counts_of_records records) (transitions_of_records form.tables records)
+last_lines form records (Some fault) = []
 
 -- the lines of the records, and the last lines
-abbrev pub text_of_records : Printing → List CaptureRecord → Option CaptureFault → List ℕ
-text_of_records printing records fault =
-    lines_of_records printing records ++ last_lines printing records fault
+abbrev pub text_of_records : ReportForm → List CaptureRecord → Option CaptureFault → List ℕ
+text_of_records form records fault =
+    lines_of_records form records ++ last_lines form records fault
 
 -- the status of a capture by how it ended
 abbrev pub status_of_fault : Option CaptureFault → Status
@@ -49,24 +49,24 @@ refusal TooManyRecords = CaptureRefused TooManyRecords
 refusal CannotRead = ReadFault
 
 -- what a capture gives
-abbrev pub report_of_capture : Printing → Result Recorded CaptureFault → Outcome
-report_of_capture printing (Ok capture) = record {
+abbrev pub report_of_capture : ReportForm → Result Recorded CaptureFault → Outcome
+report_of_capture form (Ok capture) = record {
   status = status_of_fault capture.fault;
-  text = text_of_records printing capture.records capture.fault;
-  steps = steps_of_records printing.tables capture.records;
+  text = text_of_records form capture.records capture.fault;
+  steps = transitions_of_records form.tables capture.records;
 }
-report_of_capture printing (Err fault) = silent (CaptureRefused fault)
+report_of_capture form (Err fault) = silent (CaptureRefused fault)
 
 -- what the bytes of a capture give
-abbrev pub report : Printing → List ℕ → Outcome
-report printing bytes = report_of_capture printing (capture_of bytes)
+abbrev pub report : ReportForm → List ℕ → Outcome
+report form bytes = report_of_capture form (capture_of bytes)
 
 -- the lines of the whole records in the first bytes of a capture
-abbrev pub lines_so_far : Printing → List ℕ → List ℕ
-lines_so_far printing bytes = lines_of_records printing (whole_records bytes)
+abbrev pub lines_so_far : ReportForm → List ℕ → List ℕ
+lines_so_far form bytes = lines_of_records form (whole_records bytes)
 
 -- the report of the named capture, of which the lines of the whole records are printed while it is
 -- read
-abbrev pub reported : Printing → List ℕ → Plan Outcome
-reported printing name =
-    Read name (lines_so_far printing) (λ bytes. Give (report printing bytes))
+abbrev pub reported : ReportForm → List ℕ → Plan Outcome
+reported form name =
+    Read name (lines_so_far form) (λ bytes. Give (report form bytes))

@@ -10,6 +10,7 @@ use Rattle.rule_set.specs.Rule.{RuleView}
 use Rattle.rule_set.specs.Winner.{userdata_at, winner}
 use Rattle.flat_table.specs.Table.{TableView}
 use Rattle.flat_table.specs.Walk.{joined, table_verdict}
+use Rattle.acl_report.specs.declared.packet.TheConstants.{MAX_VERDICTS}
 use Rattle.classbench_reader.specs.declared.rule_file.RuleFile.{RuleFile}
 use Rattle.classbench_reader.specs.RuleFile.{RuleLists}
 
@@ -54,13 +55,9 @@ pub record IsKey (family : Family) (key : List ℕ) : Type 0 where
   pub bytes : All (λ byte. byte < 256) key
   pub len : length key ≡ key_len_of_family family
 
--- how many categories there are
-abbrev pub all_categories : ℕ
-all_categories = 16
-
 -- The classifier answers for each key and category as the tables do.
 abbrev pub AnswersAs : Classifier → Tables → Type 0
 AnswersAs classifier tables =
     (family : Family) (key : List ℕ) (category : ℕ) → IsKey family key →
-    category < all_categories →
+    category < MAX_VERDICTS →
     answer_of classifier family key category ≡ answer_of (ByTables tables) family key category

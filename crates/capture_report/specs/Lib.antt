@@ -1,10 +1,11 @@
 pub mod Packet
 pub mod Classifier
-pub mod Printing
+pub mod ReportForm
 pub mod Report
+pub mod NextRecord
 pub mod Taken
 pub mod CaptureOutcome
-pub mod Prints
+pub mod PrintsCapture
 pub mod Streams
 pub mod Batch
 pub mod Rooms

@@ -18,7 +18,7 @@ use Rattle.acl_report.specs.Packet.{packet_text}
 use Rattle.acl_report.specs.Tables.{table_text, transitions_text}
 use Rattle.capture_report.specs.Packet.{packet_of}
 use Rattle.capture_report.specs.Classifier.{Tables, answer_of}
-use Rattle.capture_report.specs.Printing.{Printing}
+use Rattle.capture_report.specs.ReportForm.{ReportForm}
 
 -- what is shown of an answer: where there is none the digit 0, and a dash where marks are asked for
 abbrev pub shown : Bool → Option ℕ → Option ℕ
@@ -27,32 +27,32 @@ shown true None = None
 shown false None = Some 0
 
 -- what is shown of a key of the family, from category 0 on
-abbrev pub answers_of : Printing → Family → List ℕ → List (Option ℕ)
-answers_of printing family key =
-    map (λ category. shown printing.marks (answer_of printing.classifier family key category))
-    (range_with_len 0 printing.categories)
+abbrev pub answers_of : ReportForm → Family → List ℕ → List (Option ℕ)
+answers_of form family key =
+    map (λ category. shown form.marks (answer_of form.classifier family key category))
+    (range_with_len 0 form.categories)
 
 -- the same of the key of a class: a frame without a packet has none
-abbrev pub answers_on : Class → Printing → List ℕ → List (Option ℕ)
-answers_on Ip4 printing key = answers_of printing family.Ip4 key
-answers_on Ip6 printing key = answers_of printing family.Ip6 key
-answers_on Other printing key = []
-answers_on Short printing key = []
+abbrev pub answers_on : Class → ReportForm → List ℕ → List (Option ℕ)
+answers_on Ip4 form key = answers_of form family.Ip4 key
+answers_on Ip6 form key = answers_of form family.Ip6 key
+answers_on Other form key = []
+answers_on Short form key = []
 
 -- the line of a packet: its number, its class, and what each category says
-abbrev pub line_of_packet : Printing → ℕ → FrameClass → List ℕ
-line_of_packet printing number packet =
-    packet_text number packet.class (answers_on packet.class printing packet.key)
+abbrev pub line_of_packet : ReportForm → ℕ → FrameClass → List ℕ
+line_of_packet form number packet =
+    packet_text number packet.class (answers_on packet.class form packet.key)
 
 -- a line for each packet, of which the first has the number
-abbrev pub lines_of_packets : Printing → ℕ → List FrameClass → List ℕ
-lines_of_packets printing number [] = []
-lines_of_packets printing number (packet ∷ packets) =
-    line_of_packet printing number packet ++ lines_of_packets printing (number + 1) packets
+abbrev pub lines_of_packets : ReportForm → ℕ → List FrameClass → List ℕ
+lines_of_packets form number [] = []
+lines_of_packets form number (packet ∷ packets) =
+    line_of_packet form number packet ++ lines_of_packets form (number + 1) packets
 
 -- a line for each record, numbered from 1
-abbrev pub lines_of_records : Printing → List CaptureRecord → List ℕ
-lines_of_records printing records = lines_of_packets printing 1 (map packet_of records)
+abbrev pub lines_of_records : ReportForm → List CaptureRecord → List ℕ
+lines_of_records form records = lines_of_packets form 1 (map packet_of records)
 
 -- the classes of packets
 abbrev pub classes_of : List FrameClass → List Class
@@ -68,20 +68,20 @@ counted_all [] counts = counts
 counted_all (packet ∷ packets) counts = counted_all packets (counted packet.class counts)
 
 -- how many transitions the key of a class takes, over all tries of its family
-abbrev pub steps_on : Class → Tables → List ℕ → ℕ
-steps_on Ip4 tables key = key_steps tables.ip4 key
-steps_on Ip6 tables key = key_steps tables.ip6 key
-steps_on Other tables key = 0
-steps_on Short tables key = 0
+abbrev pub transitions_on : Class → Tables → List ℕ → ℕ
+transitions_on Ip4 tables key = key_steps tables.ip4 key
+transitions_on Ip6 tables key = key_steps tables.ip6 key
+transitions_on Other tables key = 0
+transitions_on Short tables key = 0
 
 -- how many transitions packets take
-abbrev pub steps_of_packets : Tables → List FrameClass → ℕ
-steps_of_packets tables packets =
-    sum_by (λ packet. steps_on packet.class tables packet.key) packets
+abbrev pub transitions_of_packets : Tables → List FrameClass → ℕ
+transitions_of_packets tables packets =
+    sum_by (λ packet. transitions_on packet.class tables packet.key) packets
 
 -- how many transitions the packets of records take
-abbrev pub steps_of_records : Tables → List CaptureRecord → ℕ
-steps_of_records tables records = steps_of_packets tables (map packet_of records)
+abbrev pub transitions_of_records : Tables → List CaptureRecord → ℕ
+transitions_of_records tables records = transitions_of_packets tables (map packet_of records)
 
 -- how many words a table has, those of its rows counted
 abbrev pub words_of : TableView → ℕ
@@ -93,13 +93,14 @@ line_of_table family table = table_text family table.rules (length table.roots) 
 
 -- the lines of both tables, and that of so many transitions
 abbrev pub stats_text : Tables → ℕ → List ℕ
-stats_text tables steps =
+stats_text tables transitions =
     line_of_table family.Ip4 tables.ip4 ++ line_of_table family.Ip6 tables.ip6
-    ++ transitions_text steps
+    ++ transitions_text transitions
 
 -- the same where it is asked for
-abbrev pub stats_of : Printing → ℕ → List ℕ
-stats_of printing steps = if printing.stats then stats_text printing.tables steps else []
+abbrev pub stats_of : ReportForm → ℕ → List ℕ
+stats_of form transitions =
+    if form.stats then stats_text form.tables transitions else []
 
 -- how many lines end in a text
 abbrev pub lines_in : List ℕ → ℕ

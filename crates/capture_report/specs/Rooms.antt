@@ -2,7 +2,7 @@
 use Rattle.std.specs.Prelude.{◌≡◌, ℕ, vec_len}
 use Rattle.std.specs.declared.vec.Vec.{Vec}
 use Rattle.std.specs.declared.alloc.Global.{Global}
-use Rattle.capture_report.specs.declared.walked.TheConstants.{BATCH_KEYS, BATCH_VERDICTS}
+use Rattle.capture_report.specs.declared.verdicts.TheConstants.{BATCH_KEYS, BATCH_VERDICTS}
 use Rattle.capture_report.specs.declared.room.TheConstants.{BATCH_LINES}
 
 -- There is room for the keys, the verdicts and the lines of the packets of a batch.

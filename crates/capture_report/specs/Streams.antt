@@ -1,24 +1,24 @@
--- What the printing of a capture changes of the outside, from the end of its file header on.
+-- What printing a capture changes of the outside, from the end of its file header on.
 use Rattle.std.specs.Prelude.{◌≡◌, ℕ, ◌+◌, ◌≤◌, ◌⊎◌, List, ◌++◌, length, map, All, Option, ⊤}
 use Rattle.acl_outside.specs.Fault.{Rose}
 use Rattle.acl_outside.specs.Heard.{Ending, NotOpened, GoesOn, Ended, BrokenOff}
 use Rattle.acl_outside.specs.Reading.{ReadsOn}
 use Rattle.acl_outside.specs.Sink.{SinkView, Gains}
 use Rattle.pcap_reader.specs.declared.fault.CaptureFault.{CaptureFault}
-use Rattle.pcap_reader.specs.declared.start.Start.{Start}
-use Rattle.pcap_reader.specs.Capture.{CaptureRecord, records_behind}
+use Rattle.pcap_reader.specs.Capture.{CaptureRecord}
 use Rattle.pcap_reader.specs.Fill.{KeepsReading, IsAtEnd}
+use Rattle.pcap_reader.specs.Reader.{CaptureState}
 use Rattle.command_plan.specs.declared.status.Status.{Status}
 use Rattle.command_plan.specs.declared.status.Status.TheVariants.{ReadFault, WriteFault}
 use Rattle.capture_report.specs.Packet.{IsPacket, packet_of}
-use Rattle.capture_report.specs.Printing.{Printing}
-use Rattle.capture_report.specs.Report.{lines_of_records, lines_in, steps_of_records}
-use Rattle.capture_report.specs.Taken.{max_batch, stands, AreAll}
+use Rattle.capture_report.specs.ReportForm.{ReportForm}
+use Rattle.capture_report.specs.Report.{lines_of_records, lines_in, transitions_of_records}
+use Rattle.capture_report.specs.Taken.{max_batch, stands, AreAll, AreWhole}
 use Rattle.capture_report.specs.CaptureOutcome.{status_of_fault, text_of_records}
 use Rattle.command_plan.specs.Follow.{IsOpened}
 use Rattle.command_plan.specs.Effects.{Outside}
 
--- How far the reading came: to the ending of the capture, behind these records, or behind these
+-- How far the reading came: to the ending of the capture, after these records, or after these
 -- whole records.
 pub data Reading : Type 0 where
   Whole : (records : List CaptureRecord) → (fault : Option CaptureFault) → Reading
@@ -30,9 +30,9 @@ records_read (Whole records fault) = records
 records_read (Part records) = records
 
 -- what is printed of it
-abbrev pub text_of : Printing → Reading → List ℕ
-text_of printing (Whole records fault) = text_of_records printing records fault
-text_of printing (Part records) = lines_of_records printing records
+abbrev pub text_of : ReportForm → Reading → List ℕ
+text_of form (Whole records fault) = text_of_records form records fault
+text_of form (Part records) = lines_of_records form records
 
 -- the end of the file was met, or more of it may come
 abbrev pub IsUnbroken : Ending → Type 0
@@ -41,11 +41,11 @@ IsUnbroken GoesOn = ⊤
 IsUnbroken Ended = ⊤
 IsUnbroken BrokenOff = ⊥
 
--- the bytes say so
-abbrev pub AreRead : Start → List ℕ → Ending → Reading → Type 0
-AreRead start given ending (Whole records fault) =
-    IsUnbroken ending × AreAll start 0 given ending records fault
-AreRead start given ending (Part records) = (records_behind start 0 given).records ≡ records
+-- the bytes that were given in this state of the reader say so
+abbrev pub AreRead : CaptureState → List ℕ → Ending → Reading → Type 0
+AreRead state given ending (Whole records fault) =
+    IsUnbroken ending × AreAll state given ending records fault
+AreRead state given ending (Part records) = AreWhole state given records
 
 -- the status that comes with it, unless the sink failed
 abbrev pub IsStatus : Ending → Reading → Status → Type 0
@@ -61,8 +61,9 @@ pub record BreaksOffSoon (text : List ℕ) (records : ℕ) (old new : SinkView) 
   pub few : records ≤ lines_in put + max_batch
   pub rose : Rose old.faults new.faults
 
--- The records were read and printed, as far as the status says.
-pub record Streams (printing : Printing) (start : Start) (old new : Outside)
+-- The records that follow from a state of the reader were read and printed, as far as the status
+-- says.
+pub record Streams (form : ReportForm) (state : CaptureState) (old new : Outside)
     (status : Status) : Type 0 where
   pub given : List ℕ
   pub ending : Ending
@@ -71,11 +72,11 @@ pub record Streams (printing : Printing) (start : Start) (old new : Outside)
   pub reads : ReadsOn (stands ending) given old.desk new.desk
   pub at_end : ending ≡ Ended → IsAtEnd new.desk
   pub keeps : KeepsReading old.desk new.desk
-  pub bytes : AreRead start given ending read
+  pub bytes : AreRead state given ending read
   pub packets : All IsPacket (map packet_of (records_read read))
-  pub answer : (IsStatus ending read status × Gains (text_of printing read) old.out new.out)
+  pub answer : (IsStatus ending read status × Gains (text_of form read) old.out new.out)
       ⊎ ((status ≡ WriteFault)
-      × BreaksOffSoon (text_of printing read) (length (records_read read)) old.out new.out)
+      × BreaksOffSoon (text_of form read) (length (records_read read)) old.out new.out)
   pub read_fault : status ≡ ReadFault → Rose old.desk.read_faults new.desk.read_faults
-  pub steps : new.steps ≡ old.steps + steps_of_records printing.tables (records_read read)
+  pub steps : new.steps ≡ old.steps + transitions_of_records form.tables (records_read read)
   pub count : old.out.faults ≤ new.out.faults

@@ -1,8 +1,7 @@
 //! Records of a capture, at most 64 at a time, as their packets.
 
-ghost use Rattle.std.specs.Prelude.{◌≡◌, ◌+◌, ◌<◌, IsTrue, length};
-ghost use Rattle.pcap_reader.specs.Reader.{begun, state_of};
-ghost use Rattle.pcap_reader.specs.declared.progress.Progress.TheVariants as progress;
+ghost use Rattle.std.specs.Prelude.{◌<◌, IsTrue, length};
+ghost use Rattle.capture_report.specs.NextRecord.{MayGoOn};
 ghost use Rattle.capture_report.specs.Taken.{TakesBatch, TakesRecord, max_batch};
 
 use crate::packets::Packets;
@@ -19,7 +18,7 @@ pub enum BatchEnd {
     Full,
     /// The capture has no more records.
     End,
-    /// The capture has a fault behind its records, or can't be read.
+    /// The capture has a fault after its records, or can't be read.
     Fault(CaptureFault),
 }
 
@@ -28,12 +27,9 @@ pub enum BatchEnd {
 /// The packets that were there before are dropped.
 pub fn take_batch<D: Desk>(capture: &mut Capture, desk: &mut D, packets: &mut Packets) -> BatchEnd
     requires reading { IsTrue (D.view desk.old).reading }
-    requires state { capture.old.progress ≡ progress.Reading }
-    ensures batch { TakesBatch capture.old.start capture.old.count packets.new
+    requires state { MayGoOn capture.old }
+    ensures batch { TakesBatch capture.old capture.new packets.new
         (D.view desk.old) (D.view desk.new) result }
-    ensures state { result ≡ BatchEnd.Full
-        → capture.new ≡ state_of capture.old.start
-        (capture.old.count + max_batch) progress.Reading }
 {
     packets.clear();
     while packets.len() < MAX_BATCH {
@@ -45,14 +41,16 @@ pub fn take_batch<D: Desk>(capture: &mut Capture, desk: &mut D, packets: &mut Pa
     BatchEnd::Full
 }
 
-/// Takes the next record behind the others, or says why there is none.
+/// Takes the next record with its link after the others, or says why there is none.
+///
+/// It alone asks the reader: for a second format of captures it changes, and what is above stays.
 fn take_record<D: Desk>(
     capture: &mut Capture,
     desk: &mut D,
     packets: &mut Packets,
 ) -> Option<BatchEnd>
     requires reading { IsTrue (D.view desk.old).reading }
-    requires state { capture.old.progress ≡ progress.Reading }
+    requires state { MayGoOn capture.old }
     requires room { length packets.old < max_batch }
     ensures takes { TakesRecord capture.old capture.new packets.old packets.new
         (D.view desk.old) (D.view desk.new) result }

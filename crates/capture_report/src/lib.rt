@@ -4,21 +4,24 @@
 //!
 //! | module | what it holds |
 //! |---|---|
-//! | `print` | the loop over the batches of a capture |
-//! | `printing` | the tables that answer, and how their answers are shown |
+//! | `capture` | the report of a named capture |
+//! | `conductor` | the loop over its batches: take records, walk their keys, put their lines |
+//! | `form` | the tables that answer, and how their answers are shown |
 //! | `batch`, `packets`, `packet` | the records of a batch, as their packets |
-//! | `room`, `walked` | room for a batch, and the walks of its keys |
+//! | `verdicts` | the verdicts on the packets of a family |
 //! | `lines` | the lines of packets, and those after them |
+//! | `room` | the memory of a batch |
 #![tactic(auto)]
 
 mod batch;
+mod capture;
+mod conductor;
+mod form;
 mod lines;
 mod packet;
 mod packets;
-mod print;
-mod printing;
 mod room;
-mod walked;
+mod verdicts;
 
-pub use print::print_packets;
-pub use printing::PrintOptions;
+pub use capture::print_packets;
+pub use form::PrintOptions;

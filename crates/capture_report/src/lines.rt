@@ -1,4 +1,4 @@
-//! The lines of packets, one behind the other, and those behind them.
+//! The lines of packets, one after the other, and those after them.
 
 ghost use Rattle.std.specs.Prelude.{◌≡◌, ◌+◌, ◌*◌, ◌≤◌, ◌++◌, [], length, take};
 ghost use Rattle.acl_report.specs.declared.line.TheConstants.{LINE_ROOM};
@@ -11,8 +11,8 @@ ghost use Rattle.capture_report.specs.Report.{lines_of_packets};
 ghost use Rattle.capture_report.specs.CaptureOutcome.{last_text};
 ghost use Rattle.capture_report.specs.Batch.{AreAnswered, AreNext, verdicts_on};
 
+use crate::form::FormByTables;
 use crate::packet::Packet;
-use crate::printing::Printer;
 use acl_report::{Counts, LINE_ROOM, packet_line, packets_line, table_line, transitions_line};
 use field_defs::Family;
 use flat_table::Table;
@@ -21,11 +21,11 @@ use header_extract::Class;
 /// Writes the lines of packets to the front of `lines`, counts the packets, and says how many bytes
 /// the lines have.
 ///
-/// The first has the number behind those that were counted. `ip4` and `ip6` have the verdicts on
+/// The first has the number after those that were counted. `ip4` and `ip6` have the verdicts on
 /// the packets of each family, in order. `lines` has [`LINE_ROOM`] bytes for each packet. It takes
 /// no memory.
 pub fn write_lines(
-    printer: &Printer<'_>,
+    form: &FormByTables<'_>,
     packets: &[Packet],
     mut ip4: &[u32],
     mut ip6: &[u32],
@@ -33,32 +33,32 @@ pub fn write_lines(
     lines: &mut [u8],
 ) -> usize
     requires next { AreNext counts.old packets.now }
-    requires answered { AreAnswered printer.now packets.now ip4.now ip6.now }
+    requires answered { AreAnswered form.now packets.now ip4.now ip6.now }
     requires room { length packets.now * LINE_ROOM ≤ length lines.old }
     ensures within { result ≤ length lines.old }
     ensures lines { take result lines.new
-        ≡ lines_of_packets printer.now (counts.old.packets + 1) packets.now }
+        ≡ lines_of_packets form.now (counts.old.packets + 1) packets.now }
     ensures counts { counts.new ≡ counted_all packets.now counts.old }
     ensures len { length lines.new ≡ length lines.old }
 {
-    let count = printer.categories().count();
+    let count = form.categories().count();
     let mut end = 0;
     for packet in packets {
         // Each class has a call of its own, in which what depends on the class is settled.
         let class = packet.class();
         match class {
             Class::Ip4 => {
-                let (verdicts, behind) = ip4.split_at(count);
-                ip4 = behind;
-                end = write_line(printer, packet, class, verdicts, counts, lines, end);
+                let (verdicts, rest) = ip4.split_at(count);
+                ip4 = rest;
+                end = write_line(form, packet, class, verdicts, counts, lines, end);
             }
             Class::Ip6 => {
-                let (verdicts, behind) = ip6.split_at(count);
-                ip6 = behind;
-                end = write_line(printer, packet, class, verdicts, counts, lines, end);
+                let (verdicts, rest) = ip6.split_at(count);
+                ip6 = rest;
+                end = write_line(form, packet, class, verdicts, counts, lines, end);
             }
             Class::Other | Class::Short => {
-                end = write_line(printer, packet, class, &[], counts, lines, end)
+                end = write_line(form, packet, class, &[], counts, lines, end)
             }
         }
     }
@@ -66,10 +66,10 @@ pub fn write_lines(
 }
 
 /// Writes the line of a packet of the class at the place `at`, counts the packet, and gives the
-/// place behind the line.
+/// place after the line.
 #[inline(always)]
 fn write_line(
-    printer: &Printer<'_>,
+    form: &FormByTables<'_>,
     packet: &Packet,
     class: Class,
     verdicts: &[u32],
@@ -80,30 +80,30 @@ fn write_line(
     requires fit { CountsFit counts.old }
     requires packet { IsPacket packet.now }
     requires class { class ≡ packet.now.class }
-    requires verdicts { verdicts.now ≡ verdicts_on packet.now.class printer.now packet.now.key }
+    requires verdicts { verdicts.now ≡ verdicts_on packet.now.class form.now packet.now.key }
     requires few { length verdicts.now ≤ MAX_VERDICTS }
     requires room { at + LINE_ROOM ≤ length lines.old }
     ensures end { result ≤ at + LINE_ROOM }
     ensures lines { take result lines.new
-        ≡ take at lines.old ++ line_of_packet printer.now (counts.old.packets + 1) packet.now }
+        ≡ take at lines.old ++ line_of_packet form.now (counts.old.packets + 1) packet.now }
     ensures len { length lines.new ≡ length lines.old }
     ensures counts { counts.new ≡ counted packet.now.class counts.old }
 {
     counts.add(class);
-    match printer.no_dashes() {
+    match form.no_dashes() {
         Some(dashes) => {
             let dashes = &dashes[..verdicts.len()];
             at + write_front(counts.packets, class, verdicts, dashes, &mut lines[at..])
         }
-        None => write_marked(printer, packet, class, verdicts, counts.packets, lines, at),
+        None => write_marked(form, packet, class, verdicts, counts.packets, lines, at),
     }
 }
 
 /// Writes the line of a packet of the class and this number at the place `at`, with a dash where no
-/// rule matches, if marks are asked for, and gives the place behind the line.
+/// rule matches, if marks are asked for, and gives the place after the line.
 #[inline(never)]
 fn write_marked(
-    printer: &Printer<'_>,
+    form: &FormByTables<'_>,
     packet: &Packet,
     class: Class,
     verdicts: &[u32],
@@ -113,15 +113,15 @@ fn write_marked(
 ) -> usize
     requires packet { IsPacket packet.now }
     requires class { class ≡ packet.now.class }
-    requires verdicts { verdicts.now ≡ verdicts_on packet.now.class printer.now packet.now.key }
+    requires verdicts { verdicts.now ≡ verdicts_on packet.now.class form.now packet.now.key }
     requires few { length verdicts.now ≤ MAX_VERDICTS }
     requires room { at + LINE_ROOM ≤ length lines.old }
     ensures end { result ≤ at + LINE_ROOM }
     ensures lines { take result lines.new
-        ≡ take at lines.old ++ line_of_packet printer.now number packet.now }
+        ≡ take at lines.old ++ line_of_packet form.now number packet.now }
     ensures len { length lines.new ≡ length lines.old }
 {
-    let dashes = printer.dashes(packet);
+    let dashes = form.dashes(packet);
     let dashes = &dashes[..verdicts.len()];
     at + write_front(number, class, verdicts, dashes, &mut lines[at..])
 }
@@ -149,29 +149,34 @@ fn write_front(
     }
 }
 
-/// Writes the lines behind those of a whole capture to the front of `lines`, which has room for
+/// Writes the lines after those of a whole capture to the front of `lines`, which has room for
 /// four, and says how many bytes they have.
 ///
 /// They are the line of the counts and, where they are asked for, those of the tables and of the
 /// transitions. It takes no memory.
-pub fn write_last(printer: &Printer<'_>, counts: &Counts, taken: u64, lines: &mut [u8]) -> usize
+pub fn write_last(
+    form: &FormByTables<'_>,
+    counts: &Counts,
+    transitions: u64,
+    lines: &mut [u8],
+) -> usize
     requires room { 4 * LINE_ROOM ≤ length lines.old }
     ensures within { result ≤ length lines.old }
-    ensures lines { take result lines.new ≡ last_text printer.now counts.now taken }
+    ensures lines { take result lines.new ≡ last_text form.now counts.now transitions }
 {
     let mut line = [0; LINE_ROOM];
     let len = packets_line(counts, &mut line);
     let end = put_at(lines, 0, &line[..len]);
-    if !printer.has_stats() {
+    if !form.has_stats() {
         return end;
     }
-    let end = write_table(Family::Ip4, printer.table(Family::Ip4), lines, end);
-    let end = write_table(Family::Ip6, printer.table(Family::Ip6), lines, end);
-    let len = transitions_line(taken, &mut line);
+    let end = write_table(Family::Ip4, form.table(Family::Ip4), lines, end);
+    let end = write_table(Family::Ip6, form.table(Family::Ip6), lines, end);
+    let len = transitions_line(transitions, &mut line);
     put_at(lines, end, &line[..len])
 }
 
-/// Writes the line of a table at the place `at`, and gives the place behind it.
+/// Writes the line of a table at the place `at`, and gives the place after it.
 fn write_table(family: Family, table: &Table, lines: &mut [u8], at: usize) -> usize
     requires room { at + LINE_ROOM ≤ length lines.old }
     ensures end { result ≤ at + LINE_ROOM }
@@ -184,7 +189,7 @@ fn write_table(family: Family, table: &Table, lines: &mut [u8], at: usize) -> us
     put_at(lines, at, &line[..len])
 }
 
-/// Writes bytes at the place `at`, and gives the place behind them.
+/// Writes bytes at the place `at`, and gives the place after them.
 #[inline]
 pub fn put_at(into: &mut [u8], at: usize, bytes: &[u8]) -> usize
     requires room { at + length bytes.now ≤ length into.old }

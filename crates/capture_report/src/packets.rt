@@ -67,7 +67,7 @@ impl Packets {
         &self.slots[..self.len]
     }
 
-    /// Puts the packet of a frame behind the others, of which there are fewer than 64. It takes no
+    /// Puts the packet of a frame after the others, of which there are fewer than 64. It takes no
     /// memory.
     #[inline]
     pub fn add(&mut self, link: Link, frame: &[u8])

@@ -1,4 +1,4 @@
--- The words behind `bench`: a seed, a number of rules and a number of packets.
+-- The words after `bench`: a seed, a number of rules and a number of packets.
 use Rattle.std.specs.Prelude.{ℕ, ◌+◌, ◌^◌, ◌-◌, nat_le, List, length, slice_get, Option, Some, None}
 use Rattle.std.specs.Prelude.{Result, Ok, Err, if◌then◌else◌}
 use Rattle.std.specs.Option.{ok_or}
@@ -33,17 +33,17 @@ number_or_fault number greatest (Some word) =
     ok_or (lawful (λ value. nat_le value greatest) (number_in word))
     (record { word = number; kind = BadValue })
 
--- the same of the word at a place behind the command, which is word 1
+-- the same of the word at a place after the command, which is word 1
 abbrev pub number_at : List (List ℕ) → ℕ → ℕ → Result ℕ UsageFault
 number_at words place greatest = number_or_fault (place + 2) greatest (slice_get words place)
 
--- the numbers, where no word stands behind them: the command has no options
+-- the numbers, where no word stands after them: the command has no options
 abbrev pub alone : List (List ℕ) → BenchNumbers → Result BenchNumbers UsageFault
 alone words numbers =
     if nat_le (length words) 3 then Ok numbers
     else Err (record { word = 5; kind = UnknownOption })
 
--- the words behind the command, from left to right
+-- the words after the command, from left to right
 abbrev pub numbers_of : List (List ℕ) → Result BenchNumbers UsageFault
 numbers_of words = do
   seed ← number_at words 0 greatest_seed

@@ -4,10 +4,12 @@ use Rattle.std.specs.Prelude.{replicate, codes, refl}
 use Rattle.command_words.specs.declared.fault.UsageKind.TheVariants.{MissingCommand, UnknownCommand}
 use Rattle.command_words.specs.declared.fault.UsageKind.TheVariants.{MissingName, UnknownOption}
 use Rattle.command_words.specs.declared.fault.UsageKind.TheVariants.{RepeatedOption, BadValue}
+use Rattle.command_words.specs.declared.allowed.Allowed.{Allowed}
 use Rattle.command_words.specs.Options.{Options, none_given, settled_options, number_in, budget_in}
-use Rattle.command_words.specs.Command.{Classify, command, fault_at}
+use Rattle.command_words.specs.Options.{with_option}
+use Rattle.command_words.specs.Command.{Classify, command, fault_at, options_from}
 
--- `classify r c` with these words behind it
+-- `classify r c` with these words after it
 abbrev classify_with : List (List ℕ) → List (List ℕ)
 classify_with options = codes "classify" ∷ codes "r" ∷ codes "c" ∷ options
 
@@ -91,6 +93,30 @@ a_repeated_option = refl
 two_faults : command (classify_with (codes "categories=x" ∷ codes "categories=4" ∷ []))
     ≡ Err (fault_at 4 BadValue)
 two_faults = refl
+
+-- a command that allows `max-words=` alone
+abbrev budget_only : Allowed
+budget_only = record { categories = false; max_words = true; stats = false; marks = false }
+
+the_allowed_option : options_from budget_only 4 none_given (codes "max-words=15" ∷ [])
+    ≡ Ok (record usual { max_words = 15 })
+the_allowed_option = refl
+
+-- to such a command every other option is unknown, whatever its value
+the_others : map (with_option budget_only none_given)
+    (codes "categories=4" ∷ codes "stats=on" ∷ codes "marks=x" ∷ codes "depth=1" ∷ [])
+    ≡ Err UnknownOption ∷ Err UnknownOption ∷ Err UnknownOption ∷ Err UnknownOption ∷ []
+the_others = refl
+
+-- unknown comes before repeated, and repeated before a bad value
+another_after_it : options_from budget_only 4 none_given
+    (codes "max-words=15" ∷ codes "stats=on" ∷ codes "max-words=0" ∷ [])
+    ≡ Err (fault_at 5 UnknownOption)
+another_after_it = refl
+
+it_again : options_from budget_only 4 none_given (codes "max-words=15" ∷ codes "max-words=0" ∷ [])
+    ≡ Err (fault_at 5 RepeatedOption)
+it_again = refl
 
 budgets : map budget_in
     (codes "0" ∷ codes "1" ∷ codes "67108864" ∷ codes "67108865" ∷ codes "" ∷ codes "-1" ∷ [])

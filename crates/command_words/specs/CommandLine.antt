@@ -20,7 +20,7 @@ options_of options = record {
   marks = options.marks;
 }
 
--- the numbers behind `bench`
+-- the numbers after `bench`
 abbrev pub numbers_in : numbers.BenchNumbers → BenchNumbers
 numbers_in asked = record { seed = asked.seed; rules = asked.rules; packets = asked.packets }
 

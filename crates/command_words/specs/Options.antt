@@ -4,7 +4,9 @@ use Rattle.std.specs.Prelude.{nat_le, Option, Some, None, Result, Ok, Err, codes
 use Rattle.std.specs.Option.{unwrap_or}
 use Rattle.std.specs.Str.{bytes_eq}
 use Rattle.rule_set.specs.Categories.{is_count_of_categories}
+use Rattle.flat_table.specs.Sound.{most_words}
 use Rattle.text_scan.specs.Digits.{are_digits, place_value}
+use Rattle.command_words.specs.declared.allowed.Allowed.{Allowed}
 use Rattle.command_words.specs.declared.fault.UsageKind.{UsageKind}
 use Rattle.command_words.specs.declared.fault.UsageKind.TheVariants.{UnknownOption, RepeatedOption}
 use Rattle.command_words.specs.declared.fault.UsageKind.TheVariants.{BadValue}
@@ -63,13 +65,9 @@ lawful test (Some number) = if test number then Some number else None
 abbrev pub categories_in : List ℕ → Option ℕ
 categories_in text = lawful is_count_of_categories (number_in text)
 
--- the greatest budget, which is the greatest number of words that a table may have
-abbrev pub greatest_budget : ℕ
-greatest_budget = 67108864
-
--- a lawful budget
+-- a lawful budget: at most as many words as a table may have
 abbrev pub is_budget : ℕ → Bool
-is_budget words = nat_le 1 words && nat_le words greatest_budget
+is_budget words = nat_le 1 words && nat_le words most_words
 
 -- the budget that a text is: a number of words
 abbrev pub budget_in : List ℕ → Option ℕ
@@ -97,7 +95,7 @@ adds with_value (Err kind) = Err kind
 abbrev pub begins_with : List ℕ → List ℕ → Bool
 begins_with text word = bytes_eq (take (length text) word) text
 
--- what stands behind the name of an option and its `=`
+-- what stands after the name of an option and its `=`
 abbrev pub value_of : List ℕ → List ℕ → List ℕ
 value_of name word = drop (length name) word
 
@@ -117,19 +115,24 @@ stats_option = codes "stats="
 abbrev pub marks_option : List ℕ
 marks_option = codes "marks="
 
--- the options with one word more: the table of the options, one after the other
-abbrev pub with_option : Given → List ℕ → Result Given UsageKind
-with_option given word =
-    if begins_with categories_option word
+-- the options of `classify`: all that there are
+abbrev pub for_classify : Allowed
+for_classify = record { categories = true; max_words = true; stats = true; marks = true }
+
+-- the options with one word more: the table of the options, one after the other, of which a command
+-- allows some; any other is unknown to it
+abbrev pub with_option : Allowed → Given → List ℕ → Result Given UsageKind
+with_option allowed given word =
+    if allowed.categories && begins_with categories_option word
     then adds (λ count. record given { categories = Some count })
     (once given.categories (categories_in (value_of categories_option word)))
-    else if begins_with max_words_option word
+    else if allowed.max_words && begins_with max_words_option word
     then adds (λ words. record given { max_words = Some words })
     (once given.max_words (budget_in (value_of max_words_option word)))
-    else if begins_with stats_option word
+    else if allowed.stats && begins_with stats_option word
     then adds (λ chosen. record given { stats = Some chosen })
     (once given.stats (choice_in (value_of stats_option word)))
-    else if begins_with marks_option word
+    else if allowed.marks && begins_with marks_option word
     then adds (λ chosen. record given { marks = Some chosen })
     (once given.marks (choice_in (value_of marks_option word)))
     else Err UnknownOption

@@ -1,4 +1,4 @@
-//! The words behind `bench`: three numbers.
+//! The words after `bench`: three numbers.
 
 ghost use Rattle.std.specs.Prelude.{◌≡◌, ◌≤◌, IfOk, IfErr, Ok, Err, map, string_bytes};
 ghost use Rattle.command_words.specs.BenchWords.{number_at, numbers_of};
@@ -9,7 +9,7 @@ use crate::fault::{UsageFault, UsageKind};
 use crate::options::number_in;
 use workload_gen::MAX_WORKLOAD_RULES;
 
-/// The numbers of the words behind the command, or the first fault from the left. It takes no
+/// The numbers of the words after the command, or the first fault from the left. It takes no
 /// memory.
 pub fn read_numbers(words: &[String]) -> Result<BenchNumbers, UsageFault>
     ensures numbers { IfOk result

@@ -1,26 +1,27 @@
 //! How many words a table may have.
 
 ghost use Rattle.std.specs.Prelude.{◌≡◌, ◌<◌, ◌≤◌, ◌↔◌, IsTrue, IsSome, IfSome};
-ghost use Rattle.command_words.specs.Options.{greatest_budget, is_budget};
+ghost use Rattle.flat_table.specs.Sound.{most_words};
+ghost use Rattle.command_words.specs.Options.{is_budget};
 
-/// The greatest budget, which is the greatest number of words that a table may have.
-const GREATEST_BUDGET: u64 = 67_108_864;
+use flat_table::MAX_WORDS;
 
 /// How many words of 64 bits the table of each family may have.
 #[derive(Clone, Copy, Debug)]
 pub struct Budget {
     words: u64,
     ghost some: { 0 < words },
-    ghost bound: { words ≤ greatest_budget },
+    /// A table never has more.
+    ghost bound: { words ≤ most_words },
 }
 
 impl Budget {
-    /// So many words, and None where they aren't from 1 to 67,108,864. It takes no memory.
+    /// So many words, and None where they aren't from 1 to [`MAX_WORDS`]. It takes no memory.
     pub fn new(words: u64) -> Option<Budget>
         ensures some { IsSome result ↔ IsTrue (is_budget words) }
         ensures words { IfSome result (λ budget. budget.words ≡ words) }
     {
-        if 1 <= words && words <= GREATEST_BUDGET {
+        if 1 <= words && words <= MAX_WORDS as u64 {
             Some(Budget { words })
         } else {
             None
@@ -31,7 +32,7 @@ impl Budget {
     pub fn words(&self) -> u64
         ensures value { result ≡ self.now.words }
         ensures some { 0 < result }
-        ensures bound { result ≤ greatest_budget }
+        ensures bound { result ≤ most_words }
     {
         self.words
     }

@@ -5,6 +5,7 @@ ghost use Rattle.command_words.specs.Options.{none_given};
 ghost use Rattle.command_words.specs.Command.{command, classify_of, options_from};
 ghost use Rattle.command_words.specs.CommandLine.{options_of, request_of};
 
+use crate::allowed::Allowed;
 use crate::bench_numbers::BenchNumbers;
 use crate::bench_words::read_numbers;
 use crate::fault::{UsageFault, UsageKind};
@@ -43,7 +44,7 @@ pub fn read_words(words: &[String]) -> Result<Request<'_>, UsageFault>
     }
 }
 
-/// The words behind `classify`.
+/// The words after `classify`.
 fn read_classify(words: &[String]) -> Result<Request<'_>, UsageFault>
     ensures request { IfOk result
         (λ request. classify_of (map string_bytes words.now) ≡ Ok (request_of request)) }
@@ -52,7 +53,7 @@ fn read_classify(words: &[String]) -> Result<Request<'_>, UsageFault>
     match words {
         [] => Err(fault_at(2, UsageKind::MissingName)),
         [_] => Err(fault_at(3, UsageKind::MissingName)),
-        [rules, capture, words @ ..] => match read_options(words) {
+        [rules, capture, words @ ..] => match read_options(words, Allowed::for_classify()) {
             Ok(options) => Ok(Request::Classify {
                 rules: rules.as_str(),
                 capture: capture.as_str(),
@@ -63,18 +64,19 @@ fn read_classify(words: &[String]) -> Result<Request<'_>, UsageFault>
     }
 }
 
-/// The options of the words behind the names.
-fn read_options(words: &[String]) -> Result<Options, UsageFault>
+/// The options of the words after the names of two files, of which the command allows these.
+fn read_options(words: &[String], allowed: Allowed) -> Result<Options, UsageFault>
     ensures options { IfOk result
-        (λ options. options_from FIRST_OPTION none_given (map string_bytes words.now)
+        (λ options. options_from allowed FIRST_OPTION none_given (map string_bytes words.now)
         ≡ Ok (options_of options)) }
     ensures fault { IfErr result
-        (λ fault. options_from FIRST_OPTION none_given (map string_bytes words.now) ≡ Err fault) }
+        (λ fault. options_from allowed FIRST_OPTION none_given (map string_bytes words.now)
+        ≡ Err fault) }
 {
     let mut given = Given::new();
     let mut number = FIRST_OPTION;
     for word in words {
-        match given.add(word.as_bytes()) {
+        match given.add(allowed, word.as_bytes()) {
             Ok(()) => number += 1,
             Err(kind) => return Err(fault_at(number, kind)),
         }

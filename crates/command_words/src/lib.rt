@@ -3,11 +3,13 @@
 //! | module | what it reads |
 //! |---|---|
 //! | `command_line` | a command and its names |
-//! | `options`, `budget` | the options of a command, and how many words a table may have |
+//! | `allowed` | which options a command allows |
+//! | `options`, `budget` | the options that are given, and how many words a table may have |
 //! | `bench_words`, `bench_numbers` | the words after `bench`: a seed, and how much it gives |
 //! | `fault` | what is wrong with a word |
 #![tactic(auto)]
 
+mod allowed;
 mod bench_numbers;
 mod bench_words;
 mod budget;

@@ -1,11 +1,13 @@
 //! The options of a command, and what words say of them.
 
-ghost use Rattle.std.specs.Prelude.{◌≡◌, ◌+◌, IfOk, IfErr, OnOk, Ok, Err};
+ghost use Rattle.std.specs.Prelude.{◌≡◌, ◌+◌, ◌&&◌, false, IfOk, IfErr, IfSome, IsTrue, OnOk};
+ghost use Rattle.std.specs.Prelude.{Ok, Err, None};
 ghost use Rattle.command_words.specs.Options.{none_given, settled_options, usual_words, number_in};
 ghost use Rattle.command_words.specs.Options.{categories_in, budget_in, choice_in, once};
-ghost use Rattle.command_words.specs.Options.{with_option};
+ghost use Rattle.command_words.specs.Options.{with_option, begins_with, value_of};
 ghost use Rattle.command_words.specs.CommandLine.{count_of, words_of, options_of, options_given};
 
+use crate::allowed::Allowed;
 use crate::budget::Budget;
 use crate::fault::UsageKind;
 use rule_set::Categories;
@@ -67,21 +69,22 @@ impl Given {
         }
     }
 
-    /// Takes one word more: the table of the options, one after the other.
+    /// Takes one word more: the table of the options, one after the other, of which the command
+    /// allows these.
     ///
     /// After a fault the options are of no use.
-    pub fn add(&mut self, word: &[u8]) -> Result<(), UsageKind>
+    pub fn add(&mut self, allowed: Allowed, word: &[u8]) -> Result<(), UsageKind>
         ensures more { OnOk result (options_given self.new ≡ options_given self.old + 1) }
-        ensures ok { OnOk result (with_option self.old word.now ≡ Ok self.new) }
-        ensures err { IfErr result (λ kind. with_option self.old word.now ≡ Err kind) }
+        ensures ok { OnOk result (with_option allowed self.old word.now ≡ Ok self.new) }
+        ensures err { IfErr result (λ kind. with_option allowed self.old word.now ≡ Err kind) }
     {
-        if let Some(value) = word.strip_prefix(b"categories=") {
+        if let Some(value) = value_of(allowed.categories, b"categories=", word) {
             self.categories = Some(once(self.categories, categories_in(value))?);
-        } else if let Some(value) = word.strip_prefix(b"max-words=") {
+        } else if let Some(value) = value_of(allowed.max_words, b"max-words=", word) {
             self.max_words = Some(once(self.max_words, budget_in(value))?);
-        } else if let Some(value) = word.strip_prefix(b"stats=") {
+        } else if let Some(value) = value_of(allowed.stats, b"stats=", word) {
             self.stats = Some(once(self.stats, choice_in(value))?);
-        } else if let Some(value) = word.strip_prefix(b"marks=") {
+        } else if let Some(value) = value_of(allowed.marks, b"marks=", word) {
             self.marks = Some(once(self.marks, choice_in(value))?);
         } else {
             return Err(UsageKind::UnknownOption);
@@ -99,6 +102,20 @@ impl Given {
             stats: self.stats.unwrap_or(false),
             marks: self.marks.unwrap_or(false),
         }
+    }
+}
+
+/// What stands after the name of an option, where the word begins with it and the command allows
+/// the option.
+fn value_of<'a>(allowed: bool, name: &[u8], word: &'a [u8]) -> Option<&'a [u8]>
+    ensures none { result ≡ None → (allowed && begins_with name.now word.now) ≡ false }
+    ensures some { IfSome result (λ value. IsTrue (allowed && begins_with name.now word.now)
+        × (value.now ≡ value_of name.now word.now)) }
+{
+    if allowed {
+        word.strip_prefix(name)
+    } else {
+        None
     }
 }
 

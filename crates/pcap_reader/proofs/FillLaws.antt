@@ -9,6 +9,7 @@ use Rattle.acl_outside.specs.Fault.{Rose}
 use Rattle.acl_outside.specs.Told.{Steps}
 use Rattle.acl_outside.specs.Desk.{Content, DeskView, Gives, ReadsInto}
 use Rattle.acl_outside.specs.Heard.{Ended, with_ending}
+use Rattle.acl_outside.proofs.KeptLaws.{KeepsMade-same, KeepsMade-join, KeepsMade-read, KeepsCounts-same, KeepsCounts-join}
 use Rattle.acl_outside.specs.Reading.{ReadsOn, and_goes_on}
 use Rattle.pcap_reader.specs.Fill.{KeepsReading, IsAtEnd, after_fill}
 
@@ -52,17 +53,42 @@ pub after_fill-full : (room count : ℕ) (bytes : List ℕ) (old new : DeskView)
     ReadsOn and_goes_on bytes old new → ReadsOn (after_fill room count) bytes old new
 after_fill-full room count bytes old new full reads = rw (le-ltb count room full) reads
 
+-- nothing was asked yet
+pub KeepsReading-same : (view : DeskView) → KeepsReading view view
+KeepsReading-same view = record {
+  reading = refl;
+  writing = refl;
+  absent = refl;
+  made = KeepsMade-same view;
+  counts = KeepsCounts-same view;
+}
+
+-- some was read, and then more
+pub KeepsReading-join : (old mid new : DeskView) → KeepsReading old mid → KeepsReading mid new → KeepsReading old new
+KeepsReading-join old mid new a b = record {
+  reading = b.reading ∙ a.reading;
+  writing = b.writing ∙ a.writing;
+  absent = b.absent ∙ a.absent;
+  made = KeepsMade-join old mid new a.made b.made;
+  counts = KeepsCounts-join old mid new a.counts b.counts;
+}
+
+-- one read
+pub KeepsReading-one : {E : Type 0} (into_old into_new : List ℕ) (result : Result ℕ E) (old new : DeskView) →
+    ReadsInto into_old into_new old new result → KeepsReading old new
+KeepsReading-one into_old into_new result old new read = record {
+  reading = read.reading;
+  writing = read.writing;
+  absent = read.absent;
+  made = KeepsMade-read into_old into_new result old new read;
+  counts = read.counts;
+}
+
 -- a read more
 pub KeepsReading-read : {E : Type 0} (into_old into_new : List ℕ) (result : Result ℕ E) (old mid new : DeskView) →
     KeepsReading old mid → ReadsInto into_old into_new mid new result → KeepsReading old new
-KeepsReading-read into_old into_new result old mid new keeps read = record {
-  reading = read.reading ∙ keeps.reading;
-  absent = read.absent ∙ keeps.absent;
-  counts = record {
-    read_faults = omega (arith, keeps.counts.read_faults, read.counts.read_faults);
-    absent = omega (arith, keeps.counts.absent, read.counts.absent);
-  };
-}
+KeepsReading-read into_old into_new result old mid new keeps read =
+    KeepsReading-join old mid new keeps (KeepsReading-one into_old into_new result mid new read)
 
 -- A fault that is counted in a later call is counted over both.
 pub Rose-later : (old mid new : DeskView) → KeepsReading old mid → Rose mid.read_faults new.read_faults →
@@ -97,13 +123,3 @@ reads-full room count bytes old new full reads = rw (le-ltb count room full) at 
 pub reads-short : (room count : ℕ) (bytes : List ℕ) (old new : DeskView) → count < room →
     ReadsOn (after_fill room count) bytes old new → ReadsOn (with_ending Ended) bytes old new
 reads-short room count bytes old new less reads = rw (lt-ltb count room less) at reads
-
-pub KeepsReading-join : (old mid new : DeskView) → KeepsReading old mid → KeepsReading mid new → KeepsReading old new
-KeepsReading-join old mid new a b = record {
-  reading = b.reading ∙ a.reading;
-  absent = b.absent ∙ a.absent;
-  counts = record {
-    read_faults = omega (arith, a.counts.read_faults, b.counts.read_faults);
-    absent = omega (arith, a.counts.absent, b.counts.absent);
-  };
-}

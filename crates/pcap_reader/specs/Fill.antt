@@ -3,12 +3,15 @@ use Rattle.std.specs.Prelude.{◌≡◌, ℕ, ◌<◌, ◌≤◌, List, [], leng
 use Rattle.acl_outside.specs.Fault.{Rose}
 use Rattle.acl_outside.specs.Desk.{Content, DeskView, KeepsCounts}
 use Rattle.acl_outside.specs.Heard.{Heard, BrokenOff, Ended, with_ending}
+use Rattle.acl_outside.specs.Made.{KeepsMade}
 use Rattle.acl_outside.specs.Reading.{ReadsOn, and_goes_on}
 
--- A file stays opened, none is looked for, and no count of faults falls.
+-- A file stays opened, none is looked for or made, and no count of faults falls.
 pub record KeepsReading (old new : DeskView) : Type 0 where
   pub reading : new.reading ≡ old.reading
+  pub writing : new.writing ≡ old.writing
   pub absent : new.absent ≡ old.absent
+  pub made : KeepsMade old new
   pub counts : KeepsCounts old new
 
 -- how the reading of the file stands where a slice with this room got so many bytes: the end was

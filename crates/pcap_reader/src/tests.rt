@@ -33,7 +33,8 @@ fn desk_of<R: AllocGlobal>(
         name: String::from_str(alloc, "capture")?,
         bytes: Vec::from_slice(alloc, &CAPTURE[..len.min(CAPTURE.len())])?,
     };
-    Ok(MemDesk::new(vec![in alloc; file]?, piece, vec![in alloc; failing]?))
+    let (files, failing) = (vec![in alloc; file]?, vec![in alloc; failing]?);
+    MemDesk::new(alloc, files, piece, 0, failing, Vec::new(alloc))
 }
 
 /// Asserts that the opened file is a capture of Ethernet frames with these records and this ending.

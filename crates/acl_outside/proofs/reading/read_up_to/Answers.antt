@@ -1,10 +1,11 @@
-use Rattle.std.proofs.Common.{◌≡◌, ◌≤◌, ◌<◌, ◌+◌, [], ◌++◌, Some, Ok, length, take, inl, inr, refl, ap, ◌∙◌, append-nil, arith, length-take, length-drop}
+use Rattle.std.proofs.Common.{◌≡◌, ◌≤◌, ◌<◌, ◌+◌, [], ◌++◌, Some, Ok, Err, length, take, inl, inr, refl, ap, ◌∙◌, append-nil, arith, length-take, length-drop}
 use Rattle.std.proofs.lemmas.Result.{err_from_is_err_and}
 use Rattle.acl_outside.specs.Desk.{Content, ReadsInto}
 use Rattle.acl_outside.specs.Heard.{Ended, BrokenOff, with_ending}
 use Rattle.acl_outside.specs.Reading.{and_goes_on}
 use Rattle.acl_outside.proofs.ToldLaws.{Steps-weaker}
-use Rattle.acl_outside.proofs.ReadingLaws.{Gives-capped, Steps-to_end, take-read_behind, take-read_end}
+use Rattle.acl_outside.proofs.ReadingLaws.{Gives-capped, Steps-to_end, take-read_after, take-read_end}
+use Rattle.acl_outside.proofs.KeptLaws.{KeepsCounts-same, KeepsCounts-join, KeepsMade-same, KeepsMade-join, KeepsMade-read}
 use Rattle.acl_outside.proofs.HeardLaws.{ReadsOn-none, ReadsOn-then, ReadsOn-given, ReadsOn-ended, ReadsOn-failed}
 use Rattle.acl_outside.proofs.reading.read_up_to.Goals as goal
 use Rattle.acl_outside.proofs.reading.read_up_to.Goals.{else-parts-test, then-parts-test+in_ok-make_room+in-Ok-eq0}
@@ -15,8 +16,10 @@ parts-init g c = record {
   in_cap = omega (arith, c.new-bytes.ensures.len);
   read = ReadsOn-none (g.D.Desk.view c.args.desk.now);
   reading = refl;
+  writing = refl;
+  made = KeepsMade-same (g.D.Desk.view c.args.desk.now);
   absent = refl;
-  counts = record { read_faults = omega arith; absent = omega arith };
+  counts = KeepsCounts-same (g.D.Desk.view c.args.desk.now);
 }
 
 pub parts-preserved : goal.parts-preserved
@@ -32,7 +35,7 @@ parts-preserved g c =
       in_cap = omega arith;
       read =
           rw (
-            take-read_behind c.make_room.new.bytes.len c.parts.len c.in-Ok.count c.deref_mut.result.now c.read.new.into
+            take-read_after c.make_room.new.bytes.len c.parts.len c.in-Ok.count c.deref_mut.result.now c.read.new.into
                 _ _
                 (omega arith) in_read in_bytes,
             ap (take c.parts.len) c.deref_mut.ensures.value ∙ c.in_ok-make_room.ensures.kept,
@@ -43,11 +46,11 @@ parts-preserved g c =
           (ReadsOn-given _ c.read.new.into c.in-Ok.count (g.D.Desk.view c.parts.desk) (g.D.Desk.view c.read.new.self)
           c.in-Ok.ensures some));
       reading = cc;
+      writing = cc;
+      made = KeepsMade-join _ _ _ c.parts.invariant.made
+          (KeepsMade-read _ c.read.new.into (Ok c.in-Ok.count) _ _ c.in-Ok.ensures);
       absent = cc;
-      counts = record {
-        read_faults = omega (arith, c.in-Ok.ensures.counts.read_faults);
-        absent = omega (arith, c.in-Ok.ensures.counts.absent);
-      };
+      counts = KeepsCounts-join _ _ _ c.parts.invariant.counts c.in-Ok.ensures.counts;
     }
 
 pub returns-in_err-make_room : goal.returns-in_err-make_room
@@ -60,8 +63,10 @@ returns-in_err-make_room g c =
       heard = tt;
       lost = (take c.parts.len c.parts.bytes.items, c.parts.invariant.read);
       reading = c.parts.invariant.reading;
+      writing = c.parts.invariant.writing;
       read_fault = λ e. absurd (cc);
       absent = c.parts.invariant.absent;
+      made = c.parts.invariant.made;
       counts = c.parts.invariant.counts;
     }
 
@@ -79,12 +84,12 @@ returns-in-Err g c = record {
         c.in-Err.ensures),
   );
   reading = cc;
+  writing = cc;
   read_fault = λ e. omega (arith, c.parts.invariant.counts.read_faults, c.in-Err.ensures.cause);
   absent = cc;
-  counts = record {
-    read_faults = omega (arith, c.in-Err.ensures.counts.read_faults);
-    absent = omega (arith, c.in-Err.ensures.counts.absent);
-  };
+  made = KeepsMade-join _ _ _ c.parts.invariant.made
+      (KeepsMade-read _ c.read.new.into (Err c.in-Err.field-0) _ _ c.in-Err.ensures);
+  counts = KeepsCounts-join _ _ _ c.parts.invariant.counts c.in-Err.ensures.counts;
 }
 
 pub returns : goal.returns
@@ -104,8 +109,10 @@ returns g c = elim c.parts-test.branch [
         heard = rw same (inr (c.parts.invariant.read, full));
         lost = tt;
         reading = c.parts.invariant.reading;
+        writing = c.parts.invariant.writing;
         read_fault = λ e. absurd (cc);
         absent = c.parts.invariant.absent;
+        made = c.parts.invariant.made;
         counts = c.parts.invariant.counts;
       }
   | then-parts-test+in_ok-make_room+in-Ok-eq0 w ↦
@@ -146,11 +153,10 @@ returns g c = elim c.parts-test.branch [
             ));
         lost = tt;
         reading = cc;
+        writing = cc;
         read_fault = λ e. absurd (cc);
         absent = cc;
-        counts = record {
-          read_faults = omega (arith, read.counts.read_faults);
-          absent = omega (arith, read.counts.absent);
-        };
+        made = KeepsMade-join _ _ _ c.parts.invariant.made (KeepsMade-read _ w.read.new.into (Ok 0) _ _ read);
+        counts = KeepsCounts-join _ _ _ c.parts.invariant.counts read.counts;
       }
 ]

@@ -1,5 +1,6 @@
 use Rattle.std.proofs.Common.{◌≡◌, ◌≤◌, ◌-◌, take, vec_len}
 use Rattle.acl_outside.specs.Desk.{KeepsCounts}
+use Rattle.acl_outside.specs.Made.{KeepsMade}
 use Rattle.acl_outside.specs.Reading.{ReadsOn, and_goes_on}
 use Rattle.acl_outside.proofs.reading.read_up_to.Given as goal
 
@@ -10,6 +11,8 @@ invariant-parts g l = record {
   in_cap : vec_len l.bytes ≤ l.cap;
   read : ReadsOn and_goes_on (take l.len l.bytes.items) (g.D.Desk.view l.initial.desk) (g.D.Desk.view l.desk);
   reading : (g.D.Desk.view l.desk).reading ≡ (g.D.Desk.view l.initial.desk).reading;
+  writing : (g.D.Desk.view l.desk).writing ≡ (g.D.Desk.view l.initial.desk).writing;
+  made : KeepsMade (g.D.Desk.view l.initial.desk) (g.D.Desk.view l.desk);
   absent : (g.D.Desk.view l.desk).absent ≡ (g.D.Desk.view l.initial.desk).absent;
   counts : KeepsCounts (g.D.Desk.view l.initial.desk) (g.D.Desk.view l.desk);
 }

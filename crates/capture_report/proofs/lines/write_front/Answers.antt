@@ -7,15 +7,15 @@ use Rattle.capture_report.proofs.lines.write_front.Goals as goal
 pub returns-clause-line : goal.returns-clause-line
 returns-clause-line c =
     let line = c.packet_line.new.into in
-    let behind = drop LINE_ROOM c.args.lines.now in
-    let whole : length (line ++ behind) ≡ length c.args.lines.now = search rules in
+    let later = drop LINE_ROOM c.args.lines.now in
+    let whole : length (line ++ later) ≡ length c.args.lines.now = search rules in
     let within : c.packet_line.result ≤ length line =
     omega (
       arith,
       c.packet_line.ensures.within,
       c.requires.room,
       whole,
-      length-append line behind,
+      length-append line later,
       length-drop LINE_ROOM c.args.lines.now,
     ) in
-    take-append-le c.packet_line.result line behind within ∙ c.packet_line.ensures.line
+    take-append-le c.packet_line.result line later within ∙ c.packet_line.ensures.line

@@ -1,4 +1,4 @@
--- What is written behind the other lines is the line of the packet.
+-- What is written after the other lines is the line of the packet.
 use Rattle.std.proofs.Common.{◌-◌, ◌++◌, ap, ◌∙◌, take, length, arith}
 use Rattle.pcap_reader.proofs.FillLaws.{take-put_mid}
 use Rattle.capture_report.proofs.Shown.{line-is}
@@ -8,7 +8,7 @@ pub returns-in-Some-clause-lines : goal.returns-in-Some-clause-lines
 returns-in-Some-clause-lines c =
     let packet = c.args.packet.now in
     let is_line =
-    line-is c.args.printer.now c.args.counts.now c.add.new.self packet c.args.class c.args.verdicts.now _
+    line-is c.args.form.now c.args.counts.now c.add.new.self packet c.args.class c.args.verdicts.now _
     c.add.ensures c.requires.class c.requires.verdicts
     (ap (take (length c.args.verdicts.now)) (c.in-Some.ensures.dashes packet.class packet.key))
     c.in-Some.ensures.by_tables c.in-Some.ensures.few in

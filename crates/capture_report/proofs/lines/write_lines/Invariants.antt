@@ -9,10 +9,10 @@ abbrev pub invariant-loop-packet : goal.invariant-loop-packet
 invariant-loop-packet l =
     let rest = drop l.packet-index l.packets in record {
       next : AreNext l.counts rest;
-      answered : AreAnswered l.printer rest l.ip4 l.ip6;
+      answered : AreAnswered l.form rest l.ip4 l.ip6;
       room : l.end + length rest * LINE_ROOM ≤ length l.lines;
-      lines : take l.end l.lines ++ lines_of_packets l.printer (l.counts.packets + 1) rest
-          ≡ lines_of_packets l.printer (l.fn.counts.packets + 1) l.packets;
+      lines : take l.end l.lines ++ lines_of_packets l.form (l.counts.packets + 1) rest
+          ≡ lines_of_packets l.form (l.fn.counts.packets + 1) l.packets;
       counts : counted_all rest l.counts ≡ counted_all l.packets l.fn.counts;
       len : length l.lines ≡ length l.fn.lines;
     }

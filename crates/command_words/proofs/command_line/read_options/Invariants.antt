@@ -10,6 +10,6 @@ use Rattle.command_words.proofs.command_line.read_options.Given as goal
 abbrev pub invariant-loop-word : goal.invariant-loop-word
 invariant-loop-word l = record {
   number : l.number ≤ FIRST_OPTION + options_given l.given;
-  options : options_from l.number l.given (map string_bytes (drop l.word-index l.words))
-      ≡ options_from FIRST_OPTION none_given (map string_bytes l.words);
+  options : options_from l.allowed l.number l.given (map string_bytes (drop l.word-index l.words))
+      ≡ options_from l.allowed FIRST_OPTION none_given (map string_bytes l.words);
 }

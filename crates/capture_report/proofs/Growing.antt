@@ -1,0 +1,87 @@
+-- A batch that grows record by record.
+use Rattle.std.proofs.Common.{◌≡◌, ℕ, ◌+◌, ◌≤◌, List, [], ◌∷◌, ◌++◌, length, map, All, Option, Some, None}
+use Rattle.std.proofs.Common.{refl, sym, subst, ap, ◌∙◌, append-nil, arith, length-append}
+use Rattle.std.proofs.lemmas.List.{length-map, map-append}
+use Rattle.std.proofs.lemmas.List.Elements.{All-nil, All-append}
+use Rattle.acl_outside.specs.Desk.{DeskView}
+use Rattle.header_extract.specs.Class.{FrameClass}
+use Rattle.pcap_reader.specs.Capture.{CaptureRecord}
+use Rattle.pcap_reader.specs.Reader.{CaptureState}
+use Rattle.capture_report.specs.declared.batch.BatchEnd.{BatchEnd}
+use Rattle.capture_report.specs.declared.batch.BatchEnd.TheVariants.{Full}
+use Rattle.capture_report.specs.Packet.{IsPacket, packet_of}
+use Rattle.capture_report.specs.Taken.{Took, TakesBatch, TakesRecord, max_batch}
+use Rattle.capture_report.proofs.Taking.{Took-none, Took-then}
+use Rattle.capture_report.proofs.Reader.{TookRecord, TookRecord-from, IsStop, end-is_stop, records_by, records_by-stop}
+
+-- some records were taken, of which these are the packets
+pub record IsTaking (before after : CaptureState) (packets : List FrameClass) (old new : DeskView) (stop : BatchEnd)
+    : Type 0 where
+  pub records : List CaptureRecord
+  pub given : List ℕ
+  pub packets_are : packets ≡ map packet_of records
+  pub keys : All IsPacket packets
+  pub took : Took before after records given old new stop
+
+pub IsTaking-none : (state : CaptureState) (packets : List FrameClass) (view : DeskView) → packets ≡ [] →
+    IsTaking state state packets view view Full
+IsTaking-none state packets view none = record {
+  records = [];
+  given = [];
+  packets_are = none;
+  keys = subst (All IsPacket) (sym none) (All-nil IsPacket);
+  took = Took-none state view;
+}
+
+-- one answer more
+IsTaking-more : (before mid after : CaptureState) (packets packets_new : List FrameClass) (old between new : DeskView)
+    (stop : BatchEnd) → IsTaking before mid packets old between Full →
+    TookRecord mid after packets packets_new between new stop →
+    IsTaking before after packets_new old new stop × (length packets_new ≡ length packets + records_by stop)
+IsTaking-more before mid after packets packets_new old between new stop h one = (
+  record {
+    records = h.records ++ one.records;
+    given = h.given ++ one.given;
+    packets_are =
+        one.packets_are ∙ ap (λ l. l ++ map packet_of one.records) h.packets_are
+        ∙ sym (map-append packet_of h.records one.records);
+    keys = subst (All IsPacket) (sym one.packets_are)
+        (All-append IsPacket packets (map packet_of one.records) h.keys one.keys);
+    took = Took-then before mid after h.records one.records h.given one.given old between new stop h.took one.took;
+  },
+  omega (
+    arith,
+    ap length one.packets_are,
+    length-append packets (map packet_of one.records),
+    length-map one.records packet_of,
+    one.number,
+  ),
+)
+
+-- a record more
+pub IsTaking-record : (before mid after : CaptureState) (packets packets_new : List FrameClass)
+    (old between new : DeskView) → IsTaking before mid packets old between Full →
+    TakesRecord mid after packets packets_new between new None →
+    IsTaking before after packets_new old new Full × (length packets_new ≡ length packets + 1)
+IsTaking-record before mid after packets packets_new old between new h takes =
+    IsTaking-more before mid after packets packets_new old between new Full h
+    (TookRecord-from mid after packets packets_new between new None takes)
+
+-- no record more
+pub TakesBatch-stopped : (before mid after : CaptureState) (packets packets_new : List FrameClass)
+    (old between new : DeskView) (stop : BatchEnd) → IsTaking before mid packets old between Full →
+    TakesRecord mid after packets packets_new between new (Some stop) → length packets ≤ max_batch →
+    TakesBatch before after packets_new old new stop
+TakesBatch-stopped before mid after packets packets_new old between new stop h takes few =
+    let stopped = end-is_stop takes.answer stop takes.stop in
+    let all = IsTaking-more before mid after packets packets_new old between new stop h
+    (TookRecord-from mid after packets packets_new between new (Some stop) takes) in
+    record {
+      records = all.0.records;
+      given = all.0.given;
+      packets_are = all.0.packets_are;
+      keys = all.0.keys;
+      took = all.0.took;
+      few = omega (arith, all.1, few, records_by-stop stop stopped);
+      full = λ e. absurd (subst IsStop e stopped);
+    }

@@ -1,0 +1,42 @@
+-- The steps of a batch are those of both families.
+use Rattle.std.proofs.Common.{length, ap, ◌∙◌, arith}
+use Rattle.field_defs.specs.declared.field.Family.TheVariants as family
+use Rattle.capture_report.specs.Batch.{transitions_of_family}
+use Rattle.capture_report.proofs.Keys.{both_transitions}
+use Rattle.capture_report.proofs.LineLaws.{counted_all-packets}
+use Rattle.capture_report.proofs.conductor.put_lines.Goals as goal
+
+pub returns-clause-transitions : goal.returns-clause-transitions
+returns-clause-transitions g c =
+    let tables = c.args.form.now.tables in
+    let is = c.as_slice-packets.ensures ∙ c.room.view_is in
+    let one = c.walk_keys-ip4.ensures.transitions ∙ ap (transitions_of_family family.Ip4 tables.ip4) is in
+    let two = c.walk_keys-ip6.ensures.transitions ∙ ap (transitions_of_family family.Ip6 tables.ip6) is in
+    omega (arith, one, two, both_transitions tables c.args.room.now)
+
+pub returns-clause-bound : goal.returns-clause-bound
+returns-clause-bound g c =
+    omega (
+      arith,
+      c.requires.transitions,
+      c.walk_keys-ip4.ensures.bound,
+      c.walk_keys-ip6.ensures.bound,
+      ap length (c.as_slice-packets.ensures ∙ c.room.view_is),
+      ap (λ counts. counts.packets) c.write_lines-len.ensures.counts,
+      counted_all-packets c.as_slice-packets.result.now c.args.counts.now,
+    )
+
+pub returns-clause-steps : goal.returns-clause-steps
+returns-clause-steps g c =
+    let tables = c.args.form.now.tables in
+    let is = c.as_slice-packets.ensures ∙ c.room.view_is in
+    let one = c.walk_keys-ip4.ensures.transitions ∙ ap (transitions_of_family family.Ip4 tables.ip4) is in
+    let two = c.walk_keys-ip6.ensures.transitions ∙ ap (transitions_of_family family.Ip6 tables.ip6) is in
+    omega (
+      arith,
+      c.walk_keys-ip4.ensures.steps,
+      c.walk_keys-ip6.ensures.steps,
+      one,
+      two,
+      both_transitions tables c.args.room.now,
+    )

@@ -1,0 +1,73 @@
+-- The keys are a batch of the table, and the verdicts and steps of the batch are those of the packets.
+use Rattle.std.proofs.Common.{◌≡◌, ℕ, ◌+◌, ◌*◌, List, length, take, subst, sym, ap, ◌∙◌, arith}
+use Rattle.std.proofs.lemmas.List.{length-take-le}
+use Rattle.std.proofs.Math.Nat.{mul-le-mul}
+use Rattle.flat_table.specs.Table.{TableView}
+use Rattle.flat_table.specs.Batch.{LengthsFit, batch_verdicts, batch_steps}
+use Rattle.capture_report.specs.Batch.{number_of, verdicts_of, transitions_of_family, table_of}
+use Rattle.capture_report.proofs.Keys.{keys_fit, batch_verdicts_are, batch_transitions_are, family_transitions_bound, some_bytes}
+use Rattle.capture_report.proofs.Keys.{few_bytes, verdicts_len, front-is}
+use Rattle.capture_report.proofs.verdicts.walk_keys.Goals as goal
+
+pub classify_scalar-transitions-requires : goal.classify_scalar-transitions-requires
+classify_scalar-transitions-requires g c =
+    let table = c.table-table.result.now in
+    let gathered = c.gather_keys-gathered in
+    let room = length (take (gathered.result.packets * c.count.result) c.args.verdicts.now) in
+    let within = mul-le-mul {n₁ = gathered.result.packets} {m₁ = c.count.result} {n₂ = 64} {m₂ = 16}
+    (omega (arith, gathered.ensures.few, c.requires.few)) c.count.ensures.bound in
+    let is : room ≡ number_of c.args.family c.args.packets.now * c.categories-categories.result.count =
+    length-take-le (gathered.result.packets * c.count.result) c.args.verdicts.now
+    (omega (arith, within, c.requires.verdicts))
+    ∙ ap (λ (n : ℕ). n * c.count.result) gathered.ensures.count
+    ∙ ap (λ (k : ℕ). number_of c.args.family c.args.packets.now * k) c.count.ensures.value in
+    subst (λ (keys : List ℕ). LengthsFit table keys c.categories-categories.result.count room)
+    (sym gathered.ensures.keys)
+    (keys_fit c.args.family table c.table-table.ensures.key_len c.categories-categories.result.count room
+    c.args.packets.now c.requires.packets (some_bytes c.args.family table.key_len c.table-table.ensures.key_len)
+    (omega (arith, gathered.ensures.count, gathered.ensures.few, c.requires.few)) is)
+
+pub returns-clause-verdicts : goal.returns-clause-verdicts
+returns-clause-verdicts g c =
+    let table = c.table-table.result.now in
+    let gathered = c.gather_keys-gathered in
+    let count = c.categories-categories.result.count in
+    let out = c.classify_scalar-transitions.new.out in
+    let is_out = c.classify_scalar-transitions.ensures.verdicts
+    ∙ ap (batch_verdicts table count) gathered.ensures.keys
+    ∙ batch_verdicts_are c.args.family table c.table-table.ensures.key_len count c.args.packets.now
+    c.requires.packets (some_bytes c.args.family table.key_len c.table-table.ensures.key_len) in
+    let len : length out ≡ gathered.result.packets * c.count.result =
+    ap length is_out ∙ verdicts_len c.args.family table count c.args.packets.now
+    ∙ ap (λ (n : ℕ). n * count) (sym gathered.ensures.count)
+    ∙ ap (λ (k : ℕ). gathered.result.packets * k) (sym c.count.ensures.value) in
+    front-is (gathered.result.packets * c.count.result) out _ len ∙ is_out
+    ∙ ap (λ (t : TableView). verdicts_of c.args.family t count c.args.packets.now) c.table-table.ensures.table
+    ∙ ap (λ (k : ℕ). verdicts_of c.args.family (table_of c.args.family c.args.form.now.tables) k c.args.packets.now)
+    c.categories-categories.ensures
+
+pub returns-clause-transitions : goal.returns-clause-transitions
+returns-clause-transitions g c =
+    let table = c.table-table.result.now in
+    c.classify_scalar-transitions.ensures.taken ∙ ap (batch_steps table) c.gather_keys-gathered.ensures.keys
+    ∙ batch_transitions_are c.args.family table c.table-table.ensures.key_len c.args.packets.now c.requires.packets
+    (some_bytes c.args.family table.key_len c.table-table.ensures.key_len)
+    ∙ ap (λ (t : TableView). transitions_of_family c.args.family t c.args.packets.now) c.table-table.ensures.table
+
+pub returns-clause-bound : goal.returns-clause-bound
+returns-clause-bound g c =
+    let table = c.table-table.result.now in
+    let transitions = c.classify_scalar-transitions.ensures.taken ∙ ap (batch_steps table) c.gather_keys-gathered.ensures.keys
+    ∙ batch_transitions_are c.args.family table c.table-table.ensures.key_len c.args.packets.now c.requires.packets
+    (some_bytes c.args.family table.key_len c.table-table.ensures.key_len) in
+    omega (
+      arith,
+      transitions,
+      family_transitions_bound c.args.family table c.args.packets.now c.table-table.ensures.tries
+          (few_bytes c.args.family table.key_len c.table-table.ensures.key_len),
+    )
+
+pub returns-clause-steps : goal.returns-clause-steps
+returns-clause-steps g c =
+    c.classify_scalar-transitions.ensures.steps
+    ∙ ap (λ (n : ℕ). c.args.steps.now + n) (sym c.classify_scalar-transitions.ensures.taken)

@@ -1,0 +1,146 @@
+//! What is printed of a capture, and the tables that answer for its packets.
+
+ghost use Rattle.std.specs.Prelude.{◌≡◌, ℕ, ◌≤◌, List, IfSome, length, map, not};
+ghost use Rattle.header_extract.specs.declared.class.Class.{Class};
+ghost use Rattle.flat_table.specs.Sound.{most_tries};
+ghost use Rattle.scalar_walk.specs.Rows.{winners_of};
+ghost use Rattle.acl_report.specs.declared.packet.TheConstants.{MAX_VERDICTS};
+ghost use Rattle.capture_report.specs.Classifier.{ByTables, key_len_of_family};
+ghost use Rattle.capture_report.specs.ReportForm.{form_by};
+ghost use Rattle.capture_report.specs.Packet.{IsPacket};
+ghost use Rattle.capture_report.specs.Batch.{dashes_on, table_of};
+
+use crate::packet::Packet;
+use acl_report::MAX_VERDICTS;
+use field_defs::Family;
+use flat_table::{MAX_TRIES, Table};
+use header_extract::Class;
+use rule_set::Categories;
+use scalar_walk::winners;
+use std::marker::Model;
+
+/// What is printed of a capture.
+#[derive(Clone, Copy, Debug)]
+pub struct PrintOptions {
+    /// How many categories are shown of each packet, from category 0 on.
+    pub cats: Categories,
+    /// Whether the sizes of the tables and the transitions are told after a whole capture.
+    pub stats: bool,
+    /// Whether a dash marks where no rule matches. Otherwise the digit 0 stands there.
+    pub marks: bool,
+}
+
+/// The tables of both families, and how their answers are printed.
+///
+/// Contracts see the form of a report by the tables.
+#[derive(Drop)]
+pub struct FormByTables<'a> {
+    ip4: &'a Table,
+    ip6: &'a Table,
+    options: PrintOptions,
+}
+
+impl<'a> Model for FormByTables<'a> {
+    ghost use Rattle.std.specs.Prelude.{◌≡◌, ◌≤◌, length};
+    ghost use Rattle.capture_report.specs.Classifier.{ByTables};
+    ghost use Rattle.capture_report.specs.ReportForm.{ReportForm, form_by};
+    ghost use Rattle.capture_report.specs.Batch.{IsFormByTables};
+
+    ghost Value = { ReportForm };
+
+    ghost view = { λ p. form_by (ByTables (record { ip4 = p.ip4.now; ip6 = p.ip6.now }))
+        (record { ip4 = p.ip4.now; ip6 = p.ip6.now }) p.options };
+
+    ghost invariant = { λ p. IsFormByTables (record { ip4 = p.ip4.now; ip6 = p.ip6.now })
+        p.options.cats.count };
+}
+
+/// No dash is shown.
+const NO_DASHES: [bool; MAX_VERDICTS] = [false; MAX_VERDICTS];
+
+impl<'a> FormByTables<'a> {
+    /// What prints by these tables, whose keys have 13 and 37 bytes. It takes no memory.
+    pub fn new(ip4: &'a Table, ip6: &'a Table, options: PrintOptions) -> FormByTables<'a>
+        requires ip4 { ip4.now.key_len ≡ 13 }
+        requires ip6 { ip6.now.key_len ≡ 37 }
+        ensures { result ≡ form_by (ByTables (record { ip4 = ip4.now; ip6 = ip6.now }))
+            (record { ip4 = ip4.now; ip6 = ip6.now }) options }
+    {
+        prove!(ip4.tries() <= MAX_TRIES);
+        prove!(ip6.tries() <= MAX_TRIES);
+        prove!(options.cats.count() <= MAX_VERDICTS);
+        FormByTables { ip4, ip6, options }
+    }
+
+    /// The table of a family.
+    pub fn table(&self, family: Family) -> &Table
+        ensures table { result.now ≡ table_of family self.now.tables }
+        ensures key_len { result.now.key_len ≡ key_len_of_family family }
+        ensures tries { length result.now.roots ≤ most_tries }
+    {
+        match family {
+            Family::Ip4 => self.ip4,
+            Family::Ip6 => self.ip6,
+        }
+    }
+
+    /// How many categories are shown of each packet.
+    pub fn categories(&self) -> Categories
+        ensures { result.count ≡ self.now.categories }
+    {
+        self.options.cats
+    }
+
+    /// Whether the sizes of the tables and the transitions are told.
+    pub fn has_stats(&self) -> bool
+        ensures { result ≡ self.now.stats }
+    {
+        self.options.stats
+    }
+
+    /// No dashes, whatever the packet, where marks aren't asked for. It takes no memory.
+    #[inline]
+    pub fn no_dashes(&self) -> Option<&'static [bool; MAX_VERDICTS]>
+        ensures dashes { IfSome result (λ dashes. (class : Class) (key : List ℕ)
+            → dashes.now ≡ dashes_on class self.now key) }
+        ensures by_tables { self.now.classifier ≡ ByTables self.now.tables }
+        ensures few { self.now.categories ≤ MAX_VERDICTS }
+    {
+        if self.options.marks {
+            None
+        } else {
+            Some(&NO_DASHES)
+        }
+    }
+
+    /// For each category whether a dash is shown of the packet. It takes no memory.
+    pub fn dashes(&self, packet: &Packet) -> [bool; MAX_VERDICTS]
+        requires { IsPacket packet.now }
+        ensures dashes { result ≡ dashes_on packet.now.class self.now packet.now.key }
+        ensures by_tables { self.now.classifier ≡ ByTables self.now.tables }
+        ensures few { self.now.categories ≤ MAX_VERDICTS }
+    {
+        if !self.options.marks {
+            return NO_DASHES;
+        }
+        match packet.class() {
+            Class::Ip4 => unmatched(self.ip4, packet.key()),
+            Class::Ip6 => unmatched(self.ip6, packet.key()),
+            Class::Other | Class::Short => NO_DASHES,
+        }
+    }
+}
+
+/// For each category whether no rule matches the key.
+fn unmatched(table: &Table, key: &[u8]) -> [bool; MAX_VERDICTS]
+    requires { length key.now ≡ table.now.key_len }
+    ensures { result ≡ map not (winners_of table.now key.now) }
+{
+    let mut won = NO_DASHES;
+    winners(table, key, &mut won);
+    let mut dashes = NO_DASHES;
+    for category in 0..MAX_VERDICTS {
+        dashes[category] = !won[category];
+    }
+    dashes
+}

@@ -1,0 +1,113 @@
+//! The walks of the keys of a batch, one family after the other.
+
+ghost use Rattle.std.specs.Prelude.{◌≡◌, ◌+◌, ◌*◌, ◌≤◌, ◌++◌, [], All, length, take};
+ghost use Rattle.capture_report.specs.Taken.{max_batch};
+ghost use Rattle.capture_report.specs.Packet.{IsPacket};
+ghost use Rattle.capture_report.specs.Batch.{is_of, keys_of, number_of, verdicts_of};
+ghost use Rattle.capture_report.specs.Batch.{transitions_of_family, max_transitions, table_of};
+ghost use Rattle.capture_report.specs.declared.verdicts.TheConstants.{BATCH_KEYS, BATCH_VERDICTS};
+
+use crate::batch::MAX_BATCH;
+use crate::form::FormByTables;
+use crate::lines::put_at;
+use crate::packet::{IP6_KEY, Packet};
+use acl_report::MAX_VERDICTS;
+use field_defs::Family;
+use flat_table::Steps;
+use header_extract::Class;
+use scalar_walk::classify_scalar;
+use std::sync::ledger::Ledger;
+
+/// How many bytes the keys of a batch have at most.
+pub const BATCH_KEYS: usize = MAX_BATCH * IP6_KEY;
+
+/// How many verdicts there are on the packets of a batch at most.
+pub const BATCH_VERDICTS: usize = MAX_BATCH * MAX_VERDICTS;
+
+/// What the walks of the keys of a family came to.
+#[derive(Clone, Copy)]
+pub struct FamilyVerdicts {
+    /// How many verdicts were written.
+    pub verdicts: usize,
+    /// How many words the walks took.
+    pub transitions: u64,
+}
+
+/// Walks the keys of the packets of a family through its table, and writes their verdicts to the
+/// front of `verdicts`, those of one packet after those of another.
+///
+/// There are at most 64 packets. `keys` has room for their keys, [`BATCH_KEYS`] bytes, which are
+/// overwritten, and `verdicts` has [`BATCH_VERDICTS`] elements. It takes no memory.
+pub fn walk_keys<L: Ledger>(
+    form: &FormByTables<'_>,
+    family: Family,
+    packets: &[Packet],
+    keys: &mut [u8],
+    verdicts: &mut [u32],
+    steps: &mut Steps<L>,
+) -> FamilyVerdicts
+    requires few { length packets.now ≤ max_batch }
+    requires packets { All IsPacket packets.now }
+    requires keys { BATCH_KEYS ≤ length keys.old }
+    requires verdicts { length verdicts.old ≡ BATCH_VERDICTS }
+    ensures within { result.verdicts ≤ BATCH_VERDICTS }
+    ensures verdicts { take result.verdicts verdicts.new ≡ verdicts_of family
+        (table_of family form.now.tables) form.now.categories packets.now }
+    ensures transitions { result.transitions
+        ≡ transitions_of_family family (table_of family form.now.tables) packets.now }
+    ensures bound { result.transitions ≤ length packets.now * max_transitions }
+    ensures steps { steps.new ≡ steps.old + result.transitions }
+    ensures len { length verdicts.new ≡ BATCH_VERDICTS }
+    ensures keys { length keys.new ≡ length keys.old }
+{
+    let (table, categories) = (form.table(family), form.categories());
+    let gathered = gather_keys(family, packets, keys);
+    let count = gathered.packets * categories.count();
+    let keys = &keys[..gathered.bytes];
+    let transitions = classify_scalar(table, keys, categories, &mut verdicts[..count], steps);
+    FamilyVerdicts {
+        verdicts: count,
+        transitions,
+    }
+}
+
+/// How many packets of a family were gathered, and how many bytes their keys have.
+#[derive(Clone, Copy)]
+struct Gathered {
+    packets: usize,
+    bytes: usize,
+}
+
+/// Writes the keys of the packets of a family to the front of `keys`, one after the other.
+fn gather_keys(family: Family, packets: &[Packet], keys: &mut [u8]) -> Gathered
+    requires few { length packets.now ≤ max_batch }
+    requires packets { All IsPacket packets.now }
+    requires room { BATCH_KEYS ≤ length keys.old }
+    ensures count { result.packets ≡ number_of family packets.now }
+    ensures few { result.packets ≤ length packets.now }
+    ensures within { result.bytes ≤ length keys.old }
+    ensures keys { take result.bytes keys.new ≡ keys_of family packets.now }
+    ensures len { length keys.new ≡ length keys.old }
+{
+    let (mut count, mut end) = (0, 0);
+    for packet in packets {
+        if is_of(family, packet.class()) {
+            end = put_at(keys, end, packet.key());
+            count += 1;
+        }
+    }
+    Gathered {
+        packets: count,
+        bytes: end,
+    }
+}
+
+/// Whether a frame holds a packet of the family.
+fn is_of(family: Family, class: Class) -> bool
+    ensures { result ≡ is_of family class }
+{
+    match family {
+        Family::Ip4 => matches!(class, Class::Ip4),
+        Family::Ip6 => matches!(class, Class::Ip6),
+    }
+}
