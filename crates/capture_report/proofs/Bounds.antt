@@ -1,5 +1,5 @@
 -- The transitions of a report are at most one for each trie and byte of each key.
-use Rattle.std.proofs.Common.{◌≡◌, ℕ, ◌+◌, ◌*◌, ◌≤◌, List, ◌∷◌, Result, Ok, Err, inl, inr, refl, sym, subst, ap, ◌∙◌, arith}
+use Rattle.std.proofs.Common.{◌≡◌, ℕ, ◌+◌, ◌*◌, ◌≤◌, List, ◌∷◌, Result, Ok, Err, inl, inr, sym, subst, ap, ◌∙◌, arith}
 use Rattle.std.proofs.Common.{length, map, true}
 use Rattle.std.specs.Prelude.{slice_index_or, All, Option}
 use Rattle.std.proofs.lemmas.List.Sums.{sum_by_from, sum_by-le, sum_by-le-sum_by}

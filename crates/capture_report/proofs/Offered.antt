@@ -2,6 +2,5 @@
 
 -- the lines of the whole records of the first bytes of a capture are the first part of its report
 pub use Rattle.capture_report.proofs.WholeRecords.{report-begins}
-
 -- a report tells at most a transition for each trie and byte of the key of each packet
 pub use Rattle.capture_report.proofs.Bounds.{report_bound}

@@ -2,7 +2,7 @@
 use Rattle.std.specs.Prelude.{◌≡◌, ℕ, ◌+◌, ◌≤◌, ◌⊎◌, List, ◌∷◌, length, false, true}
 use Rattle.std.specs.Prelude.{Some}
 use Rattle.acl_outside.specs.Desk.{File}
-use Rattle.acl_outside.specs.Heard.{Heard, heard}
+use Rattle.acl_outside.specs.Heard.{Heard}
 use Rattle.acl_outside.specs.Sink.{Gains}
 use Rattle.command_plan.specs.declared.status.Status.{Status}
 use Rattle.command_plan.specs.declared.status.Status.TheVariants.{WriteFault, OutOfMemory}
