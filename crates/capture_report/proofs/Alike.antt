@@ -30,9 +30,9 @@ use Rattle.command_plan.specs.declared.status.Status.TheVariants.{OutOfMemory}
 use Rattle.command_plan.specs.Follow.{Before}
 use Rattle.command_plan.specs.Effects.{Outside}
 use Rattle.capture_report.specs.PrintsCapture.{Reports, PrintsCapture}
-use Rattle.command_plan.proofs.Gained.{Gains-none}
+use Rattle.command_plan.proofs.Offered.{Ends-full}
 use Rattle.capture_report.specs.Streams.{Reading, Whole, Part, records_read, text_of, Streams}
-use Rattle.command_plan.proofs.Told.{Ends-told, Ends-complete, IsFaithful}
+use Rattle.command_plan.proofs.Offered.{Ends-told, Ends-complete, IsFaithful}
 use Rattle.capture_report.proofs.Bounds.{rise_bound}
 use Rattle.capture_report.proofs.WholeRecords.{report-begins}
 
@@ -132,20 +132,7 @@ report_faithful form name files = (λ front more. report-begins form front more,
 pub Reports-no_room : (form : ReportForm) (name : List ℕ) (view : Outside) →
     Reports form name view view OutOfMemory
 Reports-no_room form name view = record {
-  ends = record {
-    reached = Before name;
-    follows = inl (refl, refl);
-    ended = inl refl;
-    text = λ other full. absurd (full refl);
-    prefix = λ w. absurd (cc);
-    out_of_memory = λ e. Gains-none view.out;
-    steps = λ decided. absurd (false≢true decided);
-    read_fault = λ e. absurd (cc);
-    write_fault = λ w. absurd (cc);
-    absent = λ files told isnt. refl;
-    kept = record { files = refl; counts = record { read_faults = omega arith; absent = omega arith } };
-    count = omega arith;
-  };
+  ends = Ends-full None (reported form name) view;
   lawful = refl;
   opened = λ files told reported. absurd (false≢true reported);
   keeps_up = λ w. absurd (cc);

@@ -1,6 +1,6 @@
 -- How the report of a capture ends, by what was opened, read and put.
 use Rattle.std.proofs.Common.{◌≡◌, ◌≢◌, ◌⊎◌, ℕ, ◌+◌, ◌≤◌, List, [], ◌∷◌, ◌++◌, length, true, false, Option, Some}
-use Rattle.std.proofs.Common.{None, Ok, Err, inl, inr, refl, sym, subst, ap, ◌∙◌, append_assoc, append-nil, arith}
+use Rattle.std.proofs.Common.{None, Result, Ok, Err, inl, inr, refl, sym, subst, ap, ◌∙◌, append_assoc, append-nil, arith}
 use Rattle.std.proofs.lemmas.Bool.{false≢true}
 use Rattle.std.specs.Option.{option_map_or}
 use Rattle.acl_outside.specs.Fault.{Rose}
@@ -11,10 +11,10 @@ use Rattle.acl_outside.specs.Sink.{SinkView, Gains, GainsPrefix}
 use Rattle.acl_outside.proofs.HeardLaws.{ReadsOn-none, ReadsOn-then}
 use Rattle.pcap_reader.specs.declared.fault.CaptureFault.{CaptureFault}
 use Rattle.pcap_reader.specs.declared.fault.CaptureFault.TheVariants as faults
-use Rattle.pcap_reader.specs.Capture.{CaptureRecord, capture_of, whole_records, records_in}
+use Rattle.pcap_reader.specs.Capture.{Recorded, CaptureRecord, capture_of, whole_records, records_in}
 use Rattle.pcap_reader.specs.Fill.{KeepsReading, IsAtEnd}
 use Rattle.pcap_reader.specs.Reader.{CaptureState, ReadsStart}
-use Rattle.pcap_reader.proofs.FillLaws.{KeepsReading-join}
+use Rattle.pcap_reader.proofs.FillLaws.{KeepsReading-same, KeepsReading-join}
 use Rattle.command_plan.specs.declared.status.Status.{Status}
 use Rattle.command_plan.specs.declared.status.Status.TheVariants.{CaptureRefused, ReadFault, WriteFault, OutOfMemory}
 use Rattle.capture_report.specs.ReportForm.{ReportForm}
@@ -29,10 +29,10 @@ use Rattle.command_plan.specs.Effects.{Outside, outside, files_of, opened_of, he
 use Rattle.capture_report.specs.PrintsCapture.{KeepsUp, Reports}
 use Rattle.capture_report.specs.Streams.{Reading, Whole, Part, records_read, text_of, IsUnbroken, AreRead, IsStatus}
 use Rattle.capture_report.specs.Streams.{BreaksOffSoon, Streams}
-use Rattle.command_plan.proofs.Gained.{Gains-none}
-use Rattle.command_plan.proofs.Inputs.{heard_file, part_told, opened_told, opened_absent, kept_files, cannot_open}
-use Rattle.command_plan.proofs.Inputs.{unopened_kept}
-use Rattle.command_plan.proofs.Links.{CannotRead-because}
+use Rattle.command_plan.proofs.Offered.{Gains-none}
+use Rattle.command_plan.proofs.Offered.{heard_file, part_told, opened_told, opened_absent, kept_files, cannot_open}
+use Rattle.command_plan.proofs.Offered.{unopened_kept}
+use Rattle.command_plan.proofs.Offered.{CannotRead-because}
 use Rattle.capture_report.specs.NextRecord.{records_from}
 use Rattle.capture_report.proofs.Reader.{ReadHeader, RefusedHeader, RefusedHeader-from, BrokenHeader, BrokenHeader-from}
 
@@ -70,7 +70,7 @@ HearsFile-read name given ending old mid new x opens reads at_end keeps = record
   absent = λ files told.
       keeps.absent ∙ opened_absent name old mid old.content mid.content
       (λ content at some. (opens.there content at some).0) opens.opened files told;
-  kept = kept_files name given old mid new x opens reads.told keeps.counts;
+  kept = kept_files name given old mid new x opens reads.told keeps.made keeps.counts;
 }
 
 said-opened : (ending : Ending) (text : List ℕ) → IsOpened ending → text ≡ said_in ending text
@@ -124,6 +124,7 @@ Ends-part form name given ending old new status h opened p = record {
   prefix = p.prefix;
   out_of_memory = p.full;
   steps = λ decided. absurd (part_undecided status ending p.ended decided);
+  made = λ decided. absurd (part_undecided status ending p.ended decided);
   read_fault = λ e. inl (p.read_fault e);
   write_fault = p.write_fault;
   absent = λ files told isnt. h.absent files told;
@@ -161,10 +162,18 @@ all_decided outcome old new status p other =
       | inr write ↦ absurd (other write)
     ]
 
+-- a report makes no file
+report_unmade : (form : ReportForm) (bytes : List ℕ) → (report form bytes).made ≡ None
+report_unmade form bytes = go (capture_of bytes)
+  where
+    go : (capture : Result Recorded CaptureFault) → (report_of_capture form capture).made ≡ None
+    go (Ok capture) = refl
+    go (Err fault) = refl
+
 Ends-whole : (form : ReportForm) (name given : List ℕ) (ending : Ending) (old new : Outside) (status : Status) →
     HearsFile name given ending old.desk new.desk → IsUnbroken ending →
     ((more : List ℕ) → (ending ≡ Ended → more ≡ []) → report form (given ++ more) ≡ report form given) →
-    PutsAll (report form given) old.out new.out status → new.steps ≡ old.steps + (report form given).steps →
+    PutsAll (report form given) old.out new.out status → new.steps ≡ old.steps + (report form given).transitions →
     Ends (reported form name) old new status
 Ends-whole form name given ending old new status h unbroken long p steps =
     let never : (is_decided status ≡ false) → status ≢ WriteFault → ⊥ =
@@ -189,6 +198,7 @@ Ends-whole form name given ending old new status h unbroken long p steps =
       ];
       out_of_memory = λ e. absurd (never (ap is_decided e) (λ w. absurd (cc)));
       steps = λ decided. steps;
+      made = λ decided. rw (report_unmade form given) h.kept.made.made;
       read_fault = λ e. absurd (never (ap is_decided e) (λ w. absurd (cc)));
       write_fault = λ e. elim p.puts [
         | inl done ↦ absurd (false≢true (ap is_decided (sym e ∙ done.0) ∙ p.decided))
@@ -219,6 +229,7 @@ Reports-unopened form name old new out steps e opens = record {
     prefix = λ w. absurd (cc);
     out_of_memory = λ full. absurd (cc);
     steps = λ decided. absurd (false≢true decided);
+    made = λ decided. absurd (false≢true decided);
     read_fault = λ r.
         CannotRead-because _ _ old new
         (λ files told none.
@@ -241,9 +252,7 @@ pub Reports-full : {T E : Type 0} (form : ReportForm) (name : List ℕ) (old mid
     OpensFile {E = E} name old mid (Ok x) → new ≡ mid →
     Reports form name (outside old out steps) (outside new out steps) OutOfMemory
 Reports-full {T} {E} form name old mid new out steps x opens same =
-    let keeps : KeepsReading mid mid =
-    record { reading = refl; absent = refl; counts = record { read_faults = omega arith; absent = omega arith } } in
-    let h = HearsFile-read {E = E} name [] GoesOn old mid mid x opens (ReadsOn-none mid) (λ e. absurd (cc)) keeps in
+    let h = HearsFile-read {E = E} name [] GoesOn old mid mid x opens (ReadsOn-none mid) (λ e. absurd (cc)) (KeepsReading-same mid) in
     rw same
     record {
       ends = Ends-part form name [] GoesOn (outside old out steps) (outside mid out steps) OutOfMemory h tt
@@ -280,7 +289,7 @@ header_refused {T} {E} form name fault old mid new x opens header =
       ends = Ends-whole form name given header.ending (outside old new.out new.steps) new (CaptureRefused fault) h
           header.unbroken (λ more none. is more none ∙ sym alone)
           (subst (λ (o : Outcome). PutsAll o new.out new.out (CaptureRefused fault)) (sym alone) puts)
-          (omega (arith, ap (λ (o : Outcome). o.steps) alone));
+          (omega (arith, ap (λ (o : Outcome). o.transitions) alone));
       lawful = refl;
       opened = λ files told reported. h.opened files told;
       keeps_up = λ w. absurd (cc);
@@ -389,7 +398,7 @@ streamed (Whole records fault) form name old new status s =
       ends = Ends-whole form name s.given s.ending old new status s.hears (s.bytes.0)
           (λ more rest. ap (report_of_capture form) (all more rest ∙ sym alone))
           (subst (λ (o : Outcome). PutsAll o old.out new.out status) reported_as puts)
-          (s.steps ∙ ap (λ (o : Outcome). old.steps + o.steps) reported_as);
+          (s.steps ∙ ap (λ (o : Outcome). old.steps + o.transitions) reported_as);
       lawful = elim (all_ended expected old.out new.out status puts) [
         | inl same ↦ ap is_usage same ∙ (fault_decided fault).1
         | inr write ↦ ap is_usage write

@@ -30,7 +30,7 @@ use Rattle.capture_report.proofs.Reader.{begun-count}
 use Rattle.capture_report.proofs.Taking.{Took-none, Took-then, AreOfBatch-part}
 use Rattle.capture_report.proofs.LineLaws.{transitions_of_records-append, lines_of_records-append}
 use Rattle.capture_report.proofs.LineLaws.{counts_of_records-append, packets_counted, lines_in-records}
-use Rattle.command_plan.proofs.Gained.{Gains-none}
+use Rattle.command_plan.proofs.Offered.{Gains-none}
 
 -- how far the printing of a capture is: the reader's state, what was counted, and the outside
 pub record Standing : Type 0 where

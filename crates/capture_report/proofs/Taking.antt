@@ -8,7 +8,7 @@ use Rattle.pcap_reader.specs.declared.fault.CaptureFault.{CaptureFault}
 use Rattle.pcap_reader.specs.declared.fault.CaptureFault.TheVariants.{ReadFault}
 use Rattle.pcap_reader.specs.Capture.{CaptureRecord, Recorded}
 use Rattle.pcap_reader.specs.Reader.{CaptureState}
-use Rattle.pcap_reader.proofs.FillLaws.{KeepsReading-join}
+use Rattle.pcap_reader.proofs.FillLaws.{KeepsReading-same, KeepsReading-join}
 use Rattle.capture_report.specs.declared.batch.BatchEnd.{BatchEnd}
 use Rattle.capture_report.specs.declared.batch.BatchEnd.TheVariants.{Full, End, Fault}
 use Rattle.capture_report.specs.NextRecord.{records_from}
@@ -29,11 +29,7 @@ Took-none state view = record {
   reads = ReadsOn-none view;
   at_end = λ e. absurd (cc);
   read_fault = λ e. absurd (cc);
-  keeps = record {
-    reading = refl;
-    absent = refl;
-    counts = record { read_faults = omega arith; absent = omega arith };
-  };
+  keeps = KeepsReading-same view;
   goes_on = λ full may. may;
   count = omega arith;
   few = λ below. below;

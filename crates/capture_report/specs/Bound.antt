@@ -29,4 +29,4 @@ most_of_records tables records =
 abbrev pub TransitionsAreBounded : Type 0
 TransitionsAreBounded =
     (form : ReportForm) (bytes : List ℕ) →
-    (report form bytes).steps ≤ most_of_records form.tables (whole_records bytes)
+    (report form bytes).transitions ≤ most_of_records form.tables (whole_records bytes)

@@ -14,7 +14,7 @@ use Rattle.command_plan.specs.declared.status.Status.TheVariants.{Done, CaptureR
 use Rattle.capture_report.specs.ReportForm.{ReportForm}
 use Rattle.capture_report.specs.Report.{counts_of_records, lines_of_records, stats_of}
 use Rattle.capture_report.specs.Report.{transitions_of_records}
-use Rattle.command_plan.specs.Plan.{Outcome, silent, Plan, Give, Read}
+use Rattle.command_plan.specs.Plan.{Outcome, printed, silent, Plan, Give, Read}
 
 -- the line of the counts, and those of the tables and transitions where they are asked for
 abbrev pub last_text : ReportForm → Counts → ℕ → List ℕ
@@ -50,11 +50,10 @@ refusal CannotRead = ReadFault
 
 -- what a capture gives
 abbrev pub report_of_capture : ReportForm → Result Recorded CaptureFault → Outcome
-report_of_capture form (Ok capture) = record {
-  status = status_of_fault capture.fault;
-  text = text_of_records form capture.records capture.fault;
-  steps = transitions_of_records form.tables capture.records;
-}
+report_of_capture form (Ok capture) =
+    printed (status_of_fault capture.fault)
+    (text_of_records form capture.records capture.fault)
+    (transitions_of_records form.tables capture.records)
 report_of_capture form (Err fault) = silent (CaptureRefused fault)
 
 -- what the bytes of a capture give

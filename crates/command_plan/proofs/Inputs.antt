@@ -10,6 +10,8 @@ use Rattle.acl_outside.specs.Told.{Steps}
 use Rattle.acl_outside.specs.Desk.{File, Content, DeskView, bytes_of, Opens, GivesUp, Gives, OpensFile, KeepsCounts}
 use Rattle.acl_outside.specs.Heard.{Heard, Ending, GoesOn, Ended, BrokenOff, heard, opening_of, change_newest}
 use Rattle.acl_outside.specs.Heard.{with_bytes, with_ending}
+use Rattle.acl_outside.specs.Made.{KeepsMade}
+use Rattle.acl_outside.proofs.KeptLaws.{KeepsMade-opening, KeepsMade-join, KeepsCounts-join}
 use Rattle.acl_outside.specs.Reading.{GivesUpTo, ReadsOn, ReadsUpTo, and_goes_on}
 use Rattle.acl_outside.specs.declared.reading.ReadAll.TheVariants as reading
 use Rattle.command_plan.specs.declared.status.Status.TheVariants.{ReadFault, OutOfMemory}
@@ -64,6 +66,7 @@ pub unopened_kept : {T E : Type 0} (name : List ℕ) (old new : DeskView) (e : E
     OpensFile {T = T} name old new (Err e) → KeepsFiles old new
 unopened_kept name old new e opens = record {
   files = told_files GivesUp (λ a b step. step.files) old.content new.content opens.given_up;
+  made = KeepsMade-opening name (Err e) old new opens;
   counts = opens.counts;
 }
 
@@ -149,15 +152,13 @@ opened_absent name old new (Some content) (Some after) there opens files told =
 
 pub kept_files : {T E : Type 0} (name bytes : List ℕ) (old mid new : DeskView) (x : T) →
     OpensFile {E = E} name old mid (Ok x) →
-    Steps (Gives bytes) mid.content new.content → KeepsCounts mid new → KeepsFiles old new
-kept_files name bytes old mid new x opens gives counts = record {
+    Steps (Gives bytes) mid.content new.content → KeepsMade mid new → KeepsCounts mid new → KeepsFiles old new
+kept_files name bytes old mid new x opens gives made counts = record {
   files =
       told_files (Gives bytes) (λ a b step. step.files) mid.content new.content gives
       ∙ told_files (Opens name) (λ a b step. step.files) old.content mid.content opens.opened;
-  counts = record {
-    read_faults = omega (arith, opens.counts.read_faults, counts.read_faults);
-    absent = omega (arith, opens.counts.absent, counts.absent);
-  };
+  made = KeepsMade-join old mid new (KeepsMade-opening name (Ok x) old mid opens) made;
+  counts = KeepsCounts-join old mid new opens.counts counts;
 }
 
 -- The file is opened, and read to its end or the cap.
@@ -189,7 +190,7 @@ ReadsFile-read name cap old mid new x bytes opens reads = go reads.heard
           files
           told;
       absent = λ files told isnt. absent_kept files told;
-      kept = kept_files name bytes.items old mid new x opens on.told reads.counts;
+      kept = kept_files name bytes.items old mid new x opens on.told reads.made reads.counts;
     }
     go (inr (on, full)) = record {
       file = record { name = name; bytes = bytes.items; ending = GoesOn };
@@ -206,7 +207,7 @@ ReadsFile-read name cap old mid new x bytes opens reads = go reads.heard
           files
           told;
       absent = λ files told isnt. absent_kept files told;
-      kept = kept_files name bytes.items old mid new x opens on.told reads.counts;
+      kept = kept_files name bytes.items old mid new x opens on.told reads.made reads.counts;
     }
 
 -- The file is opened, and a read fails.
@@ -228,7 +229,7 @@ ReadsFile-broken name cap old mid new x opens reads =
       read_fault = λ e. inl (omega (arith, opens.counts.read_faults, reads.read_fault refl));
       opened = λ files told. tt;
       absent = λ files told isnt. absurd (isnt refl);
-      kept = kept_files name bytes old mid new x opens on.told reads.counts;
+      kept = kept_files name bytes old mid new x opens on.told reads.made reads.counts;
     }
 
 -- The file is opened, and there is no memory for it.
@@ -252,5 +253,5 @@ ReadsFile-full name cap old mid new x opens reads =
       absent = λ files told isnt.
           reads.absent ∙ opened_absent name old mid old.content mid.content
           (λ content at some. (opens.there content at some).0) opens.opened files told;
-      kept = kept_files name bytes old mid new x opens on.told reads.counts;
+      kept = kept_files name bytes old mid new x opens on.told reads.made reads.counts;
     }

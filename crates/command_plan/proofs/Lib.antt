@@ -1,5 +1,7 @@
-pub mod Plans
-pub mod Links
-pub mod Gained
-pub mod Told
-pub mod Inputs
+pub mod Offered
+mod Plans
+mod Links
+mod Gained
+mod Stops
+mod Told
+mod Inputs

@@ -1,5 +1,6 @@
 -- The links of a command: a step and then the rest, or an end in either. They serve every command.
-use Rattle.std.proofs.Common.{◌≡◌, ◌≢◌, ◌⊎◌, ℕ, List, [], ◌∷◌, ◌++◌, false, Option, Some, Result, Ok, Err, IfOk}
+use Rattle.std.proofs.Common.{◌≡◌, ◌≢◌, ◌⊎◌, ℕ, List, [], ◌∷◌, ◌++◌, false, Option, Some, None, Result, Ok, Err}
+use Rattle.std.proofs.Common.{IfOk}
 use Rattle.std.proofs.Common.{IfErr, inl, inr, length, sym, ap, subst, ◌∙◌, refl, arith}
 use Rattle.std.proofs.lemmas.Bool.{false≢true}
 use Rattle.std.specs.Option.{option_map_or}
@@ -7,25 +8,51 @@ use Rattle.std.specs.declared.vec.Vec.{Vec}
 use Rattle.std.specs.declared.alloc.Global.{Global}
 use Rattle.acl_outside.specs.Desk.{File, DeskView}
 use Rattle.acl_outside.specs.Heard.{Heard, Ending, NotOpened, GoesOn, Ended, BrokenOff}
-use Rattle.acl_outside.specs.Sink.{SinkView}
+use Rattle.acl_outside.specs.Fault.{Rose}
+use Rattle.acl_outside.specs.Made.{Made, Finished, KeepsMade}
+use Rattle.acl_outside.proofs.KeptLaws.{KeepsMade-join, KeepsCounts-join}
 use Rattle.command_plan.specs.declared.status.Status.{Status}
 use Rattle.command_plan.specs.declared.status.Status.TheVariants.{ReadFault, WriteFault, OutOfMemory}
 use Rattle.command_plan.specs.Plan.{Outcome, Plan, ◌>>=◌, nothing, reading, unless_refused, found, settled}
 use Rattle.command_plan.specs.Follow.{Reached, Given, Stopped, Before, Within, IsEnough, Follows, IsCutOff, said}
 use Rattle.command_plan.specs.Follow.{said_in, outcome_of}
 use Rattle.command_plan.specs.Endings.{is_reported, is_usage}
-use Rattle.command_plan.specs.Effects.{files_of, heard_of, outside, KeepsFiles, CannotRead, ReadsFile, Takes, Ends}
+use Rattle.command_plan.specs.Effects.{Outside, files_of, heard_of, KeepsFiles, Keeps, Makes, CannotRead}
+use Rattle.command_plan.specs.Effects.{CannotWrite, ReadsFile, Parses, Takes, EndsMaking}
 use Rattle.command_plan.proofs.Gained.{Gains-none, GainsPrefix-none}
+use Rattle.command_plan.proofs.Stops.{unwritten, Keeps-any}
 use Rattle.command_plan.proofs.Plans.{carried, then_found, Follows-found, Follows-then, Follows-cut, found-then}
 
 pub KeepsFiles-then : (old mid new : DeskView) → KeepsFiles old mid → KeepsFiles mid new → KeepsFiles old new
 KeepsFiles-then old mid new first second = record {
   files = second.files ∙ first.files;
-  counts = record {
-    read_faults = omega (arith, first.counts.read_faults, second.counts.read_faults);
-    absent = omega (arith, first.counts.absent, second.counts.absent);
-  };
+  made = KeepsMade-join old mid new first.made second.made;
+  counts = KeepsCounts-join old mid new first.counts second.counts;
 }
+
+-- all files were kept, and then all that the command doesn't make
+Keeps-then : (makes : Option (List ℕ)) (old mid new : DeskView) → KeepsFiles old mid → Keeps makes mid new →
+    Keeps makes old new
+Keeps-then None old mid new first second = KeepsFiles-then old mid new first second
+Keeps-then (Some name) old mid new first second = record {
+  files = λ before told. second.files before (first.files ∙ told);
+  counts = KeepsCounts-join old mid new first.counts second.counts;
+}
+
+-- a write failed after a step that wrote nothing
+CannotWrite-later : (makes : Option (List ℕ)) (old new : Outside) (mid : DeskView) → KeepsMade old.desk mid →
+    CannotWrite makes (record old { desk = mid }) new → CannotWrite makes old new
+CannotWrite-later None old new mid kept rose = rose
+CannotWrite-later (Some name) old new mid kept rose =
+    subst (λ count. Rose count new.desk.write_faults) kept.write_faults rose
+
+-- a file was made after a step that made none
+Makes-later : (made : Option File) (old mid new : DeskView) → KeepsMade old mid → Makes made mid new →
+    Makes made old new
+Makes-later None old mid new kept makes = makes ∙ kept.made
+Makes-later (Some file) old mid new kept makes =
+    makes ∙ ap (λ (files : List Made). record { name = file.name; bytes = file.bytes; standing = Finished } ∷ files)
+    kept.made
 
 -- a fault of the desk, for a reason that follows from another
 pub CannotRead-because : (P Q : List File → Type 0) (old new : DeskView) →
@@ -76,19 +103,24 @@ said-nothing file = nothing_in file.ending
 
 -- A file was read, and its bytes give a value or are refused.
 pub Takes-read : {X Y : Type 0} (name : List ℕ) (cap : ℕ) (parse : List ℕ → Result Y Status) (seen : X → Y)
-    (old new : DeskView)
-    (bytes : Vec ℕ Global) (items : List ℕ) (result : Result X Status) → ReadsFile name cap old new (Ok bytes) →
-    items ≡ bytes.items →
+    (old new : DeskView) (bytes : Vec ℕ Global) (result : Result X Status) →
+    ReadsFile name cap old new (Ok bytes) →
     ((front more : List ℕ) → length front ≡ cap → parse (front ++ more) ≡ parse front) →
-    IfOk result (λ x. parse items ≡ Ok (seen x)) →
-    IfErr result (λ status. (parse items ≡ Err status) ⊎ (status ≡ OutOfMemory)) →
-    IfErr result (λ status. status ≢ ReadFault) → IfErr result (λ status. is_reported status ≡ false) →
-    IfErr result (λ status. is_usage status ≡ false) →
+    Parses parse seen bytes.items result →
     Takes (reading name >>= λ front. unless_refused (parse front)) seen old new result
-Takes-read name cap parse seen old new bytes items (Ok x) read is_items long value refusal unread unreported lawful =
-    let enough = read_enough (λ front. unless_refused (parse front)) name cap old new bytes read
-    (λ front more e. ap unless_refused (long front more e)) in
-    record {
+Takes-read {X = X} {Y = Y} name cap parse seen old new bytes result read long parses =
+    go result parses.value parses.fault parses.unread parses.unreported parses.lawful
+  where
+    enough : IsEnough (λ front. unless_refused (parse front)) read.file
+    enough = read_enough (λ front. unless_refused (parse front)) name cap old new bytes read
+        (λ front more e. ap unless_refused (long front more e))
+
+    go : (r : Result X Status) → IfOk r (λ x. parse bytes.items ≡ Ok (seen x)) →
+        IfErr r (λ status. (parse bytes.items ≡ Err status) ⊎ (status ≡ OutOfMemory)) →
+        IfErr r (λ status. status ≢ ReadFault) → IfErr r (λ status. is_reported status ≡ false) →
+        IfErr r (λ status. is_usage status ≡ false) →
+        Takes (reading name >>= λ front. unless_refused (parse front)) seen old new r
+    go (Ok x) value fault unread unreported lawful = record {
       reached = Given (seen x);
       follows = inr (
         read.file,
@@ -97,7 +129,7 @@ Takes-read name cap parse seen old new bytes items (Ok x) read is_items long val
         inr (
           enough,
           follows_value (files_of old) (parse read.file.bytes) (seen x) (read.file ∷ heard_of old) (heard_of new)
-              (ap parse (read.bytes ∙ sym is_items) ∙ value) read.heard,
+              (ap parse read.bytes ∙ value) read.heard,
         ),
       );
       answer = refl;
@@ -107,11 +139,7 @@ Takes-read name cap parse seen old new bytes items (Ok x) read is_items long val
       absent = λ files told isnt. read.absent files told (λ e. absurd (cc));
       kept = read.kept;
     }
-Takes-read name cap parse seen old new bytes items (Err status) read is_items long value
-    (inl refused) unread unreported lawful =
-    let enough = read_enough (λ front. unless_refused (parse front)) name cap old new bytes read
-    (λ front more e. ap unless_refused (long front more e)) in
-    record {
+    go (Err status) value (inl refused) unread unreported lawful = record {
       reached = Stopped status;
       follows = inr (
         read.file,
@@ -120,7 +148,7 @@ Takes-read name cap parse seen old new bytes items (Err status) read is_items lo
         inr (
           enough,
           follows_stop (files_of old) (parse read.file.bytes) status (read.file ∷ heard_of old) (heard_of new)
-              (ap parse (read.bytes ∙ sym is_items) ∙ refused) read.heard,
+              (ap parse read.bytes ∙ refused) read.heard,
         ),
       );
       answer = refl;
@@ -130,8 +158,7 @@ Takes-read name cap parse seen old new bytes items (Err status) read is_items lo
       absent = λ files told isnt. read.absent files told (λ e. absurd (cc));
       kept = read.kept;
     }
-Takes-read name cap parse seen old new bytes items (Err status) read is_items long value
-    (inr full) unread unreported lawful = record {
+    go (Err status) value (inr full) unread unreported lawful = record {
       reached = Within read.file [];
       follows = inr (
         read.file,
@@ -197,70 +224,79 @@ cut_silent (Stopped refusal) status cut = refl
 cut_silent (Before name) status cut = refl
 cut_silent (Within file text) status cut = cut.0
 
-cut_steps : {A : Type 0} (reached : Reached A) (status : Status) → IsCutOff reached status →
-    (outcome_of (carried reached)).steps ≡ 0
-cut_steps (Given value) status cut = absurd cut
-cut_steps (Stopped refusal) status cut = refl
-cut_steps (Before name) status cut = refl
-cut_steps (Within file text) status cut = refl
+cut_transitions : {A : Type 0} (reached : Reached A) (status : Status) → IsCutOff reached status →
+    (outcome_of (carried reached)).transitions ≡ 0
+cut_transitions (Given value) status cut = absurd cut
+cut_transitions (Stopped refusal) status cut = refl
+cut_transitions (Before name) status cut = refl
+cut_transitions (Within file text) status cut = refl
 
-unwritten : (status : Status) → is_reported status ≡ false → status ≡ WriteFault → ⊥
-unwritten status unreported is = false≢true (sym unreported ∙ ap is_reported is)
+cut_unmade : {A : Type 0} (reached : Reached A) (status : Status) → IsCutOff reached status →
+    (outcome_of (carried reached)).made ≡ None
+cut_unmade (Given value) status cut = absurd cut
+cut_unmade (Stopped refusal) status cut = refl
+cut_unmade (Before name) status cut = refl
+cut_unmade (Within file text) status cut = refl
 
 -- A step ended the command.
-pub Ends-cut : {X Y : Type 0} (plan : Plan Y) (seen : X → Y) (f : Y → Plan Outcome) (old new : DeskView)
-    (out : SinkView) (steps : ℕ) (status : Status) →
-    Takes plan seen old new (Err status) → Ends (plan >>= f) (outside old out steps) (outside new out steps) status
-Ends-cut plan seen f old new out steps status step = record {
+pub Ends-cut : {X Y : Type 0} (makes : Option (List ℕ)) (plan : Plan Y) (seen : X → Y) (f : Y → Plan Outcome)
+    (old : Outside) (desk : DeskView) (status : Status) →
+    Takes plan seen old.desk desk (Err status) →
+    EndsMaking makes (plan >>= f) old (record old { desk = desk }) status
+Ends-cut makes plan seen f old desk status step = record {
   reached = carried step.reached;
-  follows = Follows-cut plan f status (files_of old) (heard_of old)
-      (heard_of new) step.reached step.answer step.follows;
+  follows = Follows-cut plan f status (files_of old.desk) (heard_of old.desk)
+      (heard_of desk) step.reached step.answer step.follows;
   ended = cut_ended step.reached status step.answer;
-  text = λ unwritten full. rw (cut_silent step.reached status step.answer) (Gains-none out);
-  prefix = λ e. GainsPrefix-none (outcome_of (carried step.reached)).text out;
-  out_of_memory = λ e. Gains-none out;
-  steps = λ decided. omega (arith, cut_steps step.reached status step.answer);
+  text = λ unwritten full. rw (cut_silent step.reached status step.answer) (Gains-none old.out);
+  prefix = λ e. GainsPrefix-none (outcome_of (carried step.reached)).text old.out;
+  out_of_memory = λ e. Gains-none old.out;
+  steps = λ decided. omega (arith, cut_transitions step.reached status step.answer);
+  made = λ decided. rw (cut_unmade step.reached status step.answer) step.kept.made.made;
   read_fault = λ e.
-      CannotRead-because _ _ old new
+      CannotRead-because _ _ old.desk desk
       (λ files told fault. ap (λ r. (settled r).status) (found-then plan f files ∙ ap (then_found f files) fault))
       (step.read_fault (ap Err e));
   write_fault = λ e. absurd (unwritten status step.unreported e);
   absent = λ files told isnt. step.absent files told (λ e. isnt (let is : status ≡ ReadFault = cc in is));
-  kept = step.kept;
+  kept = Keeps-any makes old.desk desk step.kept;
   count = omega arith;
 }
 
 -- A step gave its value, and the rest ended the command.
-pub Ends-then : {X Y : Type 0} (plan : Plan Y) (seen : X → Y) (f : Y → Plan Outcome) (old mid new : DeskView)
-    (out_old out_new : SinkView) (steps_old steps_new : ℕ)
-    (x : X) (status : Status) → Takes plan seen old mid (Ok x) →
-    Ends (f (seen x)) (outside mid out_old steps_old) (outside new out_new steps_new) status →
-    Ends (plan >>= f) (outside old out_old steps_old) (outside new out_new steps_new) status
-Ends-then plan seen f old mid new out_old out_new steps_old steps_new x status step rest =
-    let first : Follows (files_of old) plan (heard_of old) (heard_of mid) (Given (seen x)) =
-    subst (Follows (files_of old) plan (heard_of old) (heard_of mid)) step.answer step.follows in
-    let second : Follows (files_of old) (f (seen x)) (heard_of mid) (heard_of new) rest.reached =
-    subst (λ told. Follows told (f (seen x)) (heard_of mid) (heard_of new) rest.reached) step.kept.files rest.follows
-    in
-    let same : (files : List File) → files_of old ≡ Some files → found (plan >>= f) files ≡ found (f (seen x)) files =
+pub Ends-then : {X Y : Type 0} (makes : Option (List ℕ)) (plan : Plan Y) (seen : X → Y) (f : Y → Plan Outcome)
+    (old new : Outside) (mid : DeskView) (x : X) (status : Status) → Takes plan seen old.desk mid (Ok x) →
+    EndsMaking makes (f (seen x)) (record old { desk = mid }) new status →
+    EndsMaking makes (plan >>= f) old new status
+Ends-then makes plan seen f old new mid x status step rest =
+    let first : Follows (files_of old.desk) plan (heard_of old.desk) (heard_of mid) (Given (seen x)) =
+    subst (Follows (files_of old.desk) plan (heard_of old.desk) (heard_of mid)) step.answer step.follows in
+    let second : Follows (files_of old.desk) (f (seen x)) (heard_of mid) (heard_of new.desk) rest.reached =
+    subst (λ told. Follows told (f (seen x)) (heard_of mid) (heard_of new.desk) rest.reached) step.kept.files
+    rest.follows in
+    let same : (files : List File) → files_of old.desk ≡ Some files →
+        found (plan >>= f) files ≡ found (f (seen x)) files =
     λ files told. found-then plan f files
     ∙ ap (then_found f files)
-    (Follows-found plan (files_of old) files (heard_of old) (heard_of mid) (Given (seen x)) told first) in
+    (Follows-found plan (files_of old.desk) files (heard_of old.desk) (heard_of mid) (Given (seen x)) told first) in
     record {
       reached = rest.reached;
-      follows = Follows-then plan f (seen x) (files_of old) (heard_of old) (heard_of mid)
-          (heard_of new) rest.reached first second;
+      follows = Follows-then plan f (seen x) (files_of old.desk) (heard_of old.desk) (heard_of mid)
+          (heard_of new.desk) rest.reached first second;
       ended = rest.ended;
       text = rest.text;
       prefix = rest.prefix;
       out_of_memory = rest.out_of_memory;
       steps = rest.steps;
+      made = λ decided.
+          Makes-later (outcome_of rest.reached).made old.desk mid new.desk step.kept.made (rest.made decided);
       read_fault = λ e.
-          CannotRead-because _ _ old new (λ files told fault. ap (λ r. (settled r).status) (same files told) ∙ fault)
-          (CannotRead-later _ old mid new step.kept (rest.read_fault e));
-      write_fault = rest.write_fault;
+          CannotRead-because _ _ old.desk new.desk
+          (λ files told fault. ap (λ r. (settled r).status) (same files told) ∙ fault)
+          (CannotRead-later _ old.desk mid new.desk step.kept (rest.read_fault e));
+      write_fault = λ e. CannotWrite-later makes old new mid step.kept.made (rest.write_fault e);
       absent = λ files told isnt. rest.absent files (step.kept.files ∙ told) isnt
           ∙ step.absent files told (λ e. absurd (cc));
-      kept = KeepsFiles-then old mid new step.kept rest.kept;
+      kept = Keeps-then makes old.desk mid new.desk step.kept rest.kept;
       count = rest.count;
     }

@@ -52,11 +52,11 @@ pub Follows-found : {A : Type 0} (plan : Plan A) (told : Option (List File)) (fi
     told ≡ Some files → Follows told plan old new reached → IsFound files reached (found plan files)
 Follows-found (Give value) told files old new reached at_files h = rw (h.1) refl
 Follows-found (Stop status) told files old new reached at_files h = rw (h.1) refl
-Follows-found (Read name printed next) told files old new reached at_files (inl before) = rw (before.1) tt
-Follows-found (Read name printed next) told files old new reached at_files (inr (file, is_name, one, inl within)) =
+Follows-found (Read name shown next) told files old new reached at_files (inl before) = rw (before.1) tt
+Follows-found (Read name shown next) told files old new reached at_files (inr (file, is_name, one, inl within)) =
     rw (within.1) (λ absent. ap (λ o. option_map_or (λ bytes. found (next bytes) files) o (Err ReadFault))
     (ap (bytes_of files) (sym is_name) ∙ absent))
-Follows-found (Read name printed next) told files old new reached at_files
+Follows-found (Read name shown next) told files old new reached at_files
     (inr (file, is_name, one, inr (enough, rest))) =
     subst (IsFound files reached) (sym (found_next told files name next file at_files is_name one enough))
     (Follows-found (next file.bytes) told files (file ∷ old) new reached at_files rest)
@@ -96,11 +96,11 @@ Follows-then (Give other) f value told old mid new reached first second =
     (subst (λ (l : List Heard). Follows told (f value) l new reached) (first.0) second)
 Follows-then (Stop status) f value told old mid new reached first second =
     absurd (false≢true (sym (ap is_given (first.1))))
-Follows-then (Read name printed next) f value told old mid new reached (inl before) second =
+Follows-then (Read name shown next) f value told old mid new reached (inl before) second =
     absurd (false≢true (sym (ap is_given (before.1))))
-Follows-then (Read name printed next) f value told old mid new reached (inr (file, is_name, one, inl within)) second =
+Follows-then (Read name shown next) f value told old mid new reached (inr (file, is_name, one, inl within)) second =
     absurd (false≢true (sym (ap is_given (within.1))))
-Follows-then (Read name printed next) f value told old mid new reached
+Follows-then (Read name shown next) f value told old mid new reached
     (inr (file, is_name, one, inr (enough, rest))) second =
     inr (
       file,
@@ -119,11 +119,11 @@ pub Follows-cut : {A B : Type 0} (plan : Plan A) (f : A → Plan B) (status : St
     Follows told (plan >>= f) old new (carried reached)
 Follows-cut (Give value) f status told old new reached cut h = absurd (subst (λ r. IsCutOff r status) (h.1) cut)
 Follows-cut (Stop refusal) f status told old new reached cut h = (h.0, ap carried (h.1))
-Follows-cut (Read name printed next) f status told old new reached cut (inl before) =
+Follows-cut (Read name shown next) f status told old new reached cut (inl before) =
     inl (before.0, ap carried (before.1))
-Follows-cut (Read name printed next) f status told old new reached cut (inr (file, is_name, one, inl within)) =
+Follows-cut (Read name shown next) f status told old new reached cut (inr (file, is_name, one, inl within)) =
     inr (file, is_name, one, inl (within.0, ap carried (within.1)))
-Follows-cut (Read name printed next) f status told old new reached cut
+Follows-cut (Read name shown next) f status told old new reached cut
     (inr (file, is_name, one, inr (enough, rest))) =
     inr (
       file,
@@ -144,7 +144,7 @@ pub found-then : {A B : Type 0} (plan : Plan A) (f : A → Plan B) (files : List
     found (plan >>= f) files ≡ then_found f files (found plan files)
 found-then (Give value) f files = refl
 found-then (Stop status) f files = refl
-found-then (Read name printed next) f files = go (bytes_of files name) (λ bytes. found-then (next bytes) f files)
+found-then (Read name shown next) f files = go (bytes_of files name) (λ bytes. found-then (next bytes) f files)
   where
     go : (o : Option (List ℕ)) →
         ((bytes : List ℕ) → found (next bytes >>= f) files ≡ then_found f files (found (next bytes) files)) →

@@ -13,7 +13,8 @@ use Rattle.command_plan.specs.Plan.{Outcome, Plan, Give, Stop, Read, ◌>>=◌, 
 use Rattle.command_plan.specs.Follow.{Reached, Given, Stopped, Before, Within, IsOpened, IsPartOf, Follows, said_in}
 use Rattle.command_plan.specs.Follow.{outcome_of, status_within}
 use Rattle.command_plan.specs.Endings.{is_decided}
-use Rattle.command_plan.specs.Effects.{Outside, files_of, heard_of, CannotRead, HasNoFault, Ends, EndsAsTold}
+use Rattle.command_plan.specs.Effects.{Outside, files_of, heard_of, CannotRead, Makes, EndsMaking, EndsAsTold}
+use Rattle.command_plan.specs.Effects.{HasNoFaultMaking}
 use Rattle.command_plan.proofs.Plans.{IsFound, Follows-found, found_next}
 
 -- a text begins with another
@@ -31,8 +32,8 @@ BeginsWith-same text = record { rest = []; parts = sym (append-nil text) }
 abbrev pub IsFaithful : List File → Plan Outcome → Type 0
 IsFaithful files (Give value) = ⊤
 IsFaithful files (Stop status) = ⊤
-IsFaithful files (Read name printed next) =
-    ((bytes more : List ℕ) → BeginsWith (printed bytes) (settled (found (next (bytes ++ more)) files)).text)
+IsFaithful files (Read name shown next) =
+    ((bytes more : List ℕ) → BeginsWith (shown bytes) (settled (found (next (bytes ++ more)) files)).text)
     × ((bytes : List ℕ) → IsFaithful files (next bytes))
 
 pub faithful_unless : {A : Type 0} (files : List File) (result : Result A Status) (f : A → Plan Outcome) →
@@ -41,29 +42,29 @@ pub faithful_unless : {A : Type 0} (files : List File) (result : Result A Status
 faithful_unless files (Ok value) f each = each value
 faithful_unless files (Err status) f each = tt
 
-part_text : (files : List File) (file : Heard) (name : List ℕ) (printed : List ℕ → List ℕ)
+part_text : (files : List File) (file : Heard) (name : List ℕ) (shown : List ℕ → List ℕ)
     (next : List ℕ → Plan Outcome) →
     file.name ≡ name → IsPartOf files file →
-    ((bytes more : List ℕ) → BeginsWith (printed bytes) (settled (found (next (bytes ++ more)) files)).text) →
-    BeginsWith (printed file.bytes) (settled (found (Read name printed next) files)).text
-part_text files file name printed next is_name part begins =
+    ((bytes more : List ℕ) → BeginsWith (shown bytes) (settled (found (next (bytes ++ more)) files)).text) →
+    BeginsWith (shown file.bytes) (settled (found (Read name shown next) files)).text
+part_text files file name shown next is_name part begins =
     let there : bytes_of files name ≡ Some (file.bytes ++ part.rest) = ap (bytes_of files) (sym is_name)
     ∙ part.there in
     rw there (begins file.bytes part.rest)
 
 -- the text within a file, by how its reading stands
-within_text : (ending : Ending) (files : List File) (file : Heard) (name : List ℕ) (printed : List ℕ → List ℕ)
+within_text : (ending : Ending) (files : List File) (file : Heard) (name : List ℕ) (shown : List ℕ → List ℕ)
     (next : List ℕ → Plan Outcome) →
     file.ending ≡ ending → file.name ≡ name → ((files_there : IsOpened ending) → IsPartOf files file) →
-    ((bytes more : List ℕ) → BeginsWith (printed bytes) (settled (found (next (bytes ++ more)) files)).text) →
-    BeginsWith (said_in ending (printed file.bytes)) (settled (found (Read name printed next) files)).text
-within_text NotOpened files file name printed next is is_name part begins = BeginsWith-nothing _
-within_text GoesOn files file name printed next is is_name part begins =
-    part_text files file name printed next is_name (part tt) begins
-within_text Ended files file name printed next is is_name part begins =
-    part_text files file name printed next is_name (part tt) begins
-within_text BrokenOff files file name printed next is is_name part begins =
-    part_text files file name printed next is_name (part tt) begins
+    ((bytes more : List ℕ) → BeginsWith (shown bytes) (settled (found (next (bytes ++ more)) files)).text) →
+    BeginsWith (said_in ending (shown file.bytes)) (settled (found (Read name shown next) files)).text
+within_text NotOpened files file name shown next is is_name part begins = BeginsWith-nothing _
+within_text GoesOn files file name shown next is is_name part begins =
+    part_text files file name shown next is_name (part tt) begins
+within_text Ended files file name shown next is is_name part begins =
+    part_text files file name shown next is_name (part tt) begins
+within_text BrokenOff files file name shown next is is_name part begins =
+    part_text files file name shown next is_name (part tt) begins
 
 -- What was printed of an outcome of what was heard is the first part of what the files give.
 Follows-text : (plan : Plan Outcome) (told : Option (List File)) (files : List File) (old new : List Heard)
@@ -72,14 +73,14 @@ Follows-text : (plan : Plan Outcome) (told : Option (List File)) (files : List F
     BeginsWith (outcome_of reached).text (settled (found plan files)).text
 Follows-text (Give value) told files old new reached at_files faithful h = rw (h.1) (BeginsWith-same value.text)
 Follows-text (Stop status) told files old new reached at_files faithful h = rw (h.1) (BeginsWith-same [])
-Follows-text (Read name printed next) told files old new reached at_files faithful (inl before) =
+Follows-text (Read name shown next) told files old new reached at_files faithful (inl before) =
     rw (before.1) (BeginsWith-nothing _)
-Follows-text (Read name printed next) told files old new reached at_files faithful
+Follows-text (Read name shown next) told files old new reached at_files faithful
     (inr (file, is_name, one, inl within)) =
     rw (within.1)
-    (within_text file.ending files file name printed next refl is_name (λ opened. one files at_files opened)
+    (within_text file.ending files file name shown next refl is_name (λ opened. one files at_files opened)
     (faithful.0))
-Follows-text (Read name printed next) told files old new reached at_files faithful
+Follows-text (Read name shown next) told files old new reached at_files faithful
     (inr (file, is_name, one, inr (enough, rest))) =
     rw (found_next told files name next file at_files is_name one enough)
     (Follows-text (next file.bytes) told files (file ∷ old) new reached at_files ((faithful.1) file.bytes) rest)
@@ -113,8 +114,8 @@ decided_status status expected (inr (inl write)) decided = absurd (false≢true 
 decided_status status expected (inr (inr full)) decided = absurd (false≢true (ap is_decided (sym full) ∙ decided))
 
 -- Where the files are told, a command ends by the outcome of the files.
-pub Ends-told : (plan : Plan Outcome) (old new : Outside) (status : Status) →
-    ((files : List File) → IsFaithful files plan) → Ends plan old new status →
+pub Ends-told : {makes : Option (List ℕ)} (plan : Plan Outcome) (old new : Outside) (status : Status) →
+    ((files : List File) → IsFaithful files plan) → EndsMaking makes plan old new status →
     (files : List File) → files_of old.desk ≡ Some files → EndsAsTold (settled (found plan files)) old new status
 Ends-told plan old new status faithful ends files told =
     let is = Follows-found plan (files_of old.desk) files (heard_of old.desk)
@@ -135,10 +136,12 @@ Ends-told plan old new status faithful ends files told =
           (Follows-text plan (files_of old.desk) files (heard_of old.desk) (heard_of new.desk) ends.reached told
           (faithful files) ends.follows)
           (ends.prefix write);
-      steps = λ decided. ends.steps decided ∙ ap (λ (o : Outcome). old.steps + o.steps) (same decided);
+      steps = λ decided. ends.steps decided ∙ ap (λ (o : Outcome). old.steps + o.transitions) (same decided);
+      made = λ decided. subst (λ (o : Outcome). Makes o.made old.desk new.desk) (same decided) (ends.made decided);
     }
 
-no_read_fault : (P : List File → Type 0) (old new : Outside) → HasNoFault old new → CannotRead old.desk new.desk P → ⊥
+no_read_fault : {makes : Option (List ℕ)} (P : List File → Type 0) (old new : Outside) →
+    HasNoFaultMaking makes old new → CannotRead old.desk new.desk P → ⊥
 no_read_fault P old new none (inl rose) = none.read_faults rose
 no_read_fault P old new none (inr (rose, absent)) = none.absent rose
 
@@ -160,8 +163,8 @@ complete_reached files (Within file text) result status is never same =
     inr (full_within status file.ending never same)
 
 -- Where the outside has no fault, only memory keeps a command from its outcome.
-pub Ends-complete : (plan : Plan Outcome) (old new : Outside) (status : Status) → Ends plan old new status →
-    HasNoFault old new →
+pub Ends-complete : {makes : Option (List ℕ)} (plan : Plan Outcome) (old new : Outside) (status : Status) →
+    EndsMaking makes plan old new status → HasNoFaultMaking makes old new →
     (files : List File) → files_of old.desk ≡ Some files →
     (status ≡ (settled (found plan files)).status) ⊎ (status ≡ OutOfMemory)
 Ends-complete plan old new status ends none files told =
@@ -170,5 +173,5 @@ Ends-complete plan old new status ends none files told =
     elim ends.ended [
       | inl same ↦ complete_reached files ends.reached (found plan files) status is
           (λ e. no_read_fault _ old new none (ends.read_fault e)) same
-      | inr other ↦ elim other [ inl write ↦ absurd (none.faults (ends.write_fault write)) | inr full ↦ inr full ]
+      | inr other ↦ elim other [ inl write ↦ absurd (none.written (ends.write_fault write)) | inr full ↦ inr full ]
     ]

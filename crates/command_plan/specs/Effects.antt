@@ -7,6 +7,7 @@ use Rattle.std.specs.declared.alloc.Global.{Global}
 use Rattle.acl_outside.specs.Fault.{Rose}
 use Rattle.acl_outside.specs.Desk.{File, DeskView, KeepsCounts, bytes_of}
 use Rattle.acl_outside.specs.Heard.{Heard, GoesOn, Ended, heard}
+use Rattle.acl_outside.specs.Made.{Made, Finished, KeepsMade, made}
 use Rattle.acl_outside.specs.Sink.{SinkView, Gains, GainsPrefix}
 use Rattle.command_plan.specs.declared.status.Status.{Status}
 use Rattle.command_plan.specs.declared.status.Status.TheVariants.{ReadFault, WriteFault}
@@ -15,7 +16,6 @@ use Rattle.command_plan.specs.Plan.{Outcome, Plan, found, settled}
 use Rattle.command_plan.specs.Follow.{Reached, Given, Follows, IsOneOf, IsCutOff, outcome_of}
 use Rattle.command_plan.specs.Follow.{status_within}
 use Rattle.command_plan.specs.Endings.{is_decided, is_reported, is_usage}
-use Rattle.acl_outside.specs.Fault.{Rose}
 
 -- the files of a desk that tells them
 abbrev pub files_of : DeskView → Option (List File)
@@ -35,7 +35,7 @@ abbrev pub heard_of : DeskView → List Heard
 heard_of desk = heard desk.answers
 
 -- the outside of a command: the desk that it reads through, the sink that it prints to, and the
--- counter of the transitions that tables took
+-- counter of the transitions that the tables take
 pub record Outside : Type 0 where
   pub desk : DeskView
   pub out : SinkView
@@ -45,10 +45,38 @@ pub record Outside : Type 0 where
 abbrev pub outside : DeskView → SinkView → ℕ → Outside
 outside desk out steps = record { desk = desk; out = out; steps = steps }
 
--- The files are as before, and no count fell.
+-- what a desk was asked to make, one creation after the other, newest first
+abbrev pub made_of : DeskView → List Made
+made_of desk = made desk.answers
+
+-- The files are as before, none was made, and no count fell.
 pub record KeepsFiles (old new : DeskView) : Type 0 where
   pub files : files_of new ≡ files_of old
+  pub made : KeepsMade old new
   pub counts : KeepsCounts old new
+
+-- Where the files are told, all but the named one are as before, and no count fell.
+pub record KeepsOthers (name : List ℕ) (old new : DeskView) : Type 0 where
+  pub files : (before : List File) → files_of old ≡ Some before → (after : List File)
+      × (files_of new ≡ Some after)
+      × ((other : List ℕ) → other ≢ name → bytes_of after other ≡ bytes_of before other)
+  pub counts : KeepsCounts old new
+
+-- what a command leaves as it was: all files but the one that it makes, and all where it makes none
+abbrev pub Keeps : Option (List ℕ) → DeskView → DeskView → Type 0
+Keeps None old new = KeepsFiles old new
+Keeps (Some name) old new = KeepsOthers name old new
+
+-- The file of an outcome was made, whole, and nothing else; where it has none, nothing was made.
+abbrev pub Makes : Option File → DeskView → DeskView → Type 0
+Makes None old new = made_of new ≡ made_of old
+Makes (Some file) old new =
+    made_of new ≡ record { name = file.name; bytes = file.bytes; standing = Finished } ∷ made_of old
+
+-- What a command writes to failed: the file that it makes, and the sink where it makes none.
+abbrev pub CannotWrite : Option (List ℕ) → Outside → Outside → Type 0
+CannotWrite None old new = Rose old.out.faults new.out.faults
+CannotWrite (Some name) old new = Rose old.desk.write_faults new.desk.write_faults
 
 -- A file couldn't be read: the desk's own count rose, or a file is absent and the files say so.
 abbrev pub CannotRead : DeskView → DeskView → (List File → Type 0) → Type 0
@@ -81,6 +109,16 @@ pub record ReadsFile (name : List ℕ) (cap : ℕ) (old new : DeskView)
   pub absent : AsksForNothingAbsent old new (result ≡ Err ReadFault)
   pub kept : KeepsFiles old new
 
+-- The bytes of a file were parsed: to a value, to the status of their fault, or to none, where
+-- memory ran out.
+pub record Parses {X Y : Type 0} (parse : List ℕ → Result Y Status) (seen : X → Y) (bytes : List ℕ)
+    (result : Result X Status) : Type 0 where
+  pub value : IfOk result (λ x. parse bytes ≡ Ok (seen x))
+  pub fault : IfErr result (λ status. (parse bytes ≡ Err status) ⊎ (status ≡ OutOfMemory))
+  pub unread : IfErr result (λ status. status ≢ ReadFault)
+  pub unreported : IfErr result (λ status. is_reported status ≡ false)
+  pub lawful : IfErr result (λ status. is_usage status ≡ false)
+
 -- The answer of a step of a command that was followed so far: a value, or how the command ends.
 abbrev pub IsAnswer : {X Y : Type 0} → (X → Y) → Reached Y → Result X Status → Type 0
 IsAnswer seen reached (Ok x) = reached ≡ Given (seen x)
@@ -99,10 +137,11 @@ pub record Takes {X Y : Type 0} (plan : Plan Y) (seen : X → Y) (old new : Desk
   pub absent : AsksForNothingAbsent old new (result ≡ Err ReadFault)
   pub kept : KeepsFiles old new
 
--- A command ended by its plan. So it is for every desk and sink: the status and the bytes that
--- `out` took are those of the outcome of what was heard, each file was opened once, and nothing
--- else was asked for.
-pub record Ends (plan : Plan Outcome) (old new : Outside) (status : Status) : Type 0 where
+-- A command that makes the named file, or none, ended by its plan. So it is for every desk and
+-- sink: the status, the bytes that `out` took and the file that was made are those of the outcome
+-- of what was heard, each file was opened once, and nothing else was asked for.
+pub record EndsMaking (makes : Option (List ℕ)) (plan : Plan Outcome) (old new : Outside)
+    (status : Status) : Type 0 where
   pub reached : Reached Outcome
   pub follows : Follows (files_of old.desk) plan (heard_of old.desk) (heard_of new.desk) reached
   pub ended : (status ≡ (outcome_of reached).status)
@@ -111,34 +150,44 @@ pub record Ends (plan : Plan Outcome) (old new : Outside) (status : Status) : Ty
       Gains (outcome_of reached).text old.out new.out
   pub prefix : status ≡ WriteFault → GainsPrefix (outcome_of reached).text old.out new.out
   pub out_of_memory : status ≡ OutOfMemory → Gains [] old.out new.out
-  pub steps : is_decided status ≡ true → new.steps ≡ old.steps + (outcome_of reached).steps
+  pub steps : is_decided status ≡ true → new.steps ≡ old.steps + (outcome_of reached).transitions
+  pub made : is_decided status ≡ true → Makes (outcome_of reached).made old.desk new.desk
   -- each fault has its cause
   pub read_fault : status ≡ ReadFault →
       CannotRead old.desk new.desk (λ files. (settled (found plan files)).status ≡ ReadFault)
-  pub write_fault : status ≡ WriteFault → Rose old.out.faults new.out.faults
+  pub write_fault : status ≡ WriteFault → CannotWrite makes old new
   -- in every case
   pub absent : AsksForNothingAbsent old.desk new.desk (status ≡ ReadFault)
-  pub kept : KeepsFiles old.desk new.desk
+  pub kept : Keeps makes old.desk new.desk
   pub count : old.out.faults ≤ new.out.faults
 
--- The same against the files, where the desk tells them: status and text are those of the outcome
--- of the files.
+-- A command that makes no file ended by its plan.
+abbrev pub Ends : Plan Outcome → Outside → Outside → Status → Type 0
+Ends plan old new status = EndsMaking None plan old new status
+
+-- The same against the files, where the desk tells them: status, text and made file are those of
+-- the outcome of the files.
 pub record EndsAsTold (expected : Outcome) (old new : Outside) (status : Status) : Type 0 where
   pub decided : is_decided status ≡ true → status ≡ expected.status
   pub text : is_decided status ≡ true → Gains expected.text old.out new.out
   pub prefix : status ≡ WriteFault → GainsPrefix expected.text old.out new.out
-  pub steps : is_decided status ≡ true → new.steps ≡ old.steps + expected.steps
+  pub steps : is_decided status ≡ true → new.steps ≡ old.steps + expected.transitions
+  pub made : is_decided status ≡ true → Makes expected.made old.desk new.desk
 
 -- A line was put to a sink, or a prefix of it where the sink failed.
 pub record PutsLine (line : List ℕ) (old new : SinkView) : Type 0 where
   pub told : Gains line old new ⊎ (Rose old.faults new.faults × GainsPrefix line old new)
   pub count : old.faults ≤ new.faults
 
--- No count of the desk or of the sink rose.
-pub record HasNoFault (old new : Outside) : Type 0 where
+-- No count of what a command reads or writes to rose.
+pub record HasNoFaultMaking (makes : Option (List ℕ)) (old new : Outside) : Type 0 where
   pub read_faults : ¬ Rose old.desk.read_faults new.desk.read_faults
   pub absent : ¬ Rose old.desk.absent new.desk.absent
-  pub faults : ¬ Rose old.out.faults new.out.faults
+  pub written : ¬ CannotWrite makes old new
+
+-- The same of a command that makes no file.
+abbrev pub HasNoFault : Outside → Outside → Type 0
+HasNoFault old new = HasNoFaultMaking None old new
 
 -- The last lines were put, or a prefix of them where the sink failed.
 pub record PutsLast (lines : List ℕ) (old new : SinkView) (status : Status) : Type 0 where

@@ -4,7 +4,7 @@ use Rattle.acl_outside.specs.Desk.{File, bytes_of}
 use Rattle.acl_outside.specs.Heard.{Heard, Ending, NotOpened, GoesOn, Ended, BrokenOff}
 use Rattle.command_plan.specs.declared.status.Status.{Status}
 use Rattle.command_plan.specs.declared.status.Status.TheVariants.{ReadFault, OutOfMemory}
-use Rattle.command_plan.specs.Plan.{Plan, Give, Stop, Read, Outcome, silent}
+use Rattle.command_plan.specs.Plan.{Plan, Give, Stop, Read, Outcome, printed, silent}
 
 -- A plan was followed to its value, to a stop, to the opening of a file, or into a file with this
 -- text printed so far.
@@ -48,7 +48,7 @@ said_in BrokenOff text = text
 
 -- the same, by how the reading of the file stands
 abbrev pub said : (List ℕ → List ℕ) → Heard → List ℕ
-said printed file = said_in file.ending (printed file.bytes)
+said shown file = said_in file.ending (shown file.bytes)
 
 -- What was heard newly is one opening for each reading of the plan, in its order and of the files
 -- that are told, and the plan was followed so far. Openings stand newest first.
@@ -56,10 +56,10 @@ abbrev pub Follows : {A : Type 0} → Option (List File) → Plan A → List Hea
     Reached A → Type 0
 Follows told (Give value) old new reached = (new ≡ old) × (reached ≡ Given value)
 Follows told (Stop status) old new reached = (new ≡ old) × (reached ≡ Stopped status)
-Follows told (Read name printed next) old new reached =
+Follows told (Read name shown next) old new reached =
     ((new ≡ old) × (reached ≡ Before name))
     ⊎ ((file : Heard) × (file.name ≡ name) × IsOneOf told file × (
-    ((new ≡ file ∷ old) × (reached ≡ Within file (said printed file)))
+    ((new ≡ file ∷ old) × (reached ≡ Within file (said shown file)))
     ⊎ (IsEnough next file × Follows told (next file.bytes) (file ∷ old) new reached)))
 
 -- Where a command ends within a file, the file couldn't be read, or memory ran out.
@@ -75,8 +75,7 @@ abbrev pub outcome_of : Reached Outcome → Outcome
 outcome_of (Given outcome) = outcome
 outcome_of (Stopped status) = silent status
 outcome_of (Before name) = silent OutOfMemory
-outcome_of (Within file text) =
-    record { status = status_within file.ending; text = text; steps = 0 }
+outcome_of (Within file text) = printed (status_within file.ending) text 0
 
 -- how a part of a command may end that gives no value and prints nothing
 abbrev pub IsCutOff : {A : Type 0} → Reached A → Status → Type 0

@@ -74,7 +74,7 @@ record_of_fault (RecordTooLong number) = number
 record_of_fault TooManyRecords = max_records + 1
 record_of_fault CannotRead = 0
 
--- what stands behind the program's name, a number and a kind
+-- what stands after the program's name: a subject, a number and a kind
 abbrev pub numbered : List ℕ → ℕ → List ℕ → List ℕ
 numbered subject number kind =
     codes "aclc: " ++ subject ++ decimal number ++ codes ": " ++ kind ++ 10 ∷ []

@@ -7,6 +7,7 @@ use classbench_reader::LineFault;
 use command_words::UsageFault;
 use field_defs::Family;
 use pcap_reader::CaptureFault;
+use std::alloc::AllocError;
 
 /// How a command ended. Each status has an exit code of its own.
 #[derive(Clone, Copy, Debug, PartialEq, Eq)]
@@ -31,6 +32,17 @@ pub enum Status {
     WriteFault,
     /// There isn't enough memory. Nothing was printed.
     OutOfMemory,
+}
+
+/// Where memory runs out a command ends so, whatever it was doing.
+impl From<AllocError> for Status {
+    ghost use Rattle.command_plan.specs.declared.status.Status.TheVariants.{OutOfMemory};
+
+    ghost from_gives = { λ _ status. status ≡ OutOfMemory };
+
+    fn from(_: AllocError) -> Status {
+        Status::OutOfMemory
+    }
 }
 
 impl Status {

@@ -16,7 +16,7 @@ use Rattle.workload_gen.specs.Workload.{key_at, keys_of}
 use Rattle.seed_bench.specs.Bench.{verdicts_on_key, verdicts_on_keys}
 use Rattle.seed_bench.proofs.KeyBytes.{AreOf, AreOf-map}
 
--- the key behind so many others
+-- the key after so many others
 abbrev pub next_key : List RuleView → Lcg → ℕ → List ℕ
 next_key rules generator place = key_of_words rules (words_of KEY_WORDS (after_words (KEY_WORDS * place) generator))
 

@@ -1,4 +1,4 @@
--- Keys that stand one behind the other, as bytes.
+-- Keys that stand one after the other, as bytes.
 use Rattle.std.proofs.Common.{◌≡◌, ℕ, ◌+◌, ◌*◌, ◌/◌, ◌<◌, List, [], ◌∷◌, ◌++◌, refl, sym, ap, ◌∙◌, arith, length, map}
 use Rattle.std.proofs.Common.{take, drop, fold, append_assoc, length-append}
 use Rattle.std.specs.Prelude.{flat_map, sum_by, ⊤}
@@ -12,7 +12,7 @@ use Rattle.flat_table.specs.Table.{TableView}
 use Rattle.flat_table.specs.Walk.{key_steps}
 use Rattle.flat_table.specs.Batch.{batch_steps, key_at}
 use Rattle.acl_context.specs.Batch.{key_of_batch, verdicts_by_rules}
-use Rattle.seed_bench.specs.Bench.{steps_of_keys, verdicts_on_key, verdicts_on_keys}
+use Rattle.seed_bench.specs.Bench.{transitions_of_keys, verdicts_on_key, verdicts_on_keys}
 
 -- each key has so many bytes
 abbrev pub AreOf : ℕ → List (List ℕ) → Type 0
@@ -30,18 +30,18 @@ length-bytes len [] are = omega arith
 length-bytes len (key ∷ keys) are =
     omega (arith, length-append key (concat keys), are.0, length-bytes len keys (are.1))
 
--- the keys behind some bytes
-keys_behind : (len first : ℕ) (front : List ℕ) (keys : List (List ℕ)) → length front ≡ first * len →
+-- the keys after some bytes
+keys_after : (len first : ℕ) (front : List ℕ) (keys : List (List ℕ)) → length front ≡ first * len →
     AreOf len keys →
     map (λ k. take len (drop (k * len) (front ++ concat keys))) (range_with_len first (length keys)) ≡ keys
-keys_behind len first front [] before are = refl
-keys_behind len first front (key ∷ keys) before are =
+keys_after len first front [] before are = refl
+keys_after len first front (key ∷ keys) before are =
     let next : length (front ++ key) ≡ (first + 1) * len = omega (arith, length-append front key, before, are.0) in
     let cut : drop (first * len) (front ++ (key ++ concat keys)) ≡ key ++ concat keys =
     rw (sym before) (drop-append_seam front (key ++ concat keys)) in
     let head : take len (drop (first * len) (front ++ (key ++ concat keys))) ≡ key =
     ap (take len) cut ∙ rw (sym (are.0)) (take-append_seam key (concat keys)) in
-    let tail = keys_behind len (first + 1) (front ++ key) keys next (are.1) in
+    let tail = keys_after len (first + 1) (front ++ key) keys next (are.1) in
     ap (λ k. k ∷ map (λ k. take len (drop (k * len) (front ++ (key ++ concat keys))))
     (range_with_len (first + 1) (length keys))) head
     ∙ ap (λ ks. key ∷ ks)
@@ -52,7 +52,7 @@ keys_behind len first front (key ∷ keys) before are =
 -- the keys of their bytes
 pub keys_are : (len : ℕ) (keys : List (List ℕ)) → AreOf len keys →
     map (λ k. take len (drop (k * len) (concat keys))) (range_with_len 0 (length keys)) ≡ keys
-keys_are len keys are = keys_behind len 0 [] keys (omega arith) are
+keys_are len keys are = keys_after len 0 [] keys (omega arith) are
 
 -- a sum over a list that was mapped
 sum_by_map : {A B : Type 0} (g : B → ℕ) (f : A → B) (before : ℕ) (xs : List A) →
@@ -77,9 +77,9 @@ verdicts_are set count keys some are =
     ∙ ap (flat_map (verdicts_on_key set count)) (keys_are len keys are)
 
 -- how many transitions the keys of their bytes take
-pub steps_are : (table : TableView) (keys : List (List ℕ)) → 0 < table.key_len → AreOf table.key_len keys →
-    batch_steps table (concat keys) ≡ steps_of_keys table keys
-steps_are table keys some are =
+pub transitions_are : (table : TableView) (keys : List (List ℕ)) → 0 < table.key_len → AreOf table.key_len keys →
+    batch_steps table (concat keys) ≡ transitions_of_keys table keys
+transitions_are table keys some are =
     let at : ℕ → List ℕ = key_at table (concat keys) in
     ap (λ n. fold (λ total k. total + key_steps table (at k)) 0 (range_with_len 0 n))
     (count_is table.key_len keys some are)

@@ -12,11 +12,11 @@ use Rattle.workload_gen.specs.Workload.{rule_words, workload_of}
 use Rattle.command_words.specs.BenchWords.{BenchNumbers}
 use Rattle.seed_bench.specs.declared.lines.Measured.{Measured}
 use Rattle.seed_bench.specs.declared.tally.Tally.{Tally}
-use Rattle.seed_bench.specs.Bench.{keys_drawn, measured_of, set_drawn, steps_drawn, table_drawn, tally_drawn}
+use Rattle.seed_bench.specs.Bench.{words_of}
+use Rattle.seed_bench.specs.Bench.{keys_drawn, measured_of, set_drawn, transitions_drawn, table_drawn, tally_drawn}
 use Rattle.seed_bench.specs.Bench.{verdicts_on_keys}
-use Rattle.capture_report.specs.Report.{words_of}
 use Rattle.seed_bench.proofs.Drawing.{keys_are_whole, length-keys}
-use Rattle.seed_bench.proofs.KeyBytes.{AreOf, length-bytes, steps_are, verdicts_are}
+use Rattle.seed_bench.proofs.KeyBytes.{AreOf, length-bytes, transitions_are, verdicts_are}
 
 -- there are as many rules as were asked for
 pub length-rules : (numbers : BenchNumbers) → length (set_drawn numbers).rules ≡ numbers.rules
@@ -43,11 +43,11 @@ verdicts-drawn numbers count =
     verdicts_are (set_drawn numbers) count (keys_drawn numbers) (omega arith) (whole numbers)
 
 -- how many transitions the bytes take
-pub steps-drawn : (numbers : BenchNumbers) → Serves (set_drawn numbers) (table_drawn numbers) →
-    batch_steps (table_drawn numbers) (concat (keys_drawn numbers)) ≡ steps_drawn numbers
-steps-drawn numbers serves =
+pub transitions-drawn : (numbers : BenchNumbers) → Serves (set_drawn numbers) (table_drawn numbers) →
+    batch_steps (table_drawn numbers) (concat (keys_drawn numbers)) ≡ transitions_drawn numbers
+transitions-drawn numbers serves =
     let len : (table_drawn numbers).key_len ≡ KEY_LEN = serves.key_len in
-    steps_are (table_drawn numbers) (keys_drawn numbers) (omega (arith, len))
+    transitions_are (table_drawn numbers) (keys_drawn numbers) (omega (arith, len))
     (subst (λ n. AreOf n (keys_drawn numbers)) (sym len) (whole numbers))
 
 -- bytes of whole keys

@@ -1,4 +1,4 @@
--- Tallies of verdicts that come one behind the other.
+-- Tallies of verdicts that come one after the other.
 use Rattle.std.proofs.Common.{◌≡◌, ℕ, ◌+◌, List, ◌++◌, cond, sym, ap, ◌∙◌, arith}
 use Rattle.std.proofs.lemmas.List.Sums.{sum_by-append}
 use Rattle.std.specs.Prelude.{count_by, sum}

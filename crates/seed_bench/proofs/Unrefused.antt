@@ -32,15 +32,22 @@ unfolding add_fault
 rules_added context set layout lawful room =
     rw room (rw layout (none_refused set.layout 0 set.rules lawful.lawful))
 
--- only want of memory keeps them out of a new context
+-- The rules of a set are given to a new context of its layout, which has room for them.
+pub record AreGiven (set : RuleSetView) (given : List RuleView) (layout : List FieldDef) (most : ℕ)
+    (context : ContextView) : Type 0 where
+  pub made : context ≡ record { set = record { layout = layout; rules = [] }; max_rules = most; table = None }
+  pub same : layout ≡ set.layout
+  pub all : given ≡ set.rules
+  pub lawful : IsRuleSet set
+  pub few : length set.rules ≤ most
+
+-- only want of memory keeps them out
 pub unrefused : {T : Type 0} (set : RuleSetView) (given : List RuleView) (layout : List FieldDef) (most : ℕ)
-    (old new : ContextView) (result : Result T AddFault) →
-    old ≡ record { set = record { layout = layout; rules = [] }; max_rules = most; table = None } →
-    layout ≡ set.layout → given ≡ set.rules → IsRuleSet set → length set.rules ≤ most → Adds given old new result →
-    IfErr result (λ fault. fault ≡ OutOfMemory)
-unrefused set given layout most old new result made same all lawful few adds =
+    (old new : ContextView) (result : Result T AddFault) → AreGiven set given layout most old →
+    Adds given old new result → IfErr result (λ fault. fault ≡ OutOfMemory)
+unrefused set given layout most old new result are adds =
     let empty : ContextView = record { set = record { layout = layout; rules = [] }; max_rules = most; table = None }
     in
-    let room : has_room empty set.rules ≡ true = le-leb (0 + length set.rules) most (omega (arith, few)) in
-    adds.lawful (ap (add_fault old) all ∙ ap (λ context. add_fault context set.rules) made
-    ∙ rules_added empty set same lawful room)
+    let room : has_room empty set.rules ≡ true = le-leb (0 + length set.rules) most (omega (arith, are.few)) in
+    adds.lawful (ap (add_fault old) are.all ∙ ap (λ context. add_fault context set.rules) are.made
+    ∙ rules_added empty set are.same are.lawful room)

@@ -1,6 +1,6 @@
 -- What `bench` does: keys that a seed gives are classified in all categories, by the plain filter
 -- over rules of the seed and by their table.
-use Rattle.std.specs.Prelude.{◌≡◌, ℕ, ◌<◌, ◌⊎◌, List, [], ◌∷◌, ◌++◌, length, map, flat_map, sum_by}
+use Rattle.std.specs.Prelude.{◌≡◌, ℕ, ◌+◌, ◌*◌, ◌<◌, ◌⊎◌, List, [], ◌∷◌, ◌++◌, length, map, flat_map, sum_by}
 use Rattle.std.specs.Prelude.{codes, decimal}
 use Rattle.std.specs.List.{range_with_len}
 use Rattle.field_defs.specs.declared.field.Family.TheVariants.{Ip4}
@@ -9,6 +9,7 @@ use Rattle.rule_set.specs.Rule.{RuleSetView}
 use Rattle.rule_set.specs.Winner.{verdict}
 use Rattle.rule_split.specs.Split.{total_of}
 use Rattle.flat_table.specs.Table.{TableView}
+use Rattle.flat_table.specs.Sound.{row_len}
 use Rattle.flat_table.specs.Walk.{key_steps}
 use Rattle.acl_context.specs.Context.{built_of}
 use Rattle.workload_gen.specs.Workload.{keys_of, workload_of}
@@ -18,9 +19,15 @@ use Rattle.command_plan.specs.declared.status.Status.{Status}
 use Rattle.command_plan.specs.declared.status.Status.TheVariants.{OutOfMemory, TooLarge}
 use Rattle.seed_bench.specs.declared.tally.Tally.{Tally}
 use Rattle.command_words.specs.BenchWords.{BenchNumbers}
-use Rattle.capture_report.specs.Classifier.{all_categories}
-use Rattle.capture_report.specs.Report.{words_of}
 use Rattle.seed_bench.specs.Tally.{tally_of}
+
+-- how many categories there are
+abbrev pub all_categories : ℕ
+all_categories = 16
+
+-- how many words of 64 bits a table has, its rows with them
+abbrev pub words_of : TableView → ℕ
+words_of table = length table.words + row_len * length table.rows
 
 -- how many words the table may have: 128 MiB
 abbrev pub bench_budget : ℕ
@@ -31,7 +38,7 @@ abbrev pub set_drawn : BenchNumbers → RuleSetView
 set_drawn numbers =
     record { layout = ip4_fields; rules = (workload_of numbers.seed numbers.rules).rules }
 
--- the keys that are drawn behind the rules
+-- the keys that are drawn after the rules
 abbrev pub keys_drawn : BenchNumbers → List (List ℕ)
 keys_drawn numbers = keys_of (workload_of numbers.seed numbers.rules).rules
     (workload_of numbers.seed numbers.rules).generator numbers.packets
@@ -57,8 +64,8 @@ abbrev pub verdicts_on_keys : RuleSetView → ℕ → List (List ℕ) → List �
 verdicts_on_keys set categories keys = flat_map (verdicts_on_key set categories) keys
 
 -- how many transitions the keys take, over all tries
-abbrev pub steps_of_keys : TableView → List (List ℕ) → ℕ
-steps_of_keys table keys = sum_by (key_steps table) keys
+abbrev pub transitions_of_keys : TableView → List (List ℕ) → ℕ
+transitions_of_keys table keys = sum_by (key_steps table) keys
 
 -- what the rules say of the keys in all 16 categories
 abbrev pub tally_drawn : BenchNumbers → Tally
@@ -77,10 +84,10 @@ measured_of numbers = record {
 }
 
 -- how many transitions the keys take
-abbrev pub steps_drawn : BenchNumbers → ℕ
-steps_drawn numbers = steps_of_keys (table_drawn numbers) (keys_drawn numbers)
+abbrev pub transitions_drawn : BenchNumbers → ℕ
+transitions_drawn numbers = transitions_of_keys (table_drawn numbers) (keys_drawn numbers)
 
--- a line of two numbers, each behind its label
+-- a line of two numbers, each after its label
 abbrev pub pair_text : List ℕ → ℕ → List ℕ → ℕ → List ℕ
 pair_text first_label first second_label second =
     first_label ++ decimal first ++ second_label ++ decimal second ++ line_feed ∷ []

@@ -16,7 +16,7 @@ use workload_gen::{KEY_LEN, Workload};
 /// Keys that were drawn.
 #[derive(Debug, Drop)]
 pub struct Drawn {
-    /// The bytes of the keys, one key behind the other.
+    /// The bytes of the keys, one key after the other.
     pub keys: Vec<u8>,
     /// What the rules say of them, by the plain filter.
     pub plain: Tally,

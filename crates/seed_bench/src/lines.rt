@@ -38,8 +38,8 @@ pub fn bench_lines(measured: &Measured, into: &mut [u8; LINE_ROOM]) -> usize
     append_pair(into, at, b"tries ", tries, b" words ", measured.words)
 }
 
-/// Writes a line of two numbers, each behind its label, at the place `at`, and gives the place
-/// behind it.
+/// Writes a line of two numbers, each after its label, at the place `at`, and gives the place
+/// after it.
 fn append_pair(
     into: &mut [u8; LINE_ROOM],
     at: usize,

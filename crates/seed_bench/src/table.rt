@@ -62,7 +62,7 @@ pub fn built_context(alloc: Global, rules: &RuleSet) -> Result<AclContext, Statu
 /// What the table says of the keys in all of the categories. It takes memory for the verdicts,
 /// before the first step.
 ///
-/// `keys` has the bytes of at most 65,536 keys, one behind the other.
+/// `keys` has the bytes of at most 65,536 keys, one after the other.
 pub fn table_tally<L: Ledger>(
     alloc: Global,
     context: &AclContext,

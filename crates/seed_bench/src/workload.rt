@@ -3,7 +3,7 @@
 ghost use Rattle.std.specs.Prelude.{◌≡◌, ◌+◌, ◌≤◌, IfOk, IfErr, OnOk, OnErr};
 ghost use Rattle.rule_split.specs.Split.{total_of};
 ghost use Rattle.seed_bench.specs.Bench.{IsRefused, bench_budget, measured_of, set_drawn};
-ghost use Rattle.seed_bench.specs.Bench.{steps_drawn};
+ghost use Rattle.seed_bench.specs.Bench.{transitions_drawn};
 ghost use Rattle.command_words.specs.CommandLine.{numbers_in};
 
 use crate::keys::draw_keys;
@@ -27,24 +27,15 @@ pub fn measure<L: Ledger>(
     ensures measured { IfOk result (λ measured. measured ≡ measured_of (numbers_in numbers)) }
     ensures fits { OnOk result
         (total_of (set_drawn (numbers_in numbers)) bench_budget ≤ bench_budget) }
-    ensures steps { OnOk result (steps.new ≡ steps.old + steps_drawn (numbers_in numbers)) }
+    ensures steps { OnOk result (steps.new ≡ steps.old + transitions_drawn (numbers_in numbers)) }
     ensures refused { IfErr result (λ status. IsRefused (set_drawn (numbers_in numbers)) status) }
     ensures idle { OnErr result (steps.new ≡ steps.old) }
 {
-    let Ok(mut workload) = make_rules(alloc, numbers.seed, numbers.rules) else {
-        return Err(Status::OutOfMemory);
-    };
+    let mut workload = make_rules(alloc, numbers.seed, numbers.rules)?;
     let cats = all_categories();
-    let context = match built_context(alloc, workload.rules()) {
-        Ok(context) => context,
-        Err(status) => return Err(status),
-    };
-    let Ok(drawn) = draw_keys(alloc, &mut workload, numbers.packets, cats) else {
-        return Err(Status::OutOfMemory);
-    };
-    let Ok(table) = table_tally(alloc, &context, &drawn.keys, cats, steps) else {
-        return Err(Status::OutOfMemory);
-    };
+    let context = built_context(alloc, workload.rules())?;
+    let drawn = draw_keys(alloc, &mut workload, numbers.packets, cats)?;
+    let table = table_tally(alloc, &context, &drawn.keys, cats, steps)?;
     let Some(built) = context.table() else {
         unreachable!()
     };

@@ -12,9 +12,9 @@ use Rattle.acl_context.specs.Context.{ContextView, built_of}
 use Rattle.workload_gen.specs.Workload.{WorkloadView, keys_of}
 use Rattle.command_words.specs.CommandLine.{numbers_in}
 use Rattle.seed_bench.specs.Tally.{tally_of}
+use Rattle.seed_bench.specs.Bench.{words_of}
 use Rattle.seed_bench.specs.Bench.{bench_budget, keys_drawn, set_drawn, table_drawn, verdicts_on_keys}
-use Rattle.capture_report.specs.Report.{words_of}
-use Rattle.seed_bench.proofs.Measuring.{few_bytes, length-drawn, length-rules, measured-is, steps-drawn, verdicts-drawn}
+use Rattle.seed_bench.proofs.Measuring.{few_bytes, length-drawn, length-rules, measured-is, transitions-drawn, verdicts-drawn}
 use Rattle.seed_bench.proofs.Measuring.{whole_bytes}
 use Rattle.seed_bench.proofs.workload.measure.Goals as goal
 
@@ -30,36 +30,36 @@ pub built_context-requires-clause-few : goal.built_context-requires-clause-few
 built_context-requires-clause-few g c =
     let len : length c.rules.result.now.rules ≡ c.args.numbers.rules =
     ap (λ (s : RuleSetView). length s.rules) c.rules.ensures
-    ∙ ap (λ (w : WorkloadView). length w.rules) c.in-Ok.ensures ∙ length-rules (numbers_in c.args.numbers) in
+    ∙ ap (λ (w : WorkloadView). length w.rules) c.in_ok-workload.ensures ∙ length-rules (numbers_in c.args.numbers) in
     rw len c.args.numbers.few_rules
 
 pub table_tally-requires-clause-whole : goal.table_tally-requires-clause-whole
 table_tally-requires-clause-whole g c =
     let numbers = numbers_in c.args.numbers in
     let bytes : c.deref.result.now ≡ concat (keys_drawn numbers) =
-    c.deref.ensures.value ∙ c.in-Ok-draw_keys.ensures.keys
-    ∙ ap (λ (w : WorkloadView). concat (keys_by numbers.packets w)) c.in-Ok.ensures in
+    c.deref.ensures.value ∙ c.in_ok-drawn.ensures.keys
+    ∙ ap (λ (w : WorkloadView). concat (keys_by numbers.packets w)) c.in_ok-workload.ensures in
     whole_bytes c.deref.result.now numbers.packets (ap (λ b. length b) bytes ∙ length-drawn numbers)
 
 pub table_tally-requires-clause-few : goal.table_tally-requires-clause-few
 table_tally-requires-clause-few g c =
     let numbers = numbers_in c.args.numbers in
     let bytes : c.deref.result.now ≡ concat (keys_drawn numbers) =
-    c.deref.ensures.value ∙ c.in-Ok-draw_keys.ensures.keys
-    ∙ ap (λ (w : WorkloadView). concat (keys_by numbers.packets w)) c.in-Ok.ensures in
+    c.deref.ensures.value ∙ c.in_ok-drawn.ensures.keys
+    ∙ ap (λ (w : WorkloadView). concat (keys_by numbers.packets w)) c.in_ok-workload.ensures in
     few_bytes c.deref.result.now numbers.packets most_keys (ap (λ b. length b) bytes ∙ length-drawn numbers)
     c.args.numbers.few_packets
 
 pub returns-clause-measured : goal.returns-clause-measured
 returns-clause-measured g c =
     let numbers = numbers_in c.args.numbers in
-    let drawn = c.in-Ok-draw_keys.ensures in
-    let context = c.in-Ok-built_context.ensures.context in
+    let drawn = c.in_ok-drawn.ensures in
+    let context = c.in_ok-context.ensures.context in
     let bytes : c.deref.result.now ≡ concat (keys_drawn numbers) =
     c.deref.ensures.value ∙ drawn.keys
-    ∙ ap (λ (w : WorkloadView). concat (keys_by numbers.packets w)) c.in-Ok.ensures in
-    let rules : c.rules.result.now ≡ set_drawn numbers = c.rules.ensures ∙ ap set_by c.in-Ok.ensures in
-    let set : c.in-Ok-built_context.context.set ≡ set_drawn numbers =
+    ∙ ap (λ (w : WorkloadView). concat (keys_by numbers.packets w)) c.in_ok-workload.ensures in
+    let rules : c.rules.result.now ≡ set_drawn numbers = c.rules.ensures ∙ ap set_by c.in_ok-workload.ensures in
+    let set : c.in_ok-context.context.set ≡ set_drawn numbers =
     ap (λ (x : ContextView). x.set) context ∙ rules in
     let some : Some c.in-Some.built.now ≡ Some (table_drawn numbers) =
     c.in-Some.ensures.table ∙ ap (λ (x : ContextView). x.table) context
@@ -68,11 +68,11 @@ returns-clause-measured g c =
     ap (λ (o : Option TableView). unwrap_or o (table_drawn numbers)) some in
     let count = c.all_categories-cats.ensures in
     let all_says = ap (λ n. tally_of (verdicts_on_keys (set_drawn numbers) n (keys_drawn numbers))) count in
-    measured-is numbers c.in-Ok-draw_keys.drawn.plain c.in-Ok-table_tally.table c.tries.result c.total_words.result
+    measured-is numbers c.in_ok-drawn.drawn.plain c.in_ok-table.table c.tries.result c.total_words.result
     (drawn.plain
     ∙ ap (λ (w : WorkloadView). tally_of (verdicts_on_keys (set_by w) c.all_categories-cats.result.count
-    (keys_by numbers.packets w))) c.in-Ok.ensures ∙ all_says)
-    (c.in-Ok-table_tally.ensures.tally
+    (keys_by numbers.packets w))) c.in_ok-workload.ensures ∙ all_says)
+    (c.in_ok-table.ensures.tally
     ∙ ap (λ (s : RuleSetView). tally_of (verdicts_by_rules s c.all_categories-cats.result.count c.deref.result.now))
     set
     ∙ ap (λ b. tally_of (verdicts_by_rules (set_drawn numbers) c.all_categories-cats.result.count b)) bytes
@@ -83,18 +83,18 @@ returns-clause-measured g c =
 pub returns-clause-steps : goal.returns-clause-steps
 returns-clause-steps g c =
     let numbers = numbers_in c.args.numbers in
-    let context = c.in-Ok-built_context.ensures.context in
+    let context = c.in_ok-context.ensures.context in
     let old = c.args.steps.now in
     let bytes : c.deref.result.now ≡ concat (keys_drawn numbers) =
-    c.deref.ensures.value ∙ c.in-Ok-draw_keys.ensures.keys
-    ∙ ap (λ (w : WorkloadView). concat (keys_by numbers.packets w)) c.in-Ok.ensures in
-    let rules : c.rules.result.now ≡ set_drawn numbers = c.rules.ensures ∙ ap set_by c.in-Ok.ensures in
-    let table : c.in-Ok-built_context.context.table ≡ Some (table_drawn numbers) =
+    c.deref.ensures.value ∙ c.in_ok-drawn.ensures.keys
+    ∙ ap (λ (w : WorkloadView). concat (keys_by numbers.packets w)) c.in_ok-workload.ensures in
+    let rules : c.rules.result.now ≡ set_drawn numbers = c.rules.ensures ∙ ap set_by c.in_ok-workload.ensures in
+    let table : c.in_ok-context.context.table ≡ Some (table_drawn numbers) =
     ap (λ (x : ContextView). x.table) context ∙ ap (λ (s : RuleSetView). Some (built_of s bench_budget)) rules in
     let serves : Serves (set_drawn numbers) (table_drawn numbers) =
-    subst (λ (s : RuleSetView). Serves s (built_of s bench_budget)) rules c.in-Ok-built_context.ensures.serves in
+    subst (λ (s : RuleSetView). Serves s (built_of s bench_budget)) rules c.in_ok-context.ensures.serves in
     let taken : c.table_tally.new.steps ≡ old + batch_steps (table_drawn numbers) c.deref.result.now =
     subst (λ (o : Option TableView). IfSome o (λ t. c.table_tally.new.steps ≡ old + batch_steps t c.deref.result.now))
-    table c.in-Ok-table_tally.ensures.steps in
+    table c.in_ok-table.ensures.steps in
     taken ∙ ap (λ b. old + batch_steps (table_drawn numbers) b) bytes
-    ∙ ap (λ n. old + n) (steps-drawn numbers serves)
+    ∙ ap (λ n. old + n) (transitions-drawn numbers serves)
