@@ -1,5 +1,5 @@
 -- The numbers of a rule that is lawful for IPv4.
-use Rattle.std.proofs.Common.{◌≡◌, ℕ, ◌^◌, ◌<◌, List, [], ◌∷◌, length, get_or, None, arith}
+use Rattle.std.proofs.Common.{◌≡◌, ◌^◌, ◌<◌, List, [], ◌∷◌, length, get_or, None, arith}
 use Rattle.std.specs.List.{AllZip}
 use Rattle.std.proofs.lemmas.Bool.{and_parts, ltb-true}
 use Rattle.field_defs.specs.declared.field.FieldDef.{FieldDef}

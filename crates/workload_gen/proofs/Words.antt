@@ -1,5 +1,5 @@
 -- The words of a generator, one more at a time and in two parts.
-use Rattle.std.proofs.Common.{◌≡◌, ℕ, zero, suc, ◌+◌, List, [], ◌∷◌, ◌++◌, refl, ap, ◌∙◌, arith, suc-add, add-one}
+use Rattle.std.proofs.Common.{◌≡◌, ℕ, zero, suc, ◌+◌, [], ◌∷◌, ◌++◌, refl, ap, ◌∙◌, arith}
 use Rattle.std.proofs.lemmas.List.FromFn.{map-range_with_len_more}
 use Rattle.rand_pcg.specs.Lcg.{Lcg, next, next_state, state_after}
 use Rattle.rand_pcg.specs.Pcg.{multiplier_64}

@@ -1,5 +1,5 @@
 -- Examples of the words of a seed, each checked by evaluation.
-use Rattle.std.specs.Prelude.{◌≡◌, List, [], ◌∷◌, refl}
+use Rattle.std.specs.Prelude.{◌≡◌, [], ◌∷◌, refl}
 use Rattle.rand_pcg.specs.Lcg.{state_after}
 use Rattle.workload_gen.specs.Draws.{seeded, words_of, after_words}
 

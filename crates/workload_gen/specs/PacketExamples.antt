@@ -1,5 +1,5 @@
 -- Examples of keys of words, each checked by evaluation.
-use Rattle.std.specs.Prelude.{◌≡◌, ℕ, List, [], ◌∷◌, ◌++◌, refl}
+use Rattle.std.specs.Prelude.{◌≡◌, ℕ, List, [], ◌∷◌, refl}
 use Rattle.rule_set.specs.Rule.{RuleView}
 use Rattle.workload_gen.specs.Rule.{rule_of}
 use Rattle.workload_gen.specs.Packet.{key_of_words}

@@ -1,5 +1,5 @@
 -- Examples of rules of words, each checked by evaluation.
-use Rattle.std.specs.Prelude.{◌≡◌, pos, List, [], ◌∷◌, refl}
+use Rattle.std.specs.Prelude.{◌≡◌, pos, [], ◌∷◌, refl}
 use Rattle.field_defs.specs.declared.field.FieldValue.TheVariants.{Mask, Range, Bitmask}
 use Rattle.workload_gen.specs.Rule.{rule_of, protocol_value, source_value, destination_value}
 use Rattle.workload_gen.specs.Rule.{destination_ports}

@@ -1,7 +1,6 @@
 -- Examples of workloads, each checked by evaluation.
-use Rattle.std.specs.Prelude.{◌≡◌, List, [], ◌∷◌, length, map, refl}
+use Rattle.std.specs.Prelude.{◌≡◌, [], ◌∷◌, refl}
 use Rattle.rand_pcg.specs.Lcg.{state_after}
-use Rattle.workload_gen.specs.Draws.{seeded, words_of}
 use Rattle.workload_gen.specs.Rule.{rule_of}
 use Rattle.workload_gen.specs.Workload.{keys_of, rules_of, workload_of}
 

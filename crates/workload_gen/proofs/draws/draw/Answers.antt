@@ -1,10 +1,10 @@
 -- Each turn draws one more word.
-use Rattle.std.proofs.Common.{◌≡◌, ℕ, ◌+◌, ◌<◌, List, [], ◌∷◌, ◌++◌, length, length-set, take, refl, sym, ap, ◌∙◌}
+use Rattle.std.proofs.Common.{◌≡◌, ℕ, [], ◌∷◌, ◌++◌, length-set, refl, sym, ap, ◌∙◌}
 use Rattle.std.proofs.Common.{arith}
 use Rattle.std.proofs.lemmas.List.{length-replicate, take_more_set, take_all}
 use Rattle.rand_pcg.specs.Lcg.{next}
 use Rattle.rand_pcg.specs.Pcg.{multiplier_64, pcg32}
-use Rattle.workload_gen.specs.Draws.{after_words, word_at, words_of}
+use Rattle.workload_gen.specs.Draws.{word_at, words_of}
 use Rattle.workload_gen.proofs.Words.{after_more, after_none, words_more}
 use Rattle.workload_gen.proofs.draws.draw.Goals as goal
 

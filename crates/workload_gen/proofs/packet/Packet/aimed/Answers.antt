@@ -1,5 +1,5 @@
 -- A rule of the IPv4 layout has five values, whose numbers fit the fields of a packet.
-use Rattle.std.proofs.Common.{◌≡◌, ◌<◌, ◌^◌, length, sym, arith}
+use Rattle.std.proofs.Common.{arith}
 use Rattle.field_defs.specs.declared.field.FieldValue.TheVariants.{Mask}
 use Rattle.workload_gen.proofs.Held.{numbers_held}
 use Rattle.workload_gen.proofs.packet.Packet.aimed.Goals as goal
