@@ -1,0 +1,4 @@
+pub mod Folds
+pub mod Maps
+pub mod Positions
+pub mod Sums
