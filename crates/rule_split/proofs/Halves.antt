@@ -12,8 +12,7 @@ use Rattle.std.proofs.Math.Seq.{take-append_seam, drop-append_seam}
 use Rattle.trie_merge.specs.Levels.{IsGroup}
 use Rattle.rule_set.specs.Rule.{RuleSetView}
 use Rattle.rule_groups.specs.Groups.{greatest}
-use Rattle.rule_split.specs.Divide.{is_wild_in, wild_rules, bound_rules, smaller_side, smaller_sides, divider}
-use Rattle.rule_split.specs.Divide.{divided}
+use Rattle.rule_split.specs.Divide.{is_wild_in, wild_rules, bound_rules, smaller_side, smaller_sides, divider, divided}
 use Rattle.rule_split.specs.Divide.{half_of}
 use Rattle.rule_split.proofs.Greatest.{greatest_there}
 
