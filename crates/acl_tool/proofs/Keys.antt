@@ -16,8 +16,8 @@ use Rattle.flat_table.specs.Table.{TableView}
 use Rattle.flat_table.specs.Walk.{key_steps, tries_of, walk_steps, table_verdict}
 use Rattle.flat_table.specs.Batch.{LengthsFit, key_at, keys_in, key_verdicts, first_verdicts, first_steps}
 use Rattle.flat_table.specs.Batch.{batch_verdicts, batch_steps}
-use Rattle.flat_table.proofs.Lanes.{places_bound}
-use Rattle.flat_table.proofs.Taken.{steps_bound}
+use Rattle.flat_table.proofs.Offered.{places_bound}
+use Rattle.flat_table.proofs.Offered.{transitions_bound}
 use Rattle.header_extract.specs.declared.class.Class.{Class}
 use Rattle.header_extract.specs.declared.class.Class.TheVariants.{Ip4, Ip6, Other, Short}
 use Rattle.header_extract.specs.Class.{FrameClass, key_len}
