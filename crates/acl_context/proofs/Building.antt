@@ -6,8 +6,7 @@ use Rattle.rule_set.specs.Rule.{RuleSetView}
 use Rattle.rule_set.specs.Groups.{IsPartition}
 use Rattle.trie_merge.specs.Levels.{LevelsView, levels_of, max_cap}
 use Rattle.rule_split.specs.Split.{groups_of, total_of, plan_of, PlanView}
-use Rattle.rule_split.proofs.Groups.{groups_hold}
-use Rattle.rule_split.proofs.Totals.{total_of_words}
+use Rattle.rule_split.proofs.Offered.{groups_hold, total_of_words}
 use Rattle.flat_table.specs.Sound.{most_tries, most_words, row_len}
 use Rattle.table_fill.specs.Filled.{filled}
 use Rattle.acl_context.specs.Context.{built_of}

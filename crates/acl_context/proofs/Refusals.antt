@@ -1,6 +1,6 @@
 -- The refusals of rules that are given, one after the other.
-use Rattle.std.proofs.Common.{◌≡◌, ℕ, ◌+◌, ◌<◌, ◌≤◌, List, map, drop, length, Option, Some, None, get_or, refl, sym}
-use Rattle.std.proofs.Common.{ap, ◌∙◌, arith, zero-add}
+use Rattle.std.proofs.Common.{◌≡◌, ℕ, ◌+◌, ◌<◌, ◌≤◌, List, map, drop, length, Option, Some, None, get_or, refl, sym, ap}
+use Rattle.std.proofs.Common.{◌∙◌, arith, zero-add}
 use Rattle.std.specs.List.{enumerate_from}
 use Rattle.std.specs.Option.{option_map}
 use Rattle.std.proofs.lemmas.List.{drop_more, drop_all, get_or-map}
@@ -49,7 +49,7 @@ unfolding first_from
 first_from_here layout given place rule fault below is refused =
     rw (drop_more given place rule below, is, refused) refl
 
--- behind the last rule nothing is refused
+-- after the last rule nothing is refused
 pub first_from_end : (layout : List FieldDef) (given : List RuleView) (place : ℕ) → length given ≤ place →
     first_from layout given place ≡ None
 unfolding first_from

@@ -1,12 +1,12 @@
 -- A table that answers as rules do gives their verdicts for the keys of a batch.
-use Rattle.std.proofs.Common.{◌≡◌, ℕ, zero, suc, ◌+◌, ◌*◌, ◌/◌, ◌<◌, ◌≤◌, List, ◌∷◌, ◌++◌, map, take, drop, length}
-use Rattle.std.proofs.Common.{get_or, refl, ap, ◌∙◌}
-use Rattle.std.proofs.Common.{subst, arith, length-take, length-drop}
+use Rattle.std.proofs.Common.{◌≡◌, ℕ, ◌*◌, ◌/◌, ◌<◌, ◌≤◌, List, map, take, drop, length, get_or, ap, ◌∙◌, subst, arith}
+use Rattle.std.proofs.Common.{length-take, length-drop}
 use Rattle.std.specs.Prelude.{flat_map}
 use Rattle.std.specs.List.{range_with_len}
 use Rattle.std.proofs.lemmas.List.{get_or_default}
 use Rattle.std.proofs.lemmas.List.Elements.{All-take, All-drop}
 use Rattle.std.proofs.Math.Nat.{mul-le-mul_right}
+use Rattle.list_lemmas.proofs.Maps.{map_on_range, flat_map_on_range}
 use Rattle.field_defs.specs.Layout.{key_len_of}
 use Rattle.rule_set.specs.Rule.{RuleSetView}
 use Rattle.rule_set.specs.Winner.{verdict}
@@ -17,22 +17,6 @@ use Rattle.flat_table.specs.Walk.{table_verdict}
 use Rattle.flat_table.specs.Batch.{keys_of_len, key_at, key_verdicts, batch_verdicts}
 use Rattle.table_fill.specs.Serves.{Serves}
 use Rattle.acl_context.specs.Batch.{key_of_batch, verdicts_by_rules}
-
--- equal elements make equal lists
-map_on_range : (f g : ℕ → ℕ) (start n : ℕ) → ((k : ℕ) → k < start + n → f k ≡ g k) →
-    map f (range_with_len start n) ≡ map g (range_with_len start n)
-map_on_range f g start zero same = refl
-map_on_range f g start (suc n) same = λ i.
-    same start (omega arith) i
-    ∷ map_on_range f g (start + 1) n (λ k below. same k (omega (arith, below))) i
-
--- and equal parts
-flat_map_on_range : (f g : ℕ → List ℕ) (start n : ℕ) → ((k : ℕ) → k < start + n → f k ≡ g k) →
-    flat_map f (range_with_len start n) ≡ flat_map g (range_with_len start n)
-flat_map_on_range f g start zero same = refl
-flat_map_on_range f g start (suc n) same = λ i.
-    same start (omega arith) i
-    ++ flat_map_on_range f g (start + 1) n (λ k below. same k (omega (arith, below))) i
 
 -- numbers that fit eight bits are bytes
 pub are_bytes_from_fits : (keys : List ℕ) → ((k : ℕ) → get_or keys k 0 < 256) → AreBytes keys
@@ -68,8 +52,8 @@ batch_by_rules set table count keys serves few bytes whole =
     λ k. All-take (λ (byte : ℕ). byte < 256) (key_len_of set.layout) (drop (k * key_len_of set.layout) keys)
     (All-drop (λ (byte : ℕ). byte < 256) (k * key_len_of set.layout) keys bytes) in
     ap (λ (len : ℕ). flat_map by_table (range_with_len 0 (length keys / len))) serves.key_len
-    ∙ flat_map_on_range by_table by_rules 0 n (λ k below.
+    ∙ flat_map_on_range by_table by_rules 0 n (λ k from below.
     ap (key_verdicts table count) (same_key k)
     ∙ map_on_range (table_verdict table (key k)) (verdict set.layout set.rules (key k)) 0 count
-    (λ category within. serves.verdicts (key k) category (are_bytes k)
+    (λ category least within. serves.verdicts (key k) category (are_bytes k)
     (key_length set keys k whole (omega (arith, below))) (omega (arith, within, few))))

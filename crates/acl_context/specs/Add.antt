@@ -31,7 +31,7 @@ unfoldable pub add_fault : ContextView → List RuleView → Option AddFault
 add_fault context given =
     first_of (fault_unless (has_room context given) Full ∷ refusals context.set.layout given)
 
--- The rules are given to a context, which answers: it adds all of them behind its own, or refuses
+-- The rules are given to a context, which answers: it adds all of them after its own, or refuses
 -- them and stays as it was. It refuses them for their fault, and where there is none for want of
 -- memory alone.
 pub record Adds {T : Type 0} (given : List RuleView) (old new : ContextView)

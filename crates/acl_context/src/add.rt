@@ -79,7 +79,7 @@ pub(crate) fn check_all<R: Given>(layout: &Layout, rules: &[R]) -> Result<(), Ad
     Ok(())
 }
 
-/// Adds lawful rules behind those of the set, all or none.
+/// Adds lawful rules after those of the set, all or none.
 pub(crate) fn push_all<R: Given>(
     alloc: Global,
     set: &mut RuleSet,
@@ -101,7 +101,7 @@ pub(crate) fn push_all<R: Given>(
     Ok(())
 }
 
-/// Adds a lawful rule behind those of the set.
+/// Adds a lawful rule after those of the set.
 fn push_one<R: Given>(alloc: Global, set: &mut RuleSet, rule: &R) -> Result<(), AllocError>
     requires room { length set.old.rules < max_rules }
     requires lawful { rule_fault set.old.layout (R.view rule.now).tag (R.view rule.now).fields

@@ -5,9 +5,9 @@ ghost use Rattle.std.specs.Prelude.{Some, None, Ok, Err, IfSome, IsErr, OnOk, On
 ghost use Rattle.field_defs.specs.Layout.{key_len_of, max_fields};
 ghost use Rattle.rule_set.specs.Rule.{RuleSetView};
 ghost use Rattle.rule_set.specs.declared.set.TheConstants.{MAX_RULES};
-ghost use Rattle.trie_merge.specs.Levels.{max_cap};
+ghost use Rattle.flat_table.specs.Sound.{most_words};
 ghost use Rattle.rule_split.specs.Split.{total_of};
-ghost use Rattle.flat_table.specs.Batch.{KeysFit, batch_verdicts, batch_steps};
+ghost use Rattle.flat_table.specs.Batch.{KeysFit, batch_verdicts, batch_transitions};
 ghost use Rattle.table_fill.specs.Serves.{Serves};
 ghost use Rattle.acl_context.specs.Context.{built_of, rule_view, with_rules};
 ghost use Rattle.acl_context.specs.Add.{Adds};
@@ -89,7 +89,7 @@ impl AclContext {
         }
     }
 
-    /// Adds the rules behind those that are held, all or none. The table stays.
+    /// Adds the rules after those that are held, all or none. The table stays.
     ///
     /// `Full` comes first, then the first rule that [`rule_set::check_rule`] refuses. They take
     /// memory only where neither comes.
@@ -109,13 +109,13 @@ impl AclContext {
 
     /// Makes the table of the rules that are held, and puts it in the place of the one before.
     ///
-    /// The budget is from 1 to [`trie_merge::MAX_CAP`] words. `TooLarge` comes exactly where
+    /// The budget is from 1 to [`flat_table::MAX_WORDS`] words. `TooLarge` comes exactly where
     /// [`rule_split::plan`] ends above the budget, unless memory ran out before. After a refusal
     /// the table of the build before is still there. It takes memory for the merged states, which
     /// it gives back, and for the table.
     pub fn build(&mut self, budget: u64) -> Result<(), BuildFault>
         requires some { 0 < budget }
-        requires budget { budget ≤ max_cap }
+        requires budget { budget ≤ most_words }
         ensures table { OnOk result
             (self.new ≡ record self.old { table = Some (built_of self.old.set budget) }) }
         // The new table answers for each key and category as the rules that are held.
@@ -134,13 +134,13 @@ impl AclContext {
         }
     }
 
-    /// Writes the verdicts of the keys of a batch by the table, and says how many words their walks
-    /// took.
+    /// Writes the verdicts of the keys of a batch by the table, and says how many transitions their
+    /// walks took.
     ///
     /// `keys` has the bytes of at most 65,536 keys of the layout, one after the other, and `out`
     /// has room for the verdicts of each: the categories from 0 on of the first key, then those of
     /// the second. A verdict is the userdata of the winner, or 0 where no rule wins. On `NotBuilt`
-    /// nothing is written and no step counted. It takes no memory.
+    /// nothing is written and no transition counted. It takes no memory.
     pub fn classify<L: Ledger>(
         &self,
         keys: &[u8],
@@ -155,9 +155,9 @@ impl AclContext {
         ensures verdicts { IfSome self.now.table
             (λ table. out.new ≡ batch_verdicts table cats.count keys.now) }
         ensures taken { IfSome self.now.table
-            (λ table. result ≡ Ok (batch_steps table keys.now)) }
+            (λ table. result ≡ Ok (batch_transitions table keys.now)) }
         ensures steps { IfSome self.now.table
-            (λ table. steps.new ≡ steps.old + batch_steps table keys.now) }
+            (λ table. steps.new ≡ steps.old + batch_transitions table keys.now) }
         // They are those of the rules, where the table answers as some rules do.
         ensures served { (set : RuleSetView) → IfSome self.now.table (λ table. Serves set table →
             out.new ≡ verdicts_by_rules set cats.count keys.now) }

@@ -7,9 +7,9 @@ use Rattle.std.proofs.lemmas.List.FromFn.{length-range_with_len}
 use Rattle.acl_outside.specs.Desk.{File}
 use Rattle.acl_outside.specs.Heard.{Heard}
 use Rattle.flat_table.specs.Table.{TableView}
-use Rattle.flat_table.specs.Walk.{key_steps, tries_of, walk_steps}
-use Rattle.flat_table.proofs.Lanes.{places_bound}
-use Rattle.flat_table.proofs.Taken.{steps_bound}
+use Rattle.flat_table.specs.Walk.{key_transitions, tries_of, walk_transitions}
+use Rattle.flat_table.proofs.Offered.{places_bound}
+use Rattle.flat_table.proofs.Offered.{transitions_bound}
 use Rattle.header_extract.specs.declared.class.Class.{Class}
 use Rattle.header_extract.specs.declared.class.Class.TheVariants.{Ip4, Ip6, Other, Short}
 use Rattle.header_extract.specs.Class.{FrameClass}
@@ -28,18 +28,18 @@ use Rattle.capture_report.specs.Report.{transitions_on}
 use Rattle.capture_report.specs.ReportForm.{ReportForm}
 
 -- the walks of a key take at most one word for each trie and byte
-pub key_bound : (table : TableView) (key : List ℕ) → key_steps table key ≤ most_of_key table
+pub key_bound : (table : TableView) (key : List ℕ) → key_transitions table key ≤ most_of_key table
 key_bound table key =
-    let each : All (λ trie. walk_steps table trie key ≤ table.key_len) (tries_of table) =
+    let each : All (λ trie. walk_transitions table trie key ≤ table.key_len) (tries_of table) =
     λ k d below. omega (
       arith,
       places_bound table (slice_index_or (tries_of table) k d),
-      steps_bound table (slice_index_or (tries_of table) k d) key,
+      transitions_bound table (slice_index_or (tries_of table) k d) key,
     ) in
     omega (
       arith,
-      sum_by_from (λ trie. walk_steps table trie key) 0 (tries_of table),
-      sum_by-le (λ trie. walk_steps table trie key) table.key_len (tries_of table) each,
+      sum_by_from (λ trie. walk_transitions table trie key) 0 (tries_of table),
+      sum_by-le (λ trie. walk_transitions table trie key) table.key_len (tries_of table) each,
       ap (λ (n : ℕ). n * table.key_len) (length-range_with_len 0 (length table.roots)),
     )
 

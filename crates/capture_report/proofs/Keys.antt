@@ -13,9 +13,9 @@ use Rattle.field_defs.specs.declared.field.Family.{Family}
 use Rattle.field_defs.specs.declared.field.Family.TheVariants as family
 use Rattle.flat_table.specs.Sound.{most_tries}
 use Rattle.flat_table.specs.Table.{TableView}
-use Rattle.flat_table.specs.Walk.{key_steps, table_verdict}
-use Rattle.flat_table.specs.Batch.{LengthsFit, key_at, keys_in, key_verdicts, first_verdicts, first_steps}
-use Rattle.flat_table.specs.Batch.{batch_verdicts, batch_steps}
+use Rattle.flat_table.specs.Walk.{key_transitions, table_verdict}
+use Rattle.flat_table.specs.Batch.{LengthsFit, key_at, keys_in, key_verdicts, first_verdicts, first_transitions}
+use Rattle.flat_table.specs.Batch.{batch_verdicts, batch_transitions}
 use Rattle.header_extract.specs.declared.class.Class.{Class}
 use Rattle.header_extract.specs.declared.class.Class.TheVariants.{Ip4, Ip6, Other, Short}
 use Rattle.header_extract.specs.Class.{FrameClass, key_len}
@@ -81,18 +81,18 @@ module _ (table : TableView) (key rest : List ℕ) (len : length key ≡ table.k
       ∙ ap (λ k. key_verdicts table count k ++ first_verdicts table count rest n) first_key
 
   transitions_later : (n : ℕ) →
-      first_steps table (key ++ rest) (n + 1) ≡ key_steps table key + first_steps table rest n
+      first_transitions table (key ++ rest) (n + 1) ≡ key_transitions table key + first_transitions table rest n
   transitions_later n =
-      let f : ℕ → ℕ = λ k. key_steps table (key_at table (key ++ rest) k) in
-      let g : ℕ → ℕ = λ k. key_steps table (key_at table rest k) in
+      let f : ℕ → ℕ = λ k. key_transitions table (key_at table (key ++ rest) k) in
+      let g : ℕ → ℕ = λ k. key_transitions table (key_at table rest k) in
       omega (
         arith,
         sum_by_from f 0 (range_with_len 0 (n + 1)),
         ap (sum_by f) (range_first 0 n),
         sum_by_from g 0 (range_with_len 0 n),
         sum_by-cons f 0 (range_with_len (0 + 1) n),
-        sum_shifted f g (λ k. ap (key_steps table) (later_key k)) 0 n,
-        ap (key_steps table) first_key,
+        sum_shifted f g (λ k. ap (key_transitions table) (later_key k)) 0 n,
+        ap (key_transitions table) first_key,
       )
 
 class_len : (family : Family) (class : Class) → is_of family class ≡ true → key_len class ≡ key_len_of_family family
@@ -129,19 +129,19 @@ module _ (family : Family) (table : TableView) (len : table.key_len ≡ key_len_
       go false own later = rw own later
 
   transitions_are : (packets : List FrameClass) → All IsPacket packets →
-      first_steps table (keys_of family packets) (number_of family packets) ≡ transitions_of_family family table packets
+      first_transitions table (keys_of family packets) (number_of family packets) ≡ transitions_of_family family table packets
   transitions_are [] all = refl
   transitions_are (p ∷ ps) all = go (is_of family p.class) refl (transitions_are ps (All-tail IsPacket p ps all))
     where
       go : (own : Bool) → is_of family p.class ≡ own →
-          first_steps table (keys_of family ps) (number_of family ps) ≡ transitions_of_family family table ps →
-          first_steps table (keys_of family (p ∷ ps)) (number_of family (p ∷ ps))
+          first_transitions table (keys_of family ps) (number_of family ps) ≡ transitions_of_family family table ps →
+          first_transitions table (keys_of family (p ∷ ps)) (number_of family (p ∷ ps))
           ≡ transitions_of_family family table (p ∷ ps)
       go true own later =
           rw own
           (transitions_later table p.key (keys_of family ps) (own_len p (All-head IsPacket p ps all) own)
           (number_of family ps)
-          ∙ ap (λ n. key_steps table p.key + n) later)
+          ∙ ap (λ n. key_transitions table p.key + n) later)
       go false own later = rw own later
 
   keys_len : (packets : List FrameClass) → All IsPacket packets →
@@ -185,13 +185,13 @@ module _ (family : Family) (table : TableView) (len : table.key_len ≡ key_len_
       ∙ verdicts_are count packets all
 
   pub batch_transitions_are : (packets : List FrameClass) → All IsPacket packets → 0 < table.key_len →
-      batch_steps table (keys_of family packets) ≡ transitions_of_family family table packets
+      batch_transitions table (keys_of family packets) ≡ transitions_of_family family table packets
   batch_transitions_are packets all some =
-      ap (first_steps table (keys_of family packets)) (keys_number packets all some) ∙ transitions_are packets all
+      ap (first_transitions table (keys_of family packets)) (keys_number packets all some) ∙ transitions_are packets all
 
 -- the walks of a key take so many words at most, whatever the table
 key_transitions_bound : (table : TableView) (key : List ℕ) → length table.roots ≤ most_tries → table.key_len ≤ 37 →
-    key_steps table key ≤ max_transitions
+    key_transitions table key ≤ max_transitions
 key_transitions_bound table key tries len =
     omega (arith, key_bound table key, mul-le-mul {n₁ = length table.roots} {m₁ = table.key_len} tries len)
 
@@ -234,21 +234,21 @@ own_transitions false steps = 0
 
 one_of_both : (class : Class) (tables : Tables) (key : List ℕ) →
     transitions_on class tables key
-    ≡ own_transitions (is_of family.Ip4 class) (key_steps tables.ip4 key)
-    + own_transitions (is_of family.Ip6 class) (key_steps tables.ip6 key)
-one_of_both Ip4 tables key = sym (add-zero (key_steps tables.ip4 key))
-one_of_both Ip6 tables key = sym (zero-add (key_steps tables.ip6 key))
+    ≡ own_transitions (is_of family.Ip4 class) (key_transitions tables.ip4 key)
+    + own_transitions (is_of family.Ip6 class) (key_transitions tables.ip6 key)
+one_of_both Ip4 tables key = sym (add-zero (key_transitions tables.ip4 key))
+one_of_both Ip6 tables key = sym (zero-add (key_transitions tables.ip6 key))
 one_of_both Other tables key = refl
 one_of_both Short tables key = refl
 
 family_first : (family : Family) (table : TableView) (p : FrameClass) (ps : List FrameClass) →
     transitions_of_family family table (p ∷ ps)
-    ≡ own_transitions (is_of family p.class) (key_steps table p.key) + transitions_of_family family table ps
+    ≡ own_transitions (is_of family p.class) (key_transitions table p.key) + transitions_of_family family table ps
 family_first family table p ps = go (is_of family p.class) refl
   where
     go : (own : Bool) → is_of family p.class ≡ own →
         transitions_of_family family table (p ∷ ps)
-        ≡ own_transitions (is_of family p.class) (key_steps table p.key) + transitions_of_family family table ps
+        ≡ own_transitions (is_of family p.class) (key_transitions table p.key) + transitions_of_family family table ps
     go true own = rw own refl
     go false own = rw own (sym (zero-add (transitions_of_family family table ps)))
 

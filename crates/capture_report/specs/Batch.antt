@@ -5,7 +5,7 @@ use Rattle.field_defs.specs.declared.field.Family.{Family}
 use Rattle.field_defs.specs.declared.field.Family.TheVariants as family
 use Rattle.flat_table.specs.Sound.{most_tries}
 use Rattle.flat_table.specs.Table.{TableView}
-use Rattle.flat_table.specs.Walk.{key_steps}
+use Rattle.flat_table.specs.Walk.{key_transitions}
 use Rattle.flat_table.specs.Batch.{key_verdicts}
 use Rattle.scalar_walk.specs.Rows.{winners_of}
 use Rattle.header_extract.specs.declared.class.Class.{Class}
@@ -77,7 +77,7 @@ abbrev pub transitions_of_family : Family → TableView → List FrameClass → 
 transitions_of_family family table [] = 0
 transitions_of_family family table (packet ∷ packets) =
     if is_of family packet.class
-    then key_steps table packet.key + transitions_of_family family table packets
+    then key_transitions table packet.key + transitions_of_family family table packets
     else transitions_of_family family table packets
 
 -- how many transitions a packet takes at most: one for each trie and byte of the key

@@ -6,7 +6,7 @@ use Rattle.field_defs.specs.declared.field.Family.{Family}
 use Rattle.field_defs.specs.declared.field.Family.TheVariants as family
 use Rattle.flat_table.specs.Sound.{row_len}
 use Rattle.flat_table.specs.Table.{TableView}
-use Rattle.flat_table.specs.Walk.{key_steps}
+use Rattle.flat_table.specs.Walk.{key_transitions}
 use Rattle.header_extract.specs.declared.class.Class.{Class}
 use Rattle.header_extract.specs.declared.class.Class.TheVariants.{Ip4, Ip6, Other, Short}
 use Rattle.header_extract.specs.Class.{FrameClass}
@@ -69,8 +69,8 @@ counted_all (packet ∷ packets) counts = counted_all packets (counted packet.cl
 
 -- how many transitions the key of a class takes, over all tries of its family
 abbrev pub transitions_on : Class → Tables → List ℕ → ℕ
-transitions_on Ip4 tables key = key_steps tables.ip4 key
-transitions_on Ip6 tables key = key_steps tables.ip6 key
+transitions_on Ip4 tables key = key_transitions tables.ip4 key
+transitions_on Ip6 tables key = key_transitions tables.ip6 key
 transitions_on Other tables key = 0
 transitions_on Short tables key = 0
 

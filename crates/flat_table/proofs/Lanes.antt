@@ -1,6 +1,6 @@
 -- A walk on its way through a sound table: where it stands after so many bytes, and that it can go on.
-use Rattle.std.proofs.Common.{◌≡◌, ℕ, zero, suc, ◌+◌, ◌<◌, ◌≤◌, Bool, true, false, None, List, refl, sym, ap, ◌∙◌}
-use Rattle.std.proofs.Common.{arith, inl, inr, subst, length, filter, get_or}
+use Rattle.std.proofs.Common.{◌≡◌, ℕ, ◌+◌, ◌<◌, ◌≤◌, Bool, true, false, None, List, refl, sym, ap, ◌∙◌, arith, inl, inr}
+use Rattle.std.proofs.Common.{subst, length, get_or}
 use Rattle.std.specs.Prelude.{if◌then◌else◌, slice_index}
 use Rattle.std.specs.List.{range_with_len}
 use Rattle.std.proofs.lemmas.Bool.{cases_Bool}
@@ -12,26 +12,10 @@ use Rattle.flat_table.specs.declared.level.Level.{Level}
 use Rattle.std.proofs.lemmas.Bool.Decides.{nat_tests}
 use Rattle.flat_table.specs.Table.{TableView, level_of, places_of}
 use Rattle.flat_table.specs.Sound.{leads_into, sound_fault}
-use Rattle.flat_table.specs.Walk.{root_of, moved, word_after, steps_after}
+use Rattle.flat_table.specs.Walk.{root_of, moved, word_after, transitions_after}
 use Rattle.flat_table.proofs.Safe.{root_leads, node_is_no_match, next_leads_on, none_behind}
-use Rattle.flat_table.proofs.Taken.{word_more, step_more}
-
--- the kept places are places of the key
-filter-range-below : (p : ℕ → Bool) (a n k : ℕ) → k < length (filter p (range_with_len a n)) →
-    get_or (filter p (range_with_len a n)) k 0 < a + n
-filter-range-below p a zero k h = absurd (omega arith)
-filter-range-below p a (suc n) zero h =
-    elim (cases_Bool (p a)) [
-      | inl w ↦ rw w (omega arith)
-      | inr w ↦ rw w
-          (omega (arith, filter-range-below p (a + 1) n zero (rw w at h)))
-    ]
-filter-range-below p a (suc n) (suc k) h =
-    elim (cases_Bool (p a)) [
-      | inl w ↦ let h' : suc k < suc (length (filter p (range_with_len (a + 1) n))) =
-          rw w at h in rw w (omega (arith, filter-range-below p (a + 1) n k (omega arith)))
-      | inr w ↦ rw w (omega (arith, filter-range-below p (a + 1) n (suc k) (rw w at h)))
-    ]
+use Rattle.list_lemmas.proofs.Positions.{filter-range-below}
+use Rattle.flat_table.proofs.Transitions.{word_more, transition_more}
 
 -- there are no more kept places than bytes
 pub places_bound : (table : TableView) (trie : ℕ) → length (places_of table trie) ≤ table.key_len
@@ -59,7 +43,8 @@ pub record Goes (table : TableView) (trie : ℕ) (key : List ℕ) (n word byte :
   pub there : is_match word ≡ false → next_place word byte < length table.words
   pub node : is_match word ≡ false → is_node word ≡ true
   pub next : Stands table trie key (n + 1) (moved table.words word byte)
-  pub steps : steps_after table trie key (n + 1) ≡ steps_after table trie key n + (if is_match word then 0 else 1)
+  pub steps : transitions_after table trie key (n + 1)
+      ≡ transitions_after table trie key n + (if is_match word then 0 else 1)
 
 module _ (table : TableView) (trie : ℕ) (key : List ℕ) (sound : sound_fault table ≡ None)
     (lt : trie < length table.roots) where
@@ -107,8 +92,8 @@ module _ (table : TableView) (trie : ℕ) (key : List ℕ) (sound : sound_fault 
     there = λ no_match. (next_leads_on table trie sound lt n word byte small (s.level no_match)).there;
     next = moves word byte n s small (word_more table trie key n place h e
         ∙ ap (λ (x : ℕ). moved table.words (word_after table trie key n) x) (sym b));
-    steps = step_more table trie key n h
-        ∙ ap (λ (w : ℕ). steps_after table trie key n + (if is_match w then 0 else 1))
+    steps = transition_more table trie key n h
+        ∙ ap (λ (w : ℕ). transitions_after table trie key n + (if is_match w then 0 else 1))
         (sym s.is);
   }
 

@@ -1,15 +1,14 @@
 -- Where the levels of a table lie, trie by trie.
-use Rattle.std.proofs.Common.{◌≡◌, ℕ, zero, suc, ◌+◌, ◌<◌, ◌≤◌, List, [], ◌∷◌, refl, sym, ap, ◌∙◌, arith, add-one}
-use Rattle.std.proofs.Common.{map}
-use Rattle.std.proofs.Common.{take, drop, length, sum, get_or}
+use Rattle.std.proofs.Common.{◌≡◌, ℕ, zero, suc, ◌+◌, ◌<◌, ◌≤◌, List, [], ◌∷◌, refl, sym, ap, ◌∙◌, arith, add-one, map}
+use Rattle.std.proofs.Common.{take, drop, length, sum, get_or, drop-cons, ◌-◌}
 use Rattle.std.proofs.lemmas.List.Sums.{sum_by-cons, sum_by-take-drop}
-use Rattle.std.proofs.Common.{drop-cons, ◌-◌}
 use Rattle.std.proofs.lemmas.List.{drop-drop}
 use Rattle.flat_table.specs.declared.level.Level.{Level}
 use Rattle.flat_table.specs.Groups.{depth_of}
+use Rattle.list_lemmas.proofs.Positions.{rest_of_drop}
 use Rattle.flat_table.specs.Table.{TableView, levels_from, portions, trie_levels}
 
--- the levels behind the first few begin where those end
+-- the levels after the first few begin where those end
 pub levels-drop : (n place : ℕ) (lens : List ℕ) → drop n (levels_from place lens)
     ≡ levels_from (place + sum (take n lens)) (drop n lens)
 levels-drop zero place lens = ap (λ (k : ℕ). levels_from k lens) (omega arith)
@@ -40,7 +39,7 @@ pub record Turn (table : TableView) (trie first from end : ℕ) : Type 0 where
       (trie + 1) (trie_levels table)
   pub next : AtTrie table (trie + 1) end (from + sum (take (end - first) (drop first table.level_lens)))
 
--- the levels of the first of the tries left, and behind them those of the others
+-- the levels of the first of the tries left, and after them those of the others
 tries_step : (depth : ℕ → ℕ) (kept : ℕ) (others : List ℕ) (from : ℕ) (lens : List ℕ) →
     portions (map depth (kept ∷ others)) (levels_from from lens)
     ≡ levels_from from (take (depth kept) lens) ∷ portions (map depth others)
@@ -49,10 +48,6 @@ tries_step depth kept others from lens =
     let front = levels-take (depth kept) from lens in
     let back = levels-drop (depth kept) from lens in
     cc
-
--- where one of several lists is left out in front
-tail_of : {A : Type 0} (n : ℕ) (xs : List A) (x : A) (rest : List A) → x ∷ rest ≡ drop n xs → rest ≡ drop (n + 1) xs
-tail_of n xs x rest e = ap (λ (ys : List _). drop 1 ys) e ∙ drop-drop 1 n xs
 
 pub turn : (table : TableView) (trie first from end : ℕ) → trie < length table.kept →
     end ≡ first + depth_of table.key_len (get_or table.kept trie 0) →
@@ -78,7 +73,7 @@ turn table trie first from end lt ends at =
     ∙ tries_step depth kept (drop (trie + 1) table.kept) from lens) ∙ at.rest) in
     let rest : portions (map depth (drop (trie + 1) table.kept))
     (levels_from (from + sum (take d lens)) (drop d lens))
-    ≡ drop (trie + 1) (trie_levels table) = tail_of trie (trie_levels table) _ _ whole in
+    ≡ drop (trie + 1) (trie_levels table) = rest_of_drop trie (trie_levels table) _ _ whole in
     record {
       bound = omega arith;
       fits = omega arith;

@@ -1,8 +1,8 @@
+pub mod Lanes
 pub mod Levels
-pub mod Ranges
-pub mod Shape
-pub mod Unsound
+pub mod Offered
 pub mod Places
 pub mod Safe
-pub mod Taken
-pub mod Lanes
+pub mod Shape
+pub mod Transitions
+pub mod Unsound

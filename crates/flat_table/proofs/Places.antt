@@ -1,6 +1,5 @@
 -- What a table keeps beside its parts, and where its levels stand.
-use Rattle.std.proofs.Common.{◌≡◌, ℕ, zero, suc, ◌+◌, ◌<◌, List, [], ◌∷◌, refl, sym, ap, ◌∙◌, arith, take, drop}
-use Rattle.std.proofs.Common.{length}
+use Rattle.std.proofs.Common.{◌≡◌, ℕ, zero, suc, ◌+◌, ◌<◌, List, [], ◌∷◌, refl, sym, ap, ◌∙◌, arith, take, drop, length}
 use Rattle.std.proofs.Common.{sum, get_or}
 use Rattle.arrayvec.specs.ArrayVec.{ArrayVec}
 use Rattle.std.proofs.lemmas.List.{get_or-map, length-map, drop-drop, get_or-take, get_or-drop}
@@ -11,7 +10,7 @@ use Rattle.flat_table.specs.Table.{TableView, levels_from, portions, depths_of, 
 use Rattle.flat_table.specs.TableInvariant.{IsTable}
 use Rattle.flat_table.proofs.Shape.{IsShaped, sound_parts}
 
--- the element of a portion is that of the whole list, behind the portions before
+-- the element of a portion is that of the whole list, after the portions before
 pub portion-at : {A : Type 0} (sizes : List ℕ) (n : ℕ) (xs : List A) → n < length sizes →
     get_or (portions sizes xs) n [] ≡ take (get_or sizes n 0) (drop (sum (take n sizes)) xs)
 portion-at [] n xs h = absurd (omega arith)
@@ -21,7 +20,7 @@ portion-at (size ∷ sizes) (suc n) xs h =
     ∙ ap (λ (ys : List _). take (get_or sizes n 0) ys) (drop-drop (sum (take n sizes)) size xs
     ∙ ap (λ (k : ℕ). drop k xs) (sym (sum_by-cons (λ (x : ℕ). x) size (take n sizes))))
 
--- the level at a number has the length at that number, and behind the last there is none
+-- the level at a number has the length at that number, and after the last there is none
 pub level-len : (place : ℕ) (lens : List ℕ) (n : ℕ) → (get_or (levels_from place lens) n no_level).len
     ≡ get_or lens n 0
 level-len place [] n = refl

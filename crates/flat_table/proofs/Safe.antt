@@ -1,17 +1,16 @@
 -- A walk through a sound table stays in it: each word that it takes is there, and leads on or names a row.
 use Rattle.std.proofs.Common.{◌≡◌, ℕ, zero, suc, ◌+◌, ◌<◌, ◌≤◌, Bool, true, false, not, Option, Some, None, List, []}
-use Rattle.std.proofs.Common.{◌∷◌, refl, sym, ap, ◌∙◌, arith, map, take, drop, length, sum, get_or}
+use Rattle.std.proofs.Common.{◌∷◌, refl, sym, ap, ◌∙◌, arith, map, take, drop, length, sum, get_or, ◌-◌, length-take}
+use Rattle.std.proofs.Common.{length-drop, inl, inr, add-one}
 use Rattle.std.specs.Prelude.{slice_index}
 use Rattle.std.specs.List.{zip, position_from}
 use Rattle.std.specs.Option.{option_or}
 use Rattle.std.proofs.lemmas.List.{get_or-map, length-map, get_or-take, get_or-drop, get_or_past}
 use Rattle.std.proofs.lemmas.List.Sums.{sum_by-cons, sum_by-take-drop}
-use Rattle.std.proofs.Common.{◌-◌, length-take, length-drop}
 use Rattle.flat_table.proofs.Levels.{levels-drop, levels-take}
 use Rattle.flat_table.proofs.Places.{portion-at}
 use Rattle.std.proofs.lemmas.Bool.Decides.{nat_tests}
 use Rattle.std.proofs.lemmas.Bool.{cases_Bool}
-use Rattle.std.proofs.Common.{inl, inr, add-one}
 use Rattle.flat_table.specs.declared.level.Level.{Level}
 use Rattle.flat_table.specs.Word.{index_of, is_match, node_len, offset_of, next_place}
 use Rattle.flat_table.specs.Groups.{depth_of}
@@ -69,7 +68,7 @@ level_sound rows words (level ∷ next ∷ levels) zero k e h =
 level_sound rows words (level ∷ levels) (suc depth) k e h =
     rw (add-one (suc depth)) (rw (add-one depth) at (level_sound rows words levels depth k (both_none _ _ e).1 h))
 
--- no level reaches behind all words
+-- no level reaches after all words
 level-bound : (place : ℕ) (lens : List ℕ) (n : ℕ) → (get_or (levels_from place lens) n no_level).from +
     (get_or (levels_from place lens) n no_level).len ≤ place + sum lens
 level-bound place [] n = omega arith

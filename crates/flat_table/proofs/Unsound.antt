@@ -1,6 +1,5 @@
 -- The first unsound word and root, trie by trie.
-use Rattle.std.proofs.Common.{◌≡◌, ℕ, ◌+◌, ◌-◌, ◌<◌, Bool, true, false, not, cond, Option, Some, None, List, ◌∷◌}
-use Rattle.std.proofs.Common.{refl}
+use Rattle.std.proofs.Common.{◌≡◌, ℕ, ◌+◌, ◌-◌, ◌<◌, Bool, true, false, not, cond, Option, Some, None, List, ◌∷◌, refl}
 use Rattle.std.proofs.Common.{sym, ap, ◌∙◌, map, take, drop, length, get_or, drop-cons, add-one}
 use Rattle.std.specs.List.{zip, position_from}
 use Rattle.std.specs.Option.{is_some, option_or}
@@ -19,7 +18,7 @@ not_here None later h = refl
 not_here (Some place) later h = cc
 
 -- A loop over the tries looks at the levels of the trie at which it stands: an unsound word there is the first of
--- all, and else the first is in the levels behind.
+-- all, and else the first is in the levels after.
 module _ (table : TableView) (trie first from end : ℕ) (place : Option ℕ)
     (e : place ≡ unsound_word (length table.rows) table.words
     (levels_from from (take (end - first) (drop first table.level_lens))))
@@ -61,7 +60,7 @@ cond_at : {A : Type 0} (b : Bool) (value : Bool) (x y z : A) → b ≡ value →
 cond_at b value x y z e h = ap (λ (v : Bool). cond v x y) (sym e) ∙ h
 
 -- A loop over the tries looks at the root of the trie at which it stands: if it is unsound it is the first, and else
--- the first is among the roots behind.
+-- the first is among the roots after.
 module _ (table : TableView) (trie first from end : ℕ) (lt : trie < length table.roots) (sound : Bool)
     (e : sound ≡ leads_into (first_level (levels_from from (take (end - first) (drop first table.level_lens))))
     (get_or table.roots trie 0))

@@ -3,7 +3,7 @@ use Rattle.std.specs.Prelude.{◌≡◌, ℕ, ◌+◌, ◌*◌, ◌/◌, ◌≤�
 use Rattle.std.specs.Prelude.{flat_map}
 use Rattle.std.specs.List.{range_with_len}
 use Rattle.flat_table.specs.Table.{TableView}
-use Rattle.flat_table.specs.Walk.{table_verdict, key_steps}
+use Rattle.flat_table.specs.Walk.{table_verdict, key_transitions}
 
 -- how many keys a batch has at most
 abbrev pub most_keys : ℕ
@@ -50,11 +50,11 @@ first_verdicts table count keys n = flat_map (λ k. key_verdicts table count (ke
 abbrev pub batch_verdicts : TableView → ℕ → List ℕ → List ℕ
 batch_verdicts table count keys = first_verdicts table count keys (keys_in table keys)
 
--- how many words the walks of the first n keys take
-abbrev pub first_steps : TableView → List ℕ → ℕ → ℕ
-first_steps table keys n = fold (λ total k. total + key_steps table (key_at table keys k)) 0
-    (range_with_len 0 n)
+-- how many transitions the walks of the first n keys take
+abbrev pub first_transitions : TableView → List ℕ → ℕ → ℕ
+first_transitions table keys n = fold
+    (λ total k. total + key_transitions table (key_at table keys k)) 0 (range_with_len 0 n)
 
--- how many words the walks of all keys take
-abbrev pub batch_steps : TableView → List ℕ → ℕ
-batch_steps table keys = first_steps table keys (keys_in table keys)
+-- how many transitions the walks of all keys take
+abbrev pub batch_transitions : TableView → List ℕ → ℕ
+batch_transitions table keys = first_transitions table keys (keys_in table keys)

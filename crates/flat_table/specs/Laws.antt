@@ -4,7 +4,7 @@ use Rattle.std.specs.Prelude.{if◌then◌else◌}
 use Rattle.flat_table.specs.Word.{index_of, is_match, next_place}
 use Rattle.flat_table.specs.Table.{TableView, level_of, places_of}
 use Rattle.flat_table.specs.Sound.{leads_into, sound_fault}
-use Rattle.flat_table.specs.Walk.{root_of, moved, word_after, steps_after, walk_row, walk_steps}
+use Rattle.flat_table.specs.Walk.{root_of, moved, word_after, transitions_after, walk_row, walk_transitions}
 
 -- there is a word at the place, and it names a row of the table or leads into the level of the trie
 -- at the depth
@@ -16,7 +16,7 @@ pub record LeadsOn (table : TableView) (trie depth place : ℕ) : Type 0 where
       leads_into (level_of table trie depth) (slice_index table.words place) ≡ true
 
 -- Each walk through a sound table stays in it: the root leads into the first level, a word that
--- leads into a level is no match, each word of its node leads on, and behind the last level no word
+-- leads into a level is no match, each word of its node leads on, and after the last level no word
 -- leads.
 pub record WalksStay : Type 0 where
   pub root : (table : TableView) (trie : ℕ) → sound_fault table ≡ None → trie < length table.roots →
@@ -32,22 +32,23 @@ pub record WalksStay : Type 0 where
       leads_into (level_of table trie depth) word ≡ false
 
 -- A walk goes step by step: it ends at the word that stands after all its bytes; one more byte
--- costs a step where no match stands, and none where one does; and it takes at most one word for
--- each kept place.
+-- costs a transition where no match stands, and none where one does; and it takes at most one
+-- transition for each kept place.
 pub record WalksGoStepByStep : Type 0 where
   pub row : (table : TableView) (trie : ℕ) (key : List ℕ) →
       walk_row table trie key ≡ index_of (word_after table trie key (length (places_of table trie)))
-  pub steps : (table : TableView) (trie : ℕ) (key : List ℕ) →
-      walk_steps table trie key ≡ steps_after table trie key (length (places_of table trie))
+  pub transitions : (table : TableView) (trie : ℕ) (key : List ℕ) →
+      walk_transitions table trie key
+      ≡ transitions_after table trie key (length (places_of table trie))
   pub begin : (table : TableView) (trie : ℕ) (key : List ℕ) →
-      (word_after table trie key 0 ≡ root_of table trie) × (steps_after table trie key 0 ≡ 0)
+      (word_after table trie key 0 ≡ root_of table trie) × (transitions_after table trie key 0 ≡ 0)
   pub word_more : (table : TableView) (trie : ℕ) (key : List ℕ) (n place : ℕ) →
       n < length (places_of table trie) → place ≡ slice_index (places_of table trie) n →
       word_after table trie key (n + 1) ≡ moved table.words (word_after table trie key n)
       (slice_index key place)
-  pub step_more : (table : TableView) (trie : ℕ) (key : List ℕ) (n : ℕ) →
+  pub transition_more : (table : TableView) (trie : ℕ) (key : List ℕ) (n : ℕ) →
       n < length (places_of table trie) →
-      steps_after table trie key (n + 1) ≡ steps_after table trie key n +
+      transitions_after table trie key (n + 1) ≡ transitions_after table trie key n +
       (if is_match (word_after table trie key n) then 0 else 1)
   pub bound : (table : TableView) (trie : ℕ) (key : List ℕ) →
-      walk_steps table trie key ≤ length (places_of table trie)
+      walk_transitions table trie key ≤ length (places_of table trie)

@@ -88,7 +88,7 @@ roots_before_words : sound_fault (record two_tries {
 unfolding sound_fault
 roots_before_words = refl
 
--- the word at place 1 of the rule on the source: into its own level, into the next, behind the
+-- the word at place 1 of the rule on the source: into its own level, into the next, after the
 -- next, to the last row, to a row that isn't there, a match with a boundary
 words_of_a_level : map (λ word. sound_fault (record source_table {
   words =
@@ -112,7 +112,7 @@ ends_a_word_later : sound_fault (table_of 2 (single_at 0) (1 ∷ 6 ∷ 1 ∷ 1 �
 unfolding sound_fault
 ends_a_word_later = refl
 
--- behind the last level there is none
+-- after the last level there is none
 last_level_leads_on : sound_fault (record wild_table { words = single_at 0 ∷ [] }) ≡ Some (Word 0)
 unfolding sound_fault
 last_level_leads_on = refl

@@ -14,7 +14,7 @@ pub record TableView : Type 0 where
   pub words : List ℕ  -- the words, trie by trie and level by level
   pub rows : List (List ℕ)  -- for each row a word for each of sixteen categories
 
--- the levels of so many words each, one behind the other from a place on
+-- the levels of so many words each, one after the other from a place on
 abbrev pub levels_from : ℕ → List ℕ → List Level
 levels_from place [] = []
 levels_from place (len ∷ lens) = record { from = place; len = len } ∷ levels_from (place + len) lens

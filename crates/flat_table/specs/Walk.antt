@@ -5,18 +5,19 @@ use Rattle.std.specs.List.{range_with_len}
 use Rattle.flat_table.specs.Word.{index_of, is_match, next_word}
 use Rattle.flat_table.specs.Table.{TableView, places_of}
 
--- the words that a walk takes from a word on by these bytes: one for each, until a match
-abbrev pub taken : List ℕ → ℕ → List ℕ → List ℕ
-taken words word [] = []
-taken words word (byte ∷ bytes) =
-    if is_match word then [] else next_word words word byte ∷ taken words
+-- the transitions of a walk from a word on by these bytes: the word that each leads to, until a
+-- match
+abbrev pub transitions : List ℕ → ℕ → List ℕ → List ℕ
+transitions words word [] = []
+transitions words word (byte ∷ bytes) =
+    if is_match word then [] else next_word words word byte ∷ transitions words
     (next_word words word byte) bytes
 
 -- the word that stands after one more byte: a match stays
 abbrev pub moved : List ℕ → ℕ → ℕ → ℕ
 moved words word byte = if is_match word then word else next_word words word byte
 
--- the last word of those taken, or else the word from which they were taken
+-- the last of some transitions, or else the word from which they went
 abbrev pub last_word : ℕ → List ℕ → ℕ
 last_word word [] = word
 last_word word (next ∷ rest) = last_word next rest
@@ -29,23 +30,23 @@ root_of table trie = slice_index table.roots trie
 abbrev pub bytes_of : TableView → ℕ → List ℕ → List ℕ
 bytes_of table trie key = map (λ place. slice_index key place) (places_of table trie)
 
--- the words that the walk of the key through the trie takes
+-- the transitions of the walk of the key through the trie
 abbrev pub walk : TableView → ℕ → List ℕ → List ℕ
-walk table trie key = taken table.words (root_of table trie) (bytes_of table trie key)
+walk table trie key = transitions table.words (root_of table trie) (bytes_of table trie key)
 
 -- the word that a walk through the trie stands at after so many bytes
 abbrev pub word_after : TableView → ℕ → List ℕ → ℕ → ℕ
 word_after table trie key n = fold (moved table.words) (root_of table trie)
     (take n (bytes_of table trie key))
 
--- how many words it took for them
-abbrev pub steps_after : TableView → ℕ → List ℕ → ℕ → ℕ
-steps_after table trie key n = length (taken table.words (root_of table trie)
+-- how many transitions it took for them
+abbrev pub transitions_after : TableView → ℕ → List ℕ → ℕ → ℕ
+transitions_after table trie key n = length (transitions table.words (root_of table trie)
     (take n (bytes_of table trie key)))
 
--- how many words it takes
-abbrev pub walk_steps : TableView → ℕ → List ℕ → ℕ
-walk_steps table trie key = length (walk table trie key)
+-- how many transitions it takes
+abbrev pub walk_transitions : TableView → ℕ → List ℕ → ℕ
+walk_transitions table trie key = length (walk table trie key)
 
 -- the row that its last word names
 abbrev pub walk_row : TableView → ℕ → List ℕ → ℕ
@@ -76,6 +77,7 @@ userdatas = 2 ^ 32
 abbrev pub table_verdict : TableView → List ℕ → ℕ → ℕ
 table_verdict table key category = joined table key category % userdatas
 
--- how many words the walks of the key through all tries take
-abbrev pub key_steps : TableView → List ℕ → ℕ
-key_steps table key = fold (λ total trie. total + walk_steps table trie key) 0 (tries_of table)
+-- how many transitions the walks of the key through all tries take
+abbrev pub key_transitions : TableView → List ℕ → ℕ
+key_transitions table key = fold (λ total trie. total + walk_transitions table trie key) 0
+    (tries_of table)

@@ -1,6 +1,6 @@
 //! Which parts make a table that every key can be walked through.
 //!
-//! The levels of a trie lie one behind the other, and each word of a level leads to a node that
+//! The levels of a trie lie one after the other, and each word of a level leads to a node that
 //! lies whole in the next one, or names a row. So a walk goes one level down with each byte, and
 //! can't leave the table. No order of a node's boundaries is asked, since each of them gives some
 //! word of the node.
@@ -114,7 +114,7 @@ fn is_sound_word(rows: usize, next: Level, word: u64) -> bool
     }
 }
 
-/// The same behind a word that is known to be sound: the words of a run of bytes are the same, and
+/// The same after a word that is known to be sound: the words of a run of bytes are the same, and
 /// are looked at once.
 fn is_sound_behind(sound: Option<u64>, rows: usize, next: Level, word: u64) -> bool
     requires next { next.from + next.len < 2 ^ 64 }

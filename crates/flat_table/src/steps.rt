@@ -1,14 +1,14 @@
-//! A counter of steps, which exists in proofs alone.
+//! A counter of transitions, which exists in proofs alone.
 
 ghost use Rattle.std.specs.Prelude.{◌≡◌, ◌+◌, ◌<◌};
 
 use std::marker::Model;
 use std::sync::ledger::{Blank, Book, Ledger, Share};
 
-/// How many steps were taken, as contracts see it. No count is kept when the program runs.
+/// How many transitions were counted, as contracts see it. No count is kept when the program runs.
 ///
-/// Only [`Steps::raise`] raises it, by one for each step, and nothing lowers it, so it can't be
-/// made to say less or more than what was done. It is the total of a ledger, and the ledger is any.
+/// Only [`Steps::raise`] raises it, by one for each, and nothing lowers it, so it can't be made to
+/// say less or more than what was done. It is the total of a ledger, and the ledger is any.
 #[derive(Drop)]
 pub struct Steps<L: Ledger> {
     book: Book<L>,
@@ -37,7 +37,7 @@ impl<L: Ledger> Steps<L> {
         Steps { book, share }
     }
 
-    /// One step more. It does nothing when it is run.
+    /// One transition more. It does nothing when it is run.
     pub fn raise(&mut self)
         ensures { self.new ≡ self.old + 1 }
     {

@@ -100,7 +100,7 @@ pub fn boundaries_below(word: u64, byte: u8) -> usize
     ensures bound { result ≤ 4 }
 {
     // Moved up to the highest byte, a boundary is below the byte exactly where the whole number is,
-    // whatever stands behind the boundary. So no bits have to be cut off.
+    // whatever stands after the boundary. So no bits have to be cut off.
     let byte = u64::from(byte) << 56;
     usize::from(word << 24 < byte)
         + usize::from(word << 16 < byte)

@@ -3,12 +3,16 @@ pub mod Counts
 pub mod Digits
 pub mod Elements
 pub mod First
+pub mod Folds
 pub mod Integers
 pub mod Joins
+pub mod Maps
 pub mod Maxima
 pub mod Members
 pub mod Numbers
 pub mod Options
 pub mod Parts
+pub mod Positions
 pub mod Powers
+pub mod Sums
 pub mod Tests

@@ -1,7 +1,6 @@
 -- What is known of groups that were counted.
 use Rattle.std.proofs.Common.{◌≡◌, ℕ, ◌+◌, ◌==◌, ◌<◌, ◌≤◌, ◌-◌, ◌&&◌, ◌++◌, List, [], ◌∷◌, length, map, take, drop}
-use Rattle.std.proofs.Common.{filter, All, Option, Some, None, not, cond}
-use Rattle.std.proofs.Common.{refl, sym, ap, ◌∙◌, inl, inr, arith}
+use Rattle.std.proofs.Common.{filter, All, Option, Some, None, not, cond, refl, sym, ap, ◌∙◌, inl, inr, arith}
 use Rattle.std.specs.Prelude.{fold, max, nat_lt}
 use Rattle.std.specs.List.{sum_by, position, position_or_len, filter_map, insert}
 use Rattle.std.specs.Option.{option_to_list, option_map_or}
@@ -111,7 +110,7 @@ module _ (set : RuleSetView) (budget : ℕ) where
       ∙ ap (λ place. option_map_or (split_at set (map group_in groups)) place (map group_in groups))
       (sym (at ∙ place_is groups right))
 
--- merged states behind those that are kept
+-- merged states after those that are kept
 pub levels_more : (groups : List Counted) (group : Counted) →
     filter_map levels_in (groups ++ group ∷ []) ≡ filter_map levels_in groups ++ option_to_list (levels_in group)
 levels_more groups (Fits levels) = filter_map-append levels_in groups (Fits levels ∷ [])

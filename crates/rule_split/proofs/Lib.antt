@@ -2,6 +2,7 @@ pub mod Counts
 pub mod Greatest
 pub mod Groups
 pub mod Halves
+pub mod Offered
 pub mod Plans
 pub mod Sides
 pub mod Splitting

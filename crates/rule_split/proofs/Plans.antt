@@ -1,4 +1,4 @@
--- The turns of the split, and what the groups behind the last one come to.
+-- The turns of the split, and what the groups after the last one come to.
 use Rattle.std.proofs.Common.{◌≡◌, ℕ, suc, ◌+◌, ◌≤◌, List, [], ◌∷◌, length, map, All, refl, ap, ◌∙◌, arith}
 use Rattle.std.specs.List.{sum_by, filter_map}
 use Rattle.std.proofs.lemmas.List.{length-map}

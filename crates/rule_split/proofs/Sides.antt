@@ -1,6 +1,6 @@
 -- The two sides of a field, rule by rule.
-use Rattle.std.proofs.Common.{◌≡◌, ℕ, ◌+◌, ◌-◌, ◌<◌, ◌++◌, List, [], ◌∷◌, length, take}
-use Rattle.std.proofs.Common.{filter, min, get_or, not, Bool, true, false, cond, refl, ◌∙◌, inl, inr, nat_cmp, arith}
+use Rattle.std.proofs.Common.{◌≡◌, ℕ, ◌+◌, ◌-◌, ◌<◌, ◌++◌, List, [], ◌∷◌, length, take, filter, min, get_or, not, Bool}
+use Rattle.std.proofs.Common.{true, false, cond, refl, ◌∙◌, inl, inr, nat_cmp, arith}
 use Rattle.std.specs.List.{count_by}
 use Rattle.std.specs.Ordering.{ord_min}
 use Rattle.std.proofs.lemmas.Bool.{cases_lt, cases_eq, lt-ltb, le-ltb, eq-eqb, ne_eqb}

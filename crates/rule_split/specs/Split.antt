@@ -63,7 +63,7 @@ first_groups set =
     let count = length set.rules in
     if count == 0 then [] else range_with_len 0 count ∷ []
 
--- The groups behind the last turn. Each turn adds one group, so there are at most eight.
+-- The groups after the last turn. Each turn adds one group, so there are at most eight.
 unfoldable pub groups_by : (List ℕ → ℕ) → RuleSetView → ℕ → List (List ℕ)
 groups_by words set budget = turns words set budget (max_groups - 1) (first_groups set)
 

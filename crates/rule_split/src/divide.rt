@@ -20,7 +20,7 @@ pub(crate) struct Divided {
 impl Divided {
     ghost use Rattle.std.specs.Prelude.{◌≡◌, ◌++◌, ◌∷◌, [], OnOk, if◌then◌else◌};
 
-    /// Puts the number behind those of its side: the second one where the rule is wild.
+    /// Puts the number after those of its side: the second one where the rule is wild.
     fn push(&mut self, number: u32, is_wild: bool) -> Result<(), AllocError>
         ensures first { OnOk result (self.new.first.items
             ≡ (if is_wild then self.old.first.items else self.old.first.items ++ number ∷ [])) }

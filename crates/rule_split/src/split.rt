@@ -59,7 +59,7 @@ fn split_place(groups: &[Counted], budget: u64) -> Option<usize>
     groups.iter().position(|group| group.is_most(budget, most))
 }
 
-/// Puts two groups before the group at the place, or behind the last one.
+/// Puts two groups before the group at the place, or after the last one.
 fn put_two(
     groups: &mut Vec<Counted>,
     place: usize,
@@ -151,7 +151,7 @@ fn first_groups(alloc: Global, rules: &RuleSet, budget: u64) -> Result<Vec<Count
     Ok(groups)
 }
 
-/// The groups behind the last turn. Each turn adds at most one.
+/// The groups after the last turn. Each turn adds at most one.
 fn last_groups(alloc: Global, rules: &RuleSet, budget: u64) -> Result<Vec<Counted>, AllocError>
     requires { budget ≤ max_cap }
     ensures groups { IfOk result
@@ -165,7 +165,7 @@ fn last_groups(alloc: Global, rules: &RuleSet, budget: u64) -> Result<Vec<Counte
     Ok(groups)
 }
 
-/// Puts the group's merged states behind the others, if they are kept.
+/// Puts the group's merged states after the others, if they are kept.
 fn put_levels(kept: &mut Vec<Levels>, group: Counted) -> Result<(), AllocError>
     ensures { OnOk result (kept.new.items ≡ kept.old.items ++ option_to_list (levels_in group)) }
 {

@@ -1,33 +1,21 @@
--- The verdicts of a batch, key by key.
-use Rattle.std.proofs.Common.{◌≡◌, ℕ, zero, suc, ◌+◌, ◌-◌, ◌*◌, ◌<◌, ◌≤◌, List, [], ◌∷◌, ◌++◌, refl, sym, ap, ◌∙◌}
-use Rattle.std.proofs.Common.{arith, add-one, subst, length, take, drop, fold, append_assoc, append-nil}
-use Rattle.std.proofs.Common.{length-append, length-take, length-drop}
+-- The verdicts of a batch, some keys after others.
+use Rattle.std.proofs.Common.{◌≡◌, ℕ, zero, suc, ◌+◌, ◌-◌, ◌*◌, ◌<◌, ◌≤◌, List, [], ◌∷◌, ◌++◌, sym, ap, ◌∙◌, arith}
+use Rattle.std.proofs.Common.{add-one, subst, length, take, drop, fold, append_assoc, append-nil, length-append}
+use Rattle.std.proofs.Common.{length-take, length-drop}
 use Rattle.std.specs.Prelude.{flat_map}
 use Rattle.std.specs.List.{range_with_len}
 use Rattle.std.proofs.lemmas.Grind.{flat_map-append}
-use Rattle.std.proofs.lemmas.List.{length-map, drop-drop, drop-take, take-take}
+use Rattle.std.proofs.lemmas.List.{length-map, drop-drop, drop-take, take-take, take_all}
 use Rattle.std.proofs.lemmas.List.Sums.{fold-append}
 use Rattle.std.proofs.lemmas.List.FromFn.{length-range_with_len}
-use Rattle.std.proofs.Math.Seq.{take-append_seam, drop-append_seam}
 use Rattle.std.proofs.Math.Nat.{mul-le-mul_right}
-use Rattle.std.proofs.Math.ListN.{drop_of_length-le}
-use borrow.Rule.Slice.PartMut.{put_mid, post_of}
+use borrow.Rule.Slice.PartMut.{put_mid}
+use Rattle.list_lemmas.proofs.Positions.{range-push, piece_written}
+use Rattle.flat_table.specs.Groups.{longest_key}
+use Rattle.flat_table.specs.Sound.{most_tries}
 use Rattle.flat_table.specs.Table.{TableView}
-use Rattle.flat_table.specs.Walk.{key_steps}
-use Rattle.flat_table.specs.Batch.{key_at, key_verdicts, first_verdicts, first_steps}
-use Rattle.flat_table.proofs.Ranges.{range-push}
-
--- what is written behind a list that ends at a place
-pub put_behind : (front out start ys : List ℕ) (a n : ℕ) → length front ≡ a → out ≡ front ++ drop a start →
-    put_mid a n out ys ≡ (front ++ ys) ++ drop (a + n) start
-put_behind front out start ys a n e is =
-    let before : take a out ≡ front = ap (λ (xs : List ℕ). take a xs) is
-    ∙ rw (sym e) (take-append_seam front (drop (length front) start)) in
-    let behind : drop a out ≡ drop a start = ap (λ (xs : List ℕ). drop a xs) is
-    ∙ rw (sym e) (drop-append_seam front (drop (length front) start)) in
-    ap (λ (xs : List ℕ). xs ++ (ys ++ drop n (drop a out))) before
-    ∙ ap (λ (xs : List ℕ). front ++ (ys ++ xs)) (ap (λ (xs : List ℕ). drop n xs) behind ∙ drop-drop n a start)
-    ∙ sym (append_assoc front ys (drop (a + n) start))
+use Rattle.flat_table.specs.Walk.{key_transitions}
+use Rattle.flat_table.specs.Batch.{key_at, key_verdicts, first_verdicts, first_transitions}
 
 module _ (table : TableView) (count : ℕ) (keys : List ℕ) where
   pub verdicts-more : (k : ℕ) → first_verdicts table count keys (k + 1)
@@ -49,202 +37,138 @@ module _ (table : TableView) (count : ℕ) (keys : List ℕ) where
       ap (λ (vs : List ℕ). length vs) (verdicts-more k)
       ∙ length-append (first_verdicts table count keys k) (key_verdicts table count (key_at table keys k)) ∙ len)
 
-pub steps-more : (table : TableView) (keys : List ℕ) (k : ℕ) →
-    first_steps table keys (k + 1) ≡ first_steps table keys k + key_steps table (key_at table keys k)
-steps-more table keys k =
-    ap (λ (ks : List ℕ). fold (λ total j. total + key_steps table (key_at table keys j)) 0 ks) (range-push 0 k)
-    ∙ fold-append (λ total j. total + key_steps table (key_at table keys j)) 0 (range_with_len 0 k) ((0 + k) ∷ [])
-    ∙ ap (λ (j : ℕ). first_steps table keys k + key_steps table (key_at table keys j)) (omega arith)
+pub transitions-more : (table : TableView) (keys : List ℕ) (k : ℕ) →
+    first_transitions table keys (k + 1) ≡ first_transitions table keys k + key_transitions table (key_at table keys k)
+transitions-more table keys k =
+    ap (λ (ks : List ℕ). fold (λ total j. total + key_transitions table (key_at table keys j)) 0 ks) (range-push 0 k)
+    ∙ fold-append (λ total j. total + key_transitions table (key_at table keys j)) 0 (range_with_len 0 k) ((0 + k) ∷ [])
+    ∙ ap (λ (j : ℕ). first_transitions table keys k + key_transitions table (key_at table keys j)) (omega arith)
 
--- the part of a list of equal pieces
-pub piece_end : (k n m : ℕ) → k < n → (k + 1) * m ≤ n * m
-piece_end k n m h = mul-le-mul_right m (omega arith)
+-- ---- a part of a batch: m keys from key k on
 
-pub piece_len : (k m : ℕ) → (k + 1) * m - k * m ≡ m
-piece_len k m = omega arith
+-- the part, as the code cuts it by the length of a key
+abbrev pub part_of : List ℕ → ℕ → ℕ → ℕ → List ℕ
+part_of keys len k m = take ((k + m) * len - k * len) (drop (k * len) keys)
 
-pub key_is : (table : TableView) (keys : List ℕ) (k len : ℕ) → len ≡ table.key_len →
-    take ((k + 1) * len - k * len) (drop (k * len) keys) ≡ key_at table keys k
-key_is table keys k len e =
-    ap (λ (n : ℕ). take n (drop (k * len) keys)) (piece_len k len)
-    ∙ ap (λ (n : ℕ). take n (drop (k * n) keys)) e
+-- its key j is that of the batch
+part_key : (table : TableView) (keys : List ℕ) (len k m j : ℕ) → len ≡ table.key_len → j < m →
+    key_at table (part_of keys len k m) j ≡ key_at table keys (k + j)
+part_key table keys len k m j e within =
+    let n : ℕ = table.key_len in
+    let rest : ℕ = m - (j + 1) in
+    let count : m ≡ j + 1 + rest = omega (arith, within) in
+    let whole : (k + m) * n - k * n ≡ j * n + (n + rest * n) =
+    ap (λ (c : ℕ). (k + c) * n - k * n) count ∙ omega arith in
+    ap (λ (l : ℕ). key_at table (part_of keys l k m) j) e
+    ∙ ap (λ (c : ℕ). take n (drop (j * n) (take c (drop (k * n) keys)))) whole
+    ∙ ap (λ (xs : List ℕ). take n xs) (drop-take (j * n) (n + rest * n) (drop (k * n) keys))
+    ∙ take-take n (n + rest * n) (drop (j * n) (drop (k * n) keys)) (omega arith)
+    ∙ ap (λ (xs : List ℕ). take n xs) (drop-drop (j * n) (k * n) keys ∙ ap (λ (c : ℕ). drop c keys) (omega arith))
 
-pub room_is : (out : List ℕ) (k n count : ℕ) → length out ≡ n * count → k < n →
-    length (take ((k + 1) * count - k * count) (drop (k * count) out)) ≡ count
-room_is out k n count e h = omega (
-  arith,
-  piece_end k n count h,
-  piece_len k count,
-  length-take {A = ℕ},
-  length-drop {A = ℕ},
-)
+module _ (table : TableView) (count : ℕ) (keys : List ℕ) (len k m : ℕ) (e : len ≡ table.key_len) where
+  part_verdicts : (n : ℕ) → n ≤ m → first_verdicts table count keys (k + n)
+      ≡ first_verdicts table count keys k ++ first_verdicts table count (part_of keys len k m) n
+  part_verdicts zero h = ap (λ (j : ℕ). first_verdicts table count keys j) (omega arith)
+      ∙ sym (append-nil (first_verdicts table count keys k))
+  part_verdicts (suc n) h =
+      let part : List ℕ = part_of keys len k m in
+      let more : first_verdicts table count part (suc n)
+      ≡ first_verdicts table count part n ++ key_verdicts table count (key_at table part n) =
+      rw (add-one n) at (verdicts-more table count part n) in
+      ap (λ (j : ℕ). first_verdicts table count keys j) (omega arith)
+      ∙ verdicts-more table count keys (k + n)
+      ∙ (λ i. part_verdicts n (omega (arith, h)) i
+      ++ key_verdicts table count (sym (part_key table keys len k m n e (omega (arith, h))) i))
+      ∙ append_assoc (first_verdicts table count keys k) (first_verdicts table count part n)
+      (key_verdicts table count (key_at table part n))
+      ∙ ap (λ (xs : List ℕ). first_verdicts table count keys k ++ xs) (sym more)
 
--- the verdicts of one key more, as the code writes them
-pub verdicts_turn : (table : TableView) (keys out start new : List ℕ) (k n count len : ℕ) → len ≡ table.key_len →
-    k < n → length out ≡ n * count →
-    out ≡ first_verdicts table count keys k ++ drop (k * count) start →
-    new ≡ key_verdicts table (length (take ((k + 1) * count - k * count) (drop (k * count) out)))
-    (take ((k + 1) * len - k * len) (drop (k * len) keys)) →
-    put_mid (k * count) ((k + 1) * count - k * count) out new
-    ≡ first_verdicts table count keys (k + 1) ++ drop ((k + 1) * count) start
-verdicts_turn table keys out start new k n count len e h room is written =
-    let room_at : length (take ((k + 1) * count - k * count) (drop (k * count) out)) ≡ count =
-    room_is out k n count room h in
-    let verdicts : new ≡ key_verdicts table count (key_at table keys k) =
-    written ∙ ap (λ (m : ℕ). key_verdicts table m (take ((k + 1) * len - k * len) (drop (k * len) keys))) room_at
-    ∙ ap (λ (key : List ℕ). key_verdicts table count key) (key_is table keys k len e) in
-    ap (λ (m : ℕ). put_mid (k * count) m out new) (piece_len k count)
-    ∙ put_behind (first_verdicts table count keys k) out start new (k * count) count (first-len table count keys k) is
-    ∙ ap (λ (xs : List ℕ). (first_verdicts table count keys k ++ xs) ++ drop (k * count + count) start) verdicts
-    ∙ ap (λ (xs : List ℕ). xs ++ drop (k * count + count) start) (sym (verdicts-more table count keys k))
-    ∙ ap (λ (m : ℕ). first_verdicts table count keys (k + 1) ++ drop m start) (omega arith)
+  part_transitions : (n : ℕ) → n ≤ m → first_transitions table keys (k + n)
+      ≡ first_transitions table keys k + first_transitions table (part_of keys len k m) n
+  part_transitions zero h =
+      let none : k + 0 ≡ k = omega arith in
+      omega (arith, ap (λ (j : ℕ). first_transitions table keys j) none)
+  part_transitions (suc n) h =
+      let part : List ℕ = part_of keys len k m in
+      let more : first_transitions table part (suc n)
+      ≡ first_transitions table part n + key_transitions table (key_at table part n) =
+      rw (add-one n) at (transitions-more table part n) in
+      let at : k + suc n ≡ k + n + 1 = omega arith in
+      omega (
+        arith,
+        ap (λ (j : ℕ). first_transitions table keys j) at,
+        transitions-more table keys (k + n),
+        part_transitions n (omega (arith, h)),
+        ap (λ (key : List ℕ). key_transitions table key) (part_key table keys len k m n e (omega (arith, h))),
+        more,
+      )
 
--- the words that the walks of one key more take
-pub steps_turn : (table : TableView) (keys : List ℕ) (k len taken more : ℕ) → len ≡ table.key_len →
-    taken ≡ first_steps table keys k →
-    more ≡ key_steps table (take ((k + 1) * len - k * len) (drop (k * len) keys)) →
-    taken + more ≡ first_steps table keys (k + 1)
-steps_turn table keys k len taken more e is here =
-    let key : more ≡ key_steps table (key_at table keys k) = here
-    ∙ ap (λ (key : List ℕ). key_steps table key) (key_is table keys k len e) in
-    omega (arith, key, is, steps-more table keys k)
+-- the verdicts of the first k keys are written, and their transitions counted
+pub record Classified (table : TableView) (keys : List ℕ) (count k : ℕ) (old out : List ℕ) (taken begun steps : ℕ)
+    : Type 0 where
+  pub verdicts : out ≡ first_verdicts table count keys k ++ drop (k * count) old
+  pub taken_is : taken ≡ first_transitions table keys k
+  pub most : taken ≤ k * (most_tries * longest_key)
+  pub counted : steps ≡ begun + taken
 
--- four pieces of one length, written one after the other
-pub four_written : (v y0 y1 y2 y3 : List ℕ) (count : ℕ) → length v ≡ 4 * count → length y0 ≡ count → length y1
-    ≡ count →
-    length y2 ≡ count → length y3 ≡ count →
-    put_mid (3 * count) (4 * count - 3 * count) (put_mid (2 * count) (3 * count - 2 * count)
-    (put_mid count (2 * count - count) (y0 ++ post_of 0 (count - 0) v) y1) y2) y3
-    ≡ y0 ++ (y1 ++ (y2 ++ (y3 ++ [])))
-four_written v y0 y1 y2 y3 count room l0 l1 l2 l3 =
-    let e0 : y0 ++ post_of 0 (count - 0) v ≡ y0 ++ drop count v = ap (λ (n : ℕ). y0 ++ drop n v) (omega arith) in
-    let e1 : put_mid count (2 * count - count) (y0 ++ post_of 0 (count - 0) v) y1 ≡ (y0 ++ y1) ++ drop (2 * count) v =
-    put_behind y0 (y0 ++ post_of 0 (count - 0) v) v y1 count (2 * count - count) l0 e0
-    ∙ ap (λ (n : ℕ). (y0 ++ y1) ++ drop n v) (omega arith) in
-    let l01 : length (y0 ++ y1) ≡ 2 * count = omega (arith, length-append y0 y1) in
-    let e2 : put_mid (2 * count) (3 * count - 2 * count)
-    (put_mid count (2 * count - count) (y0 ++ post_of 0 (count - 0) v) y1) y2
-    ≡ ((y0 ++ y1) ++ y2) ++ drop (3 * count) v =
-    put_behind (y0 ++ y1) (put_mid count (2 * count - count) (y0 ++ post_of 0 (count - 0) v) y1) v y2 (2 * count)
-    (3 * count - 2 * count) l01 e1
-    ∙ ap (λ (n : ℕ). ((y0 ++ y1) ++ y2) ++ drop n v) (omega arith) in
-    let l012 : length ((y0 ++ y1) ++ y2) ≡ 3 * count = omega (arith, length-append (y0 ++ y1) y2) in
-    let none : drop (4 * count) v ≡ [] = drop_of_length-le v (omega arith) in
-    put_behind ((y0 ++ y1) ++ y2) (put_mid (2 * count) (3 * count - 2 * count)
-    (put_mid count (2 * count - count) (y0 ++ post_of 0 (count - 0) v) y1) y2) v y3 (3 * count)
-    (4 * count - 3 * count) l012 e2
-    ∙ ap (λ (n : ℕ). (((y0 ++ y1) ++ y2) ++ y3) ++ drop n v) (omega arith)
-    ∙ ap (λ (xs : List ℕ). (((y0 ++ y1) ++ y2) ++ y3) ++ xs) none
-    ∙ append_assoc ((y0 ++ y1) ++ y2) y3 [] ∙ append_assoc (y0 ++ y1) y2 (y3 ++ [])
-    ∙ append_assoc y0 y1 (y2 ++ (y3 ++ []))
+pub classified_up_to : {table : TableView} {keys old out : List ℕ} {count k n taken begun steps : ℕ} → k ≡ n →
+    Classified table keys count k old out taken begun steps → Classified table keys count n old out taken begun steps
+classified_up_to {table = table} {keys = keys} {old = old} {out = out} {count = count} {taken = taken} {begun = begun}
+    {steps = steps} e = subst (λ (j : ℕ). Classified table keys count j old out taken begun steps) e
 
--- key j of a part of the batch
-part_key : (table : TableView) (keys : List ℕ) (k j rest whole : ℕ) →
-    whole ≡ j * table.key_len + (table.key_len + rest) →
-    key_at table (take whole (drop (k * table.key_len) keys)) j ≡ key_at table keys (k + j)
-part_key table keys k j rest whole e =
-    ap (λ (n : ℕ). take table.key_len (drop (j * table.key_len) (take n (drop (k * table.key_len) keys)))) e
-    ∙ ap (λ (xs : List ℕ). take table.key_len xs) (drop-take (j * table.key_len) (table.key_len + rest)
-    (drop (k * table.key_len) keys))
-    ∙ take-take table.key_len (table.key_len + rest) (drop (j * table.key_len) (drop (k * table.key_len) keys))
-    (omega arith)
-    ∙ ap (λ (xs : List ℕ). take table.key_len xs) (drop-drop (j * table.key_len) (k * table.key_len) keys
-    ∙ ap (λ (n : ℕ). drop n keys) (omega arith))
+-- the verdicts of m keys and the transitions of their walks
+pub record PartClassified (table : TableView) (part : List ℕ) (count m : ℕ) (verdicts : List ℕ)
+    (taken steps new_steps : ℕ) : Type 0 where
+  pub verdicts_are : verdicts ≡ first_verdicts table count part m
+  pub taken_is : taken ≡ first_transitions table part m
+  pub most : taken ≤ m * (most_tries * longest_key)
+  pub counted : new_steps ≡ steps + taken
 
-joined_from_left : (f a b c d : List ℕ) → (((f ++ a) ++ b) ++ c) ++ d ≡ f ++ (a ++ (b ++ (c ++ (d ++ []))))
-joined_from_left f a b c d = simp (append_assoc, append-nil)
+-- m keys more
+pub keys_more : {table : TableView} {keys old out : List ℕ} {count k taken begun steps : ℕ} →
+    Classified table keys count k old out taken begun steps → {verdicts : List ℕ} {m len more new_steps : ℕ} →
+    len ≡ table.key_len → PartClassified table (part_of keys len k m) count m verdicts more steps new_steps →
+    Classified table keys count (k + m) old (put_mid (k * count) ((k + m) * count - k * count) out verdicts)
+    (taken + more) begun new_steps
+keys_more {table = table} {keys = keys} {old = old} {count = count} {k = k} c {verdicts = verdicts} {m = m}
+    {len = len} e p =
+    let part : List ℕ = part_of keys len k m in
+    let long : length verdicts ≡ m * count = ap length p.verdicts_are ∙ first-len table count part m in
+    let now = piece_written record { is = c.verdicts; len = first-len table count keys k } verdicts ((k + m) * count)
+    (omega (arith, long)) in
+    record {
+      verdicts = now.is
+          ∙ ap (λ (xs : List ℕ). (first_verdicts table count keys k ++ xs) ++ drop ((k + m) * count) old) p.verdicts_are
+          ∙ ap (λ (xs : List ℕ). xs ++ drop ((k + m) * count) old)
+          (sym (part_verdicts table count keys len k m e m (omega arith)));
+      taken_is = omega (arith, c.taken_is, p.taken_is, part_transitions table count keys len k m e m (omega arith));
+      most = omega (arith, c.most, p.most);
+      counted = omega (arith, c.counted, p.counted);
+    }
 
--- four keys of the batch, as the code cuts them
-module _ (table : TableView) (keys : List ℕ) (k len : ℕ) (e : len ≡ table.key_len) where
-  four : List ℕ
-  four = take ((k + 4) * len - k * len) (drop (k * len) keys)
+-- the room for the verdicts of m keys, as the code cuts it
+pub room_of_part : (out : List ℕ) (k m n count : ℕ) → length out ≡ n * count → k + m ≤ n →
+    length (part_of out count k m) ≡ m * count
+room_of_part out k m n count room within =
+    let fits : (k + m) * count ≤ n * count = mul-le-mul_right count within in
+    omega (arith, fits, room, length-take {A = ℕ}, length-drop {A = ℕ})
 
-  four_is : take ((k + 4) * len - k * len) (drop (k * len) keys)
-      ≡ take (4 * table.key_len) (drop (k * table.key_len) keys)
-  four_is = ap (λ (n : ℕ). take n (drop (k * len) keys)) (omega (arith, e))
-      ∙ ap (λ (n : ℕ). take (4 * table.key_len) (drop (k * n) keys)) e
-
-  four_key : (j rest : ℕ) → 4 * table.key_len ≡ j * table.key_len + (table.key_len + rest) →
-      key_at table (take ((k + 4) * len - k * len) (drop (k * len) keys)) j ≡ key_at table keys (k + j)
-  four_key j rest h = ap (λ (part : List ℕ). key_at table part j) four_is
-      ∙ part_key table keys k j rest (4 * table.key_len) h
-
-  key_0 : key_at table (take ((k + 4) * len - k * len) (drop (k * len) keys)) 0 ≡ key_at table keys k
-  key_0 = four_key 0 (3 * table.key_len) (omega arith) ∙ ap (λ (n : ℕ). key_at table keys n) (omega arith)
-
-  key_1 : key_at table (take ((k + 4) * len - k * len) (drop (k * len) keys)) 1 ≡ key_at table keys (k + 1)
-  key_1 = four_key 1 (2 * table.key_len) (omega arith)
-
-  key_2 : key_at table (take ((k + 4) * len - k * len) (drop (k * len) keys)) 2 ≡ key_at table keys (k + 2)
-  key_2 = four_key 2 table.key_len (omega arith)
-
-  key_3 : key_at table (take ((k + 4) * len - k * len) (drop (k * len) keys)) 3 ≡ key_at table keys (k + 3)
-  key_3 = four_key 3 0 (omega arith)
-
-  module _ (count : ℕ) where
-    verdicts_at : ℕ → List ℕ
-    verdicts_at j = key_verdicts table count (key_at table keys j)
-
-    four_verdicts : first_verdicts table count (take ((k + 4) * len - k * len) (drop (k * len) keys)) 4
-        ≡ key_verdicts table count (key_at table keys k) ++
-        (key_verdicts table count (key_at table keys (k + 1)) ++
-        (key_verdicts table count (key_at table keys (k + 2)) ++
-        (key_verdicts table count (key_at table keys (k + 3)) ++ [])))
-    four_verdicts = rw (key_0, key_1, key_2, key_3) refl
-
-    next_verdicts : (j n : ℕ) → n ≡ j + 1 → first_verdicts table count keys n
-        ≡ first_verdicts table count keys j ++ key_verdicts table count (key_at table keys j)
-    next_verdicts j n h = ap (λ (m : ℕ). first_verdicts table count keys m) h ∙ verdicts-more table count keys j
-
-    pub verdicts-four : first_verdicts table count keys (k + 4)
-        ≡ first_verdicts table count keys k ++ first_verdicts table count
-        (take ((k + 4) * len - k * len) (drop (k * len) keys)) 4
-    verdicts-four =
-        let one = next_verdicts k (k + 1) refl in
-        let two = next_verdicts (k + 1) (k + 2) (omega arith)
-        ∙ ap (λ (xs : List ℕ). xs ++ key_verdicts table count (key_at table keys (k + 1))) one in
-        let three = next_verdicts (k + 2) (k + 3) (omega arith)
-        ∙ ap (λ (xs : List ℕ). xs ++ key_verdicts table count (key_at table keys (k + 2))) two in
-        next_verdicts (k + 3) (k + 4) (omega arith)
-        ∙ ap (λ (xs : List ℕ). xs ++ key_verdicts table count (key_at table keys (k + 3))) three
-        ∙ joined_from_left (first_verdicts table count keys k) (key_verdicts table count (key_at table keys k))
-        (key_verdicts table count (key_at table keys (k + 1)))
-        (key_verdicts table count (key_at table keys (k + 2))) (key_verdicts table count (key_at table keys (k + 3)))
-        ∙ ap (λ (xs : List ℕ). first_verdicts table count keys k ++ xs) (sym four_verdicts)
-
-  next_steps : (j n : ℕ) → n ≡ j + 1 → first_steps table keys n
-      ≡ first_steps table keys j + key_steps table (key_at table keys j)
-  next_steps j n h = ap (λ (m : ℕ). first_steps table keys m) h ∙ steps-more table keys j
-
-  four_steps : first_steps table (take ((k + 4) * len - k * len) (drop (k * len) keys)) 4
-      ≡ 0 + key_steps table (key_at table keys k) + key_steps table (key_at table keys (k + 1)) + key_steps table
-      (key_at table keys (k + 2)) + key_steps table (key_at table keys (k + 3))
-  four_steps = rw (key_0, key_1, key_2, key_3) refl
-
-  pub steps-four : first_steps table keys (k + 4) ≡ first_steps table keys k + first_steps table
-      (take ((k + 4) * len - k * len) (drop (k * len) keys)) 4
-  steps-four = omega (
-    arith,
-    four_steps,
-    next_steps k (k + 1) refl,
-    next_steps (k + 1) (k + 2) (omega arith),
-    next_steps (k + 2) (k + 3) (omega arith),
-    next_steps (k + 3) (k + 4) (omega arith),
-  )
-
--- the verdicts of four keys more, as the code writes them
-pub four_turn : (table : TableView) (keys out start new : List ℕ) (k n count len : ℕ) → len ≡ table.key_len →
-    k + 4 ≤ n → length out ≡ n * count →
-    out ≡ first_verdicts table count keys k ++ drop (k * count) start →
-    new ≡ first_verdicts table count (take ((k + 4) * len - k * len) (drop (k * len) keys)) 4 →
-    put_mid (k * count) ((k + 4) * count - k * count) out new
-    ≡ first_verdicts table count keys (k + 4) ++ drop ((k + 4) * count) start
-four_turn table keys out start new k n count len e h room is written =
-    put_behind (first_verdicts table count keys k) out start new (k * count) ((k + 4) * count - k * count)
-    (first-len table count keys k) is
-    ∙ ap (λ (xs : List ℕ). (first_verdicts table count keys k ++ xs)
-    ++ drop (k * count + ((k + 4) * count - k * count))
-    start) written
-    ∙ ap (λ (xs : List ℕ). xs ++ drop (k * count + ((k + 4) * count - k * count)) start)
-    (sym (verdicts-four table keys k len e count))
-    ∙ ap (λ (m : ℕ). first_verdicts table count keys (k + 4) ++ drop m start) (omega arith)
+-- one key, as the code cuts it and the room for its verdicts
+pub one_key : {table : TableView} {verdicts : List ℕ} {count len n taken steps new_steps : ℕ} →
+    (keys out : List ℕ) (k : ℕ) → len ≡ table.key_len → length out ≡ n * count → k + 1 ≤ n →
+    verdicts ≡ key_verdicts table (length (part_of out count k 1)) (part_of keys len k 1) →
+    taken ≡ key_transitions table (part_of keys len k 1) → taken ≤ most_tries * longest_key →
+    new_steps ≡ steps + key_transitions table (part_of keys len k 1) →
+    PartClassified table (part_of keys len k 1) count 1 verdicts taken steps new_steps
+one_key {table = table} {count = count} {len = len} {n = n} keys out k e room within verdicts taken most steps =
+    let key : List ℕ = part_of keys len k 1 in
+    let few : length (part_of out count k 1) ≡ count = room_of_part out k 1 n count room within ∙ omega arith in
+    let none : 0 * table.key_len ≡ 0 = omega arith in
+    let whole : key_at table key 0 ≡ key = ap (λ (at : ℕ). take table.key_len (drop at key)) none
+    ∙ take_all table.key_len key (omega (arith, e, length-take ((k + 1) * len - k * len) (drop (k * len) keys))) in
+    record {
+      verdicts_are = verdicts ∙ (λ i. key_verdicts table (few i) (sym whole i)) ∙ sym (append-nil _);
+      taken_is = taken ∙ ap (λ (it : List ℕ). key_transitions table it) (sym whole) ∙ omega arith;
+      most = omega (arith, most);
+      counted = omega (arith, steps, taken);
+    }

@@ -1,102 +1,177 @@
--- One of several walks in step, in the terms of the code.
-use Rattle.std.proofs.Common.{◌≡◌, ℕ, ◌+◌, ◌*◌, ◌<◌, ◌≤◌, ◌^◌, Bool, true, false, None, List, sym, ap, ◌∙◌, arith}
-use Rattle.std.proofs.Common.{subst, length, drop}
-use Rattle.std.specs.Prelude.{slice_index, if◌then◌else◌}
-use Rattle.std.proofs.lemmas.List.{get_or-take, get_or-drop}
+-- Four walks in step. Their lanes are numbered from 0 to 3: lane i walks key i.
+use Rattle.std.proofs.Common.{◌≡◌, ◌≢◌, ℕ, ◌+◌, ◌*◌, ◌<◌, ◌≤◌, ◌^◌, Bool, true, false, List, sym, ap, ◌∙◌, arith, subst}
+use Rattle.std.proofs.Common.{length, drop, get_or, set, [], ◌∷◌, inl, inr, refl, get_or-set_same, get_or-set_other}
+use Rattle.std.specs.Prelude.{slice_index, if◌then◌else◌, nat_lt}
+use Rattle.std.proofs.lemmas.List.{get_or-take, get_or-drop, get_or-replicate}
+use Rattle.std.proofs.lemmas.Bool.{cases_eq}
+use Rattle.std.proofs.lemmas.Bool.Decides.{nat_tests}
+use Rattle.std.proofs.Math.ListN.{length-set}
 use Rattle.std.proofs.Math.Nat.{mul-le-mul_right}
-use Rattle.flat_table.specs.Word.{index_of, is_match, is_node, next_place}
-use Rattle.flat_table.specs.Table.{TableView, places_of}
-use Rattle.flat_table.specs.Sound.{sound_fault}
-use Rattle.flat_table.specs.Walk.{root_of, moved, steps_after, walk_steps}
+use Rattle.flat_table.specs.Word.{index_of, is_match}
+use Rattle.flat_table.specs.Table.{places_of}
+use Rattle.flat_table.specs.Walk.{root_of, transitions_after}
 use Rattle.flat_table.specs.Batch.{key_at}
-use Rattle.flat_table.proofs.Lanes.{Stands, place_below, begins, goes, ends_at_match}
-use Rattle.flat_table.proofs.Taken.{row_is, steps_is}
-use Rattle.scalar_walk.specs.Rows.{EndsAt}
+use Rattle.list_lemmas.proofs.Sums.{one_of_four_grows}
+use Rattle.flat_table.proofs.Offered.{Stands, begins, ends_at_match, row_is}
+use Rattle.scalar_walk.specs.Rows.{EndsAt, GoesOn}
+use Rattle.scalar_walk.proofs.Ways.{Way, IsWay, Step, step, count_of_places, place_in_key}
 
--- the step of one walk: the byte is there, the word is there, and what stands then
-pub record LaneStep (table : TableView) (trie : ℕ) (keys words : List ℕ) (j n at word : ℕ) : Type 0 where
+-- in the turn after n bytes, how many bytes lane i has read when the lanes before j have read theirs
+abbrev pub bytes_read : ℕ → ℕ → ℕ → ℕ
+bytes_read n j i = if nat_lt i j then n + 1 else n
+
+-- how many words lane i has taken then
+abbrev pub lane_transitions : Way → List ℕ → ℕ → ℕ → ℕ → ℕ
+lane_transitions way keys n j i = transitions_after way.table way.trie (key_at way.table keys i) (bytes_read n j i)
+
+-- four keys, one after the other
+pub record FourKeys (way : Way) (keys : List ℕ) : Type 0 where
+  pub whole : length keys ≡ 4 * way.table.key_len
+  pub bytes : (k : ℕ) → slice_index keys k < 2 ^ 8
+
+-- the four walks in that turn: the words at which they stand, and the two counts
+pub record InStep (way : Way) (keys : List ℕ) (n j : ℕ) (lanes : List ℕ) (taken start steps : ℕ) : Type 0 where
+  pub is_way : IsWay way
+  pub keys_are : FourKeys way keys
+  pub four : length lanes ≡ 4
+  pub stands : (i : ℕ) → i < 4 →
+      Stands way.table way.trie (key_at way.table keys i) (bytes_read n j i) (get_or lanes i 0)
+  pub total : taken
+      ≡ lane_transitions way keys n j 0 + lane_transitions way keys n j 1 + lane_transitions way keys n j 2
+      + lane_transitions way keys n j 3
+  pub most : taken ≤ 4 * n + j
+  pub counted : steps ≡ start + taken
+
+-- a lane whose number isn't below j hasn't read its byte
+not_yet : (n s j : ℕ) → s ≤ j → bytes_read n s j ≡ n
+not_yet n s j h = grind (arith, nat_tests)
+
+-- all begin at the root
+pub four_begin : {way : Way} {keys : List ℕ} → IsWay way → FourKeys way keys → (root start : ℕ) →
+    root ≡ root_of way.table way.trie → InStep way keys 0 0 (root ∷ root ∷ root ∷ root ∷ []) 0 start start
+four_begin {way = way} {keys = keys} w k root start is = record {
+  is_way = w;
+  keys_are = k;
+  four = refl;
+  stands = λ i below. rw (get_or-replicate 4 i root 0 below, not_yet 0 0 i (omega arith), is)
+      (begins way.table way.trie (key_at way.table keys i) w.sound w.there);
+  total = refl;
+  most = omega arith;
+  counted = omega arith;
+}
+
+-- what lane j goes on by from the word: its byte is at a place of the keys
+pub record LaneStep (way : Way) (keys : List ℕ) (n j place at word : ℕ) : Type 0 where
   pub in_keys : at < length keys
-  pub node : is_match word ≡ false → is_node word ≡ true
-  pub there : is_match word ≡ false → next_place word (slice_index keys at) < length words
-  pub next : (next : ℕ) → next ≡ moved words word (slice_index keys at) →
-      Stands table trie (key_at table keys j) (n + 1) next
-  pub steps : steps_after table trie (key_at table keys j) (n + 1)
-      ≡ steps_after table trie (key_at table keys j) n + (if is_match word then 0 else 1)
+  pub step : Step way (key_at way.table keys j) n place (slice_index keys at) word
 
-module _ (table : TableView) (trie : ℕ) (keys : List ℕ) (sound : sound_fault table ≡ None)
-    (lt : trie < length table.roots) (fits : length keys ≡ 4 * table.key_len)
-    (places words : List ℕ) (p : places ≡ places_of table trie) (ws : words ≡ table.words) where
-  pub lane_begins : (j word : ℕ) → word ≡ root_of table trie → Stands table trie (key_at table keys j) 0 word
-  lane_begins j word e = subst (λ (v : ℕ). Stands table trie (key_at table keys j) 0 v) (sym e)
-      (begins table trie (key_at table keys j) sound lt)
+-- a lane that hasn't read its byte yet, in any part of the turn
+lane_in_turn : {way : Way} {keys : List ℕ} {n s place : ℕ} {lanes : List ℕ} {taken start steps : ℕ} →
+    InStep way keys n s lanes taken start steps → (j at : ℕ) → s ≤ j → j < 4 → n < length way.places →
+    place ≡ slice_index way.places n → at ≡ j * way.table.key_len + place →
+    LaneStep way keys n j place at (get_or lanes j 0)
+lane_in_turn {way = way} {keys = keys} {n = n} {s = s} {place = place} {lanes = lanes} w j at unread few within place_is
+    at_is =
+    let len : ℕ = way.table.key_len in
+    let below : place < len = place_in_key w.is_way n place within place_is in
+    let whole : (j + 1) * len ≤ 4 * len = mul-le-mul_right len (omega arith) in
+    let byte : slice_index keys at ≡ slice_index (key_at way.table keys j) place =
+    ap (λ (k : ℕ). slice_index keys k) at_is
+    ∙ sym (get_or-take len (drop (j * len) keys) place 0 below ∙ get_or-drop (j * len) keys place 0) in
+    record {
+      in_keys = omega (arith, whole, below, at_is, w.keys_are.whole);
+      step = step w.is_way (key_at way.table keys j) n place (slice_index keys at) (get_or lanes j 0) within place_is
+          byte (w.keys_are.bytes at)
+          (subst (λ (m : ℕ). Stands way.table way.trie (key_at way.table keys j) m (get_or lanes j 0))
+          (not_yet n s j unread) (w.stands j few));
+    }
 
-  pub lane : (j n place at word : ℕ) → j < 4 → n < length places → place ≡ slice_index places n →
-      at ≡ j * table.key_len + place →
-      ((k : ℕ) → slice_index keys k < 2 ^ 8) → Stands table trie (key_at table keys j) n word →
-      LaneStep table trie keys words j n at word
-  lane j n place at word few h e is_at small s =
-      let key : List ℕ = key_at table keys j in
-      let h' : n < length (places_of table trie) = omega (arith, h, ap (λ (xs : List ℕ). length xs) p) in
-      let e' : place ≡ slice_index (places_of table trie) n = e ∙ ap (λ (xs : List ℕ). slice_index xs n) p in
-      let below : place < table.key_len = omega (arith, e', place_below table trie key sound lt n h') in
-      let whole : (j + 1) * table.key_len ≤ 4 * table.key_len = mul-le-mul_right table.key_len (omega arith) in
-      let byte : slice_index keys at ≡ slice_index key place =
-      ap (λ (k : ℕ). slice_index keys k) is_at
-      ∙ sym (get_or-take table.key_len (drop (j * table.key_len) keys) place 0 below
-      ∙ get_or-drop (j * table.key_len) keys place 0) in
-      let g = goes table trie key sound lt n place (slice_index keys at) word h' e' byte (small at) s in
-      record {
-        in_keys = omega (arith, whole, below, is_at, fits);
-        node = g.node;
-        there = λ no_match. omega (arith, g.there no_match, ap (λ (xs : List ℕ). length xs) ws);
-        next = λ next is_next. subst (λ (v : ℕ). Stands table trie key (n + 1) v)
-            (sym (is_next ∙ ap (λ (xs : List ℕ). moved xs word (slice_index keys at)) ws)) g.next;
-        steps = g.steps;
-      }
+-- each lane at the start of the turn
+pub lane : {way : Way} {keys : List ℕ} {n place : ℕ} {lanes : List ℕ} {taken start steps : ℕ} →
+    InStep way keys n 0 lanes taken start steps → (j at : ℕ) → j < 4 → n < length way.places →
+    place ≡ slice_index way.places n → at ≡ j * way.table.key_len + place →
+    LaneStep way keys n j place at (get_or lanes j 0)
+lane w j at few within place_is at_is = lane_in_turn w j at (omega arith) few within place_is at_is
 
-  pub lane_ends : (key : List ℕ) (n word row : ℕ) → length places ≤ n → n ≤ length places → row ≡ index_of word →
-      Stands table trie key n word → EndsAt table trie key row
-  lane_ends key n word row le ge is_row s =
-      let all : n ≡ length (places_of table trie) = omega (arith, le, ge, ap (λ (xs : List ℕ). length xs) p) in
-      let s' = subst (λ (k : ℕ). Stands table trie key k word) all s in
-      let match = ends_at_match table trie key sound lt word s' in
-      record {
-        is = is_row ∙ ap index_of s'.is ∙ sym (row_is table trie key);
-        there = omega (arith, is_row, s.row match);
-      }
+read_now : (n j : ℕ) → bytes_read n (j + 1) j ≡ n + 1
+read_now n j = grind (arith, nat_tests)
 
-  pub lane_steps : (key : List ℕ) (n : ℕ) → length places ≤ n → n ≤ length places →
-      steps_after table trie key n ≡ walk_steps table trie key
-  lane_steps key n le ge =
-      let all : n ≡ length (places_of table trie) = omega (arith, le, ge, ap (λ (xs : List ℕ). length xs) p) in
-      ap (λ (k : ℕ). steps_after table trie key k) all ∙ sym (steps_is table trie key)
-
--- sums of four counts, each raised by its own number
-pub sum_of_four : (t t1 t2 t3 t4 a b c d a' b' c' d' x y z w : ℕ) → t ≡ a + b + c + d → t1 ≡ t + x → t2 ≡ t1 + y →
-    t3 ≡ t2 + z → t4 ≡ t3 + w →
-    a' ≡ a + x → b' ≡ b + y → c' ≡ c + z → d' ≡ d + w → t4 ≡ a' + b' + c' + d'
-sum_of_four t t1 t2 t3 t4 a b c d a' b' c' d' x y z w e e1 e2 e3 e4 ea eb ec ed = omega arith
+read_else : (n j i : ℕ) → i ≢ j → bytes_read n (j + 1) i ≡ bytes_read n j i
+read_else n j i other = grind (arith, nat_tests)
 
 at_most_one : (b : Bool) → (if b then 0 else 1) ≤ 1
 at_most_one true = omega arith
 at_most_one false = omega arith
 
-pub four_more : (t t1 t2 t3 t4 n : ℕ) (b1 b2 b3 b4 : Bool) → t ≤ 4 * n → t1 ≡ t + (if b1 then 0 else 1) →
-    t2 ≡ t1 + (if b2 then 0 else 1) →
-    t3 ≡ t2 + (if b3 then 0 else 1) → t4 ≡ t3 + (if b4 then 0 else 1) → t4 ≤ 4 * (n + 1)
-four_more t t1 t2 t3 t4 n b1 b2 b3 b4 h e1 e2 e3 e4 = omega (
-  arith,
-  at_most_one b1,
-  at_most_one b2,
-  at_most_one b3,
-  at_most_one b4,
-)
+-- lane j reads its byte
+pub lane_went : {way : Way} {keys : List ℕ} {n place : ℕ} {lanes : List ℕ}
+    {taken start steps next taken' steps' : ℕ} → (j at : ℕ) → InStep way keys n j lanes taken start steps → j < 4 →
+    n < length way.places → place ≡ slice_index way.places n → at ≡ j * way.table.key_len + place →
+    GoesOn way.words (get_or lanes j 0) (slice_index keys at) next taken taken' steps steps' →
+    InStep way keys n (j + 1) (set lanes j next) taken' start steps'
+lane_went {way = way} {keys = keys} {n = n} {lanes = lanes} {next = next} j at w few within place_is at_is g =
+    let stands_after = λ (i m v : ℕ). Stands way.table way.trie (key_at way.table keys i) m v in
+    let steps_of = λ (i m : ℕ). transitions_after way.table way.trie (key_at way.table keys i) m in
+    let more : ℕ = if is_match (get_or lanes j 0) then 0 else 1 in
+    let l = (lane_in_turn w j at (omega arith) few within place_is at_is).step in
+    let grew : lane_transitions way keys n (j + 1) j ≡ lane_transitions way keys n j j + more =
+    ap (steps_of j) (read_now n j) ∙ l.steps
+    ∙ ap (λ (m : ℕ). steps_of j m + more) (sym (not_yet n j j (omega arith))) in
+    let stands : stands_after j (bytes_read n (j + 1) j) (get_or (set lanes j next) j 0) =
+    rw (get_or-set_same lanes j next 0 (omega (arith, w.four, few)), read_now n j)
+    (subst (stands_after j (n + 1)) (sym g.word_is) l.next) in
+    record {
+      is_way = w.is_way;
+      keys_are = w.keys_are;
+      four = omega (arith, length-set lanes j next, w.four);
+      stands = λ i below. elim (cases_eq i j) [
+        | inl same ↦
+            subst (λ (k : ℕ). stands_after k (bytes_read n (j + 1) k) (get_or (set lanes j next) k 0)) (sym same) stands
+        | inr other ↦ rw (get_or-set_other lanes j i next 0 other, read_else n j i other) (w.stands i below)
+      ];
+      total = omega (
+        arith,
+        g.taken_is,
+        w.total,
+        one_of_four_grows (lane_transitions way keys n j) (lane_transitions way keys n (j + 1)) j more few grew
+            (λ i other. ap (steps_of i) (read_else n j i other)),
+      );
+      most = omega (arith, g.taken_is, w.most, at_most_one (is_match (get_or lanes j 0)));
+      counted = omega (arith, g.taken_is, g.steps_are, w.counted);
+    }
 
-pub steps_of_four : (start s s1 s2 s3 s4 t t1 t2 t3 t4 x y z w : ℕ) → s ≡ start + t → s1 ≡ s + x → s2 ≡ s1 + y →
-    s3 ≡ s2 + z → s4 ≡ s3 + w →
-    t1 ≡ t + x → t2 ≡ t1 + y → t3 ≡ t2 + z → t4 ≡ t3 + w → s4 ≡ start + t4
-steps_of_four start s s1 s2 s3 s4 t t1 t2 t3 t4 x y z w e e1 e2 e3 e4 f1 f2 f3 f4 = omega arith
+read_all : (n i : ℕ) → i < 4 → bytes_read n 4 i ≡ bytes_read (n + 1) 0 i
+read_all n i below = grind (arith, nat_tests)
 
-pub sum_of_tries : (t t' m a b c d a' b' c' d' x y z w : ℕ) → t ≡ a + b + c + d → t' ≡ t + m → m ≡ x + y + z + w →
-    a' ≡ a + x → b' ≡ b + y → c' ≡ c + z → d' ≡ d + w → t' ≡ a' + b' + c' + d'
-sum_of_tries t t' m a b c d a' b' c' d' x y z w e e' em ea eb ec ed = omega arith
+-- after a turn of all lanes the next one begins
+pub turn_ends : {way : Way} {keys : List ℕ} {n : ℕ} {lanes : List ℕ} {taken start steps : ℕ} →
+    InStep way keys n 4 lanes taken start steps → InStep way keys (n + 1) 0 lanes taken start steps
+turn_ends {way = way} {keys = keys} {n = n} {lanes = lanes} w = record {
+  is_way = w.is_way;
+  keys_are = w.keys_are;
+  four = w.four;
+  stands = λ i below.
+      subst (λ (m : ℕ). Stands way.table way.trie (key_at way.table keys i) m (get_or lanes i 0)) (read_all n i below)
+      (w.stands i below);
+  total = w.total;
+  most = omega (arith, w.most);
+  counted = w.counted;
+}
+
+-- where all places are read, lane j has ended at a row
+module _ {way : Way} {keys : List ℕ} {n : ℕ} {lanes : List ℕ} {taken start steps : ℕ}
+    (w : InStep way keys n 0 lanes taken start steps) (all : n ≡ length way.places) where
+  all_read : n ≡ length (places_of way.table way.trie)
+  all_read = all ∙ count_of_places way w.is_way
+
+  pub lane_ends : (j row : ℕ) → j < 4 → row ≡ index_of (get_or lanes j 0) →
+      EndsAt way.table way.trie (key_at way.table keys j) row
+  lane_ends j row few is_row =
+      let key : List ℕ = key_at way.table keys j in
+      let s = subst (λ (k : ℕ). Stands way.table way.trie key k (get_or lanes j 0))
+      (not_yet n 0 j (omega arith) ∙ all_read) (w.stands j few) in
+      let match = ends_at_match way.table way.trie key w.is_way.sound w.is_way.there (get_or lanes j 0) s in
+      record {
+        is = is_row ∙ ap index_of s.is ∙ sym (row_is way.table way.trie key);
+        there = omega (arith, is_row, s.row match);
+      }

@@ -1,78 +1,69 @@
 -- The rows that the walks of a key reach, trie by trie.
-use Rattle.std.proofs.Common.{◌≡◌, ℕ, zero, suc, ◌≢◌, ◌+◌, ◌%◌, ◌<◌, ◌≤◌, List, [], ◌∷◌, refl, sym, ap, ◌∙◌, arith}
-use Rattle.std.proofs.Common.{length, map, take, fold, get_or, set, All, length-take, get_or-set_same}
-use Rattle.std.proofs.Common.{get_or-set_other}
+use Rattle.std.proofs.Common.{◌≡◌, ℕ, ◌≢◌, ◌+◌, ◌%◌, ◌<◌, ◌≤◌, List, [], ◌∷◌, sym, ap, ◌∙◌, arith, length, map, take}
+use Rattle.std.proofs.Common.{fold, get_or, set, All, length-take, get_or-set_same, get_or-set_other}
 use Rattle.std.specs.List.{range_with_len}
-use Rattle.std.proofs.lemmas.List.{get_or-take}
+use Rattle.std.proofs.lemmas.List.{get_or-take, get_or_default}
 use Rattle.std.proofs.lemmas.List.Sums.{fold-append}
 use Rattle.std.proofs.lemmas.List.FromFn.{fill_by_all}
 use Rattle.std.proofs.Math.ListN.{length-set}
 use Rattle.std.proofs.lemmas.Simd.{map-map}
 use borrow.Author.Count.{below_more}
 use Rattle.std.specs.Prelude.{slice_index, Bool, false, not, ◌==◌}
-use Rattle.flat_table.specs.Sound.{row_len}
+use Rattle.flat_table.specs.Sound.{most_tries, row_len}
 use Rattle.flat_table.specs.Table.{TableView}
-use Rattle.flat_table.specs.Walk.{walk_row, walk_steps, tries_of, joined, greatest}
-use Rattle.flat_table.specs.Walk.{key_steps, userdatas}
+use Rattle.flat_table.specs.Walk.{walk_row, walk_transitions, tries_of, joined, greatest, key_transitions, userdatas}
 use Rattle.flat_table.specs.Batch.{key_verdicts}
-use Rattle.flat_table.proofs.Ranges.{range-push}
-use Rattle.scalar_walk.specs.Rows.{Reaches, joined_rows, row_verdicts, winners_of}
+use Rattle.list_lemmas.proofs.Maps.{map_agree}
+use Rattle.list_lemmas.proofs.Positions.{range-push}
+use Rattle.scalar_walk.specs.Rows.{EndsAt, Reaches, joined_rows, row_verdicts, winners_of}
 
-pub reaches_more : (table : TableView) (key rows : List ℕ) (n row : ℕ) → Reaches table key n rows → n < 8 →
-    row ≡ walk_row table n key → row < length table.rows →
-    Reaches table key (n + 1) (set rows n row)
-reaches_more table key rows n row r few e there = record {
+-- a row more is reached, where the walk through the next trie ends
+pub reaches_more : {table : TableView} {key rows : List ℕ} {n row : ℕ} → Reaches table key n rows → n < most_tries →
+    EndsAt table n key row → Reaches table key (n + 1) (set rows n row)
+reaches_more {rows = rows} {n = n} {row = row} r few ends = record {
   len = omega (arith, length-set rows n row, r.len);
   each = below_more _ _ (λ k h. let ne : k ≢ n = omega arith in get_or-set_other rows n k row 0 ne
-      ∙ r.each k h) (get_or-set_same rows n row 0 (omega (arith, r.len)) ∙ e);
+      ∙ r.each k h) (get_or-set_same rows n row 0 (omega (arith, r.len)) ∙ ends.is);
   there = below_more _ _ (λ k h. let ne : k ≢ n = omega arith in rw get_or-set_other (r.there k h))
-      (let at : n < length rows = omega (arith, r.len) in rw get_or-set_same there);
+      (let at : n < length rows = omega (arith, r.len) in rw get_or-set_same ends.there);
 }
 
 -- the words that the walks through the first tries take
-abbrev pub first_tries_steps : TableView → List ℕ → ℕ → ℕ
-first_tries_steps table key n = fold (λ total trie. total + walk_steps table trie key) 0 (range_with_len 0 n)
+abbrev pub first_tries_transitions : TableView → List ℕ → ℕ → ℕ
+first_tries_transitions table key n =
+    fold (λ total trie. total + walk_transitions table trie key) 0 (range_with_len 0 n)
 
 pub first_tries_more : (table : TableView) (key : List ℕ) (n : ℕ) →
-    first_tries_steps table key (n + 1) ≡ first_tries_steps table key n + walk_steps table n key
+    first_tries_transitions table key (n + 1) ≡ first_tries_transitions table key n + walk_transitions table n key
 first_tries_more table key n =
-    ap (λ (tries : List ℕ). fold (λ total trie. total + walk_steps table trie key) 0 tries) (range-push 0 n)
-    ∙ fold-append (λ total trie. total + walk_steps table trie key) 0 (range_with_len 0 n) ((0 + n) ∷ [])
-    ∙ ap (λ (k : ℕ). first_tries_steps table key n + walk_steps table k key) (omega arith)
-
-map_same : {A B : Type 0} (f g : A → B) (xs : List A) → ((x : A) → f x ≡ g x) → map f xs ≡ map g xs
-map_same f g [] h = refl
-map_same f g (x ∷ xs) h = ap (λ y. y ∷ map f xs) (h x) ∙ ap (λ ys. g x ∷ ys) (map_same f g xs h)
-
-get_or_any : (xs : List ℕ) (k d e : ℕ) → k < length xs → get_or xs k d ≡ get_or xs k e
-get_or_any [] k d e h = absurd (omega arith)
-get_or_any (x ∷ xs) zero d e h = refl
-get_or_any (x ∷ xs) (suc k) d e h = get_or_any xs k d e (omega arith)
+    ap (λ (tries : List ℕ). fold (λ total trie. total + walk_transitions table trie key) 0 tries) (range-push 0 n)
+    ∙ fold-append (λ total trie. total + walk_transitions table trie key) 0 (range_with_len 0 n) ((0 + n) ∷ [])
+    ∙ ap (λ (k : ℕ). first_tries_transitions table key n + walk_transitions table k key) (omega arith)
 
 -- of the only trie the row is the joined one
 one_joined : (table : TableView) (key : List ℕ) (category : ℕ) → length table.roots ≡ 1 →
     slice_index (get_or table.rows (walk_row table 0 key) []) category ≡ joined table key category
 one_joined table key category one = rw one (omega arith)
 
-pub one_verdicts : (table : TableView) (key : List ℕ) (row count : ℕ) → length table.roots ≡ 1 →
+pub one_verdicts : (table : TableView) (key : List ℕ) {row : ℕ} (count : ℕ) → length table.roots ≡ 1 →
     row ≡ walk_row table 0 key → row_verdicts table.rows count row ≡ key_verdicts table count key
-one_verdicts table key row count one e =
+one_verdicts table key count one e =
     ap (λ (number : ℕ). row_verdicts table.rows count number) e
-    ∙ map_same _ _ (range_with_len 0 count)
+    ∙ map_agree _ _ (range_with_len 0 count)
     (λ category. ap (λ (word : ℕ). word % userdatas) (one_joined table key category one))
 
-pub one_steps : (table : TableView) (key : List ℕ) → length table.roots ≡ 1 →
-    key_steps table key ≡ walk_steps table 0 key
-one_steps table key one = rw one (omega arith)
+pub one_transitions : (table : TableView) (key : List ℕ) → length table.roots ≡ 1 →
+    key_transitions table key ≡ walk_transitions table 0 key
+one_transitions table key one = rw one (omega arith)
 
 -- of all tries
-module _ (table : TableView) (key rows : List ℕ) (r : Reaches table key (length table.roots) rows)
-    (few : length table.roots ≤ 8) where
+module _ {table : TableView} {key rows : List ℕ} (r : Reaches table key (length table.roots) rows)
+    (few : length table.roots ≤ most_tries) where
   pub rows_there : All (λ row. row < length table.rows) (take (length table.roots) rows)
   rows_there = λ k d h.
       let lt : k < length table.roots = omega (arith, h, length-take {A = ℕ}) in
       let same : get_or (take (length table.roots) rows) k d ≡ get_or rows k 0 =
-      get_or-take (length table.roots) rows k d lt ∙ get_or_any rows k d 0 (omega (arith, r.len)) in
+      get_or-take (length table.roots) rows k d lt ∙ get_or_default rows k d 0 (omega (arith, r.len)) in
       omega (arith, same, r.there k lt)
 
   rows_are : take (length table.roots) rows ≡ map (λ trie. walk_row table trie key) (tries_of table)
@@ -94,7 +85,7 @@ module _ (table : TableView) (key rows : List ℕ) (r : Reaches table key (lengt
   pub verdicts_are : (count : ℕ) →
       map (λ category. joined_rows table.rows (take (length table.roots) rows) category % userdatas)
       (range_with_len 0 count) ≡ key_verdicts table count key
-  verdicts_are count = map_same _ _ (range_with_len 0 count)
+  verdicts_are count = map_agree _ _ (range_with_len 0 count)
       (λ category. ap (λ (word : ℕ). word % userdatas) (joined_is category))
 
   pub won_are : (won : List Bool) → length won ≡ row_len →

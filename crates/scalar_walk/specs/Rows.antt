@@ -1,11 +1,11 @@
 -- What rows that were reached say of a category.
-use Rattle.std.specs.Prelude.{◌≡◌, ℕ, ◌<◌, ◌%◌, List, [], map, length, slice_index, slice_index_or}
-use Rattle.std.specs.Prelude.{Bool}
-use Rattle.std.specs.Prelude.{not, ◌==◌}
+use Rattle.std.specs.Prelude.{◌≡◌, ℕ, ◌+◌, ◌<◌, ◌%◌, List, [], map, length, slice_index}
+use Rattle.std.specs.Prelude.{slice_index_or, Bool, not, ◌==◌, if◌then◌else◌}
 use Rattle.std.specs.List.{range_with_len}
 use Rattle.flat_table.specs.Table.{TableView}
 use Rattle.flat_table.specs.Sound.{most_tries, row_len}
-use Rattle.flat_table.specs.Walk.{greatest, joined, userdatas, walk_row}
+use Rattle.flat_table.specs.Word.{is_match}
+use Rattle.flat_table.specs.Walk.{greatest, joined, userdatas, walk_row, moved}
 
 -- the greatest word of the category over the rows of these numbers
 abbrev pub joined_rows : List (List ℕ) → List ℕ → ℕ → ℕ
@@ -33,3 +33,11 @@ winners_of table key = map (λ category. not (joined table key category == 0))
 pub record EndsAt (table : TableView) (trie : ℕ) (key : List ℕ) (row : ℕ) : Type 0 where
   pub is : row ≡ walk_row table trie key
   pub there : row < length table.rows
+
+-- A walk that stands at the word goes on by a byte. The next word is the one that stands then, and
+-- two counts of transitions are each raised by one, unless the word is a match.
+pub record GoesOn (words : List ℕ) (word byte next taken new_taken steps new_steps : ℕ)
+    : Type 0 where
+  pub word_is : next ≡ moved words word byte
+  pub taken_is : new_taken ≡ taken + (if is_match word then 0 else 1)
+  pub steps_are : new_steps ≡ steps + (if is_match word then 0 else 1)

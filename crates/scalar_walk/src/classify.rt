@@ -5,9 +5,9 @@ ghost use Rattle.std.specs.Prelude.{not, slice_index, flat_map, ◌∷◌, [], A
 ghost use Rattle.std.specs.List.{range_with_len};
 ghost use Rattle.flat_table.specs.Groups.{longest_key};
 ghost use Rattle.flat_table.specs.Sound.{most_tries, row_len};
-ghost use Rattle.flat_table.specs.Walk.{joined, key_steps, userdatas};
+ghost use Rattle.flat_table.specs.Walk.{joined, key_transitions, userdatas};
 ghost use Rattle.flat_table.specs.Batch.{LengthsFit, key_at, key_verdicts, first_verdicts};
-ghost use Rattle.flat_table.specs.Batch.{first_steps, batch_verdicts, batch_steps};
+ghost use Rattle.flat_table.specs.Batch.{first_transitions, batch_verdicts, batch_transitions};
 ghost use Rattle.scalar_walk.specs.Rows.{Reaches, joined_rows, row_verdicts, winners_of};
 
 use crate::in_step::{FourWalked, IN_STEP, walk_four};
@@ -59,7 +59,7 @@ fn write_row(row: &[u64; ROW_LEN], count: usize, verdicts: &mut [u32])
 
 /// Writes for so many categories from 0 on the userdata of the rows that four walks reached.
 ///
-/// It is not inlined, so that the walks before and behind it keep their numbers in registers.
+/// It is not inlined, so that the walks before and after it keep their numbers in registers.
 #[inline(never)]
 fn write_four(rows: &[[u64; ROW_LEN]], walked: FourWalked, count: usize, verdicts: &mut [u32])
     requires first { walked.first < length rows.now }
@@ -116,7 +116,7 @@ fn write_verdicts(table: &Table, reached: &[u32; MAX_TRIES], count: usize, verdi
     write_joined(table.rows(), &reached[..table.tries()], count, verdicts);
 }
 
-/// The rows that the walks of a key reach, one for each trie, and how many words they took.
+/// The rows that the walks of a key reach, one for each trie, and how many transitions they took.
 #[derive(Clone, Copy)]
 struct Reached {
     rows: [u32; MAX_TRIES],
@@ -128,9 +128,9 @@ fn reach<L: Ledger>(table: &Table, key: &[u8], steps: &mut Steps<L>) -> Reached
     requires { length key.now ≡ table.now.key_len }
     ensures few { length table.now.roots ≤ most_tries }
     ensures rows { Reaches table.now key.now (length table.now.roots) result.rows }
-    ensures taken { result.taken ≡ key_steps table.now key.now }
+    ensures taken { result.taken ≡ key_transitions table.now key.now }
     ensures bound { result.taken ≤ most_tries * longest_key }
-    ensures steps { steps.new ≡ steps.old + key_steps table.now key.now }
+    ensures steps { steps.new ≡ steps.old + key_transitions table.now key.now }
 {
     let mut rows = [0u32; MAX_TRIES];
     let mut taken = 0;
@@ -142,7 +142,7 @@ fn reach<L: Ledger>(table: &Table, key: &[u8], steps: &mut Steps<L>) -> Reached
     Reached { rows, taken }
 }
 
-/// Writes the verdicts of one key, and says how many words its walks took.
+/// Writes the verdicts of one key, and says how many transitions its walks took.
 fn classify_one<L: Ledger>(
     table: &Table,
     key: &[u8],
@@ -152,9 +152,9 @@ fn classify_one<L: Ledger>(
     requires key { length key.now ≡ table.now.key_len }
     requires few { length verdicts.old ≤ row_len }
     ensures verdicts { verdicts.new ≡ key_verdicts table.now (length verdicts.old) key.now }
-    ensures taken { result ≡ key_steps table.now key.now }
+    ensures taken { result ≡ key_transitions table.now key.now }
     ensures bound { result ≤ most_tries * longest_key }
-    ensures steps { steps.new ≡ steps.old + key_steps table.now key.now }
+    ensures steps { steps.new ≡ steps.old + key_transitions table.now key.now }
 {
     let reached = reach(table, key, steps);
     write_verdicts(table, &reached.rows, verdicts.len(), verdicts);
@@ -181,7 +181,7 @@ fn no_rows() -> FourReached {
 }
 
 /// The walks of four keys, which stand one after the other, through all tries: writes the rows that
-/// they reach, and says how many words they took together.
+/// they reach, and says how many transitions they took together.
 ///
 /// The rows are written in place, since a copy of so much would wait for what was just written.
 fn reach_four<L: Ledger>(
@@ -200,7 +200,7 @@ fn reach_four<L: Ledger>(
         (length table.now.roots) reached.new.third }
     ensures fourth { Reaches table.now (key_at table.now keys.now 3)
         (length table.now.roots) reached.new.fourth }
-    ensures taken { result ≡ first_steps table.now keys.now IN_STEP }
+    ensures taken { result ≡ first_transitions table.now keys.now IN_STEP }
     ensures bound { result ≤ 4 * (most_tries * longest_key) }
     ensures steps { steps.new ≡ steps.old + result }
 {
@@ -217,7 +217,7 @@ fn reach_four<L: Ledger>(
 }
 
 /// Writes the verdicts of four keys, so many of each, by the greatest words over the rows of all
-/// tries, and says how many words their walks took.
+/// tries, and says how many transitions their walks took.
 fn join_four<L: Ledger>(
     table: &Table,
     keys: &[u8],
@@ -229,7 +229,7 @@ fn join_four<L: Ledger>(
     requires few { count ≤ row_len }
     requires room { length verdicts.old ≡ 4 * count }
     ensures verdicts { verdicts.new ≡ first_verdicts table.now count keys.now IN_STEP }
-    ensures taken { result ≡ first_steps table.now keys.now IN_STEP }
+    ensures taken { result ≡ first_transitions table.now keys.now IN_STEP }
     ensures bound { result ≤ 4 * (most_tries * longest_key) }
     ensures steps { steps.new ≡ steps.old + result }
 {
@@ -257,7 +257,8 @@ fn join_four<L: Ledger>(
     taken
 }
 
-/// Writes the verdicts of four keys, so many of each, and says how many words their walks took.
+/// Writes the verdicts of four keys, so many of each, and says how many transitions their walks
+/// took.
 fn classify_four<L: Ledger>(
     table: &Table,
     keys: &[u8],
@@ -269,7 +270,7 @@ fn classify_four<L: Ledger>(
     requires few { count ≤ row_len }
     requires room { length verdicts.old ≡ 4 * count }
     ensures verdicts { verdicts.new ≡ first_verdicts table.now count keys.now IN_STEP }
-    ensures taken { result ≡ first_steps table.now keys.now IN_STEP }
+    ensures taken { result ≡ first_transitions table.now keys.now IN_STEP }
     ensures bound { result ≤ 4 * (most_tries * longest_key) }
     ensures steps { steps.new ≡ steps.old + result }
 {
@@ -283,7 +284,7 @@ fn classify_four<L: Ledger>(
     }
 }
 
-/// Writes the verdicts of the keys of a batch, and says how many words their walks took.
+/// Writes the verdicts of the keys of a batch, and says how many transitions their walks took.
 ///
 /// `keys` has the bytes of at most 65,536 keys of the table, one after the other, and `out` has
 /// room for the verdicts of each: the categories from 0 on of the first key, then those of the
@@ -298,8 +299,8 @@ pub fn classify_scalar<L: Ledger>(
 ) -> u64
     requires { LengthsFit table.now keys.now cats.count (length out.old) }
     ensures verdicts { out.new ≡ batch_verdicts table.now cats.count keys.now }
-    ensures taken { result ≡ batch_steps table.now keys.now }
-    ensures steps { steps.new ≡ steps.old + batch_steps table.now keys.now }
+    ensures taken { result ≡ batch_transitions table.now keys.now }
+    ensures steps { steps.new ≡ steps.old + batch_transitions table.now keys.now }
 {
     let key_len = table.key_len();
     let count = cats.count();
@@ -321,7 +322,7 @@ pub fn classify_scalar<L: Ledger>(
 /// Marks the categories in which some rule wins the key.
 ///
 /// `key` has the bytes of a key of the table. Entry c of `won` says whether a rule wins in category
-/// c, also where its userdata is 0. It refuses nothing, takes no memory and counts no steps.
+/// c, also where its userdata is 0. It refuses nothing, takes no memory and counts no transitions.
 pub fn winners(table: &Table, key: &[u8], won: &mut [bool; ROW_LEN])
     requires { length key.now ≡ table.now.key_len }
     ensures { won.new ≡ winners_of table.now key.now }

@@ -5,9 +5,9 @@ ghost use Rattle.std.specs.Prelude.{if◌then◌else◌};
 ghost use Rattle.flat_table.specs.Groups.{longest_key};
 ghost use Rattle.flat_table.specs.Word.{full, full_len, kind_of, is_match, is_node, offset_of};
 ghost use Rattle.flat_table.specs.Word.{next_place};
-ghost use Rattle.flat_table.specs.Walk.{moved, walk_steps};
+ghost use Rattle.flat_table.specs.Walk.{walk_transitions};
 ghost use Rattle.flat_table.specs.Batch.{key_at};
-ghost use Rattle.scalar_walk.specs.Rows.{EndsAt};
+ghost use Rattle.scalar_walk.specs.Rows.{EndsAt, GoesOn};
 
 use crate::kinds::{FULL, MATCH, SINGLE, kind_of};
 use flat_table::{Steps, Table, boundaries_below, index_of};
@@ -16,7 +16,7 @@ use std::sync::ledger::Ledger;
 /// How many keys are walked in step.
 pub(crate) const IN_STEP: usize = 4;
 
-/// The rows at which four walks ended, and how many words they took together.
+/// The rows at which four walks ended, and how many transitions they took together.
 #[derive(Clone, Copy)]
 pub(crate) struct FourWalked {
     pub(crate) first: u32,
@@ -61,9 +61,7 @@ fn go_on<L: Ledger>(
     requires node { is_match word ≡ false → is_node word ≡ true }
     requires there { is_match word ≡ false → next_place word byte < length words.now }
     requires fits { taken.old < 2 ^ 32 }
-    ensures word { result ≡ moved words.now word byte }
-    ensures taken { taken.new ≡ taken.old + (if is_match word then 0 else 1) }
-    ensures steps { steps.new ≡ steps.old + (if is_match word then 0 else 1) }
+    ensures { GoesOn words.now word byte result taken.old taken.new steps.old steps.new }
 {
     let kind = kind_of(word);
     // No node has a kind as great as that of a match.
@@ -88,10 +86,10 @@ pub(crate) fn walk_four<L: Ledger>(
     ensures second { EndsAt table.now trie (key_at table.now keys.now 1) result.second }
     ensures third { EndsAt table.now trie (key_at table.now keys.now 2) result.third }
     ensures fourth { EndsAt table.now trie (key_at table.now keys.now 3) result.fourth }
-    ensures taken { result.taken ≡ walk_steps table.now trie (key_at table.now keys.now 0)
-        + walk_steps table.now trie (key_at table.now keys.now 1)
-        + walk_steps table.now trie (key_at table.now keys.now 2)
-        + walk_steps table.now trie (key_at table.now keys.now 3) }
+    ensures taken { result.taken ≡ walk_transitions table.now trie (key_at table.now keys.now 0)
+        + walk_transitions table.now trie (key_at table.now keys.now 1)
+        + walk_transitions table.now trie (key_at table.now keys.now 2)
+        + walk_transitions table.now trie (key_at table.now keys.now 3) }
     ensures limit { result.taken ≤ 4 * longest_key }
     ensures steps { steps.new ≡ steps.old + result.taken }
 {

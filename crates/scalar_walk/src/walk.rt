@@ -4,18 +4,18 @@ ghost use Rattle.std.specs.Prelude.{◌≡◌, ◌+◌, ◌<◌, ◌≤◌, leng
 ghost use Rattle.flat_table.specs.Groups.{longest_key};
 ghost use Rattle.flat_table.specs.Table.{places_of};
 ghost use Rattle.flat_table.specs.Word.{is_match, is_node, next_place};
-ghost use Rattle.flat_table.specs.Walk.{walk_row, walk_steps};
+ghost use Rattle.flat_table.specs.Walk.{walk_row, walk_transitions};
 
 use crate::kinds::{FULL, MATCH, SINGLE, kind_of};
 use flat_table::{Steps, Table, boundaries_below, index_of};
 use std::sync::ledger::Ledger;
 
-/// Where a walk ended, and after how many words.
+/// Where a walk ended, and after how many transitions.
 #[derive(Clone, Copy, Debug, PartialEq, Eq)]
 pub struct Walked {
     /// The row that the last word names.
     pub row: u32,
-    /// How many words the walk took.
+    /// How many transitions the walk took.
     pub taken: u32,
 }
 
@@ -50,8 +50,8 @@ pub fn walk_one<L: Ledger>(table: &Table, trie: usize, key: &[u8], steps: &mut S
     requires trie { trie < length table.now.roots }
     requires key { length key.now ≡ table.now.key_len }
     ensures row { result.row ≡ walk_row table.now trie key.now }
-    ensures taken { result.taken ≡ walk_steps table.now trie key.now }
-    ensures steps { steps.new ≡ steps.old + walk_steps table.now trie key.now }
+    ensures taken { result.taken ≡ walk_transitions table.now trie key.now }
+    ensures steps { steps.new ≡ steps.old + walk_transitions table.now trie key.now }
     ensures there { result.row < length table.now.rows }
     ensures bound { result.taken ≤ length (places_of table.now trie) }
     ensures short { result.taken ≤ table.now.key_len }

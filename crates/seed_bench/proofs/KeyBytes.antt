@@ -9,8 +9,8 @@ use Rattle.std.proofs.Math.Seq.{take-append_seam, drop-append_seam}
 use Rattle.field_defs.specs.Layout.{key_len_of}
 use Rattle.rule_set.specs.Rule.{RuleSetView}
 use Rattle.flat_table.specs.Table.{TableView}
-use Rattle.flat_table.specs.Walk.{key_steps}
-use Rattle.flat_table.specs.Batch.{batch_steps, key_at}
+use Rattle.flat_table.specs.Walk.{key_transitions}
+use Rattle.flat_table.specs.Batch.{batch_transitions, key_at}
 use Rattle.acl_context.specs.Batch.{key_of_batch, verdicts_by_rules}
 use Rattle.seed_bench.specs.Bench.{transitions_of_keys, verdicts_on_key, verdicts_on_keys}
 
@@ -78,10 +78,10 @@ verdicts_are set count keys some are =
 
 -- how many transitions the keys of their bytes take
 pub transitions_are : (table : TableView) (keys : List (List ℕ)) → 0 < table.key_len → AreOf table.key_len keys →
-    batch_steps table (concat keys) ≡ transitions_of_keys table keys
+    batch_transitions table (concat keys) ≡ transitions_of_keys table keys
 transitions_are table keys some are =
     let at : ℕ → List ℕ = key_at table (concat keys) in
-    ap (λ n. fold (λ total k. total + key_steps table (at k)) 0 (range_with_len 0 n))
+    ap (λ n. fold (λ total k. total + key_transitions table (at k)) 0 (range_with_len 0 n))
     (count_is table.key_len keys some are)
-    ∙ sum_by_map (key_steps table) at 0 (range_with_len 0 (length keys))
-    ∙ ap (sum_by (key_steps table)) (keys_are table.key_len keys are)
+    ∙ sum_by_map (key_transitions table) at 0 (range_with_len 0 (length keys))
+    ∙ ap (sum_by (key_transitions table)) (keys_are table.key_len keys are)

@@ -3,7 +3,7 @@ use Rattle.std.proofs.Common.{◌≡◌, ℕ, ◌+◌, ◌*◌, ◌/◌, ◌<◌
 use Rattle.std.specs.List.{concat}
 use Rattle.std.proofs.Math.Nat.{mul-div_cancel}
 use Rattle.std.proofs.lemmas.List.FromFn.{length-map-range_with_len}
-use Rattle.flat_table.specs.Batch.{batch_steps}
+use Rattle.flat_table.specs.Batch.{batch_transitions}
 use Rattle.table_fill.specs.Serves.{Serves}
 use Rattle.acl_context.specs.Batch.{verdicts_by_rules}
 use Rattle.workload_gen.specs.declared.packet.TheConstants.{KEY_LEN}
@@ -44,7 +44,7 @@ verdicts-drawn numbers count =
 
 -- how many transitions the bytes take
 pub transitions-drawn : (numbers : BenchNumbers) → Serves (set_drawn numbers) (table_drawn numbers) →
-    batch_steps (table_drawn numbers) (concat (keys_drawn numbers)) ≡ transitions_drawn numbers
+    batch_transitions (table_drawn numbers) (concat (keys_drawn numbers)) ≡ transitions_drawn numbers
 transitions-drawn numbers serves =
     let len : (table_drawn numbers).key_len ≡ KEY_LEN = serves.key_len in
     transitions_are (table_drawn numbers) (keys_drawn numbers) (omega (arith, len))

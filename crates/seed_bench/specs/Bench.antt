@@ -10,7 +10,7 @@ use Rattle.rule_set.specs.Winner.{verdict}
 use Rattle.rule_split.specs.Split.{total_of}
 use Rattle.flat_table.specs.Table.{TableView}
 use Rattle.flat_table.specs.Sound.{row_len}
-use Rattle.flat_table.specs.Walk.{key_steps}
+use Rattle.flat_table.specs.Walk.{key_transitions}
 use Rattle.acl_context.specs.Context.{built_of}
 use Rattle.workload_gen.specs.Workload.{keys_of, workload_of}
 use Rattle.acl_report.specs.Line.{line_feed}
@@ -65,7 +65,7 @@ verdicts_on_keys set categories keys = flat_map (verdicts_on_key set categories)
 
 -- how many transitions the keys take, over all tries
 abbrev pub transitions_of_keys : TableView → List (List ℕ) → ℕ
-transitions_of_keys table keys = sum_by (key_steps table) keys
+transitions_of_keys table keys = sum_by (key_transitions table) keys
 
 -- what the rules say of the keys in all 16 categories
 abbrev pub tally_drawn : BenchNumbers → Tally

@@ -4,7 +4,7 @@ ghost use Rattle.std.specs.Prelude.{◌≡◌, ◌+◌, ◌*◌, ◌/◌, ◌≤
 ghost use Rattle.std.specs.Prelude.{IsSome, OnOk, OnErr};
 ghost use Rattle.field_defs.specs.Layout.{ip4_fields};
 ghost use Rattle.rule_split.specs.Split.{total_of};
-ghost use Rattle.flat_table.specs.Batch.{batch_steps, most_keys};
+ghost use Rattle.flat_table.specs.Batch.{batch_transitions, most_keys};
 ghost use Rattle.table_fill.specs.Serves.{Serves};
 ghost use Rattle.acl_context.specs.Batch.{verdicts_by_rules};
 ghost use Rattle.acl_context.specs.Context.{built_of};
@@ -78,7 +78,7 @@ pub fn table_tally<L: Ledger>(
     ensures tally { IfOk result (λ tally.
         tally ≡ tally_of (verdicts_by_rules context.now.set cats.count keys.now)) }
     ensures steps { OnOk result (IfSome context.now.table
-        (λ table. steps.new ≡ steps.old + batch_steps table keys.now)) }
+        (λ table. steps.new ≡ steps.old + batch_transitions table keys.now)) }
     ensures idle { OnErr result (steps.new ≡ steps.old) }
 {
     let mut verdicts = vec![in alloc; 0; keys.len() / KEY_LEN * cats.count()]?;
@@ -101,7 +101,7 @@ fn classify<L: Ledger>(
     requires room { length verdicts.old ≡ length keys.now / KEY_LEN * cats.count }
     ensures tally { result ≡ tally_of (verdicts_by_rules context.now.set cats.count keys.now) }
     ensures steps { IfSome context.now.table
-        (λ table. steps.new ≡ steps.old + batch_steps table keys.now) }
+        (λ table. steps.new ≡ steps.old + batch_transitions table keys.now) }
 {
     match context.classify(keys, cats, verdicts, steps) {
         Ok(_) => tally_of(verdicts),

@@ -1,16 +1,14 @@
 -- A filled table answers as its rules do.
-use Rattle.std.proofs.Common.{◌≡◌, ℕ, zero, suc, ◌+◌, ◌*◌, ◌%◌, ◌<◌, ◌≤◌, ◌↔◌, Bool, true, false, cond}
-use Rattle.std.proofs.Common.{List, [], ◌∷◌, Some, None, Option, fold}
-use Rattle.std.proofs.Common.{refl, sym, ap, ◌∙◌, arith, inl, inr, map, length, filter, get_or, slice_get}
-use Rattle.std.proofs.Common.{subst}
+use Rattle.std.proofs.Common.{◌≡◌, ℕ, zero, suc, ◌+◌, ◌%◌, ◌<◌, ◌≤◌, ◌↔◌, true, false, List, [], ◌∷◌, Some, None}
+use Rattle.std.proofs.Common.{Option, fold, refl, sym, ap, ◌∙◌, arith, inl, inr, map, length, get_or, slice_get, subst}
 use Rattle.std.specs.Prelude.{slice_index, slice_index_or, max}
 use Rattle.std.specs.List.{AllByRecursion, Contains, sum_by, range_with_len}
 use Rattle.std.specs.Option.{option_map_or}
-use Rattle.std.proofs.lemmas.Bool.{cases_eq, cases_lt}
+use Rattle.std.proofs.lemmas.Bool.{cases_eq}
 use Rattle.std.proofs.lemmas.List.{length-map, get_or-map}
-use Rattle.std.proofs.lemmas.List.Sums.{sum_by-cons}
 use Rattle.std.proofs.lemmas.List.FromFn.{get_or-range_with_len, length-range_with_len, length-map-range_with_len}
-use Rattle.std.proofs.lemmas.List.Elements.{All-contains, All-contains_itself, All-weaker, recursion_from_All}
+use Rattle.std.proofs.lemmas.List.Elements.{All-contains, All-contains_itself, All-weaker, filter_agree}
+use Rattle.std.proofs.lemmas.List.Elements.{recursion_from_All}
 use Rattle.std.specs.List.Sorted.{IsStrictlyIncreasing}
 use Rattle.std.proofs.lemmas.List.Sorted.{Contains-permutation}
 use Rattle.field_defs.specs.declared.field.FieldDef.{FieldDef}
@@ -32,20 +30,23 @@ use Rattle.trie_merge.proofs.Following.{runs_lead}
 use Rattle.trie_merge.proofs.Reached.{all-map, all_weaker, map-map}
 use Rattle.flat_table.specs.Word.{index_of}
 use Rattle.flat_table.specs.Sound.{row_len}
-use Rattle.flat_table.specs.Groups as table
 use Rattle.flat_table.specs.Table.{TableView}
 use Rattle.flat_table.specs.Walk.{moved, walk_row, bytes_of, joined, userdatas}
 use Rattle.table_fill.specs.Filled.{match_of, matches_of, succ_word, nodes_len, rule_word, table_of_tries}
 use Rattle.table_fill.specs.Filled.{rows_of_tries, roots_of, words_of_tries, filled}
-use Rattle.table_fill.specs.Tries.{IsTrie, AreLevels}
+use Rattle.table_fill.specs.Tries.{IsTrie, AreLevels, HasNodes, row_count}
+use Rattle.list_lemmas.proofs.Folds.{greatest_attained, greatest_above, greatest_least}
+use Rattle.list_lemmas.proofs.Maps.{map_by_place}
+use Rattle.list_lemmas.proofs.Sums.{sum_by-map}
+use Rattle.table_fill.proofs.Room.{parts_of_words}
 use Rattle.table_fill.specs.Serves.{Serves}
 use Rattle.table_fill.specs.Laws.{CanBeFilled, FilledTablesDecide}
 use Rattle.table_fill.proofs.Kept.{places_are}
 use Rattle.table_fill.proofs.KeyLen.{whole_keys}
 use Rattle.table_fill.proofs.Merged.{trie_is}
-use Rattle.table_fill.proofs.Sounds.{CanStand, row_count, length-roots}
-use Rattle.table_fill.proofs.Walks.{StandsIn, no_trie, trie_stands, from_root, walk_to, word_or_none}
-use Rattle.table_fill.proofs.Walks.{answered}
+use Rattle.table_fill.proofs.Sounds.{CanStand, length-roots}
+use Rattle.table_fill.proofs.Walks.{StandsIn, no_trie, trie_stands, from_root, walk_to, word_or_none, answered}
+use Rattle.flat_table.specs.Groups as table
 
 -- ---- the winner of a group is the best of its rules that match
 
@@ -63,48 +64,14 @@ module _ (set : RuleSetView) (key : List ℕ) (some : 0 < key_len_of set.layout)
       by None = some_field set.layout key some
       by (Some rule) = refl
 
-  filters_alike : (p q : ℕ → Bool) (xs : List ℕ) → ((x : ℕ) → p x ≡ q x) → filter p xs ≡ filter q xs
-  filters_alike p q [] same = refl
-  filters_alike p q (x ∷ xs) same = λ i. cond (same x i) (x ∷ filters_alike p q xs same i) (filters_alike p q xs same i)
-
   pub group_winner : (group : List ℕ) (category : ℕ) → winner_of set category (matching set group key)
       ≡ winner_among set.layout set.rules group key category
   group_winner group category =
       ap (λ numbers. best_among (λ rule. is_in_category rule.tag category) set.rules numbers)
-      (filters_alike (λ number. rule_match set.layout (values_of set number) key)
-      (passes_at (λ rule. rule_match set.layout rule.fields key) set.rules) group same_match)
+      (filter_agree (λ number. rule_match set.layout (values_of set number) key)
+      (passes_at (λ rule. rule_match set.layout rule.fields key) set.rules) same_match group)
       ∙ sym (tests_in_turn (λ rule. rule_match set.layout rule.fields key) (λ rule. is_in_category rule.tag category)
       set.rules group)
-
--- ---- the greatest word
-
-fold_ge : (a : ℕ) (xs : List ℕ) → a ≤ fold max a xs
-fold_ge a [] = omega arith
-fold_ge a (x ∷ xs) = omega (arith, fold_ge (max a x) xs)
-
-module _ (f : List ℕ → ℕ) where
-  -- the greatest is one of them
-  attained : (a : ℕ) (groups : List (List ℕ)) → a < fold max a (map f groups) → (k : ℕ) × (k < length groups)
-      × (f (get_or groups k []) ≡ fold max a (map f groups))
-  attained a [] more = absurd (omega (arith, more))
-  attained a (group ∷ groups) more = elim (cases_lt (max a (f group)) (fold max (max a (f group)) (map f groups))) [
-    | inl later ↦ (let rest = attained (max a (f group)) groups later in (suc rest.0, omega (arith, rest.1), rest.2))
-    | inr here ↦ (0, omega arith, omega (arith, here, more, fold_ge (max a (f group)) (map f groups)))
-  ]
-
-  -- and none is above it
-  bounded : (a : ℕ) (groups : List (List ℕ)) (k : ℕ) → k < length groups → f (get_or groups k []) ≤ fold max a
-      (map f groups)
-  bounded a [] k within = absurd (omega (arith, within))
-  bounded a (group ∷ groups) zero within = omega (arith, fold_ge (max a (f group)) (map f groups))
-  bounded a (group ∷ groups) (suc k) within = bounded (max a (f group)) groups k (omega (arith, within))
-
-  -- what none is above is no less
-  no_more : (a bound : ℕ) (groups : List (List ℕ)) → a ≤ bound →
-      ((k : ℕ) → k < length groups → f (get_or groups k []) ≤ bound) → fold max a (map f groups) ≤ bound
-  no_more a bound [] start each = start
-  no_more a bound (group ∷ groups) start each = no_more (max a (f group)) bound groups
-      (omega (arith, start, each 0 (omega arith))) (λ k within. each (suc k) (omega (arith, within)))
 
 -- ---- the winner's word is the greatest
 
@@ -148,7 +115,7 @@ module _ (layout : List FieldDef) (rules : List RuleView) (groups : List (List �
   no_higher p win top k within None is = omega arith
   no_higher p win top k within (Some q) is =
       let bound : rank_of rules q ≤ rank_of rules p =
-      omega (arith, bounded rank_in 0 groups k within, ap (rank_or_none rules) is, top) in
+      omega (arith, greatest_above rank_in [] 0 groups k within, ap (rank_or_none rules) is, top) in
       elim (cases_eq (rank_of rules q) (rank_of rules p)) [
         | inl same ↦
             let wins = groups_decide.wins layout rules groups key category q (get_or groups k []) parts
@@ -165,13 +132,13 @@ module _ (layout : List FieldDef) (rules : List RuleView) (groups : List (List �
       let none = (groups_decide.none layout rules groups key category parts).0 win in
       omega (
         arith,
-        no_more word_in 0 0 groups (omega arith)
+        greatest_least word_in [] 0 0 groups (omega arith)
             (λ k within. omega (arith, ap (word_or_none rules) (none k [] within))),
       )
   greatest_word (Some p) win =
       let top : greatest (map rank_in groups) ≡ rank_of rules p = groups_decide.rank layout rules groups key category
       parts ∙ ap (rank_or_none rules) win in
-      let at = attained rank_in 0 groups (omega (arith, top)) in
+      let at = greatest_attained rank_in [] 0 groups (omega (arith, top)) in
       let its = some_is (wins_in (get_or groups at.0 [])) rules (rank_of rules p) (omega arith) (at.2 ∙ top) in
       let wins = groups_decide.wins layout rules groups key category its.0 (get_or groups at.0 []) parts
       (contains_at at.0 at.1) its.1 (its.2 ∙ sym top) in
@@ -181,8 +148,8 @@ module _ (layout : List FieldDef) (rules : List RuleView) (groups : List (List �
       omega (
         arith,
         reached,
-        bounded word_in 0 groups at.0 at.1,
-        no_more word_in 0 (rule_word rules p) groups (omega arith)
+        greatest_above word_in [] 0 groups at.0 at.1,
+        greatest_least word_in [] 0 (rule_word rules p) groups (omega arith)
             (λ k within. no_higher p win top k within (wins_in (get_or groups k [])) refl),
       )
 
@@ -228,50 +195,21 @@ module _ (set : RuleSetView) (groups : List (List ℕ)) (can : CanBeFilled set g
       (all_weaker (IsGrouped set) (λ group. IsTrie set (levels_of set group)) groups
       (λ group is. trie_is set group is key_whole) all_grouped)
 
-  words_sum : (ts : List LevelsView) → AllByRecursion (IsTrie set) ts → sum_by (λ (trie : LevelsView). trie.words) ts
-      ≡ sum_by nodes_len ts + row_len * sum_by row_count ts
-  words_sum [] are = refl
-  words_sum (trie ∷ ts) are =
-      omega (
-        arith,
-        sum_by-cons (λ (t : LevelsView). t.words) trie ts,
-        sum_by-cons nodes_len trie ts,
-        sum_by-cons row_count trie ts,
-        are.0.nodes.words,
-        words_sum ts are.1,
-      )
-
-  sum_of_groups : (gs : List (List ℕ)) → sum_by (λ group. (levels_of set group).words) gs
-      ≡ sum_by (λ (trie : LevelsView). trie.words) (map (levels_of set) gs)
-  sum_of_groups [] = refl
-  sum_of_groups (g ∷ gs) =
-      omega (
-        arith,
-        sum_by-cons (λ (group : List ℕ). (levels_of set group).words) g gs,
-        sum_by-cons
-            (λ (t : LevelsView). t.words) (levels_of set g) (map (levels_of set) gs),
-        sum_of_groups gs,
-      )
-
   pub can_stand : CanStand set (map (levels_of set) groups)
   can_stand = record {
     tries_are = tries_are;
     few = omega (arith, can.few, length-map groups (levels_of set));
     key = key_whole;
-    size = omega (arith, can.size, sum_of_groups groups, words_sum (map (levels_of set) groups) tries_are);
+    size = omega (
+      arith,
+      can.size,
+      sum_by-map (λ (trie : LevelsView). trie.words) (levels_of set) groups,
+      parts_of_words (map (levels_of set) groups)
+          (all_weaker (IsTrie set) HasNodes (map (levels_of set) groups) (λ trie is. is.nodes) tries_are),
+    );
   }
 
   -- ---- the word that a trie gives
-
-  -- each of some numbers in turn is each group in turn
-  each_group : (f : ℕ → ℕ) (g : List ℕ → ℕ) (first : ℕ) (gs : List (List ℕ)) →
-      ((t : ℕ) → t < length gs → f (first + t) ≡ g (get_or gs t [])) → map f (range_with_len first (length gs))
-      ≡ map g gs
-  each_group f g first [] same = refl
-  each_group f g first (group ∷ gs) same =
-      let here : f first ≡ g group = ap f (omega arith) ∙ same 0 (omega arith) in
-      λ i. here i ∷ each_group f g (first + 1) gs (λ t below. ap f (omega arith) ∙ same (suc t) (omega (arith, below)))
-      i
 
   level_parts : (group : List ℕ) → ((levels_of set group).kept ≡ kept_bits set group)
   unfolding levels_of
@@ -347,7 +285,7 @@ module _ (set : RuleSetView) (groups : List (List ℕ)) (can : CanBeFilled set g
         (map-map (λ (row : List ℕ). slice_index row category) (λ t. slice_index_or tbl.rows (walk_row tbl t key) [])
         (range_with_len 0 (length (roots_of 0 ts)))
         ∙ ap (λ n. map f (range_with_len 0 n)) count
-        ∙ each_group f g 0 groups (λ t below. ap f (omega arith) ∙ word_of_trie t below))
+        ∙ map_by_place f g [] 0 groups (λ t below. ap f (omega arith) ∙ word_of_trie t below))
         ∙ greatest_word set.layout set.rules groups key category can.partition
         (recursion_from_All (λ (rule : RuleView). rule.tag.userdata < userdatas) set.rules can.userdata)
         (winner set.layout set.rules key category) refl

@@ -1,10 +1,11 @@
 -- A key of a lawful layout has one byte and whole groups of four.
-use Rattle.std.proofs.Common.{◌≡◌, ℕ, zero, suc, ◌+◌, ◌-◌, ◌*◌, ◌%◌, ◌<◌, ◌≤◌, ◌==◌, ◌&&◌, ◌||◌, Bool, true}
-use Rattle.std.proofs.Common.{false, cond, List, [], ◌∷◌, nat_lt, Option}
-use Rattle.std.proofs.Common.{refl, sym, ap, ◌∙◌, arith, inl, inr, length, filter, get_or, add-one}
+use Rattle.std.proofs.Common.{◌≡◌, ℕ, zero, suc, ◌+◌, ◌-◌, ◌*◌, ◌%◌, ◌<◌, ◌≤◌, ◌==◌, ◌&&◌, ◌||◌, Bool, true, false}
+use Rattle.std.proofs.Common.{cond, List, [], ◌∷◌, nat_lt, Option, refl, sym, ap, ◌∙◌, arith, inl, inr, length, filter}
+use Rattle.std.proofs.Common.{get_or, add-one}
 use Rattle.std.specs.List.{sum_by, AllByRecursion}
 use Rattle.std.proofs.lemmas.Bool.{cases_lt, eq-eqb, eqb-true, lt-ltb, le-ltb}
 use Rattle.std.proofs.lemmas.Bool.Decides.{nat_tests}
+use Rattle.std.proofs.lemmas.List.Elements.{All-from_get_or, recursion_from_All}
 use Rattle.std.proofs.lemmas.List.Sums.{sum_by-cons}
 use Rattle.field_defs.specs.declared.field.FieldDef.{FieldDef}
 use Rattle.field_defs.specs.Layout.{key_len_of}
@@ -119,12 +120,6 @@ index_bound defs (suc place) order = elim (cases_lt (suc place) 2) [
       )
 ]
 
-all_from : (P : FieldDef → Type 0) (defs : List FieldDef) (d : FieldDef) →
-    ((k : ℕ) → k < length defs → P (get_or defs k d)) → AllByRecursion P defs
-all_from P [] d each = tt
-all_from P (def ∷ defs) d each =
-    (each 0 (omega arith), all_from P defs d (λ k below. each (suc k) (omega (arith, below))))
-
 -- ---- the layout
 
 pub whole_keys : (defs : List FieldDef) → IsLayout defs → is_key_len (key_len_of defs) ≡ true
@@ -139,7 +134,8 @@ whole_keys (def ∷ rest) lawful =
     let filled = λ (g : ℕ) (below : g < 256). passes_each (is_filled_group rest) 256 g
     (no_number GroupSize _ (none_at faults 5 lawful.faultless)) below in
     let indexes : AllByRecursion (λ (d : FieldDef). d.input_index < 256) rest =
-    all_from (λ (d : FieldDef). d.input_index < 256) rest (def_at [] 0) (λ k below. small k below order) in
+    recursion_from_All _ rest
+    (All-from_get_or (λ (d : FieldDef). d.input_index < 256) rest (def_at [] 0) (λ k below. small k below order)) in
     let whole = sum_by-cons (λ (d : FieldDef). d.size) def rest in
     let fours = parts_whole rest 256 filled in
     let all = part_all rest 256 indexes in

@@ -1,13 +1,9 @@
 -- The levels of a trie: where a walk over their words leads, and that each word leads on.
-use Rattle.std.proofs.Common.{◌≡◌, ℕ, zero, suc, ◌+◌, ◌<◌, ◌≤◌, true, cond, List, []}
-use Rattle.std.proofs.Common.{◌∷◌, ◌++◌, All, fold}
-use Rattle.std.proofs.Common.{refl, sym, ap, ◌∙◌, arith, inl, inr, map, length, get_or}
-use Rattle.std.proofs.Common.{length-append, subst, nat_le, Some}
-use Rattle.std.specs.List.{flat_map, AllByRecursion, find}
-use Rattle.std.specs.Option.{option_map_or}
-use Rattle.std.proofs.lemmas.Bool.{cases_Bool}
+use Rattle.std.proofs.Common.{◌≡◌, ℕ, zero, suc, ◌+◌, ◌<◌, ◌≤◌, cond, List, [], ◌∷◌, All, fold, refl, sym, ap, ◌∙◌}
+use Rattle.std.proofs.Common.{arith, inl, inr, map, length, get_or, length-append, subst}
+use Rattle.std.specs.List.{flat_map, AllByRecursion}
+use Rattle.std.proofs.lemmas.Bool.{cases_lt}
 use Rattle.std.proofs.lemmas.Bool.Decides.{nat_tests}
-use Rattle.std.proofs.lemmas.List.{get_or_append_left, get_or-append-add}
 use Rattle.std.proofs.lemmas.List.Sums.{sum_by-cons}
 use Rattle.std.proofs.lemmas.List.Elements.{recursion_from_All}
 use Rattle.trie_merge.specs.declared.run.Run.{Run}
@@ -15,25 +11,15 @@ use Rattle.trie_merge.specs.declared.run.Succ.{Succ}
 use Rattle.trie_merge.specs.declared.run.Succ.TheVariants.{Dead, State, Row}
 use Rattle.trie_merge.specs.Follow.{run_to, on_from, followed}
 use Rattle.trie_merge.specs.Levels.{cost_of}
-use Rattle.flat_table.specs.Word.{indexes, is_match, next_word}
+use Rattle.flat_table.specs.Word.{indexes, next_word}
 use Rattle.flat_table.specs.Walk.{moved}
 use Rattle.table_fill.specs.Filled.{match_of, node_word, node_words, succ_word, level_len, words_into, targets_of}
 use Rattle.table_fill.specs.Filled.{words_of_levels}
 use Rattle.table_fill.specs.Tries.{IsThere, AreRuns, AreLevels}
 use Rattle.table_fill.proofs.Words.{match_parts}
-use Rattle.table_fill.proofs.Nodes.{Has, node_next, length-node_words, node_into}
-
--- ---- lists that stand in others
-
-pub has_front : (words : List ℕ) (place : ℕ) (xs ys : List ℕ) → Has words place (xs ++ ys) → Has words place xs
-has_front words place xs ys has k within = has k (omega (arith, within, length-append xs ys))
-    ∙ get_or_append_left xs ys 0 k within
-
-pub has_behind : (words : List ℕ) (place behind : ℕ) (xs ys : List ℕ) → Has words place (xs ++ ys) → behind
-    ≡ place + length xs → Has words behind ys
-has_behind words place behind xs ys has at k within =
-    ap (λ n. get_or words n 0) (omega (arith, at)) ∙ has (length xs + k) (omega (arith, within, length-append xs ys))
-    ∙ get_or-append-add xs ys k 0
+use Rattle.table_fill.proofs.Nodes.{run_here, run_later, node_next, length-node_words, node_into}
+use Rattle.list_lemmas.proofs.Positions.{Has, has_front, has_rest}
+use Rattle.flat_table.proofs.Offered.{match_stays}
 
 -- ---- the nodes of a level
 
@@ -43,7 +29,7 @@ pub record NodeAt (words targets : List ℕ) (place until : ℕ) (runs : List Ru
   pub word_is : word ≡ node_word at runs
   pub not_before : place ≤ at
   pub within : at + cost_of (length runs) ≤ until
-  pub has : Has words at (node_words targets runs)
+  pub has : Has 0 words at (node_words targets runs)
 
 pub level_len-cons : (runs : List Run) (states : List (List Run)) → level_len (runs ∷ states)
     ≡ cost_of (length runs) + level_len states
@@ -58,7 +44,7 @@ length-level targets (runs ∷ states) =
     ∙ sym (level_len-cons runs states)
 
 pub node_at : (words targets : List ℕ) (place : ℕ) (states : List (List Run)) (number : ℕ) → number < length states →
-    Has words place (flat_map (node_words targets) states) →
+    Has 0 words place (flat_map (node_words targets) states) →
     NodeAt words targets place (place + level_len states) (get_or states number [])
     (get_or (words_into place states) number 0)
 node_at words targets place [] number within has = absurd (omega (arith, within))
@@ -67,12 +53,12 @@ node_at words targets place (runs ∷ states) zero within has = record {
   word_is = refl;
   not_before = omega arith;
   within = omega (arith, level_len-cons runs states);
-  has = has_front words place (node_words targets runs) (flat_map (node_words targets) states) has;
+  has = has_front 0 words place (node_words targets runs) (flat_map (node_words targets) states) has;
 }
 node_at words targets place (runs ∷ states) (suc number) within has =
     let behind : ℕ = place + cost_of (length runs) in
     let rest = node_at words targets behind states number (omega (arith, within))
-    (has_behind words place behind (node_words targets runs) (flat_map (node_words targets) states) has
+    (has_rest 0 words place (node_words targets runs) (flat_map (node_words targets) states) has behind
     (omega (arith, length-node_words targets runs))) in
     record {
       at = rest.at;
@@ -84,10 +70,6 @@ node_at words targets place (runs ∷ states) (suc number) within has =
 
 -- ---- walks
 
-match_stays : (words : List ℕ) (word : ℕ) (bytes : List ℕ) → is_match word ≡ true → fold (moved words) word bytes ≡ word
-match_stays words word [] e = refl
-match_stays words word (byte ∷ bytes) e = rw e (match_stays words word bytes e)
-
 dead_stays : (words bytes : List ℕ) → fold (moved words) (match_of 0) bytes ≡ match_of 0
 dead_stays words bytes = match_stays words (match_of 0) bytes (match_parts 0 (omega arith)).matches
 
@@ -95,14 +77,19 @@ dead_stays words bytes = match_stays words (match_of 0) bytes (match_parts 0 (om
 pub there_by : (rows : ℕ) (levels : List (List (List Run))) (runs : List Run) (byte : ℕ) →
     AllByRecursion (λ (run : Run). IsThere rows levels run.to) runs → IsThere rows levels (run_to runs byte)
 there_by rows levels [] byte all = tt
-there_by rows levels (run ∷ runs) byte all = elim (cases_Bool (nat_le byte run.last)) [
-  | inl here ↦ subst (IsThere rows levels)
-      (sym (ap (λ b. option_map_or (λ (r : Run). r.to) (cond b (Some run) (find (λ (r : Run). nat_le byte r.last) runs))
-      Dead) here)) all.0
-  | inr later ↦ subst (IsThere rows levels)
-      (sym (ap (λ b. option_map_or (λ (r : Run). r.to) (cond b (Some run) (find (λ (r : Run). nat_le byte r.last) runs))
-      Dead) later)) (there_by rows levels runs byte all.1)
+there_by rows levels (run ∷ runs) byte all = elim (cases_lt run.last byte) [
+  | inr here ↦ subst (IsThere rows levels) (sym (run_here run runs byte here)) all.0
+  | inl later ↦ subst (IsThere rows levels) (sym (run_later run runs byte later)) (there_by rows levels runs byte all.1)
 ]
+
+-- the words of a level's nodes, which begin at the place
+abbrev pub words_here : ℕ → List ℕ → List (List Run) → List (List (List Run)) → List ℕ
+words_here place matches states levels =
+    flat_map (node_words (targets_of (place + level_len states) matches levels)) states
+
+-- and those of the levels after it
+abbrev pub words_after : ℕ → List ℕ → List (List Run) → List (List (List Run)) → List ℕ
+words_after place matches states levels = words_of_levels (place + level_len states) matches levels
 
 pub cost_some : (count : ℕ) → 1 ≤ cost_of count
 cost_some count = grind (arith, nat_tests)
@@ -111,7 +98,7 @@ module _ (words matches key : List ℕ) where
   -- one step from a state's node
   module _ (place : ℕ) (states : List (List Run)) (levels : List (List (List Run))) (at number : ℕ)
       (are : All (AreRuns (length matches) levels) states)
-      (small : get_or key at 0 < 256) (has : Has words place (words_of_levels place matches (states ∷ levels)))
+      (small : get_or key at 0 < 256) (has : Has 0 words place (words_of_levels place matches (states ∷ levels)))
       (fits : place + length (words_of_levels place matches (states ∷ levels)) ≤ indexes)
       (within : number < length states) where
     targets : List ℕ
@@ -121,22 +108,18 @@ module _ (words matches key : List ℕ) where
     runs = get_or states number []
 
     pub lens : length (words_of_levels place matches (states ∷ levels))
-        ≡ level_len states + length (words_of_levels (place + level_len states) matches levels)
-    lens = length-append (flat_map (node_words (targets_of (place + level_len states) matches levels)) states)
-        (words_of_levels (place + level_len states) matches levels)
-        ∙ ap (λ n. n + length (words_of_levels (place + level_len states) matches levels))
+        ≡ level_len states + length (words_after place matches states levels)
+    lens = length-append (words_here place matches states levels) (words_after place matches states levels)
+        ∙ ap (λ n. n + length (words_after place matches states levels))
         (length-level (targets_of (place + level_len states) matches levels) states)
 
-    pub has_level : Has words place
-        (flat_map (node_words (targets_of (place + level_len states) matches levels)) states)
-    has_level = has_front words place
-        (flat_map (node_words (targets_of (place + level_len states) matches levels)) states)
-        (words_of_levels (place + level_len states) matches levels) has
+    pub has_level : Has 0 words place (words_here place matches states levels)
+    has_level = has_front 0 words place (words_here place matches states levels)
+        (words_after place matches states levels) has
 
-    pub has_rest : Has words (place + level_len states) (words_of_levels (place + level_len states) matches levels)
-    has_rest = has_behind words place (place + level_len states)
-        (flat_map (node_words (targets_of (place + level_len states) matches levels)) states)
-        (words_of_levels (place + level_len states) matches levels) has
+    pub has_next : Has 0 words (place + level_len states) (words_after place matches states levels)
+    has_next = has_rest 0 words place (words_here place matches states levels)
+        (words_after place matches states levels) has (place + level_len states)
         (omega (arith, length-level (targets_of (place + level_len states) matches levels) states))
 
     one_step : moved words (get_or (words_into place states) number 0) (get_or key at 0)
@@ -161,7 +144,7 @@ module _ (words matches key : List ℕ) where
         (recursion_from_All (λ (run : Run). IsThere (length matches) levels run.to) (get_or states number [])
         is.there)
 
-  -- behind the last level stands a match
+  -- after the last level stands a match
   last_of : (on : ℕ → Succ) (place : ℕ) (succ : Succ) → IsThere (length matches) [] succ →
       succ_word (targets_of place matches []) succ ≡ succ_word matches (on_from on succ)
   last_of on place Dead there = refl
@@ -182,7 +165,7 @@ module _ (words matches key : List ℕ) where
   pub walk_follows : (place : ℕ) (states : List (List Run)) (levels : List (List (List Run))) (at : ℕ) (places : List ℕ)
       (number : ℕ) →
       AreLevels (length matches) (states ∷ levels) → AllByRecursion (λ p. get_or key p 0 < 256) (at ∷ places) →
-      Has words place (words_of_levels place matches (states ∷ levels)) →
+      Has 0 words place (words_of_levels place matches (states ∷ levels)) →
       place + length (words_of_levels place matches (states ∷ levels)) ≤ indexes →
       length places ≡ length levels → number < length states →
       fold (moved words) (get_or (words_into place states) number 0) (map (λ p. get_or key p 0) (at ∷ places))
@@ -195,7 +178,7 @@ module _ (words matches key : List ℕ) where
   walk_follows place states (next ∷ levels) at [] number are small has fits long within = absurd (omega (arith, long))
   walk_follows place states (next ∷ levels) at (p ∷ places) number are small has fits long within =
       let len = lens place states (next ∷ levels) at number are.0 small.0 has fits within in
-      let rest = has_rest place states (next ∷ levels) at number are.0 small.0 has fits within in
+      let rest = has_next place states (next ∷ levels) at number are.0 small.0 has fits within in
       ap (λ w. fold (moved words) w (map (λ q. get_or key q 0) (p ∷ places)))
       (one_step place states (next ∷ levels) at number are.0 small.0 has fits within)
       ∙ more_of (place + level_len states) next levels (map (λ q. get_or key q 0) (p ∷ places))

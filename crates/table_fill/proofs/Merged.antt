@@ -1,10 +1,8 @@
 -- The merged states of a group make a trie of its set.
-use Rattle.std.proofs.Common.{◌≡◌, ℕ, suc, ◌+◌, ◌≤◌, Bool, true, cond, List, [], ◌∷◌, All}
-use Rattle.std.proofs.Common.{Some, None, Option}
-use Rattle.std.proofs.Common.{refl, sym, ap, ◌∙◌, arith, inl, inr, map, length, filter}
-use Rattle.std.specs.List.{AllByRecursion, find}
+use Rattle.std.proofs.Common.{◌≡◌, ℕ, suc, ◌+◌, ◌≤◌, Bool, true, List, [], ◌∷◌, All, Some, None, Option, refl, sym, ap}
+use Rattle.std.proofs.Common.{◌∙◌, arith, map, length, filter}
+use Rattle.std.specs.List.{AllByRecursion}
 use Rattle.std.specs.Option.{option_map_or}
-use Rattle.std.proofs.lemmas.Bool.{cases_Bool}
 use Rattle.std.proofs.lemmas.List.Elements.{All-from_recursion}
 use Rattle.field_defs.specs.Layout.{key_len_of}
 use Rattle.field_defs.proofs.Offered.{short_keys}
@@ -25,33 +23,19 @@ use Rattle.trie_merge.proofs.Gaps.{kept_places_first}
 use Rattle.trie_merge.proofs.Reached.{all-map}
 use Rattle.trie_merge.proofs.StateLaws.{held_of}
 use Rattle.flat_table.specs.Groups.{is_key_len}
+use Rattle.list_lemmas.proofs.Maps.{find_in_filter}
 use Rattle.table_fill.specs.Tries.{IsTrie}
 use Rattle.table_fill.proofs.States.{levels_lead, first_there}
 use Rattle.table_fill.proofs.Kept.{places_are, kept_word}
 
 -- ---- the winners of rows are rules of the set
 
-found_in_filter : (q p : ℕ → Bool) (xs : List ℕ) (w : ℕ) → find q (filter p xs) ≡ Some w → p w ≡ true
-found_in_filter q p [] w e = absurd (cc)
-found_in_filter q p (x ∷ xs) w e = elim (cases_Bool (p x)) [
-  | inl passes ↦
-      let e1 : cond (q x) (Some x) (find q (filter p xs))
-      ≡ Some w = sym (ap (λ b. find q (cond b (x ∷ filter p xs) (filter p xs))) passes) ∙ e in
-      elim (cases_Bool (q x)) [
-        | inl here ↦ (let same : x ≡ w =
-            (let e2 : Some x ≡ Some w = sym (ap (λ b. cond b (Some x) (find q (filter p xs))) here) ∙ e1 in cc) in
-            ap p (sym same) ∙ passes)
-        | inr later ↦ found_in_filter q p xs w (sym (ap (λ b. cond b (Some x) (find q (filter p xs))) later) ∙ e1)
-      ]
-  | inr fails ↦ found_in_filter q p xs w (sym (ap (λ b. find q (cond b (x ∷ filter p xs) (filter p xs))) fails) ∙ e)
-]
-
 module _ (set : RuleSetView) where
   best_passes : (test : RuleView → Bool) (numbers : List ℕ) (w : ℕ) → best_among test set.rules numbers ≡ Some w →
       passes_at test set.rules w ≡ true
   unfolding best_among
   best_passes test numbers w is =
-      found_in_filter (is_greatest_at set.rules (filter (passes_at test set.rules) numbers)) (passes_at test set.rules)
+      find_in_filter (is_greatest_at set.rules (filter (passes_at test set.rules) numbers)) (passes_at test set.rules)
       numbers w is
 
   winner_small : (category : ℕ) (numbers : List ℕ) → option_map_or (λ number. number + 1)

@@ -1,24 +1,22 @@
 -- What a word into a node leads to by each byte.
-use Rattle.std.proofs.Common.{◌≡◌, ◌≢◌, ℕ, suc, ◌+◌, ◌<◌, ◌≤◌, ◌==◌, true, false, cond}
-use Rattle.std.proofs.Common.{List, [], ◌∷◌, ◌++◌}
-use Rattle.std.proofs.Common.{refl, sym, ap, ◌∙◌, arith, inl, inr, map, length, take, get_or, replicate, nat_le, nat_lt}
-use Rattle.std.proofs.Common.{length-append, subst, Some, None, ◌⊎◌}
-use Rattle.std.specs.List.{count_by, find}
-use Rattle.std.specs.Option.{option_map_or}
+use Rattle.std.proofs.Common.{◌≡◌, ◌≢◌, ℕ, suc, ◌+◌, ◌-◌, ◌<◌, ◌≤◌, ◌==◌, true, false, cond, List, [], ◌∷◌, ◌++◌, refl}
+use Rattle.std.proofs.Common.{sym, ap, ◌∙◌, arith, inl, inr, map, length, take, get_or, replicate, nat_le, nat_lt}
+use Rattle.std.proofs.Common.{length-append, subst, ◌⊎◌}
+use Rattle.std.specs.List.{count_by, AllByRecursion}
 use Rattle.std.proofs.lemmas.Bool.Decides.{nat_tests}
-use Rattle.std.proofs.lemmas.Bool.{cases_lt, cases_eq, lt-ltb, le-ltb, le-leb}
-use Rattle.std.proofs.lemmas.Bool.{lt-leb}
-use Rattle.std.proofs.lemmas.List.{length-map, get_or-map, length-replicate, get_or-take, get_or_append_left}
-use Rattle.std.proofs.lemmas.List.{length-take-le}
+use Rattle.std.proofs.lemmas.Bool.{cases_lt, cases_eq, lt-ltb, le-ltb, le-leb, lt-leb}
+use Rattle.std.proofs.lemmas.List.{length-map, get_or-map, length-replicate, take-replicate, get_or_append_left}
+use Rattle.std.proofs.Math.Seq.{take-append-add}
 use Rattle.std.proofs.lemmas.List.Sums.{sum_by-cons}
 use Rattle.std.proofs.lemmas.List.FromFn.{get_or-map-range_with_len, length-map-range_with_len}
 use Rattle.trie_merge.specs.declared.run.Run.{Run}
 use Rattle.trie_merge.specs.declared.run.Succ.TheVariants.{Dead}
 use Rattle.trie_merge.specs.Found.{all_bytes}
 use Rattle.trie_merge.specs.Follow.{run_to}
-use Rattle.trie_merge.specs.Levels.{cost_of}
-use Rattle.flat_table.specs.Word.{indexes, index_of, kind_of, boundaries_of, is_match}
-use Rattle.flat_table.specs.Word.{is_node, node_len, next_word, offset_of}
+use Rattle.trie_merge.specs.Levels.{cost_of, few_runs}
+use Rattle.flat_table.specs.Word.{indexes, index_of, kind_of, boundaries_of, is_match, is_node, node_len, next_word}
+use Rattle.flat_table.specs.Word.{offset_of}
+use Rattle.list_lemmas.proofs.Positions.{Has}
 use Rattle.table_fill.specs.Filled.{word_of, match_of, boundaries, inner_lasts, as_number, node_word, node_words}
 use Rattle.table_fill.specs.Filled.{succ_word}
 use Rattle.table_fill.specs.Tries.{HoldBytes}
@@ -34,7 +32,15 @@ below-cons byte last lasts = sum_by-cons (λ (boundary : ℕ). cond (nat_lt boun
 
 -- ---- the run of a byte
 
--- of runs that begin behind the byte none ends below it
+-- a byte that the first run holds leads on with it
+pub run_here : (run : Run) (runs : List Run) (byte : ℕ) → byte ≤ run.last → run_to (run ∷ runs) byte ≡ run.to
+run_here run runs byte within = rw (le-leb byte run.last within) refl
+
+-- and another byte with the rest
+pub run_later : (run : Run) (runs : List Run) (byte : ℕ) → run.last < byte → run_to (run ∷ runs) byte ≡ run_to runs byte
+run_later run runs byte past = rw (lt-leb byte run.last past) refl
+
+-- of runs that begin after the byte none ends below it
 none_below : (byte first : ℕ) (runs : List Run) → HoldBytes first runs → byte < first → below byte (inner_lasts runs)
     ≡ 0
 none_below byte first [] hold under = absurd hold
@@ -44,53 +50,45 @@ none_below byte first (run ∷ next ∷ runs) hold under =
     ∙ (λ i. cond (le-ltb run.last byte (omega (arith, hold.0)) i) 1 0 + none_below byte (run.last + 1)
     (next ∷ runs) hold.2 (omega (arith, hold.0)) i)
 
--- the byte's run is behind those that end below it
+-- the byte's run is after those that end below it
 pub run_is : (byte first : ℕ) (runs : List Run) (d : Run) → HoldBytes first runs → byte < 256 →
     (below byte (inner_lasts runs) < length runs)
     × ((get_or runs (below byte (inner_lasts runs)) d).to ≡ run_to runs byte)
 run_is byte first [] d hold small = absurd hold
-run_is byte first (run ∷ []) d hold small = (
-  omega arith,
-  sym (ap (λ b. option_map_or (λ (r : Run). r.to) (cond b (Some run) None) Dead)
-      (le-leb byte run.last (omega (arith, hold.1)))),
-)
+run_is byte first (run ∷ []) d hold small = (omega arith, sym (run_here run [] byte (omega (arith, hold.1))))
 run_is byte first (run ∷ next ∷ runs) d hold small = elim (cases_lt run.last byte) [
   | inr within ↦
       let none : below byte (inner_lasts (run ∷ next ∷ runs)) ≡ 0 =
       below-cons byte run.last (inner_lasts (next ∷ runs))
       ∙ (λ i. cond (le-ltb run.last byte within i) 1 0 + none_below byte (run.last + 1) (next ∷ runs) hold.2
-      (omega (arith, within)) i) in
-      let found : run_to (run ∷ next ∷ runs) byte ≡ run.to =
-      ap (λ b. option_map_or (λ (r : Run). r.to)
-      (cond b (Some run) (find (λ (r : Run). nat_le byte r.last) (next ∷ runs))) Dead) (le-leb byte run.last within)
-      in
-      (omega (arith, none), ap (λ n. (get_or (run ∷ next ∷ runs) n d).to) none ∙ sym found)
+      (omega (arith, within)) i) in (
+        omega (arith, none),
+        ap (λ n. (get_or (run ∷ next ∷ runs) n d).to) none ∙ sym (run_here run (next ∷ runs) byte within),
+      )
   | inl above ↦
       let rest = run_is byte (run.last + 1) (next ∷ runs) d hold.2 small in
       let one : below byte (inner_lasts (run ∷ next ∷ runs)) ≡ suc (below byte (inner_lasts (next ∷ runs))) =
       below-cons byte run.last (inner_lasts (next ∷ runs))
       ∙ ap (λ b. cond b 1 0 + below byte (inner_lasts (next ∷ runs))) (lt-ltb run.last byte above)
-      ∙ omega arith in
-      let found : run_to (run ∷ next ∷ runs) byte ≡ run_to (next ∷ runs) byte =
-      ap (λ b. option_map_or (λ (r : Run). r.to)
-      (cond b (Some run) (find (λ (r : Run). nat_le byte r.last) (next ∷ runs))) Dead) (lt-leb byte run.last above)
-      in
-      (omega (arith, one, rest.0), ap (λ n. (get_or (run ∷ next ∷ runs) n d).to) one ∙ rest.1 ∙ sym found)
+      ∙ omega arith in (
+        omega (arith, one, rest.0),
+        ap (λ n. (get_or (run ∷ next ∷ runs) n d).to) one ∙ rest.1
+            ∙ sym (run_later run (next ∷ runs) byte above),
+      )
 ]
 
 -- ---- the boundaries of a node of a few runs
 
-inner_fewer : (run : Run) (runs : List Run) → length (inner_lasts (run ∷ runs)) ≡ length runs
-inner_fewer run [] = refl
-inner_fewer run (next ∷ runs) = ap suc (inner_fewer next runs)
+pub length-inner : (runs : List Run) → length (inner_lasts runs) ≡ length runs - 1
+length-inner [] = refl
+length-inner (run ∷ []) = refl
+length-inner (run ∷ next ∷ runs) = omega (arith, length-inner (next ∷ runs))
 
 -- all boundaries are bytes
-AreSmall : List ℕ → Type 0
-AreSmall [] = Unit {0}
-AreSmall (b ∷ bs) = (b < 256) × AreSmall bs
+abbrev AreSmall : List ℕ → Type 0
+AreSmall boundaries = AllByRecursion (λ b. b < 256) boundaries
 
 inner_small : (first : ℕ) (runs : List Run) → HoldBytes first runs → AreSmall (inner_lasts runs)
-unfolding AreSmall
 inner_small first [] hold = absurd hold
 inner_small first (run ∷ []) hold = tt
 inner_small first (run ∷ next ∷ runs) hold = (omega (arith, hold.1), inner_small (run.last + 1) (next ∷ runs) hold.2)
@@ -99,7 +97,6 @@ inner_small first (run ∷ next ∷ runs) hold = (omega (arith, hold.1), inner_s
 four : (lasts : List ℕ) → length lasts ≤ 4 → AreSmall lasts → (byte : ℕ) → byte < 256 → (kind index : ℕ) → kind < 8 →
     index < indexes →
     below byte (boundaries_of (word_of (as_number (take 4 (lasts ++ replicate 4 255))) kind index)) ≡ below byte lasts
-unfolding AreSmall
 four [] few small byte h kind index k i =
     ap (below byte) (four_bytes 255 255 255 255 (omega arith) (omega arith) (omega arith) (omega arith) kind index k i)
     ∙ grind (arith, nat_tests)
@@ -118,28 +115,52 @@ four (a ∷ b ∷ c ∷ d ∷ e ∷ lasts) few small byte h kind index k i = abs
 
 -- ---- the words of a node
 
--- the list has these elements from the place on
-abbrev pub Has : List ℕ → ℕ → List ℕ → Type 0
-Has words place part = (k : ℕ) → k < length part → get_or words (place + k) 0 ≡ get_or part k 0
+-- the words of some runs
+abbrev pub run_words : List ℕ → List Run → List ℕ
+run_words targets runs = map (λ (run : Run). succ_word targets run.to) runs
 
-pub one_word : (targets : List ℕ) (runs : List Run) → length runs ≡ 1 → node_words targets runs
-    ≡ map (λ (run : Run). succ_word targets run.to) runs
+-- a node of a few runs has their words, and then matches of row 0
+pub few_words : (targets : List ℕ) (runs : List Run) → length runs ≤ few_runs → node_words targets runs
+    ≡ run_words targets runs ++ replicate (cost_of (length runs) - length runs) (match_of 0)
 unfolding node_words
-one_word targets [] one = absurd (omega (arith, one))
-one_word targets (run ∷ []) one = refl
-one_word targets (run ∷ next ∷ runs) one = absurd (omega (arith, one))
+few_words targets runs few =
+    let words : List ℕ = run_words targets runs in
+    let unused : ℕ = cost_of (length runs) - length runs in
+    let bound : unused ≤ few_runs = grind (arith, nat_tests) in
+    let enough : length runs ≤ cost_of (length runs) = grind (arith, nat_tests) in
+    let cost : cost_of (length runs) ≡ length words + unused =
+    omega (arith, enough, length-map runs (λ (run : Run). succ_word targets run.to)) in
+    ap (λ b. cond b (take (cost_of (length runs)) (words ++ replicate few_runs (match_of 0)))
+    (map (λ byte. succ_word targets (run_to runs byte)) all_bytes)) (le-leb (length runs) few_runs few)
+    ∙ ap (λ k. take k (words ++ replicate few_runs (match_of 0))) cost
+    ∙ take-append-add words (replicate few_runs (match_of 0)) unused
+    ∙ ap (λ l. words ++ l) (take-replicate unused few_runs (match_of 0) bound)
 
-pub few_words : (targets : List ℕ) (runs : List Run) → length runs ≢ 1 → length runs ≤ 5 →
-    node_words targets runs ≡ take 5 (map (λ (run : Run). succ_word targets run.to) runs ++ replicate 5 (match_of 0))
-unfolding node_words
-few_words targets runs more few = rw (le-leb (length runs) 5 few) grind (arith, nat_tests)
-
-pub many_words : (targets : List ℕ) (runs : List Run) → 5 < length runs → node_words targets runs
+pub many_words : (targets : List ℕ) (runs : List Run) → few_runs < length runs → node_words targets runs
     ≡ map (λ byte. succ_word targets (run_to runs byte)) all_bytes
 unfolding node_words
-many_words targets runs many = rw (lt-leb (length runs) 5 many) refl
+many_words targets runs many = rw (lt-leb (length runs) few_runs many) refl
 
--- how far behind the first word of a node the byte's word is
+-- a node has all its words
+pub length-node_words : (targets : List ℕ) (runs : List Run) → length (node_words targets runs) ≡ cost_of (length runs)
+unfolding all_bytes
+length-node_words targets runs = elim (cases_lt few_runs (length runs)) [
+  | inl many ↦ ap length (many_words targets runs many)
+      ∙ length-map-range_with_len (λ b. succ_word targets (run_to runs b)) 0 256 ∙ grind (arith, nat_tests)
+  | inr few ↦
+      let unused : ℕ = cost_of (length runs) - length runs in
+      let enough : length runs ≤ cost_of (length runs) = grind (arith, nat_tests) in
+      omega (
+        arith,
+        enough,
+        ap length (few_words targets runs few),
+        length-append (run_words targets runs) (replicate unused (match_of 0)),
+        length-map runs (λ (run : Run). succ_word targets run.to),
+        length-replicate unused (match_of 0),
+      )
+]
+
+-- how far after the first word of a node the byte's word is
 offset_by : (word byte kind : ℕ) → kind_of word ≡ kind → offset_of word byte
     ≡ cond (kind == 0) byte (cond (kind == 3) (below byte (boundaries_of word)) 0)
 offset_by word byte kind e = ap (λ k. cond (k == 0) byte (cond (k == 3) (below byte (boundaries_of word)) 0)) e
@@ -150,23 +171,18 @@ single_word place runs one =
     ap (λ n. cond (n == 1) (word_of 0 1 place)
     (cond (nat_le n 5) (word_of (as_number (boundaries runs)) 3 place) (word_of 0 0 place))) one
 
-quad_word : (place : ℕ) (runs : List Run) → length runs ≢ 1 → length runs ≤ 5 → node_word place runs
+quad_word : (place : ℕ) (runs : List Run) → length runs ≢ 1 → length runs ≤ few_runs → node_word place runs
     ≡ word_of (as_number (boundaries runs)) 3 place
 unfolding node_word
 quad_word place runs more few = grind (arith, nat_tests)
 
-full_word : (place : ℕ) (runs : List Run) → 5 < length runs → node_word place runs ≡ word_of 0 0 place
+full_word : (place : ℕ) (runs : List Run) → few_runs < length runs → node_word place runs ≡ word_of 0 0 place
 unfolding node_word
 full_word place runs many = grind (arith, nat_tests)
 
--- the word at an index, where a list stands at a place
-word_at : (words : List ℕ) (place k index : ℕ) (part : List ℕ) → Has words place part → k < length part → index
-    ≡ place + k → get_or words index 0 ≡ get_or part k 0
-word_at words place k index part has within e = ap (λ n. get_or words n 0) e ∙ has k within
-
 module _ (words targets : List ℕ) (place : ℕ) (runs : List Run) (byte : ℕ) (hold : HoldBytes 0 runs)
     (small : byte < 256) (fits : place < indexes)
-    (has : Has words place (node_words targets runs)) where
+    (has : Has 0 words place (node_words targets runs)) where
   d : Run
   d = record { last = 0; to = Dead }
 
@@ -181,9 +197,9 @@ module _ (words targets : List ℕ) (place : ℕ) (runs : List Run) (byte : ℕ)
       offset < length (node_words targets runs) →
       next_word words (node_word place runs) byte ≡ get_or (node_words targets runs) offset 0
   next_by kind offset k i is within =
-      word_at words place offset (index_of (node_word place runs) + offset_of (node_word place runs) byte)
-      (node_words targets runs) has within
-      (omega (arith, i, offset_by (node_word place runs) byte kind k, is))
+      let at : index_of (node_word place runs) + offset_of (node_word place runs) byte ≡ place + offset =
+      omega (arith, i, offset_by (node_word place runs) byte kind k, is) in
+      ap (λ n. get_or words n 0) at ∙ has offset within
 
   of_run : get_or (map f runs) n 0 ≡ succ_word targets (run_to runs byte)
   unfolding f n d
@@ -191,48 +207,42 @@ module _ (words targets : List ℕ) (place : ℕ) (runs : List Run) (byte : ℕ)
       let is = run_is byte 0 runs d hold small in
       get_or-map f runs n d 0 is.0 ∙ ap (succ_word targets) is.1
 
-  by_single : length runs ≡ 1 → next_word words (node_word place runs) byte ≡ succ_word targets (run_to runs byte)
+  -- a word of a few runs is that of the byte's run
+  by_few : length runs ≤ few_runs → (kind : ℕ) → kind_of (node_word place runs) ≡ kind →
+      index_of (node_word place runs) ≡ place →
+      cond (kind == 0) byte (cond (kind == 3) (below byte (boundaries_of (node_word place runs))) 0) ≡ n →
+      next_word words (node_word place runs) byte ≡ succ_word targets (run_to runs byte)
   unfolding f n d
+  by_few few kind k i is =
+      let run = run_is byte 0 runs d hold small in
+      let enough : length runs ≤ cost_of (length runs) = grind (arith, nat_tests) in
+      next_by kind n k i is (omega (arith, run.0, enough, length-node_words targets runs))
+      ∙ ap (λ (l : List ℕ). get_or l n 0) (few_words targets runs few)
+      ∙ get_or_append_left (map f runs) (replicate (cost_of (length runs) - length runs) (match_of 0)) 0 n
+      (omega (arith, run.0, length-map runs f))
+      ∙ of_run
+
+  by_single : length runs ≡ 1 → next_word words (node_word place runs) byte ≡ succ_word targets (run_to runs byte)
+  unfolding n d
   by_single one =
       let is = single_word place runs one in
       let p = parts 0 1 place (omega arith) fits in
       let run = run_is byte 0 runs d hold small in
-      let first : n ≡ 0 = omega (arith, run.0, one) in
-      let all = one_word targets runs one in
-      next_by 1 0 (ap kind_of is ∙ p.kind_is) (ap index_of is ∙ p.index_is) refl
-      (omega (arith, ap length all, length-map runs f, one))
-      ∙ ap (λ (l : List ℕ). get_or l 0 0) all
-      ∙ ap (λ k. get_or (map f runs) k 0) (sym first)
-      ∙ of_run
+      by_few (omega (arith, one)) 1 (ap kind_of is ∙ p.kind_is) (ap index_of is ∙ p.index_is)
+      (omega (arith, run.0, one))
 
-  by_quad : length runs ≢ 1 → length runs ≤ 5 → next_word words (node_word place runs) byte
+  by_quad : length runs ≢ 1 → length runs ≤ few_runs → next_word words (node_word place runs) byte
       ≡ succ_word targets (run_to runs byte)
-  unfolding f n d
+  unfolding n
   by_quad more few =
       let is = quad_word place runs more few in
       let p = parts (as_number (boundaries runs)) 3 place (omega arith) fits in
-      let run = run_is byte 0 runs d hold small in
-      let all = few_words targets runs more few in
-      let mapped : length (map f runs) ≡ length runs = length-map runs f in
-      let padded : length (map f runs ++ replicate 5 (match_of 0)) ≡ length runs + 5 =
-      length-append (map f runs) (replicate 5 (match_of 0)) ∙ ap (λ k. k + 5) mapped in
-      let five : length (take 5 (map f runs ++ replicate 5 (match_of 0)))
-      ≡ 5 = length-take-le 5 (map f runs ++ replicate 5 (match_of 0)) (omega (arith, padded)) in
-      let count : below byte (boundaries_of (node_word place runs)) ≡ n =
-      ap (λ w. below byte (boundaries_of w)) is
-      ∙ four (inner_lasts runs) (few_inner runs few) (inner_small 0 runs hold) byte small 3 place (omega arith) fits in
-      next_by 3 n (ap kind_of is ∙ p.kind_is) (ap index_of is ∙ p.index_is) count
-      (omega (arith, run.0, ap length all, five))
-      ∙ ap (λ (l : List ℕ). get_or l n 0) all
-      ∙ get_or-take 5 (map f runs ++ replicate 5 (match_of 0)) n 0 (omega (arith, run.0))
-      ∙ get_or_append_left (map f runs) (replicate 5 (match_of 0)) 0 n (omega (arith, run.0, mapped))
-      ∙ of_run
-    where
-      few_inner : (rs : List Run) → length rs ≤ 5 → length (inner_lasts rs) ≤ 4
-      few_inner [] h = omega arith
-      few_inner (r ∷ rs) h = omega (arith, inner_fewer r rs)
+      by_few few 3 (ap kind_of is ∙ p.kind_is) (ap index_of is ∙ p.index_is)
+      (ap (λ w. below byte (boundaries_of w)) is
+      ∙ four (inner_lasts runs) (omega (arith, few, length-inner runs)) (inner_small 0 runs hold) byte small 3 place
+      (omega arith) fits)
 
-  by_full : 5 < length runs → next_word words (node_word place runs) byte ≡ succ_word targets (run_to runs byte)
+  by_full : few_runs < length runs → next_word words (node_word place runs) byte ≡ succ_word targets (run_to runs byte)
   unfolding f n d all_bytes
   by_full many =
       let is = full_word place runs many in
@@ -247,30 +257,11 @@ module _ (words targets : List ℕ) (place : ℕ) (runs : List Run) (byte : ℕ)
   pub node_next : next_word words (node_word place runs) byte ≡ succ_word targets (run_to runs byte)
   node_next = elim (cases_eq (length runs) 1) [
     | inl one ↦ by_single one
-    | inr more ↦ elim (cases_lt 5 (length runs)) [
+    | inr more ↦ elim (cases_lt few_runs (length runs)) [
       | inl many ↦ by_full many
       | inr few ↦ by_quad more few
     ]
   ]
-
--- ---- nodes are whole
-
-pub length-node_words : (targets : List ℕ) (runs : List Run) → length (node_words targets runs) ≡ cost_of (length runs)
-unfolding all_bytes
-length-node_words targets runs = elim (cases_eq (length runs) 1) [
-  | inl one ↦ ap length (one_word targets runs one) ∙ length-map runs (λ (run : Run). succ_word targets run.to) ∙ one
-      ∙ sym (ap cost_of one)
-  | inr more ↦ elim (cases_lt 5 (length runs)) [
-    | inl many ↦ ap length (many_words targets runs many)
-        ∙ length-map-range_with_len (λ b. succ_word targets (run_to runs b)) 0 256 ∙ grind (arith, nat_tests)
-    | inr few ↦
-        let f : Run → ℕ = λ run. succ_word targets run.to in
-        ap length (few_words targets runs more few)
-        ∙ length-take-le 5 (map f runs ++ replicate 5 (match_of 0))
-        (omega (arith, length-append (map f runs) (replicate 5 (match_of 0)), length-replicate 5 (match_of 0)))
-        ∙ grind (arith, nat_tests)
-  ]
-]
 
 -- the word into a node names its place, and has the length of the node
 pub record IsInto (place len word : ℕ) : Type 0 where
@@ -298,7 +289,7 @@ pub node_into : (place : ℕ) (runs : List Run) → place < indexes → IsInto p
 node_into place runs fits = elim (cases_eq (length runs) 1) [
   | inl one ↦ subst (λ w. IsInto place (cost_of (length runs)) w) (sym (single_word place runs one))
       (into_by 0 1 place _ fits (inr (inl (refl, refl, ap cost_of one))))
-  | inr more ↦ elim (cases_lt 5 (length runs)) [
+  | inr more ↦ elim (cases_lt few_runs (length runs)) [
     | inl many ↦ subst (λ w. IsInto place (cost_of (length runs)) w) (sym (full_word place runs many))
         (into_by 0 0 place _ fits (inl (refl, refl, grind (arith, nat_tests))))
     | inr few ↦ subst (λ w. IsInto place (cost_of (length runs)) w) (sym (quad_word place runs more few))

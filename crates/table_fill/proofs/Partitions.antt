@@ -1,6 +1,5 @@
--- For tests: one group of all rules, and two groups of which the second has the rules behind those of the first.
-use Rattle.std.proofs.Common.{◌≡◌, ℕ, zero, suc, ◌+◌, ◌-◌, ◌<◌, ◌≤◌, List, [], ◌∷◌, ◌++◌, length, sym, ◌∙◌}
-use Rattle.std.proofs.Common.{ap, subst, arith}
+-- For tests: one group of all rules, and two groups of which the second has the rules after those of the first.
+use Rattle.std.proofs.Common.{◌≡◌, ℕ, ◌+◌, ◌-◌, ◌<◌, ◌≤◌, List, [], ◌∷◌, ◌++◌, length, sym, ◌∙◌, ap, subst, arith}
 use Rattle.std.specs.List.{range_with_len, flat_map}
 use Rattle.std.specs.List.Sorted.{IsPermutation, IsStrictlyIncreasing}
 use Rattle.std.proofs.lemmas.List.{append-nil}
@@ -9,6 +8,7 @@ use Rattle.std.proofs.lemmas.List.Elements.{All-from_recursion}
 use Rattle.std.proofs.lemmas.List.Sorted.{IsPermutation-refl}
 use Rattle.rule_set.specs.Rule.{RuleSetView}
 use Rattle.rule_set.specs.Groups.{IsPartition}
+use Rattle.list_lemmas.proofs.Positions.{range-append}
 use Rattle.trie_merge.specs.Levels.{LevelsView, levels_of, IsGroup}
 
 rises : (first len : ℕ) → IsStrictlyIncreasing (range_with_len first len)
@@ -38,17 +38,6 @@ one_group len some = record {
       (sym (append-nil (range_with_len 0 len))) (IsPermutation-refl (range_with_len 0 len));
 }
 
-range_behind : (first one other : ℕ) → range_with_len first one ++ range_with_len (first + one) other
-    ≡ range_with_len first (one + other)
-range_behind first zero other = (let e : first + 0 ≡ first = omega arith in let n : other ≡ 0 + other = omega arith in
-    λ i. range_with_len (e i) (n i))
-range_behind first (suc one) other =
-    let at : first + suc one ≡ first + 1 + one = omega arith in
-    let count : suc (one + other) ≡ suc one + other = omega arith in
-    ap (λ n. range_with_len first (suc one) ++ range_with_len n other) at
-    ∙ ap (λ l. first ∷ l) (range_behind (first + 1) one other)
-    ∙ ap (range_with_len first) count
-
 pub two_groups : (len first : ℕ) → 0 < first → first < len →
     IsPartition len (range_with_len 0 first ∷ range_with_len first (len - first) ∷ [])
 two_groups len first some more =
@@ -58,7 +47,7 @@ two_groups len first some more =
     let whole : flat_map (λ (group : List ℕ). group) groups ≡ range_with_len 0 len =
     ap (λ l. range_with_len 0 first ++ l) (append-nil (range_with_len first (len - first)))
     ∙ ap (λ n. range_with_len 0 first ++ range_with_len n (len - first)) (sym at)
-    ∙ range_behind 0 first (len - first) ∙ ap (range_with_len 0) count in
+    ∙ sym (range-append 0 first (len - first)) ∙ ap (range_with_len 0) count in
     record {
       some = All-from_recursion (λ group. 0 < length group) groups (
         omega (arith, length-range_with_len 0 first),

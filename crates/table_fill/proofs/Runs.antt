@@ -1,6 +1,6 @@
 -- The runs of a state hold all bytes, and each leads to where one of the bytes does.
-use Rattle.std.proofs.Common.{◌≡◌, ℕ, zero, suc, ◌+◌, ◌<◌, ◌≤◌, ◌||◌, not, true, cond, List, []}
-use Rattle.std.proofs.Common.{◌∷◌, map, filter, refl, sym, ap, subst, inl, inr, arith}
+use Rattle.std.proofs.Common.{◌≡◌, ℕ, zero, suc, ◌+◌, ◌<◌, ◌≤◌, ◌||◌, not, true, cond, List, [], ◌∷◌, map, filter, refl}
+use Rattle.std.proofs.Common.{sym, ap, subst, inl, inr, arith}
 use Rattle.std.specs.List.{range_with_len, AllByRecursion}
 use Rattle.std.proofs.lemmas.Bool.{cases_Bool, eq-eqb}
 use Rattle.trie_merge.specs.declared.run.Run.{Run}

@@ -1,62 +1,45 @@
 -- Filled tables are sound.
-use Rattle.std.proofs.Common.{◌≡◌, ℕ, zero, suc, ◌+◌, ◌*◌, ◌<◌, ◌≤◌, ◌==◌, Bool, true, false, cond, not, ◌&&◌}
-use Rattle.std.proofs.Common.{List, [], ◌∷◌, ◌++◌, nat_le, nat_lt}
-use Rattle.std.proofs.Common.{refl, sym, ap, ◌∙◌, arith, inl, inr, map, length, take, drop, get_or, replicate, sum}
-use Rattle.std.proofs.Common.{length-append, subst, Some, None}
+use Rattle.std.proofs.Common.{◌≡◌, ℕ, zero, suc, ◌+◌, ◌*◌, ◌<◌, ◌≤◌, ◌==◌, Bool, true, false, cond, not, ◌&&◌, List, []}
+use Rattle.std.proofs.Common.{◌∷◌, ◌++◌, nat_le, nat_lt, refl, sym, ap, ◌∙◌, arith, inl, inr, map, length, take, drop}
+use Rattle.std.proofs.Common.{get_or, sum, length-append, subst, Some, None, length-take, ◌-◌}
 use Rattle.std.specs.List.{flat_map, sum_by, AllByRecursion, position_from, zip, list_all, range_with_len}
 use Rattle.std.specs.Option.{option_or, option_map}
-use Rattle.std.proofs.lemmas.Bool.{cases_eq, cases_lt, le-leb, eq-eqb, lt-ltb}
+use Rattle.std.proofs.lemmas.Bool.{cases_lt, le-leb, eq-eqb, lt-ltb}
 use Rattle.std.proofs.lemmas.Bool.Decides.{nat_tests}
-use Rattle.std.proofs.lemmas.List.{length-map, get_or-take, get_or-drop}
-use Rattle.std.proofs.lemmas.List.Sums.{sum_by-cons, sum_by-append}
-use Rattle.std.proofs.lemmas.List.Elements.{recursion_from_All}
+use Rattle.std.specs.Prelude.{All}
+use Rattle.std.proofs.lemmas.List.{length-map, get_or-take, get_or-drop, take_at, drop_at}
+use Rattle.std.proofs.lemmas.List.Concat.{length-flat_map}
+use Rattle.std.proofs.lemmas.List.Sums.{sum_by-cons, sum_by-append, sum-map}
+use Rattle.std.proofs.lemmas.List.Elements.{recursion_from_All, All-append, All-map, All-replicate, All-same}
+use Rattle.std.proofs.lemmas.List.Elements.{All-weaker}
 use Rattle.std.proofs.lemmas.List.FromFn.{get_or-map-range_with_len}
-use Rattle.std.proofs.Common.{length-take}
-use Rattle.std.proofs.Math.Seq.{take-append_seam, drop-append_seam}
+use Rattle.list_lemmas.proofs.Maps.{All-flat_map, map_agree}
+use Rattle.list_lemmas.proofs.Positions.{Has, has_front, has_rest}
 use Rattle.trie_merge.specs.declared.run.Run.{Run}
 use Rattle.trie_merge.specs.declared.run.Succ.{Succ}
 use Rattle.trie_merge.specs.declared.run.Succ.TheVariants.{Dead, State, Row}
 use Rattle.trie_merge.specs.Found.{all_bytes}
 use Rattle.trie_merge.specs.Follow.{run_to}
-use Rattle.trie_merge.specs.Levels.{LevelsView, cost_of}
-use Rattle.trie_merge.proofs.Reached.{all-append, all-map, all-flat_map, all_weaker}
+use Rattle.trie_merge.specs.Levels.{LevelsView, cost_of, few_runs}
 use Rattle.flat_table.specs.declared.level.Level.{Level}
 use Rattle.flat_table.specs.Word.{indexes, index_of, is_match, is_unbounded}
 use Rattle.flat_table.specs.Table.{TableView, levels_from, portions, depths_of, trie_levels}
-use Rattle.flat_table.specs.Sound.{leads_into, is_sound_word, first_level, unsound_word, first_some}
-use Rattle.flat_table.specs.Sound.{most_tries, most_words, row_len, begins_with_zeros, is_shaped, sound_fault}
-use Rattle.flat_table.specs.Sound.{first_unsound_root, first_unsound_word}
-use Rattle.flat_table.specs.declared.sound.SoundFault.TheVariants as faults
+use Rattle.flat_table.specs.Sound.{leads_into, is_sound_word, first_level, unsound_word, first_some, most_tries}
+use Rattle.flat_table.specs.Sound.{most_words, row_len, begins_with_zeros, is_shaped, sound_fault, first_unsound_root}
+use Rattle.flat_table.specs.Sound.{first_unsound_word}
 use Rattle.flat_table.specs.Groups.{is_key_len, is_kept_word, depth_of}
 use Rattle.field_defs.specs.Layout.{key_len_of}
 use Rattle.rule_set.specs.Rule.{RuleView, RuleSetView}
 use Rattle.table_fill.specs.Filled.{match_of, node_word, node_words, succ_word, level_len, words_into, targets_of}
-use Rattle.table_fill.specs.Filled.{words_of_levels, nodes_len, matches_of, words_of_tries, roots_of}
-use Rattle.table_fill.specs.Filled.{level_lens_of, rows_of_tries, winner_word, table_of_tries}
-use Rattle.table_fill.specs.Tries.{IsThere, AreRuns, AreLevels, IsTrie}
+use Rattle.table_fill.specs.Filled.{words_of_levels, nodes_len, matches_of, words_of_tries, roots_of, level_lens_of}
+use Rattle.table_fill.specs.Filled.{rows_of_tries, winner_word, table_of_tries}
+use Rattle.table_fill.specs.Tries.{IsThere, AreRuns, AreLevels, IsTrie, row_count}
 use Rattle.table_fill.proofs.Words.{match_parts}
-use Rattle.table_fill.proofs.Nodes.{Has, node_into, one_word, few_words, many_words}
-use Rattle.table_fill.proofs.Levels.{there_by, has_front, has_behind, length-level, level_len-cons}
+use Rattle.table_fill.proofs.Nodes.{node_into, run_words, few_words, many_words}
+use Rattle.table_fill.proofs.Levels.{there_by, length-level, level_len-cons}
+use Rattle.flat_table.specs.declared.sound.SoundFault.TheVariants as faults
 
--- ---- elements of lists
-
-all_at : (P : ℕ → Type 0) (xs : List ℕ) (k : ℕ) → AllByRecursion P xs → k < length xs → P (get_or xs k 0)
-all_at P [] k all within = absurd (omega (arith, within))
-all_at P (x ∷ xs) zero all within = all.0
-all_at P (x ∷ xs) (suc k) all within = all_at P xs k all.1 (omega (arith, within))
-
-all-take : (P : ℕ → Type 0) (n : ℕ) (xs : List ℕ) → AllByRecursion P xs → AllByRecursion P (take n xs)
-all-take P zero xs all = tt
-all-take P (suc n) [] all = tt
-all-take P (suc n) (x ∷ xs) all = (all.0, all-take P n xs all.1)
-
-all-replicate : (P : ℕ → Type 0) (n x : ℕ) → P x → AllByRecursion P (replicate n x)
-all-replicate P zero x holds = tt
-all-replicate P (suc n) x holds = (holds, all-replicate P n x holds)
-
-all_of : {X : Type 0} (P : X → Type 0) (xs : List X) → ((x : X) → P x) → AllByRecursion P xs
-all_of P [] each = tt
-all_of P (x ∷ xs) each = (each x, all_of P xs each)
+-- ---- each word of a node is one of a successor
 
 none_by : (p : ℕ → Bool) (place : ℕ) (xs : List ℕ) → ((k : ℕ) → k < length xs → p (get_or xs k 0) ≡ false) →
     position_from p place xs ≡ None
@@ -65,39 +48,28 @@ none_by p place (x ∷ xs) each =
     ap (λ b. cond b (Some place) (position_from p (place + 1) xs)) (each 0 (omega arith))
     ∙ none_by p (place + 1) xs (λ k within. each (suc k) (omega (arith, within)))
 
--- ---- each word of a node is one of a successor
-
 module _ (P : ℕ → Type 0) (rows : ℕ) (levels : List (List (List Run))) (targets : List ℕ)
     (dead : P (match_of 0)) (each : (succ : Succ) → IsThere rows levels succ → P (succ_word targets succ)) where
-  of_runs : (runs : List Run) → AllByRecursion (λ (run : Run). IsThere rows levels run.to) runs →
-      AllByRecursion P (map (λ (run : Run). succ_word targets run.to) runs)
-  of_runs [] there = tt
-  of_runs (run ∷ runs) there = (each run.to there.0, of_runs runs there.1)
+  of_node : (runs : List Run) → All (λ (run : Run). IsThere rows levels run.to) runs → All P (node_words targets runs)
+  of_node runs there =
+      let leads : Run → Type 0 = λ run. IsThere rows levels run.to in
+      elim (cases_lt few_runs (length runs)) [
+        | inl many ↦ All-same P (node_words targets runs) _ (many_words targets runs many)
+            (All-map P (λ byte. succ_word targets (run_to runs byte)) all_bytes
+            (λ k d within. each (run_to runs (get_or all_bytes k d))
+            (there_by rows levels runs (get_or all_bytes k d) (recursion_from_All leads runs there))))
+        | inr few ↦ All-same P (node_words targets runs) _ (few_words targets runs few)
+            (All-append P (run_words targets runs) _
+            (All-map P (λ (run : Run). succ_word targets run.to) runs
+            (All-weaker leads (λ run. P (succ_word targets run.to)) (λ run. each run.to) runs there))
+            (All-replicate P (cost_of (length runs) - length runs) (match_of 0) dead))
+      ]
 
-  of_node : (runs : List Run) → AllByRecursion (λ (run : Run). IsThere rows levels run.to) runs →
-      AllByRecursion P (node_words targets runs)
-  of_node runs there = elim (cases_eq (length runs) 1) [
-    | inl one ↦ subst (AllByRecursion P) (sym (one_word targets runs one)) (of_runs runs there)
-    | inr more ↦ elim (cases_lt 5 (length runs)) [
-      | inl many ↦
-          subst (AllByRecursion P) (sym (many_words targets runs many))
-          (all-map P (λ byte. succ_word targets (run_to runs byte)) all_bytes
-          (all_of (λ byte. P (succ_word targets (run_to runs byte))) all_bytes
-          (λ byte. each (run_to runs byte) (there_by rows levels runs byte there))))
-      | inr few ↦
-          subst (AllByRecursion P) (sym (few_words targets runs more few))
-          (all-take P 5 (map (λ (run : Run). succ_word targets run.to) runs ++ replicate 5 (match_of 0))
-          (all-append P (map (λ (run : Run). succ_word targets run.to) runs) (replicate 5 (match_of 0))
-          (of_runs runs there) (all-replicate P 5 (match_of 0) dead)))
-    ]
-  ]
-
-  pub of_level : (states : List (List Run)) → AllByRecursion (AreRuns rows levels) states →
-      AllByRecursion P (flat_map (node_words targets) states)
-  of_level states are =
-      all-flat_map P (node_words targets) states
-      (all_weaker (AreRuns rows levels) (λ runs. AllByRecursion P (node_words targets runs)) states
-      (λ runs is. of_node runs (recursion_from_All (λ (run : Run). IsThere rows levels run.to) runs is.there)) are)
+  pub of_level : (states : List (List Run)) → All (AreRuns rows levels) states →
+      All P (flat_map (node_words targets) states)
+  of_level states are = All-flat_map P (node_words targets) states
+      (All-weaker (AreRuns rows levels) (λ runs. All P (node_words targets runs)) (λ runs is. of_node runs is.there)
+      states are)
 
 -- ---- where words lead
 
@@ -140,13 +112,13 @@ leads_no_match next word leads = grind (arith, nat_tests)
 -- ---- the levels of a trie
 
 -- the words that stand from a place on, as far as there are any, each pass
-words_pass : (P : ℕ → Type 0) (words : List ℕ) (from : ℕ) (part : List ℕ) (len : ℕ) → Has words from part → len
-    ≡ length part → AllByRecursion P part →
+words_pass : (P : ℕ → Type 0) (words : List ℕ) (from : ℕ) (part : List ℕ) (len : ℕ) → Has 0 words from part → len
+    ≡ length part → All P part →
     (k : ℕ) → k < length (take len (drop from words)) → P (get_or (take len (drop from words)) k 0)
 words_pass P words from part len has e all k within =
     let inside : k < len = omega (arith, within, length-take len (drop from words)) in
     subst P (sym (get_or-take len (drop from words) k 0 inside ∙ get_or-drop from words k 0
-    ∙ has k (omega (arith, inside, e)))) (all_at P part k all (omega (arith, inside, e)))
+    ∙ has k (omega (arith, inside, e)))) (all k 0 (omega (arith, inside, e)))
 
 not_true : (b : Bool) → b ≡ true → not b ≡ false
 not_true b e = ap not e
@@ -177,7 +149,7 @@ module _ (rows : ℕ) (words : List ℕ) (row count : ℕ) (enough : row + count
   succ_sound behind (next ∷ levels) fits (Row n) there = absurd there
 
   pub trie_sound : (place : ℕ) (levels : List (List (List Run))) → AreLevels count levels →
-      Has words place (words_of_levels place (map match_of (range_with_len row count)) levels) →
+      Has 0 words place (words_of_levels place (map match_of (range_with_len row count)) levels) →
       place + length (words_of_levels place (map match_of (range_with_len row count)) levels) ≤ indexes →
       unsound_word rows words (levels_from place (map level_len levels)) ≡ None
   trie_sound place [] are has fits = refl
@@ -192,22 +164,17 @@ module _ (rows : ℕ) (words : List ℕ) (row count : ℕ) (enough : row + count
       in
       let P : ℕ → Type 0 = λ word. is_sound_word rows next word ≡ true in
       let all = of_level P count levels targets (match_sound rows 0 next some small)
-      (succ_sound behind levels rest_fits) states (recursion_from_All (AreRuns count levels) states are.0) in
+      (succ_sound behind levels rest_fits) states are.0 in
       let here = none_by (λ word. not (is_sound_word rows next word)) place (take (level_len states) (drop place words))
       (λ k within. not_true _ (words_pass P words place (flat_map (node_words targets) states) (level_len states)
-      (has_front words place (flat_map (node_words targets) states) (words_of_levels behind ms levels) has)
+      (has_front 0 words place (flat_map (node_words targets) states) (words_of_levels behind ms levels) has)
       (sym first) all k within)) in
       let rest = trie_sound behind levels are.1
-      (has_behind words place behind (flat_map (node_words targets) states) (words_of_levels behind ms levels) has
+      (has_rest 0 words place (flat_map (node_words targets) states) (words_of_levels behind ms levels) has behind
       (omega (arith, first))) rest_fits in
       λ i. option_or (here i) (rest i)
 
 -- ---- the levels of all tries
-
-sum_of_map : (f : List (List Run) → ℕ) (xs : List (List (List Run))) → sum (map f xs) ≡ sum_by f xs
-sum_of_map f [] = refl
-sum_of_map f (x ∷ xs) = sum_by-cons (λ (n : ℕ). n) (f x) (map f xs) ∙ ap (λ n. f x + n) (sum_of_map f xs)
-    ∙ sym (sum_by-cons f x xs)
 
 -- the levels of each trie, from a place on
 pub levels_each : ℕ → List LevelsView → List (List Level)
@@ -227,13 +194,6 @@ length-levels : (place : ℕ) (lens : List ℕ) → length (levels_from place le
 length-levels place [] = refl
 length-levels place (len ∷ lens) = ap suc (length-levels (place + len) lens)
 
-cut_seam : {X : Type 0} (n : ℕ) (xs ys : List X) → n ≡ length xs → (take n (xs ++ ys) ≡ xs) × (drop n (xs ++ ys) ≡ ys)
-cut_seam n xs ys e = (
-  ap (λ k. take k (xs ++ ys)) e ∙ take-append_seam xs ys,
-  ap (λ k. drop k (xs ++ ys)) e
-      ∙ drop-append_seam xs ys,
-)
-
 pub portions_are : (place : ℕ) (tries : List LevelsView) →
     portions (map (λ (trie : LevelsView). length trie.levels) tries) (levels_from place (level_lens_of tries))
     ≡ levels_each place tries
@@ -246,12 +206,13 @@ portions_are place (trie ∷ tries) =
     let back : List Level = levels_from (place + nodes_len trie) (level_lens_of tries) in
     let cut : levels_from place (level_lens_of (trie ∷ tries)) ≡ front ++ back =
     levels-append place lens (level_lens_of tries) ∙ ap (λ k. front ++ levels_from (place + k) (level_lens_of tries))
-    (sum_of_map level_len trie.levels) in
-    let seam = cut_seam n front back (sym (length-levels place lens ∙ length-map trie.levels level_len)) in
+    (sum-map level_len trie.levels) in
+    let long : length front ≡ n = length-levels place lens ∙ length-map trie.levels level_len in
     let rest : List (List Level) = portions (map (λ (t : LevelsView). length t.levels) tries) (drop n (front ++ back))
     in
     ap (λ ls. take n ls ∷ portions (map (λ (t : LevelsView). length t.levels) tries) (drop n ls)) cut
-    ∙ (λ i. seam.0 i ∷ portions (map (λ (t : LevelsView). length t.levels) tries) (seam.1 i))
+    ∙ (λ i. take_at front back n long i ∷ portions (map (λ (t : LevelsView). length t.levels) tries)
+    (drop_at front back n long i))
     ∙ ap (λ ls. front ∷ ls) (portions_are (place + nodes_len trie) tries)
 
 -- ---- how many words, rows and levels there are
@@ -275,27 +236,22 @@ length-words place row (trie ∷ tries) =
     (row + length trie.rows) tries i)
     ∙ sym (sum_by-cons nodes_len trie tries)
 
--- how many rows a trie has
-abbrev pub row_count : LevelsView → ℕ
-row_count trie = length trie.rows
-
 pub length-roots : (place : ℕ) (tries : List LevelsView) → length (roots_of place tries) ≡ length tries
 length-roots place [] = refl
 length-roots place (trie ∷ tries) = ap suc (length-roots (place + nodes_len trie) tries)
 
 length-lens : (tries : List LevelsView) → length (level_lens_of tries)
     ≡ sum (map (λ (trie : LevelsView). length trie.levels) tries)
-length-lens [] = refl
-length-lens (trie ∷ tries) =
-    length-append (map level_len trie.levels) (level_lens_of tries)
-    ∙ (λ i. length-map trie.levels level_len i + length-lens tries i)
-    ∙ sym (sum_by-cons (λ (n : ℕ). n) (length trie.levels) (map (λ (t : LevelsView). length t.levels) tries))
+length-lens tries =
+    length-flat_map (λ (trie : LevelsView). map level_len trie.levels) tries
+    ∙ sym (sum-map (λ (trie : LevelsView). length (map level_len trie.levels)) tries)
+    ∙ ap sum (map_agree _ _ tries (λ trie. length-map trie.levels level_len))
 
 sum-lens : (tries : List LevelsView) → sum (level_lens_of tries) ≡ sum_by nodes_len tries
 sum-lens [] = refl
 sum-lens (trie ∷ tries) =
     sum_by-append (λ (n : ℕ). n) (map level_len trie.levels) (level_lens_of tries)
-    ∙ (λ i. sum_of_map level_len trie.levels i + sum-lens tries i)
+    ∙ (λ i. sum-map level_len trie.levels i + sum-lens tries i)
     ∙ sym (sum_by-cons nodes_len trie tries)
 
 -- ---- roots and words
@@ -327,7 +283,7 @@ module _ (set : RuleSetView) where
       ∙ roots_lead (number + 1) (place + nodes_len trie) tries are.1 (omega (arith, more, fits))
 
   words_lead : (rows : ℕ) (words : List ℕ) (place row : ℕ) (tries : List LevelsView) →
-      AllByRecursion (IsTrie set) tries → Has words place (words_of_tries place row tries) →
+      AllByRecursion (IsTrie set) tries → Has 0 words place (words_of_tries place row tries) →
       place + sum_by nodes_len tries ≤ indexes → row + sum_by row_count tries ≤ rows → 0 < rows → rows ≤ indexes →
       first_some (map (unsound_word rows words) (levels_each place tries)) ≡ None
   unfolding levels_each
@@ -340,9 +296,9 @@ module _ (set : RuleSetView) where
       let long = length-levels-words place (matches_of row trie) trie.levels in
       let here = trie_sound rows words row (length trie.rows) (omega (arith, more_rows, enough)) some small place
       trie.levels are.0.nodes.levels_lead
-      (has_front words place mine behind has) (omega (arith, long, more, fits)) in
+      (has_front 0 words place mine behind has) (omega (arith, long, more, fits)) in
       let rest = words_lead rows words (place + nodes_len trie) (row + length trie.rows) tries are.1
-      (has_behind words place (place + nodes_len trie) mine behind has (omega (arith, long)))
+      (has_rest 0 words place mine behind has (place + nodes_len trie) (omega (arith, long)))
       (omega (arith, more, fits)) (omega (arith, more_rows, enough)) some small in
       λ i. option_or (here i) (rest i)
 
@@ -351,17 +307,15 @@ module _ (set : RuleSetView) where
 pub length-rows_of : (rules : List RuleView) (tries : List LevelsView) → length (rows_of_tries rules tries)
     ≡ 1 + sum_by row_count tries
 unfolding rows_of_tries
-length-rows_of rules tries = omega (arith, behind tries)
-  where
-    behind : (ts : List LevelsView) →
-        length (flat_map (λ (trie : LevelsView). map (λ row. map (winner_word rules) row) trie.rows) ts)
-        ≡ sum_by row_count ts
-    behind [] = refl
-    behind (trie ∷ ts) =
-        length-append (map (λ row. map (winner_word rules) row) trie.rows)
-        (flat_map (λ (t : LevelsView). map (λ row. map (winner_word rules) row) t.rows) ts)
-        ∙ (λ i. length-map trie.rows (λ row. map (winner_word rules) row) i + behind ts i)
-        ∙ sym (sum_by-cons row_count trie ts)
+length-rows_of rules tries =
+    let rows : LevelsView → List (List ℕ) = λ trie. map (λ row. map (winner_word rules) row) trie.rows in
+    omega (
+      arith,
+      length-flat_map rows tries ∙ sym (sum-map (λ trie. length (rows trie)) tries)
+          ∙ ap sum (map_agree (λ trie. length (rows trie)) row_count tries
+          (λ trie. length-map trie.rows (λ row. map (winner_word rules) row)))
+          ∙ sum-map row_count tries,
+    )
 
 zeros : (rules : List RuleView) (tries : List LevelsView) → begins_with_zeros (rows_of_tries rules tries) ≡ true
 unfolding rows_of_tries

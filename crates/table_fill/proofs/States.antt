@@ -1,13 +1,11 @@
 -- The merged states of a group: there is a first one, and each leads to states and rows that are there.
-use Rattle.std.proofs.Common.{◌≡◌, ℕ, zero, suc, ◌+◌, ◌-◌, ◌<◌, ◌≤◌, true, cond, List, [], ◌∷◌}
-use Rattle.std.proofs.Common.{◌++◌, Some}
-use Rattle.std.proofs.Common.{refl, sym, ap, ◌∙◌, arith, inl, inr, map, length, get_or, slice_get, replicate}
-use Rattle.std.proofs.Common.{length-append, subst}
+use Rattle.std.proofs.Common.{◌≡◌, ℕ, zero, suc, ◌+◌, ◌-◌, ◌<◌, ◌≤◌, Bool, true, false, cond, All, List, [], ◌∷◌, ◌++◌}
+use Rattle.std.proofs.Common.{refl, sym, ap, ◌∙◌, arith, map, length, get_or, replicate, length-append, subst}
 use Rattle.std.specs.List.{AllByRecursion, position_or_len}
 use Rattle.std.specs.Str.{bytes_eq}
-use Rattle.std.proofs.lemmas.Bool.{cases_Bool}
 use Rattle.std.proofs.lemmas.List.{length-map, length-replicate, append-nil, append_assoc}
 use Rattle.std.proofs.lemmas.List.Elements.{All-from_recursion}
+use Rattle.std.proofs.lemmas.Option.{slice_get_within}
 use Rattle.field_defs.specs.Layout.{key_len_of}
 use Rattle.rule_set.specs.Rule.{RuleSetView}
 use Rattle.trie_merge.specs.declared.run.Run.{Run}
@@ -36,16 +34,15 @@ same_refl s = (same_state-Decides s s).1 refl
 same_sound : (s t : List Held) → same_state s t ≡ true → s ≡ t
 same_sound s t = (same_state-Decides s t).0
 
--- an element that is found is there
-there_is : {X : Type 0} (xs : List X) (k : ℕ) (x : X) → slice_get xs k ≡ Some x → k < length xs
-there_is [] k x e = absurd (cc)
-there_is (y ∷ ys) zero x e = omega arith
-there_is (y ∷ ys) (suc k) x e = omega (arith, there_is ys k x e)
-
--- zeros behind bytes are bytes
+-- zeros after bytes are bytes
 zeros_are : (n : ℕ) → AreBytes (replicate n 0)
 zeros_are zero = tt
 zeros_are (suc n) = (omega arith, zeros_are n)
+
+-- a successor that is there where something is live, and else a dead one
+if_live : (P : Succ → Type 0) (live : Bool) (succ : Succ) → (live ≡ true → P succ) → P Dead → P (cond live succ Dead)
+if_live P true succ there dead = there refl
+if_live P false succ there dead = dead
 
 module _ (set : RuleSetView) (group : List ℕ) (held : AllByRecursion (IsHeld set) group) where
   -- ---- states are those of prefixes
@@ -68,7 +65,7 @@ module _ (set : RuleSetView) (group : List ℕ) (held : AllByRecursion (IsHeld s
       (states_at set group place)
   unfolding states_at
   state_there place key is alive =
-      there_is (states_at set group place) _ (state set group key)
+      slice_get_within (states_at set group place) _ (state set group key)
       (found_for_key same_state is_live same_refl same_sound (state set group) place key is.0 is.1 alive)
 
   pub row_there : (key : List ℕ) → IsPrefix (key_len_of set.layout) key → is_live (final_row set (state set group key))
@@ -76,7 +73,7 @@ module _ (set : RuleSetView) (group : List ℕ) (held : AllByRecursion (IsHeld s
       position_or_len (bytes_eq (final_row set (state set group key))) (rows_of set group) < length (rows_of set group)
   unfolding rows_of
   row_there key is alive =
-      there_is (rows_of set group) _ (final_row set (state set group key))
+      slice_get_within (rows_of set group) _ (final_row set (state set group key))
       (found_for_key bytes_eq is_live bytes_eq_refl bytes_eq_sound (λ k. final_row set (state set group k))
       (key_len_of set.layout) key is.0 is.1 alive)
 
@@ -147,36 +144,21 @@ module _ (set : RuleSetView) (group : List ℕ) (held : AllByRecursion (IsHeld s
 
   row_is_there : (key : List ℕ) → IsPrefix (key_len_of set.layout) key → IsThere (length (rows_of set group)) []
       (row_succ (rows_of set group) (final_row set (state set group key)))
-  row_is_there key is = elim (cases_Bool (is_live (final_row set (state set group key)))) [
-    | inl alive ↦
-        subst (λ b. IsThere (length (rows_of set group)) []
-        (cond b (Row (position_or_len (bytes_eq (final_row set (state set group key))) (rows_of set group))) Dead))
-        (sym alive) (row_there key is alive)
-    | inr dead ↦
-        subst (λ b. IsThere (length (rows_of set group)) []
-        (cond b (Row (position_or_len (bytes_eq (final_row set (state set group key))) (rows_of set group))) Dead))
-        (sym dead) tt
-  ]
+  row_is_there key is =
+      if_live (IsThere (length (rows_of set group)) []) (is_live (final_row set (state set group key)))
+      (Row (position_or_len (bytes_eq (final_row set (state set group key))) (rows_of set group))) (row_there key is) tt
 
   state_is_there : (count next : ℕ) (places key : List ℕ) → IsPrefix next key →
       IsThere count (level_runs set (states_at set group) (rows_of set group) (next ∷ places))
       (state_succ (states_at set group next) (state set group key))
   state_is_there count next places key is =
       let levels = first_level_is next places in
-      let there : List (List (List Run)) → Succ → Type 0 = IsThere count in
-      elim (cases_Bool (is_live (state set group key))) [
-        | inl alive ↦
-            subst (λ b. there (level_runs set (states_at set group) (rows_of set group) (next ∷ places))
-            (cond b (State (position_or_len (same_state (state set group key)) (states_at set group next))) Dead))
-            (sym alive)
-            (subst (λ l. there l
-            (State (position_or_len (same_state (state set group key)) (states_at set group next)))) (sym levels.2)
-            (omega (arith, state_there next key is alive, length-map (states_at set group next) levels.0)))
-        | inr dead ↦
-            subst (λ b. there (level_runs set (states_at set group) (rows_of set group) (next ∷ places))
-            (cond b (State (position_or_len (same_state (state set group key)) (states_at set group next))) Dead))
-            (sym dead) tt
-      ]
+      let runs : List (List (List Run)) = level_runs set (states_at set group) (rows_of set group) (next ∷ places) in
+      if_live (IsThere count runs) (is_live (state set group key))
+      (State (position_or_len (same_state (state set group key)) (states_at set group next)))
+      (λ alive. subst (λ l. IsThere count l
+      (State (position_or_len (same_state (state set group key)) (states_at set group next)))) (sym levels.2)
+      (omega (arith, state_there next key is alive, length-map (states_at set group next) levels.0))) tt
 
   are_runs : (count : ℕ) (levels : List (List (List Run))) (succ : ℕ → Succ) →
       ((byte : ℕ) → byte < 256 → IsThere count levels (succ byte)) → AreRuns count levels (runs_of succ)
@@ -186,45 +168,36 @@ module _ (set : RuleSetView) (group : List ℕ) (held : AllByRecursion (IsHeld s
         (each_run succ (IsThere count levels) each);
   }
 
+  -- the runs of a level's states lead to where the states of more bytes do
+  level_leads : (count place next : ℕ) (levels : List (List (List Run))) (to : List Held → Succ) → place < next →
+      next ≤ key_len_of set.layout →
+      ((key : List ℕ) → IsPrefix next key → IsThere count levels (to (state set group key))) →
+      All (AreRuns count levels)
+      (map (λ before. runs_of (λ byte. to (reached set place next before byte))) (states_at set group place))
+  level_leads count place next levels to rises within each =
+      let runs : List Held → List Run = λ before. runs_of (λ byte. to (reached set place next before byte)) in
+      All-from_recursion (AreRuns count levels) (map runs (states_at set group place))
+      (all-map (AreRuns count levels) runs (states_at set group place)
+      (all_weaker (IsOfBytes place) (λ before. AreRuns count levels (runs before)) (states_at set group place)
+      (λ before of. are_runs count levels (λ byte. to (reached set place next before byte))
+      (λ byte below. (let r = reached_bytes place next of.0 byte rises within of.1 below in
+      subst (λ s. IsThere count levels (to s))
+      (sym (ap (λ b. reached set place next b byte) of.2 ∙ r.1)) (each _ r.0))))
+      (states_of_bytes place)))
+
   pub levels_lead : (places : List ℕ) → Gaps set group places → AreLevels (length (rows_of set group))
       (level_runs set (states_at set group) (rows_of set group) places)
   unfolding level_runs
   levels_lead [] gaps = tt
-  levels_lead (place ∷ []) gap =
-      let count : ℕ = length (rows_of set group) in
-      let runs : List Held →
-      List Run = λ before. runs_of
-      (λ byte. row_succ (rows_of set group) (final_row set (reached set place (key_len_of set.layout) before byte)))
-      in (
-        All-from_recursion (AreRuns count []) (map runs (states_at set group place))
-            (all-map (AreRuns count []) runs (states_at set group place)
-            (all_weaker (IsOfBytes place) (λ before. AreRuns count [] (runs before)) (states_at set group place)
-            (λ before of. are_runs count []
-            (λ byte. row_succ (rows_of set group)
-            (final_row set (reached set place (key_len_of set.layout) before byte)))
-            (λ byte below.
-            (let r = reached_bytes place (key_len_of set.layout) of.0 byte gap.rises gap.within of.1 below in
-            subst (λ s. IsThere count [] (row_succ (rows_of set group) (final_row set s)))
-            (sym (ap (λ b. reached set place (key_len_of set.layout) b byte) of.2 ∙ r.1)) (row_is_there _ r.0))))
-            (states_of_bytes place))),
-        tt,
-      )
+  levels_lead (place ∷ []) gap = (
+    level_leads (length (rows_of set group)) place (key_len_of set.layout) []
+        (λ whole. row_succ (rows_of set group) (final_row set whole)) gap.rises gap.within row_is_there,
+    tt,
+  )
   levels_lead (place ∷ next ∷ places) gaps =
-      let count : ℕ = length (rows_of set group) in
-      let levels : List (List (List Run)) = level_runs set (states_at set group) (rows_of set group) (next ∷ places) in
-      let runs : List Held →
-      List Run = λ before. runs_of
-      (λ byte. state_succ (states_at set group next) (reached set place next before byte)) in
-      let gap = gaps.0 in (
-        All-from_recursion (AreRuns count levels) (map runs (states_at set group place))
-            (all-map (AreRuns count levels) runs (states_at set group place)
-            (all_weaker (IsOfBytes place) (λ before. AreRuns count levels (runs before)) (states_at set group place)
-            (λ before of. are_runs count levels
-            (λ byte. state_succ (states_at set group next) (reached set place next before byte))
-            (λ byte below. (let r = reached_bytes place next of.0 byte gap.rises gap.within of.1 below in
-            subst (λ s. IsThere count levels (state_succ (states_at set group next) s))
-            (sym (ap (λ b. reached set place next b byte) of.2 ∙ r.1)) (state_is_there count next places _ r.0))))
-            (states_of_bytes place))),
+      let levels = level_runs set (states_at set group) (rows_of set group) (next ∷ places) in (
+        level_leads (length (rows_of set group)) place next levels (state_succ (states_at set group next))
+            gaps.0.rises gaps.0.within (state_is_there (length (rows_of set group)) next places),
         levels_lead (next ∷ places) gaps.1,
       )
 

@@ -1,14 +1,13 @@
 -- The rows that walks through a filled table reach.
-use Rattle.std.proofs.Common.{◌≡◌, ℕ, zero, suc, ◌+◌, ◌-◌, ◌<◌, ◌≤◌, ◌==◌, false, cond, List, [], ◌∷◌}
-use Rattle.std.proofs.Common.{Some, None, Option, fold}
-use Rattle.std.proofs.Common.{refl, sym, ap, ◌∙◌, arith, inl, inr, map, length, get_or, slice_get, replicate}
-use Rattle.std.proofs.Common.{length-append}
+use Rattle.std.proofs.Common.{◌≡◌, ℕ, zero, suc, ◌+◌, ◌-◌, ◌<◌, ◌≤◌, ◌==◌, false, cond, List, [], ◌∷◌, Some, None}
+use Rattle.std.proofs.Common.{Option, fold, refl, sym, ap, ◌∙◌, arith, inl, inr, map, length, get_or, replicate}
 use Rattle.std.specs.Prelude.{slice_index, slice_index_or}
 use Rattle.std.specs.List.{AllByRecursion, flat_map, sum_by, range_with_len}
 use Rattle.std.specs.Option.{option_map_or}
 use Rattle.std.proofs.lemmas.Bool.{cases_lt}
 use Rattle.std.proofs.lemmas.Bool.Decides.{nat_tests}
-use Rattle.std.proofs.lemmas.List.{length-map, get_or-map, take_all, get_or_append_left, get_or-append-add, get_or_past}
+use Rattle.std.proofs.lemmas.List.{length-map, get_or-map, take_all, get_or-replicate, get_or_past}
+use Rattle.std.proofs.lemmas.Option.{get_or_from_slice_get, slice_get_within}
 use Rattle.std.proofs.lemmas.List.Sums.{sum_by-cons}
 use Rattle.std.proofs.lemmas.List.FromFn.{get_or-map-range_with_len, length-map-range_with_len}
 use Rattle.rule_set.specs.Rule.{RuleView, RuleSetView}
@@ -21,23 +20,20 @@ use Rattle.trie_merge.specs.Follow.{followed, IsAnswer}
 use Rattle.trie_merge.specs.Row.{row_of, winner_of}
 use Rattle.trie_merge.specs.Levels.{LevelsView}
 use Rattle.trie_merge.specs.Laws.{AreBytes}
+use Rattle.flat_table.specs.Sound.{row_len}
 use Rattle.flat_table.specs.Word.{indexes, index_of}
 use Rattle.flat_table.specs.Table.{TableView, places_of}
 use Rattle.flat_table.specs.Walk.{moved, root_of, walk_row, bytes_of}
-use Rattle.flat_table.proofs.Taken.{row_is, bytes_len}
-use Rattle.table_fill.specs.Filled.{match_of, node_word, succ_word, level_len, words_of_levels, nodes_len}
-use Rattle.table_fill.specs.Filled.{matches_of, words_of_tries, root_at, roots_of, winner_word, rule_word}
-use Rattle.table_fill.specs.Tries.{AreLevels}
+use Rattle.flat_table.proofs.Offered.{row_is, bytes_len}
+use Rattle.table_fill.specs.Filled.{match_of, node_word, succ_word, level_len, words_of_levels, nodes_len, matches_of}
+use Rattle.table_fill.specs.Filled.{words_of_tries, root_at, roots_of, winner_word, rule_word}
+use Rattle.table_fill.specs.Tries.{AreLevels, row_count}
 use Rattle.table_fill.proofs.Words.{match_parts}
-use Rattle.table_fill.proofs.Nodes.{Has}
-use Rattle.table_fill.proofs.Levels.{has_front, has_behind, walk_follows}
-use Rattle.table_fill.proofs.Sounds.{length-levels-words, row_count}
+use Rattle.list_lemmas.proofs.Positions.{Has, has_front, has_rest}
+use Rattle.table_fill.proofs.Levels.{walk_follows}
+use Rattle.table_fill.proofs.Sounds.{length-levels-words}
 
 -- ---- where a trie stands
-
--- the rows from a place on are these
-abbrev HasRows : List (List ℕ) → ℕ → List (List ℕ) → Type 0
-HasRows rows place part = (k : ℕ) → k < length part → get_or rows (place + k) [] ≡ get_or part k []
 
 -- the rows of one trie
 abbrev pub rows_of_trie : List RuleView → LevelsView → List (List ℕ)
@@ -49,8 +45,8 @@ pub record StandsIn (rules : List RuleView) (words : List ℕ) (rows : List (Lis
   pub place : ℕ
   pub row : ℕ
   pub root_is : root ≡ root_at place trie
-  pub has : Has words place (words_of_levels place (matches_of row trie) trie.levels)
-  pub has_rows : HasRows rows row (rows_of_trie rules trie)
+  pub has : Has 0 words place (words_of_levels place (matches_of row trie) trie.levels)
+  pub has_rows : Has [] rows row (rows_of_trie rules trie)
   pub fits : place + nodes_len trie ≤ end
   pub few : row + length trie.rows ≤ last
 
@@ -59,7 +55,7 @@ no_trie = record { kept = 0; group = []; levels = []; rows = []; words = 0 }
 
 pub trie_stands : (rules : List RuleView) (words : List ℕ) (rows : List (List ℕ)) (place row : ℕ)
     (tries : List LevelsView) (t : ℕ) → t < length tries →
-    Has words place (words_of_tries place row tries) → HasRows rows row (flat_map (rows_of_trie rules) tries) →
+    Has 0 words place (words_of_tries place row tries) → Has [] rows row (flat_map (rows_of_trie rules) tries) →
     StandsIn rules words rows (place + sum_by nodes_len tries) (row + sum_by row_count tries)
     (get_or (roots_of place tries) t 0) (get_or tries t no_trie)
 trie_stands rules words rows place row [] t within has has_rows = absurd (omega (arith, within))
@@ -69,10 +65,8 @@ trie_stands rules words rows place row (trie ∷ tries) zero within has has_rows
       place = place;
       row = row;
       root_is = refl;
-      has = has_front words place (words_of_levels place (matches_of row trie) trie.levels) behind has;
-      has_rows = λ k below. has_rows k
-          (omega (arith, below, length-append (rows_of_trie rules trie) (flat_map (rows_of_trie rules) tries)))
-          ∙ get_or_append_left (rows_of_trie rules trie) (flat_map (rows_of_trie rules) tries) [] k below;
+      has = has_front 0 words place (words_of_levels place (matches_of row trie) trie.levels) behind has;
+      has_rows = has_front [] rows row (rows_of_trie rules trie) (flat_map (rows_of_trie rules) tries) has_rows;
       fits = omega (arith, sum_by-cons nodes_len trie tries);
       few = omega (arith, sum_by-cons row_count trie tries);
     }
@@ -83,11 +77,9 @@ trie_stands rules words rows place row (trie ∷ tries) (suc t) within has has_r
     let long_rows = length-map trie.rows (λ row. map (winner_word rules) row) in
     let rest = trie_stands rules words rows (place + nodes_len trie) (row + length trie.rows) tries t
     (omega (arith, within))
-    (has_behind words place (place + nodes_len trie) mine behind has (omega (arith, long)))
-    (λ k below. ap (λ n. get_or rows n []) (omega (arith, long_rows))
-    ∙ has_rows (length (rows_of_trie rules trie) + k)
-    (omega (arith, below, length-append (rows_of_trie rules trie) (flat_map (rows_of_trie rules) tries)))
-    ∙ get_or-append-add (rows_of_trie rules trie) (flat_map (rows_of_trie rules) tries) k []) in
+    (has_rest 0 words place mine behind has (place + nodes_len trie) (omega (arith, long)))
+    (has_rest [] rows row (rows_of_trie rules trie) (flat_map (rows_of_trie rules) tries) has_rows
+    (row + length trie.rows) (omega (arith, long_rows))) in
     record {
       place = rest.place;
       row = rest.row;
@@ -112,7 +104,7 @@ all_small key (p ∷ places) are = (small_anywhere key p are, all_small key plac
 
 pub from_root : (words matches key : List ℕ) (place : ℕ) (levels : List (List (List Run))) (places : List ℕ) →
     0 < length (get_or levels 0 []) → AreLevels (length matches) levels → AreBytes key →
-    Has words place (words_of_levels place matches levels) → place + sum_by level_len levels ≤ indexes → length places
+    Has 0 words place (words_of_levels place matches levels) → place + sum_by level_len levels ≤ indexes → length places
     ≡ length levels →
     fold (moved words) (node_word place (get_or (get_or levels 0 []) 0 [])) (map (λ p. get_or key p 0) places)
     ≡ succ_word matches (followed levels places key 0)
@@ -147,15 +139,15 @@ winner_says rules (Some number) =
     ap (λ b. cond b 0 (rule_word rules (number + 1 - 1))) more ∙ ap (rule_word rules) back
 
 -- what a row has for a category
-of_row : (set : RuleSetView) (numbers : List ℕ) (category : ℕ) → category < 16 →
+of_row : (set : RuleSetView) (numbers : List ℕ) (category : ℕ) → category < row_len →
     get_or (map (winner_word set.rules) (row_of set numbers)) category 0
     ≡ word_or_none set.rules (winner_of set category numbers)
 unfolding row_of categories
 of_row set numbers category within =
     let f : ℕ → ℕ = λ c. option_map_or (λ number. number + 1) (winner_of set c numbers) 0 in
-    get_or-map (winner_word set.rules) (map f (range_with_len 0 16)) category 0 0
-    (omega (arith, length-map-range_with_len f 0 16, within))
-    ∙ ap (winner_word set.rules) (get_or-map-range_with_len f 0 16 category category 0 within (omega arith))
+    get_or-map (winner_word set.rules) (map f (range_with_len 0 row_len)) category 0 0
+    (omega (arith, length-map-range_with_len f 0 row_len, within))
+    ∙ ap (winner_word set.rules) (get_or-map-range_with_len f 0 row_len category category 0 within (omega arith))
     ∙ winner_says set.rules (winner_of set category numbers)
 
 -- nothing wins where no rule matches
@@ -164,8 +156,8 @@ unfolding best_among
 none_wins set category = refl
 
 module _ (set : RuleSetView) (rows : List (List ℕ)) (row : ℕ) (trie : LevelsView) (numbers : List ℕ) (category : ℕ)
-    (within : category < 16)
-    (zeros : get_or rows 0 [] ≡ replicate 16 0) (has : HasRows rows row (rows_of_trie set.rules trie))
+    (within : category < row_len)
+    (zeros : get_or rows 0 [] ≡ replicate row_len 0) (has : Has [] rows row (rows_of_trie set.rules trie))
     (fits : row + length trie.rows ≤ indexes) where
   pub answered : (succ : Succ) → IsAnswer set trie.rows numbers succ →
       slice_index (slice_index_or rows (index_of (succ_word (matches_of row trie) succ)) []) category
@@ -173,28 +165,18 @@ module _ (set : RuleSetView) (rows : List (List ℕ)) (row : ℕ) (trie : Levels
   answered Dead none =
       ap (λ n. get_or (get_or rows n []) category 0) (match_parts 0 (omega arith)).names
       ∙ ap (λ (r : List ℕ). get_or r category 0) zeros
-      ∙ zero_at category 16
+      ∙ get_or-replicate row_len category 0 0 within
       ∙ sym (ap (word_or_none set.rules) (ap (winner_of set category) none ∙ none_wins set category))
-    where
-      zero_at : (k n : ℕ) → get_or (replicate n zero) k zero ≡ zero
-      zero_at k zero = refl
-      zero_at zero (suc n) = refl
-      zero_at (suc k) (suc n) = zero_at k n
   answered (State number) none = absurd none
   answered (Row number) is =
-      let there = within_rows trie.rows number (row_of set numbers) is.1 in
+      let there = slice_get_within trie.rows number (row_of set numbers) is.1 in
+      let its = get_or_from_slice_get trie.rows number (row_of set numbers) [] is.1 in
       let name : index_of (get_or (matches_of row trie) number 0) ≡ row + number =
-      ap index_of (get_or-map-range_with_len match_of row (length trie.rows) number (row + number) 0 there.0 refl)
-      ∙ (match_parts (row + number) (omega (arith, there.0, fits))).names in
+      ap index_of (get_or-map-range_with_len match_of row (length trie.rows) number (row + number) 0 there refl)
+      ∙ (match_parts (row + number) (omega (arith, there, fits))).names in
       ap (λ n. get_or (get_or rows n []) category 0) name
       ∙ ap (λ (r : List ℕ). get_or r category 0)
-      (has number (omega (arith, there.0, length-map trie.rows (λ r. map (winner_word set.rules) r)))
-      ∙ get_or-map (λ r. map (winner_word set.rules) r) trie.rows number [] [] there.0
-      ∙ ap (map (winner_word set.rules)) there.1)
+      (has number (omega (arith, there, length-map trie.rows (λ r. map (winner_word set.rules) r)))
+      ∙ get_or-map (λ r. map (winner_word set.rules) r) trie.rows number [] [] there
+      ∙ ap (map (winner_word set.rules)) its)
       ∙ of_row set numbers category within
-    where
-      within_rows : (rs : List (List ℕ)) (n : ℕ) (r : List ℕ) → slice_get rs n ≡ Some r → (n < length rs)
-          × (get_or rs n [] ≡ r)
-      within_rows [] n r e = absurd (cc)
-      within_rows (x ∷ xs) zero r e = (omega arith, cc)
-      within_rows (x ∷ xs) (suc n) r e = (let rest = within_rows xs n r e in (omega (arith, rest.0), rest.1))

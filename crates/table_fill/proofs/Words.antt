@@ -1,10 +1,7 @@
 -- The parts of a word, and the nodes that words lead to.
-use Rattle.std.proofs.Common.{◌≡◌, ℕ, ◌/◌, ◌%◌, ◌^◌, ◌<◌, true}
-use Rattle.std.proofs.Common.{[], ◌∷◌}
-use Rattle.std.proofs.Common.{arith}
+use Rattle.std.proofs.Common.{◌≡◌, ℕ, ◌/◌, ◌%◌, ◌^◌, ◌<◌, true, [], ◌∷◌, arith}
 use Rattle.std.proofs.lemmas.Bool.Decides.{nat_tests}
-use Rattle.flat_table.specs.Word.{indexes, index_of, kind_of, boundaries_of, is_unbounded}
-use Rattle.flat_table.specs.Word.{is_match}
+use Rattle.flat_table.specs.Word.{indexes, index_of, kind_of, boundaries_of, is_unbounded, is_match}
 use Rattle.table_fill.specs.Filled.{word_of, match_of, boundaries, as_number}
 
 -- what stands in a word is found in it

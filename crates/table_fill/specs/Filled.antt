@@ -77,14 +77,14 @@ node_words targets runs =
 abbrev pub level_len : List (List Run) → ℕ
 level_len states = sum_by (λ (runs : List Run). cost_of (length runs)) states
 
--- the words that lead to the nodes of these states, which lie one behind the other from a place on
+-- the words that lead to the nodes of these states, which lie one after the other from a place on
 abbrev pub words_into : ℕ → List (List Run) → List ℕ
 words_into place [] = []
 words_into place (runs ∷ states) =
     node_word place runs ∷ words_into (place + cost_of (length runs)) states
 
 -- the words for what a level leads to: the states of the next level, whose nodes begin at a place,
--- and behind the last level the rows
+-- and after the last level the rows
 abbrev pub targets_of : ℕ → List ℕ → List (List (List Run)) → List ℕ
 targets_of place matches [] = matches
 targets_of place matches (states ∷ levels) = words_into place states

@@ -41,7 +41,7 @@ words_into_nodes : map (node_word 291) (all Dead ∷ numbered (9 ∷ 255 ∷ [])
 unfolding node_word
 words_into_nodes = refl
 
--- what a node has: a word for each run, and where runs are few matches of row 0 behind them
+-- what a node has: a word for each run, and where runs are few matches of row 0 after them
 words_of_three_runs : node_words (77 ∷ 88 ∷ [])
     (run 9 Dead ∷ run 10 (State 1) ∷ run 255 (State 0) ∷ [])
     ≡ match_of 0 ∷ 88 ∷ 77 ∷ match_of 0 ∷ match_of 0 ∷ []
@@ -59,7 +59,7 @@ words_of_six_runs : map (slice_index (node_words (range_with_len 100 256)
 unfolding node_words all_bytes
 words_of_six_runs = refl
 
--- a rule of this priority and userdata. Its values take no part in filling.
+-- a rule of this priority and userdata. Its values are ignored in filling.
 abbrev rule : ℕ → ℕ → RuleView
 rule priority userdata =
     record {
@@ -122,7 +122,7 @@ bit_filled : table_of_tries (set_of (rule 9 1 ∷ [])) (trie_of 1 0 bit_levels �
 unfolding table_of_tries rows_of_tries node_word node_words all_bytes
 bit_filled = refl
 
--- two tries: the second one's nodes and rows are numbered behind those of the first
+-- two tries: the second one's nodes and rows are numbered after those of the first
 tries_filled : table_of_tries (set_of (rule 1 5 ∷ rule 2 0 ∷ []))
     (wild_trie ∷ trie_of 2 1 source_levels ∷ []) ≡ two_tries
 unfolding table_of_tries rows_of_tries node_word node_words wild_trie

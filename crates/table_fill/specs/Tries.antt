@@ -21,7 +21,7 @@ HoldBytes first (run ∷ []) = (first ≤ run.last) × (run.last ≡ last_byte)
 HoldBytes first (run ∷ next ∷ runs) =
     (first ≤ run.last) × (run.last < last_byte) × HoldBytes (run.last + 1) (next ∷ runs)
 
--- A successor that is there: a state of the next level, or behind the last level one of so many
+-- A successor that is there: a state of the next level, or after the last level one of so many
 -- rows.
 abbrev pub IsThere : ℕ → List (List (List Run)) → Succ → Type 0
 IsThere rows levels Dead = ⊤
@@ -30,12 +30,12 @@ IsThere rows [] (Row number) = number < rows
 IsThere rows (states ∷ levels) (State number) = number < length states
 IsThere rows (states ∷ levels) (Row number) = ⊥
 
--- The runs of a state that lead into the levels behind it.
+-- The runs of a state that lead into the levels after it.
 pub record AreRuns (rows : ℕ) (levels : List (List (List Run))) (runs : List Run) : Type 0 where
   pub bytes : HoldBytes 0 runs
   pub there : All (λ (run : Run). IsThere rows levels run.to) runs
 
--- Each level's states lead into the levels behind it.
+-- Each level's states lead into the levels after it.
 abbrev pub AreLevels : ℕ → List (List (List Run)) → Type 0
 AreLevels rows [] = ⊤
 AreLevels rows (states ∷ levels) = All (AreRuns rows levels) states × AreLevels rows levels
@@ -69,10 +69,15 @@ pub record HasTargets (count : ℕ) (runs : List Run) : Type 0 where
   pub bytes : HoldBytes 0 runs
   pub targets : All (λ (run : Run). HasTarget count run.to) runs
 
--- Tries whose nodes have room in a table.
+-- how many rows a trie has
+abbrev pub row_count : LevelsView → ℕ
+row_count trie = length trie.rows
+
+-- Tries that have room in a table: each of them, and the nodes and the rows of all.
 pub record HaveRoom (tries : List LevelsView) : Type 0 where
   pub nodes : All HasNodes tries
-  pub size : sum_by (λ (trie : LevelsView). trie.words) tries ≤ most_words
+  pub each : All (λ (trie : LevelsView). trie.words ≤ most_words) tries
+  pub size : sum_by nodes_len tries + row_len * sum_by row_count tries ≤ most_words
 
 -- the groups of rules that the tries are of
 abbrev pub groups_of_tries : List LevelsView → List (List ℕ)

@@ -109,7 +109,7 @@ fn succ_word(targets: &[u64], to: Succ) -> u64
     }
 }
 
-/// Puts so many copies of a word behind the others.
+/// Puts so many copies of a word after the others.
 fn push_copies(words: &mut Vec<u64>, count: usize, word: u64) -> Result<(), AllocError>
     requires { count ≤ 256 }
     ensures { OnOk result (words.new.items ≡ words.old.items ++ replicate count word) }
@@ -117,7 +117,7 @@ fn push_copies(words: &mut Vec<u64>, count: usize, word: u64) -> Result<(), Allo
     words.resize(words.len() + count, word)
 }
 
-/// Puts the words of a node of a few runs behind the others: one for each run, and then matches of
+/// Puts the words of a node of a few runs after the others: one for each run, and then matches of
 /// row 0 in those that are unused.
 fn push_few(words: &mut Vec<u64>, targets: &[u64], runs: &[Run]) -> Result<(), AllocError>
     requires runs { HasTargets (length targets.now) runs.now }
@@ -133,7 +133,7 @@ fn push_few(words: &mut Vec<u64>, targets: &[u64], runs: &[Run]) -> Result<(), A
     Ok(())
 }
 
-/// Puts the words of a node of many runs behind the others: one for each byte.
+/// Puts the words of a node of many runs after the others: one for each byte.
 fn push_many(words: &mut Vec<u64>, targets: &[u64], runs: &[Run]) -> Result<(), AllocError>
     requires runs { HasTargets (length targets.now) runs.now }
     requires many { few_runs < length runs.now }
@@ -149,7 +149,7 @@ fn push_many(words: &mut Vec<u64>, targets: &[u64], runs: &[Run]) -> Result<(), 
     Ok(())
 }
 
-/// Puts the words of the node of a state with these runs behind the others.
+/// Puts the words of the node of a state with these runs after the others.
 pub(crate) fn push_node(
     words: &mut Vec<u64>,
     targets: &[u64],

@@ -64,7 +64,7 @@ fn row_of(words: &[u64], winners: &[u32; ROW_LEN]) -> [u64; ROW_LEN]
     row
 }
 
-/// Puts the rows of a trie behind the others.
+/// Puts the rows of a trie after the others.
 fn push_rows(rows: &mut Vec<[u64; ROW_LEN]>, words: &[u64], trie: &Levels) -> Result<(), AllocError>
     requires { HasWinners (length words.now) trie.now }
     ensures { OnOk result

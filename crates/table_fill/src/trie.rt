@@ -47,7 +47,7 @@ pub(crate) fn level_len(trie: &Levels, depth: usize) -> usize
     words
 }
 
-/// The words that lead to the nodes of a level, which lie one behind the other from a place on.
+/// The words that lead to the nodes of a level, which lie one after the other from a place on.
 fn words_into(
     alloc: Global,
     trie: &Levels,
@@ -82,7 +82,7 @@ fn matches_of(alloc: Global, row: usize, trie: &Levels) -> Result<Vec<u64>, Allo
 }
 
 /// The words for what the states before the depth lead to: the nodes there, which begin at the
-/// place, and behind the last level the rows, which are numbered from `row` on.
+/// place, and after the last level the rows, which are numbered from `row` on.
 fn targets_of(
     alloc: Global,
     trie: &Levels,
@@ -104,7 +104,7 @@ fn targets_of(
     }
 }
 
-/// Puts the words of the nodes of a level behind the others.
+/// Puts the words of the nodes of a level after the others.
 fn push_level(
     words: &mut Vec<u64>,
     targets: &[u64],
@@ -123,7 +123,7 @@ fn push_level(
     Ok(())
 }
 
-/// Puts the words of a trie behind the others. Its rows are numbered from `row` on.
+/// Puts the words of a trie after the others. Its rows are numbered from `row` on.
 ///
 /// It takes memory for a word for each state of the trie's greatest level.
 pub(crate) fn push_trie(

@@ -36,7 +36,7 @@ pub(crate) fn roots_of(alloc: Global, tries: &[Levels]) -> Result<Vec<u64>, Allo
     Ok(roots)
 }
 
-/// Puts how many words each level of the trie has behind the others.
+/// Puts how many words each level of the trie has after the others.
 fn push_level_lens(lens: &mut Vec<u32>, trie: &Levels) -> Result<(), AllocError>
     requires nodes { HasNodes trie.now }
     requires size { trie.now.words ≤ most_words }

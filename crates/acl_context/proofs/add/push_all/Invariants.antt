@@ -1,4 +1,4 @@
--- the rules before the place stand behind those that were held
+-- the rules before the place stand after those that were held
 use Rattle.std.proofs.Common.{◌≡◌, ◌++◌, map, take}
 use Rattle.acl_context.proofs.add.push_all.Given as goal
 

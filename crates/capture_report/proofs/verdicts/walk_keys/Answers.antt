@@ -3,7 +3,7 @@ use Rattle.std.proofs.Common.{◌≡◌, ℕ, ◌+◌, ◌*◌, List, length, ta
 use Rattle.std.proofs.lemmas.List.{length-take-le}
 use Rattle.std.proofs.Math.Nat.{mul-le-mul}
 use Rattle.flat_table.specs.Table.{TableView}
-use Rattle.flat_table.specs.Batch.{LengthsFit, batch_verdicts, batch_steps}
+use Rattle.flat_table.specs.Batch.{LengthsFit, batch_verdicts, batch_transitions}
 use Rattle.capture_report.specs.Batch.{number_of, verdicts_of, transitions_of_family, table_of}
 use Rattle.capture_report.proofs.Keys.{keys_fit, batch_verdicts_are, batch_transitions_are, family_transitions_bound, some_bytes}
 use Rattle.capture_report.proofs.Keys.{few_bytes, verdicts_len, front-is}
@@ -49,7 +49,7 @@ returns-clause-verdicts g c =
 pub returns-clause-transitions : goal.returns-clause-transitions
 returns-clause-transitions g c =
     let table = c.table-table.result.now in
-    c.classify_scalar-transitions.ensures.taken ∙ ap (batch_steps table) c.gather_keys-gathered.ensures.keys
+    c.classify_scalar-transitions.ensures.taken ∙ ap (batch_transitions table) c.gather_keys-gathered.ensures.keys
     ∙ batch_transitions_are c.args.family table c.table-table.ensures.key_len c.args.packets.now c.requires.packets
     (some_bytes c.args.family table.key_len c.table-table.ensures.key_len)
     ∙ ap (λ (t : TableView). transitions_of_family c.args.family t c.args.packets.now) c.table-table.ensures.table
@@ -58,7 +58,7 @@ pub returns-clause-bound : goal.returns-clause-bound
 returns-clause-bound g c =
     let table = c.table-table.result.now in
     let transitions = c.classify_scalar-transitions.ensures.taken
-    ∙ ap (batch_steps table) c.gather_keys-gathered.ensures.keys
+    ∙ ap (batch_transitions table) c.gather_keys-gathered.ensures.keys
     ∙ batch_transitions_are c.args.family table c.table-table.ensures.key_len c.args.packets.now c.requires.packets
     (some_bytes c.args.family table.key_len c.table-table.ensures.key_len) in
     omega (

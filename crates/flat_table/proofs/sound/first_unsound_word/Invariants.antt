@@ -1,4 +1,4 @@
--- the loop stands at a trie, and the first unsound word is in its levels or behind them
+-- the loop stands at a trie, and the first unsound word is in its levels or after them
 use Rattle.std.proofs.Common.{◌≡◌, map, drop, length}
 use Rattle.flat_table.specs.Table.{view_of, trie_levels}
 use Rattle.flat_table.specs.Sound.{unsound_word, first_some, first_unsound_word}

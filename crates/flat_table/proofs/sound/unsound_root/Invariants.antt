@@ -1,4 +1,4 @@
--- the loop stands at a trie, and the first unsound root is its or one behind it
+-- the loop stands at a trie, and the first unsound root is its or one after it
 use Rattle.std.proofs.Common.{◌≡◌, not, drop}
 use Rattle.std.specs.List.{zip, position_from}
 use Rattle.flat_table.specs.Table.{view_of, trie_levels}

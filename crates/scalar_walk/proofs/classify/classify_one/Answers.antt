@@ -3,12 +3,9 @@ use Rattle.scalar_walk.proofs.Reached.{rows_there, verdicts_are}
 use Rattle.scalar_walk.proofs.classify.classify_one.Goals as goal
 
 pub write_verdicts-requires-clause-rows : goal.write_verdicts-requires-clause-rows
-write_verdicts-requires-clause-rows g c =
-    rows_there c.args.table.now c.args.key.now c.reach-reached.result.rows c.reach-reached.ensures.rows
-    c.reach-reached.ensures.few
+write_verdicts-requires-clause-rows g c = rows_there c.reach-reached.ensures.rows c.reach-reached.ensures.few
 
 pub returns-clause-verdicts : goal.returns-clause-verdicts
 returns-clause-verdicts g c =
     c.write_verdicts.ensures
-    ∙ verdicts_are c.args.table.now c.args.key.now c.reach-reached.result.rows c.reach-reached.ensures.rows
-    c.reach-reached.ensures.few (length c.args.verdicts.now)
+    ∙ verdicts_are c.reach-reached.ensures.rows c.reach-reached.ensures.few (length c.args.verdicts.now)

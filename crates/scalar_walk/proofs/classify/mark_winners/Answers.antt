@@ -5,9 +5,8 @@ use Rattle.scalar_walk.proofs.classify.mark_winners.Goals as goal
 
 pub returns : goal.returns
 returns g c =
-    let table = c.args.table.now in
     let rows = c.reach-reached.result.rows in
-    won_are table c.args.key.now rows c.reach-reached.ensures.rows
+    won_are c.reach-reached.ensures.rows
     (omega (arith, c.tries.ensures.bound, c.tries.ensures.value)) c.loop-category.won c.loop-category.invariant.0
     (λ k h. c.loop-category.invariant.1 k (omega arith)
-    ∙ ap (λ (n : ℕ). not (joined_rows table.rows (take n rows) k == 0)) c.tries.ensures.value)
+    ∙ ap (λ (n : ℕ). not (joined_rows c.args.table.now.rows (take n rows) k == 0)) c.tries.ensures.value)

@@ -1,18 +1,9 @@
--- each walk stands somewhere, and a step was counted for each word taken
-use Rattle.std.proofs.Common.{◌≡◌, ◌+◌, ◌*◌, ◌≤◌}
-use Rattle.flat_table.specs.Walk.{steps_after}
-use Rattle.flat_table.specs.Batch.{key_at}
-use Rattle.flat_table.proofs.Lanes.{Stands}
+-- the four walks have read as many bytes as there were places so far
+use Rattle.std.proofs.Common.{[], ◌∷◌}
+use Rattle.scalar_walk.proofs.InStep.{InStep}
 use Rattle.scalar_walk.proofs.in_step.walk_four.Given as goal
 
 abbrev pub invariant-loop-place : goal.invariant-loop-place
 invariant-loop-place g l =
-    Stands l.table l.trie (key_at l.table l.keys 0) l.place-index l.first
-    × Stands l.table l.trie (key_at l.table l.keys 1) l.place-index l.second
-    × Stands l.table l.trie (key_at l.table l.keys 2) l.place-index l.third
-    × Stands l.table l.trie (key_at l.table l.keys 3) l.place-index l.fourth
-    × (l.taken ≡ steps_after l.table l.trie (key_at l.table l.keys 0) l.place-index + steps_after l.table l.trie
-    (key_at l.table l.keys 1) l.place-index + steps_after l.table l.trie (key_at l.table l.keys 2) l.place-index +
-    steps_after l.table l.trie (key_at l.table l.keys 3) l.place-index)
-    × (l.taken ≤ 4 * l.place-index)
-    × (l.steps ≡ l.initial.steps + l.taken)
+    InStep record { table = l.table; trie = l.trie; places = l.place-items; words = l.words } l.keys l.place-index 0
+    (l.first ∷ l.second ∷ l.third ∷ l.fourth ∷ []) l.taken l.initial.steps l.steps

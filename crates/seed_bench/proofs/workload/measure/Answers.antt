@@ -4,7 +4,7 @@ use Rattle.std.specs.List.{concat}
 use Rattle.std.specs.Option.{unwrap_or}
 use Rattle.field_defs.specs.Layout.{ip4_fields}
 use Rattle.rule_set.specs.Rule.{RuleSetView}
-use Rattle.flat_table.specs.Batch.{batch_steps, most_keys}
+use Rattle.flat_table.specs.Batch.{batch_transitions, most_keys}
 use Rattle.flat_table.specs.Table.{TableView}
 use Rattle.table_fill.specs.Serves.{Serves}
 use Rattle.acl_context.specs.Batch.{verdicts_by_rules}
@@ -93,8 +93,8 @@ returns-clause-steps g c =
     ap (λ (x : ContextView). x.table) context ∙ ap (λ (s : RuleSetView). Some (built_of s bench_budget)) rules in
     let serves : Serves (set_drawn numbers) (table_drawn numbers) =
     subst (λ (s : RuleSetView). Serves s (built_of s bench_budget)) rules c.in_ok-context.ensures.serves in
-    let taken : c.table_tally.new.steps ≡ old + batch_steps (table_drawn numbers) c.deref.result.now =
-    subst (λ (o : Option TableView). IfSome o (λ t. c.table_tally.new.steps ≡ old + batch_steps t c.deref.result.now))
+    let taken : c.table_tally.new.steps ≡ old + batch_transitions (table_drawn numbers) c.deref.result.now =
+    subst (λ (o : Option TableView). IfSome o (λ t. c.table_tally.new.steps ≡ old + batch_transitions t c.deref.result.now))
     table c.in_ok-table.ensures.steps in
-    taken ∙ ap (λ b. old + batch_steps (table_drawn numbers) b) bytes
+    taken ∙ ap (λ b. old + batch_transitions (table_drawn numbers) b) bytes
     ∙ ap (λ n. old + n) (transitions-drawn numbers serves)

@@ -7,29 +7,25 @@ use Rattle.table_fill.proofs.filling.parts_of.Goals as goal
 
 pub roots_of-requires : goal.roots_of-requires
 roots_of-requires c =
-    (given c.args.rules.now c.args.levels.now c.sizes-key_len.ensures.lawful c.sizes-key_len.ensures.layout
-    c.in_ok-words.ensures.userdata c.requires).room
+    (given c.sizes-key_len.ensures.lawful c.sizes-key_len.ensures.layout c.in_ok-words.ensures.userdata c.requires).room
 
 pub level_lens_of-requires : goal.level_lens_of-requires
 level_lens_of-requires c =
-    (given c.args.rules.now c.args.levels.now c.sizes-key_len.ensures.lawful c.sizes-key_len.ensures.layout
-    c.in_ok-words.ensures.userdata c.requires).room
+    (given c.sizes-key_len.ensures.lawful c.sizes-key_len.ensures.layout c.in_ok-words.ensures.userdata c.requires).room
 
 pub words_of-requires : goal.words_of-requires
 words_of-requires c =
-    (given c.args.rules.now c.args.levels.now c.sizes-key_len.ensures.lawful c.sizes-key_len.ensures.layout
-    c.in_ok-words.ensures.userdata c.requires).room
+    (given c.sizes-key_len.ensures.lawful c.sizes-key_len.ensures.layout c.in_ok-words.ensures.userdata c.requires).room
 
 pub rows_of-requires-clause-room : goal.rows_of-requires-clause-room
 rows_of-requires-clause-room c =
-    (given c.args.rules.now c.args.levels.now c.sizes-key_len.ensures.lawful c.sizes-key_len.ensures.layout
-    c.in_ok-words.ensures.userdata c.requires).room
+    (given c.sizes-key_len.ensures.lawful c.sizes-key_len.ensures.layout c.in_ok-words.ensures.userdata c.requires).room
 
 pub rows_of-requires-clause-winners : goal.rows_of-requires-clause-winners
 rows_of-requires-clause-winners c =
     let set = c.args.rules.now in
-    let is = given set c.args.levels.now c.sizes-key_len.ensures.lawful c.sizes-key_len.ensures.layout
-    c.in_ok-words.ensures.userdata c.requires in
+    let is = given c.sizes-key_len.ensures.lawful c.sizes-key_len.ensures.layout c.in_ok-words.ensures.userdata
+    c.requires in
     let count : length c.deref.result.now ≡ length set.rules =
     ap length (c.deref.ensures.value ∙ c.in_ok-words.ensures.words) ∙ length-map-range_with_len (rule_word set.rules) 0
     (length set.rules) in
@@ -37,14 +33,20 @@ rows_of-requires-clause-winners c =
 
 pub returns-clause-parts : goal.returns-clause-parts
 returns-clause-parts c =
-    let is = given c.args.rules.now c.args.levels.now c.sizes-key_len.ensures.lawful c.sizes-key_len.ensures.layout
-    c.in_ok-words.ensures.userdata c.requires in
-    parts_are c.args.rules.now c.args.levels.now is _ _ _ _ _ _ c.deref.result.now _ c.sizes-key_len.ensures.key_len
-    c.sizes-key_len.ensures.rules
-    c.in_ok-kept_of.ensures c.in_ok-roots_of.ensures c.in_ok-level_lens_of.ensures c.in_ok-words_of.ensures
-    (c.deref.ensures.value ∙ c.in_ok-words.ensures.words) c.in_ok-rows_of.ensures
+    parts_are
+    (given c.sizes-key_len.ensures.lawful c.sizes-key_len.ensures.layout c.in_ok-words.ensures.userdata c.requires) _
+    c.deref.result.now
+    record {
+      key_len = c.sizes-key_len.ensures.key_len;
+      rules = c.sizes-key_len.ensures.rules;
+      kept = c.in_ok-kept_of.ensures;
+      roots = c.in_ok-roots_of.ensures;
+      level_lens = c.in_ok-level_lens_of.ensures;
+      words = c.in_ok-words_of.ensures;
+      of_rules = c.deref.ensures.value ∙ c.in_ok-words.ensures.words;
+      rows = c.in_ok-rows_of.ensures;
+    }
 
 pub returns-clause-can : goal.returns-clause-can
 returns-clause-can c =
-    (given c.args.rules.now c.args.levels.now c.sizes-key_len.ensures.lawful c.sizes-key_len.ensures.layout
-    c.in_ok-words.ensures.userdata c.requires).can
+    (given c.sizes-key_len.ensures.lawful c.sizes-key_len.ensures.layout c.in_ok-words.ensures.userdata c.requires).can

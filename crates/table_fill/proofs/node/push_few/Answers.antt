@@ -3,7 +3,7 @@ use Rattle.std.proofs.Common.{◌-◌, ◌++◌, List, ℕ, length, replicate, a
 use Rattle.std.proofs.lemmas.Bool.Decides.{nat_tests}
 use Rattle.std.proofs.lemmas.List.{append_assoc, take_all}
 use Rattle.table_fill.specs.Filled.{match_of}
-use Rattle.table_fill.proofs.Written.{run_words, few_is}
+use Rattle.table_fill.proofs.Nodes.{run_words, few_words}
 use Rattle.table_fill.proofs.node.push_few.Goals as goal
 
 pub overflow_sub-unused : goal.overflow_sub-unused
@@ -22,4 +22,4 @@ returns c =
     ∙ append_assoc old (run_words c.args.targets.now runs) (replicate unused (match_of 0))
     ∙ ap (λ (n : ℕ). old ++ (run_words c.args.targets.now runs ++ replicate (n - length runs) (match_of 0)))
     c.node_len.ensures.value
-    ∙ ap (λ (node : List ℕ). old ++ node) (sym (few_is c.args.targets.now runs c.requires.few))
+    ∙ ap (λ (node : List ℕ). old ++ node) (sym (few_words c.args.targets.now runs c.requires.few))

@@ -1,6 +1,6 @@
 -- the words of the runs so far
 use Rattle.std.proofs.Common.{◌≡◌, ◌++◌, take}
-use Rattle.table_fill.proofs.Written.{run_words}
+use Rattle.table_fill.proofs.Nodes.{run_words}
 use Rattle.table_fill.proofs.node.push_few.Given as goal
 
 abbrev pub invariant-loop-run : goal.invariant-loop-run

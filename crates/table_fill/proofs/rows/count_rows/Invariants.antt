@@ -1,7 +1,7 @@
 -- the rows so far, with those of the tries that are left, are those of all tries
 use Rattle.std.proofs.Common.{◌≡◌, ◌+◌, drop}
 use Rattle.std.specs.List.{sum_by}
-use Rattle.table_fill.proofs.Sounds.{row_count}
+use Rattle.table_fill.specs.Tries.{row_count}
 use Rattle.table_fill.proofs.rows.count_rows.Given as goal
 
 abbrev pub invariant-loop-trie : goal.invariant-loop-trie

@@ -2,10 +2,11 @@
 use Rattle.std.proofs.Common.{◌≡◌, ◌∷◌, map, take, replicate}
 use Rattle.std.specs.List.{flat_map}
 use Rattle.trie_merge.specs.Levels.{LevelsView}
+use Rattle.flat_table.specs.Sound.{row_len}
 use Rattle.table_fill.specs.Tries.{winner_in}
 use Rattle.table_fill.proofs.rows.rows_of.Given as goal
 
 abbrev pub invariant-loop-trie : goal.invariant-loop-trie
 invariant-loop-trie l =
-    l.rows.items ≡ replicate 16 0 ∷ flat_map (λ (trie : LevelsView). map (map (winner_in l.words)) trie.rows)
+    l.rows.items ≡ replicate row_len 0 ∷ flat_map (λ (trie : LevelsView). map (map (winner_in l.words)) trie.rows)
     (take l.trie-index l.tries)

@@ -1,12 +1,12 @@
-use Rattle.std.proofs.Common.{◌<◌, ◌++◌, ◌∷◌, [], ℕ, List, All, length, get_or, sym, ap, ◌∙◌}
-use Rattle.std.proofs.Common.{subst, arith}
+use Rattle.std.proofs.Common.{◌<◌, ◌++◌, ◌∷◌, [], ℕ, List, All, length, get_or, sym, ap, ◌∙◌, subst, arith}
 use Rattle.std.proofs.lemmas.List.{take_all}
 use Rattle.std.proofs.lemmas.List.Elements.{All-more}
 use Rattle.std.proofs.lemmas.List.FromFn.{map-range_with_len_more}
 use Rattle.rule_set.specs.Rule.{RuleView}
 use Rattle.flat_table.specs.Walk.{userdatas}
 use Rattle.table_fill.specs.Filled.{rule_word}
-use Rattle.table_fill.proofs.Room.{length-ranks, rank_at, rule_at, rule_word_is}
+use Rattle.table_fill.proofs.Room.{length-ranks, rank_at, rule_word_is}
+use Rattle.std.proofs.lemmas.Option.{get_or_from_slice_get}
 use Rattle.table_fill.proofs.rows.rule_words.Goals as goal
 
 pub index-requires : goal.index-requires
@@ -28,7 +28,8 @@ loop-place-preserved c =
           ∙ (λ i. c.loop-place.invariant.0 i ++ word i ∷ [])
           ∙ sym (map-range_with_len_more (rule_word rules) 0 place place (omega arith)),
       All-more (λ (r : RuleView). r.tag.userdata < userdatas) rules place rule below c.loop-place.invariant.1
-          (subst (λ (r : RuleView). r.tag.userdata < userdatas) (sym (rule_at rules place rule rule c.at.ensures.rule))
+          (subst (λ (r : RuleView). r.tag.userdata < userdatas)
+          (sym (get_or_from_slice_get rules place rule rule c.at.ensures.rule))
           (subst (λ n. n < userdatas) (ap (λ tag. tag.userdata) c.tag-tag.ensures) c.rule_word.ensures.userdata)),
     )
 

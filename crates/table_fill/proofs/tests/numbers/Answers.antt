@@ -1,6 +1,6 @@
-use Rattle.std.proofs.Common.{◌≡◌, ◌+◌, ◌-◌, ◌++◌, ◌∷◌, [], ℕ, List, sym, ◌∙◌, ap, arith}
+use Rattle.std.proofs.Common.{◌≡◌, ◌+◌, ◌-◌, ◌++◌, ◌∷◌, [], ℕ, sym, ◌∙◌, ap, arith}
 use Rattle.std.specs.List.{range_with_len}
-use Rattle.flat_table.proofs.Ranges.{range-push}
+use Rattle.list_lemmas.proofs.Positions.{range-push}
 use Rattle.table_fill.proofs.tests.numbers.Goals as goal
 
 pub loop-number-preserved : goal.loop-number-preserved

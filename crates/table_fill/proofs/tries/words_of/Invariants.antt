@@ -2,7 +2,7 @@
 use Rattle.std.proofs.Common.{◌≡◌, ◌+◌, ◌++◌, drop, length}
 use Rattle.std.specs.List.{sum_by}
 use Rattle.table_fill.specs.Filled.{nodes_len, words_of_tries}
-use Rattle.table_fill.proofs.Sounds.{row_count}
+use Rattle.table_fill.specs.Tries.{row_count}
 use Rattle.table_fill.proofs.tries.words_of.Given as goal
 
 abbrev pub invariant-loop-trie : goal.invariant-loop-trie

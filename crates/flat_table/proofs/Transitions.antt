@@ -1,55 +1,54 @@
--- A walk goes step by step.
-use Rattle.std.proofs.Common.{◌≡◌, ℕ, suc, ◌+◌, ◌<◌, ◌≤◌, true, List, [], ◌∷◌, ◌++◌, refl}
-use Rattle.std.proofs.Common.{sym}
-use Rattle.std.proofs.Common.{ap, ◌∙◌, arith, inl, inr, fold, take, drop, length}
+-- A walk goes transition by transition.
+use Rattle.std.proofs.Common.{◌≡◌, ℕ, suc, ◌+◌, ◌<◌, ◌≤◌, true, List, [], ◌∷◌, ◌++◌, refl, sym, ap, ◌∙◌, arith, inl}
+use Rattle.std.proofs.Common.{inr, fold, take, drop, length}
 use Rattle.std.specs.Prelude.{if◌then◌else◌, slice_index}
 use Rattle.std.proofs.lemmas.Bool.{cases_Bool}
 use Rattle.std.proofs.lemmas.List.{length-map, map_more, take-map, take_all, take-append-drop}
 use Rattle.std.proofs.lemmas.List.Sums.{fold-append}
 use Rattle.flat_table.specs.Word.{index_of, is_match, next_word}
 use Rattle.flat_table.specs.Table.{TableView, places_of}
-use Rattle.flat_table.specs.Walk.{taken, moved, last_word, root_of, bytes_of, word_after, steps_after, walk_row}
-use Rattle.flat_table.specs.Walk.{walk_steps}
+use Rattle.flat_table.specs.Walk.{transitions, moved, last_word, root_of, bytes_of, word_after, transitions_after}
+use Rattle.flat_table.specs.Walk.{walk_row, walk_transitions}
 
 -- a match stays, whatever bytes follow
-match_stays : (words : List ℕ) (word : ℕ) (bytes : List ℕ) → is_match word ≡ true → fold (moved words) word bytes
+pub match_stays : (words : List ℕ) (word : ℕ) (bytes : List ℕ) → is_match word ≡ true → fold (moved words) word bytes
     ≡ word
 match_stays words word [] e = refl
 match_stays words word (byte ∷ bytes) e = rw e (match_stays words word bytes e)
 
--- the last word taken is the one that stands after all bytes
-last_taken : (words : List ℕ) (word : ℕ) (bytes : List ℕ) →
-    last_word word (taken words word bytes) ≡ fold (moved words) word bytes
-last_taken words word [] = refl
-last_taken words word (byte ∷ bytes) =
+-- the last transition leads to the word that stands after all bytes
+last_transition : (words : List ℕ) (word : ℕ) (bytes : List ℕ) →
+    last_word word (transitions words word bytes) ≡ fold (moved words) word bytes
+last_transition words word [] = refl
+last_transition words word (byte ∷ bytes) =
     elim (cases_Bool (is_match word)) [
       | inl w ↦ rw w (sym (match_stays words word bytes w))
       | inr w ↦ rw w
-          (last_taken words (next_word words word byte) bytes)
+          (last_transition words (next_word words word byte) bytes)
     ]
 
 suc_plus : (m n : ℕ) → suc (m + n) ≡ suc m + n
 suc_plus m n = omega arith
 
--- one more byte costs a step where no match stands
-taken_push : (words : List ℕ) (word byte : ℕ) (bytes : List ℕ) →
-    length (taken words word (bytes ++ byte ∷ [])) ≡ length (taken words word bytes) +
+-- one more byte costs a transition where no match stands
+transitions_push : (words : List ℕ) (word byte : ℕ) (bytes : List ℕ) →
+    length (transitions words word (bytes ++ byte ∷ [])) ≡ length (transitions words word bytes) +
     (if is_match (fold (moved words) word bytes) then 0 else 1)
-taken_push words word byte [] = elim (cases_Bool (is_match word)) [ inl w ↦ rw w refl | inr w ↦ rw w refl ]
-taken_push words word byte (first ∷ bytes) =
+transitions_push words word byte [] = elim (cases_Bool (is_match word)) [ inl w ↦ rw w refl | inr w ↦ rw w refl ]
+transitions_push words word byte (first ∷ bytes) =
     elim (cases_Bool (is_match word)) [
       | inl w ↦ rw w (rw (match_stays words word bytes w) (rw w refl))
-      | inr w ↦ rw w (ap suc (taken_push words (next_word words word first) byte bytes) ∙ suc_plus _ _)
+      | inr w ↦ rw w (ap suc (transitions_push words (next_word words word first) byte bytes) ∙ suc_plus _ _)
     ]
 
--- a walk takes at most a word for each byte
-taken_bound : (words : List ℕ) (word : ℕ) (bytes : List ℕ) → length (taken words word bytes) ≤ length bytes
-taken_bound words word [] = omega arith
-taken_bound words word (byte ∷ bytes) =
+-- a walk takes at most a transition for each byte
+transitions_below : (words : List ℕ) (word : ℕ) (bytes : List ℕ) → length (transitions words word bytes) ≤ length bytes
+transitions_below words word [] = omega arith
+transitions_below words word (byte ∷ bytes) =
     elim (cases_Bool (is_match word)) [
       | inl w ↦ rw w (omega arith)
       | inr w ↦ rw w
-          (omega (arith, taken_bound words (next_word words word byte) bytes))
+          (omega (arith, transitions_below words (next_word words word byte) bytes))
     ]
 
 module _ (table : TableView) (trie : ℕ) (key : List ℕ) where
@@ -60,14 +59,16 @@ module _ (table : TableView) (trie : ℕ) (key : List ℕ) where
   all_bytes = take_all (length (places_of table trie)) (bytes_of table trie key) (omega (arith, bytes_len))
 
   pub row_is : walk_row table trie key ≡ index_of (word_after table trie key (length (places_of table trie)))
-  row_is = ap index_of (last_taken table.words (root_of table trie) (bytes_of table trie key)
+  row_is = ap index_of (last_transition table.words (root_of table trie) (bytes_of table trie key)
       ∙ ap (λ (bytes : List ℕ). fold (moved table.words) (root_of table trie) bytes) (sym all_bytes))
 
-  pub steps_is : walk_steps table trie key ≡ steps_after table trie key (length (places_of table trie))
-  steps_is = ap (λ (bytes : List ℕ). length (taken table.words (root_of table trie) bytes)) (sym all_bytes)
+  pub transitions_are : walk_transitions table trie key
+      ≡ transitions_after table trie key (length (places_of table trie))
+  transitions_are = ap (λ (bytes : List ℕ). length (transitions table.words (root_of table trie) bytes)) (sym all_bytes)
 
-  pub steps_bound : walk_steps table trie key ≤ length (places_of table trie)
-  steps_bound = omega (arith, taken_bound table.words (root_of table trie) (bytes_of table trie key), bytes_len)
+  pub transitions_bound : walk_transitions table trie key ≤ length (places_of table trie)
+  transitions_bound =
+      omega (arith, transitions_below table.words (root_of table trie) (bytes_of table trie key), bytes_len)
 
   bytes_more : (n : ℕ) → n < length (places_of table trie) →
       take (n + 1) (bytes_of table trie key) ≡ take n (bytes_of table trie key) ++ slice_index key
@@ -86,24 +87,24 @@ module _ (table : TableView) (trie : ℕ) (key : List ℕ) where
       (slice_index key (slice_index (places_of table trie) n) ∷ [])
       ∙ ap (λ (p : ℕ). moved table.words (word_after table trie key n) (slice_index key p)) (sym e)
 
-  pub step_more : (n : ℕ) → n < length (places_of table trie) →
-      steps_after table trie key (n + 1) ≡ steps_after table trie key n +
+  pub transition_more : (n : ℕ) → n < length (places_of table trie) →
+      transitions_after table trie key (n + 1) ≡ transitions_after table trie key n +
       (if is_match (word_after table trie key n) then 0 else 1)
-  step_more n lt =
-      ap (λ (bytes : List ℕ). length (taken table.words (root_of table trie) bytes)) (bytes_more n lt)
-      ∙ taken_push table.words (root_of table trie) (slice_index key (slice_index (places_of table trie) n))
+  transition_more n lt =
+      ap (λ (bytes : List ℕ). length (transitions table.words (root_of table trie) bytes)) (bytes_more n lt)
+      ∙ transitions_push table.words (root_of table trie) (slice_index key (slice_index (places_of table trie) n))
       (take n (bytes_of table trie key))
 
--- behind a match nothing more is taken
-taken_rest : (words : List ℕ) (word : ℕ) (bytes more : List ℕ) → is_match (fold (moved words) word bytes) ≡ true →
-    length (taken words word (bytes ++ more)) ≡ length (taken words word bytes)
-taken_rest words word [] [] e = refl
-taken_rest words word [] (byte ∷ more) e = rw e refl
-taken_rest words word (byte ∷ bytes) more e =
+-- after a match there are no more
+transitions_rest : (words : List ℕ) (word : ℕ) (bytes more : List ℕ) → is_match (fold (moved words) word bytes) ≡ true →
+    length (transitions words word (bytes ++ more)) ≡ length (transitions words word bytes)
+transitions_rest words word [] [] e = refl
+transitions_rest words word [] (byte ∷ more) e = rw e refl
+transitions_rest words word (byte ∷ bytes) more e =
     elim (cases_Bool (is_match word)) [
       | inl w ↦ rw w refl
       | inr w ↦ rw w
-          (ap suc (taken_rest words (next_word words word byte) bytes more (rw w at e)))
+          (ap suc (transitions_rest words (next_word words word byte) bytes more (rw w at e)))
     ]
 
 -- where a match stands after some bytes, the walk has ended there
@@ -112,16 +113,16 @@ module _ (table : TableView) (trie : ℕ) (key : List ℕ) (n : ℕ) (match : is
     cut_bytes : take n (bytes_of table trie key) ++ drop n (bytes_of table trie key) ≡ bytes_of table trie key
     cut_bytes = take-append-drop n (bytes_of table trie key)
 
-    pub steps_at_match : walk_steps table trie key ≡ steps_after table trie key n
-    steps_at_match =
-        ap (λ (bytes : List ℕ). length (taken table.words (root_of table trie) bytes)) (sym cut_bytes)
-        ∙ taken_rest table.words (root_of table trie) (take n (bytes_of table trie key))
+    pub transitions_at_match : walk_transitions table trie key ≡ transitions_after table trie key n
+    transitions_at_match =
+        ap (λ (bytes : List ℕ). length (transitions table.words (root_of table trie) bytes)) (sym cut_bytes)
+        ∙ transitions_rest table.words (root_of table trie) (take n (bytes_of table trie key))
         (drop n (bytes_of table trie key)) match
 
     pub row_at_match : walk_row table trie key ≡ index_of (word_after table trie key n)
     row_at_match =
         ap index_of
-        (last_taken table.words (root_of table trie) (bytes_of table trie key)
+        (last_transition table.words (root_of table trie) (bytes_of table trie key)
         ∙ ap (λ (bytes : List ℕ). fold (moved table.words) (root_of table trie) bytes) (sym cut_bytes)
         ∙ fold-append (moved table.words) (root_of table trie) (take n (bytes_of table trie key))
         (drop n (bytes_of table trie key))
