@@ -11,7 +11,7 @@ use Rattle.flat_table.specs.Table.{TableView}
 use Rattle.rule_set.specs.Rule.{RuleView, RuleSetView}
 use Rattle.rule_set.specs.RuleSet.{IsRuleSet}
 use Rattle.trie_merge.specs.Levels.{LevelsView, levels_of}
-use Rattle.trie_merge.proofs.Reached.{all_weaker}
+use Rattle.trie_merge.proofs.Offered.{all_weaker}
 use Rattle.list_lemmas.proofs.Sums.{sum_by-map}
 use Rattle.flat_table.specs.Sound.{most_tries, most_words, row_len, sound_fault}
 use Rattle.flat_table.specs.Walk.{userdatas}

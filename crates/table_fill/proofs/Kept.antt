@@ -10,7 +10,7 @@ use Rattle.rule_set.specs.Rule.{RuleSetView}
 use Rattle.list_lemmas.proofs.Maps.{filter_on_range}
 use Rattle.list_lemmas.proofs.Sums.{bits_small, bit_is}
 use Rattle.trie_merge.specs.Kept.{group_of, is_kept, kept_places, kept_bits}
-use Rattle.trie_merge.proofs.Gaps.{HasFirst}
+use Rattle.trie_merge.proofs.Offered.{HasFirst}
 use Rattle.flat_table.specs.Groups as table
 
 -- ---- the kept groups

@@ -25,3 +25,4 @@ pub mod StateLaws
 pub mod Following
 pub mod Keeping
 pub mod Early
+pub mod Offered
