@@ -30,9 +30,8 @@ use Rattle.command_plan.specs.declared.status.Status.TheVariants.{OutOfMemory}
 use Rattle.command_plan.specs.Follow.{Before}
 use Rattle.command_plan.specs.Effects.{Outside}
 use Rattle.capture_report.specs.PrintsCapture.{Reports, PrintsCapture}
-use Rattle.command_plan.proofs.Offered.{Ends-full}
+use Rattle.command_plan.proofs.Offered.{Ends-full, Ends-told, Ends-complete, IsFaithful}
 use Rattle.capture_report.specs.Streams.{Reading, Whole, Part, records_read, text_of, Streams}
-use Rattle.command_plan.proofs.Offered.{Ends-told, Ends-complete, IsFaithful}
 use Rattle.capture_report.proofs.Bounds.{rise_bound}
 use Rattle.capture_report.proofs.WholeRecords.{report-begins}
 

@@ -8,8 +8,7 @@ use Rattle.acl_outside.specs.Desk.{File}
 use Rattle.acl_outside.specs.Heard.{Heard}
 use Rattle.flat_table.specs.Table.{TableView}
 use Rattle.flat_table.specs.Walk.{key_transitions, tries_of, walk_transitions}
-use Rattle.flat_table.proofs.Offered.{places_bound}
-use Rattle.flat_table.proofs.Offered.{transitions_bound}
+use Rattle.flat_table.proofs.Offered.{places_bound, transitions_bound}
 use Rattle.header_extract.specs.declared.class.Class.{Class}
 use Rattle.header_extract.specs.declared.class.Class.TheVariants.{Ip4, Ip6, Other, Short}
 use Rattle.header_extract.specs.Class.{FrameClass}

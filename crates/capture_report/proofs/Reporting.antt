@@ -31,8 +31,7 @@ use Rattle.capture_report.specs.Streams.{Reading, Whole, Part, records_read, tex
 use Rattle.capture_report.specs.Streams.{BreaksOffSoon, Streams}
 use Rattle.command_plan.proofs.Offered.{Gains-none}
 use Rattle.command_plan.proofs.Offered.{heard_file, part_told, opened_told, opened_absent, kept_files, cannot_open}
-use Rattle.command_plan.proofs.Offered.{unopened_kept}
-use Rattle.command_plan.proofs.Offered.{CannotRead-because}
+use Rattle.command_plan.proofs.Offered.{unopened_kept, CannotRead-because}
 use Rattle.capture_report.specs.NextRecord.{records_from}
 use Rattle.capture_report.proofs.Reader.{ReadHeader, RefusedHeader, RefusedHeader-from, BrokenHeader, BrokenHeader-from}
 

@@ -26,8 +26,7 @@ use Rattle.trie_merge.specs.Kept.{kept_places, kept_bits}
 use Rattle.trie_merge.specs.Row.{winner_of}
 use Rattle.trie_merge.specs.Levels.{LevelsView, levels_of}
 use Rattle.trie_merge.specs.Laws.{AreBytes, IsGrouped}
-use Rattle.trie_merge.proofs.Offered.{runs_lead}
-use Rattle.trie_merge.proofs.Offered.{all-map, all_weaker, map-map}
+use Rattle.trie_merge.proofs.Offered.{runs_lead, all-map, all_weaker, map-map}
 use Rattle.flat_table.specs.Word.{index_of}
 use Rattle.flat_table.specs.Sound.{row_len}
 use Rattle.flat_table.specs.Table.{TableView}

@@ -18,7 +18,8 @@ use Rattle.table_fill.specs.Filled.{words_of_levels}
 use Rattle.table_fill.specs.Tries.{IsThere, AreRuns, AreLevels}
 use Rattle.table_fill.proofs.Words.{match_parts}
 use Rattle.table_fill.proofs.Nodes.{run_here, run_later, node_next, length-node_words, node_into}
-use Rattle.list_lemmas.proofs.Positions.{Has, has_front, has_rest}
+use Rattle.list_lemmas.proofs.Members.{Has}
+use Rattle.list_lemmas.proofs.Positions.{has_front, has_rest}
 use Rattle.flat_table.proofs.Offered.{match_stays}
 
 -- ---- the nodes of a level

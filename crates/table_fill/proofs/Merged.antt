@@ -18,10 +18,7 @@ use Rattle.trie_merge.specs.Row.{winner_of, row_of, final_row, rows_of}
 use Rattle.std.specs.Str.{bytes_eq}
 use Rattle.trie_merge.specs.Levels.{states_at, level_runs, levels_of}
 use Rattle.trie_merge.specs.Laws.{IsGrouped}
-use Rattle.trie_merge.proofs.Offered.{All-found_in}
-use Rattle.trie_merge.proofs.Offered.{kept_places_first}
-use Rattle.trie_merge.proofs.Offered.{all-map}
-use Rattle.trie_merge.proofs.Offered.{held_of}
+use Rattle.trie_merge.proofs.Offered.{All-found_in, kept_places_first, all-map, held_of}
 use Rattle.flat_table.specs.Groups.{is_key_len}
 use Rattle.list_lemmas.proofs.Maps.{find_in_filter}
 use Rattle.table_fill.specs.Tries.{IsTrie}

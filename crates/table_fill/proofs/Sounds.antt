@@ -13,8 +13,10 @@ use Rattle.std.proofs.lemmas.List.Sums.{sum_by-cons, sum_by-append, sum-map}
 use Rattle.std.proofs.lemmas.List.Elements.{recursion_from_All, All-append, All-map, All-replicate, All-same}
 use Rattle.std.proofs.lemmas.List.Elements.{All-weaker}
 use Rattle.std.proofs.lemmas.List.FromFn.{get_or-map-range_with_len}
-use Rattle.list_lemmas.proofs.Maps.{All-flat_map, map_agree}
-use Rattle.list_lemmas.proofs.Positions.{Has, has_front, has_rest}
+use Rattle.list_lemmas.proofs.Maps.{All-flat_map}
+use Rattle.list_lemmas.proofs.Counts.{map_agree}
+use Rattle.list_lemmas.proofs.Members.{Has}
+use Rattle.list_lemmas.proofs.Positions.{has_front, has_rest}
 use Rattle.trie_merge.specs.declared.run.Run.{Run}
 use Rattle.trie_merge.specs.declared.run.Succ.{Succ}
 use Rattle.trie_merge.specs.declared.run.Succ.TheVariants.{Dead, State, Row}

@@ -16,15 +16,10 @@ use Rattle.trie_merge.specs.Found.{prefixes}
 use Rattle.trie_merge.specs.Kept.{is_wild_place}
 use Rattle.trie_merge.specs.Row.{final_row, rows_of}
 use Rattle.trie_merge.specs.Levels.{runs_of, states_at, reached, state_succ, row_succ, level_runs}
-use Rattle.trie_merge.proofs.Offered.{All-found_in}
-use Rattle.trie_merge.proofs.Offered.{found_for_key}
-use Rattle.trie_merge.proofs.Offered.{bytes_eq_refl, bytes_eq_sound}
-use Rattle.trie_merge.proofs.Offered.{AreBytes}
+use Rattle.trie_merge.proofs.Offered.{All-found_in, found_for_key, bytes_eq_refl, bytes_eq_sound, AreBytes}
 use Rattle.trie_merge.proofs.Offered.{IsHeld, packed_state, packed_state_wild, packed_state_start, decoded}
-use Rattle.trie_merge.proofs.Offered.{state_is, same_state-Decides}
-use Rattle.trie_merge.proofs.Offered.{state_goes_through}
-use Rattle.trie_merge.proofs.Offered.{IsPrefix, prefixes_are, all-append, all-map, all_weaker}
-use Rattle.trie_merge.proofs.Offered.{Gaps, HasFirst}
+use Rattle.trie_merge.proofs.Offered.{state_is, same_state-Decides, state_goes_through}
+use Rattle.trie_merge.proofs.Offered.{IsPrefix, prefixes_are, all-append, all-map, all_weaker, Gaps, HasFirst}
 use Rattle.table_fill.specs.Tries.{IsThere, AreRuns, AreLevels}
 use Rattle.table_fill.proofs.Runs.{runs_hold, each_run}
 

@@ -29,7 +29,8 @@ use Rattle.table_fill.specs.Filled.{match_of, node_word, succ_word, level_len, w
 use Rattle.table_fill.specs.Filled.{words_of_tries, root_at, roots_of, winner_word, rule_word}
 use Rattle.table_fill.specs.Tries.{AreLevels, row_count}
 use Rattle.table_fill.proofs.Words.{match_parts}
-use Rattle.list_lemmas.proofs.Positions.{Has, has_front, has_rest}
+use Rattle.list_lemmas.proofs.Members.{Has}
+use Rattle.list_lemmas.proofs.Positions.{has_front, has_rest}
 use Rattle.table_fill.proofs.Levels.{walk_follows}
 use Rattle.table_fill.proofs.Sounds.{length-levels-words}
 
