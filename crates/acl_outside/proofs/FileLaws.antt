@@ -1,5 +1,5 @@
 -- Laws of files in memory, by their names.
-use Rattle.std.proofs.Common.{◌≡◌, ◌≢◌, ◌⊎◌, ℕ, ◌+◌, ◌<◌, min, nat_le, List, [], ◌∷◌, ◌++◌, length, take, drop, get_or, append-nil, arith, true, false, Bool, not, ◌||◌, Option, Some, None, inl, inr, sym, subst, ◌∙◌, ap, refl}
+use Rattle.std.proofs.Common.{◌≡◌, ◌≢◌, ◌⊎◌, ℕ, ◌+◌, ◌<◌, min, nat_le, List, [], ◌∷◌, ◌++◌, length, take, drop, get_or, append-nil, arith, true, false, not, ◌||◌, Option, Some, None, inl, inr, sym, subst, ◌∙◌, ap, refl}
 use Rattle.std.proofs.lemmas.Bool.{cases_Bool, and_parts, false_from_ne_true}
 use Rattle.std.proofs.lemmas.List.{drop_more, drop-drop, take_all, take-append-drop}
 use Rattle.std.proofs.lemmas.Option.{slice_get_read, slice_get_within}

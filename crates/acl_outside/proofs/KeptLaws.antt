@@ -1,5 +1,5 @@
 -- What calls of a desk leave as it is.
-use Rattle.std.proofs.Common.{◌≡◌, ℕ, List, Result, refl, ap, ◌∙◌, arith}
+use Rattle.std.proofs.Common.{ℕ, List, Result, refl, ap, ◌∙◌, arith}
 use Rattle.acl_outside.specs.Desk.{DeskView, KeepsCounts, OpensFile, ReadsInto, CreatesFile, WritesPiece, FinishesFile}
 use Rattle.acl_outside.specs.Heard.{KeepsHeard, heard}
 use Rattle.acl_outside.specs.Made.{KeepsMade, made}

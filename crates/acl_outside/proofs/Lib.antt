@@ -1,7 +1,8 @@
-pub mod ToldLaws
-pub mod KeptLaws
-pub mod HeardLaws
-pub mod MadeLaws
-pub mod ReadingLaws
-pub mod WritingLaws
-pub mod FileLaws
+mod ToldLaws
+mod KeptLaws
+mod HeardLaws
+mod MadeLaws
+mod ReadingLaws
+mod WritingLaws
+mod FileLaws
+pub mod Offered

@@ -1,10 +1,10 @@
 -- Laws of what was made of a file, write by write.
-use Rattle.std.proofs.Common.{◌≡◌, ℕ, ◌+◌, List, [], ◌∷◌, ◌++◌, length, take, drop, Bool, Option, Some, None, Result, Ok, Err, sym, ◌∙◌, ap, refl, subst, append_assoc, append-nil}
+use Rattle.std.proofs.Common.{◌≡◌, ℕ, ◌+◌, List, [], ◌∷◌, ◌++◌, take, drop, Option, Some, None, Result, Ok, Err, sym, ◌∙◌, ap, refl, subst, append_assoc, append-nil}
 use Rattle.std.proofs.Math.Seq.{take-add}
 use Rattle.std.proofs.lemmas.List.{take-append-drop}
 use Rattle.std.specs.Prelude.{is_ok}
 use Rattle.acl_outside.specs.Told.{Steps}
-use Rattle.acl_outside.specs.Desk.{File, Content, DeskView, Holds, Writes, CreatesFile, WritesPiece, FinishesFile, bytes_of}
+use Rattle.acl_outside.specs.Desk.{Content, DeskView, Writes, CreatesFile, WritesPiece, FinishesFile}
 use Rattle.acl_outside.specs.Heard.{change_newest}
 use Rattle.acl_outside.specs.Made.{Made, Broken, made, creation_of, after_finish, and_stands, with_written, with_standing}
 use Rattle.acl_outside.specs.Writing.{WritesOn, WritesPrefix}

@@ -1,5 +1,5 @@
 -- The files of a desk over memory, as its fields hold them.
-use Rattle.std.specs.Prelude.{◌≡◌, ℕ, ◌<◌, ◌≤◌, List, [], ◌∷◌, length, drop, map, filter, Bool, not, ◌&&◌, ◌||◌, nat_le, Option, Some, None, IsTrue, slice_get, string_bytes, ⊤, if◌then◌else◌}
+use Rattle.std.specs.Prelude.{◌≡◌, ℕ, ◌<◌, ◌≤◌, List, ◌∷◌, length, drop, map, filter, Bool, not, ◌&&◌, ◌||◌, nat_le, Option, Some, None, IsTrue, slice_get, string_bytes, ⊤, if◌then◌else◌}
 use Rattle.std.specs.Str.{bytes_eq}
 use Rattle.acl_outside.specs.Desk.{File, bytes_of}
 use Rattle.acl_outside.specs.declared.mem_desk.MemFile.{MemFile}

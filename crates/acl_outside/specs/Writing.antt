@@ -1,5 +1,5 @@
 -- What writing to the created file changes of a desk.
-use Rattle.std.specs.Prelude.{◌≡◌, ℕ, ◌≤◌, List, ◌++◌, Result, OnOk, OnErr}
+use Rattle.std.specs.Prelude.{◌≡◌, ℕ, List, ◌++◌, Result, OnOk, OnErr}
 use Rattle.acl_outside.specs.Fault.{Rose}
 use Rattle.acl_outside.specs.Told.{Steps}
 use Rattle.acl_outside.specs.Desk.{DeskView, Writes, KeepsCounts}

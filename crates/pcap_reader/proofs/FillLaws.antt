@@ -9,7 +9,7 @@ use Rattle.acl_outside.specs.Fault.{Rose}
 use Rattle.acl_outside.specs.Told.{Steps}
 use Rattle.acl_outside.specs.Desk.{Content, DeskView, Gives, ReadsInto}
 use Rattle.acl_outside.specs.Heard.{Ended, with_ending}
-use Rattle.acl_outside.proofs.KeptLaws.{KeepsMade-same, KeepsMade-join, KeepsMade-read, KeepsCounts-same, KeepsCounts-join}
+use Rattle.acl_outside.proofs.Offered.{KeepsMade-same, KeepsMade-join, KeepsMade-read, KeepsCounts-same, KeepsCounts-join}
 use Rattle.acl_outside.specs.Reading.{ReadsOn, and_goes_on}
 use Rattle.pcap_reader.specs.Fill.{KeepsReading, IsAtEnd, after_fill}
 

@@ -1,6 +1,7 @@
-pub mod AnswersLaws
-pub mod CaptureLaws
-pub mod FillLaws
-pub mod NextLaws
+mod AnswersLaws
+mod CaptureLaws
+mod FillLaws
+mod NextLaws
 mod ReaderLaws
-pub mod StartLaws
+mod StartLaws
+pub mod Offered

@@ -7,7 +7,7 @@ use Rattle.acl_outside.specs.Fault.{Rose}
 use Rattle.acl_outside.specs.Told.{Steps}
 use Rattle.acl_outside.specs.Desk.{Content, DeskView, Gives}
 use Rattle.acl_outside.specs.Reading.{ReadsOn, and_goes_on}
-use Rattle.acl_outside.proofs.ToldLaws.{Steps-weaker}
+use Rattle.acl_outside.proofs.Offered.{Steps-weaker}
 use Rattle.pcap_reader.specs.declared.fault.CaptureFault.{CaptureFault}
 use Rattle.pcap_reader.specs.declared.fault.CaptureFault.TheVariants.{HeaderCut, Magic, Version, LinkType, ReadFault}
 use Rattle.pcap_reader.specs.declared.header.FileHeader.{FileHeader}

@@ -1,4 +1,4 @@
-use Rattle.std.proofs.Common.{◌≡◌, Some, sym, ap, ◌∙◌}
+use Rattle.std.proofs.Common.{sym, ◌∙◌}
 use Rattle.acl_outside.proofs.FileLaws.{bytes_of-given}
 use Rattle.acl_outside.specs.MemFile.{files_of}
 use Rattle.acl_outside.proofs.mem_desk.MemDesk.file.Goals as goal

@@ -1,4 +1,4 @@
-use Rattle.std.proofs.Common.{rules, arith, length-take}
+use Rattle.std.proofs.Common.{arith, length-take}
 use Rattle.acl_outside.proofs.mem_desk.MemDeskDesk.write.Goals as goal
 
 pub append-requires : goal.append-requires
