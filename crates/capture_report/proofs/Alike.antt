@@ -33,6 +33,7 @@ use Rattle.capture_report.specs.PrintsCapture.{Reports, PrintsCapture}
 use Rattle.command_plan.proofs.Offered.{Ends-full}
 use Rattle.capture_report.specs.Streams.{Reading, Whole, Part, records_read, text_of, Streams}
 use Rattle.command_plan.proofs.Offered.{Ends-told, Ends-complete, IsFaithful}
+use Rattle.capture_report.proofs.Bounds.{rise_bound}
 use Rattle.capture_report.proofs.WholeRecords.{report-begins}
 
 -- functions that agree below a limit
@@ -138,7 +139,8 @@ Reports-no_room form name view = record {
 }
 
 -- what is printed by whatever answers as the tables do
-pub PrintsCapture-from : (tables : Tables) (options : PrintOptions) (name : List ℕ) (old new : Outside) (status : Status) →
+pub PrintsCapture-from : (tables : Tables) (options : PrintOptions) (name : List ℕ) (old new : Outside)
+    (status : Status) →
     ((classifier : Classifier) → AnswersAs classifier tables →
     Reports (form_by classifier tables options) name old new status) →
     PrintsCapture tables options name old new status
@@ -150,4 +152,5 @@ PrintsCapture-from tables options name old new status all =
       alike = all;
       told = Ends-told (reported form name) old new status (report_faithful form name) own.ends;
       complete = Ends-complete (reported form name) old new status own.ends;
+      bound = rise_bound form name old new status own.ends;
     }

@@ -1,6 +1,6 @@
 -- A batch that grows record by record.
-use Rattle.std.proofs.Common.{◌≡◌, ℕ, ◌+◌, ◌≤◌, List, [], ◌∷◌, ◌++◌, length, map, All, Option, Some, None}
-use Rattle.std.proofs.Common.{refl, sym, subst, ap, ◌∙◌, append-nil, arith, length-append}
+use Rattle.std.proofs.Common.{◌≡◌, ℕ, ◌+◌, ◌≤◌, List, [], ◌++◌, length, map, All, Some, None}
+use Rattle.std.proofs.Common.{sym, subst, ap, ◌∙◌, arith, length-append}
 use Rattle.std.proofs.lemmas.List.{length-map, map-append}
 use Rattle.std.proofs.lemmas.List.Elements.{All-nil, All-append}
 use Rattle.acl_outside.specs.Desk.{DeskView}

@@ -1,23 +1,21 @@
 -- The keys of the packets of a family, one after the other, as a batch.
 use Rattle.std.proofs.Common.{◌≡◌, ℕ, zero, suc, ◌+◌, ◌*◌, ◌/◌, ◌<◌, ◌≤◌, List, [], ◌∷◌, ◌++◌, Bool, true, false}
 use Rattle.std.proofs.Common.{refl, sym, ap, ◌∙◌, add-one, add-zero, arith, length, take, drop, sum_by, length-append}
-use Rattle.std.specs.Prelude.{flat_map, slice_index_or, All}
+use Rattle.std.specs.Prelude.{flat_map, All}
 use Rattle.std.specs.List.{range_with_len}
 use Rattle.std.proofs.lemmas.List.{length-map}
-use Rattle.std.proofs.lemmas.List.Sums.{sum_by_from, sum_by-cons, sum_by-le}
+use Rattle.std.proofs.lemmas.List.Sums.{sum_by_from, sum_by-cons}
 use Rattle.std.proofs.lemmas.List.FromFn.{length-range_with_len}
 use Rattle.std.proofs.lemmas.List.Elements.{All-head, All-tail}
 use Rattle.std.proofs.Math.Seq.{take-append_seam, drop-append-add}
-use Rattle.std.proofs.Math.Nat.{mul-div_cancel}
+use Rattle.std.proofs.Math.Nat.{mul-div_cancel, mul-le-mul}
 use Rattle.field_defs.specs.declared.field.Family.{Family}
 use Rattle.field_defs.specs.declared.field.Family.TheVariants as family
 use Rattle.flat_table.specs.Sound.{most_tries}
 use Rattle.flat_table.specs.Table.{TableView}
-use Rattle.flat_table.specs.Walk.{key_steps, tries_of, walk_steps, table_verdict}
+use Rattle.flat_table.specs.Walk.{key_steps, table_verdict}
 use Rattle.flat_table.specs.Batch.{LengthsFit, key_at, keys_in, key_verdicts, first_verdicts, first_steps}
 use Rattle.flat_table.specs.Batch.{batch_verdicts, batch_steps}
-use Rattle.flat_table.proofs.Lanes.{places_bound}
-use Rattle.flat_table.proofs.Taken.{steps_bound}
 use Rattle.header_extract.specs.declared.class.Class.{Class}
 use Rattle.header_extract.specs.declared.class.Class.TheVariants.{Ip4, Ip6, Other, Short}
 use Rattle.header_extract.specs.Class.{FrameClass, key_len}
@@ -25,6 +23,7 @@ use Rattle.capture_report.specs.Packet.{IsPacket}
 use Rattle.capture_report.specs.Classifier.{Tables, key_len_of_family}
 use Rattle.capture_report.specs.Report.{transitions_on, transitions_of_packets}
 use Rattle.capture_report.specs.Taken.{max_batch}
+use Rattle.capture_report.proofs.Bounds.{key_bound}
 use Rattle.capture_report.specs.Batch.{is_of, keys_of, number_of, verdicts_of, transitions_of_family, max_transitions}
 
 zero-add : (n : ℕ) → 0 + n ≡ n
@@ -190,24 +189,11 @@ module _ (family : Family) (table : TableView) (len : table.key_len ≡ key_len_
   batch_transitions_are packets all some =
       ap (first_steps table (keys_of family packets)) (keys_number packets all some) ∙ transitions_are packets all
 
--- the walks of a key take at most one word for each trie and byte
+-- the walks of a key take so many words at most, whatever the table
 key_transitions_bound : (table : TableView) (key : List ℕ) → length table.roots ≤ most_tries → table.key_len ≤ 37 →
     key_steps table key ≤ max_transitions
 key_transitions_bound table key tries len =
-    let each : All (λ trie. walk_steps table trie key ≤ 37) (tries_of table) =
-    λ k d below. omega (
-      arith,
-      len,
-      places_bound table (slice_index_or (tries_of table) k d),
-      steps_bound table (slice_index_or (tries_of table) k d) key,
-    ) in
-    omega (
-      arith,
-      tries,
-      sum_by_from (λ trie. walk_steps table trie key) 0 (tries_of table),
-      sum_by-le (λ trie. walk_steps table trie key) 37 (tries_of table) each,
-      length-range_with_len 0 (length table.roots),
-    )
+    omega (arith, key_bound table key, mul-le-mul {n₁ = length table.roots} {m₁ = table.key_len} tries len)
 
 -- and those of all packets
 pub family_transitions_bound : (family : Family) (table : TableView) (packets : List FrameClass) →

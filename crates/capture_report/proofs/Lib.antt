@@ -1,10 +1,12 @@
+mod Alike
+mod Bounds
 mod Growing
-mod Reader
+mod Keys
 mod LineLaws
+pub mod Offered
+mod Reader
 mod Reporting
+mod Shown
 mod Streaming
 mod Taking
-pub mod WholeRecords
-mod Keys
-pub mod Alike
-mod Shown
+mod WholeRecords

@@ -13,12 +13,13 @@ use Rattle.acl_outside.specs.Reading.{ReadsOn, and_goes_on}
 use Rattle.header_extract.specs.Class.{FrameClass}
 use Rattle.pcap_reader.specs.declared.fault.CaptureFault.{CaptureFault}
 use Rattle.pcap_reader.specs.declared.fault.CaptureFault.TheVariants.{HeaderCut, RecordCut, ReadFault}
+use Rattle.pcap_reader.specs.declared.link.Link.{Link}
 use Rattle.pcap_reader.specs.declared.start.Start.{Start}
 use Rattle.pcap_reader.specs.Start.{start_of, file_header_len}
 use Rattle.pcap_reader.specs.Capture.{CaptureRecord, End as NoMore, Record, Fault as Failing, max_records, next_of}
 use Rattle.pcap_reader.specs.Capture.{records_behind, capture_of, whole_records}
 use Rattle.pcap_reader.specs.Fill.{KeepsReading, IsAtEnd}
-use Rattle.pcap_reader.specs.Reader.{CaptureState, ReadsStart, state_after}
+use Rattle.pcap_reader.specs.Reader.{CaptureState, ReadsNext, ReadsStart}
 use Rattle.pcap_reader.proofs.NextLaws.{IsDecided, with_behind, next_of-append, next_of-too_many}
 use Rattle.pcap_reader.proofs.CaptureLaws.{IsShorter, next_of-shorter, next_cases, records_behind-record}
 use Rattle.pcap_reader.proofs.CaptureLaws.{records_behind-end, records_behind-fault}
@@ -26,9 +27,10 @@ use Rattle.pcap_reader.proofs.AnswersLaws.{no_records, unanswered, capture_of-re
 use Rattle.capture_report.specs.declared.batch.BatchEnd.{BatchEnd}
 use Rattle.capture_report.specs.declared.batch.BatchEnd.TheVariants.{Full, End, Fault}
 use Rattle.capture_report.specs.NextRecord.{NextAnswer, AsksNext, IsBegun, MayGoOn, record_in, records_from}
+use Rattle.capture_report.specs.NextRecord.{state_then}
 use Rattle.capture_report.specs.Packet.{IsPacket, packet_of}
 use Rattle.capture_report.specs.Streams.{IsUnbroken}
-use Rattle.capture_report.specs.Taken.{AreAll, Took, TakesRecord, end_of, stands}
+use Rattle.capture_report.specs.Taken.{onto, AreAll, Took, TakesRecord, end_of, stands}
 
 -- a reader that has begun gave no record, and may be asked
 pub begun-count : (state : CaptureState) → IsBegun state → state.count ≡ 0
@@ -59,22 +61,25 @@ record_few state given captured later next =
     ]
 
 -- one record was taken
-Took-record : (state : CaptureState) (captured : List ℕ) (old new : DeskView) →
-    (reads : AsksNext state old new (Ok (Some captured))) →
-    Took state (state_after state (Ok (Some captured))) (record_in state (Ok (Some captured))) reads.given old new Full
-Took-record state captured old new reads = record {
+Took-record : (state : CaptureState) (captured : CaptureRecord) (old new : DeskView) →
+    (asks : AsksNext state old new (Ok (Some captured))) →
+    Took state (state_then state (Ok (Some captured))) (captured ∷ []) asks.reads.given old new Full
+Took-record state captured old new asks = record {
   bytes = λ later.
-      let next : next_of state.start.order state.count (reads.given ++ later) ≡ Record captured later =
-      next_of-append state.start.order state.count reads.given later (subst IsDecided (sym reads.answer) tt)
-      ∙ ap (λ n. with_behind n later) reads.answer in
-      records_behind-record state.start state.count (reads.given ++ later) captured later next;
-  reads = reads.reads;
+      let next : next_of state.start.order state.count (asks.reads.given ++ later) ≡ Record captured.bytes later =
+      next_of-append state.start.order state.count asks.reads.given later
+      (subst IsDecided (sym asks.reads.answer) tt)
+      ∙ ap (λ n. with_behind n later) asks.reads.answer in
+      records_behind-record state.start state.count (asks.reads.given ++ later) captured.bytes later next
+      ∙ ap (λ (link : Link). onto (record { link = link; bytes = captured.bytes } ∷ [])
+      (records_from (state_then state (Ok (Some captured))) later)) (sym asks.link);
+  reads = asks.reads.reads;
   at_end = λ e. absurd (cc);
   read_fault = λ e. absurd (cc);
-  keeps = reads.keeps;
+  keeps = asks.reads.keeps;
   goes_on = λ full may. may;
   count = refl;
-  few = λ below. omega (arith, record_few state reads.given captured [] reads.answer);
+  few = λ below. omega (arith, record_few state asks.reads.given captured.bytes [] asks.reads.answer);
 }
 
 AreAll-end : (state : CaptureState) (given : List ℕ) → next_of state.start.order state.count given ≡ NoMore →
@@ -98,8 +103,8 @@ AreAll-decided state given fault next decided more none =
     ∙ ap (λ n. with_behind n more) next)
 
 -- no record was there: the end of the capture
-Took-end : (state : CaptureState) (old new : DeskView) → (reads : AsksNext state old new (Ok None)) →
-    Took state (state_after state (Ok None)) [] reads.given old new End
+Took-end : (state : CaptureState) (old new : DeskView) → (reads : ReadsNext state.start.order state.count old new (Ok None)) →
+    Took state (state_then state (Ok None)) [] reads.given old new End
 Took-end state old new reads = record {
   bytes = AreAll-end state reads.given reads.answer.0;
   reads = reads.reads;
@@ -113,8 +118,8 @@ Took-end state old new reads = record {
 
 -- no record was there: a fault
 Took-fault : (fault : CaptureFault) (state : CaptureState) (old new : DeskView) →
-    (reads : AsksNext state old new (Err fault)) →
-    Took state (state_after state (Err fault)) [] reads.given old new (Fault fault)
+    (reads : ReadsNext state.start.order state.count old new (Err fault)) →
+    Took state (state_then state (Err fault)) [] reads.given old new (Fault fault)
 Took-fault ReadFault state old new reads = record {
   bytes = no_records state.start state.count reads.given
       (unanswered state.start.order state.count reads.given ReadFault reads.answer);
@@ -165,11 +170,11 @@ stop_of (Err fault) = Fault fault
 
 -- what an answer says was taken
 Took-answer : (answer : NextAnswer) (state : CaptureState) (old new : DeskView) →
-    (reads : AsksNext state old new answer) →
-    Took state (state_after state answer) (record_in state answer) reads.given old new (stop_of answer)
-Took-answer (Ok None) state old new reads = Took-end state old new reads
-Took-answer (Ok (Some captured)) state old new reads = Took-record state captured old new reads
-Took-answer (Err fault) state old new reads = Took-fault fault state old new reads
+    (asks : AsksNext state old new answer) →
+    Took state (state_then state answer) (record_in answer) asks.reads.given old new (stop_of answer)
+Took-answer (Ok None) state old new asks = Took-end state old new asks.reads
+Took-answer (Ok (Some captured)) state old new asks = Took-record state captured old new asks
+Took-answer (Err fault) state old new asks = Took-fault fault state old new asks.reads
 
 -- the same of the end of a batch, if there is one
 abbrev pub stop_or_full : Option BatchEnd → BatchEnd
@@ -204,11 +209,10 @@ records_by-stop Full is = absurd is
 records_by-stop End is = refl
 records_by-stop (Fault fault) is = refl
 
-one_record : (state : CaptureState) (answer : NextAnswer) →
-    length (record_in state answer) ≡ records_by (stop_of answer)
-one_record state (Ok None) = refl
-one_record state (Ok (Some captured)) = refl
-one_record state (Err fault) = refl
+one_record : (answer : NextAnswer) → length (record_in answer) ≡ records_by (stop_of answer)
+one_record (Ok None) = refl
+one_record (Ok (Some captured)) = refl
+one_record (Err fault) = refl
 
 -- At most one record was taken, and its packet was put after the others.
 pub record TookRecord (before after : CaptureState) (packets packets_new : List FrameClass) (old new : DeskView)
@@ -228,14 +232,14 @@ TookRecord-from before after packets packets_new old new result t =
     let stop : stop_or_full result ≡ stop_of t.answer = ap stop_or_full t.stop ∙ stop-is t.answer in
     subst (TookRecord before after packets packets_new old new) (sym stop)
     record {
-      records = record_in before t.answer;
-      given = t.takes.given;
+      records = record_in t.answer;
+      given = t.takes.reads.given;
       took = subst (λ (s : CaptureState).
-          Took before s (record_in before t.answer) t.takes.given old new (stop_of t.answer)) (sym t.state)
+          Took before s (record_in t.answer) t.takes.reads.given old new (stop_of t.answer)) (sym t.state)
           (Took-answer t.answer before old new t.takes);
       packets_are = t.packets;
       keys = t.keys;
-      number = one_record before t.answer;
+      number = one_record t.answer;
     }
 
 -- Records begin with others.

@@ -6,7 +6,7 @@ use Rattle.std.specs.Option.{option_map_or}
 use Rattle.acl_outside.specs.Fault.{Rose}
 use Rattle.acl_outside.specs.Desk.{File, DeskView, OpensFile}
 use Rattle.acl_outside.specs.Heard.{Heard, Ending, NotOpened, GoesOn, Ended, BrokenOff, heard, opening_of}
-use Rattle.acl_outside.specs.Reading.{ReadsOn, and_goes_on}
+use Rattle.acl_outside.specs.Reading.{ReadsOn}
 use Rattle.acl_outside.specs.Sink.{SinkView, Gains, GainsPrefix}
 use Rattle.acl_outside.proofs.HeardLaws.{ReadsOn-none, ReadsOn-then}
 use Rattle.pcap_reader.specs.declared.fault.CaptureFault.{CaptureFault}
@@ -271,25 +271,24 @@ Reports-full {T} {E} form name old mid new out steps x opens same =
     }
 
 -- the file header has a fault
-header_refused : {T E : Type 0} (form : ReportForm) (name : List ℕ) (fault : CaptureFault) (old mid new : DeskView)
-    (out : SinkView) (steps : ℕ) (x : T) → OpensFile {E = E} name old mid (Ok x) → RefusedHeader fault mid new →
-    Reports form name (outside old out steps) (outside new out steps) (CaptureRefused fault)
-header_refused {T} {E} form name fault old mid new out steps x opens header =
+header_refused : {T E : Type 0} (form : ReportForm) (name : List ℕ) (fault : CaptureFault) (old mid : DeskView)
+    (new : Outside) (x : T) → OpensFile {E = E} name old mid (Ok x) → RefusedHeader fault mid new.desk →
+    Reports form name (outside old new.out new.steps) new (CaptureRefused fault)
+header_refused {T} {E} form name fault old mid new x opens header =
     let given = header.given in
-    let h = HearsFile-read {E = E} name given header.ending old mid new x opens header.reads header.at_end
+    let h = HearsFile-read {E = E} name given header.ending old mid new.desk x opens header.reads header.at_end
     header.keeps in
     let is : (more : List ℕ) → (header.ending ≡ Ended → more ≡ []) →
     report form (given ++ more) ≡ silent (CaptureRefused fault) =
     λ more none. ap (report_of_capture form) (header.says more none) in
     let alone : report form given ≡ silent (CaptureRefused fault) =
     ap (report form) (sym (append-nil given)) ∙ is [] (λ e. refl) in
-    let puts : PutsAll (silent (CaptureRefused fault)) out out (CaptureRefused fault) =
-    record { decided = refl; lawful = refl; puts = inl (refl, Gains-none out); count = omega arith } in
+    let puts : PutsAll (silent (CaptureRefused fault)) new.out new.out (CaptureRefused fault) =
+    record { decided = refl; lawful = refl; puts = inl (refl, Gains-none new.out); count = omega arith } in
     record {
-      ends = Ends-whole form name given header.ending (outside old out steps) (outside new out steps)
-          (CaptureRefused fault) h header.unbroken
-          (λ more none. is more none ∙ sym alone)
-          (subst (λ (o : Outcome). PutsAll o out out (CaptureRefused fault)) (sym alone) puts)
+      ends = Ends-whole form name given header.ending (outside old new.out new.steps) new (CaptureRefused fault) h
+          header.unbroken (λ more none. is more none ∙ sym alone)
+          (subst (λ (o : Outcome). PutsAll o new.out new.out (CaptureRefused fault)) (sym alone) puts)
           (omega (arith, ap (λ (o : Outcome). o.transitions) alone));
       lawful = refl;
       opened = λ files told reported. h.opened files told;
@@ -297,18 +296,18 @@ header_refused {T} {E} form name fault old mid new out steps x opens header =
     }
 
 -- the reading broke off in the file header
-header_broken : {T E : Type 0} (form : ReportForm) (name : List ℕ) (old mid new : DeskView) (out : SinkView)
-    (steps : ℕ) (x : T) → OpensFile {E = E} name old mid (Ok x) → BrokenHeader mid new →
-    Reports form name (outside old out steps) (outside new out steps) ReadFault
-header_broken {T} {E} form name old mid new out steps x opens header =
-    let h = HearsFile-read {E = E} name header.given BrokenOff old mid new x opens header.reads
+header_broken : {T E : Type 0} (form : ReportForm) (name : List ℕ) (old mid : DeskView) (new : Outside) (x : T) →
+    OpensFile {E = E} name old mid (Ok x) → BrokenHeader mid new.desk →
+    Reports form name (outside old new.out new.steps) new ReadFault
+header_broken {T} {E} form name old mid new x opens header =
+    let h = HearsFile-read {E = E} name header.given BrokenOff old mid new.desk x opens header.reads
     (λ e. absurd (cc)) header.keeps in
     let none : lines_so_far form header.given ≡ [] = ap (lines_of_records form) header.none in
     record {
-      ends = Ends-part form name header.given BrokenOff (outside old out steps) (outside new out steps) ReadFault h tt
+      ends = Ends-part form name header.given BrokenOff (outside old new.out new.steps) new ReadFault h tt
           record {
             ended = inl refl;
-            text = λ other full. rw none (Gains-none out);
+            text = λ other full. rw none (Gains-none new.out);
             prefix = λ w. absurd (cc);
             full = λ e. absurd (cc);
             read_fault = λ e. omega (arith, opens.counts.read_faults, header.read_fault);
@@ -320,15 +319,14 @@ header_broken {T} {E} form name old mid new out steps x opens header =
       keeps_up = λ w. absurd (cc);
     }
 
-pub Reports-header : {T E : Type 0} (fault : CaptureFault) (form : ReportForm) (name : List ℕ)
-    (old mid new : DeskView) (out : SinkView) (steps : ℕ) (x : T) →
-    OpensFile {E = E} name old mid (Ok x) → ReadsStart mid new (Err fault) →
-    Reports form name (outside old out steps) (outside new out steps) (refusal fault)
-Reports-header {T} {E} faults.ReadFault form name old mid new out steps x opens reads =
-    header_broken {E = E} form name old mid new out steps x opens (BrokenHeader-from mid new reads)
-Reports-header {T} {E} fault form name old mid new out steps x opens reads =
-    header_refused {E = E} form name fault old mid new out steps x opens
-    (RefusedHeader-from fault mid new (λ e. absurd (cc)) reads)
+pub Reports-header : {T E : Type 0} (fault : CaptureFault) (form : ReportForm) (name : List ℕ) (old mid : DeskView)
+    (new : Outside) (x : T) → OpensFile {E = E} name old mid (Ok x) → ReadsStart mid new.desk (Err fault) →
+    Reports form name (outside old new.out new.steps) new (refusal fault)
+Reports-header {T} {E} faults.ReadFault form name old mid new x opens reads =
+    header_broken {E = E} form name old mid new x opens (BrokenHeader-from mid new.desk reads)
+Reports-header {T} {E} fault form name old mid new x opens reads =
+    header_refused {E = E} form name fault old mid new x opens
+    (RefusedHeader-from fault mid new.desk (λ e. absurd (cc)) reads)
 
 keeps_up_from : (name given : List ℕ) (ending : Ending) (text : List ℕ) (records : List CaptureRecord)
     (old new : Outside) →
@@ -353,30 +351,38 @@ fault_decided : (fault : Option CaptureFault) →
 fault_decided None = (refl, refl)
 fault_decided (Some fault) = (refl, refl)
 
--- what was streamed after a file header
-streamed : (read : Reading) (form : ReportForm) (name given : List ℕ) (ending : Ending) (old new : Outside)
-    (status : Status) (state : CaptureState) (later : List ℕ) → HearsFile name given ending old.desk new.desk →
-    ((more : List ℕ) → capture_of (given ++ more) ≡ Ok (records_from state (later ++ more))) →
-    AreRead state later ending read →
-    ((IsStatus ending read status × Gains (text_of form read) old.out new.out)
-    ⊎ ((status ≡ WriteFault) × BreaksOffSoon (text_of form read) (length (records_read read)) old.out new.out)) →
-    (status ≡ ReadFault → Rose old.desk.read_faults new.desk.read_faults) → old.out.faults ≤ new.out.faults →
-    IsOpened ending →
-    new.steps ≡ old.steps + transitions_of_records form.tables (records_read read) →
-    Reports form name old new status
-streamed (Whole records fault) form name given ending old new status state later h is bytes ended rose count
-    opened steps =
-    let all : (more : List ℕ) → (ending ≡ Ended → more ≡ []) →
-    capture_of (given ++ more) ≡ Ok (record { records = records; fault = fault }) =
-    λ more rest. is more ∙ ap Ok (bytes.1 more rest) in
-    let alone : capture_of given ≡ Ok (record { records = records; fault = fault }) =
-    ap capture_of (sym (append-nil given)) ∙ all [] (λ e. refl) in
+-- What was read and put of a capture, from the opening of its file on.
+record Streamed (form : ReportForm) (name : List ℕ) (read : Reading) (old new : Outside) (status : Status)
+    : Type 0 where
+  given : List ℕ
+  ending : Ending
+  state : CaptureState
+  later : List ℕ
+  hears : HearsFile name given ending old.desk new.desk
+  says : (more : List ℕ) → capture_of (given ++ more) ≡ Ok (records_from state (later ++ more))
+  bytes : AreRead state later ending read
+  answer : (IsStatus ending read status × Gains (text_of form read) old.out new.out)
+      ⊎ ((status ≡ WriteFault) × BreaksOffSoon (text_of form read) (length (records_read read)) old.out new.out)
+  read_fault : status ≡ ReadFault → Rose old.desk.read_faults new.desk.read_faults
+  count : old.out.faults ≤ new.out.faults
+  opened : IsOpened ending
+  steps : new.steps ≡ old.steps + transitions_of_records form.tables (records_read read)
+
+-- the report of what was streamed
+streamed : (read : Reading) (form : ReportForm) (name : List ℕ) (old new : Outside) (status : Status) →
+    Streamed form name read old new status → Reports form name old new status
+streamed (Whole records fault) form name old new status s =
+    let all : (more : List ℕ) → (s.ending ≡ Ended → more ≡ []) →
+    capture_of (s.given ++ more) ≡ Ok (record { records = records; fault = fault }) =
+    λ more rest. s.says more ∙ ap Ok (s.bytes.1 more rest) in
+    let alone : capture_of s.given ≡ Ok (record { records = records; fault = fault }) =
+    ap capture_of (sym (append-nil s.given)) ∙ all [] (λ e. refl) in
     let expected : Outcome =
     report_of_capture form (Ok (record { records = records; fault = fault })) in
     let puts : PutsAll expected old.out new.out status = record {
       decided = (fault_decided fault).0;
       lawful = (fault_decided fault).1;
-      puts = elim ended [
+      puts = elim s.answer [
         | inl done ↦ inl (done.0, done.1)
         | inr failed ↦ inr (
           failed.0,
@@ -385,81 +391,87 @@ streamed (Whole records fault) form name given ending old new status state later
           failed.1.rose,
         )
       ];
-      count = count;
+      count = s.count;
     } in
-    let reported_as : expected ≡ report form given = ap (report_of_capture form) (sym alone) in
+    let reported_as : expected ≡ report form s.given = ap (report_of_capture form) (sym alone) in
     record {
-      ends = Ends-whole form name given ending old new status h (bytes.0)
+      ends = Ends-whole form name s.given s.ending old new status s.hears (s.bytes.0)
           (λ more rest. ap (report_of_capture form) (all more rest ∙ sym alone))
           (subst (λ (o : Outcome). PutsAll o old.out new.out status) reported_as puts)
-          (steps ∙ ap (λ (o : Outcome). old.steps + o.transitions) reported_as);
+          (s.steps ∙ ap (λ (o : Outcome). old.steps + o.transitions) reported_as);
       lawful = elim (all_ended expected old.out new.out status puts) [
         | inl same ↦ ap is_usage same ∙ (fault_decided fault).1
         | inr write ↦ ap is_usage write
       ];
-      opened = λ files told reported. h.opened files told;
-      keeps_up = λ w. elim ended [
+      opened = λ files told reported. s.hears.opened files told;
+      keeps_up = λ w. elim s.answer [
         | inl done ↦ absurd (false≢true (ap is_decided (sym w ∙ done.0) ∙ (fault_decided fault).0))
         | inr failed ↦
-            keeps_up_from name given ending (text_of_records form records fault) records old new h
+            keeps_up_from name s.given s.ending (text_of_records form records fault) records old new s.hears
             (ap records_in alone) failed.1
       ];
     }
-streamed (Part records) form name given ending old new status state later h is bytes ended rose count
-    opened steps =
-    let whole : whole_records given ≡ records =
-    ap (λ l. records_in (capture_of l)) (sym (append-nil given)) ∙ ap records_in (is [])
-    ∙ ap (λ l. (records_from state l).records) (append-nil later) ∙ bytes in
-    let lines : lines_so_far form given ≡ lines_of_records form records =
+streamed (Part records) form name old new status s =
+    let whole : whole_records s.given ≡ records =
+    ap (λ l. records_in (capture_of l)) (sym (append-nil s.given)) ∙ ap records_in (s.says [])
+    ∙ ap (λ l. (records_from s.state l).records) (append-nil s.later) ∙ s.bytes in
+    let lines : lines_so_far form s.given ≡ lines_of_records form records =
     ap (lines_of_records form) whole in
     record {
-      ends = Ends-part form name given ending old new status h opened
+      ends = Ends-part form name s.given s.ending old new status s.hears s.opened
           record {
-            ended = elim ended [
+            ended = elim s.answer [
               | inl broken ↦ inl (broken.0.0 ∙ ap status_within (sym broken.0.1))
               | inr failed ↦ inr (inl failed.0)
             ];
-            text = λ other full. elim ended [ inl broken ↦ rw lines broken.1 | inr failed ↦ absurd (other failed.0) ];
-            prefix = λ w. elim ended [
+            text = λ other full. elim s.answer [ inl broken ↦ rw lines broken.1 | inr failed ↦ absurd (other failed.0) ];
+            prefix = λ w. elim s.answer [
               | inl broken ↦ (let e : ReadFault ≡ WriteFault = sym broken.0.0 ∙ w in absurd (cc))
               | inr failed ↦ rw lines
                   (prefix_from (lines_of_records form records) (length records) old.out new.out failed.1)
             ];
-            full = λ e. elim ended [
+            full = λ e. elim s.answer [
               | inl broken ↦ (let r : ReadFault ≡ OutOfMemory = sym broken.0.0 ∙ e in absurd (cc))
               | inr failed ↦ (let r : WriteFault ≡ OutOfMemory = sym failed.0 ∙ e in absurd (cc))
             ];
-            read_fault = rose;
-            write_fault = λ w. elim ended [
+            read_fault = s.read_fault;
+            write_fault = λ w. elim s.answer [
               | inl broken ↦ (let e : ReadFault ≡ WriteFault = sym broken.0.0 ∙ w in absurd (cc))
               | inr failed ↦ failed.1.rose
             ];
-            count = count;
+            count = s.count;
           };
-      lawful = elim ended [ inl broken ↦ ap is_usage broken.0.0 | inr failed ↦ ap is_usage failed.0 ];
-      opened = λ files told reported. h.opened files told;
-      keeps_up = λ w. elim ended [
+      lawful = elim s.answer [ inl broken ↦ ap is_usage broken.0.0 | inr failed ↦ ap is_usage failed.0 ];
+      opened = λ files told reported. s.hears.opened files told;
+      keeps_up = λ w. elim s.answer [
         | inl broken ↦ (let e : ReadFault ≡ WriteFault = sym broken.0.0 ∙ w in absurd (cc))
-        | inr failed ↦ keeps_up_from name given ending
-            (lines_of_records form records) records old new h whole failed.1
+        | inr failed ↦ keeps_up_from name s.given s.ending
+            (lines_of_records form records) records old new s.hears whole failed.1
       ];
     }
 
 -- the records are read and printed
 pub Reports-streamed : {T E : Type 0} (form : ReportForm) (name : List ℕ) (state : CaptureState)
-    (old opened mid new : DeskView) (out_old out_new : SinkView) (steps_old steps_new : ℕ)
-    (x : T) (status : Status) → OpensFile {E = E} name old opened (Ok x) → ReadHeader state opened mid →
-    Streams form state (outside mid out_old steps_old) (outside new out_new steps_new) status →
-    Reports form name (outside old out_old steps_old) (outside new out_new steps_new) status
-Reports-streamed {T} {E} form name state old opened mid new out_old out_new steps_old steps_new x status opens
-    header s =
+    (old opened : DeskView) (mid new : Outside) (x : T) (status : Status) →
+    OpensFile {E = E} name old opened (Ok x) → ReadHeader state opened mid.desk → Streams form state mid new status →
+    Reports form name (outside old mid.out mid.steps) new status
+Reports-streamed {T} {E} form name state old opened mid new x status opens header s =
     let given = header.given ++ s.given in
-    let reads = ReadsOn-then (stands s.ending) header.given s.given opened mid new header.reads s.reads in
-    let h = HearsFile-read {E = E} name given s.ending old opened new x opens reads s.at_end
-    (KeepsReading-join opened mid new header.keeps s.keeps) in
-    streamed s.read form name given s.ending (outside old out_old steps_old) (outside new out_new steps_new)
-    status state s.given h
-    (λ more. ap capture_of (append_assoc header.given s.given more) ∙ header.says (s.given ++ more))
-    s.bytes s.answer
-    (λ e. omega (arith, opens.counts.read_faults, header.keeps.counts.read_faults, s.read_fault e)) s.count
-    s.opened s.steps
+    let reads = ReadsOn-then (stands s.ending) header.given s.given opened mid.desk new.desk header.reads s.reads in
+    streamed s.read form name (outside old mid.out mid.steps) new status
+    record {
+      given = given;
+      ending = s.ending;
+      state = state;
+      later = s.given;
+      hears = HearsFile-read {E = E} name given s.ending old opened new.desk x opens reads s.at_end
+          (KeepsReading-join opened mid.desk new.desk header.keeps s.keeps);
+      says = λ more. ap capture_of (append_assoc header.given s.given more) ∙ header.says (s.given ++ more);
+      bytes = s.bytes;
+      answer = s.answer;
+      read_fault = λ e.
+          omega (arith, opens.counts.read_faults, header.keeps.counts.read_faults, s.read_fault e);
+      count = s.count;
+      opened = s.opened;
+      steps = s.steps;
+    }

@@ -21,7 +21,7 @@ use Rattle.capture_report.specs.Packet.{IsPacket, packet_of}
 use Rattle.capture_report.specs.ReportForm.{ReportForm}
 use Rattle.capture_report.specs.Report.{counted_all, counts_of_records, lines_of_packets, lines_of_records}
 use Rattle.capture_report.specs.Report.{transitions_of_packets, transitions_of_records}
-use Rattle.capture_report.specs.Taken.{max_batch, ending_of, ending_of_fault, AreAll, Took, TakesBatch}
+use Rattle.capture_report.specs.Taken.{ending_of, ending_of_fault, AreAll, Took, TakesBatch}
 use Rattle.capture_report.specs.CaptureOutcome.{last_lines, last_text, refusal}
 use Rattle.command_plan.specs.Follow.{IsOpened}
 use Rattle.command_plan.specs.Effects.{Outside, PutsLast}

@@ -5,6 +5,7 @@ pub mod Report
 pub mod NextRecord
 pub mod Taken
 pub mod CaptureOutcome
+pub mod Bound
 pub mod PrintsCapture
 pub mod Streams
 pub mod Batch

@@ -2,7 +2,7 @@
 use Rattle.std.specs.Prelude.{◌≡◌, ℕ, ◌+◌, ◌≤◌, ◌⊎◌, List, ◌∷◌, length, false, true}
 use Rattle.std.specs.Prelude.{Some}
 use Rattle.acl_outside.specs.Desk.{File}
-use Rattle.acl_outside.specs.Heard.{Heard, heard}
+use Rattle.acl_outside.specs.Heard.{Heard}
 use Rattle.acl_outside.specs.Sink.{Gains}
 use Rattle.command_plan.specs.declared.status.Status.{Status}
 use Rattle.command_plan.specs.declared.status.Status.TheVariants.{WriteFault, OutOfMemory}
@@ -13,7 +13,8 @@ use Rattle.capture_report.specs.ReportForm.{ReportForm, form_by}
 use Rattle.capture_report.specs.Report.{lines_in}
 use Rattle.capture_report.specs.Taken.{max_batch}
 use Rattle.command_plan.specs.Plan.{found, settled}
-use Rattle.command_plan.specs.Endings.{is_reported, is_usage}
+use Rattle.command_plan.specs.Endings.{is_decided, is_reported, is_usage}
+use Rattle.capture_report.specs.Bound.{most_of_records}
 use Rattle.capture_report.specs.CaptureOutcome.{reported}
 use Rattle.command_plan.specs.Effects.{Outside, Ends, EndsAsTold, HasNoFault, heard_of, earlier_of}
 use Rattle.command_plan.specs.Effects.{files_of, opened_of}
@@ -54,3 +55,7 @@ pub record PrintsCapture (tables : Tables) (options : PrintOptions) (name : List
       (status ≡ (settled (found
       (reported (form_by (ByTables tables) tables options) name) files)).status)
       ⊎ (status ≡ OutOfMemory)
+  -- a decided report took at most a transition for each trie and byte of the key of each packet
+  pub bound : is_decided status ≡ true → (file : Heard) →
+      heard_of new.desk ≡ file ∷ heard_of old.desk →
+      new.steps ≤ old.steps + most_of_records tables (whole_records file.bytes)

@@ -10,10 +10,11 @@ use Rattle.pcap_reader.specs.declared.fault.CaptureFault.{CaptureFault}
 use Rattle.pcap_reader.specs.declared.fault.CaptureFault.TheVariants.{HeaderCut, RecordCut, ReadFault}
 use Rattle.pcap_reader.specs.Capture.{CaptureRecord, Recorded, max_records}
 use Rattle.pcap_reader.specs.Fill.{KeepsReading, IsAtEnd}
-use Rattle.pcap_reader.specs.Reader.{CaptureState, state_after}
+use Rattle.pcap_reader.specs.Reader.{CaptureState}
 use Rattle.capture_report.specs.declared.batch.BatchEnd.{BatchEnd}
 use Rattle.capture_report.specs.declared.batch.BatchEnd.TheVariants.{Full, End, Fault}
 use Rattle.capture_report.specs.NextRecord.{NextAnswer, AsksNext, MayGoOn, record_in, records_from}
+use Rattle.capture_report.specs.NextRecord.{state_then}
 use Rattle.capture_report.specs.Packet.{packet_of, IsPacket}
 
 -- how many records are taken at most before their lines are put
@@ -106,7 +107,7 @@ pub record TakesRecord (before after : CaptureState) (packets_old packets_new : 
     (old new : DeskView) (result : Option BatchEnd) : Type 0 where
   pub answer : NextAnswer
   pub takes : AsksNext before old new answer
-  pub state : after ≡ state_after before answer
-  pub packets : packets_new ≡ packets_old ++ map packet_of (record_in before answer)
-  pub keys : All IsPacket (map packet_of (record_in before answer))
+  pub state : after ≡ state_then before answer
+  pub packets : packets_new ≡ packets_old ++ map packet_of (record_in answer)
+  pub keys : All IsPacket (map packet_of (record_in answer))
   pub stop : result ≡ end_of answer

@@ -11,12 +11,14 @@
 //! | `verdicts` | the verdicts on the packets of a family |
 //! | `lines` | the lines of packets, and those after them |
 //! | `room` | the memory of a batch |
+//! | `laws` | how many transitions a report tells at most, over the definitions |
 #![tactic(auto)]
 
 mod batch;
 mod capture;
 mod conductor;
 mod form;
+pub mod laws;
 mod lines;
 mod packet;
 mod packets;

@@ -29,11 +29,10 @@ returns-in-Ok-begin g c =
     let tables : Tables = record { ip4 = c.args.ip4.now; ip6 = c.args.ip6.now } in
     PrintsCapture-from tables c.args.options.now c.args.capture.now _ _ _
     (λ classifier answers. Reports-streamed (form_by classifier tables c.args.options.now) c.args.capture.now
-    c.in-Ok-begin.capture (desk c.args.desk.now)
-    (desk c.open_file.new.self)
-    (desk c.begin.new.desk) (desk c.print_records.new.desk) (out c.args.out.now)
-    (out c.print_records.new.out) c.args.steps.now c.print_records.new.steps c.in-Ok-open_file.field-0
-    c.print_records.result c.in-Ok-open_file.ensures
+    c.in-Ok-begin.capture (desk c.args.desk.now) (desk c.open_file.new.self)
+    (outside (desk c.begin.new.desk) (out c.args.out.now) c.args.steps.now)
+    (outside (desk c.print_records.new.desk) (out c.print_records.new.out) c.print_records.new.steps)
+    c.in-Ok-open_file.field-0 c.print_records.result c.in-Ok-open_file.ensures
     (ReadHeader-from c.in-Ok-begin.capture (desk c.open_file.new.self) (desk c.begin.new.desk) c.in-Ok-begin.ensures.0
     c.in-Ok-begin.ensures.1)
     (Streams-alike classifier tables c.args.options.now answers
@@ -48,9 +47,8 @@ returns-in-Err-Capture g c =
     rw is
     (PrintsCapture-from _ c.args.options.now c.args.capture.now _ _ _
     (λ classifier answers.
-    Reports-header c.in-Err-Capture.fault _ c.args.capture.now (desk c.args.desk.now)
-    (desk c.open_file.new.self)
-    (desk c.begin.new.desk) (g.O.Sink.view c.args.out.now) c.args.steps.now c.in-Ok-open_file.field-0
+    Reports-header c.in-Err-Capture.fault _ c.args.capture.now (desk c.args.desk.now) (desk c.open_file.new.self)
+    (outside (desk c.begin.new.desk) (g.O.Sink.view c.args.out.now) c.args.steps.now) c.in-Ok-open_file.field-0
     c.in-Ok-open_file.ensures
     (rw c.in-Err-Capture.field-0-is at c.in-Err-Capture.ensures)))
 

@@ -57,7 +57,8 @@ returns-clause-transitions g c =
 pub returns-clause-bound : goal.returns-clause-bound
 returns-clause-bound g c =
     let table = c.table-table.result.now in
-    let transitions = c.classify_scalar-transitions.ensures.taken ∙ ap (batch_steps table) c.gather_keys-gathered.ensures.keys
+    let transitions = c.classify_scalar-transitions.ensures.taken
+    ∙ ap (batch_steps table) c.gather_keys-gathered.ensures.keys
     ∙ batch_transitions_are c.args.family table c.table-table.ensures.key_len c.args.packets.now c.requires.packets
     (some_bytes c.args.family table.key_len c.table-table.ensures.key_len) in
     omega (

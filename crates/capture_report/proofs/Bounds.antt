@@ -1,0 +1,88 @@
+-- The transitions of a report are at most one for each trie and byte of each key.
+use Rattle.std.proofs.Common.{◌≡◌, ℕ, ◌+◌, ◌*◌, ◌≤◌, List, ◌∷◌, Result, Ok, Err, inl, inr, sym, subst, ap, ◌∙◌, arith}
+use Rattle.std.proofs.Common.{length, map, true}
+use Rattle.std.specs.Prelude.{slice_index_or, All, Option}
+use Rattle.std.proofs.lemmas.List.Sums.{sum_by_from, sum_by-le, sum_by-le-sum_by}
+use Rattle.std.proofs.lemmas.List.FromFn.{length-range_with_len}
+use Rattle.acl_outside.specs.Desk.{File}
+use Rattle.acl_outside.specs.Heard.{Heard}
+use Rattle.flat_table.specs.Table.{TableView}
+use Rattle.flat_table.specs.Walk.{key_steps, tries_of, walk_steps}
+use Rattle.flat_table.proofs.Lanes.{places_bound}
+use Rattle.flat_table.proofs.Taken.{steps_bound}
+use Rattle.header_extract.specs.declared.class.Class.{Class}
+use Rattle.header_extract.specs.declared.class.Class.TheVariants.{Ip4, Ip6, Other, Short}
+use Rattle.header_extract.specs.Class.{FrameClass}
+use Rattle.pcap_reader.specs.declared.fault.CaptureFault.{CaptureFault}
+use Rattle.pcap_reader.specs.Capture.{Recorded, capture_of, whole_records, records_in}
+use Rattle.command_plan.specs.declared.status.Status.{Status}
+use Rattle.command_plan.specs.Plan.{Outcome}
+use Rattle.command_plan.specs.Endings.{is_decided}
+use Rattle.command_plan.specs.Follow.{Reached, Follows, outcome_of}
+use Rattle.command_plan.specs.Effects.{Outside, Ends, files_of, heard_of}
+use Rattle.capture_report.specs.Bound.{TransitionsAreBounded, most_of_key, most_on, most_of_records}
+use Rattle.capture_report.specs.CaptureOutcome.{report, report_of_capture, reported}
+use Rattle.capture_report.specs.Classifier.{Tables}
+use Rattle.capture_report.specs.Packet.{packet_of}
+use Rattle.capture_report.specs.Report.{transitions_on}
+use Rattle.capture_report.specs.ReportForm.{ReportForm}
+
+-- the walks of a key take at most one word for each trie and byte
+pub key_bound : (table : TableView) (key : List ℕ) → key_steps table key ≤ most_of_key table
+key_bound table key =
+    let each : All (λ trie. walk_steps table trie key ≤ table.key_len) (tries_of table) =
+    λ k d below. omega (
+      arith,
+      places_bound table (slice_index_or (tries_of table) k d),
+      steps_bound table (slice_index_or (tries_of table) k d) key,
+    ) in
+    omega (
+      arith,
+      sum_by_from (λ trie. walk_steps table trie key) 0 (tries_of table),
+      sum_by-le (λ trie. walk_steps table trie key) table.key_len (tries_of table) each,
+      ap (λ (n : ℕ). n * table.key_len) (length-range_with_len 0 (length table.roots)),
+    )
+
+class_bound : (class : Class) (tables : Tables) (key : List ℕ) → transitions_on class tables key ≤ most_on class tables
+class_bound Ip4 tables key = key_bound tables.ip4 key
+class_bound Ip6 tables key = key_bound tables.ip6 key
+class_bound Other tables key = omega arith
+class_bound Short tables key = omega arith
+
+capture_bound : (form : ReportForm) (capture : Result Recorded CaptureFault) →
+    (report_of_capture form capture).steps ≤ most_of_records form.tables (records_in capture)
+capture_bound form (Ok capture) =
+    sum_by-le-sum_by (λ (packet : FrameClass). transitions_on packet.class form.tables packet.key)
+    (λ (packet : FrameClass). most_on packet.class form.tables) (map packet_of capture.records)
+    (λ packet. class_bound packet.class form.tables packet.key)
+capture_bound form (Err fault) = omega arith
+
+-- what is told of any bytes is within the bound
+pub report_bound : TransitionsAreBounded
+report_bound form bytes = capture_bound form (capture_of bytes)
+
+-- So is what is told of a file that was heard.
+heard_bound : (form : ReportForm) (name : List ℕ) (told : Option (List File)) (old new : List Heard)
+    (reached : Reached Outcome) (file : Heard) → Follows told (reported form name) old new reached →
+    new ≡ file ∷ old → (outcome_of reached).transitions ≤ most_of_records form.tables (whole_records file.bytes)
+heard_bound form name told old new reached file (inl (none, is)) newest = rw is (omega arith)
+heard_bound form name told old new reached file (inr (one, named, part, inl (heard, is))) newest =
+    rw is (omega arith)
+heard_bound form name told old new reached file (inr (one, named, part, inr (enough, (heard, is)))) newest =
+    let same : one ≡ file = (let e = sym heard ∙ newest in cc) in
+    rw is
+    (subst (λ (h : Heard). (report form one.bytes).transitions ≤ most_of_records form.tables (whole_records h.bytes)) same
+    (report_bound form one.bytes))
+
+-- and so is the rise of the counter where the report was decided
+pub rise_bound : (form : ReportForm) (name : List ℕ) (old new : Outside) (status : Status) →
+    Ends (reported form name) old new status → is_decided status ≡ true → (file : Heard) →
+    heard_of new.desk ≡ file ∷ heard_of old.desk →
+    new.steps ≤ old.steps + most_of_records form.tables (whole_records file.bytes)
+rise_bound form name old new status ends decided file newest =
+    omega (
+      arith,
+      ends.steps decided,
+      heard_bound form name (files_of old.desk) (heard_of old.desk) (heard_of new.desk) ends.reached file ends.follows
+          newest,
+    )
