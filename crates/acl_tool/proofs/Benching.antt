@@ -1,122 +1,72 @@
 -- How `bench` ends, which asks for no file.
-use Rattle.std.proofs.Common.{◌≡◌, ◌⊎◌, ℕ, ◌+◌, ◌≤◌, true, false, Ok, inl, inr, refl, sym, subst, arith, nat_le}
-use Rattle.std.proofs.lemmas.Bool.{false≢true, le-leb}
-use Rattle.acl_outside.specs.Desk.{DeskView}
-use Rattle.acl_outside.specs.Fault.{Rose}
-use Rattle.acl_outside.specs.Sink.{SinkView, Gains, GainsPrefix}
+use Rattle.std.proofs.Common.{◌≡◌, ◌⊎◌, ℕ, ◌+◌, ◌<◌, ◌≤◌, List, Bool, true, false, None, Ok, inl, inr, refl, sym, subst, ap}
+use Rattle.std.proofs.Common.{nat_le}
+use Rattle.std.specs.Prelude.{if◌then◌else◌}
+use Rattle.std.proofs.lemmas.Bool.{le-leb, lt-leb}
+use Rattle.field_defs.specs.declared.field.Family.TheVariants.{Ip4}
+use Rattle.acl_outside.specs.Desk.{DeskView, File}
+use Rattle.acl_outside.specs.Sink.{SinkView}
 use Rattle.rule_split.specs.Split.{total_of}
 use Rattle.command_plan.specs.declared.status.Status.{Status}
-use Rattle.command_plan.specs.declared.status.Status.TheVariants.{Done, WriteFault}
+use Rattle.command_plan.specs.declared.status.Status.TheVariants.{Done, TooLarge}
 use Rattle.command_words.specs.BenchWords.{BenchNumbers}
-use Rattle.seed_bench.specs.Bench.{bench_budget, bench_text, measured_of, set_drawn, steps_drawn}
-use Rattle.acl_tool.specs.BenchOutcome.{bench_outcome}
 use Rattle.command_words.specs.Command.{Bench}
-use Rattle.command_plan.specs.Plan.{Outcome, Give}
-use Rattle.command_plan.specs.Follow.{Given}
-use Rattle.command_plan.specs.Endings.{is_usage}
-use Rattle.acl_tool.specs.Outcome.{plan_of_request}
-use Rattle.command_plan.specs.Effects.{PutsLast, Outside, outside, KeepsFiles, Ends}
+use Rattle.seed_bench.specs.Bench.{IsRefused, bench_budget, bench_text, measured_of, set_drawn, transitions_drawn}
+use Rattle.command_plan.specs.Plan.{Outcome, Plan, Give, Stop, printed}
+use Rattle.command_plan.specs.Endings.{is_decided, is_reported, is_usage}
+use Rattle.command_plan.specs.Effects.{PutsLast, Outside, outside, Ends}
+use Rattle.command_plan.proofs.Offered.{IsFaithful, Ends-stopped, Ends-full, Ends-put}
+use Rattle.acl_tool.specs.BenchPlan.{bench_plan}
 use Rattle.acl_tool.specs.Effects.{Answers}
-use Rattle.command_plan.proofs.Told.{Ends-told}
+use Rattle.acl_tool.proofs.Answering.{Answers-request}
 
--- a desk that was left alone
-kept : (desk : DeskView) → KeepsFiles desk desk
-kept desk = record { files = refl; counts = record { read_faults = omega arith; absent = omega arith } }
+-- all of the text, where the table isn't too large
+abbrev all_lines : BenchNumbers → Outcome
+all_lines numbers = printed Done (bench_text (measured_of numbers)) (transitions_drawn numbers)
 
-module _ (outcome : Outcome) (desk : DeskView) where
-  -- all of the text was put
-  ends_done : (out_old out_new : SinkView) (steps_old steps_new : ℕ) → outcome.status ≡ Done →
-      steps_new ≡ steps_old + outcome.steps → Gains outcome.text out_old out_new →
-      out_old.faults ≤ out_new.faults →
-      Ends (Give outcome) (outside desk out_old steps_old) (outside desk out_new steps_new) Done
-  ends_done out_old out_new steps_old steps_new done steps gains count = record {
-    reached = Given outcome;
-    follows = (refl, refl);
-    ended = inl (sym done);
-    text = λ other full. gains;
-    prefix = λ e. absurd (cc);
-    out_of_memory = λ e. absurd (cc);
-    steps = λ decided. steps;
-    read_fault = λ e. absurd (cc);
-    write_fault = λ e. absurd (cc);
-    absent = λ files told isnt. refl;
-    kept = kept desk;
-    count = count;
-  }
-
-  -- the sink failed
-  ends_cut : (out_old out_new : SinkView) (steps_old steps_new : ℕ) → GainsPrefix outcome.text out_old out_new →
-      Rose out_old.faults out_new.faults → out_old.faults ≤ out_new.faults →
-      Ends (Give outcome) (outside desk out_old steps_old) (outside desk out_new steps_new) WriteFault
-  ends_cut out_old out_new steps_old steps_new prefix rose count = record {
-    reached = Given outcome;
-    follows = (refl, refl);
-    ended = inr (inl refl);
-    text = λ other full. absurd (other refl);
-    prefix = λ e. prefix;
-    out_of_memory = λ e. absurd (cc);
-    steps = λ decided. absurd (false≢true decided);
-    read_fault = λ e. absurd (cc);
-    write_fault = λ e. rose;
-    absent = λ files told isnt. refl;
-    kept = kept desk;
-    count = count;
-  }
+-- nothing is printed while files are read, since none is
+bench_faithful : (files : List File) (numbers : BenchNumbers) → IsFaithful files (bench_plan numbers)
+bench_faithful files numbers = go (nat_le (total_of (set_drawn numbers) bench_budget) bench_budget)
+  where
+    go : (fits : Bool) → IsFaithful files (if fits then Give (all_lines numbers)
+        else Stop (TooLarge Ip4 (total_of (set_drawn numbers) bench_budget) bench_budget))
+    go true = tt
+    go false = tt
 
 -- the command was answered, as it ended
-answered : (numbers : BenchNumbers) (old new : Outside) (status : Status) →
-    Ends (plan_of_request (Bench numbers)) old new status → is_usage status ≡ false →
-    Answers (Ok (Bench numbers)) old new status
-answered numbers old new status ends lawful = record {
-  usage = tt;
-  usage_only = lawful;
-  usage_is_silent = tt;
-  ends = ends;
-  told = Ends-told (plan_of_request (Bench numbers)) old new status (λ files. tt) ends;
-  opened = λ files told reported. tt;
-  keeps_up = λ e. tt;
-}
-
--- the lines are printed, where the table isn't too large
-fitting : (numbers : BenchNumbers) → total_of (set_drawn numbers) bench_budget ≤ bench_budget →
-    bench_outcome numbers
-    ≡ record { status = Done; text = bench_text (measured_of numbers); steps = steps_drawn numbers }
-fitting numbers within =
-    let test : nat_le (total_of (set_drawn numbers) bench_budget) bench_budget ≡ true =
-    le-leb (total_of (set_drawn numbers) bench_budget) bench_budget within in
-    rw test refl
+answered : (numbers : BenchNumbers) (old new : Outside) (status : Status) → Ends (bench_plan numbers) old new status →
+    is_usage status ≡ false → Answers (Ok (Bench numbers)) old new status
+answered numbers old new status ends lawful =
+    Answers-request (Bench numbers) old new status
+    record {
+      faithful = λ files. bench_faithful files numbers;
+      ends = ends;
+      lawful = lawful;
+      opened = λ files told reported. tt;
+      keeps_up = λ e. tt;
+    }
 
 -- all was measured, and its lines were put
-pub Answers-measured : (numbers : BenchNumbers) (desk : DeskView) (out_old out_new : SinkView)
-    (steps_old steps_new : ℕ) (status : Status) → total_of (set_drawn numbers) bench_budget ≤ bench_budget →
-    steps_new ≡ steps_old + steps_drawn numbers →
+pub Answers-measured : (numbers : BenchNumbers) (desk : DeskView) (out_old out_new : SinkView) (steps : ℕ)
+    (status : Status) → total_of (set_drawn numbers) bench_budget ≤ bench_budget →
     PutsLast (bench_text (measured_of numbers)) out_old out_new status →
-    Answers (Ok (Bench numbers)) (outside desk out_old steps_old) (outside desk out_new steps_new) status
-Answers-measured numbers desk out_old out_new steps_old steps_new status within steps puts = go puts.puts
-  where
-    expected : Outcome
-    expected = record { status = Done; text = bench_text (measured_of numbers); steps = steps_drawn numbers }
+    Answers (Ok (Bench numbers)) (outside desk out_old steps)
+    (outside desk out_new (steps + transitions_drawn numbers)) status
+Answers-measured numbers desk out_old out_new steps status within puts =
+    answered numbers (outside desk out_old steps) (outside desk out_new (steps + transitions_drawn numbers)) status
+    (rw (le-leb (total_of (set_drawn numbers) bench_budget) bench_budget within)
+    (Ends-put (all_lines numbers) desk out_old out_new steps status refl refl puts))
+    (elim puts.puts [ inl all ↦ ap is_usage all.0 | inr part ↦ ap is_usage part.0 ])
 
-    ends_as : (other : Status) →
-        Ends (Give expected) (outside desk out_old steps_old) (outside desk out_new steps_new) other →
-        Ends (plan_of_request (Bench numbers)) (outside desk out_old steps_old) (outside desk out_new steps_new) other
-    ends_as other ends =
-        subst (λ (o : Outcome). Ends (Give o) (outside desk out_old steps_old) (outside desk out_new steps_new) other)
-        (sym (fitting numbers within)) ends
-
-    go : ((status ≡ Done) × Gains (bench_text (measured_of numbers)) out_old out_new)
-        ⊎ ((status ≡ WriteFault) × GainsPrefix (bench_text (measured_of numbers)) out_old out_new
-        × Rose out_old.faults out_new.faults) →
-        Answers (Ok (Bench numbers)) (outside desk out_old steps_old) (outside desk out_new steps_new) status
-    go (inl all) =
-        subst (Answers (Ok (Bench numbers)) (outside desk out_old steps_old) (outside desk out_new steps_new))
-        (sym (all.0))
-        (answered numbers (outside desk out_old steps_old) (outside desk out_new steps_new) Done
-        (ends_as Done (ends_done expected desk out_old out_new steps_old steps_new refl steps (all.1) puts.count))
-        refl)
-    go (inr part) =
-        subst (Answers (Ok (Bench numbers)) (outside desk out_old steps_old) (outside desk out_new steps_new))
-        (sym (part.0))
-        (answered numbers (outside desk out_old steps_old) (outside desk out_new steps_new) WriteFault
-        (ends_as WriteFault
-        (ends_cut expected desk out_old out_new steps_old steps_new (part.1) (part.2) puts.count)) refl)
+-- nothing was measured, and nothing put
+pub Answers-refused : (numbers : BenchNumbers) (view : Outside) (status : Status) →
+    IsRefused (set_drawn numbers) status → Answers (Ok (Bench numbers)) view view status
+Answers-refused numbers view status (inl (says, above)) =
+    answered numbers view view status
+    (rw (lt-leb (total_of (set_drawn numbers) bench_budget) bench_budget above)
+    (subst (λ (s : Status). Ends (Stop s) view view status) says
+    (Ends-stopped None status view (ap is_reported says) (ap is_decided says)))) (ap is_usage says)
+Answers-refused numbers view status (inr full) =
+    answered numbers view view status
+    (subst (Ends (bench_plan numbers) view view) (sym full) (Ends-full None (bench_plan numbers) view))
+    (ap is_usage full)

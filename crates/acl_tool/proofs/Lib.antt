@@ -1,5 +1,5 @@
-mod Benching
-mod Classifying
+mod Answering
 mod RuleFiles
-mod UsageLaws
 mod Making
+mod Classifying
+mod Benching

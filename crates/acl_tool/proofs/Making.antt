@@ -17,8 +17,8 @@ use Rattle.table_fill.specs.Serves.{Serves}
 use Rattle.acl_context.specs.Context.{built_of}
 use Rattle.classbench_reader.specs.RuleFile.{RuleLists}
 use Rattle.capture_report.specs.Classifier.{Tables, ByRules, AnswersAs, answer_of_rules, answer_of_table}
-use Rattle.capture_report.specs.Classifier.{all_categories}
-use Rattle.acl_tool.specs.Outcome.{set_of, table_within}
+use Rattle.acl_report.specs.declared.packet.TheConstants.{MAX_VERDICTS}
+use Rattle.acl_tool.specs.RuleTables.{set_of, table_within}
 use Rattle.acl_tool.specs.Built.{BuildsTable, IsBuilt}
 
 -- what the joined word says, by the rule that wins
@@ -34,7 +34,7 @@ by_winner rules table key category (Some place) verdict none =
 
 -- what a table that serves a set says of a key is what the rules say
 serves_answers : (set : RuleSetView) (table : TableView) (key : List ℕ) (category : ℕ) → Serves set table →
-    All (λ byte. byte < 256) key → length key ≡ key_len_of set.layout → category < all_categories →
+    All (λ byte. byte < 256) key → length key ≡ key_len_of set.layout → category < MAX_VERDICTS →
     answer_of_rules set.layout set.rules key category ≡ answer_of_table table key category
 serves_answers set table key category serves bytes len below =
     by_winner set.rules table key category (winner set.layout set.rules key category)

@@ -1,19 +1,40 @@
--- What the first bytes of a rule file tell.
-use Rattle.std.proofs.Common.{◌≡◌, ℕ, ◌+◌, ◌<◌, List, ◌++◌, length, length-append, Err, refl, sym, ap, ◌∙◌, arith}
+-- What the first bytes of a rule file tell, and what its tables say while they are made.
+use Rattle.std.proofs.Common.{◌≡◌, ℕ, ◌+◌, ◌<◌, List, ◌++◌, length, length-append, Result, Ok, Err, refl, sym, ap, ◌∙◌, arith}
 use Rattle.std.proofs.lemmas.Bool.{lt-ltb}
 use Rattle.classbench_reader.specs.declared.fault.LineKind.TheVariants.{FileTooLong}
 use Rattle.classbench_reader.specs.Limits.{max_rule_file}
 use Rattle.classbench_reader.specs.RuleFile.{rule_file_of}
-use Rattle.acl_tool.specs.Outcome.{refused_rules, rules_of_bytes}
+use Rattle.classbench_reader.specs.declared.fault.LineFault.{LineFault}
+use Rattle.classbench_reader.specs.RuleFile.{RuleLists}
+use Rattle.field_defs.specs.declared.field.Family.TheVariants.{Ip4, Ip6}
+use Rattle.flat_table.specs.Table.{TableView}
+use Rattle.acl_outside.specs.Desk.{File}
+use Rattle.capture_report.specs.Classifier.{Tables}
+use Rattle.command_plan.specs.declared.status.Status.{Status}
+use Rattle.command_plan.specs.Plan.{◌>>=◌, Outcome, Plan, Give, unless_refused}
+use Rattle.command_plan.proofs.Offered.{IsFaithful}
+use Rattle.acl_tool.specs.RuleTables.{refused_rules, rules_of_bytes, table_within, tables_within}
 
 rule_file_of-long : (bytes : List ℕ) → max_rule_file < length bytes →
     rule_file_of bytes ≡ Err (record { line = 0; kind = FileTooLong })
 rule_file_of-long bytes long = rw (lt-ltb max_rule_file (length bytes) long) refl
 
 -- one byte past the limit tells all of a rule file
-pub rules_of_bytes-more : (front more : List ℕ) → length front ≡ max_rule_file + 1 →
-    rules_of_bytes (front ++ more) ≡ rules_of_bytes front
-rules_of_bytes-more front more long =
-    ap refused_rules
+pub rules_of_bytes-more : (refused : LineFault → Status) (front more : List ℕ) → length front ≡ max_rule_file + 1 →
+    rules_of_bytes refused (front ++ more) ≡ rules_of_bytes refused front
+rules_of_bytes-more refused front more long =
+    ap (refused_rules refused)
     (rule_file_of-long (front ++ more) (omega (arith, length-append front more, long))
     ∙ sym (rule_file_of-long front (omega (arith, long))))
+
+-- nothing is printed while the tables are made
+pub tables_faithful : (files : List File) (budget : ℕ) (lists : RuleLists) (f : Tables → Plan Outcome) →
+    ((tables : Tables) → IsFaithful files (f tables)) → IsFaithful files (tables_within budget lists >>= f)
+tables_faithful files budget lists f each = go (table_within budget Ip4 lists) (table_within budget Ip6 lists)
+  where
+    go : (one two : Result TableView Status) →
+        IsFaithful files
+        ((unless_refused one >>= λ ip4. unless_refused two >>= λ ip6. Give (record { ip4 = ip4; ip6 = ip6 })) >>= f)
+    go (Err status) two = tt
+    go (Ok ip4) (Err status) = tt
+    go (Ok ip4) (Ok ip6) = each (record { ip4 = ip4; ip6 = ip6 })

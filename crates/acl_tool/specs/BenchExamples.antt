@@ -15,7 +15,7 @@ three_numbers = refl
 no_seed : numbers_of [] ≡ Err (record { word = 2; kind = MissingName })
 no_seed = refl
 
--- the first fault from the left is told, also where words are missing behind it
+-- the first fault from the left is told, also where words are missing after it
 a_seed_of_letters : numbers_of (codes "x" ∷ []) ≡ Err (record { word = 2; kind = BadValue })
 a_seed_of_letters = refl
 

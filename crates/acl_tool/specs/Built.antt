@@ -11,7 +11,7 @@ use Rattle.command_plan.specs.declared.status.Status.{Status}
 use Rattle.command_plan.specs.declared.status.Status.TheVariants.{TooLarge, OutOfMemory}
 use Rattle.capture_report.specs.Classifier.{Tables, ByRules, AnswersAs}
 use Rattle.command_plan.specs.Plan.{Give, Stop}
-use Rattle.acl_tool.specs.Outcome.{set_of, tables_within}
+use Rattle.acl_tool.specs.RuleTables.{set_of, tables_within}
 
 -- The table of the set under the budget was made. It answers as the rules do.
 pub record BuildsTable (set : RuleSetView) (budget : ℕ) (table : Option TableView) : Type 0 where

@@ -1,19 +1,24 @@
 -- What a command promises, before and after it.
 use Rattle.std.specs.Prelude.{◌≡◌, ℕ, ◌⊎◌, List, false, true}
-use Rattle.std.specs.Prelude.{Some, Result, IfOk, IfErr, IfSome}
+use Rattle.std.specs.Prelude.{Option, Some, None, Result, Ok, Err, IfOk, IfErr, IfSome}
 use Rattle.acl_outside.specs.Desk.{File}
 use Rattle.acl_outside.specs.Sink.{SinkView}
 use Rattle.command_plan.specs.declared.status.Status.{Status}
 use Rattle.command_plan.specs.declared.status.Status.TheVariants.{Usage, WriteFault, OutOfMemory}
 use Rattle.command_words.specs.declared.fault.UsageFault.{UsageFault}
-use Rattle.command_words.specs.Command.{Request, capture_name, command}
+use Rattle.command_words.specs.Command.{Request, capture_name, made_name, command}
 use Rattle.command_plan.specs.Message.{message}
 use Rattle.command_plan.specs.Plan.{found, settled}
 use Rattle.command_plan.specs.Endings.{is_reported, is_usage}
 use Rattle.acl_tool.specs.Outcome.{outcome, plan_of}
-use Rattle.command_plan.specs.Effects.{Outside, Ends, EndsAsTold, HasNoFault, PutsLine, files_of}
-use Rattle.command_plan.specs.Effects.{opened_of}
-use Rattle.capture_report.specs.Prints.{KeepsUp}
+use Rattle.command_plan.specs.Effects.{Outside, EndsMaking, EndsAsTold, HasNoFaultMaking, PutsLine}
+use Rattle.command_plan.specs.Effects.{files_of, opened_of}
+use Rattle.capture_report.specs.PrintsCapture.{KeepsUp}
+
+-- the name of the file that a request makes, if it makes one; words that are no command make none
+abbrev pub makes_of : Result Request UsageFault → Option (List ℕ)
+makes_of (Ok request) = made_name request
+makes_of (Err fault) = None
 
 -- A request or a usage fault was answered: all that is promised of a command but its message.
 pub record Answers (request : Result Request UsageFault) (old new : Outside)
@@ -23,7 +28,7 @@ pub record Answers (request : Result Request UsageFault) (old new : Outside)
   pub usage : IfErr request (λ fault. status ≡ Usage fault)
   pub usage_only : IfOk request (λ _. is_usage status ≡ false)
   pub usage_is_silent : IfErr request (λ _. new ≡ old)
-  pub ends : Ends (plan_of request) old new status
+  pub ends : EndsMaking (makes_of request) (plan_of request) old new status
   -- where the desk tells its files
   pub told : (files : List File) → files_of old.desk ≡ Some files →
       EndsAsTold (settled (found (plan_of request) files)) old new status
@@ -39,6 +44,7 @@ pub record Runs (words : List (List ℕ)) (old new : Outside) (err_old err_new :
     (status : Status) : Type 0 where
   pub answers : Answers (command words) old new status
   -- where the outside has no fault, only memory keeps the command from its outcome
-  pub complete : HasNoFault old new → (files : List File) → files_of old.desk ≡ Some files →
+  pub complete : HasNoFaultMaking (makes_of (command words)) old new → (files : List File) →
+      files_of old.desk ≡ Some files →
       (status ≡ (outcome words files).status) ⊎ (status ≡ OutOfMemory)
   pub message : PutsLine (message status) err_old err_new

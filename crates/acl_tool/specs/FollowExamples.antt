@@ -12,7 +12,7 @@ use Rattle.rule_split.specs.Split as split
 use Rattle.pcap_reader.specs.StartExamples.{ethernet_header}
 use Rattle.command_words.specs.Options.{none_given, settled_options}
 use Rattle.command_words.specs.Command.{Classify}
-use Rattle.command_plan.specs.Plan.{Outcome, Plan, silent}
+use Rattle.command_plan.specs.Plan.{Outcome, Plan, printed, silent}
 use Rattle.command_plan.specs.Follow.{Given, Stopped, Before, Within, IsOneOf, Follows, outcome_of}
 use Rattle.acl_tool.specs.Outcome.{plan_of_request}
 
@@ -36,11 +36,7 @@ untold file files told opened = absurd (subst IsUntold told tt)
 
 -- both files were read to their ends, in this order
 whole : Follows None classify [] (capture_file ethernet_header Ended ∷ rules_file [] Ended ∷ [])
-    (Given (record {
-      status = Done;
-      text = codes "packets 0 ip4 0 ip6 0 other 0 short 0\n";
-      steps = 0;
-    }))
+    (Given (printed Done (codes "packets 0 ip4 0 ip6 0 other 0 short 0\n") 0))
 unfolding digits split.total_of split.groups_of split.groups_by split.turns split.turn
 whole =
     inr (

@@ -1,7 +1,9 @@
-pub mod BenchExamples
-pub mod BenchOutcome
-pub mod Outcome
-pub mod OutcomeExamples
-pub mod FollowExamples
+pub mod RuleTables
 pub mod Built
+pub mod ClassifyPlan
+pub mod BenchPlan
+pub mod Outcome
 pub mod Effects
+pub mod ClassifyExamples
+pub mod FollowExamples
+pub mod BenchExamples

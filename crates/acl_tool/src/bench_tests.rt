@@ -17,7 +17,14 @@ const BAD_SEED: &str = "aclc: usage: word 2: bad value\n";
 /// What the words print, without any file.
 fn printed<R: Abort + AllocGlobal>(rt: &R, words: &[&str]) -> Result<Vec<u8>, AllocError> {
     let alloc = rt.alloc();
-    let mut desk = MemDesk::new(Vec::new(alloc), 1, Vec::new(alloc));
+    let mut desk = MemDesk::new(
+        alloc,
+        Vec::new(alloc),
+        1,
+        0,
+        Vec::new(alloc),
+        Vec::new(alloc),
+    )?;
     let mut out = MemSink::new(alloc, 1000, 1000, Vec::new(alloc))?;
     let mut err = MemSink::new(alloc, 1000, 1000, Vec::new(alloc))?;
     let mut owned = Vec::new(alloc);

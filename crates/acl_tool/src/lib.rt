@@ -5,15 +5,17 @@
 //!
 //! | module | what it reads, says or prints |
 //! |---|---|
-//! | `tool` | the way in: a command as a whole |
+//! | `tool` | the way in: it conducts the commands |
+//! | `classify` | the command that prints the report of a capture |
+//! | `bench` | the command that compares rules and table over a workload |
 //! | `rule_file` | the rules of a file |
 //! | `tables` | the rules in the contexts of both families, and their tables |
-//! | `bench` | what rules and table say of a workload, as four lines |
 #![tactic(auto)]
 
 mod bench;
 #[cfg(test)]
 mod bench_tests;
+mod classify;
 mod rule_file;
 mod tables;
 #[cfg(test)]

@@ -1,9 +1,10 @@
 //! The rules of a file.
 
 ghost use Rattle.std.specs.Prelude.{◌≡◌, ◌≢◌, ◌⊎◌, false, Ok, Err, IfOk, IfErr};
+ghost use Rattle.command_plan.specs.declared.status.Status.TheVariants.{RulesRefused};
 ghost use Rattle.field_defs.specs.Layout.{ip4_fields, ip6_fields};
 ghost use Rattle.command_plan.specs.Endings.{is_reported, is_usage};
-ghost use Rattle.acl_tool.specs.Outcome.{rules_in, rules_of_bytes};
+ghost use Rattle.acl_tool.specs.RuleTables.{rules_in, rules_of_bytes};
 ghost use Rattle.capture_report.specs.Classifier.{lists_of};
 ghost use Rattle.command_plan.specs.Effects.{Takes};
 
@@ -17,7 +18,8 @@ use std::alloc::Global;
 /// The file is read as far as one byte more than a rule file may have. A file that isn't there or
 /// can't be read is a read fault.
 pub fn read_rule_file<D: Desk>(alloc: Global, name: &str, desk: &mut D) -> Result<RuleFile, Status>
-    ensures taken { Takes (rules_in name.now) lists_of (D.view desk.old) (D.view desk.new) result }
+    ensures taken { Takes (rules_in RulesRefused name.now) lists_of
+        (D.view desk.old) (D.view desk.new) result }
     ensures ip4 { IfOk result (λ rules. rules.ip4.layout ≡ ip4_fields) }
     ensures ip6 { IfOk result (λ rules. rules.ip6.layout ≡ ip6_fields) }
 {
@@ -29,9 +31,11 @@ pub fn read_rule_file<D: Desk>(alloc: Global, name: &str, desk: &mut D) -> Resul
 
 /// The rules of a file, or the status of its fault.
 fn rules_of(alloc: Global, bytes: &[u8]) -> Result<RuleFile, Status>
-    ensures rules { IfOk result (λ rules. rules_of_bytes bytes.now ≡ Ok (lists_of rules)) }
+    ensures rules { IfOk result
+        (λ rules. rules_of_bytes RulesRefused bytes.now ≡ Ok (lists_of rules)) }
     ensures fault { IfErr result
-        (λ status. (rules_of_bytes bytes.now ≡ Err status) ⊎ (status ≡ Status.OutOfMemory)) }
+        (λ status. (rules_of_bytes RulesRefused bytes.now ≡ Err status)
+        ⊎ (status ≡ Status.OutOfMemory)) }
     ensures unread { IfErr result (λ status. status ≢ Status.ReadFault) }
     ensures unreported { IfErr result (λ status. is_reported status ≡ false) }
     ensures lawful { IfErr result (λ status. is_usage status ≡ false) }

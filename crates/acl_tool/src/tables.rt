@@ -14,7 +14,7 @@ use classbench_reader::RuleFile;
 use command_plan::Status;
 use field_defs::Family;
 use flat_table::Table;
-use rule_set::{MAX_RULES, RuleSet};
+use rule_set::RuleSet;
 use std::alloc::Global;
 
 /// A context for each family, each with the table of its rules.
@@ -25,7 +25,8 @@ pub struct Contexts {
 }
 
 /// The tables of the rules of both families, of which each may have `budget` words, from 1 to
-/// 67,108,864. It takes the memory of the rules, of the tables, and of what they are made by.
+/// 67,108,864. It takes the memory of the tables, and of what they are made by; the rules stay
+/// where they are.
 ///
 /// `TooLarge`: the first family whose table has more words, even where the rules are split.
 pub fn build_tables(alloc: Global, rules: RuleFile, budget: u64) -> Result<Contexts, Status>
@@ -37,25 +38,20 @@ pub fn build_tables(alloc: Global, rules: RuleFile, budget: u64) -> Result<Conte
         (λ contexts. IsBuilt budget (lists_of rules) contexts.ip4.table contexts.ip6.table) }
     ensures refused { IfErr result (λ status. Refuses budget (lists_of rules) status) }
 {
-    let mut ip4 = hold(alloc, &rules.ip4)?;
-    let mut ip6 = hold(alloc, &rules.ip6)?;
-    drop(rules);
+    let RuleFile { ip4, ip6 } = rules;
+    let mut ip4 = hold(alloc, ip4);
+    let mut ip6 = hold(alloc, ip6);
     build(&mut ip4, Family::Ip4, budget)?;
     build(&mut ip6, Family::Ip6, budget)?;
     Ok(Contexts { ip4, ip6 })
 }
 
-/// A context that holds these rules, and has no table.
-fn hold(alloc: Global, rules: &RuleSet) -> Result<AclContext, Status>
-    ensures held { IfOk result (λ context. context.set ≡ rules.now) }
-    ensures full { IfErr result (λ status. status ≡ Status.OutOfMemory) }
+/// A context that holds the rules themselves, and has no table. It takes no memory.
+fn hold(alloc: Global, rules: RuleSet) -> AclContext
+    ensures { result.set ≡ rules }
 {
-    let mut context = AclContext::create(alloc, rules.layout().copied(), MAX_RULES as u32);
-    match context.add_stored(rules.all()) {
-        Ok(()) => Ok(context),
-        // The rules are lawful and not too many, since they were in a set.
-        Err(_) => Err(Status::OutOfMemory),
-    }
+    let count = rules.all().len() as u32;
+    AclContext::holding(alloc, rules, count)
 }
 
 /// Makes the table of the rules of a family.

@@ -48,13 +48,13 @@ const IP4_FRAME: &[u8] = &[0, 0, 0, 0, 0, 0, 0, 0, 0, 0, 0, 0, 8, 0];
 /// The start of an IPv4 header of UDP, up to the addresses.
 const UDP: &[u8] = &[0x45, 0, 0, 24, 0, 0, 0, 0, 64, 17, 0, 0];
 
-/// TCP behind two tags and an option of the IPv4 header, to port 80.
+/// TCP after two tags and an option of the IPv4 header, to port 80.
 const TAGGED: &[u8] = &[
     0, 0, 0, 0, 0, 0, 0, 0, 0, 0, 0, 0, 0x88, 0xA8, 0, 1, 0x81, 0, 0, 2, 8, 0, 0x46, 0, 0, 28, 0,
     0, 0, 0, 64, 6, 0, 0, 1, 2, 3, 4, 5, 6, 7, 8, 1, 1, 1, 1, 3, 232, 0, 80,
 ];
 
-/// A later fragment of UDP over IPv6, behind a hop-by-hop header.
+/// A later fragment of UDP over IPv6, after a hop-by-hop header.
 const FRAGMENT: &[u8] = &[
     0, 0, 0, 0, 0, 0, 0, 0, 0, 0, 0, 0, 0x86, 0xDD, 0x60, 0, 0, 0, 0, 20, 0, 64, 0, 0, 0, 0, 0, 0,
     0, 0, 0, 0, 0, 0, 0, 0, 0, 1, 0, 0, 0, 0, 0, 0, 0, 0, 0, 0, 0, 0, 0, 0, 0, 2, 44, 0, 0, 0, 0,
@@ -149,10 +149,13 @@ pub(crate) fn expect<R: Abort + AllocGlobal>(
         MemDesk::has_distinct_names(&files) && outside.read_piece > 0 && outside.put_piece > 0
     );
     let mut desk = MemDesk::new(
+        alloc,
         files,
         outside.read_piece,
+        0,
         vec![in alloc; outside.failing_read]?,
-    );
+        Vec::new(alloc),
+    )?;
     let mut out = MemSink::new(
         alloc,
         50_000,

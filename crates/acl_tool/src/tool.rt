@@ -1,30 +1,28 @@
 //! The top call: words, files and sinks in, a status out.
 
 ghost use Rattle.std.specs.Prelude.{Ok, map, string_bytes};
-ghost use Rattle.command_words.specs.Command.{Classify, command};
-ghost use Rattle.command_words.specs.CommandLine.{options_of, request_of};
+ghost use Rattle.command_words.specs.Command.{command};
+ghost use Rattle.command_words.specs.CommandLine.{request_of};
 ghost use Rattle.command_plan.specs.Message.{message};
 ghost use Rattle.acl_tool.specs.Effects.{Answers, Runs};
 ghost use Rattle.command_plan.specs.Effects.{PutsLine, outside};
 
 use crate::bench::bench;
-use crate::rule_file::read_rule_file;
-use crate::tables::{build_tables, table_of};
+use crate::classify::classify;
 use acl_outside::{Desk, Sink, put_all};
 use acl_report::LINE_ROOM;
-use capture_report::{PrintOptions, print_packets};
 use command_plan::{Status, message_line};
-use command_words::{Options, Request, read_words};
+use command_words::{Request, read_words};
 use flat_table::Steps;
 use std::alloc::Global;
 use std::sync::ledger::Ledger;
 
 /// Runs the command that the words are, and tells how it ended.
 ///
-/// The words are those behind the program's name. `classify RULES CAPTURE` and its options read the
+/// The words are those after the program's name. `classify RULES CAPTURE` and its options read the
 /// two files through `desk`, make a table of the rules of each family, and put a line for each
-/// record of the capture and the lines behind them to `out`, with at most 64 records read ahead of
-/// their lines. `steps` rises by the transitions that the tables took. Where the status isn't
+/// record of the capture and the lines after them to `out`, with at most 64 records read ahead of
+/// their lines. `steps` rises by the transitions that the tables take. Where the status isn't
 /// `Done` a line that names its cause goes to `err`, whose failure changes nothing. All memory is
 /// taken before the first byte is put.
 ///
@@ -86,37 +84,6 @@ fn answer_request<D: Desk, O: Sink, L: Ledger>(
         } => classify(alloc, rules, capture, &options, desk, out, steps),
         Request::Bench(numbers) => bench(alloc, numbers, out, steps),
     }
-}
-
-/// Prints the report of a capture by the tables of the rules of a file.
-fn classify<D: Desk, O: Sink, L: Ledger>(
-    alloc: Global,
-    rules: &str,
-    capture: &str,
-    options: &Options,
-    desk: &mut D,
-    out: &mut O,
-    steps: &mut Steps<L>,
-) -> Status
-    ensures { Answers (Ok (Classify rules.now capture.now (options_of options.now)))
-        (outside (D.view desk.old) (O.view out.old) steps.old)
-        (outside (D.view desk.new) (O.view out.new) steps.new) result }
-{
-    let rules = match read_rule_file(alloc, rules, desk) {
-        Ok(rules) => rules,
-        Err(status) => return status,
-    };
-    let contexts = match build_tables(alloc, rules, options.max_words.words()) {
-        Ok(contexts) => contexts,
-        Err(status) => return status,
-    };
-    let printed = PrintOptions {
-        cats: options.categories,
-        stats: options.stats,
-        marks: options.marks,
-    };
-    let (ip4, ip6) = (table_of(&contexts.ip4), table_of(&contexts.ip6));
-    print_packets(alloc, ip4, ip6, capture, &printed, desk, out, steps)
 }
 
 /// Puts the line of a status to standard error. A failure there leaves the status as it is.

@@ -70,7 +70,8 @@ heard_bound form name told old new reached file (inr (one, named, part, inl (hea
 heard_bound form name told old new reached file (inr (one, named, part, inr (enough, (heard, is)))) newest =
     let same : one ≡ file = (let e = sym heard ∙ newest in cc) in
     rw is
-    (subst (λ (h : Heard). (report form one.bytes).transitions ≤ most_of_records form.tables (whole_records h.bytes)) same
+    (subst (λ (h : Heard). (report form one.bytes).transitions ≤ most_of_records form.tables (whole_records h.bytes))
+    same
     (report_bound form one.bytes))
 
 -- and so is the rise of the counter where the report was decided

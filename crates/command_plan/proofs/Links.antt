@@ -275,7 +275,7 @@ Ends-then makes plan seen f old new mid x status step rest =
     subst (λ told. Follows told (f (seen x)) (heard_of mid) (heard_of new.desk) rest.reached) step.kept.files
     rest.follows in
     let same : (files : List File) → files_of old.desk ≡ Some files →
-        found (plan >>= f) files ≡ found (f (seen x)) files =
+    found (plan >>= f) files ≡ found (f (seen x)) files =
     λ files told. found-then plan f files
     ∙ ap (then_found f files)
     (Follows-found plan (files_of old.desk) files (heard_of old.desk) (heard_of mid) (Given (seen x)) told first) in

@@ -1,16 +1,27 @@
+use Rattle.std.proofs.Common.{List, ℕ, subst}
+use Rattle.command_plan.specs.declared.status.Status.TheVariants.{RulesRefused}
+use Rattle.command_plan.specs.Effects.{Parses}
 use Rattle.capture_report.specs.Classifier.{lists_of}
-use Rattle.acl_tool.specs.Outcome.{rules_of_bytes}
-use Rattle.command_plan.proofs.Links.{Takes-read, Takes-unread}
+use Rattle.acl_tool.specs.RuleTables.{rules_of_bytes}
+use Rattle.command_plan.proofs.Offered.{Takes-read, Takes-unread}
 use Rattle.acl_tool.proofs.RuleFiles.{rules_of_bytes-more}
 use Rattle.acl_tool.proofs.rule_file.read_rule_file.Goals as goal
 
 pub returns-in-Ok-clause-taken : goal.returns-in-Ok-clause-taken
 returns-in-Ok-clause-taken g c =
     let view = g.D.Desk.view in
-    Takes-read c.args.name.now _ rules_of_bytes lists_of (view c.args.desk.now) (view c.read_file.new.desk)
-    c.in-Ok.bytes c.deref.result.now c.rules_of.result c.in-Ok.ensures c.deref.ensures.value rules_of_bytes-more
-    c.rules_of.ensures.rules c.rules_of.ensures.fault c.rules_of.ensures.unread c.rules_of.ensures.unreported
-    c.rules_of.ensures.lawful
+    let rules = c.rules_of.ensures in
+    let parses : Parses (rules_of_bytes RulesRefused) lists_of c.deref.result.now c.rules_of.result = record {
+      value = rules.rules;
+      fault = rules.fault;
+      unread = rules.unread;
+      unreported = rules.unreported;
+      lawful = rules.lawful;
+    } in
+    Takes-read c.args.name.now _ (rules_of_bytes RulesRefused) lists_of (view c.args.desk.now)
+    (view c.read_file.new.desk) c.in-Ok.bytes c.rules_of.result c.in-Ok.ensures (rules_of_bytes-more RulesRefused)
+    (subst (λ (bytes : List ℕ). Parses (rules_of_bytes RulesRefused) lists_of bytes c.rules_of.result)
+    c.deref.ensures.value parses)
 
 pub returns-in-Err-clause-taken : goal.returns-in-Err-clause-taken
 returns-in-Err-clause-taken g c =

@@ -1,5 +1,5 @@
 use Rattle.command_plan.specs.Effects.{outside}
-use Rattle.acl_tool.proofs.UsageLaws.{Answers-usage}
+use Rattle.acl_tool.proofs.Answering.{Answers-usage}
 use Rattle.acl_tool.proofs.tool.answer.Goals as goal
 
 pub returns-in-Err : goal.returns-in-Err

@@ -1,4 +1,4 @@
-use Rattle.command_plan.proofs.Told.{Ends-complete}
+use Rattle.command_plan.proofs.Offered.{Ends-complete}
 use Rattle.acl_tool.proofs.tool.run.Goals as goal
 
 pub returns : goal.returns

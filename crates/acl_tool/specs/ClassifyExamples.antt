@@ -18,10 +18,12 @@ use Rattle.command_words.specs.declared.fault.UsageKind.TheVariants.{MissingComm
 use Rattle.command_words.specs.Options.{Options, none_given, settled_options}
 use Rattle.command_words.specs.Command.{fault_at}
 use Rattle.capture_report.specs.Classifier.{Tables, ByRules, ByTables}
-use Rattle.capture_report.specs.Printing.{Printing}
-use Rattle.acl_tool.specs.Outcome.{printing_of, outcome, rules_of_bytes}
+use Rattle.capture_report.specs.ReportForm.{ReportForm}
+use Rattle.acl_tool.specs.RuleTables.{rules_of_bytes}
+use Rattle.acl_tool.specs.ClassifyPlan.{form_of}
+use Rattle.acl_tool.specs.Outcome.{outcome}
 use Rattle.capture_report.specs.CaptureOutcome.{lines_so_far, report}
-use Rattle.command_plan.specs.Plan.{silent}
+use Rattle.command_plan.specs.Plan.{printed, silent}
 
 -- the options where none is given
 abbrev usual : Options
@@ -75,53 +77,42 @@ lists_of (Ok lists) = lists
 lists_of (Err status) = record { ip4 = []; ip6 = [] }
 
 -- a report by the guide's rule
-abbrev by_guide : Options → Printing
-by_guide options = printing_of (ByRules (lists_of (rules_of_bytes guide_line))) no_tables options
+abbrev by_guide : Options → ReportForm
+by_guide options =
+    form_of (ByRules (lists_of (rules_of_bytes RulesRefused guide_line))) no_tables options
 
 -- the guide's rule, a packet to port 1234 and one to port 1235
 guide : report (by_guide usual) (ethernet_header ++ udp_record 210 ++ udp_record 211)
-    ≡ record {
-      status = Done;
-      text = codes "1 ip4 1\n2 ip4 0\npackets 2 ip4 2 ip6 0 other 0 short 0\n";
-      steps = 0;
-    }
+    ≡ printed Done
+    (codes "1 ip4 1\n2 ip4 0\npackets 2 ip4 2 ip6 0 other 0 short 0\n") 0
 unfolding digits
 guide = refl
 
 -- a dash in the place of the digit, where no rule matches
 marked : report (by_guide (record usual { marks = true }))
-    (ethernet_header ++ udp_record 210 ++ udp_record 211) ≡ record {
-      status = Done;
-      text = codes "1 ip4 1\n2 ip4 -\npackets 2 ip4 2 ip6 0 other 0 short 0\n";
-      steps = 0;
-    }
+    (ethernet_header ++ udp_record 210 ++ udp_record 211) ≡ printed Done
+    (codes "1 ip4 1\n2 ip4 -\npackets 2 ip4 2 ip6 0 other 0 short 0\n") 0
 unfolding digits
 marked = refl
 
 four_categories : report (by_guide (record usual { categories = 4 }))
-    (ethernet_header ++ udp_record 210) ≡ record {
-      status = Done;
-      text = codes "1 ip4 1 1 1 1\npackets 1 ip4 1 ip6 0 other 0 short 0\n";
-      steps = 0;
-    }
+    (ethernet_header ++ udp_record 210) ≡ printed Done
+    (codes "1 ip4 1 1 1 1\npackets 1 ip4 1 ip6 0 other 0 short 0\n") 0
 unfolding digits
 four_categories = refl
 
--- by a table: its size and the transitions behind the line of the counts
-by_table : report (printing_of (ByTables wild_tables) wild_tables (record usual { stats = true }))
-    (ethernet_header ++ udp_record 210 ++ udp_record 211) ≡ record {
-      status = Done;
-      text = codes "1 ip4 7\n2 ip4 7\npackets 2 ip4 2 ip6 0 other 0 short 0\n"
-          ++ codes "ip4 rules 1 tries 1 words 33\nip6 rules 0 tries 0 words 16\ntransitions 2\n";
-      steps = 2;
-    }
+-- by a table: its size and the transitions after the line of the counts
+by_table : report (form_of (ByTables wild_tables) wild_tables (record usual { stats = true }))
+    (ethernet_header ++ udp_record 210 ++ udp_record 211) ≡ printed Done
+    (codes "1 ip4 7\n2 ip4 7\npackets 2 ip4 2 ip6 0 other 0 short 0\n"
+    ++ codes "ip4 rules 1 tries 1 words 33\nip6 rules 0 tries 0 words 16\ntransitions 2\n") 2
 unfolding digits
 by_table = refl
 
--- the lines before a cut record, no lines behind them, and the transitions of the whole records
-cut : report (printing_of (ByTables wild_tables) wild_tables (record usual { stats = true }))
+-- the lines before a cut record, no lines after them, and the transitions of the whole records
+cut : report (form_of (ByTables wild_tables) wild_tables (record usual { stats = true }))
     (ethernet_header ++ udp_record 210 ++ 0 ∷ [])
-    ≡ record { status = CaptureRefused (RecordCut 2); text = codes "1 ip4 7\n"; steps = 1 }
+    ≡ printed (CaptureRefused (RecordCut 2)) (codes "1 ip4 7\n") 1
 unfolding digits
 cut = refl
 
@@ -146,21 +137,15 @@ abbrev both : List ℕ → List ℕ → List File
 both rules capture = record { name = codes "r"; bytes = rules }
     ∷ record { name = codes "c"; bytes = capture } ∷ []
 
-empty : outcome classify (both [] ethernet_header) ≡ record {
-  status = Done;
-  text = codes "packets 0 ip4 0 ip6 0 other 0 short 0\n";
-  steps = 0;
-}
+empty : outcome classify (both [] ethernet_header)
+    ≡ printed Done (codes "packets 0 ip4 0 ip6 0 other 0 short 0\n") 0
 unfolding digits split.total_of split.groups_of split.groups_by split.turns split.turn
 empty = refl
 
 -- a table of no rules has 16 words, and a budget of one word less is too small, whatever the
 -- capture
-enough : outcome (classify_with (codes "max-words=16" ∷ [])) (both [] ethernet_header) ≡ record {
-  status = Done;
-  text = codes "packets 0 ip4 0 ip6 0 other 0 short 0\n";
-  steps = 0;
-}
+enough : outcome (classify_with (codes "max-words=16" ∷ [])) (both [] ethernet_header)
+    ≡ printed Done (codes "packets 0 ip4 0 ip6 0 other 0 short 0\n") 0
 unfolding digits split.total_of split.groups_of split.groups_by split.turns split.turn
 enough = refl
 
