@@ -20,10 +20,12 @@ use Rattle.pcap_reader.specs.Capture.{CaptureRecord, End as NoMore, Record, Faul
 use Rattle.pcap_reader.specs.Capture.{records_behind, capture_of, whole_records}
 use Rattle.pcap_reader.specs.Fill.{KeepsReading, IsAtEnd}
 use Rattle.pcap_reader.specs.Reader.{CaptureState, ReadsNext, ReadsStart}
-use Rattle.pcap_reader.proofs.NextLaws.{IsDecided, with_behind, next_of-append, next_of-too_many}
-use Rattle.pcap_reader.proofs.CaptureLaws.{IsShorter, next_of-shorter, next_cases, records_behind-record}
+use Rattle.pcap_reader.proofs.Offered.{IsDecided, next_of-append, next_of-too_many}
+use Rattle.pcap_reader.proofs.NextLaws.{with_behind}
+use Rattle.pcap_reader.proofs.Offered.{IsShorter, next_of-shorter, next_cases}
+use Rattle.pcap_reader.proofs.CaptureLaws.{records_behind-record}
 use Rattle.pcap_reader.proofs.CaptureLaws.{records_behind-end, records_behind-fault}
-use Rattle.pcap_reader.proofs.AnswersLaws.{no_records, unanswered, capture_of-read, whole_records-none}
+use Rattle.pcap_reader.proofs.Offered.{no_records, unanswered, capture_of-read, whole_records-none}
 use Rattle.capture_report.specs.declared.batch.BatchEnd.{BatchEnd}
 use Rattle.capture_report.specs.declared.batch.BatchEnd.TheVariants.{Full, End, Fault}
 use Rattle.capture_report.specs.NextRecord.{NextAnswer, AsksNext, IsBegun, MayGoOn, record_in, records_from}

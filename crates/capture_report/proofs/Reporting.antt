@@ -8,13 +8,13 @@ use Rattle.acl_outside.specs.Desk.{File, DeskView, OpensFile}
 use Rattle.acl_outside.specs.Heard.{Heard, Ending, NotOpened, GoesOn, Ended, BrokenOff, heard, opening_of}
 use Rattle.acl_outside.specs.Reading.{ReadsOn}
 use Rattle.acl_outside.specs.Sink.{SinkView, Gains, GainsPrefix}
-use Rattle.acl_outside.proofs.HeardLaws.{ReadsOn-none, ReadsOn-then}
+use Rattle.acl_outside.proofs.Offered.{ReadsOn-none, ReadsOn-then}
 use Rattle.pcap_reader.specs.declared.fault.CaptureFault.{CaptureFault}
 use Rattle.pcap_reader.specs.declared.fault.CaptureFault.TheVariants as faults
 use Rattle.pcap_reader.specs.Capture.{Recorded, CaptureRecord, capture_of, whole_records, records_in}
 use Rattle.pcap_reader.specs.Fill.{KeepsReading, IsAtEnd}
 use Rattle.pcap_reader.specs.Reader.{CaptureState, ReadsStart}
-use Rattle.pcap_reader.proofs.FillLaws.{KeepsReading-same, KeepsReading-join}
+use Rattle.pcap_reader.proofs.Offered.{KeepsReading-same, KeepsReading-join}
 use Rattle.command_plan.specs.declared.status.Status.{Status}
 use Rattle.command_plan.specs.declared.status.Status.TheVariants.{CaptureRefused, ReadFault, WriteFault, OutOfMemory}
 use Rattle.capture_report.specs.ReportForm.{ReportForm}

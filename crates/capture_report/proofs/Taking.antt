@@ -3,12 +3,12 @@ use Rattle.std.proofs.Common.{◌≡◌, ℕ, List, [], ◌++◌, Option, Some, 
 use Rattle.std.proofs.Common.{refl, sym, ap, ◌∙◌, append_assoc, append-nil, length-append, arith}
 use Rattle.acl_outside.specs.Desk.{DeskView}
 use Rattle.acl_outside.specs.Heard.{Ending, Ended}
-use Rattle.acl_outside.proofs.HeardLaws.{ReadsOn-none, ReadsOn-then}
+use Rattle.acl_outside.proofs.Offered.{ReadsOn-none, ReadsOn-then}
 use Rattle.pcap_reader.specs.declared.fault.CaptureFault.{CaptureFault}
 use Rattle.pcap_reader.specs.declared.fault.CaptureFault.TheVariants.{ReadFault}
 use Rattle.pcap_reader.specs.Capture.{CaptureRecord, Recorded}
 use Rattle.pcap_reader.specs.Reader.{CaptureState}
-use Rattle.pcap_reader.proofs.FillLaws.{KeepsReading-same, KeepsReading-join}
+use Rattle.pcap_reader.proofs.Offered.{KeepsReading-same, KeepsReading-join}
 use Rattle.capture_report.specs.declared.batch.BatchEnd.{BatchEnd}
 use Rattle.capture_report.specs.declared.batch.BatchEnd.TheVariants.{Full, End, Fault}
 use Rattle.capture_report.specs.NextRecord.{records_from}

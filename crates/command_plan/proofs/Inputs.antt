@@ -11,7 +11,7 @@ use Rattle.acl_outside.specs.Desk.{File, Content, DeskView, bytes_of, Opens, Giv
 use Rattle.acl_outside.specs.Heard.{Heard, Ending, GoesOn, Ended, BrokenOff, heard, opening_of, change_newest}
 use Rattle.acl_outside.specs.Heard.{with_bytes, with_ending}
 use Rattle.acl_outside.specs.Made.{KeepsMade}
-use Rattle.acl_outside.proofs.KeptLaws.{KeepsMade-opening, KeepsMade-join, KeepsCounts-join}
+use Rattle.acl_outside.proofs.Offered.{KeepsMade-opening, KeepsMade-join, KeepsCounts-join}
 use Rattle.acl_outside.specs.Reading.{GivesUpTo, ReadsOn, ReadsUpTo, and_goes_on}
 use Rattle.acl_outside.specs.declared.reading.ReadAll.TheVariants as reading
 use Rattle.command_plan.specs.declared.status.Status.TheVariants.{ReadFault, OutOfMemory}

@@ -10,7 +10,7 @@ use Rattle.acl_outside.specs.Desk.{File, DeskView}
 use Rattle.acl_outside.specs.Heard.{Heard, Ending, NotOpened, GoesOn, Ended, BrokenOff}
 use Rattle.acl_outside.specs.Fault.{Rose}
 use Rattle.acl_outside.specs.Made.{Made, Finished, KeepsMade}
-use Rattle.acl_outside.proofs.KeptLaws.{KeepsMade-join, KeepsCounts-join}
+use Rattle.acl_outside.proofs.Offered.{KeepsMade-join, KeepsCounts-join}
 use Rattle.command_plan.specs.declared.status.Status.{Status}
 use Rattle.command_plan.specs.declared.status.Status.TheVariants.{ReadFault, WriteFault, OutOfMemory}
 use Rattle.command_plan.specs.Plan.{Outcome, Plan, ◌>>=◌, nothing, reading, unless_refused, found, settled}

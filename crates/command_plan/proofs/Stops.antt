@@ -4,7 +4,7 @@ use Rattle.std.proofs.Common.{◌∙◌, arith}
 use Rattle.std.proofs.lemmas.Bool.{false≢true}
 use Rattle.acl_outside.specs.Desk.{DeskView}
 use Rattle.acl_outside.specs.Sink.{SinkView}
-use Rattle.acl_outside.proofs.KeptLaws.{KeepsMade-same, KeepsCounts-same}
+use Rattle.acl_outside.proofs.Offered.{KeepsMade-same, KeepsCounts-same}
 use Rattle.command_plan.specs.declared.status.Status.{Status}
 use Rattle.command_plan.specs.declared.status.Status.TheVariants.{Done, WriteFault, OutOfMemory}
 use Rattle.command_plan.specs.Plan.{Outcome, Plan, Give, Stop, Read}

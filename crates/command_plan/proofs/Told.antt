@@ -6,7 +6,7 @@ use Rattle.std.specs.Prelude.{⊤}
 use Rattle.acl_outside.specs.Desk.{File, bytes_of}
 use Rattle.acl_outside.specs.Heard.{Heard, Ending, NotOpened, GoesOn, Ended, BrokenOff}
 use Rattle.acl_outside.specs.Sink.{SinkView, Gains, GainsPrefix}
-use Rattle.acl_outside.proofs.WritingLaws.{GainsPrefix-more}
+use Rattle.acl_outside.proofs.Offered.{GainsPrefix-more}
 use Rattle.command_plan.specs.declared.status.Status.{Status}
 use Rattle.command_plan.specs.declared.status.Status.TheVariants.{ReadFault, WriteFault, OutOfMemory}
 use Rattle.command_plan.specs.Plan.{Outcome, Plan, Give, Stop, Read, ◌>>=◌, unless_refused, found, settled}

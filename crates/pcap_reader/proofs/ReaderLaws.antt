@@ -7,8 +7,7 @@ use Rattle.acl_outside.specs.Told.{Steps}
 use Rattle.acl_outside.specs.Desk.{Content, DeskView, Gives}
 use Rattle.acl_outside.specs.Heard.{BrokenOff, Ended, with_ending}
 use Rattle.acl_outside.specs.Reading.{ReadsOn, and_goes_on}
-use Rattle.acl_outside.proofs.Offered.{Steps-weaker}
-use Rattle.acl_outside.proofs.Offered.{ReadsOn-then}
+use Rattle.acl_outside.proofs.Offered.{Steps-weaker, ReadsOn-then}
 use Rattle.pcap_reader.specs.declared.fault.CaptureFault.TheVariants.{RecordCut, ReadFault}
 use Rattle.pcap_reader.specs.declared.state.CaptureState.{CaptureState}
 use Rattle.pcap_reader.specs.State.{CaptureRecord, record_of}

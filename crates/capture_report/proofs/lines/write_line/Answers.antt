@@ -1,6 +1,6 @@
 -- What is written after the other lines is the line of the packet.
 use Rattle.std.proofs.Common.{◌-◌, ◌++◌, ap, ◌∙◌, take, length, arith}
-use Rattle.pcap_reader.proofs.FillLaws.{take-put_mid}
+use Rattle.pcap_reader.proofs.Offered.{take-put_mid}
 use Rattle.capture_report.proofs.Shown.{line-is}
 use Rattle.capture_report.proofs.lines.write_line.Goals as goal
 

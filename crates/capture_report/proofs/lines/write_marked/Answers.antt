@@ -1,6 +1,6 @@
 -- What is written after the other lines is the line of the packet of this number.
 use Rattle.std.proofs.Common.{◌-◌, ◌++◌, ap, ◌∙◌, take, length, arith}
-use Rattle.pcap_reader.proofs.FillLaws.{take-put_mid}
+use Rattle.pcap_reader.proofs.Offered.{take-put_mid}
 use Rattle.capture_report.proofs.Shown.{line_by-is}
 use Rattle.capture_report.proofs.lines.write_marked.Goals as goal
 
