@@ -1,75 +1,78 @@
 -- What all answers of a reader come to.
-use Rattle.std.proofs.Common.{◌≡◌, ℕ, ◌+◌, List, [], ◌∷◌, ◌++◌, length, drop, true, Some, None, Ok, Err, inl, inr, refl, sym, subst, ap, ◌∙◌, append-nil, arith, length-drop}
+use Rattle.std.proofs.Common.{◌≡◌, ℕ, List, [], ◌∷◌, ◌++◌, All, length, drop, true, Some, None, Ok, Err, inl, inr, refl, sym, subst, ap, ◌∙◌, append-nil, arith, length-drop}
 use Rattle.std.specs.List.{concat}
 use Rattle.std.proofs.lemmas.Bool.{cases_lt, lt-leb, false≢true}
 use Rattle.std.proofs.lemmas.List.{drop_at}
+use Rattle.std.proofs.lemmas.List.Elements.{All-nil, All-cons}
 use Rattle.pcap_reader.specs.declared.fault.CaptureFault.{CaptureFault}
 use Rattle.pcap_reader.specs.declared.fault.CaptureFault.TheVariants.{HeaderCut, ReadFault}
-use Rattle.pcap_reader.specs.declared.start.Order.{Order}
+use Rattle.pcap_reader.specs.declared.link.Link.{Link}
 use Rattle.pcap_reader.specs.declared.start.Start.{Start}
 use Rattle.pcap_reader.specs.Start.{start_of, start_in, file_header_len}
-use Rattle.pcap_reader.specs.Capture.{Record, next_of, onward, records_behind, capture_of, whole_records}
+use Rattle.pcap_reader.specs.declared.state.CaptureState.{CaptureState}
+use Rattle.pcap_reader.specs.State.{Answer, CaptureRecord, begun, state_after}
+use Rattle.pcap_reader.specs.Capture.{Next, End, Record, Fault, next_of, followed_by, records_from, capture_of, whole_records}
 use Rattle.pcap_reader.specs.Reader.{HasNoRecord, IsNext, IsStart}
-use Rattle.pcap_reader.specs.Answers.{Answer, AreAnswersTo, AreAnswersOn, onto_given, records_given, have_ending, recorded_by}
-use Rattle.pcap_reader.proofs.NextLaws.{next_of-append, with_behind, IsDecided}
-use Rattle.pcap_reader.proofs.CaptureLaws.{next_cases, records_behind-record, records_behind-end, records_behind-fault}
+use Rattle.pcap_reader.specs.Answers.{AreAnswersTo, AreAnswersOn, onto_given, records_given, have_ending, recorded_by}
+use Rattle.pcap_reader.proofs.NextLaws.{next_of-append, with_more, IsDecided}
+use Rattle.pcap_reader.proofs.CaptureLaws.{state_next, next_cases, next_of-link, HasLink, records_from-record, records_from-end, records_from-fault}
 use Rattle.pcap_reader.proofs.StartLaws.{start_of-append}
 
 -- where what stands next has no record, the bytes have none
-pub no_records : (start : Start) (count : ℕ) (left : List ℕ) → HasNoRecord (next_of start.order count left) →
-    (records_behind start count left).records ≡ []
-no_records start count left none =
-    elim (next_cases (next_of start.order count left)) [
-      | inl ends ↦ rw (records_behind-end start count left ends) refl
+pub no_records : (state : CaptureState) (left : List ℕ) → HasNoRecord (next_of state left) →
+    (records_from state left).records ≡ []
+no_records state left none =
+    elim (next_cases (next_of state left)) [
+      | inl ends ↦ rw (records_from-end state left ends) refl
       | inr (inl whole) ↦ absurd (subst HasNoRecord whole.2 none)
-      | inr (inr fails) ↦ rw (records_behind-fault start count left fails.0 fails.1) refl
+      | inr (inr fails) ↦ rw (records_from-fault state left fails.0 fails.1) refl
     ]
 
 -- A record in front of what the later answers come to.
-pub with_record : (start : Start) (count : ℕ) (given captured rest : List ℕ) →
-    next_of start.order count given ≡ Record captured [] →
-    records_behind start count (given ++ rest)
-    ≡ onward start.link (Record captured rest) (λ behind. records_behind start (count + 1) behind)
-with_record start count given captured rest next =
-    let more = next_of-append start.order count given rest (subst IsDecided (sym next) tt)
-    ∙ ap (λ n. with_behind n rest) next in
-    records_behind-record start count (given ++ rest) captured rest more
+pub with_record : (state : CaptureState) (given : List ℕ) (captured : CaptureRecord) (rest : List ℕ) →
+    next_of state given ≡ Record captured [] →
+    records_from state (given ++ rest) ≡ followed_by (captured ∷ []) (records_from (state_next state captured) rest)
+with_record state given captured rest next =
+    let more = next_of-append state given rest (subst IsDecided (sym next) tt)
+    ∙ ap (λ n. with_more n rest) next in
+    records_from-record state (given ++ rest) captured rest more
 
-last_piece : (pieces : List (List ℕ)) (later : List Answer) (order : Order) (count : ℕ) → later ≡ [] →
-    AreAnswersTo order count pieces later → concat pieces ≡ []
-last_piece [] later order count none answers = refl
-last_piece (given ∷ pieces) [] order count none answers = absurd answers
-last_piece (given ∷ pieces) (answer ∷ later) order count none answers = absurd (cc)
+last_piece : (pieces : List (List ℕ)) (later : List Answer) (state : CaptureState) → later ≡ [] →
+    AreAnswersTo state pieces later → concat pieces ≡ []
+last_piece [] later state none answers = refl
+last_piece (given ∷ pieces) [] state none answers = absurd answers
+last_piece (given ∷ pieces) (answer ∷ later) state none answers = absurd (cc)
 
--- behind the last answer nothing was given
-only_piece : (given : List ℕ) (pieces : List (List ℕ)) (later : List Answer) (order : Order) (count : ℕ) → later ≡ [] →
-    AreAnswersTo order (count + 1) pieces later → given ++ concat pieces ≡ given
-only_piece given pieces later order count none answers =
-    ap (λ (l : List ℕ). given ++ l) (last_piece pieces later order (count + 1) none answers) ∙ append-nil given
+-- after the last answer nothing was given
+only_piece : (given : List ℕ) (pieces : List (List ℕ)) (later : List Answer) (state : CaptureState) → later ≡ [] →
+    AreAnswersTo state pieces later → given ++ concat pieces ≡ given
+only_piece given pieces later state none answers =
+    ap (λ (l : List ℕ). given ++ l) (last_piece pieces later state none answers) ∙ append-nil given
 
--- behind a fault there is no record in the bytes that it was the answer to
-pub unanswered : (order : Order) (count : ℕ) (given : List ℕ) (fault : CaptureFault) →
-    IsNext order count given [] (Err fault) → HasNoRecord (next_of order count given)
-unanswered order count given ReadFault breaks =
-    subst (λ l. HasNoRecord (next_of order count l)) (sym (breaks.parts ∙ append-nil breaks.front)) breaks.no_whole
-unanswered order count given fault fails = subst HasNoRecord (sym fails) tt
+-- a fault is the answer to bytes with no record
+pub unanswered : (state : CaptureState) (given : List ℕ) (fault : CaptureFault) →
+    IsNext state given [] (Err fault) → HasNoRecord (next_of state given)
+unanswered state given ReadFault breaks =
+    subst (λ l. HasNoRecord (next_of state l)) (sym (breaks.parts ∙ append-nil breaks.front)) breaks.no_whole
+unanswered state given fault fails = subst HasNoRecord (sym fails) tt
 
-pub records_of_answers : (start : Start) (count : ℕ) (pieces : List (List ℕ)) (answers : List Answer) →
-    AreAnswersTo start.order count pieces answers →
-    (records_behind start count (concat pieces)).records ≡ records_given start.link answers
-records_of_answers start count [] [] answers = refl
-records_of_answers start count [] (answer ∷ later) answers = absurd answers
-records_of_answers start count (given ∷ pieces) [] answers = absurd answers
-records_of_answers start count (given ∷ pieces) (Ok (Some captured) ∷ later) answers =
-    rw (with_record start count given captured (concat pieces) answers.0)
-    (ap (λ rest. onto_given start.link (Ok (Some captured)) rest)
-    (records_of_answers start (count + 1) pieces later answers.2))
-records_of_answers start count (given ∷ pieces) (Ok None ∷ later) answers =
-    rw (only_piece given pieces later start.order count answers.1 answers.2)
-    (rw (records_behind-end start count given answers.0.0) refl)
-records_of_answers start count (given ∷ pieces) (Err fault ∷ later) answers =
-    rw (only_piece given pieces later start.order count answers.1 answers.2)
-    (no_records start count given (unanswered start.order count given fault answers.0))
+-- the records of the answers are those of the bytes
+pub records_of_answers : (state : CaptureState) (pieces : List (List ℕ)) (answers : List Answer) →
+    AreAnswersTo state pieces answers →
+    (records_from state (concat pieces)).records ≡ records_given answers
+records_of_answers state [] [] answers = refl
+records_of_answers state [] (answer ∷ later) answers = absurd answers
+records_of_answers state (given ∷ pieces) [] answers = absurd answers
+records_of_answers state (given ∷ pieces) (Ok (Some captured) ∷ later) answers =
+    rw (with_record state given captured (concat pieces) answers.0)
+    (ap (λ rest. onto_given (Ok (Some captured)) rest)
+    (records_of_answers (state_next state captured) pieces later answers.2))
+records_of_answers state (given ∷ pieces) (Ok None ∷ later) answers =
+    rw (only_piece given pieces later (state_after state (Ok None)) answers.1 answers.2)
+    (rw (records_from-end state given answers.0.0) refl)
+records_of_answers state (given ∷ pieces) (Err fault ∷ later) answers =
+    rw (only_piece given pieces later (state_after state (Err fault)) answers.1 answers.2)
+    (no_records state given (unanswered state given fault answers.0))
 
 -- a file header that was read as a whole, and nothing more, has its length
 header_len : (header : List ℕ) (start : Start) → IsStart header [] (Ok start) → length header ≡ file_header_len
@@ -83,76 +86,95 @@ header_len header start is =
 
 -- what a capture is whose header was read
 pub capture_of-read : (header rest : List ℕ) (start : Start) → IsStart header [] (Ok start) →
-    capture_of (header ++ rest) ≡ Ok (records_behind start 0 rest)
+    capture_of (header ++ rest) ≡ Ok (records_from (begun start) rest)
 capture_of-read header rest start is =
     let len = header_len header start is in
     let alone : start_of header ≡ start_in header = ap start_of (sym (append-nil header))
     ∙ start_of-append header [] len in
     let says : start_of (header ++ rest) ≡ Ok start = start_of-append header rest len ∙ sym alone ∙ is.0 in
-    rw says (ap (λ l. Ok (records_behind start 0 l)) (drop_at header rest file_header_len len))
+    rw says (ap (λ l. Ok (records_from (begun start) l)) (drop_at header rest file_header_len len))
 
+-- the whole records of a header and what was given after it
 pub whole_records-answers : (header : List ℕ) (start : Start) (pieces : List (List ℕ)) (answers : List Answer) →
     IsStart header [] (Ok start) →
-    AreAnswersTo start.order 0 pieces answers →
-    whole_records (header ++ concat pieces) ≡ records_given start.link answers
+    AreAnswersTo (begun start) pieces answers →
+    whole_records (header ++ concat pieces) ≡ records_given answers
 whole_records-answers header start pieces answers is to =
-    rw (capture_of-read header (concat pieces) start is) (records_of_answers start 0 pieces answers to)
+    rw (capture_of-read header (concat pieces) start is) (records_of_answers (begun start) pieces answers to)
 
 -- the answers that end are the whole capture
-pub recorded_by_answers : (start : Start) (count : ℕ) (pieces : List (List ℕ)) (answers : List Answer) →
-    AreAnswersTo start.order count pieces answers →
-    have_ending answers ≡ true → records_behind start count (concat pieces) ≡ recorded_by start.link answers
-recorded_by_answers start count [] [] answers ends = absurd (false≢true ends)
-recorded_by_answers start count [] (answer ∷ later) answers ends = absurd answers
-recorded_by_answers start count (given ∷ pieces) [] answers ends = absurd answers
-recorded_by_answers start count (given ∷ pieces) (Ok (Some captured) ∷ []) answers ends = absurd (false≢true ends)
-recorded_by_answers start count (given ∷ pieces) (Ok (Some captured) ∷ next ∷ later) answers ends =
-    rw (with_record start count given captured (concat pieces) answers.0)
-    (ap (λ rest. onward start.link (Record captured (concat pieces)) (λ behind. rest))
-    (recorded_by_answers start (count + 1) pieces (next ∷ later) answers.2 ends))
-recorded_by_answers start count (given ∷ pieces) (Ok None ∷ later) answers ends =
+pub recorded_by_answers : (state : CaptureState) (pieces : List (List ℕ)) (answers : List Answer) →
+    AreAnswersTo state pieces answers →
+    have_ending answers ≡ true → records_from state (concat pieces) ≡ recorded_by answers
+recorded_by_answers state [] [] answers ends = absurd (false≢true ends)
+recorded_by_answers state [] (answer ∷ later) answers ends = absurd answers
+recorded_by_answers state (given ∷ pieces) [] answers ends = absurd answers
+recorded_by_answers state (given ∷ pieces) (Ok (Some captured) ∷ []) answers ends = absurd (false≢true ends)
+recorded_by_answers state (given ∷ pieces) (Ok (Some captured) ∷ next ∷ later) answers ends =
+    rw (with_record state given captured (concat pieces) answers.0)
+    (ap (followed_by (captured ∷ []))
+    (recorded_by_answers (state_next state captured) pieces (next ∷ later) answers.2 ends))
+recorded_by_answers state (given ∷ pieces) (Ok None ∷ later) answers ends =
     let none = answers.1 in
-    let alone = only_piece given pieces later start.order count none answers.2 in
-    rw (alone, none) (records_behind-end start count given answers.0.0)
-recorded_by_answers start count (given ∷ pieces) (Err ReadFault ∷ later) answers ends =
+    let alone = only_piece given pieces later (state_after state (Ok None)) none answers.2 in
+    rw (alone, none) (records_from-end state given answers.0.0)
+recorded_by_answers state (given ∷ pieces) (Err ReadFault ∷ later) answers ends =
     absurd (false≢true (rw answers.1 at ends))
-recorded_by_answers start count (given ∷ pieces) (Err fault ∷ later) answers ends =
-    let alone = only_piece given pieces later start.order count answers.1 answers.2 in
-    rw (alone, answers.1) (records_behind-fault start count given fault answers.0)
+recorded_by_answers state (given ∷ pieces) (Err fault ∷ later) answers ends =
+    let alone = only_piece given pieces later (state_after state (Err fault)) answers.1 answers.2 in
+    rw (alone, answers.1) (records_from-fault state given fault answers.0)
 
+-- what a capture is that was answered to its ending
 pub capture_of-answers : (header : List ℕ) (start : Start) (pieces : List (List ℕ)) (answers : List Answer) →
     IsStart header [] (Ok start) →
-    AreAnswersTo start.order 0 pieces answers → have_ending answers ≡ true →
-    capture_of (header ++ concat pieces) ≡ Ok (recorded_by start.link answers)
+    AreAnswersTo (begun start) pieces answers → have_ending answers ≡ true →
+    capture_of (header ++ concat pieces) ≡ Ok (recorded_by answers)
 capture_of-answers header start pieces answers is to ends =
     capture_of-read header (concat pieces) start is
-    ∙ ap (λ r. Ok r) (recorded_by_answers start 0 pieces answers to ends)
+    ∙ ap (λ r. Ok r) (recorded_by_answers (begun start) pieces answers to ends)
 
 -- what was left is what the answers on it come to, where they end
-recorded_by_answers_on : (start : Start) (count : ℕ) (left : List ℕ) (answers : List Answer) →
-    AreAnswersOn start.order count left answers →
-    have_ending answers ≡ true → records_behind start count left ≡ recorded_by start.link answers
-recorded_by_answers_on start count left [] on ends = absurd (false≢true ends)
-recorded_by_answers_on start count left (Ok (Some captured) ∷ []) on ends = absurd (false≢true ends)
-recorded_by_answers_on start count left (Ok (Some captured) ∷ next ∷ later) on ends =
-    records_behind-record start count left captured on.0 on.1
-    ∙ ap (λ rest. onward start.link (Record captured on.0) (λ behind. rest))
-    (recorded_by_answers_on start (count + 1) on.0 (next ∷ later) on.3 ends)
-recorded_by_answers_on start count left (Ok None ∷ later) on ends = rw on.2 (records_behind-end start count left on.1.0)
-recorded_by_answers_on start count left (Err ReadFault ∷ later) on ends = absurd (false≢true (rw on.2 at ends))
-recorded_by_answers_on start count left (Err fault ∷ later) on ends =
-    rw on.2 (records_behind-fault start count left fault on.1)
+recorded_by_answers_on : (state : CaptureState) (left : List ℕ) (answers : List Answer) →
+    AreAnswersOn state left answers →
+    have_ending answers ≡ true → records_from state left ≡ recorded_by answers
+recorded_by_answers_on state left [] on ends = absurd (false≢true ends)
+recorded_by_answers_on state left (Ok (Some captured) ∷ []) on ends = absurd (false≢true ends)
+recorded_by_answers_on state left (Ok (Some captured) ∷ next ∷ later) on ends =
+    records_from-record state left captured on.0 on.1
+    ∙ ap (followed_by (captured ∷ []))
+    (recorded_by_answers_on (state_next state captured) on.0 (next ∷ later) on.3 ends)
+recorded_by_answers_on state left (Ok None ∷ later) on ends = rw on.2 (records_from-end state left on.1.0)
+recorded_by_answers_on state left (Err ReadFault ∷ later) on ends = absurd (false≢true (rw on.2 at ends))
+recorded_by_answers_on state left (Err fault ∷ later) on ends =
+    rw on.2 (records_from-fault state left fault on.1)
 
+-- what a told file is that was answered to its ending
 pub capture_of-answers_on : (file : List ℕ) (start : Start) (answers : List Answer) → start_of file ≡ Ok start →
-    AreAnswersOn start.order 0 (drop file_header_len file) answers → have_ending answers ≡ true →
-    capture_of file ≡ Ok (recorded_by start.link answers)
+    AreAnswersOn (begun start) (drop file_header_len file) answers → have_ending answers ≡ true →
+    capture_of file ≡ Ok (recorded_by answers)
 capture_of-answers_on file start answers says on ends =
-    rw says (ap (λ r. Ok r) (recorded_by_answers_on start 0 (drop file_header_len file) answers on ends))
+    rw says (ap (λ r. Ok r) (recorded_by_answers_on (begun start) (drop file_header_len file) answers on ends))
 
--- a file header with a fault has no records behind it
+-- a file header with a fault has no records after it
 pub whole_records-none : (header : List ℕ) (fault : CaptureFault) → IsStart header [] (Err fault) →
     whole_records header ≡ []
 whole_records-none header ReadFault breaks =
     let front : header ≡ breaks.front = breaks.parts ∙ append-nil breaks.front in
     rw (ap start_of front ∙ breaks.no_whole) refl
 whole_records-none header fault says = rw says refl
+
+-- each record that is an answer has the link type of the file header
+pub records_given-link : (state : CaptureState) (link : Link) (pieces : List (List ℕ)) (answers : List Answer) →
+    state.start.link ≡ link → AreAnswersTo state pieces answers →
+    All (λ captured. captured.link ≡ link) (records_given answers)
+records_given-link state link [] [] is answers = All-nil (λ captured. captured.link ≡ link)
+records_given-link state link [] (answer ∷ later) is answers = absurd answers
+records_given-link state link (given ∷ pieces) [] is answers = absurd answers
+records_given-link state link (given ∷ pieces) (Ok (Some captured) ∷ later) is answers =
+    All-cons (λ r. r.link ≡ link) captured (records_given later)
+    (subst (HasLink state.start.link) answers.0 (next_of-link state given) ∙ is)
+    (records_given-link (state_next state captured) link pieces later is answers.2)
+records_given-link state link (given ∷ pieces) (Ok None ∷ later) is answers =
+    All-nil (λ captured. captured.link ≡ link)
+records_given-link state link (given ∷ pieces) (Err fault ∷ later) is answers =
+    All-nil (λ captured. captured.link ≡ link)

@@ -13,7 +13,7 @@ use Rattle.acl_outside.proofs.KeptLaws.{KeepsMade-same, KeepsMade-join, KeepsMad
 use Rattle.acl_outside.specs.Reading.{ReadsOn, and_goes_on}
 use Rattle.pcap_reader.specs.Fill.{KeepsReading, IsAtEnd, after_fill}
 
--- what was read behind the first len bytes stands behind them
+-- what was read after the first len bytes stands after them
 pub take-put_mid : (len size count : ℕ) (xs part : List ℕ) → len ≤ length xs → count ≤ length part →
     take (len + count) (put_mid len size xs part) ≡ take len xs ++ take count part
 take-put_mid len size count xs part within read =
@@ -36,7 +36,7 @@ length-put_mid len size xs part within fits =
       length-drop len xs,
     )
 
--- nothing was read behind the first len bytes
+-- nothing was read after the first len bytes
 pub take-put_none : (len size : ℕ) (xs part : List ℕ) → len ≤ length xs →
     take len (put_mid len size xs part) ≡ take len xs
 take-put_none len size xs part within =

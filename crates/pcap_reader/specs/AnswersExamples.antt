@@ -2,20 +2,27 @@
 use Rattle.std.specs.Prelude.{◌≡◌, List, [], ◌∷◌, Some, None, Ok, Err, true, false, refl}
 use Rattle.pcap_reader.specs.declared.fault.CaptureFault.TheVariants.{RecordCut, ReadFault}
 use Rattle.pcap_reader.specs.declared.link.Link.TheVariants.{Raw}
-use Rattle.pcap_reader.specs.Capture.{CaptureRecord}
-use Rattle.pcap_reader.specs.Answers.{Answer, recorded_by, have_ending}
+use Rattle.pcap_reader.specs.State.{Answer, CaptureRecord}
+use Rattle.pcap_reader.specs.Answers.{recorded_by, have_ending}
 
--- a record of two bytes, and one of none
+-- a record of two bytes
+abbrev long : CaptureRecord
+long = record { link = Raw; bytes = 8 ∷ 9 ∷ [] }
+
+-- a record of none
+abbrev short : CaptureRecord
+short = record { link = Raw; bytes = [] }
+
 abbrev two_records : List Answer → List Answer
-two_records later = Ok (Some (8 ∷ 9 ∷ [])) ∷ Ok (Some []) ∷ later
+two_records later = Ok (Some long) ∷ Ok (Some short) ∷ later
 
 abbrev both : List CaptureRecord
-both = record { link = Raw; bytes = 8 ∷ 9 ∷ [] } ∷ record { link = Raw; bytes = [] } ∷ []
+both = long ∷ short ∷ []
 
-whole : recorded_by Raw (two_records (Ok None ∷ [])) ≡ record { records = both; fault = None }
+whole : recorded_by (two_records (Ok None ∷ [])) ≡ record { records = both; fault = None }
 whole = refl
 
-cut : recorded_by Raw (two_records (Err (RecordCut 3) ∷ []))
+cut : recorded_by (two_records (Err (RecordCut 3) ∷ []))
     ≡ record { records = both; fault = Some (RecordCut 3) }
 cut = refl
 

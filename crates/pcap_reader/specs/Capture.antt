@@ -3,11 +3,10 @@
 use Rattle.std.specs.Prelude.{ℕ, zero, suc, ◌+◌, ◌==◌, List, [], ◌∷◌, ◌++◌, length, take, drop, nat_lt, Option, Some, None, Result, Ok, Err, if◌then◌else◌}
 use Rattle.pcap_reader.specs.declared.fault.CaptureFault.{CaptureFault}
 use Rattle.pcap_reader.specs.declared.fault.CaptureFault.TheVariants.{RecordCut, RecordTooLong, TooManyRecords}
-use Rattle.pcap_reader.specs.declared.link.Link.{Link}
-use Rattle.pcap_reader.specs.declared.start.Order.{Order}
-use Rattle.pcap_reader.specs.declared.start.Start.{Start}
 use Rattle.pcap_reader.specs.Headers.{record_header_of}
 use Rattle.pcap_reader.specs.Start.{start_of, file_header_len, ◌>>=◌}
+use Rattle.pcap_reader.specs.declared.state.CaptureState.{CaptureState}
+use Rattle.pcap_reader.specs.State.{CaptureRecord, begun, record_of, state_after}
 
 -- how many bytes a record header has
 abbrev pub record_header_len : ℕ
@@ -21,69 +20,60 @@ max_captured = 262144
 abbrev pub max_records : ℕ
 max_records = 1000000000
 
--- what stands next in the bytes that are left: nothing, a record and the bytes behind it, or a
--- fault
+-- what stands next in the bytes that are left: nothing, a record and the bytes after it, or a fault
 pub data Next : Type 0 where
   End : Next
-  Record : (captured behind : List ℕ) → Next
+  Record : (captured : CaptureRecord) → (after : List ℕ) → Next
   Fault : CaptureFault → Next
 
--- the captured bytes behind the header of the record with this number, where at least one byte is
--- left
-abbrev pub next_record : Order → ℕ → List ℕ → Next
-next_record order number left =
-    let len = (record_header_of order left).captured in
+-- the captured bytes after the header of the next record, where at least one byte is left
+abbrev pub next_record : CaptureState → List ℕ → Next
+next_record state left =
+    let number = state.count + 1 in
+    let len = (record_header_of state.start.order left).captured in
     if nat_lt max_records number then Fault TooManyRecords
     else (if nat_lt (length left) record_header_len then Fault (RecordCut number)
     else (if nat_lt max_captured len then Fault (RecordTooLong number)
     else (if nat_lt (length left) (record_header_len + len) then Fault (RecordCut number)
-    else Record (take len (drop record_header_len left)) (drop (record_header_len + len) left))))
+    else Record (record_of state (take len (drop record_header_len left)))
+    (drop (record_header_len + len) left))))
 
--- what stands next behind so many records
-abbrev pub next_of : Order → ℕ → List ℕ → Next
-next_of order count left = if length left == 0 then End else next_record order (count + 1) left
-
--- a record of a capture
-pub record CaptureRecord : Type 0 where
-  pub link : Link
-  pub bytes : List ℕ
+-- what stands next in the bytes that are left in a state of the reader
+abbrev pub next_of : CaptureState → List ℕ → Next
+next_of state left = if length left == 0 then End else next_record state left
 
 -- what a capture holds: its records, and the fault that ends it, or none where it ends whole
 pub record Recorded : Type 0 where
   pub records : List CaptureRecord
   pub fault : Option CaptureFault
 
--- some records, and then what the bytes behind them hold
+-- some records, and then what the bytes after them hold
 abbrev pub followed_by : List CaptureRecord → Recorded → Recorded
-followed_by records behind = record { records = records ++ behind.records; fault = behind.fault }
+followed_by records later = record { records = records ++ later.records; fault = later.fault }
 
--- what stands next, and then what `rest` makes of the bytes behind it
-abbrev pub onward : Link → Next → (List ℕ → Recorded) → Recorded
-onward link End rest = record { records = []; fault = None }
-onward link (Record captured behind) rest =
-    record {
-      records = record { link = link; bytes = captured } ∷ (rest behind).records;
-      fault = (rest behind).fault;
-    }
-onward link (Fault fault) rest = record { records = []; fault = Some fault }
+-- what stands next, and then what `rest` makes of the record and the bytes after it
+abbrev pub onward : Next → (CaptureRecord → List ℕ → Recorded) → Recorded
+onward End rest = record { records = []; fault = None }
+onward (Record captured after) rest = followed_by (captured ∷ []) (rest captured after)
+onward (Fault fault) rest = record { records = []; fault = Some fault }
 
--- The records of the bytes that are left behind so many records. Each record takes bytes away, so
+-- The records of the bytes that are left in a state of the reader. Each record takes bytes away, so
 -- that as much fuel as there are bytes is enough.
-abbrev pub records_within : ℕ → Start → ℕ → List ℕ → Recorded
-records_within zero start count left = record { records = []; fault = None }
-records_within (suc fuel) start count left =
-    onward start.link (next_of start.order count left)
-    (λ behind. records_within fuel start (count + 1) behind)
+abbrev pub records_within : ℕ → CaptureState → List ℕ → Recorded
+records_within zero state left = record { records = []; fault = None }
+records_within (suc fuel) state left =
+    onward (next_of state left)
+    (λ captured after. records_within fuel (state_after state (Ok (Some captured))) after)
 
--- the records of the bytes that are left behind so many records
-abbrev pub records_behind : Start → ℕ → List ℕ → Recorded
-records_behind start count left = records_within (length left) start count left
+-- the records of the bytes that are left in a state of the reader, and their ending
+abbrev pub records_from : CaptureState → List ℕ → Recorded
+records_from state left = records_within (length left) state left
 
 -- the records of a capture and its ending, or the fault of its file header
 abbrev pub capture_of : List ℕ → Result Recorded CaptureFault
 capture_of bytes = do
   start ← start_of bytes
-  Ok (records_behind start 0 (drop file_header_len bytes))
+  Ok (records_from (begun start) (drop file_header_len bytes))
 
 -- the records of a capture that has no fault in its file header
 abbrev pub records_in : Result Recorded CaptureFault → List CaptureRecord

@@ -2,6 +2,7 @@ pub mod Fill
 pub mod Headers
 pub mod Start
 pub mod StartExamples
+pub mod State
 pub mod Capture
 pub mod CaptureExamples
 pub mod Reader

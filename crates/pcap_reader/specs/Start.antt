@@ -1,4 +1,4 @@
--- What the file header of a capture says of the records behind it (libpcap savefile format 2.4,
+-- What the file header of a capture says of the records after it (libpcap savefile format 2.4,
 -- file header).
 use Rattle.std.specs.Prelude.{ℕ, ◌%◌, ◌==◌, List, [], ◌∷◌, length, take, Bool, ◌&&◌, ◌||◌, nat_le, Option, Some, None, Result, Ok, Err, if◌then◌else◌}
 use Rattle.pcap_reader.specs.declared.fault.CaptureFault.{CaptureFault}
@@ -16,7 +16,7 @@ abbrev pub file_header_len : ℕ
 file_header_len = 24
 
 infixl 10 ◌>>=◌
--- what a part gives goes into what comes behind it, and the fault of a part is that of the whole
+-- what a part gives goes into what comes after it, and the fault of a part is that of the whole
 abbrev pub ◌>>=◌ : {A B : Type 0} → Result A CaptureFault → (A → Result B CaptureFault) →
     Result B CaptureFault
 Ok value >>= f = f value

@@ -65,9 +65,9 @@ high_bits_of_the_network : start_of (little_header little_micro 2 4 (1 ∷ 0 ∷
     ≡ Ok (record { order = Little; link = Ethernet })
 high_bits_of_the_network = refl
 
-bytes_behind_the_header : start_of (ethernet_header ++ 1 ∷ 2 ∷ 3 ∷ [])
+bytes_after_the_header : start_of (ethernet_header ++ 1 ∷ 2 ∷ 3 ∷ [])
     ≡ Ok (record { order = Little; link = Ethernet })
-bytes_behind_the_header = refl
+bytes_after_the_header = refl
 
 no_bytes : start_of [] ≡ Err HeaderCut
 no_bytes = refl

@@ -1,13 +1,14 @@
 //! A capture that is read record by record.
 
-ghost use Rattle.std.specs.Prelude.{◌≡◌, IsTrue, false};
-ghost use Rattle.pcap_reader.specs.Reader.{Begins, TakesNext, answer_of, has_failed};
+ghost use Rattle.std.specs.Prelude.{◌≡◌, ◌≤◌, IsTrue, false, length};
+ghost use Rattle.pcap_reader.specs.Reader.{Begins, BeginsWith, TakesNext, answer_of};
+ghost use Rattle.pcap_reader.specs.Start.{file_header_len};
+ghost use Rattle.pcap_reader.specs.State.{has_failed};
 
 use crate::fault::{BeginFault, CaptureFault};
 use crate::link::Link;
-use crate::progress::Progress;
 use crate::record::{MAX_CAPTURED, read_file_header, read_record};
-use crate::start::Start;
+use crate::state::{CaptureState, Progress};
 use acl_outside::Desk;
 use std::alloc::{AllocError, Global};
 use std::marker::Model;
@@ -18,10 +19,7 @@ use std::marker::Model;
 /// says. The desk is lent to each call, and must have the same file opened.
 #[derive(Drop)]
 pub struct Capture {
-    start: Start,
-    /// How many records were given.
-    count: u64,
-    progress: Progress,
+    state: CaptureState,
     /// Room for the captured bytes of a record.
     buffer: Vec<u8>,
 }
@@ -29,11 +27,13 @@ pub struct Capture {
 impl Model for Capture {
     ghost use Rattle.std.specs.Prelude.{◌≡◌, vec_len};
     ghost use Rattle.pcap_reader.specs.Capture.{max_captured};
-    ghost use Rattle.pcap_reader.specs.Reader.{CaptureState, state_of};
+    ghost use Rattle.pcap_reader.specs.State.{state_of};
+    ghost use Rattle.pcap_reader.specs.declared.state.CaptureState.{CaptureState};
 
     ghost Value = { CaptureState };
 
-    ghost view = { λ capture. state_of capture.start capture.count capture.progress };
+    ghost view = { λ capture. state_of capture.state.start capture.state.count
+        capture.state.progress };
 
     ghost invariant = { λ capture. vec_len capture.buffer ≡ max_captured };
 }
@@ -51,18 +51,37 @@ impl Capture {
         requires { IsTrue (D.view desk.old).reading }
         ensures { Begins (D.view desk.old) (D.view desk.new) result }
     {
+        Capture::begin_with(alloc, desk, &[])
+    }
+
+    /// Begins to read a capture of which the first bytes were read before, and the rest is what is
+    /// left of the opened file.
+    ///
+    /// A file has to be opened, and `first` has at most 24 bytes. All else is as in
+    /// [`begin`](Capture::begin).
+    pub fn begin_with<D: Desk>(
+        alloc: Global,
+        desk: &mut D,
+        first: &[u8],
+    ) -> Result<Capture, BeginFault>
+        requires reading { IsTrue (D.view desk.old).reading }
+        requires few { length first.now ≤ file_header_len }
+        ensures { BeginsWith first.now (D.view desk.old) (D.view desk.new) result }
+    {
         let mut buffer = Vec::new(alloc);
         match buffer.resize(MAX_CAPTURED, 0) {
             Ok(()) => {}
             Err(AllocError) => return Err(BeginFault::OutOfMemory),
         }
-        match read_file_header(desk) {
-            Ok(start) => Ok(Capture {
-                start,
-                count: 0,
-                progress: Progress::Reading,
-                buffer,
-            }),
+        match read_file_header(desk, first) {
+            Ok(start) => {
+                let state = CaptureState {
+                    start,
+                    count: 0,
+                    progress: Progress::Reading,
+                };
+                Ok(Capture { state, buffer })
+            }
             Err(fault) => Err(BeginFault::Capture(fault)),
         }
     }
@@ -79,23 +98,24 @@ impl Capture {
         requires reading { IsTrue (D.view desk.old).reading }
         requires unfailed { has_failed self.old.progress ≡ false }
 
-        ensures record { TakesNext self.old (D.view desk.old) (D.view desk.new) (answer_of result) }
+        ensures record { TakesNext self.old (D.view desk.old) (D.view desk.new)
+            (answer_of self.old result) }
         ensures* goes_on { sem 𝓛 (GoesOnAs self.entry result) }
     {
-        if self.progress == Progress::Ended {
+        if self.state.progress == Progress::Ended {
             return Ok(None);
         }
-        match read_record(desk, self.start.order, self.count, &mut self.buffer) {
+        match read_record(desk, &self.state, &mut self.buffer) {
             Ok(Some(len)) => {
-                self.count += 1;
+                self.state.count += 1;
                 Ok(Some(&self.buffer[..len]))
             }
             Ok(None) => {
-                self.progress = Progress::Ended;
+                self.state.progress = Progress::Ended;
                 Ok(None)
             }
             Err(fault) => {
-                self.progress = Progress::Failed;
+                self.state.progress = Progress::Failed;
                 Err(fault)
             }
         }
@@ -106,20 +126,20 @@ impl Capture {
     pub fn link(&self) -> Link
         ensures { result ≡ self.now.start.link }
     {
-        self.start.link
+        self.state.start.link
     }
 
     /// How many records were given.
     pub fn count(&self) -> u64
         ensures { result ≡ self.now.count }
     {
-        self.count
+        self.state.count
     }
 
     /// Whether an earlier call answered a fault.
     pub fn failed(&self) -> bool
         ensures { result ≡ has_failed self.now.progress }
     {
-        self.progress == Progress::Failed
+        self.state.progress == Progress::Failed
     }
 }

@@ -5,7 +5,7 @@ use thiserror::Error;
 /// Why a capture is refused. A number is that of the record, from 1.
 ///
 /// The first four are faults of the file header, and the first that holds is told. The bytes that
-/// are left are those behind the file header and all records before.
+/// are left are those after the file header and all records before.
 #[derive(Clone, Copy, Debug, PartialEq, Eq, Error)]
 pub enum CaptureFault {
     /// The file has fewer than 24 bytes.
@@ -27,7 +27,7 @@ pub enum CaptureFault {
     /// The record header is whole, and its captured length is above 262,144.
     #[error("record {0}: too long")]
     RecordTooLong(u64),
-    /// At least one byte is left behind 1,000,000,000 records.
+    /// At least one byte is left after 1,000,000,000 records.
     #[error("too many")]
     TooManyRecords,
     /// The desk couldn't read, and its count of read faults rose.

@@ -6,7 +6,7 @@ ghost use Rattle.pcap_reader.specs.Fill.{Fills, FillsOn};
 use acl_outside::{Desk, Failed};
 
 /// Reads the next bytes of the opened file into `into`, and says how many they are: all that it has
-/// room for, or fewer where the file ends before. What stands behind them in `into` is left open.
+/// room for, or fewer where the file ends before. What stands after them in `into` is left open.
 ///
 /// It asks for no byte beyond `into`, and for none where `into` is empty. `Failed`: the desk's
 /// count of read faults rose. It takes no memory.

@@ -19,7 +19,7 @@ pub struct FileHeader {
 /// The lengths of a record header, in bytes. The time of the record is ignored.
 #[derive(Clone, Copy, Debug, PartialEq, Eq)]
 pub struct RecordHeader {
-    /// How many bytes were captured, which stand behind the header.
+    /// How many bytes were captured, which stand after the header.
     pub captured: u32,
     /// How many bytes the packet had. It may be below `captured` in a file that lies.
     pub original: u32,

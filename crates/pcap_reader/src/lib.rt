@@ -11,7 +11,7 @@
 //! | `start` | what a file header says of the records: their byte order and link type |
 //! | `link` | the link types that are read |
 //! | `fault` | why a capture is refused |
-//! | `progress` | whether a reader has records to give, has ended or has failed |
+//! | `state` | what a reader knows of its capture, and how far it came |
 //! | `laws` | that the numbers are those of the format, and how records follow one another |
 //!
 //! The format is that of libpcap's savefiles, version 2.4. The file header stands once, and a
@@ -31,9 +31,9 @@ mod fill;
 mod header;
 pub mod laws;
 mod link;
-mod progress;
 mod record;
 mod start;
+mod state;
 #[cfg(test)]
 mod tests;
 

@@ -1,4 +1,4 @@
-//! What a file header says of the records behind it.
+//! What a file header says of the records after it.
 
 ghost use Rattle.std.specs.Prelude.{◌≡◌, length};
 ghost use Rattle.pcap_reader.specs.Start.{is_magic, order_of, link_of, or_fault, start_in};
@@ -58,7 +58,7 @@ impl Order {
     }
 }
 
-/// What a file header says of the records behind it.
+/// What a file header says of the records after it.
 #[derive(Clone, Copy, Debug, PartialEq, Eq)]
 pub struct Start {
     pub order: Order,

@@ -3,7 +3,7 @@
 ghost use Rattle.std.specs.Prelude.{◌<◌, IsTrue};
 
 use super::*;
-use acl_outside::{Desk, MemDesk, MemFile};
+use acl_outside::{Desk, MemDesk, MemFile, read_up_to};
 use std::alloc::AllocError;
 use std::process::Abort;
 use std::test::Fail;
@@ -99,6 +99,20 @@ fn a_capture_ends_by_its_records_its_first_fault_or_a_read_fault(
         desk.open_file("capture")?;
         let ending = ending.map_err(BeginFault::Capture);
         shows(&rt, &mut desk, &RECORDS[..count], ending);
+    }
+    Ok(())
+}
+
+#[test]
+fn a_capture_goes_on_after_bytes_that_were_read_before(rt: HostRuntime) -> Result<(), Fail> {
+    for len in [0usize, 4, 24] {
+        let mut desk = desk_of(&rt, CAPTURE.len(), 100, 0)?;
+        desk.open_file("capture")?;
+        let first = read_up_to(rt.alloc(), &mut desk, len)?;
+        assert!(rt; first.len() <= 24);
+        let mut capture = Capture::begin_with(rt.alloc(), &mut desk, &first)?;
+        assert_eq!(rt; capture.link(), Link::Ethernet);
+        assert_eq!(rt; capture.next(&mut desk), Ok(Some(RECORDS[0])), "{len}");
     }
     Ok(())
 }

@@ -1,6 +1,6 @@
 use Rattle.std.proofs.Common.{◌≡◌, false}
 use Rattle.std.specs.Bool.{IsTrue}
-use Rattle.pcap_reader.specs.Reader.{has_failed}
+use Rattle.pcap_reader.specs.State.{has_failed}
 use Rattle.pcap_reader.proofs.tests.shows.Given as goal
 
 abbrev pub invariant-loop-record : goal.invariant-loop-record
