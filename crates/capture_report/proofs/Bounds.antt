@@ -50,7 +50,7 @@ class_bound Other tables key = omega arith
 class_bound Short tables key = omega arith
 
 capture_bound : (form : ReportForm) (capture : Result Recorded CaptureFault) →
-    (report_of_capture form capture).steps ≤ most_of_records form.tables (records_in capture)
+    (report_of_capture form capture).transitions ≤ most_of_records form.tables (records_in capture)
 capture_bound form (Ok capture) =
     sum_by-le-sum_by (λ (packet : FrameClass). transitions_on packet.class form.tables packet.key)
     (λ (packet : FrameClass). most_on packet.class form.tables) (map packet_of capture.records)
@@ -71,7 +71,8 @@ heard_bound form name told old new reached file (inr (one, named, part, inl (hea
 heard_bound form name told old new reached file (inr (one, named, part, inr (enough, (heard, is)))) newest =
     let same : one ≡ file = (let e = sym heard ∙ newest in cc) in
     rw is
-    (subst (λ (h : Heard). (report form one.bytes).transitions ≤ most_of_records form.tables (whole_records h.bytes)) same
+    (subst (λ (h : Heard). (report form one.bytes).transitions ≤ most_of_records form.tables (whole_records h.bytes))
+    same
     (report_bound form one.bytes))
 
 -- and so is the rise of the counter where the report was decided
