@@ -1,6 +1,6 @@
 -- What answers as the tables do prints the same.
 use Rattle.std.proofs.Common.{◌≡◌, ℕ, zero, suc, ◌+◌, ◌<◌, ◌≤◌, List, [], ◌∷◌, ◌++◌, map, All, Option, Some, None}
-use Rattle.std.proofs.Common.{inl, refl, sym, ap, ◌∙◌, arith}
+use Rattle.std.proofs.Common.{refl, sym, ap, ◌∙◌, arith}
 use Rattle.std.specs.Bool.{IsTrue}
 use Rattle.std.specs.List.{range_with_len}
 use Rattle.std.proofs.lemmas.Bool.Decides.{nat_tests}
@@ -16,8 +16,8 @@ use Rattle.acl_report.specs.declared.packet.TheConstants.{MAX_VERDICTS}
 use Rattle.acl_report.specs.Packet.{packet_text}
 use Rattle.acl_outside.specs.Desk.{File}
 use Rattle.pcap_reader.specs.declared.fault.CaptureFault.{CaptureFault}
-use Rattle.pcap_reader.specs.Reader.{CaptureState}
-use Rattle.pcap_reader.specs.Capture.{CaptureRecord}
+use Rattle.pcap_reader.specs.declared.state.CaptureState.{CaptureState}
+use Rattle.pcap_reader.specs.State.{CaptureRecord}
 use Rattle.capture_report.specs.declared.form.PrintOptions.{PrintOptions}
 use Rattle.command_plan.specs.declared.status.Status.{Status}
 use Rattle.capture_report.specs.Packet.{IsPacket, packet_of}
@@ -27,7 +27,6 @@ use Rattle.capture_report.specs.Report.{shown, answers_of, answers_on, line_of_p
 use Rattle.capture_report.specs.Report.{lines_of_records}
 use Rattle.capture_report.specs.CaptureOutcome.{last_lines, reported}
 use Rattle.command_plan.specs.declared.status.Status.TheVariants.{OutOfMemory}
-use Rattle.command_plan.specs.Follow.{Before}
 use Rattle.command_plan.specs.Effects.{Outside}
 use Rattle.capture_report.specs.PrintsCapture.{Reports, PrintsCapture}
 use Rattle.command_plan.proofs.Offered.{Ends-full, Ends-told, Ends-complete, IsFaithful}

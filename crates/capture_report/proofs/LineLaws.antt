@@ -7,7 +7,7 @@ use Rattle.std.proofs.lemmas.List.Sums.{sum_by-append, sum_by-cons}
 use Rattle.header_extract.specs.declared.class.Class.{Class}
 use Rattle.header_extract.specs.declared.class.Class.TheVariants.{Ip4, Ip6, Other, Short}
 use Rattle.header_extract.specs.Class.{FrameClass}
-use Rattle.pcap_reader.specs.Capture.{CaptureRecord}
+use Rattle.pcap_reader.specs.State.{CaptureRecord}
 use Rattle.acl_report.specs.declared.counts.Counts.{Counts}
 use Rattle.acl_report.specs.Line.{line_feed, line_of, spaced}
 use Rattle.acl_report.specs.Counts.{counted, counts_of, is_ip4, is_ip6, is_other, is_short}

@@ -1,6 +1,6 @@
 -- What the reader of a capture comes to: the next record, the file header, and the first bytes of a file. These are
 -- the only lemmas that know the format of a capture.
-use Rattle.std.proofs.Common.{◌≡◌, ◌≢◌, ℕ, zero, suc, ◌+◌, ◌<◌, ◌≤◌, List, [], ◌∷◌, ◌++◌, length, map, drop, All}
+use Rattle.std.proofs.Common.{◌≡◌, ◌≢◌, ℕ, zero, suc, ◌<◌, ◌≤◌, List, [], ◌∷◌, ◌++◌, length, map, drop, All}
 use Rattle.std.proofs.Common.{Option, Some, None, Result, Ok, Err, inl, inr, refl, sym, subst, ap, ◌∙◌, append-nil}
 use Rattle.std.proofs.Common.{length-append, arith}
 use Rattle.std.specs.Bool.{⊤}
@@ -13,102 +13,97 @@ use Rattle.acl_outside.specs.Reading.{ReadsOn, and_goes_on}
 use Rattle.header_extract.specs.Class.{FrameClass}
 use Rattle.pcap_reader.specs.declared.fault.CaptureFault.{CaptureFault}
 use Rattle.pcap_reader.specs.declared.fault.CaptureFault.TheVariants.{HeaderCut, RecordCut, ReadFault}
-use Rattle.pcap_reader.specs.declared.link.Link.{Link}
 use Rattle.pcap_reader.specs.declared.start.Start.{Start}
 use Rattle.pcap_reader.specs.Start.{start_of, file_header_len}
-use Rattle.pcap_reader.specs.Capture.{CaptureRecord, End as NoMore, Record, Fault as Failing, max_records, next_of}
-use Rattle.pcap_reader.specs.Capture.{records_behind, capture_of, whole_records}
+use Rattle.pcap_reader.specs.State.{Answer, CaptureRecord, begun, state_after}
+use Rattle.pcap_reader.specs.Capture.{End as NoMore, Record, Fault as Failing, max_records, next_of}
+use Rattle.pcap_reader.specs.Capture.{records_from, capture_of, whole_records}
 use Rattle.pcap_reader.specs.Fill.{KeepsReading, IsAtEnd}
-use Rattle.pcap_reader.specs.Reader.{CaptureState, ReadsNext, ReadsStart}
-use Rattle.pcap_reader.proofs.Offered.{IsDecided, next_of-append, next_of-too_many}
-use Rattle.pcap_reader.proofs.NextLaws.{with_behind}
-use Rattle.pcap_reader.proofs.Offered.{IsShorter, next_of-shorter, next_cases}
-use Rattle.pcap_reader.proofs.CaptureLaws.{records_behind-record}
-use Rattle.pcap_reader.proofs.CaptureLaws.{records_behind-end, records_behind-fault}
-use Rattle.pcap_reader.proofs.Offered.{no_records, unanswered, capture_of-read, whole_records-none}
+use Rattle.pcap_reader.specs.declared.state.CaptureState.{CaptureState}
+use Rattle.pcap_reader.specs.Reader.{ReadsNext, ReadsStart}
+use Rattle.pcap_reader.proofs.NextLaws.{IsDecided, with_more, next_of-append, next_of-too_many}
+use Rattle.pcap_reader.proofs.CaptureLaws.{IsShorter, next_of-shorter, next_cases, records_from-record}
+use Rattle.pcap_reader.proofs.CaptureLaws.{records_from-end, records_from-fault}
+use Rattle.pcap_reader.proofs.AnswersLaws.{no_records, unanswered, capture_of-read, whole_records-none}
 use Rattle.capture_report.specs.declared.batch.BatchEnd.{BatchEnd}
 use Rattle.capture_report.specs.declared.batch.BatchEnd.TheVariants.{Full, End, Fault}
-use Rattle.capture_report.specs.NextRecord.{NextAnswer, AsksNext, IsBegun, MayGoOn, record_in, records_from}
-use Rattle.capture_report.specs.NextRecord.{state_then}
+use Rattle.capture_report.specs.NextRecord.{IsBegun, MayGoOn, record_in}
 use Rattle.capture_report.specs.Packet.{IsPacket, packet_of}
 use Rattle.capture_report.specs.Streams.{IsUnbroken}
-use Rattle.capture_report.specs.Taken.{onto, AreAll, Took, TakesRecord, end_of, stands}
+use Rattle.capture_report.specs.Taken.{AreAll, Took, TakesRecord, end_of, stands}
 
 -- a reader that has begun gave no record, and may be asked
 pub begun-count : (state : CaptureState) → IsBegun state → state.count ≡ 0
-begun-count state begun = ap (λ s. s.count) begun
+begun-count state begins = ap (λ s. s.count) begins
 
 pub begun-goes_on : (state : CaptureState) → IsBegun state → MayGoOn state
-begun-goes_on state begun = ap (λ s. s.progress) begun
+begun-goes_on state begins = ap (λ s. s.progress) begins
 
 -- no bytes have no records
 pub records_from-nothing : (state : CaptureState) → (records_from state []).records ≡ []
-records_from-nothing state = ap (λ r. r.records) (records_behind-end state.start state.count [] refl)
+records_from-nothing state = ap (λ r. r.records) (records_from-end state [] refl)
 
 -- there is a record only where there may be one more
-record_few : (state : CaptureState) (given captured later : List ℕ) →
-    next_of state.start.order state.count given ≡ Record captured later → state.count < max_records
+record_few : (state : CaptureState) (given : List ℕ) (captured : CaptureRecord) (later : List ℕ) →
+    next_of state given ≡ Record captured later → state.count < max_records
 record_few state given captured later next =
     elim (cases_eq (length given) 0) [
       | inl none ↦
-          let ends : next_of state.start.order state.count given ≡ NoMore =
+          let ends : next_of state given ≡ NoMore =
           rw (eq-eqb (length given) 0 none) refl in
           absurd (cc)
       | inr some ↦ elim (cases_lt state.count max_records) [
         | inl few ↦ few
         | inr many ↦
-            let over = next_of-too_many state.start.order state.count given (omega arith) many in
+            let over = next_of-too_many state given (omega arith) many in
             absurd (cc)
       ]
     ]
 
 -- one record was taken
 Took-record : (state : CaptureState) (captured : CaptureRecord) (old new : DeskView) →
-    (asks : AsksNext state old new (Ok (Some captured))) →
-    Took state (state_then state (Ok (Some captured))) (captured ∷ []) asks.reads.given old new Full
-Took-record state captured old new asks = record {
+    (reads : ReadsNext state old new (Ok (Some captured))) →
+    Took state (state_after state (Ok (Some captured))) (captured ∷ []) reads.given old new Full
+Took-record state captured old new reads = record {
   bytes = λ later.
-      let next : next_of state.start.order state.count (asks.reads.given ++ later) ≡ Record captured.bytes later =
-      next_of-append state.start.order state.count asks.reads.given later
-      (subst IsDecided (sym asks.reads.answer) tt)
-      ∙ ap (λ n. with_behind n later) asks.reads.answer in
-      records_behind-record state.start state.count (asks.reads.given ++ later) captured.bytes later next
-      ∙ ap (λ (link : Link). onto (record { link = link; bytes = captured.bytes } ∷ [])
-      (records_from (state_then state (Ok (Some captured))) later)) (sym asks.link);
-  reads = asks.reads.reads;
+      let next : next_of state (reads.given ++ later) ≡ Record captured later =
+      next_of-append state reads.given later (subst IsDecided (sym reads.next) tt)
+      ∙ ap (λ n. with_more n later) reads.next in
+      records_from-record state (reads.given ++ later) captured later next;
+  reads = reads.reads;
   at_end = λ e. absurd (cc);
   read_fault = λ e. absurd (cc);
-  keeps = asks.reads.keeps;
+  keeps = reads.keeps;
   goes_on = λ full may. may;
   count = refl;
-  few = λ below. omega (arith, record_few state asks.reads.given captured.bytes [] asks.reads.answer);
+  few = λ below. omega (arith, record_few state reads.given captured [] reads.next);
 }
 
-AreAll-end : (state : CaptureState) (given : List ℕ) → next_of state.start.order state.count given ≡ NoMore →
+AreAll-end : (state : CaptureState) (given : List ℕ) → next_of state given ≡ NoMore →
     AreAll state given Ended [] None
 AreAll-end state given next more none =
     ap (records_from state) (ap (λ l. given ++ l) (none refl) ∙ append-nil given)
-    ∙ records_behind-end state.start state.count given next
+    ∙ records_from-end state given next
 
 AreAll-cut : (state : CaptureState) (given : List ℕ) (fault : CaptureFault) →
-    next_of state.start.order state.count given ≡ Failing fault → AreAll state given Ended [] (Some fault)
+    next_of state given ≡ Failing fault → AreAll state given Ended [] (Some fault)
 AreAll-cut state given fault next more none =
     ap (records_from state) (ap (λ l. given ++ l) (none refl) ∙ append-nil given)
-    ∙ records_behind-fault state.start state.count given fault next
+    ∙ records_from-fault state given fault next
 
 AreAll-decided : (state : CaptureState) (given : List ℕ) (fault : CaptureFault) →
-    next_of state.start.order state.count given ≡ Failing fault →
+    next_of state given ≡ Failing fault →
     IsDecided (Failing fault) → AreAll state given GoesOn [] (Some fault)
 AreAll-decided state given fault next decided more none =
-    records_behind-fault state.start state.count (given ++ more) fault
-    (next_of-append state.start.order state.count given more (subst IsDecided (sym next) decided)
-    ∙ ap (λ n. with_behind n more) next)
+    records_from-fault state (given ++ more) fault
+    (next_of-append state given more (subst IsDecided (sym next) decided)
+    ∙ ap (λ n. with_more n more) next)
 
 -- no record was there: the end of the capture
-Took-end : (state : CaptureState) (old new : DeskView) → (reads : ReadsNext state.start.order state.count old new (Ok None)) →
-    Took state (state_then state (Ok None)) [] reads.given old new End
+Took-end : (state : CaptureState) (old new : DeskView) → (reads : ReadsNext state old new (Ok None)) →
+    Took state (state_after state (Ok None)) [] reads.given old new End
 Took-end state old new reads = record {
-  bytes = AreAll-end state reads.given reads.answer.0;
+  bytes = AreAll-end state reads.given reads.next.0;
   reads = reads.reads;
   at_end = λ e. reads.end refl;
   read_fault = λ e. absurd (cc);
@@ -120,11 +115,11 @@ Took-end state old new reads = record {
 
 -- no record was there: a fault
 Took-fault : (fault : CaptureFault) (state : CaptureState) (old new : DeskView) →
-    (reads : ReadsNext state.start.order state.count old new (Err fault)) →
-    Took state (state_then state (Err fault)) [] reads.given old new (Fault fault)
+    (reads : ReadsNext state old new (Err fault)) →
+    Took state (state_after state (Err fault)) [] reads.given old new (Fault fault)
 Took-fault ReadFault state old new reads = record {
-  bytes = no_records state.start state.count reads.given
-      (unanswered state.start.order state.count reads.given ReadFault reads.answer);
+  bytes = no_records state reads.given
+      (unanswered state reads.given ReadFault reads.next);
   reads = reads.reads;
   at_end = λ e. absurd (cc);
   read_fault = λ e. reads.read_fault refl;
@@ -134,7 +129,7 @@ Took-fault ReadFault state old new reads = record {
   few = λ below. below;
 }
 Took-fault HeaderCut state old new reads = record {
-  bytes = AreAll-cut state reads.given HeaderCut reads.answer;
+  bytes = AreAll-cut state reads.given HeaderCut reads.next;
   reads = reads.reads;
   at_end = λ e. reads.end refl;
   read_fault = λ e. absurd (cc);
@@ -144,7 +139,7 @@ Took-fault HeaderCut state old new reads = record {
   few = λ below. below;
 }
 Took-fault (RecordCut n) state old new reads = record {
-  bytes = AreAll-cut state reads.given (RecordCut n) reads.answer;
+  bytes = AreAll-cut state reads.given (RecordCut n) reads.next;
   reads = reads.reads;
   at_end = λ e. reads.end refl;
   read_fault = λ e. absurd (cc);
@@ -154,7 +149,7 @@ Took-fault (RecordCut n) state old new reads = record {
   few = λ below. below;
 }
 Took-fault fault state old new reads = record {
-  bytes = AreAll-decided state reads.given fault reads.answer tt;
+  bytes = AreAll-decided state reads.given fault reads.next tt;
   reads = reads.reads;
   at_end = λ e. absurd (cc);
   read_fault = λ e. absurd (cc);
@@ -165,25 +160,25 @@ Took-fault fault state old new reads = record {
 }
 
 -- how a batch of the records of one answer ends
-abbrev stop_of : NextAnswer → BatchEnd
+abbrev stop_of : Answer → BatchEnd
 stop_of (Ok None) = End
 stop_of (Ok (Some captured)) = Full
 stop_of (Err fault) = Fault fault
 
 -- what an answer says was taken
-Took-answer : (answer : NextAnswer) (state : CaptureState) (old new : DeskView) →
-    (asks : AsksNext state old new answer) →
-    Took state (state_then state answer) (record_in answer) asks.reads.given old new (stop_of answer)
-Took-answer (Ok None) state old new asks = Took-end state old new asks.reads
-Took-answer (Ok (Some captured)) state old new asks = Took-record state captured old new asks
-Took-answer (Err fault) state old new asks = Took-fault fault state old new asks.reads
+Took-answer : (answer : Answer) (state : CaptureState) (old new : DeskView) →
+    (reads : ReadsNext state old new answer) →
+    Took state (state_after state answer) (record_in answer) reads.given old new (stop_of answer)
+Took-answer (Ok None) state old new reads = Took-end state old new reads
+Took-answer (Ok (Some captured)) state old new reads = Took-record state captured old new reads
+Took-answer (Err fault) state old new reads = Took-fault fault state old new reads
 
 -- the same of the end of a batch, if there is one
 abbrev pub stop_or_full : Option BatchEnd → BatchEnd
 stop_or_full None = Full
 stop_or_full (Some stop) = stop
 
-stop-is : (answer : NextAnswer) → stop_or_full (end_of answer) ≡ stop_of answer
+stop-is : (answer : Answer) → stop_or_full (end_of answer) ≡ stop_of answer
 stop-is (Ok None) = refl
 stop-is (Ok (Some captured)) = refl
 stop-is (Err fault) = refl
@@ -195,7 +190,7 @@ IsStop End = ⊤
 IsStop (Fault fault) = ⊤
 
 -- an answer that ends a batch is no record
-pub end-is_stop : (answer : NextAnswer) (stop : BatchEnd) → Some stop ≡ end_of answer → IsStop stop
+pub end-is_stop : (answer : Answer) (stop : BatchEnd) → Some stop ≡ end_of answer → IsStop stop
 end-is_stop (Ok None) stop is = subst IsStop (let e : End ≡ stop = cc in e) tt
 end-is_stop (Ok (Some captured)) stop is = absurd (cc)
 end-is_stop (Err fault) stop is = subst IsStop (let e : Fault fault ≡ stop = cc in e) tt
@@ -211,7 +206,7 @@ records_by-stop Full is = absurd is
 records_by-stop End is = refl
 records_by-stop (Fault fault) is = refl
 
-one_record : (answer : NextAnswer) → length (record_in answer) ≡ records_by (stop_of answer)
+one_record : (answer : Answer) → length (record_in answer) ≡ records_by (stop_of answer)
 one_record (Ok None) = refl
 one_record (Ok (Some captured)) = refl
 one_record (Err fault) = refl
@@ -235,9 +230,9 @@ TookRecord-from before after packets packets_new old new result t =
     subst (TookRecord before after packets packets_new old new) (sym stop)
     record {
       records = record_in t.answer;
-      given = t.takes.reads.given;
+      given = t.takes.given;
       took = subst (λ (s : CaptureState).
-          Took before s (record_in t.answer) t.takes.reads.given old new (stop_of t.answer)) (sym t.state)
+          Took before s (record_in t.answer) t.takes.given old new (stop_of t.answer)) (sym t.state)
           (Took-answer t.answer before old new t.takes);
       packets_are = t.packets;
       keys = t.keys;
@@ -253,38 +248,35 @@ none_first : (front all : List CaptureRecord) → front ≡ [] → AreFirst fron
 none_first front all none = record { rest = all; parts = ap (λ (l : List CaptureRecord). l ++ all) (sym none) }
 
 -- more bytes leave the first records as they are
-records_more : (fuel : ℕ) (start : Start) (count : ℕ) (left more : List ℕ) → length left ≤ fuel →
-    AreFirst (records_behind start count left).records (records_behind start count (left ++ more)).records
-records_more zero start count [] more enough =
-    none_first (records_behind start count []).records (records_behind start count more).records
-    (ap (λ r. r.records) (records_behind-end start count [] refl))
-records_more zero start count (b ∷ bs) more enough = absurd (omega (arith, enough))
-records_more (suc fuel) start count left more enough =
-    elim (next_cases (next_of start.order count left)) [
-      | inl ends ↦ none_first _ _ (ap (λ r. r.records) (records_behind-end start count left ends))
+records_more : (fuel : ℕ) (state : CaptureState) (left more : List ℕ) → length left ≤ fuel →
+    AreFirst (records_from state left).records (records_from state (left ++ more)).records
+records_more zero state [] more enough =
+    none_first (records_from state []).records (records_from state more).records (records_from-nothing state)
+records_more zero state (b ∷ bs) more enough = absurd (omega (arith, enough))
+records_more (suc fuel) state left more enough =
+    elim (next_cases (next_of state left)) [
+      | inl ends ↦ none_first _ _ (ap (λ r. r.records) (records_from-end state left ends))
       | inr (inl whole) ↦
-          let shorter = subst (IsShorter left) whole.2 (next_of-shorter start.order count left) in
+          let shorter = subst (IsShorter left) whole.2 (next_of-shorter state left) in
           record_first whole.0 whole.1 whole.2
-          (records_more fuel start (count + 1) whole.1 more (omega (arith, shorter, enough)))
-      | inr (inr fails) ↦ none_first _ _ (ap (λ r. r.records) (records_behind-fault start count left fails.0 fails.1))
+          (records_more fuel (state_after state (Ok (Some whole.0))) whole.1 more (omega (arith, shorter, enough)))
+      | inr (inr fails) ↦ none_first _ _ (ap (λ r. r.records) (records_from-fault state left fails.0 fails.1))
     ]
   where
-    record_first : (captured later : List ℕ) → next_of start.order count left ≡ Record captured later →
-        AreFirst (records_behind start (count + 1) later).records
-        (records_behind start (count + 1) (later ++ more)).records →
-        AreFirst (records_behind start count left).records (records_behind start count (left ++ more)).records
+    record_first : (captured : CaptureRecord) (later : List ℕ) → next_of state left ≡ Record captured later →
+        AreFirst (records_from (state_after state (Ok (Some captured))) later).records
+        (records_from (state_after state (Ok (Some captured))) (later ++ more)).records →
+        AreFirst (records_from state left).records (records_from state (left ++ more)).records
     record_first captured later next follow =
-        let one : CaptureRecord = record { link = start.link; bytes = captured } in
-        let longer : next_of start.order count (left ++ more) ≡ Record captured (later ++ more) =
-        next_of-append start.order count left more (subst IsDecided (sym next) tt)
-        ∙ ap (λ n. with_behind n more) next in
+        let longer : next_of state (left ++ more) ≡ Record captured (later ++ more) =
+        next_of-append state left more (subst IsDecided (sym next) tt) ∙ ap (λ n. with_more n more) next in
         record {
           rest = follow.rest;
           parts =
-              ap (λ r. r.records) (records_behind-record start count (left ++ more) captured (later ++ more) longer)
-              ∙ ap (λ l. one ∷ l) follow.parts
+              ap (λ r. r.records) (records_from-record state (left ++ more) captured (later ++ more) longer)
+              ∙ ap (λ l. captured ∷ l) follow.parts
               ∙ ap (λ (l : List CaptureRecord). l ++ follow.rest)
-              (sym (ap (λ r. r.records) (records_behind-record start count left captured later next)));
+              (sym (ap (λ r. r.records) (records_from-record state left captured later next)));
         }
 
 -- what a file header says is said by its first bytes
@@ -311,10 +303,12 @@ first_by_start bytes more (Err fault) says =
     none_first (whole_records bytes) (whole_records (bytes ++ more)) (rw says refl)
 first_by_start bytes more (Ok start) says =
     let longer = start_of-more bytes more (Ok start) says (λ e. absurd (cc)) in
-    let first = records_more (length (drop file_header_len bytes)) start 0 (drop file_header_len bytes) more
+    let first = records_more (length (drop file_header_len bytes)) (begun start) (drop file_header_len bytes) more
     (omega arith) in
-    let alone : whole_records bytes ≡ (records_behind start 0 (drop file_header_len bytes)).records = rw says refl in
-    let all : whole_records (bytes ++ more) ≡ (records_behind start 0 (drop file_header_len bytes ++ more)).records =
+    let alone : whole_records bytes ≡ (records_from (begun start) (drop file_header_len bytes)).records =
+    rw says refl in
+    let all : whole_records (bytes ++ more)
+    ≡ (records_from (begun start) (drop file_header_len bytes ++ more)).records =
     rw (longer.0, drop-append-le file_header_len bytes more longer.1) refl in
     record {
       rest = first.rest;
@@ -333,14 +327,14 @@ pub record ReadHeader (state : CaptureState) (old new : DeskView) : Type 0 where
   pub says : (more : List ℕ) → capture_of (given ++ more) ≡ Ok (records_from state more)
 
 pub ReadHeader-from : (state : CaptureState) (old new : DeskView) → IsBegun state →
-    ReadsStart old new (Ok state.start) → ReadHeader state old new
-ReadHeader-from state old new begun reads = record {
+    ReadsStart [] old new (Ok state.start) → ReadHeader state old new
+ReadHeader-from state old new begins reads = record {
   given = reads.given;
   reads = reads.reads;
   keeps = reads.keeps;
   says = λ more.
       capture_of-read reads.given more state.start reads.answer
-      ∙ ap (λ n. Ok (records_behind state.start n more)) (sym (begun-count state begun));
+      ∙ ap (λ (s : CaptureState). Ok (records_from s more)) (sym begins);
 }
 
 -- The file header was read, and has this fault, whatever else the file may have.
@@ -384,7 +378,7 @@ header_decided fault old new given reads keeps says isnt = record {
 }
 
 pub RefusedHeader-from : (fault : CaptureFault) (old new : DeskView) → fault ≢ ReadFault →
-    (reads : ReadsStart old new (Err fault)) → RefusedHeader fault old new
+    (reads : ReadsStart [] old new (Err fault)) → RefusedHeader fault old new
 RefusedHeader-from ReadFault old new isnt reads = absurd (isnt refl)
 RefusedHeader-from HeaderCut old new isnt reads =
     header_cut HeaderCut old new reads.given reads.reads (reads.end refl) reads.keeps reads.answer
@@ -401,7 +395,7 @@ pub record BrokenHeader (old new : DeskView) : Type 0 where
   pub none : whole_records given ≡ []
   pub read_fault : Rose old.read_faults new.read_faults
 
-pub BrokenHeader-from : (old new : DeskView) → ReadsStart old new (Err ReadFault) → BrokenHeader old new
+pub BrokenHeader-from : (old new : DeskView) → ReadsStart [] old new (Err ReadFault) → BrokenHeader old new
 BrokenHeader-from old new reads = record {
   given = reads.given;
   reads = reads.reads;

@@ -11,10 +11,12 @@ use Rattle.acl_outside.specs.Sink.{SinkView, Gains, GainsPrefix}
 use Rattle.acl_outside.proofs.Offered.{ReadsOn-none, ReadsOn-then}
 use Rattle.pcap_reader.specs.declared.fault.CaptureFault.{CaptureFault}
 use Rattle.pcap_reader.specs.declared.fault.CaptureFault.TheVariants as faults
-use Rattle.pcap_reader.specs.Capture.{Recorded, CaptureRecord, capture_of, whole_records, records_in}
+use Rattle.pcap_reader.specs.State.{CaptureRecord}
+use Rattle.pcap_reader.specs.Capture.{Recorded, capture_of, whole_records, records_in}
 use Rattle.pcap_reader.specs.Fill.{KeepsReading, IsAtEnd}
-use Rattle.pcap_reader.specs.Reader.{CaptureState, ReadsStart}
-use Rattle.pcap_reader.proofs.Offered.{KeepsReading-same, KeepsReading-join}
+use Rattle.pcap_reader.specs.declared.state.CaptureState.{CaptureState}
+use Rattle.pcap_reader.specs.Reader.{ReadsStart}
+use Rattle.pcap_reader.proofs.FillLaws.{KeepsReading-same, KeepsReading-join}
 use Rattle.command_plan.specs.declared.status.Status.{Status}
 use Rattle.command_plan.specs.declared.status.Status.TheVariants.{CaptureRefused, ReadFault, WriteFault, OutOfMemory}
 use Rattle.capture_report.specs.ReportForm.{ReportForm}
@@ -31,8 +33,9 @@ use Rattle.capture_report.specs.Streams.{Reading, Whole, Part, records_read, tex
 use Rattle.capture_report.specs.Streams.{BreaksOffSoon, Streams}
 use Rattle.command_plan.proofs.Offered.{Gains-none}
 use Rattle.command_plan.proofs.Offered.{heard_file, part_told, opened_told, opened_absent, kept_files, cannot_open}
-use Rattle.command_plan.proofs.Offered.{unopened_kept, CannotRead-because}
-use Rattle.capture_report.specs.NextRecord.{records_from}
+use Rattle.command_plan.proofs.Offered.{unopened_kept}
+use Rattle.command_plan.proofs.Offered.{CannotRead-because}
+use Rattle.pcap_reader.specs.Capture.{records_from}
 use Rattle.capture_report.proofs.Reader.{ReadHeader, RefusedHeader, RefusedHeader-from, BrokenHeader, BrokenHeader-from}
 
 -- an opened file, of which these bytes were heard
@@ -251,7 +254,8 @@ pub Reports-full : {T E : Type 0} (form : ReportForm) (name : List ℕ) (old mid
     OpensFile {E = E} name old mid (Ok x) → new ≡ mid →
     Reports form name (outside old out steps) (outside new out steps) OutOfMemory
 Reports-full {T} {E} form name old mid new out steps x opens same =
-    let h = HearsFile-read {E = E} name [] GoesOn old mid mid x opens (ReadsOn-none mid) (λ e. absurd (cc)) (KeepsReading-same mid) in
+    let h = HearsFile-read {E = E} name [] GoesOn old mid mid x opens (ReadsOn-none mid) (λ e. absurd (cc))
+    (KeepsReading-same mid) in
     rw same
     record {
       ends = Ends-part form name [] GoesOn (outside old out steps) (outside mid out steps) OutOfMemory h tt
@@ -319,7 +323,7 @@ header_broken {T} {E} form name old mid new x opens header =
     }
 
 pub Reports-header : {T E : Type 0} (fault : CaptureFault) (form : ReportForm) (name : List ℕ) (old mid : DeskView)
-    (new : Outside) (x : T) → OpensFile {E = E} name old mid (Ok x) → ReadsStart mid new.desk (Err fault) →
+    (new : Outside) (x : T) → OpensFile {E = E} name old mid (Ok x) → ReadsStart [] mid new.desk (Err fault) →
     Reports form name (outside old new.out new.steps) new (refusal fault)
 Reports-header {T} {E} faults.ReadFault form name old mid new x opens reads =
     header_broken {E = E} form name old mid new x opens (BrokenHeader-from mid new.desk reads)
@@ -423,7 +427,10 @@ streamed (Part records) form name old new status s =
               | inl broken ↦ inl (broken.0.0 ∙ ap status_within (sym broken.0.1))
               | inr failed ↦ inr (inl failed.0)
             ];
-            text = λ other full. elim s.answer [ inl broken ↦ rw lines broken.1 | inr failed ↦ absurd (other failed.0) ];
+            text = λ other full. elim s.answer [
+              | inl broken ↦ rw lines broken.1
+              | inr failed ↦ absurd (other failed.0)
+            ];
             prefix = λ w. elim s.answer [
               | inl broken ↦ (let e : ReadFault ≡ WriteFault = sym broken.0.0 ∙ w in absurd (cc))
               | inr failed ↦ rw lines

@@ -9,8 +9,9 @@ use Rattle.acl_outside.proofs.Offered.{Gains-then}
 use Rattle.header_extract.specs.Class.{FrameClass}
 use Rattle.pcap_reader.specs.declared.fault.CaptureFault.{CaptureFault}
 use Rattle.pcap_reader.specs.declared.fault.CaptureFault.TheVariants.{HeaderCut, RecordCut, ReadFault as CannotRead}
-use Rattle.pcap_reader.specs.Capture.{CaptureRecord, max_records}
-use Rattle.pcap_reader.specs.Reader.{CaptureState}
+use Rattle.pcap_reader.specs.State.{CaptureRecord}
+use Rattle.pcap_reader.specs.Capture.{max_records}
+use Rattle.pcap_reader.specs.declared.state.CaptureState.{CaptureState}
 use Rattle.acl_report.specs.declared.counts.Counts.{Counts}
 use Rattle.capture_report.specs.declared.batch.BatchEnd.{BatchEnd}
 use Rattle.capture_report.specs.declared.batch.BatchEnd.TheVariants.{Full, End, Fault}

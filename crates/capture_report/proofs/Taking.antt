@@ -6,21 +6,17 @@ use Rattle.acl_outside.specs.Heard.{Ending, Ended}
 use Rattle.acl_outside.proofs.Offered.{ReadsOn-none, ReadsOn-then}
 use Rattle.pcap_reader.specs.declared.fault.CaptureFault.{CaptureFault}
 use Rattle.pcap_reader.specs.declared.fault.CaptureFault.TheVariants.{ReadFault}
-use Rattle.pcap_reader.specs.Capture.{CaptureRecord, Recorded}
-use Rattle.pcap_reader.specs.Reader.{CaptureState}
-use Rattle.pcap_reader.proofs.Offered.{KeepsReading-same, KeepsReading-join}
+use Rattle.pcap_reader.specs.State.{CaptureRecord}
+use Rattle.pcap_reader.specs.Capture.{followed_by}
+use Rattle.pcap_reader.specs.declared.state.CaptureState.{CaptureState}
+use Rattle.pcap_reader.proofs.CaptureLaws.{followed_by-then}
+use Rattle.pcap_reader.proofs.FillLaws.{KeepsReading-same, KeepsReading-join}
 use Rattle.capture_report.specs.declared.batch.BatchEnd.{BatchEnd}
 use Rattle.capture_report.specs.declared.batch.BatchEnd.TheVariants.{Full, End, Fault}
-use Rattle.capture_report.specs.NextRecord.{records_from}
-use Rattle.capture_report.specs.Taken.{onto, ending_of, ending_of_fault, stands, AreRecords, AreAll, AreWhole}
+use Rattle.pcap_reader.specs.Capture.{records_from}
+use Rattle.capture_report.specs.Taken.{ending_of, ending_of_fault, stands, AreRecords, AreAll, AreWhole}
 use Rattle.capture_report.specs.Taken.{AreOfBatch, Took}
 use Rattle.capture_report.proofs.Reader.{records_from-nothing}
-
-onto-then : (first second : List CaptureRecord) (later : Recorded) →
-    onto first (onto second later) ≡ onto (first ++ second) later
-onto-then first second later =
-    ap (λ records. let all : Recorded = record { records = records; fault = later.fault } in all)
-    (sym (append_assoc first second later.records))
 
 -- nothing was taken yet
 pub Took-none : (state : CaptureState) (view : DeskView) → Took state state [] [] view view Full
@@ -39,17 +35,18 @@ module _ (before mid : CaptureState) (first : List CaptureRecord) (given : List 
     (a : AreRecords before mid given first) where
   -- records, and then more bytes
   records_later : (more later : List ℕ) →
-      records_from before ((given ++ more) ++ later) ≡ onto first (records_from mid (more ++ later))
+      records_from before ((given ++ more) ++ later) ≡ followed_by first (records_from mid (more ++ later))
   records_later more later = ap (records_from before) (append_assoc given more later) ∙ a (more ++ later)
 
   AreAll-then : (second : List CaptureRecord) (more : List ℕ) (ending : Ending) (fault : Option CaptureFault) →
       AreAll mid more ending second fault → AreAll before (given ++ more) ending (first ++ second) fault
-  AreAll-then second more ending fault b later none = records_later more later ∙ ap (onto first) (b later none)
+  AreAll-then second more ending fault b later none = records_later more later ∙ ap (followed_by first) (b later none)
 
   AreOfBatch-then : (stop : BatchEnd) (after : CaptureState) (second : List CaptureRecord) (more : List ℕ) →
       AreOfBatch mid after more second stop → AreOfBatch before after (given ++ more) (first ++ second) stop
   AreOfBatch-then Full after second more b =
-      λ later. records_later more later ∙ ap (onto first) (b later) ∙ onto-then first second (records_from after later)
+      λ later. records_later more later ∙ ap (followed_by first) (b later)
+      ∙ followed_by-then first second (records_from after later)
   AreOfBatch-then End after second more b = AreAll-then second more Ended None b
   AreOfBatch-then (Fault ReadFault) after second more b = ap (λ r. r.records) (a more) ∙ ap (λ l. first ++ l) b
   AreOfBatch-then (Fault fault) after second more b =

@@ -3,7 +3,8 @@ use Rattle.std.specs.Prelude.{ℕ, ◌*◌, ◌≤◌, List, length, map, sum_by
 use Rattle.flat_table.specs.Table.{TableView}
 use Rattle.header_extract.specs.declared.class.Class.{Class}
 use Rattle.header_extract.specs.declared.class.Class.TheVariants.{Ip4, Ip6, Other, Short}
-use Rattle.pcap_reader.specs.Capture.{CaptureRecord, whole_records}
+use Rattle.pcap_reader.specs.State.{CaptureRecord}
+use Rattle.pcap_reader.specs.Capture.{whole_records}
 use Rattle.capture_report.specs.Classifier.{Tables}
 use Rattle.capture_report.specs.Packet.{packet_of}
 use Rattle.capture_report.specs.ReportForm.{ReportForm}

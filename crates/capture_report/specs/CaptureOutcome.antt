@@ -4,11 +4,9 @@ use Rattle.std.specs.Prelude.{Some, None, Result, Ok, Err}
 use Rattle.acl_report.specs.declared.counts.Counts.{Counts}
 use Rattle.acl_report.specs.Counts.{packets_text}
 use Rattle.pcap_reader.specs.declared.fault.CaptureFault.{CaptureFault}
-use Rattle.pcap_reader.specs.declared.fault.CaptureFault.TheVariants.{HeaderCut, Magic, Version}
-use Rattle.pcap_reader.specs.declared.fault.CaptureFault.TheVariants.{LinkType, RecordCut}
-use Rattle.pcap_reader.specs.declared.fault.CaptureFault.TheVariants.{RecordTooLong, TooManyRecords}
 use Rattle.pcap_reader.specs.declared.fault.CaptureFault.TheVariants.{ReadFault as CannotRead}
-use Rattle.pcap_reader.specs.Capture.{CaptureRecord, Recorded, capture_of, whole_records}
+use Rattle.pcap_reader.specs.State.{CaptureRecord}
+use Rattle.pcap_reader.specs.Capture.{Recorded, capture_of, whole_records}
 use Rattle.command_plan.specs.declared.status.Status.{Status}
 use Rattle.command_plan.specs.declared.status.Status.TheVariants.{Done, CaptureRefused, ReadFault}
 use Rattle.capture_report.specs.ReportForm.{ReportForm}
@@ -39,14 +37,8 @@ status_of_fault (Some fault) = CaptureRefused fault
 
 -- the status that stands for a fault
 abbrev pub refusal : CaptureFault → Status
-refusal HeaderCut = CaptureRefused HeaderCut
-refusal Magic = CaptureRefused Magic
-refusal Version = CaptureRefused Version
-refusal LinkType = CaptureRefused LinkType
-refusal (RecordCut number) = CaptureRefused (RecordCut number)
-refusal (RecordTooLong number) = CaptureRefused (RecordTooLong number)
-refusal TooManyRecords = CaptureRefused TooManyRecords
 refusal CannotRead = ReadFault
+refusal fault = CaptureRefused fault
 
 -- what a capture gives
 abbrev pub report_of_capture : ReportForm → Result Recorded CaptureFault → Outcome

@@ -1,6 +1,6 @@
 -- The packet in a record of a capture.
 use Rattle.std.specs.Prelude.{◌≡◌, ◌<◌, length, All}
-use Rattle.pcap_reader.specs.Capture.{CaptureRecord}
+use Rattle.pcap_reader.specs.State.{CaptureRecord}
 use Rattle.header_extract.specs.Class.{FrameClass, settled, key_len}
 use Rattle.header_extract.specs.Link.{frame_class}
 

@@ -10,7 +10,7 @@ use Rattle.flat_table.specs.Walk.{key_transitions}
 use Rattle.header_extract.specs.declared.class.Class.{Class}
 use Rattle.header_extract.specs.declared.class.Class.TheVariants.{Ip4, Ip6, Other, Short}
 use Rattle.header_extract.specs.Class.{FrameClass}
-use Rattle.pcap_reader.specs.Capture.{CaptureRecord}
+use Rattle.pcap_reader.specs.State.{CaptureRecord}
 use Rattle.acl_report.specs.declared.counts.Counts.{Counts}
 use Rattle.acl_report.specs.Line.{line_feed}
 use Rattle.acl_report.specs.Counts.{counted, counts_of}

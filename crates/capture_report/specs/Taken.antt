@@ -8,13 +8,14 @@ use Rattle.acl_outside.specs.Reading.{ReadsOn, and_goes_on}
 use Rattle.header_extract.specs.Class.{FrameClass}
 use Rattle.pcap_reader.specs.declared.fault.CaptureFault.{CaptureFault}
 use Rattle.pcap_reader.specs.declared.fault.CaptureFault.TheVariants.{HeaderCut, RecordCut, ReadFault}
-use Rattle.pcap_reader.specs.Capture.{CaptureRecord, Recorded, max_records}
+use Rattle.pcap_reader.specs.State.{Answer, CaptureRecord, state_after}
+use Rattle.pcap_reader.specs.Capture.{followed_by, max_records, records_from}
 use Rattle.pcap_reader.specs.Fill.{KeepsReading, IsAtEnd}
-use Rattle.pcap_reader.specs.Reader.{CaptureState}
+use Rattle.pcap_reader.specs.Reader.{ReadsNext}
+use Rattle.pcap_reader.specs.declared.state.CaptureState.{CaptureState}
 use Rattle.capture_report.specs.declared.batch.BatchEnd.{BatchEnd}
 use Rattle.capture_report.specs.declared.batch.BatchEnd.TheVariants.{Full, End, Fault}
-use Rattle.capture_report.specs.NextRecord.{NextAnswer, AsksNext, MayGoOn, record_in, records_from}
-use Rattle.capture_report.specs.NextRecord.{state_then}
+use Rattle.capture_report.specs.NextRecord.{MayGoOn, record_in}
 use Rattle.capture_report.specs.Packet.{packet_of, IsPacket}
 
 -- how many records are taken at most before their lines are put
@@ -42,15 +43,11 @@ stands GoesOn = and_goes_on
 stands Ended = with_ending Ended
 stands BrokenOff = with_ending BrokenOff
 
--- records in front of what is recorded after them
-abbrev pub onto : List CaptureRecord → Recorded → Recorded
-onto records later = record { records = records ++ later.records; fault = later.fault }
-
 -- The bytes are these records, whatever comes later, and lead from one state to another.
 abbrev pub AreRecords : CaptureState → CaptureState → List ℕ → List CaptureRecord → Type 0
 AreRecords before after given records =
     (later : List ℕ) →
-    records_from before (given ++ later) ≡ onto records (records_from after later)
+    records_from before (given ++ later) ≡ followed_by records (records_from after later)
 
 -- The bytes are all records that follow from the state and their ending, whatever else the file may
 -- have.
@@ -97,7 +94,7 @@ pub record TakesBatch (before after : CaptureState) (packets : List FrameClass)
   pub full : stop ≡ Full → length packets ≡ max_batch
 
 -- the end of a batch that an answer is, if it isn't a record
-abbrev pub end_of : NextAnswer → Option BatchEnd
+abbrev pub end_of : Answer → Option BatchEnd
 end_of (Ok None) = Some End
 end_of (Ok (Some captured)) = None
 end_of (Err fault) = Some (Fault fault)
@@ -105,9 +102,9 @@ end_of (Err fault) = Some (Fault fault)
 -- The next record was asked for, and its packet was put after the others.
 pub record TakesRecord (before after : CaptureState) (packets_old packets_new : List FrameClass)
     (old new : DeskView) (result : Option BatchEnd) : Type 0 where
-  pub answer : NextAnswer
-  pub takes : AsksNext before old new answer
-  pub state : after ≡ state_then before answer
+  pub answer : Answer
+  pub takes : ReadsNext before old new answer
+  pub state : after ≡ state_after before answer
   pub packets : packets_new ≡ packets_old ++ map packet_of (record_in answer)
   pub keys : All IsPacket (map packet_of (record_in answer))
   pub stop : result ≡ end_of answer

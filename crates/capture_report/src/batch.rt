@@ -3,7 +3,8 @@
 ghost use Rattle.std.specs.Prelude.{◌<◌, IsTrue, length};
 ghost use Rattle.std.specs.Borrow.{sem};
 ghost use Rattle.pcap_reader.specs.Lending.{GoesOnAs};
-ghost use Rattle.capture_report.specs.NextRecord.{AsksNext, MayGoOn, answer_of, frame_in};
+ghost use Rattle.pcap_reader.specs.Reader.{ReadsNext};
+ghost use Rattle.capture_report.specs.NextRecord.{MayGoOn, frame_in, lent_answer};
 ghost use Rattle.capture_report.specs.Taken.{TakesBatch, TakesRecord, max_batch};
 
 use crate::packets::Packets;
@@ -74,7 +75,8 @@ fn next_record<'a, D: Desk>(
 ) -> Result<Option<(Link, &'a [u8])>, CaptureFault>
     requires reading { IsTrue (D.view desk.old).reading }
     requires state { MayGoOn capture.old }
-    ensures next { AsksNext capture.old (D.view desk.old) (D.view desk.new) (answer_of result) }
+    ensures next { ReadsNext capture.old (D.view desk.old) (D.view desk.new)
+        (lent_answer result) }
     ensures* goes_on { sem 𝓛 (GoesOnAs capture.entry (frame_in result)) }
 {
     let link = capture.link();

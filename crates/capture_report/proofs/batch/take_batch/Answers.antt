@@ -32,6 +32,6 @@ loop-capture-preserved g c =
     record {
       taking = more.0;
       few = omega (arith, more.1, c.loop-capture-test.true, c.len.ensures);
-      reading = rw takes.takes.reads.keeps.reading c.loop-capture.invariant.reading;
+      reading = rw takes.takes.keeps.reading c.loop-capture.invariant.reading;
       state = more.0.took.goes_on refl c.requires.state;
     }
