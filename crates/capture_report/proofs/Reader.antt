@@ -21,10 +21,10 @@ use Rattle.pcap_reader.specs.Capture.{records_from, capture_of, whole_records}
 use Rattle.pcap_reader.specs.Fill.{KeepsReading, IsAtEnd}
 use Rattle.pcap_reader.specs.declared.state.CaptureState.{CaptureState}
 use Rattle.pcap_reader.specs.Reader.{ReadsNext, ReadsStart}
-use Rattle.pcap_reader.proofs.NextLaws.{IsDecided, with_more, next_of-append, next_of-too_many}
-use Rattle.pcap_reader.proofs.CaptureLaws.{IsShorter, next_of-shorter, next_cases, records_from-record}
-use Rattle.pcap_reader.proofs.CaptureLaws.{records_from-end, records_from-fault}
-use Rattle.pcap_reader.proofs.AnswersLaws.{no_records, unanswered, capture_of-read, whole_records-none}
+use Rattle.pcap_reader.proofs.Offered.{IsDecided, with_more, next_of-append, next_of-too_many}
+use Rattle.pcap_reader.proofs.Offered.{IsShorter, next_of-shorter, next_cases, records_from-record}
+use Rattle.pcap_reader.proofs.Offered.{records_from-end, records_from-fault}
+use Rattle.pcap_reader.proofs.Offered.{no_records, unanswered, capture_of-read, whole_records-none}
 use Rattle.capture_report.specs.declared.batch.BatchEnd.{BatchEnd}
 use Rattle.capture_report.specs.declared.batch.BatchEnd.TheVariants.{Full, End, Fault}
 use Rattle.capture_report.specs.NextRecord.{IsBegun, MayGoOn, record_in}

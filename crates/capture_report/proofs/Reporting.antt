@@ -16,7 +16,7 @@ use Rattle.pcap_reader.specs.Capture.{Recorded, capture_of, whole_records, recor
 use Rattle.pcap_reader.specs.Fill.{KeepsReading, IsAtEnd}
 use Rattle.pcap_reader.specs.declared.state.CaptureState.{CaptureState}
 use Rattle.pcap_reader.specs.Reader.{ReadsStart}
-use Rattle.pcap_reader.proofs.FillLaws.{KeepsReading-same, KeepsReading-join}
+use Rattle.pcap_reader.proofs.Offered.{KeepsReading-same, KeepsReading-join}
 use Rattle.command_plan.specs.declared.status.Status.{Status}
 use Rattle.command_plan.specs.declared.status.Status.TheVariants.{CaptureRefused, ReadFault, WriteFault, OutOfMemory}
 use Rattle.capture_report.specs.ReportForm.{ReportForm}
@@ -33,8 +33,7 @@ use Rattle.capture_report.specs.Streams.{Reading, Whole, Part, records_read, tex
 use Rattle.capture_report.specs.Streams.{BreaksOffSoon, Streams}
 use Rattle.command_plan.proofs.Offered.{Gains-none}
 use Rattle.command_plan.proofs.Offered.{heard_file, part_told, opened_told, opened_absent, kept_files, cannot_open}
-use Rattle.command_plan.proofs.Offered.{unopened_kept}
-use Rattle.command_plan.proofs.Offered.{CannotRead-because}
+use Rattle.command_plan.proofs.Offered.{unopened_kept, CannotRead-because}
 use Rattle.pcap_reader.specs.Capture.{records_from}
 use Rattle.capture_report.proofs.Reader.{ReadHeader, RefusedHeader, RefusedHeader-from, BrokenHeader, BrokenHeader-from}
 

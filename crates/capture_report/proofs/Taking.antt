@@ -9,8 +9,7 @@ use Rattle.pcap_reader.specs.declared.fault.CaptureFault.TheVariants.{ReadFault}
 use Rattle.pcap_reader.specs.State.{CaptureRecord}
 use Rattle.pcap_reader.specs.Capture.{followed_by}
 use Rattle.pcap_reader.specs.declared.state.CaptureState.{CaptureState}
-use Rattle.pcap_reader.proofs.CaptureLaws.{followed_by-then}
-use Rattle.pcap_reader.proofs.FillLaws.{KeepsReading-same, KeepsReading-join}
+use Rattle.pcap_reader.proofs.Offered.{followed_by-then, KeepsReading-same, KeepsReading-join}
 use Rattle.capture_report.specs.declared.batch.BatchEnd.{BatchEnd}
 use Rattle.capture_report.specs.declared.batch.BatchEnd.TheVariants.{Full, End, Fault}
 use Rattle.pcap_reader.specs.Capture.{records_from}
