@@ -1,6 +1,6 @@
 //! the words of the system → an exit code
 //!
-//! The words behind the program's name go to `run` of acl_tool, over the files and streams of the
+//! The words after the program's name go to `run` of acl_tool, over the files and streams of the
 //! system, and the code of its status comes back.
 #![tactic(auto)]
 
@@ -33,10 +33,7 @@ const LAST_STREAM: i32 = 2;
 
 fn main(rt: HostRuntime) -> ExitCode {
     let _held = (held_stream(&rt), held_stream(&rt), held_stream(&rt));
-    let words = match env::args(&rt) {
-        Ok(args) => all_words(rt.alloc(), args),
-        Err(_) => None,
-    };
+    let words = system_words(&rt);
     let mut desk = StdDesk::new(&rt);
     let mut out = StdSink::new(rt.stdout());
     let mut err = StdSink::new(rt.stderr());
@@ -65,6 +62,12 @@ fn held_stream(rt: &HostRuntime) -> Option<fs::File> {
     }
 }
 
+/// All words of the system's command line, or `None` where it can't give them.
+fn system_words(rt: &HostRuntime) -> Option<Vec<String>> {
+    let args = env::args(rt).ok()?;
+    all_words(rt.alloc(), args)
+}
+
 /// All words of a command line, which begin with the program's name, or `None` where there is no
 /// memory for them.
 fn all_words(alloc: Global, args: env::Args) -> Option<Vec<String>>
@@ -73,7 +76,7 @@ fn all_words(alloc: Global, args: env::Args) -> Option<Vec<String>>
     args.collect(alloc).ok()
 }
 
-/// Runs the command that stands behind the program's name, over any files and streams, and gives
+/// Runs the command that stands after the program's name, over any files and streams, and gives
 /// the exit code of its status, or `NO_WORDS` where there are no words.
 ///
 /// `blank` is what the counter of the transitions is made of, which exists in proofs alone.
@@ -100,13 +103,13 @@ fn exit_code<D: Desk, O: Sink, E: Sink, L: Ledger>(
 {
     let mut steps = Steps::<L>::new(blank);
     match words {
-        Some(all) => run(alloc, behind_name(&all), desk, out, err, &mut steps).code(),
+        Some(all) => run(alloc, after_name(&all), desk, out, err, &mut steps).code(),
         None => NO_WORDS,
     }
 }
 
-/// The words behind the first, which is the program's name.
-fn behind_name(all: &[String]) -> &[String]
+/// The words after the first, which is the program's name.
+fn after_name(all: &[String]) -> &[String]
     ensures { result.now ≡ drop 1 all.now }
 {
     match all {

@@ -36,7 +36,7 @@ fn words(alloc: Global, all: &[&str]) -> Result<Vec<String>, AllocError> {
 fn the_guides_example_is_printed_as_it_is_shipped(rt: HostRuntime) -> Result<(), Fail> {
     fs::write(&rt, "aclc_test.rules", RULES)?;
     fs::write(&rt, "aclc_test.pcap", CAPTURE)?;
-    // The words behind the program's name, the code, and what standard output and standard error
+    // The words after the program's name, the code, and what standard output and standard error
     // have then.
     let cases: [(&[&str], u8, &str, &str); 4] = [
         (

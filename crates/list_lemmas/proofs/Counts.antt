@@ -28,13 +28,6 @@ count_at_point p (x ∷ xs) (suc i) within first others =
     (λ k d above below. others (suc k) d (omega arith) (omega arith)) in
     count_by-cons p x xs ∙ rw (first 0 x (omega arith)) (omega (arith, rest))
 
--- a range with one number more at its end
-pub range_with_len-more : (first n : ℕ) → range_with_len first (suc n) ≡ range_with_len first n ++ (first + n) ∷ []
-range_with_len-more first zero = rw add-zero refl
-range_with_len-more first (suc n) =
-    ap (λ rest. first ∷ rest) (range_with_len-more (first + 1) n
-    ∙ (let end : first + 1 + n ≡ first + suc n = omega arith in rw end refl))
-
 -- a weaker test counts no fewer
 pub count_le : {X : Type 0} (f g : X → Bool) (xs : List X) → ((x : X) → f x ≡ true → g x ≡ true) →
     count_by f xs ≤ count_by g xs
@@ -50,15 +43,7 @@ pub count_all : {X : Type 0} (xs : List X) → count_by (λ (x : X). true) xs �
 count_all [] = refl
 count_all (x ∷ xs) = count_by-cons (λ _. true) x xs ∙ omega (arith, count_all xs)
 
--- what agrees at each number of a range gives the same over it
-pub map_agree : {X : Type 0} (f g : ℕ → X) (first n : ℕ) → ((x : ℕ) → first ≤ x → x < first + n → f x ≡ g x) →
-    map f (range_with_len first n) ≡ map g (range_with_len first n)
-map_agree f g first zero agree = refl
-map_agree f g first (suc n) agree =
-    rw (agree first (omega arith) (omega arith))
-    (ap (λ rest. g first ∷ rest) (map_agree f g (first + 1) n (λ x above below. agree x (omega arith) (omega arith))))
-
--- and so do two tests, one of them of what is made of the numbers
+-- two tests that agree at each number of a range count the same, one of them of what is made of the numbers
 pub count_agree : (test : ℕ → Bool) (key : ℕ → ℕ) (same : ℕ → Bool) (first n : ℕ) →
     ((x : ℕ) → first ≤ x → x < first + n → test (key x) ≡ same x) →
     count_by test (map key (range_with_len first n)) ≡ count_by same (range_with_len first n)

@@ -47,16 +47,16 @@ filter-range-below p first (suc n) (suc k) h = elim (cases_Bool (p first)) [
 -- ---- lists that stand in others
 
 -- the list has these elements from the place on
-abbrev pub Has : {X : Type 0} → X → List X → ℕ → List X → Type 0
-Has d xs place part = (k : ℕ) → k < length part → get_or xs (place + k) d ≡ get_or part k d
+abbrev pub HasPart : {X : Type 0} → X → List X → ℕ → List X → Type 0
+HasPart d xs place part = (k : ℕ) → k < length part → get_or xs (place + k) d ≡ get_or part k d
 
-module _ {X : Type 0} (d : X) (list : List X) (place : ℕ) (xs ys : List X) (has : Has d list place (xs ++ ys)) where
+module _ {X : Type 0} (d : X) (list : List X) (place : ℕ) (xs ys : List X) (has : HasPart d list place (xs ++ ys)) where
   -- then it has the first of them
-  pub has_front : Has d list place xs
+  pub has_front : HasPart d list place xs
   has_front k within = has k (omega (arith, within, length-append xs ys)) ∙ get_or_append_left xs ys d k within
 
   -- and the others after those
-  pub has_rest : (after : ℕ) → after ≡ place + length xs → Has d list after ys
+  pub has_rest : (after : ℕ) → after ≡ place + length xs → HasPart d list after ys
   has_rest after at k within =
       ap (λ (n : ℕ). get_or list n d) (omega (arith, at))
       ∙ has (length xs + k) (omega (arith, within, length-append xs ys))

@@ -20,7 +20,9 @@ use Rattle.rule_set.specs.Rank.{comes_below, rank_of, ranks_of}
 use Rattle.rule_set.specs.Keys.{order_key, keys_of, rank_among, HasLawfulPriority}
 use Rattle.rule_set.proofs.Lawful.{tag_lawful}
 use Rattle.list_lemmas.proofs.Integers.{natural_from_le_z}
-use Rattle.list_lemmas.proofs.Counts.{map_agree, count_agree, range_with_len-more}
+use Rattle.list_lemmas.proofs.Maps.{map_on_range}
+use Rattle.list_lemmas.proofs.Counts.{count_agree}
+use Rattle.list_lemmas.proofs.Positions.{range-push}
 
 -- the priority of a rule that is there
 priority_of : (rules : List RuleView) (place : ℕ) (d : RuleView) → place < length rules →
@@ -38,9 +40,8 @@ keys_more rules keys place d below so_far =
     let key : ℕ → ℕ = λ p. order_key (priority_at rules p) p in
     let last : key place ≡ order_key (get_or rules place d).tag.priority place =
     ap (λ priority. order_key priority place) (priority_of rules place d below) in
-    let next : place + 1 ≡ suc place = omega arith in
     let more : range_with_len 0 (place + 1) ≡ range_with_len 0 place ++ place ∷ [] =
-    ap (range_with_len 0) next ∙ range_with_len-more 0 place
+    range-push 0 place
     ∙ ap (λ end. range_with_len 0 place ++ end ∷ []) (zero-add place) in
     ap (λ all. all ++ order_key (get_or rules place d).tag.priority place ∷ []) so_far
     ∙ ap (λ end. map key (range_with_len 0 place) ++ end ∷ []) (sym last)
@@ -71,7 +72,7 @@ ranks_from_keys rules few lawful =
     let n : ℕ = length rules in
     let key : ℕ → ℕ = λ p. order_key (priority_at rules p) p in
     map-map (rank_among (map key (range_with_len 0 n))) key (range_with_len 0 n)
-    ∙ map_agree (λ p. rank_among (map key (range_with_len 0 n)) (key p)) (rank_of rules) 0 n
+    ∙ map_on_range (λ p. rank_among (map key (range_with_len 0 n)) (key p)) (rank_of rules) 0 n
     (λ place above below. ap (λ count. 1 + count)
     (count_agree (λ other. nat_lt other (key place)) key (comes_below rules place) 0 n
     (λ other above' below'. key_below rules place other few lawful (omega arith) (omega arith))))

@@ -13,7 +13,7 @@ use Rattle.flat_table.specs.Sound.{most_tries, row_len}
 use Rattle.flat_table.specs.Table.{TableView}
 use Rattle.flat_table.specs.Walk.{walk_row, walk_transitions, tries_of, joined, greatest, key_transitions, userdatas}
 use Rattle.flat_table.specs.Batch.{key_verdicts}
-use Rattle.list_lemmas.proofs.Counts.{map_agree}
+use Rattle.list_lemmas.proofs.Maps.{map_agree}
 use Rattle.list_lemmas.proofs.Positions.{range-push}
 use Rattle.scalar_walk.specs.Rows.{EndsAt, Reaches, joined_rows, row_verdicts, winners_of}
 

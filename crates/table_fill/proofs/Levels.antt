@@ -18,7 +18,7 @@ use Rattle.table_fill.specs.Filled.{words_of_levels}
 use Rattle.table_fill.specs.Tries.{IsThere, AreRuns, AreLevels}
 use Rattle.table_fill.proofs.Words.{match_parts}
 use Rattle.table_fill.proofs.Nodes.{run_here, run_later, node_next, length-node_words, node_into}
-use Rattle.list_lemmas.proofs.Members.{Has}
+use Rattle.list_lemmas.proofs.Positions.{HasPart}
 use Rattle.list_lemmas.proofs.Positions.{has_front, has_rest}
 use Rattle.flat_table.proofs.Offered.{match_stays}
 
@@ -30,7 +30,7 @@ pub record NodeAt (words targets : List ℕ) (place until : ℕ) (runs : List Ru
   pub word_is : word ≡ node_word at runs
   pub not_before : place ≤ at
   pub within : at + cost_of (length runs) ≤ until
-  pub has : Has 0 words at (node_words targets runs)
+  pub has : HasPart 0 words at (node_words targets runs)
 
 pub level_len-cons : (runs : List Run) (states : List (List Run)) → level_len (runs ∷ states)
     ≡ cost_of (length runs) + level_len states
@@ -45,7 +45,7 @@ length-level targets (runs ∷ states) =
     ∙ sym (level_len-cons runs states)
 
 pub node_at : (words targets : List ℕ) (place : ℕ) (states : List (List Run)) (number : ℕ) → number < length states →
-    Has 0 words place (flat_map (node_words targets) states) →
+    HasPart 0 words place (flat_map (node_words targets) states) →
     NodeAt words targets place (place + level_len states) (get_or states number [])
     (get_or (words_into place states) number 0)
 node_at words targets place [] number within has = absurd (omega (arith, within))
@@ -99,7 +99,7 @@ module _ (words matches key : List ℕ) where
   -- one step from a state's node
   module _ (place : ℕ) (states : List (List Run)) (levels : List (List (List Run))) (at number : ℕ)
       (are : All (AreRuns (length matches) levels) states)
-      (small : get_or key at 0 < 256) (has : Has 0 words place (words_of_levels place matches (states ∷ levels)))
+      (small : get_or key at 0 < 256) (has : HasPart 0 words place (words_of_levels place matches (states ∷ levels)))
       (fits : place + length (words_of_levels place matches (states ∷ levels)) ≤ indexes)
       (within : number < length states) where
     targets : List ℕ
@@ -114,11 +114,11 @@ module _ (words matches key : List ℕ) where
         ∙ ap (λ n. n + length (words_after place matches states levels))
         (length-level (targets_of (place + level_len states) matches levels) states)
 
-    pub has_level : Has 0 words place (words_here place matches states levels)
+    pub has_level : HasPart 0 words place (words_here place matches states levels)
     has_level = has_front 0 words place (words_here place matches states levels)
         (words_after place matches states levels) has
 
-    pub has_next : Has 0 words (place + level_len states) (words_after place matches states levels)
+    pub has_next : HasPart 0 words (place + level_len states) (words_after place matches states levels)
     has_next = has_rest 0 words place (words_here place matches states levels)
         (words_after place matches states levels) has (place + level_len states)
         (omega (arith, length-level (targets_of (place + level_len states) matches levels) states))
@@ -166,7 +166,7 @@ module _ (words matches key : List ℕ) where
   pub walk_follows : (place : ℕ) (states : List (List Run)) (levels : List (List (List Run))) (at : ℕ) (places : List ℕ)
       (number : ℕ) →
       AreLevels (length matches) (states ∷ levels) → AllByRecursion (λ p. get_or key p 0 < 256) (at ∷ places) →
-      Has 0 words place (words_of_levels place matches (states ∷ levels)) →
+      HasPart 0 words place (words_of_levels place matches (states ∷ levels)) →
       place + length (words_of_levels place matches (states ∷ levels)) ≤ indexes →
       length places ≡ length levels → number < length states →
       fold (moved words) (get_or (words_into place states) number 0) (map (λ p. get_or key p 0) (at ∷ places))

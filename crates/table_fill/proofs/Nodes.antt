@@ -16,7 +16,7 @@ use Rattle.trie_merge.specs.Follow.{run_to}
 use Rattle.trie_merge.specs.Levels.{cost_of, few_runs}
 use Rattle.flat_table.specs.Word.{indexes, index_of, kind_of, boundaries_of, is_match, is_node, node_len, next_word}
 use Rattle.flat_table.specs.Word.{offset_of}
-use Rattle.list_lemmas.proofs.Members.{Has}
+use Rattle.list_lemmas.proofs.Positions.{HasPart}
 use Rattle.table_fill.specs.Filled.{word_of, match_of, boundaries, inner_lasts, as_number, node_word, node_words}
 use Rattle.table_fill.specs.Filled.{succ_word}
 use Rattle.table_fill.specs.Tries.{HoldBytes}
@@ -182,7 +182,7 @@ full_word place runs many = grind (arith, nat_tests)
 
 module _ (words targets : List ℕ) (place : ℕ) (runs : List Run) (byte : ℕ) (hold : HoldBytes 0 runs)
     (small : byte < 256) (fits : place < indexes)
-    (has : Has 0 words place (node_words targets runs)) where
+    (has : HasPart 0 words place (node_words targets runs)) where
   d : Run
   d = record { last = 0; to = Dead }
 

@@ -14,8 +14,8 @@ use Rattle.std.proofs.lemmas.List.Elements.{recursion_from_All, All-append, All-
 use Rattle.std.proofs.lemmas.List.Elements.{All-weaker}
 use Rattle.std.proofs.lemmas.List.FromFn.{get_or-map-range_with_len}
 use Rattle.list_lemmas.proofs.Maps.{All-flat_map}
-use Rattle.list_lemmas.proofs.Counts.{map_agree}
-use Rattle.list_lemmas.proofs.Members.{Has}
+use Rattle.list_lemmas.proofs.Maps.{map_agree}
+use Rattle.list_lemmas.proofs.Positions.{HasPart}
 use Rattle.list_lemmas.proofs.Positions.{has_front, has_rest}
 use Rattle.trie_merge.specs.declared.run.Run.{Run}
 use Rattle.trie_merge.specs.declared.run.Succ.{Succ}
@@ -114,7 +114,7 @@ leads_no_match next word leads = grind (arith, nat_tests)
 -- ---- the levels of a trie
 
 -- the words that stand from a place on, as far as there are any, each pass
-words_pass : (P : ℕ → Type 0) (words : List ℕ) (from : ℕ) (part : List ℕ) (len : ℕ) → Has 0 words from part → len
+words_pass : (P : ℕ → Type 0) (words : List ℕ) (from : ℕ) (part : List ℕ) (len : ℕ) → HasPart 0 words from part → len
     ≡ length part → All P part →
     (k : ℕ) → k < length (take len (drop from words)) → P (get_or (take len (drop from words)) k 0)
 words_pass P words from part len has e all k within =
@@ -151,7 +151,7 @@ module _ (rows : ℕ) (words : List ℕ) (row count : ℕ) (enough : row + count
   succ_sound behind (next ∷ levels) fits (Row n) there = absurd there
 
   pub trie_sound : (place : ℕ) (levels : List (List (List Run))) → AreLevels count levels →
-      Has 0 words place (words_of_levels place (map match_of (range_with_len row count)) levels) →
+      HasPart 0 words place (words_of_levels place (map match_of (range_with_len row count)) levels) →
       place + length (words_of_levels place (map match_of (range_with_len row count)) levels) ≤ indexes →
       unsound_word rows words (levels_from place (map level_len levels)) ≡ None
   trie_sound place [] are has fits = refl
@@ -285,7 +285,7 @@ module _ (set : RuleSetView) where
       ∙ roots_lead (number + 1) (place + nodes_len trie) tries are.1 (omega (arith, more, fits))
 
   words_lead : (rows : ℕ) (words : List ℕ) (place row : ℕ) (tries : List LevelsView) →
-      AllByRecursion (IsTrie set) tries → Has 0 words place (words_of_tries place row tries) →
+      AllByRecursion (IsTrie set) tries → HasPart 0 words place (words_of_tries place row tries) →
       place + sum_by nodes_len tries ≤ indexes → row + sum_by row_count tries ≤ rows → 0 < rows → rows ≤ indexes →
       first_some (map (unsound_word rows words) (levels_each place tries)) ≡ None
   unfolding levels_each

@@ -29,7 +29,7 @@ use Rattle.table_fill.specs.Filled.{match_of, node_word, succ_word, level_len, w
 use Rattle.table_fill.specs.Filled.{words_of_tries, root_at, roots_of, winner_word, rule_word}
 use Rattle.table_fill.specs.Tries.{AreLevels, row_count}
 use Rattle.table_fill.proofs.Words.{match_parts}
-use Rattle.list_lemmas.proofs.Members.{Has}
+use Rattle.list_lemmas.proofs.Positions.{HasPart}
 use Rattle.list_lemmas.proofs.Positions.{has_front, has_rest}
 use Rattle.table_fill.proofs.Levels.{walk_follows}
 use Rattle.table_fill.proofs.Sounds.{length-levels-words}
@@ -46,8 +46,8 @@ pub record StandsIn (rules : List RuleView) (words : List ℕ) (rows : List (Lis
   pub place : ℕ
   pub row : ℕ
   pub root_is : root ≡ root_at place trie
-  pub has : Has 0 words place (words_of_levels place (matches_of row trie) trie.levels)
-  pub has_rows : Has [] rows row (rows_of_trie rules trie)
+  pub has : HasPart 0 words place (words_of_levels place (matches_of row trie) trie.levels)
+  pub has_rows : HasPart [] rows row (rows_of_trie rules trie)
   pub fits : place + nodes_len trie ≤ end
   pub few : row + length trie.rows ≤ last
 
@@ -56,7 +56,7 @@ no_trie = record { kept = 0; group = []; levels = []; rows = []; words = 0 }
 
 pub trie_stands : (rules : List RuleView) (words : List ℕ) (rows : List (List ℕ)) (place row : ℕ)
     (tries : List LevelsView) (t : ℕ) → t < length tries →
-    Has 0 words place (words_of_tries place row tries) → Has [] rows row (flat_map (rows_of_trie rules) tries) →
+    HasPart 0 words place (words_of_tries place row tries) → HasPart [] rows row (flat_map (rows_of_trie rules) tries) →
     StandsIn rules words rows (place + sum_by nodes_len tries) (row + sum_by row_count tries)
     (get_or (roots_of place tries) t 0) (get_or tries t no_trie)
 trie_stands rules words rows place row [] t within has has_rows = absurd (omega (arith, within))
@@ -105,7 +105,7 @@ all_small key (p ∷ places) are = (small_anywhere key p are, all_small key plac
 
 pub from_root : (words matches key : List ℕ) (place : ℕ) (levels : List (List (List Run))) (places : List ℕ) →
     0 < length (get_or levels 0 []) → AreLevels (length matches) levels → AreBytes key →
-    Has 0 words place (words_of_levels place matches levels) → place + sum_by level_len levels ≤ indexes → length places
+    HasPart 0 words place (words_of_levels place matches levels) → place + sum_by level_len levels ≤ indexes → length places
     ≡ length levels →
     fold (moved words) (node_word place (get_or (get_or levels 0 []) 0 [])) (map (λ p. get_or key p 0) places)
     ≡ succ_word matches (followed levels places key 0)
@@ -158,7 +158,7 @@ none_wins set category = refl
 
 module _ (set : RuleSetView) (rows : List (List ℕ)) (row : ℕ) (trie : LevelsView) (numbers : List ℕ) (category : ℕ)
     (within : category < row_len)
-    (zeros : get_or rows 0 [] ≡ replicate row_len 0) (has : Has [] rows row (rows_of_trie set.rules trie))
+    (zeros : get_or rows 0 [] ≡ replicate row_len 0) (has : HasPart [] rows row (rows_of_trie set.rules trie))
     (fits : row + length trie.rows ≤ indexes) where
   pub answered : (succ : Succ) → IsAnswer set trie.rows numbers succ →
       slice_index (slice_index_or rows (index_of (succ_word (matches_of row trie) succ)) []) category

@@ -37,12 +37,12 @@ struct Rest {
     high: u64,
 }
 
-/// A place of a key: its field, the field's size in bytes, and how many of these stand behind it.
+/// A place of a key: its field, the field's size in bytes, and how many of these stand after it.
 #[derive(Clone, Copy, Debug)]
 struct Place {
     field: usize,
     size: u8,
-    behind: u8,
+    after: u8,
 }
 
 /// The merged states of the group, as it is counted here.
@@ -76,7 +76,7 @@ pub fn recount(alloc: Global, rules: &RuleSet, group: &[u32]) -> Result<Counted,
     })
 }
 
-/// What each byte leads to from a state: a state before the next kept place, or a row behind the
+/// What each byte leads to from a state: a state before the next kept place, or a row after the
 /// last one. Those that are new join the ones found.
 fn successors(
     alloc: Global,
@@ -166,13 +166,9 @@ fn kept_places(alloc: Global, defs: &[FieldDef], kept: u128) -> Result<Vec<Place
     let mut place = 0u32;
     for (field, def) in defs.iter().enumerate() {
         let size = def.size;
-        for behind in (0..size).rev() {
+        for after in (0..size).rev() {
             if kept.wrapping_shr(group_of(place)) & 1 == 1 {
-                places.push(Place {
-                    field,
-                    size,
-                    behind,
-                })?;
+                places.push(Place { field, size, after })?;
             }
             place = place.wrapping_add(1);
         }
@@ -180,7 +176,7 @@ fn kept_places(alloc: Global, defs: &[FieldDef], kept: u128) -> Result<Vec<Place
     Ok(places)
 }
 
-/// What a rule allows before the first byte of the field that has the place, or behind the last
+/// What a rule allows before the first byte of the field that has the place, or after the last
 /// field, where there is nothing left to allow.
 fn rest_before(rules: &[StoredRule], rule: u32, place: Option<&Place>) -> Option<Rest> {
     let (low, high) = match place {
@@ -191,8 +187,8 @@ fn rest_before(rules: &[StoredRule], rule: u32, place: Option<&Place>) -> Option
 }
 
 /// What a value allows after one more byte, or none where it lets no number through any more.
-fn step(value: FieldValue, behind: u8, rest: &Rest, byte: u8) -> Option<(u64, u64)> {
-    let shift = 8 * u32::from(behind);
+fn step(value: FieldValue, after: u8, rest: &Rest, byte: u8) -> Option<(u64, u64)> {
+    let shift = 8 * u32::from(after);
     if let FieldValue::Bitmask { value, mask } = value {
         let wrong = (value.wrapping_shr(shift) ^ u64::from(byte)) & mask.wrapping_shr(shift) & 0xFF;
         return if wrong == 0 { Some((0, 0)) } else { None };
@@ -216,8 +212,8 @@ fn rest_after(
     byte: u8,
 ) -> Option<Rest> {
     let value = value_of(rules, rest.rule, place.field)?;
-    let (low, high) = step(value, place.behind, rest, byte)?;
-    if place.behind == 0 {
+    let (low, high) = step(value, place.after, rest, byte)?;
+    if place.after == 0 {
         rest_before(rules, rest.rule, next)
     } else {
         let rule = rest.rule;
