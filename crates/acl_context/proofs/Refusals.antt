@@ -53,7 +53,7 @@ first_from_here layout given place rule fault below is refused =
 pub first_from_end : (layout : List FieldDef) (given : List RuleView) (place : ℕ) → length given ≤ place →
     first_from layout given place ≡ None
 unfolding first_from
-first_from_end layout given place behind = rw (drop_all place given behind) refl
+first_from_end layout given place after = rw (drop_all place given after) refl
 
 no_refusal : (place : ℕ) (fault : Option RuleFault) → option_map (RuleRefused place) fault ≡ None → fault ≡ None
 no_refusal place None none = refl

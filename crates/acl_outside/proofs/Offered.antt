@@ -5,7 +5,6 @@
 pub use Rattle.acl_outside.proofs.ToldLaws.{Steps-join}
 -- a step of one relation is one of each weaker relation
 pub use Rattle.acl_outside.proofs.ToldLaws.{Steps-weaker}
-
 -- what calls leave as it is
 -- no count fell where nothing was asked
 pub use Rattle.acl_outside.proofs.KeptLaws.{KeepsCounts-same}
@@ -29,7 +28,6 @@ pub use Rattle.acl_outside.proofs.KeptLaws.{KeepsHeard-creation}
 pub use Rattle.acl_outside.proofs.KeptLaws.{KeepsHeard-write}
 -- nor does a finish
 pub use Rattle.acl_outside.proofs.KeptLaws.{KeepsHeard-finish}
-
 -- what was heard of a file, read by read
 -- nothing was asked yet
 pub use Rattle.acl_outside.proofs.HeardLaws.{ReadsOn-none}
@@ -41,7 +39,6 @@ pub use Rattle.acl_outside.proofs.HeardLaws.{ReadsOn-given}
 pub use Rattle.acl_outside.proofs.HeardLaws.{ReadsOn-ended}
 -- a read failed
 pub use Rattle.acl_outside.proofs.HeardLaws.{ReadsOn-failed}
-
 -- what was made of a file, write by write
 -- nothing was asked yet
 pub use Rattle.acl_outside.proofs.MadeLaws.{WritesOn-none}
@@ -55,7 +52,6 @@ pub use Rattle.acl_outside.proofs.MadeLaws.{WritesOn-failed}
 pub use Rattle.acl_outside.proofs.MadeLaws.{made-creation}
 -- a finish says how the newest stands
 pub use Rattle.acl_outside.proofs.MadeLaws.{made-finish}
-
 -- what a sink gains, piece by piece
 -- bytes at the end, and then more bytes
 pub use Rattle.acl_outside.proofs.WritingLaws.{Appends-then}

@@ -2,7 +2,7 @@
 //! counts of faults
 //!
 //! A program asks a [`Desk`] for files and gives a [`Sink`] its output, and never learns what
-//! stands behind them: memory in tests, the system else. Clauses see of each what it tells, and
+//! stands after them: memory in tests, the system else. Clauses see of each what it tells, and
 //! what it answered so far.
 //!
 //! - `desk`: the trait of what reads and makes files, and the answer of a call that failed

@@ -42,7 +42,7 @@ pub fn read_up_to<D: Desk>(alloc: Global, desk: &mut D, cap: usize) -> Result<Ve
     Ok(bytes)
 }
 
-/// Makes room for bytes behind the first `len`, where there is none: as much again, up to the cap.
+/// Makes room for bytes after the first `len`, where there is none: as much again, up to the cap.
 fn make_room(bytes: &mut Vec<u8>, len: usize, cap: usize) -> Result<(), ReadAll>
     requires in_bytes { len ≤ vec_len bytes.old }
     requires in_cap { vec_len bytes.old ≤ cap }

@@ -5,7 +5,7 @@ use Rattle.std.proofs.lemmas.List.{map-append, map_more, take-map, take_all, fla
 use Rattle.acl_report.specs.Line.{space, spaced}
 use Rattle.acl_report.specs.Packet.{answer, answer_word, answers}
 
--- one more of the answers, behind those before it
+-- one more of the answers, after those before it
 pub answers_more : (verdicts : List ℕ) (dashes : List Bool) (n : ℕ) (pair : ℕ × Bool) →
     n < length (zip verdicts dashes) →
     pair ≡ get_or (zip verdicts dashes) n pair →
@@ -16,7 +16,7 @@ answers_more verdicts dashes n pair within is =
     ∙ ap (λ before. before ++ f (get_or (zip verdicts dashes) n pair) ∷ []) (sym (take-map f n (zip verdicts dashes)))
     ∙ ap (λ p. take n (answers verdicts dashes) ++ f p ∷ []) (sym is)
 
--- what is written so far, and one more word behind it
+-- what is written so far, and one more word after it
 pub words_more : (before verdicts : List ℕ) (dashes : List Bool) (n : ℕ) (pair : ℕ × Bool) →
     n < length (zip verdicts dashes) →
     pair ≡ get_or (zip verdicts dashes) n pair →

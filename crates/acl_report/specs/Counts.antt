@@ -56,7 +56,7 @@ counts_of classes = record {
   short = count_by is_short classes;
 }
 
--- the line of the counts: all records, and behind each class how many are of it
+-- the line of the counts: all records, and after each class how many are of it
 abbrev pub packets_text : Counts → List ℕ
 packets_text counts =
     line_of (codes "packets") (decimal counts.packets

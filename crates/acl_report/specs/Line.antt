@@ -10,10 +10,10 @@ space = 32
 abbrev pub line_feed : ℕ
 line_feed = 10
 
--- the words, each behind a space
+-- the words, each after a space
 abbrev pub spaced : List (List ℕ) → List ℕ
 spaced words = flat_map (λ word. space ∷ word) words
 
--- a line: its first word, the others each behind a space, and LF
+-- a line: its first word, the others each after a space, and LF
 abbrev pub line_of : List ℕ → List (List ℕ) → List ℕ
 line_of first words = first ++ spaced words ++ line_feed ∷ []

@@ -6,7 +6,7 @@ use Rattle.header_extract.specs.declared.class.Class.TheVariants.{Ip4, Ip6, Othe
 use Rattle.acl_report.specs.Line.{line_feed}
 use Rattle.acl_report.specs.Packet.{answers, packet_text}
 
--- a text and the LF behind it
+-- a text and the LF after it
 abbrev line : List ℕ → List ℕ
 line text = text ++ line_feed ∷ []
 

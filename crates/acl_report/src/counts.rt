@@ -41,7 +41,7 @@ impl Counts {
 
 /// Writes the line of the counts to the front of `into`, and gives its length with its LF.
 ///
-/// The line names all records, and behind each class how many of them are of it. It takes no
+/// The line names all records, and after each class how many of them are of it. It takes no
 /// memory.
 pub fn packets_line(counts: &Counts, into: &mut [u8; LINE_ROOM]) -> usize
     ensures within { result ≤ LINE_ROOM }

@@ -1,12 +1,12 @@
 //! what is known of a packet, a capture or a table → the line that tells it, as bytes
 //!
-//! A report is text: words with one space between two of them, and LF behind the last word of a
+//! A report is text: words with one space between two of them, and LF after the last word of a
 //! line. Each writer puts one whole line to the front of a buffer of [`LINE_ROOM`] bytes, and gives
 //! the line's length with its LF. Every line fits, and none takes memory.
 //!
 //! | module | what it writes |
 //! |---|---|
-//! | `line` | pieces of a line, one behind the other |
+//! | `line` | pieces of a line, one after the other |
 //! | `packet` | the line of a packet: its number, its class, and what each category says |
 //! | `counts` | how many packets of each class a capture has; the counts are kept here too |
 //! | `tables` | the size of a table, and the transitions that were taken |

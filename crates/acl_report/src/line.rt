@@ -8,7 +8,7 @@ use itoa::write_digits;
 /// How many bytes the buffer of a line has. The longest line has 201.
 pub const LINE_ROOM: usize = 256;
 
-/// Writes a piece of a line at the place `at`, and gives the place behind it.
+/// Writes a piece of a line at the place `at`, and gives the place after it.
 ///
 /// The bytes before `at` stay. It takes no memory.
 #[inline]
@@ -22,7 +22,7 @@ pub fn append(into: &mut [u8; LINE_ROOM], at: usize, piece: &[u8]) -> usize
     end
 }
 
-/// Writes a number in decimal digits at the place `at`, and gives the place behind it.
+/// Writes a number in decimal digits at the place `at`, and gives the place after it.
 ///
 /// There is room for the 20 digits of the longest number. The bytes before `at` stay. It takes no
 /// memory.
@@ -36,7 +36,7 @@ pub fn append_number(into: &mut [u8; LINE_ROOM], at: usize, number: u64) -> usiz
 }
 
 /// Writes a number of at most 32 bits in decimal digits at the place `at`, where there is room for
-/// the 10 digits of the longest, and gives the place behind it.
+/// the 10 digits of the longest, and gives the place after it.
 #[inline]
 pub(crate) fn append_short(into: &mut [u8; LINE_ROOM], at: usize, number: u32) -> usize
     requires { at + 10 ≤ LINE_ROOM }
@@ -46,7 +46,7 @@ pub(crate) fn append_short(into: &mut [u8; LINE_ROOM], at: usize, number: u32) -
     append_digits(into, at, u64::from(number))
 }
 
-/// Writes a number, for whose digits there is room, at the place `at`, and gives the place behind
+/// Writes a number, for whose digits there is room, at the place `at`, and gives the place after
 /// it. The digits are written where they stay.
 #[inline]
 fn append_digits(into: &mut [u8; LINE_ROOM], at: usize, number: u64) -> usize
@@ -84,7 +84,7 @@ fn digits_in(number: u64) -> usize
     number.ilog10() as usize + 1
 }
 
-/// Writes a label and a number behind it at the place `at`, and gives the place behind them.
+/// Writes a label and a number after it at the place `at`, and gives the place after them.
 ///
 /// The label has the spaces around it. There is room for it and for the 20 digits of the longest
 /// number. The bytes before `at` stay. It takes no memory.

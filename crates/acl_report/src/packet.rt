@@ -51,7 +51,7 @@ pub fn packet_line(
     append(into, at, b"\n")
 }
 
-/// Writes a word for each category, each behind a space.
+/// Writes a word for each category, each after a space.
 #[inline(always)]
 fn append_answers(
     into: &mut [u8; LINE_ROOM],
@@ -72,7 +72,7 @@ fn append_answers(
     at
 }
 
-/// Writes the word of one category behind a space.
+/// Writes the word of one category after a space.
 #[inline]
 fn append_answer(into: &mut [u8; LINE_ROOM], at: usize, verdict: u32, dash: bool) -> usize
     requires { at + VERDICT_ROOM ≤ LINE_ROOM }

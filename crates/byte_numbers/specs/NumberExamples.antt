@@ -12,7 +12,7 @@ one_byte = refl
 an_address : number_of (192 ∷ 168 ∷ 1 ∷ 5 ∷ []) ≡ 0xC0A80105
 an_address = refl
 
--- port 80 behind port 1234
+-- port 80 after port 1234
 the_second_port : number_at (4 ∷ 210 ∷ 0 ∷ 80 ∷ []) 2 2 ≡ 80
 the_second_port = refl
 

@@ -63,7 +63,7 @@ word_after_gap gap word rest blanks is some ends =
     let passed = gap_passed gap (word ++ rest) blanks ∙ after_blanks-word word rest is some in
     record {
       first = ap first_word passed ∙ first_word-append word rest is ends;
-      behind = ap after_word passed ∙ after_word-append word rest is ends;
+      after = ap after_word passed ∙ after_word-append word rest is ends;
     }
 
 -- a word that is read has a byte
@@ -80,7 +80,7 @@ network_at : (text word rest : List ℕ) (network : Network) → NextWord text w
 network_at text word rest network next read =
     bind (network_of (first_word (after_blanks text))) network (λ n. Ok (read_of n (after_word (after_blanks text))))
     (ap network_of next.first ∙ read)
-    ∙ ap (λ r. Ok (read_of network r)) next.behind
+    ∙ ap (λ r. Ok (read_of network r)) next.after
 
 protocol_at_word : (text word rest : List ℕ) (value : FieldValue) → NextWord text word rest
     → protocol_of word ≡ Ok value
@@ -88,7 +88,7 @@ protocol_at_word : (text word rest : List ℕ) (value : FieldValue) → NextWord
 protocol_at_word text word rest value next read =
     bind (protocol_of (first_word (after_blanks text))) value
     (λ (v : FieldValue). Ok (read_of v (after_word (after_blanks text)))) (ap protocol_of next.first ∙ read)
-    ∙ ap (λ r. Ok (read_of value r)) next.behind
+    ∙ ap (λ r. Ok (read_of value r)) next.after
 
 -- a number begins with no blank
 at_space : (greatest n : ℕ) (cs : List ℕ) → whole_number greatest (space ∷ cs) ≡ Some n → ⊥
@@ -129,7 +129,7 @@ port_after_gap port gap text rest blanks is ends =
     ap port_at (number_after_gap max_port port gap text rest blanks is)
     ∙ cond-true (begins_numeral max_port (text ++ rest)) _ _
     (begins.begins max_port (whole_within max_port port text is))
-    ∙ λ i. Ok (read_of (begins.value i) (begins.behind i))
+    ∙ λ i. Ok (read_of (begins.value i) (begins.after i))
 
 range_at : (low high : ℕ) (rest : List ℕ) → EndsWord rest → low ≤ high
     → range_of low high rest ≡ Ok (read_of (Range low high) rest)
@@ -150,14 +150,14 @@ ports_after_gap gap rest ports value blanks spells ends =
     ∙ ap (λ t. ports.before_colon ++ colon ∷ t) (append_assoc ports.after_colon ports.high rest)) in
     let low = port_after_gap spells.low gap ports.low first blanks spells.low_spelled
     (blanks_end ports.before_colon second spells.before) in
-    let behind : after_colon_of (after_blanks first) ≡ Ok second =
+    let later : after_colon_of (after_blanks first) ≡ Ok second =
     ap after_colon_of
     (gap_passed ports.before_colon (colon ∷ second) spells.before ∙ after_blanks-other colon second refl) in
     let high = port_after_gap spells.high ports.after_colon ports.high rest spells.after spells.high_spelled
     (ends_either rest ends) in
     ap (λ t. ports_of (gap ++ t)) whole
     ∙ bind (port_of (gap ++ (ports.low ++ first))) (read_of spells.low first) after_low low
-    ∙ bind (after_colon_of (after_blanks first)) second (after_colon spells.low) behind
+    ∙ bind (after_colon_of (after_blanks first)) second (after_colon spells.low) later
     ∙ bind (port_of second) (read_of spells.high rest) (after_high spells.low) high
     ∙ range_at spells.low spells.high rest ends spells.filled
     ∙ ap (λ v. Ok (read_of v rest)) (sym spells.is)

@@ -41,14 +41,14 @@ use Rattle.list_lemmas.proofs.Elements.{list_any-lacks}
 -- the word that stands next in a text, and what follows it
 pub record NextWord (text word rest : List ℕ) : Type 0 where
   pub first : first_word (after_blanks text) ≡ word
-  pub behind : after_word (after_blanks text) ≡ rest
+  pub after : after_word (after_blanks text) ≡ rest
 
 next_word : (word rest : List ℕ) → IsWord word → 0 < length word → EndsWord rest → NextWord (word ++ rest) word rest
 next_word word rest is some ends =
     let blanks = after_blanks-word word rest is some in
     record {
       first = ap first_word blanks ∙ first_word-append word rest is ends;
-      behind = ap after_word blanks ∙ after_word-append word rest is ends;
+      after = ap after_word blanks ∙ after_word-append word rest is ends;
     }
 
 word_after_tab : (word rest : List ℕ) → IsWord word → 0 < length word → EndsWord rest
@@ -56,7 +56,7 @@ word_after_tab : (word rest : List ℕ) → IsWord word → 0 < length word → 
 word_after_tab word rest is some ends =
     let blank = after_blanks-blank tab (word ++ rest) refl in
     let next = next_word word rest is some ends in
-    record { first = ap first_word blank ∙ next.first; behind = ap after_word blank ∙ next.behind }
+    record { first = ap first_word blank ∙ next.first; after = ap after_word blank ∙ next.after }
 
 -- a network that stands next
 network_next : (text rest : List ℕ) (network : Network) → NextWord text (network_text network) rest
@@ -65,7 +65,7 @@ network_next : (text rest : List ℕ) (network : Network) → NextWord text (net
 network_next text rest network next lawful =
     bind (network_of (first_word (after_blanks text))) network (λ n. Ok (read_of n (after_word (after_blanks text))))
     (ap network_of next.first ∙ network_of-text network lawful)
-    ∙ ap (λ r. Ok (read_of network r)) next.behind
+    ∙ ap (λ r. Ok (read_of network r)) next.after
 
 -- a protocol that stands next
 protocol_next : (text rest : List ℕ) (value mask : ℕ) → value < 256 → mask < 256
@@ -75,7 +75,7 @@ protocol_next text rest value mask small masked next =
     bind (protocol_of (first_word (after_blanks text))) (Bitmask value mask)
     (λ (v : FieldValue). Ok (read_of v (after_word (after_blanks text))))
     (ap protocol_of next.first ∙ protocol_of-text value mask small masked)
-    ∙ ap (λ r. Ok (read_of (Bitmask value mask) r)) next.behind
+    ∙ ap (λ r. Ok (read_of (Bitmask value mask) r)) next.after
 
 -- the three attributes of a tag, word by word
 abbrev pri_word : ℕ → List ℕ

@@ -120,7 +120,7 @@ port_of-text c port rest blank within ends =
     ∙ after_blanks-word (decimal port) rest (decimal_word port (omega arith)) spelled.some in
     ap port_at blanks
     ∙ cond-true (begins_numeral max_port (decimal port ++ rest)) _ _ (begins.begins max_port within)
-    ∙ λ i. Ok (read_of (begins.value i) (begins.behind i))
+    ∙ λ i. Ok (read_of (begins.value i) (begins.after i))
 
 -- what a blank begins ends a number
 ends_at_tab : (rest : List ℕ) → EndsNumber 10 (tab ∷ rest)
@@ -155,11 +155,11 @@ ports_of-text low high rest filled within =
     let whole : ports_text (Range low high) ++ tab ∷ rest ≡ decimal low ++ space ∷ colon ∷ second =
     append_assoc (decimal low) (space ∷ colon ∷ space ∷ decimal high) (tab ∷ rest) in
     let first = port_of-text tab low (space ∷ colon ∷ second) refl (omega arith) (ends_at_space (colon ∷ second)) in
-    let behind : after_colon_of (after_blanks (space ∷ colon ∷ second)) ≡ Ok second = refl in
+    let after : after_colon_of (after_blanks (space ∷ colon ∷ second)) ≡ Ok second = refl in
     ap (λ text. ports_of (tab ∷ text)) whole
     ∙ bind (port_of (tab ∷ (decimal low ++ space ∷ colon ∷ second)))
     (read_of low (space ∷ colon ∷ second)) after_low first
-    ∙ bind (after_colon_of (after_blanks (space ∷ colon ∷ second))) second (after_colon low) behind
+    ∙ bind (after_colon_of (after_blanks (space ∷ colon ∷ second))) second (after_colon low) after
     ∙ bind (port_of second) (read_of high (tab ∷ rest)) (after_high low)
     (port_of-text space high (tab ∷ rest) refl within (ends_at_tab rest))
     ∙ range_of-text low high rest filled

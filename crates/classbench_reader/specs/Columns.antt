@@ -64,7 +64,7 @@ protocol_of word =
 abbrev pub holds_flags : List ℕ → Bool
 holds_flags word = list_any (λ c. c == slash) word && not (list_any (λ c. c == equals_sign) word)
 
--- The words after the flags: the first word is left out where it holds flags, which take no part in
+-- The words after the flags: the first word is left out where it holds flags, which are ignored in
 -- matching.
 abbrev pub after_flags : List (List ℕ) → Result (List (List ℕ)) LineKind
 after_flags [] = Ok []

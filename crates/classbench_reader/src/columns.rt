@@ -95,7 +95,7 @@ fn pair(word: &[u8], greatest: u64) -> Option<(u64, u64)>
     ))
 }
 
-/// The text after the flags, if the next word holds some, and else the text. Flags take no part in
+/// The text after the flags, if the next word holds some, and else the text. Flags are ignored in
 /// matching.
 pub fn after_flags(text: &[u8]) -> Result<&[u8], LineKind>
     ensures { MatchResult result

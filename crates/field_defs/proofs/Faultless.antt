@@ -55,10 +55,10 @@ from_here holds number count below fails =
     let left : count - number ≡ suc (count - (number + 1)) = omega arith in
     rw (left, fails) refl
 
--- behind the last number there is none
+-- after the last number there is none
 pub from_end : (holds : ℕ → Bool) (number count : ℕ) → count ≤ number → failing_from holds number count ≡ None
 unfolding failing_from
-from_end holds number count behind =
+from_end holds number count after =
     let left : count - number ≡ 0 = omega arith in
     rw left refl
 

@@ -21,7 +21,7 @@ field_within_reach n (def ∷ defs) zero d h = omega (arith, reach_from (max n (
 field_within_reach n (def ∷ defs) (suc i) d h =
     field_within_reach (max n (def.offset + def.size)) defs i d (omega arith)
 
--- no field ends behind the bytes that a buffer has to have
+-- no field ends after the bytes that a buffer has to have
 pub field_within_buffer : (defs : List FieldDef) (i : ℕ) (d : FieldDef) → i < length defs →
     (get_or defs i d).offset + (get_or defs i d).size ≤ buffer_len_of defs
 field_within_buffer defs i d h = field_within_reach 0 defs i d h

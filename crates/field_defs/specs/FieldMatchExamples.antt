@@ -15,7 +15,7 @@ a_prefix_of_24_bits : answers (Mask 0xC0A80100 24) 4
     (0xC0A800FF ∷ 0xC0A80100 ∷ 0xC0A801FF ∷ 0xC0A80200 ∷ []) ≡ false ∷ true ∷ true ∷ false ∷ []
 a_prefix_of_24_bits = refl
 
--- host bits past the prefix take no part
+-- host bits past the prefix are ignored
 host_bits : answers (Mask 0xC0A80105 24) 4 (0xC0A80100 ∷ 0xC0A80205 ∷ []) ≡ true ∷ false ∷ []
 host_bits = refl
 
@@ -66,7 +66,7 @@ bitmask_of_one_bit = refl
 bitmask_of_no_bit : answers (Bitmask 0x11 0) 1 (0 ∷ 6 ∷ 255 ∷ []) ≡ true ∷ true ∷ true ∷ []
 bitmask_of_no_bit = refl
 
--- a bit of the value that the mask lacks takes no part
+-- a bit of the value that the mask lacks is ignored
 bitmask_beyond_its_mask : answers (Bitmask 0xF1 0x0F) 1 (0x01 ∷ 0xF1 ∷ 0x02 ∷ [])
     ≡ true ∷ true ∷ false ∷ []
 bitmask_beyond_its_mask = refl

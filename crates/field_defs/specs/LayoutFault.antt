@@ -49,7 +49,7 @@ is_indexed defs place = (def_at defs place).field_index == place
 abbrev pub is_sized : List FieldDef → ℕ → Bool
 is_sized defs place = is_size (def_at defs place).size
 
--- the group of a definition that comes behind another: the second next one behind a field of 8
+-- the group of a definition that comes after another: the second next one after a field of 8
 -- bytes, and else the same or the next one
 abbrev pub may_follow : FieldDef → FieldDef → Bool
 may_follow before def =
@@ -72,9 +72,9 @@ is_filled_group defs group =
     let bytes = sum_by (λ def. def.size) members in
     length members == 0 || (bytes == group_bytes || (length members == 1 && bytes == wide_size))
 
--- a definition that shares a group past 0 with the one before it lies behind it in the buffer
-abbrev pub is_behind : List FieldDef → ℕ → Bool
-is_behind defs place =
+-- a definition that shares a group past 0 with the one before it lies after it in the buffer
+abbrev pub is_after : List FieldDef → ℕ → Bool
+is_after defs place =
     let before = def_at defs (place - 1) in
     let def = def_at defs place in
     let shares = nat_lt 0 place && (before.input_index == def.input_index && not
@@ -90,7 +90,7 @@ abbrev pub passes : DefCheck → List FieldDef → ℕ → Bool
 passes Index = is_indexed
 passes Size = is_sized
 passes Order = is_in_order
-passes Offset = is_behind
+passes Offset = is_after
 passes Reach = is_in_reach
 
 -- the eight kinds of checks in their order, each with its fault if it fails, and within a kind with
@@ -103,7 +103,7 @@ layout_faults defs =
     ∷ fault_unless ((def_at defs 0).size == 1) FirstNotOneByte
     ∷ option_map InputOrder (failing_number (is_in_order defs) (length defs))
     ∷ option_map GroupSize (failing_number (is_filled_group (drop 1 defs)) group_numbers)
-    ∷ option_map GroupOffsets (failing_number (is_behind defs) (length defs))
+    ∷ option_map GroupOffsets (failing_number (is_after defs) (length defs))
     ∷ option_map OffsetTooLarge (failing_number (is_in_reach defs) (length defs))
     ∷ []
 

@@ -34,12 +34,12 @@ one_byte : layout_fault (field 0 1 0 7 ∷ []) ≡ None
 unfolding layout_fault failing_number
 one_byte = refl
 
--- a field of 8 bytes fills two groups, so the next one has the group behind them
+-- a field of 8 bytes fills two groups, so the next one has the group after them
 wide_field : layout_fault (field 0 1 0 0 ∷ field 1 8 1 1 ∷ field 2 4 3 9 ∷ []) ≡ None
 unfolding layout_fault failing_number
 wide_field = refl
 
--- fields of four bytes together, one behind the other; the first may lie anywhere
+-- fields of four bytes together, one after the other; the first may lie anywhere
 shared_group : layout_fault (field 0 1 0 0 ∷ field 1 1 1 20 ∷ field 2 1 1 21 ∷ field 3 2 1 22 ∷
     field 4 4 2 4 ∷ []) ≡ None
 unfolding layout_fault failing_number

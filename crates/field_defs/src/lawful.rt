@@ -4,7 +4,7 @@ ghost use Rattle.std.specs.Prelude.{◌≡◌, ◌≤◌, ◌<◌, length};
 ghost use Rattle.std.specs.Result.{result_err};
 ghost use Rattle.field_defs.specs.Faults.{failing_number};
 ghost use Rattle.field_defs.specs.Layout.{max_fields};
-ghost use Rattle.field_defs.specs.LayoutFault.{layout_fault, is_in_order, is_behind};
+ghost use Rattle.field_defs.specs.LayoutFault.{layout_fault, is_in_order, is_after};
 ghost use Rattle.field_defs.specs.LayoutFault.{is_filled_group, group_numbers};
 
 use crate::field::{FieldDef, is_field_size};
@@ -39,15 +39,15 @@ pub enum LayoutFault {
     #[error("the first field isn't one byte long")]
     FirstNotOneByte,
     /// The input index can't follow that of the definition before. The first definition has 0 and
-    /// the second 1; behind an 8-byte field of index k comes k + 2, and behind any other k or k +
+    /// the second 1; after an 8-byte field of index k comes k + 2, and after any other k or k +
     /// 1.
     #[error("field {0}: the input index can't follow the one before")]
     InputOrder(u8),
     /// The fields of the group are neither one of 8 bytes nor of four bytes together.
     #[error("group {0}: the fields don't fill it")]
     GroupSize(u8),
-    /// The field shares a group with the one before, and doesn't lie behind it in the buffer.
-    #[error("field {0}: the field doesn't lie behind the one before in its group")]
+    /// The field shares a group with the one before, and doesn't lie after it in the buffer.
+    #[error("field {0}: the field doesn't lie after the one before in its group")]
     GroupOffsets(u8),
     /// The offset is above 65,535.
     #[error("field {0}: the offset is too large")]
@@ -99,7 +99,7 @@ enum DefCheck {
     Size,
     /// The input index may follow that of the definition before.
     Order,
-    /// The field lies behind the one before, if it shares a group with it.
+    /// The field lies after the one before, if it shares a group with it.
     Offset,
     /// The offset isn't too large.
     Reach,
@@ -121,7 +121,7 @@ impl DefCheck {
             DefCheck::Index => usize::from(def.field_index) == place,
             DefCheck::Size => is_field_size(def.size),
             DefCheck::Order => is_in_order(defs, place),
-            DefCheck::Offset => is_behind(defs, place),
+            DefCheck::Offset => is_after(defs, place),
             DefCheck::Reach => def.offset <= MAX_OFFSET,
         }
     }
@@ -158,10 +158,10 @@ fn is_in_order(defs: &[FieldDef], place: usize) -> bool
     }
 }
 
-/// Whether the field at the place lies behind the one before, if it shares a group past 0 with it.
-fn is_behind(defs: &[FieldDef], place: usize) -> bool
+/// Whether the field at the place lies after the one before, if it shares a group past 0 with it.
+fn is_after(defs: &[FieldDef], place: usize) -> bool
     requires { place < length defs.now }
-    ensures { result ≡ is_behind defs.now place }
+    ensures { result ≡ is_after defs.now place }
 {
     if place == 0 {
         return true;

@@ -12,7 +12,7 @@ use std::marker::Model;
 /// How many fields a layout may have.
 pub const MAX_FIELDS: usize = 64;
 
-/// What stands in a layout behind its last definition.
+/// What stands in a layout after its last definition.
 const UNUSED: FieldDef = FieldDef {
     kind: FieldKind::Mask,
     size: 1,

@@ -63,10 +63,10 @@ turn table trie first from end lt ends at =
     let more : sum (map depth (drop trie table.kept)) ≡ depth kept + sum (map depth (drop (trie + 1) table.kept)) =
     ap (λ (xs : List ℕ). sum (map depth xs)) now ∙ sum_by-cons (λ (x : ℕ). x) (depth kept)
     (map depth (drop (trie + 1) table.kept)) in
-    let behind : drop d lens ≡ drop end table.level_lens = drop-drop d first table.level_lens
+    let after : drop d lens ≡ drop end table.level_lens = drop-drop d first table.level_lens
     ∙ ap (λ (n : ℕ). drop n table.level_lens) (omega arith) in
     let parts : sum (take d lens) + sum (drop d lens) ≡ sum lens = sum_by-take-drop (λ (x : ℕ). x) lens d in
-    let left : sum (drop d lens) ≡ sum (drop end table.level_lens) = ap sum behind in
+    let left : sum (drop d lens) ≡ sum (drop end table.level_lens) = ap sum after in
     let whole : levels_from from (take d lens) ∷ portions (map depth (drop (trie + 1) table.kept))
     (levels_from (from + sum (take d lens)) (drop d lens)) ≡ drop trie (trie_levels table) =
     rw len at (sym (ap (λ (xs : List ℕ). portions (map depth xs) (levels_from from lens)) now
@@ -80,7 +80,7 @@ turn table trie first from end lt ends at =
       here = sym whole ∙ ap (λ (ys : List (List Level)). levels_from from (take d lens) ∷ ys) rest;
       next = record {
         rest = ap (λ (xs : List ℕ). portions (map depth (drop (trie + 1) table.kept))
-            (levels_from (from + sum (take d lens)) xs)) (sym behind) ∙ rest;
+            (levels_from (from + sum (take d lens)) xs)) (sym after) ∙ rest;
         levels = omega arith;
         words = omega arith;
       };

@@ -167,9 +167,9 @@ module _ (table : TableView) (trie : ℕ) (sound : sound_fault table ≡ None) (
       (sym (first-is (get_or (trie_levels table) trie [])))
       ∙ not_false _ (rw at at none)
 
-  pub none_behind : (depth word : ℕ) → length (places_of table trie) ≤ depth →
+  pub none_after : (depth word : ℕ) → length (places_of table trie) ≤ depth →
       leads_into (level_of table trie depth) word ≡ false
-  none_behind depth word le =
+  none_after depth word le =
       let past : length (get_or (trie_levels table) trie []) ≤ depth =
       omega (arith, ap (λ (ls : List Level). length ls) levels_cut, length-take {A = Level}) in
       ap (λ (level : Level). leads_into level word) (get_or_past (get_or (trie_levels table) trie []) depth no_level

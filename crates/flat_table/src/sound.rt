@@ -116,7 +116,7 @@ fn is_sound_word(rows: usize, next: Level, word: u64) -> bool
 
 /// The same after a word that is known to be sound: the words of a run of bytes are the same, and
 /// are looked at once.
-fn is_sound_behind(sound: Option<u64>, rows: usize, next: Level, word: u64) -> bool
+fn is_sound_after(sound: Option<u64>, rows: usize, next: Level, word: u64) -> bool
     requires next { next.from + next.len < 2 ^ 64 }
     requires sound { IfSome sound (λ before. is_sound_word rows next before ≡ true) }
     ensures { result ≡ is_sound_word rows next word }
@@ -134,7 +134,7 @@ fn unsound_in_level(rows: usize, next: Level, from: usize, words: &[u64]) -> Opt
 {
     let mut sound = None;
     for (i, word) in words.iter().enumerate() {
-        if !is_sound_behind(sound, rows, next, *word) {
+        if !is_sound_after(sound, rows, next, *word) {
             return Some(from + i);
         }
         sound = Some(*word);

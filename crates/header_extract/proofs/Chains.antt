@@ -69,12 +69,12 @@ upper_within-fuel (suc fuel) (suc more) next left enough also =
       | inr (inr fails) ↦ rw fails.1 refl
     ]
 
--- what a header leads to is what the chain behind it leads to
-pub upper_of-leads : (next behind : ℕ) (left rest : List ℕ) → header_step next left ≡ Ok (Leads behind rest) →
-    upper_of next left ≡ upper_of behind rest
-upper_of-leads next behind left rest leads =
+-- what a header leads to is what the chain after it leads to
+pub upper_of-leads : (next after : ℕ) (left rest : List ℕ) → header_step next left ≡ Ok (Leads after rest) →
+    upper_of next left ≡ upper_of after rest
+upper_of-leads next after left rest leads =
     let shorter = rw leads at (header_step-shorter next left) in
-    rw leads (upper_within-fuel (length left) (suc (length rest)) behind rest (omega (arith, shorter)) (omega arith))
+    rw leads (upper_within-fuel (length left) (suc (length rest)) after rest (omega (arith, shorter)) (omega arith))
 
 pub upper_of-ends : (next : ℕ) (left : List ℕ) (upper : Upper) → header_step next left ≡ Ok (Ends upper) →
     upper_of next left ≡ Ok upper
@@ -157,15 +157,15 @@ header_step-later next left eight later =
     let both = and_parts (next == fragment) (not (is_first_part left)) later in
     rw (fragment_is next both.0, both.0, le-leb 8 (length left) eight, not-true (is_first_part left) both.1) refl
 
--- the ports behind the last header, with its number
+-- the ports after the last header, with its number
 last_step : (next : ℕ) (left : List ℕ) (ports : Result (List ℕ) Class) →
     ((ports >>= λ four. Ok (Ends (record { protocol = next; ports = four })))
-    >>= λ step. followed step (λ behind rest. upper_within (length left) behind rest))
+    >>= λ step. followed step (λ after rest. upper_within (length left) after rest))
     ≡ (ports >>= λ four. Ok (record { protocol = next; ports = four }))
 last_step next left (Ok four) = refl
 last_step next left (Err class) = refl
 
--- a header that is no extension header ends the chain, with the ports behind it
+-- a header that is no extension header ends the chain, with the ports after it
 pub upper_of-last : (next : ℕ) (left : List ℕ) (ports : Result (List ℕ) Class) →
     (is_options next || next == fragment) ≡ false → ports_of next left ≡ ports →
     upper_of next left ≡ (ports >>= λ four. Ok (record { protocol = next; ports = four }))

@@ -1,4 +1,4 @@
--- The class of an IPv4 packet, behind all tests of its header.
+-- The class of an IPv4 packet, after all tests of its header.
 use Rattle.std.proofs.Common.{◌≡◌, ℕ, ◌*◌, ◌%◌, ◌≤◌, List, length, drop, slice_index, Ok, Err, refl, arith}
 use Rattle.std.proofs.lemmas.Bool.{le-leb, eq-eqb}
 use Rattle.header_extract.specs.declared.class.Class.TheVariants.{Ip4, Short}

@@ -1,4 +1,4 @@
--- The class of an IPv6 packet, behind the tests of its header.
+-- The class of an IPv6 packet, after the tests of its header.
 use Rattle.std.proofs.Common.{◌≡◌, ℕ, ◌≤◌, List, length, drop, slice_index, Ok, Err, refl}
 use Rattle.std.proofs.lemmas.Bool.{le-leb, eq-eqb}
 use Rattle.header_extract.specs.declared.class.Class.TheVariants.{Ip6, Short}

@@ -4,7 +4,7 @@ use Rattle.std.proofs.Common.{length-append}
 use Rattle.header_extract.specs.declared.class.Class.{Class}
 use Rattle.header_extract.specs.Class.{FrameClass, key_len, Extracts}
 
--- A key that was written from parts is the key of the frame, and what stands behind it stays.
+-- A key that was written from parts is the key of the frame, and what stands after it stays.
 pub Extracts-written : (frame : Result FrameClass Class) (answer : Class) (protocol : ℕ)
     (source destination addresses ports old new : List ℕ) →
     frame ≡ Ok (record { class = answer; key = protocol ∷ (source ++ destination ++ ports) }) →
@@ -15,6 +15,6 @@ Extracts-written frame answer protocol source destination addresses ports old ne
     let long : 5 + length addresses ≡ length (protocol ∷ (addresses ++ ports)) =
     omega (arith, length-append addresses ports) in
     let key : List ℕ → Type 0 = λ l. new ≡ (protocol ∷ l) ++ drop (length (protocol ∷ l)) old in
-    let behind = ap (λ (n : ℕ). (protocol ∷ (addresses ++ ports)) ++ drop n old) long in
+    let after = ap (λ (n : ℕ). (protocol ∷ (addresses ++ ports)) ++ drop n old) long in
     let len = ap (λ (l : List ℕ). length (protocol ∷ l)) (sym joined) ∙ sym long ∙ whole in
-    rw is_frame (record { class = refl; len = len; key = subst key joined (written ∙ behind) })
+    rw is_frame (record { class = refl; len = len; key = subst key joined (written ∙ after) })

@@ -9,8 +9,8 @@ pub record FrameClass : Type 0 where
   pub key : List ℕ
 
 infixl 10 ◌>>=◌
--- what a layer gives goes into the layer behind it; a layer that ends the work with a class has no
--- layer behind it
+-- what a layer gives goes into the layer after it; a layer that ends the work with a class has no
+-- layer after it
 abbrev pub ◌>>=◌ : {A B : Type 0} → Result A Class → (A → Result B Class) → Result B Class
 Ok value >>= f = f value
 Err class >>= f = Err class
@@ -37,7 +37,7 @@ key_len Other = 0
 key_len Short = 0
 
 -- The answer is the class of the frame. The key has the length of that class. It is written at the
--- front, and all bytes behind it stay as they were.
+-- front, and all bytes after it stay as they were.
 pub record Extracts (frame : Result FrameClass Class) (old new : List ℕ) (answer : Class)
     : Type 0 where
   pub class : answer ≡ (settled frame).class

@@ -21,11 +21,11 @@ header_words header =
 abbrev pub is_first_part : List ℕ → Bool
 is_first_part header = number_at header 6 2 % 8192 == 0
 
--- the protocol of the packet, which says what stands behind the header
+-- the protocol of the packet, which says what stands after the header
 abbrev pub protocol_of : List ℕ → ℕ
 protocol_of header = slice_index header 9
 
--- the ports stand behind the header of a packet that is whole or the first of its fragments
+-- the ports stand after the header of a packet that is whole or the first of its fragments
 abbrev pub ip4_ports : List ℕ → List ℕ → Result (List ℕ) Class
 ip4_ports header payload =
     if is_first_part header then ports_of (protocol_of header) payload else Ok no_ports

@@ -7,11 +7,11 @@ use Rattle.header_extract.specs.Ports.{no_ports}
 use Rattle.header_extract.specs.Ip4.{ip4_class}
 
 -- a packet from 192.168.1.5 to 192.168.2.31: version and header length, the two bytes of flags and
--- fragment offset, the protocol, and what stands behind the first 20 bytes
+-- fragment offset, the protocol, and what stands after the first 20 bytes
 abbrev pub ip4_packet : ℕ → ℕ → ℕ → ℕ → List ℕ → List ℕ
-ip4_packet first high low protocol behind =
+ip4_packet first high low protocol after =
     first ∷ 0 ∷ 0 ∷ 24 ∷ 0 ∷ 0 ∷ high ∷ low ∷ 64 ∷ protocol ∷ 0 ∷ 0
-    ∷ 192 ∷ 168 ∷ 1 ∷ 5 ∷ 192 ∷ 168 ∷ 2 ∷ 31 ∷ behind
+    ∷ 192 ∷ 168 ∷ 1 ∷ 5 ∷ 192 ∷ 168 ∷ 2 ∷ 31 ∷ after
 
 -- its class and key, with the bytes of its ports
 abbrev pub ip4_frame : ℕ → List ℕ → Result FrameClass Class
@@ -64,9 +64,9 @@ header_of_four_words = refl
 options : ip4_class (ip4_packet 0x46 0 0 17 (replicate 4 1 ++ ports)) ≡ ip4_frame 17 ports
 options = refl
 
-ports_cut_behind_options : ip4_class (ip4_packet 0x46 0 0 17 (replicate 4 1 ++ take 3 ports))
+ports_cut_after_options : ip4_class (ip4_packet 0x46 0 0 17 (replicate 4 1 ++ take 3 ports))
     ≡ Err Short
-ports_cut_behind_options = refl
+ports_cut_after_options = refl
 
 exactly_the_options : ip4_class (ip4_packet 0x46 0 0 1 (replicate 4 1)) ≡ ip4_frame 1 no_ports
 exactly_the_options = refl

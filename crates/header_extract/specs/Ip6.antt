@@ -18,7 +18,7 @@ is_options next = next == 0 || next == 43 || next == 60
 abbrev pub fragment : ℕ
 fragment = 44
 
--- an extension header begins with the number of the header behind it
+-- an extension header begins with the number of the header after it
 abbrev pub next_of : List ℕ → ℕ
 next_of header = slice_index header 0
 
@@ -32,7 +32,7 @@ options_len header = 8 * (slice_index header 1 + 1)
 abbrev pub is_first_part : List ℕ → Bool
 is_first_part header = number_at header 2 2 / 8 == 0
 
--- a header leads to the one behind it, with its number and the bytes that are left, or it ends the
+-- a header leads to the one after it, with its number and the bytes that are left, or it ends the
 -- chain
 pub data Step : Type 0 where
   Leads : (next : ℕ) (left : List ℕ) → Step
@@ -69,9 +69,9 @@ abbrev pub upper_within : ℕ → ℕ → List ℕ → Result Upper Class
 upper_within zero next left = Err Short
 upper_within (suc fuel) next left = do
   step ← header_step next left
-  followed step (λ behind rest. upper_within fuel behind rest)
+  followed step (λ after rest. upper_within fuel after rest)
 
--- the protocol that the header of this number leads to, with the ports behind the chain
+-- the protocol that the header of this number leads to, with the ports after the chain
 abbrev pub upper_of : ℕ → List ℕ → Result Upper Class
 upper_of next left = upper_within (suc (length left)) next left
 
@@ -80,12 +80,12 @@ abbrev pub ip6_key : List ℕ → Upper → List ℕ
 ip6_key header upper =
     upper.protocol ∷ (take 16 (drop 8 header) ++ take 16 (drop 24 header) ++ upper.ports)
 
--- the chain behind a header of version 6, of which byte 6 is the number of the header behind it
+-- the chain after a header of version 6, of which byte 6 is the number of the header after it
 abbrev pub chain_of : List ℕ → List ℕ → Result Upper Class
 chain_of header left =
     if version_of header == 6 then upper_of (slice_index header 6) left else Err Other
 
--- an IPv6 packet: 40 bytes of header, the chain of headers behind it, and the ports
+-- an IPv6 packet: 40 bytes of header, the chain of headers after it, and the ports
 abbrev pub ip6_class : List ℕ → Result FrameClass Class
 ip6_class packet = do
   header ← at_least 40 packet

@@ -12,19 +12,19 @@ abbrev addresses : List ℕ
 addresses =
     0x20 ∷ 1 ∷ 0x0D ∷ 0xB8 ∷ replicate 11 0 ++ 1 ∷ 0x20 ∷ 1 ∷ 0x0D ∷ 0xB8 ∷ replicate 11 0 ++ 2 ∷ []
 
--- a packet from the first to the second: its first byte, the number of the header behind it, and
--- all that stands behind
+-- a packet from the first to the second: its first byte, the number of the header after it, and
+-- all that stands after
 abbrev packet : ℕ → ℕ → List ℕ → List ℕ
-packet first next behind = first ∷ 0 ∷ 0 ∷ 0 ∷ 0 ∷ 4 ∷ next ∷ 64 ∷ addresses ++ behind
+packet first next after = first ∷ 0 ∷ 0 ∷ 0 ∷ 0 ∷ 4 ∷ next ∷ 64 ∷ addresses ++ after
 
 abbrev pub ip6_packet : ℕ → List ℕ → List ℕ
-ip6_packet next behind = packet 0x60 next behind
+ip6_packet next after = packet 0x60 next after
 
 -- its class and key, with the bytes of its ports
 abbrev pub ip6_frame : ℕ → List ℕ → Result FrameClass Class
 ip6_frame protocol ports = Ok (record { class = Ip6; key = protocol ∷ addresses ++ ports })
 
--- a header of options: the number of the header behind it, and its words of 8 bytes less one
+-- a header of options: the number of the header after it, and its words of 8 bytes less one
 abbrev options : ℕ → ℕ → List ℕ
 options next words = next ∷ words ∷ replicate 6 0 ++ replicate 8 0
 
@@ -32,7 +32,7 @@ options next words = next ∷ words ∷ replicate 6 0 ++ replicate 8 0
 abbrev short_options : ℕ → List ℕ
 short_options next = next ∷ replicate 7 0
 
--- a fragment header: the number of the header behind it, and the two bytes of offset and flags
+-- a fragment header: the number of the header after it, and the two bytes of offset and flags
 abbrev part : ℕ → ℕ → ℕ → List ℕ
 part next high low = next ∷ 0 ∷ high ∷ low ∷ replicate 4 7
 
@@ -94,8 +94,8 @@ one_byte_less_than_two_words = refl
 one_byte_less_than_one_word : ip6_class (ip6_packet 0 (take 7 (short_options 58))) ≡ Err Short
 one_byte_less_than_one_word = refl
 
-ports_cut_behind_options : ip6_class (ip6_packet 0 (short_options 17 ++ take 3 ports)) ≡ Err Short
-ports_cut_behind_options = refl
+ports_cut_after_options : ip6_class (ip6_packet 0 (short_options 17 ++ take 3 ports)) ≡ Err Short
+ports_cut_after_options = refl
 
 options_of_no_bytes : ip6_class (ip6_packet 60 []) ≡ Err Short
 options_of_no_bytes = refl
@@ -149,10 +149,10 @@ chain_of_four_cut :
     ≡ Err Short
 chain_of_four_cut = refl
 
-options_behind_a_later_fragment :
+options_after_a_later_fragment :
     ip6_class (ip6_packet 0 (short_options 44 ++ part 0 0 8 ++ short_options 6 ++ ports))
     ≡ ip6_frame 0 no_ports
-options_behind_a_later_fragment = refl
+options_after_a_later_fragment = refl
 
 same_header_twice : ip6_class (ip6_packet 60 (short_options 60 ++ short_options 6 ++ ports))
     ≡ ip6_frame 6 ports

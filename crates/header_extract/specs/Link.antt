@@ -1,4 +1,4 @@
--- The class of a frame by its link type: the header of the link, VLAN tags and the packet behind
+-- The class of a frame by its link type: the header of the link, VLAN tags and the packet after
 -- them (IEEE 802.3, 3.2.6, IEEE 802.1Q, 9, and the pages of tcpdump.org on the link types).
 use Rattle.std.specs.Prelude.{ℕ, zero, suc, ◌==◌, List, drop, Bool, ◌||◌, Result, Ok, Err, if◌then◌else◌}
 use Rattle.byte_numbers.specs.Number.{number_at}
@@ -14,14 +14,14 @@ use Rattle.header_extract.specs.Ip6.{ip6_class}
 abbrev pub is_tag : ℕ → Bool
 is_tag ethertype = ethertype == 0x8100 || ethertype == 0x88A8
 
--- the type of what stands behind at most so many tags, and the bytes behind that type; a tag of two
+-- the type of what stands after at most so many tags, and the bytes after that type; a tag of two
 -- bytes is followed by a type
-abbrev pub behind_tags : ℕ → ℕ → List ℕ → Result (ℕ × List ℕ) Class
-behind_tags zero ethertype payload = Ok (ethertype, payload)
-behind_tags (suc tags) ethertype payload =
+abbrev pub after_tags : ℕ → ℕ → List ℕ → Result (ℕ × List ℕ) Class
+after_tags zero ethertype payload = Ok (ethertype, payload)
+after_tags (suc tags) ethertype payload =
     if is_tag ethertype then (do
       tag ← at_least 4 payload
-      behind_tags tags (number_at tag 2 2) (drop 4 payload))
+      after_tags tags (number_at tag 2 2) (drop 4 payload))
     else Ok (ethertype, payload)
 
 -- 0x0800 stands for IPv4 and 0x86DD for IPv6
@@ -35,7 +35,7 @@ class_by_type typed =
 abbrev pub typed_class : ℕ → ℕ → List ℕ → Result FrameClass Class
 typed_class header_len type_at frame = do
   header ← at_least header_len frame
-  typed ← behind_tags 2 (number_at header type_at 2) (drop header_len frame)
+  typed ← after_tags 2 (number_at header type_at 2) (drop header_len frame)
   class_by_type typed
 
 -- a packet of version 4 or 6

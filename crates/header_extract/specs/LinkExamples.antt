@@ -15,18 +15,18 @@ ip6 = ip6_packet 6 ports
 
 -- the addresses of an Ethernet frame, and its type as two bytes
 abbrev ethernet : ℕ → ℕ → List ℕ → List ℕ
-ethernet high low behind = replicate 12 0 ++ high ∷ low ∷ behind
+ethernet high low after = replicate 12 0 ++ high ∷ low ∷ after
 
--- a tag of a network, and the type behind it as two bytes
+-- a tag of a network, and the type after it as two bytes
 abbrev tag : ℕ → ℕ → List ℕ → List ℕ
-tag high low behind = 0 ∷ 5 ∷ high ∷ low ∷ behind
+tag high low after = 0 ∷ 5 ∷ high ∷ low ∷ after
 
 -- a Linux "cooked" header, of the first version and of the second
 abbrev cooked : ℕ → ℕ → List ℕ → List ℕ
-cooked high low behind = replicate 14 1 ++ high ∷ low ∷ behind
+cooked high low after = replicate 14 1 ++ high ∷ low ∷ after
 
 abbrev cooked_v2 : ℕ → ℕ → List ℕ → List ℕ
-cooked_v2 high low behind = high ∷ low ∷ replicate 18 1 ++ behind
+cooked_v2 high low after = high ∷ low ∷ replicate 18 1 ++ after
 
 ethernet_ip4 : frame_class links.Ethernet (ethernet 8 0 ip4) ≡ ip4_frame 17 ports
 ethernet_ip4 = refl

@@ -12,7 +12,7 @@ has_ports protocol = protocol == 6 || protocol == 17 || protocol == 132
 abbrev pub no_ports : List ℕ
 no_ports = 0 ∷ 0 ∷ 0 ∷ 0 ∷ []
 
--- source and destination port, where the protocol has ports, which stand behind the headers
+-- source and destination port, where the protocol has ports, which stand after the headers
 abbrev pub ports_of : ℕ → List ℕ → Result (List ℕ) Class
 ports_of protocol payload = if has_ports protocol then (do
   bytes ← at_least 4 payload

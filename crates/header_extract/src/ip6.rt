@@ -42,7 +42,7 @@ const OFFSET: usize = 2;
 /// How many low bits beside the fragment offset aren't part of it.
 const OFFSET_SHIFT: u16 = 3;
 
-/// The protocol behind all extension headers, with the ports of the packet.
+/// The protocol after all extension headers, with the ports of the packet.
 #[derive(Clone, Copy, Debug, PartialEq, Eq)]
 pub struct Upper {
     pub protocol: u8,
@@ -104,7 +104,7 @@ fn find_upper(next: u8, left: &[u8]) -> Option<Upper>
     }
 }
 
-/// Whether a header of this number is that of a fragment behind the first.
+/// Whether a header of this number is that of a fragment after the first.
 fn is_later_part(next: u8, left: &[u8]) -> bool
     requires { 8 ≤ length left.now }
     ensures { result ≡ (next == fragment && not (is_first_part left.now)) }

@@ -13,7 +13,7 @@ const KEY: usize = 37;
 ///     | protocol: 1 | source: 4 | destination: 4 | source port: 2 | destination port: 2 |
 ///     | protocol: 1 | source: 16 | destination: 16 | source port: 2 | destination port: 2 |
 ///
-/// The first line is the key of an IPv4 packet, of 13 bytes. The bytes behind it are left as they
+/// The first line is the key of an IPv4 packet, of 13 bytes. The bytes after it are left as they
 /// were.
 #[derive(Clone, Copy, Debug, PartialEq, Eq)]
 pub struct KeyBuf {

@@ -1,6 +1,6 @@
 //! a captured frame and its link type → its class, and the key of the IPv4 or IPv6 packet in it
 //!
-//! A frame is taken apart layer by layer from its front, and no layer copies what stands behind its
+//! A frame is taken apart layer by layer from its front, and no layer copies what stands after its
 //! header:
 //!
 //! | module | what it reads or writes |

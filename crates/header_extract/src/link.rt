@@ -1,4 +1,4 @@
-//! The header of a link, with its VLAN tags, and the packet behind it.
+//! The header of a link, with its VLAN tags, and the packet after it.
 //!
 //!     | destination: 6 | source: 6 | type: 2 |
 //!     | packet type: 2 | address type: 2 | address length: 2 | address: 8 | type: 2 |
@@ -6,7 +6,7 @@
 //!     | tag: 2 | type: 2 |
 //!
 //! These are the headers of Ethernet, of Linux "cooked" and of its version 2, and a tag, which
-//! stands behind its own type.
+//! stands after its own type.
 //!
 //! Sources: IEEE 802.3, 3.2.6 (the type of a frame), IEEE 802.1Q, 9.4 to 9.6 (tags), RFC 894 and
 //! RFC 2464 (IPv4 and IPv6 over Ethernet), the pages of tcpdump.org on LINKTYPE_LINUX_SLL and
@@ -14,7 +14,7 @@
 
 ghost use Rattle.std.specs.Prelude.{◌≡◌, ◌+◌, ◌≤◌, Ok, Err, length, IfSome, IsNone};
 ghost use Rattle.header_extract.specs.Class.{Extracts};
-ghost use Rattle.header_extract.specs.Link.{frame_class, class_by_type, raw_class, typed_class, is_tag, behind_tags};
+ghost use Rattle.header_extract.specs.Link.{frame_class, class_by_type, raw_class, typed_class, is_tag, after_tags};
 ghost use Rattle.header_extract.specs.declared.class.Class.TheVariants as classes;
 
 use crate::class::Class;
@@ -37,13 +37,13 @@ const COOKED_V2_HEADER: usize = 20;
 /// Where the type stands in a Linux "cooked" header of version 2.
 const COOKED_V2_TYPE: usize = 0;
 
-/// The type of what stands behind a customer's VLAN tag.
+/// The type of what stands after a customer's VLAN tag.
 const CUSTOMER_TAG: u16 = 0x8100;
-/// The type of what stands behind a service provider's VLAN tag.
+/// The type of what stands after a service provider's VLAN tag.
 const SERVICE_TAG: u16 = 0x88A8;
-/// How many bytes a tag has, with the type behind it.
+/// How many bytes a tag has, with the type after it.
 const TAG: usize = 4;
-/// Where the type stands behind a tag.
+/// Where the type stands after a tag.
 const TAG_TYPE: usize = 2;
 
 /// The type of a frame with an IPv4 packet.
@@ -56,7 +56,7 @@ const IP6: u16 = 0x86DD;
 /// `frame` holds the captured bytes from the header of the link on, and may have any length. At
 /// [`Class::Ip4`] the first 13 bytes of `key` are written and at [`Class::Ip6`] all 37, in network
 /// order: protocol (1), source and destination address (4 or 16 each), source and destination port
-/// (2 each). All other bytes stay as they were. The protocol is the one behind all extension
+/// (2 each). All other bytes stay as they were. The protocol is the one after all extension
 /// headers. The ports are those of TCP, UDP and SCTP, and 0 for other protocols and for all
 /// fragments but the first. Up to two VLAN tags are passed over. It refuses nothing and takes no
 /// memory. Sources: IEEE 802.1Q, RFC 791, RFC 8200.
@@ -84,7 +84,7 @@ fn extract_typed(header_len: usize, type_at: usize, frame: &[u8], key: &mut KeyB
     if frame.len() < header_len {
         return Class::Short;
     }
-    match behind_two_tags(network_u16_at(frame, type_at), &frame[header_len..]) {
+    match after_two_tags(network_u16_at(frame, type_at), &frame[header_len..]) {
         Some((IP4, packet)) => extract_ip4(packet, key),
         Some((IP6, packet)) => extract_ip6(packet, key),
         Some(_) => Class::Other,
@@ -92,28 +92,28 @@ fn extract_typed(header_len: usize, type_at: usize, frame: &[u8], key: &mut KeyB
     }
 }
 
-/// The type behind up to two tags, and what stands behind it, or `None` where a tag is cut.
+/// The type after up to two tags, and what stands after it, or `None` where a tag is cut.
 #[inline]
-fn behind_two_tags(ethertype: u16, payload: &[u8]) -> Option<(u16, &[u8])>
+fn after_two_tags(ethertype: u16, payload: &[u8]) -> Option<(u16, &[u8])>
     ensures some { IfSome result
-        (λ behind. behind_tags 2 ethertype payload.now ≡ Ok (behind.0, behind.1.now)) }
-    ensures none { IsNone result → behind_tags 2 ethertype payload.now ≡ Err classes.Short }
+        (λ after. after_tags 2 ethertype payload.now ≡ Ok (after.0, after.1.now)) }
+    ensures none { IsNone result → after_tags 2 ethertype payload.now ≡ Err classes.Short }
 {
     // Most frames have no tag.
     if !is_tag(ethertype) {
         return Some((ethertype, payload));
     }
-    let (ethertype, payload) = behind_tag(ethertype, payload)?;
-    behind_tag(ethertype, payload)
+    let (ethertype, payload) = after_tag(ethertype, payload)?;
+    after_tag(ethertype, payload)
 }
 
-/// The type behind a tag, if `ethertype` stands in front of one, and what stands behind that type,
+/// The type after a tag, if `ethertype` stands in front of one, and what stands after that type,
 /// or `None` where the tag is cut.
 #[inline]
-fn behind_tag(ethertype: u16, payload: &[u8]) -> Option<(u16, &[u8])>
+fn after_tag(ethertype: u16, payload: &[u8]) -> Option<(u16, &[u8])>
     ensures some { IfSome result
-        (λ behind. behind_tags 1 ethertype payload.now ≡ Ok (behind.0, behind.1.now)) }
-    ensures none { IsNone result → behind_tags 1 ethertype payload.now ≡ Err classes.Short }
+        (λ after. after_tags 1 ethertype payload.now ≡ Ok (after.0, after.1.now)) }
+    ensures none { IsNone result → after_tags 1 ethertype payload.now ≡ Err classes.Short }
 {
     if !is_tag(ethertype) {
         return Some((ethertype, payload));

@@ -22,7 +22,7 @@ const UDP: u8 = 17;
 /// The protocol number of SCTP.
 const SCTP: u8 = 132;
 
-/// The ports at the front of what stands behind the headers, 0 for a protocol that has none, or
+/// The ports at the front of what stands after the headers, 0 for a protocol that has none, or
 /// `None` where they are cut.
 #[inline]
 pub fn read_ports(protocol: u8, payload: &[u8]) -> Option<Ports>

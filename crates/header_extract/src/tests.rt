@@ -4,7 +4,7 @@ use super::*;
 use pcap_reader::Link;
 use std::process::Abort;
 
-/// A frame, its class, and the first bytes of its key, behind which the key is as it was before.
+/// A frame, its class, and the first bytes of its key, after which the key is as it was before.
 struct Case {
     name: &'static str,
     link: Link,
@@ -22,7 +22,7 @@ const UDP: [u8; 42] = [
     168, 1, 5, 192, 168, 2, 31, 0x13, 0x88, 0x04, 0xD2, 0, 8, 0, 0,
 ];
 
-/// TCP from port 443 of ::1 to port 80 of ::2, behind hop-by-hop options, in a VLAN over Ethernet.
+/// TCP from port 443 of ::1 to port 80 of ::2, after hop-by-hop options, in a VLAN over Ethernet.
 const TAGGED_TCP: [u8; 70] = [
     0, 0, 0, 0, 0, 0, 0, 0, 0, 0, 0, 0, 0x81, 0x00, 0, 5, 0x86, 0xDD, 0x60, 0, 0, 0, 0, 12, 0, 64,
     0, 0, 0, 0, 0, 0, 0, 0, 0, 0, 0, 0, 0, 0, 0, 1, 0, 0, 0, 0, 0, 0, 0, 0, 0, 0, 0, 0, 0, 0, 0, 2,
@@ -40,7 +40,7 @@ const CASES: [Case; 4] = [
         ],
     },
     Case {
-        name: "TCP over IPv6 behind a tag and options",
+        name: "TCP over IPv6 after a tag and options",
         link: Link::Ethernet,
         frame: &TAGGED_TCP,
         class: Class::Ip6,

@@ -34,8 +34,8 @@ bitmask_rest value mask size place prefix zero e =
     let whole : place ≡ size = omega arith in
     rw (whole, div-one mask, div-one value) (rest_whole (Bitmask value mask) size prefix)
 bitmask_rest value mask size place prefix (suc left) e =
-    let behind : size - place ≡ suc left = omega arith in
-    rest_open (Bitmask value mask) size place prefix (omega arith) ∙ rw behind refl
+    let after : size - place ≡ suc left = omega arith in
+    rest_open (Bitmask value mask) size place prefix (omega arith) ∙ rw after refl
 
 -- a bitmask goes step by step
 pub bitmask_step : (value mask size place prefix byte : ℕ) → place < size → byte < 256 →
@@ -47,7 +47,7 @@ bitmask_step value mask size place prefix byte begun below =
     let left : ℕ = size - (place + 1) in
     let count : ℕ = 256 ^ left in
     let block : 256 ^ suc left ≡ 256 * count = pow-suc 256 left ∙ mul_comm count 256 in
-    let behind : size - place ≡ suc left = omega arith in
+    let after : size - place ≡ suc left = omega arith in
     rw (
       bitmask_rest value mask size (place + 1) (prefix * 256 + byte) left (omega arith),
       bitmask_rest value mask size place prefix (suc left) (omega arith),
@@ -55,7 +55,7 @@ bitmask_step value mask size place prefix byte begun below =
       agree_in_two value mask count prefix byte (bytes_above_0 left) below,
     )
     (elim (cases_Bool (agrees value mask (256 * count) prefix)) [
-      | inl agree ↦ rw (agree, lt-ltb place size begun, behind, block)
+      | inl agree ↦ rw (agree, lt-ltb place size begun, after, block)
           (sym (bitmask_rest _ _ (suc left) 1 byte left (omega arith)))
       | inr differ ↦ rw differ refl
     ])

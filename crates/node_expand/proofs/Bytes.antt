@@ -53,10 +53,10 @@ module _ (low high count byte : ℕ) (filled : low ≤ high) (positive : 0 < cou
                     let left : max low (byte * count) - byte * count ≡ low % count =
                     omega (arith, ap (λ n. n * count) here) in
                     rw (eq-eqb byte (low / count) here, left) refl
-                | inr behind ↦
+                | inr after ↦
                     let next : (low / count + 1) * count ≤ byte * count = mul-le-mul_right count (omega arith) in
                     let left : max low (byte * count) - byte * count ≡ 0 = omega arith in
-                    rw (ne_eqb byte (low / count) behind, left) refl
+                    rw (ne_eqb byte (low / count) after, left) refl
               ] in
               let upper : ltb (min high (byte * count + (count - 1)) - byte * count) (count - 1)
               ≡ (eqb byte (high / count) && ltb (high % count) (count - 1)) = elim (cases_eq byte (high / count)) [
@@ -113,9 +113,9 @@ module _ (low high size place : ℕ) (edge : Edge) (lawful : size ≤ 8) (begun 
   between_ends =
       let left : ℕ = size - (place + 1) in
       let count : ℕ = 256 ^ left in
-      let behind : size - place ≡ suc left = omega arith in
+      let after : size - place ≡ suc left = omega arith in
       let block : 256 ^ suc left ≡ 256 * count = pow-suc 256 left ∙ mul_comm count 256 in
-      let numbers : 256 ^ (size - place) ≡ 256 * count = rw behind block in
+      let numbers : 256 ^ (size - place) ≡ 256 * count = rw after block in
       let first : ℕ = if has_low edge then low else 0 in
       let last : ℕ = if has_high edge then high else 2 ^ 64 - 1 in
       let lower : first % (256 * count) ≡ low_of edge low (256 ^ (size - place)) =
@@ -231,9 +231,9 @@ unfolding answer_of edge_step rest_step
 agreeing_answer value mask size place byte edge begun =
     let left : ℕ = size - (place + 1) in
     let count : ℕ = 256 ^ left in
-    let behind : size - place ≡ suc left = omega arith in
+    let after : size - place ≡ suc left = omega arith in
     let block : 256 ^ suc left ≡ 256 * count = pow-suc 256 left ∙ mul_comm count 256 in
-    let numbers : 256 ^ (size - place) ≡ 256 * count = rw behind block in
+    let numbers : 256 ^ (size - place) ≡ 256 * count = rw after block in
     let value_byte = byte_of_end value count (bytes_above_0 left) in
     let mask_byte = byte_of_end mask count (bytes_above_0 left) in
     rw (

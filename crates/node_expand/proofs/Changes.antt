@@ -88,15 +88,15 @@ pub unchanged_before : (answer : ℕ → Option Edge) (first last byte : ℕ) �
 unchanged_before answer first last byte ends below before =
     elim (cases_eq byte 0) [
       | inl start ↦ is_change_first answer byte start
-      | inr behind ↦ no_change answer byte
+      | inr later ↦ no_change answer byte
           (none_from (answer byte) (λ some. omega (arith, (ends.none_outside byte below some).0)))
           (none_from (answer (byte - 1)) (λ some. omega (arith, (ends.none_outside (byte - 1) (omega arith) some).0)))
     ]
 
--- nor behind the byte after the last one
-pub unchanged_behind : (answer : ℕ → Option Edge) (first last byte : ℕ) → AreEnds answer first last → byte < 256 →
+-- nor after the byte after the last one
+pub unchanged_after : (answer : ℕ → Option Edge) (first last byte : ℕ) → AreEnds answer first last → byte < 256 →
     last + 2 ≤ byte → is_change answer byte ≡ false
-unchanged_behind answer first last byte ends below behind = no_change answer byte
+unchanged_after answer first last byte ends below later = no_change answer byte
     (none_from (answer byte) (λ some. omega (arith, (ends.none_outside byte below some).1)))
     (none_from (answer (byte - 1)) (λ some. omega (arith, (ends.none_outside (byte - 1) (omega arith) some).1)))
 
@@ -126,7 +126,7 @@ between_ends low high low_inner high_inner filled = record {
   none_outside = λ byte below some. elim (cases_lt byte low) [
     | inl before ↦ absurd (let none = rw (answer_below low high low_inner high_inner byte before) at some in cc)
     | inr reached ↦ elim (cases_lt high byte) [
-      | inl behind ↦ absurd (let none = rw (answer_above low high low_inner high_inner byte behind) at some in cc)
+      | inl later ↦ absurd (let none = rw (answer_above low high low_inner high_inner byte later) at some in cc)
       | inr within ↦ (reached, within)
     ]
   ];
@@ -159,11 +159,11 @@ pub within_alike : (answer other : ℕ → Option Edge) (first last : ℕ) →
 within_alike answer other first last alike below within byte above at_most =
     rw (← alike byte (omega arith)) (within byte above at_most)
 
--- behind the first byte only the two answers count
-is_change_behind : (answer : ℕ → Option Edge) (byte : ℕ) → 0 < byte →
+-- after the first byte only the two answers count
+is_change_after : (answer : ℕ → Option Edge) (byte : ℕ) → 0 < byte →
     is_change answer byte ≡ not (same_answer (answer byte) (answer (byte - 1)))
 unfolding is_change
-is_change_behind answer byte behind = rw (lt-ltb 0 byte behind) refl
+is_change_after answer byte later = rw (lt-ltb 0 byte later) refl
 
 -- an edge with one end inner is another than one with the other end inner
 edges_differ : (low high : Bool) → not (same_edge (edge_with false high) (edge_with low false)) ≡ (high || low)
@@ -172,7 +172,7 @@ edges_differ true false = refl
 edges_differ false true = refl
 edges_differ true true = refl
 
--- the marks of the bytes between two ends: at the lower end and behind the upper one, and next to an inner end within
+-- the marks of the bytes between two ends: at the lower end and after the upper one, and next to an inner end within
 abbrev pub is_marked : ℕ → ℕ → Bool → Bool → ℕ → Bool
 is_marked low high low_inner high_inner byte =
     (eqb byte (high + 1) && ltb high 255)
@@ -188,10 +188,10 @@ module _ (low high byte : ℕ) (low_inner high_inner : Bool) (filled : low ≤ h
   unmarked_apart a b c d = grind (arith, nat_tests)
 
   marked_low : 0 < byte → byte ≡ low → is_marked low high low_inner high_inner byte ≡ true
-  marked_low behind is = grind (arith, nat_tests)
+  marked_low later is = grind (arith, nat_tests)
 
-  marked_behind : byte < 256 → byte ≡ high + 1 → is_marked low high low_inner high_inner byte ≡ true
-  marked_behind below is = grind (arith, nat_tests)
+  marked_after : byte < 256 → byte ≡ high + 1 → is_marked low high low_inner high_inner byte ≡ true
+  marked_after below is = grind (arith, nat_tests)
 
   marked_within : low < byte → byte ≤ high →
       is_marked low high low_inner high_inner byte
@@ -209,7 +209,7 @@ between_changes low high byte low_inner high_inner filled below =
     elim (cases_eq byte 0) [
       | inl first ↦ is_change_first answer byte first
           ∙ sym (unmarked_first low high byte low_inner high_inner filled first)
-      | inr behind ↦ is_change_behind answer byte (omega arith) ∙ elim (cases_order byte low) [
+      | inr later ↦ is_change_after answer byte (omega arith) ∙ elim (cases_order byte low) [
         | inl start ↦ rw (is_below (byte - 1) (omega arith), is_within byte (omega arith) (omega arith))
             (sym (marked_low low high byte low_inner high_inner filled (omega arith) start))
         | inr other ↦ elim other [
@@ -218,7 +218,7 @@ between_changes low high byte low_inner high_inner filled below =
               (λ e. omega arith) (λ e. omega arith)))
           | inr after ↦ elim (cases_order byte (high + 1)) [
             | inl end ↦ rw (is_above byte (omega arith), is_within (byte - 1) (omega arith) (omega arith))
-                (sym (marked_behind low high byte low_inner high_inner filled below end))
+                (sym (marked_after low high byte low_inner high_inner filled below end))
             | inr apart ↦ elim apart [
               | inl inside ↦
                   let edges : not (same_answer (answer byte) (answer (byte - 1)))

@@ -16,7 +16,7 @@ use Rattle.node_expand.proofs.EdgeRests.{live_only}
 use Rattle.node_expand.proofs.Bits.{agrees, bitmask_rest}
 use Rattle.list_lemmas.proofs.Bits.{shared_by_block, shared_in_blocks}
 
--- What a part says of the numbers behind the prefix.
+-- What a part says of the numbers after the prefix.
 record HoldsPart (low high count prefix : ℕ) (found : Option Rest) : Type 0 where
   live : IsSome found ↔ ((number : ℕ) × (number < count) × (low ≤ prefix * count + number) ×
       (prefix * count + number ≤ high))

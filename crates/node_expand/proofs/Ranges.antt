@@ -58,8 +58,8 @@ range_rest low high size place prefix zero e =
     let whole : place ≡ size = omega arith in
     rw whole (rest_whole (Range low high) size prefix ∙ within_part low high prefix)
 range_rest low high size place prefix (suc left) e =
-    let behind : size - place ≡ suc left = omega arith in
-    rest_open (Range low high) size place prefix (omega arith) ∙ rw behind
+    let after : size - place ≡ suc left = omega arith in
+    rest_open (Range low high) size place prefix (omega arith) ∙ rw after
 
 -- where no part is left there is no rest
 closing-none : (left : ℕ) → closing left None ≡ None

@@ -12,7 +12,7 @@ use Rattle.node_expand.specs.Rest.{Rest, Interval, live_where, count_of, as_rang
 use Rattle.node_expand.specs.Rest.{rest_after, rest_step, rest_through}
 use Rattle.node_expand.specs.Edges.{edge_of, rest_of, edge_after, edge_step, StandsBefore, is_cut}
 
--- The number that the prefix and the number of the bytes behind it make matches.
+-- The number that the prefix and the number of the bytes after it make matches.
 abbrev pub Completes : FieldValue → ℕ → ℕ → ℕ → ℕ → Type 0
 Completes value size place prefix number =
     field_match value size (prefix * count_of (size - place) + number) ≡ true

@@ -43,7 +43,7 @@ one_port : rests (Range 80 80) 2 1 (0 ∷ 1 ∷ []) ≡ Some (Interval 80 80) �
 unfolding rest_after part
 one_port = refl
 
--- 192.168.2.31/31, whose host bit takes no part
+-- 192.168.2.31/31, whose host bit is ignored
 a_mask_of_31_bits : rests (Mask 0xC0A8021F 31) 4 3 (0xC0A801 ∷ 0xC0A802 ∷ [])
     ≡ None ∷ Some (Interval 30 31) ∷ []
 unfolding rest_after part mask_low mask_high

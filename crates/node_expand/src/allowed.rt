@@ -64,7 +64,7 @@ impl Allowed {
         }
     }
 
-    /// The bytes that the numbers from `low` to `high` have at the place with `shift` bits behind
+    /// The bytes that the numbers from `low` to `high` have at the place with `shift` bits after
     /// it, at the edge.
     #[inline]
     pub(crate) fn between(low: u64, high: u64, shift: u32, edge: Edge) -> Self
@@ -166,7 +166,7 @@ pub(crate) fn ones(count: u32) -> u64
     }
 }
 
-/// The byte of the number with `shift` bits behind it.
+/// The byte of the number with `shift` bits after it.
 #[inline]
 pub(crate) fn byte_at(number: u64, shift: u32) -> u8
     requires { shift ≤ 56 }
@@ -214,7 +214,7 @@ fn mark_agreeing(marks: &mut [bool; 256], value: usize, mask: usize, first: usiz
         ≡ (is_change (answer_of (Allowed.Agreeing value mask)) byte
         || slice_index_or marks.old byte false) }
 {
-    // No byte before the first or behind the last agrees.
+    // No byte before the first or after the last agrees.
     for byte in first.max(1)..(last + 2).min(256) {
         let turns = (byte & mask == value) != ((byte - 1) & mask == value);
         mark_where(marks, byte, turns);

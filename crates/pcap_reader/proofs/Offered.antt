@@ -7,7 +7,6 @@ pub use Rattle.pcap_reader.proofs.FillLaws.{take-put_mid}
 pub use Rattle.pcap_reader.proofs.FillLaws.{KeepsReading-same}
 -- some was read, and then more
 pub use Rattle.pcap_reader.proofs.FillLaws.{KeepsReading-join}
-
 -- what stands next, and more bytes after it
 -- what decides is there: more bytes change nothing but what stands after a record
 unfoldable pub use Rattle.pcap_reader.proofs.NextLaws.{IsDecided}
@@ -23,7 +22,6 @@ unfoldable pub use Rattle.pcap_reader.proofs.CaptureLaws.{IsShorter}
 pub use Rattle.pcap_reader.proofs.CaptureLaws.{next_of-shorter}
 -- what stands next is one of three
 pub use Rattle.pcap_reader.proofs.CaptureLaws.{next_cases}
-
 -- the records that follow
 -- the state after a record
 unfoldable pub use Rattle.pcap_reader.proofs.CaptureLaws.{state_next}
@@ -35,7 +33,6 @@ pub use Rattle.pcap_reader.proofs.CaptureLaws.{records_from-end}
 pub use Rattle.pcap_reader.proofs.CaptureLaws.{records_from-fault}
 -- some records, and then more
 pub use Rattle.pcap_reader.proofs.CaptureLaws.{followed_by-then}
-
 -- the state after records
 -- some records, and then more
 pub use Rattle.pcap_reader.proofs.CaptureLaws.{state_past-then}
@@ -45,7 +42,6 @@ pub use Rattle.pcap_reader.proofs.CaptureLaws.{state_past-count}
 pub use Rattle.pcap_reader.proofs.CaptureLaws.{state_past-progress}
 -- and it has the file header of before
 pub use Rattle.pcap_reader.proofs.CaptureLaws.{state_past-start}
-
 -- what answers come to
 -- where what stands next has no record, the bytes have none
 pub use Rattle.pcap_reader.proofs.AnswersLaws.{no_records}

@@ -165,9 +165,9 @@ tests_in_turn first second rules places =
 abbrev LiesAt : List RuleView → ℕ → List RuleView → Type 0
 LiesAt rules n xs = (k : ℕ) → k < length xs → slice_get rules (n + k) ≡ slice_get xs k
 
-lies_behind : (rules : List RuleView) (n : ℕ) (x : RuleView) (xs : List RuleView) → LiesAt rules n (x ∷ xs) →
+lies_after : (rules : List RuleView) (n : ℕ) (x : RuleView) (xs : List RuleView) → LiesAt rules n (x ∷ xs) →
     LiesAt rules (n + 1) xs
-lies_behind rules n x xs lies k h = (let next : n + 1 + k ≡ n + suc k = omega arith in ap (slice_get rules) next)
+lies_after rules n x xs lies k h = (let next : n + 1 + k ≡ n + suc k = omega arith in ap (slice_get rules) next)
     ∙ lies (suc k) (omega arith)
 
 lies_here : (rules : List RuleView) (n : ℕ) (x : RuleView) (xs : List RuleView) → LiesAt rules n (x ∷ xs) →
@@ -196,7 +196,7 @@ all_at : (test holds : RuleView → Bool) (at : ℕ → Bool) (rules : List Rule
 all_at test holds at rules n [] lies same = refl
 all_at test holds at rules n (x ∷ xs) lies same =
     let here = lies_here rules n x xs lies in
-    let rest = all_at test holds at rules (n + 1) xs (lies_behind rules n x xs lies) same in
+    let rest = all_at test holds at rules (n + 1) xs (lies_after rules n x xs lies) same in
     rw (passes_says test rules n x here) (elim (cases_Bool (test x)) [
       | inl e ↦ rw (e, same n x here) (ap (λ others. holds x && others) rest)
       | inr e ↦ rw e rest
@@ -210,7 +210,7 @@ first_at : (test holds : RuleView → Bool) (at : ℕ → Bool) (rules : List Ru
 first_at test holds at rules n [] lies same = refl
 first_at test holds at rules n (x ∷ xs) lies same =
     let here = lies_here rules n x xs lies in
-    let rest = first_at test holds at rules (n + 1) xs (lies_behind rules n x xs lies) same in
+    let rest = first_at test holds at rules (n + 1) xs (lies_after rules n x xs lies) same in
     rw (passes_says test rules n x here) (elim (cases_Bool (test x)) [
       | inl e ↦ rw (e, same n x here) (ap (λ others. cond (holds x) (Some n) others) rest)
       | inr e ↦ rw e rest

@@ -56,7 +56,7 @@ later_verdict : says later 100 0 ≡ 30
 unfolding later
 later_verdict = refl
 
--- a rule without the category's bit takes no part
+-- a rule without the category's bit is ignored
 parted : List RuleView
 parted = ranged 0 255 2 (pos 9) 10 ∷ ranged 0 255 0x10001 (pos 1) 20 ∷ []
 

@@ -66,11 +66,11 @@ fn matches_key(defs: &[FieldDef], values: &[FieldValue], key: &[u8]) -> bool
 {
     let mut rest = key;
     for (def, value) in defs.iter().zip(values) {
-        let (bytes, behind) = rest.split_at(usize::from(def.size));
+        let (bytes, after) = rest.split_at(usize::from(def.size));
         if !field_matches(value, def.size, network_number(bytes)) {
             return false;
         }
-        rest = behind;
+        rest = after;
     }
     true
 }

@@ -121,8 +121,8 @@ pub two_in : {X : Type 0} (xs : List X) (place : ℕ) (one other : X) → place 
     insert (insert xs place one) (place + 1) other ≡ take place xs ++ one ∷ other ∷ drop place xs
 two_in xs place one other within =
     let before = take place xs in
-    let behind = drop place xs in
+    let after = drop place xs in
     let long : length before ≡ place = length-take place xs ∙ omega arith in
     let none : place + 1 - place ≡ 1 = omega arith in
-    insert-append_right before (one ∷ behind) place (place + 1) other long (omega arith)
-    ∙ ap (λ k. before ++ insert (one ∷ behind) k other) none
+    insert-append_right before (one ∷ after) place (place + 1) other long (omega arith)
+    ∙ ap (λ k. before ++ insert (one ∷ after) k other) none

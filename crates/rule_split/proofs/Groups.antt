@@ -27,14 +27,14 @@ use Rattle.rule_split.specs.Laws.{GroupsHoldEachRuleOnce}
 use Rattle.rule_split.proofs.Halves.{IsTwoOf, divided_is}
 
 -- the places of groups of which one has become two
-places_of_two : (before behind : List (List ℕ)) (one other : List ℕ) →
-    places_in (before ++ one ∷ other ∷ behind) ≡ places_in before ++ ((one ++ other) ++ places_in behind)
-places_of_two before behind one other =
-    flat_map-append (λ (group : List ℕ). group) before (one ∷ other ∷ behind)
+places_of_two : (before later : List (List ℕ)) (one other : List ℕ) →
+    places_in (before ++ one ∷ other ∷ later) ≡ places_in before ++ ((one ++ other) ++ places_in later)
+places_of_two before later one other =
+    flat_map-append (λ (group : List ℕ). group) before (one ∷ other ∷ later)
     ∙ ap (λ places. places_in before ++ places)
-    (flat_map-cons (λ (group : List ℕ). group) one (other ∷ behind)
-    ∙ ap (λ places. one ++ places) (flat_map-cons (λ (group : List ℕ). group) other behind)
-    ∙ sym (append_assoc one other (places_in behind)))
+    (flat_map-cons (λ (group : List ℕ). group) one (other ∷ later)
+    ∙ ap (λ places. one ++ places) (flat_map-cons (λ (group : List ℕ). group) other later)
+    ∙ sym (append_assoc one other (places_in later)))
 
 -- the groups around a place, and their places
 around : (groups : List (List ℕ)) (place : ℕ) → place < length groups →
@@ -50,11 +50,11 @@ places_around : (groups : List (List ℕ)) (place : ℕ) → place < length grou
     ≡ places_in (take place groups) ++ (get_or groups place [] ++ places_in (drop (place + 1) groups))
 places_around groups place within =
     let before : List (List ℕ) = take place groups in
-    let behind : List (List ℕ) = drop (place + 1) groups in
+    let later : List (List ℕ) = drop (place + 1) groups in
     let group : List ℕ = get_or groups place [] in
     ap places_in (around groups place within)
-    ∙ flat_map-append (λ (group : List ℕ). group) before (group ∷ behind)
-    ∙ ap (λ places. places_in before ++ places) (flat_map-cons (λ (group : List ℕ). group) group behind)
+    ∙ flat_map-append (λ (group : List ℕ). group) before (group ∷ later)
+    ∙ ap (λ places. places_in before ++ places) (flat_map-cons (λ (group : List ℕ). group) group later)
 
 -- a group that becomes two leaves a partition
 partition_of_two : (n : ℕ) (groups : List (List ℕ)) (place : ℕ) (one other : List ℕ) → place < length groups →
@@ -62,24 +62,24 @@ partition_of_two : (n : ℕ) (groups : List (List ℕ)) (place : ℕ) (one other
     IsPartition n (take place groups ++ one ∷ other ∷ drop (place + 1) groups)
 partition_of_two n groups place one other within two parts =
     let before : List (List ℕ) = take place groups in
-    let behind : List (List ℕ) = drop (place + 1) groups in
+    let later : List (List ℕ) = drop (place + 1) groups in
     let group : List ℕ = get_or groups place [] in
     let HasOne : List ℕ → Type 0 = λ group. 0 < length group in
-    let now : List (List ℕ) = before ++ one ∷ other ∷ behind in
+    let now : List (List ℕ) = before ++ one ∷ other ∷ later in
     record {
-      some = All-append HasOne before (one ∷ other ∷ behind) (All-take HasOne place groups parts.some)
-          (All-cons HasOne one (other ∷ behind) two.one_some
-          (All-cons HasOne other behind two.other_some (All-drop HasOne (place + 1) groups parts.some)));
-      ascending = All-append IsStrictlyIncreasing before (one ∷ other ∷ behind)
+      some = All-append HasOne before (one ∷ other ∷ later) (All-take HasOne place groups parts.some)
+          (All-cons HasOne one (other ∷ later) two.one_some
+          (All-cons HasOne other later two.other_some (All-drop HasOne (place + 1) groups parts.some)));
+      ascending = All-append IsStrictlyIncreasing before (one ∷ other ∷ later)
           (All-take IsStrictlyIncreasing place groups parts.ascending)
-          (All-cons IsStrictlyIncreasing one (other ∷ behind) two.one_rises
-          (All-cons IsStrictlyIncreasing other behind two.other_rises
+          (All-cons IsStrictlyIncreasing one (other ∷ later) two.one_rises
+          (All-cons IsStrictlyIncreasing other later two.other_rises
           (All-drop IsStrictlyIncreasing (place + 1) groups parts.ascending)));
       once = IsPermutation-trans (places_in now) (places_in groups) (range_with_len 0 n)
-          (rw (places_of_two before behind one other, places_around groups place within)
-          (IsPermutation-append_right (places_in before) ((one ++ other) ++ places_in behind)
-          (group ++ places_in behind)
-          (IsPermutation-append_left (places_in behind) (one ++ other) group
+          (rw (places_of_two before later one other, places_around groups place within)
+          (IsPermutation-append_right (places_in before) ((one ++ other) ++ places_in later)
+          (group ++ places_in later)
+          (IsPermutation-append_left (places_in later) (one ++ other) group
           (IsPermutation-sym group (one ++ other) two.once))))
           parts.once;
     }
@@ -95,16 +95,16 @@ split_is : (set : RuleSetView) (n : ℕ) (groups : List (List ℕ)) (place : ℕ
 unfolding split_at
 split_is set n groups place within two parts =
     let before : List (List ℕ) = take place groups in
-    let behind : List (List ℕ) = drop (place + 1) groups in
+    let later : List (List ℕ) = drop (place + 1) groups in
     let becomes = divided_is set (get_or groups place [])
     (All-get_or IsStrictlyIncreasing groups place [] within parts.ascending) two in
     let one : List ℕ = becomes.0 in
     let other : List ℕ = becomes.1 in
-    rw (becomes.2, append_assoc before (one ∷ other ∷ []) behind) record {
+    rw (becomes.2, append_assoc before (one ∷ other ∷ []) later) record {
       partition = partition_of_two n groups place one other within becomes.3 parts;
       more = omega (
         arith,
-        length-append before (one ∷ other ∷ behind),
+        length-append before (one ∷ other ∷ later),
         length-take place groups,
         length-drop (place + 1) groups,
       );

@@ -25,11 +25,11 @@ pub two_for_one : {X : Type 0} (xs : List X) (place : ℕ) (one other : X) → p
     ≡ take place xs ++ one ∷ other ∷ drop (place + 1) xs
 two_for_one xs place one other within =
     let before = take place xs in
-    let behind = drop (suc place) xs in
+    let after = drop (suc place) xs in
     let long : place ≡ length before = omega (arith, length-take place xs) in
     let next : suc place ≡ place + 1 = omega arith in
-    (λ i. (ap (λ n. take n (before ++ behind)) long ∙ take-append_seam before behind) i
-    ++ one ∷ other ∷ (ap (λ n. drop n (before ++ behind)) long ∙ drop-append_seam before behind) i)
+    (λ i. (ap (λ n. take n (before ++ after)) long ∙ take-append_seam before after) i
+    ++ one ∷ other ∷ (ap (λ n. drop n (before ++ after)) long ∙ drop-append_seam before after) i)
     ∙ ap (λ n. before ++ one ∷ other ∷ drop n xs) next
 
 -- the group at a place
@@ -54,12 +54,12 @@ pub split_groups : (set : RuleSetView) (groups : List Counted) (place : ℕ) (fi
 unfolding split_at
 split_groups set groups place first second two =
     let before = take place (map group_in groups) in
-    let behind = drop (place + 1) (map group_in groups) in
+    let after = drop (place + 1) (map group_in groups) in
     map-append group_in (take place groups) (first ∷ second ∷ drop (place + 1) groups)
     ∙ (λ i. sym (take-map group_in place groups) i
     ++ group_in first ∷ group_in second ∷ sym (drop-map group_in (place + 1) groups) i)
-    ∙ sym (append_assoc before (group_in first ∷ group_in second ∷ []) behind)
-    ∙ ap (λ between. before ++ between ++ behind) two
+    ∙ sym (append_assoc before (group_in first ∷ group_in second ∷ []) after)
+    ∙ ap (λ between. before ++ between ++ after) two
 
 -- and all of them are counted rightly
 pub split_counted : (set : RuleSetView) (budget : ℕ) (groups : List Counted) (place : ℕ) (first second : Counted) →

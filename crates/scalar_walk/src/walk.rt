@@ -20,7 +20,7 @@ pub struct Walked {
 }
 
 /// The place of the word that a walk takes by the byte from a word that leads to a node.
-fn place_behind(word: u64, byte: u8) -> usize
+fn place_after(word: u64, byte: u8) -> usize
     requires { is_node word ≡ true }
     ensures { result ≡ next_place word byte }
 {
@@ -63,7 +63,7 @@ pub fn walk_one<L: Ledger>(table: &Table, trie: usize, key: &[u8], steps: &mut S
     let mut taken = 0usize;
     // A walk comes to a match before the places end, so no test asks for their end.
     while !is_end(word) {
-        word = words[place_behind(word, key[usize::from(places[taken])])];
+        word = words[place_after(word, key[usize::from(places[taken])])];
         taken += 1;
         steps.raise();
     }

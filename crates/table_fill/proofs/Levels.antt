@@ -57,9 +57,9 @@ node_at words targets place (runs ∷ states) zero within has = record {
   has = has_front 0 words place (node_words targets runs) (flat_map (node_words targets) states) has;
 }
 node_at words targets place (runs ∷ states) (suc number) within has =
-    let behind : ℕ = place + cost_of (length runs) in
-    let rest = node_at words targets behind states number (omega (arith, within))
-    (has_rest 0 words place (node_words targets runs) (flat_map (node_words targets) states) has behind
+    let after : ℕ = place + cost_of (length runs) in
+    let rest = node_at words targets after states number (omega (arith, within))
+    (has_rest 0 words place (node_words targets runs) (flat_map (node_words targets) states) has after
     (omega (arith, length-node_words targets runs))) in
     record {
       at = rest.at;

@@ -127,28 +127,28 @@ not_true b e = ap not e
 
 module _ (rows : ℕ) (words : List ℕ) (row count : ℕ) (enough : row + count ≤ rows) (some : 0 < rows)
     (small : rows ≤ indexes) where
-  succ_sound : (behind : ℕ) (levels : List (List (List Run))) →
-      behind + length (words_of_levels behind (map match_of (range_with_len row count)) levels) ≤ indexes →
+  succ_sound : (after : ℕ) (levels : List (List (List Run))) →
+      after + length (words_of_levels after (map match_of (range_with_len row count)) levels) ≤ indexes →
       (succ : Succ) → IsThere count levels succ →
-      is_sound_word rows (first_level (levels_from behind (map level_len levels)))
-      (succ_word (targets_of behind (map match_of (range_with_len row count)) levels) succ) ≡ true
-  succ_sound behind levels fits Dead there = match_sound rows 0
-      (first_level (levels_from behind (map level_len levels))) some small
-  succ_sound behind [] fits (State n) there = absurd there
-  succ_sound behind [] fits (Row n) there =
+      is_sound_word rows (first_level (levels_from after (map level_len levels)))
+      (succ_word (targets_of after (map match_of (range_with_len row count)) levels) succ) ≡ true
+  succ_sound after levels fits Dead there = match_sound rows 0
+      (first_level (levels_from after (map level_len levels))) some small
+  succ_sound after [] fits (State n) there = absurd there
+  succ_sound after [] fits (Row n) there =
       ap (is_sound_word rows (first_level [])) (get_or-map-range_with_len match_of row count n (row + n) 0 there refl)
       ∙ match_sound rows (row + n) (first_level []) (omega (arith, there, enough)) small
-  succ_sound behind (next ∷ levels) fits (State n) there =
-      let level : Level = record { from = behind; len = level_len next } in
+  succ_sound after (next ∷ levels) fits (State n) there =
+      let level : Level = record { from = after; len = level_len next } in
       let ms : List ℕ = map match_of (range_with_len row count) in
-      let whole = length-append (flat_map (node_words (targets_of (behind + level_len next) ms levels)) next)
-      (words_of_levels (behind + level_len next) ms levels) in
-      let first = length-level (targets_of (behind + level_len next) ms levels) next in
-      let word : ℕ = get_or (words_into behind next) n 0 in
-      let leads = into_level behind (level_len next) behind next n (omega arith) (omega arith)
+      let whole = length-append (flat_map (node_words (targets_of (after + level_len next) ms levels)) next)
+      (words_of_levels (after + level_len next) ms levels) in
+      let first = length-level (targets_of (after + level_len next) ms levels) next in
+      let word : ℕ = get_or (words_into after next) n 0 in
+      let leads = into_level after (level_len next) after next n (omega arith) (omega arith)
       (omega (arith, whole, first, fits)) there in
       node_sound rows word level (leads_no_match level word leads) leads
-  succ_sound behind (next ∷ levels) fits (Row n) there = absurd there
+  succ_sound after (next ∷ levels) fits (Row n) there = absurd there
 
   pub trie_sound : (place : ℕ) (levels : List (List (List Run))) → AreLevels count levels →
       HasPart 0 words place (words_of_levels place (map match_of (range_with_len row count)) levels) →
@@ -157,22 +157,22 @@ module _ (rows : ℕ) (words : List ℕ) (row count : ℕ) (enough : row + count
   trie_sound place [] are has fits = refl
   trie_sound place (states ∷ levels) are has fits =
       let ms : List ℕ = map match_of (range_with_len row count) in
-      let behind : ℕ = place + level_len states in
-      let targets : List ℕ = targets_of behind ms levels in
-      let next : Level = first_level (levels_from behind (map level_len levels)) in
-      let whole = length-append (flat_map (node_words targets) states) (words_of_levels behind ms levels) in
+      let after : ℕ = place + level_len states in
+      let targets : List ℕ = targets_of after ms levels in
+      let next : Level = first_level (levels_from after (map level_len levels)) in
+      let whole = length-append (flat_map (node_words targets) states) (words_of_levels after ms levels) in
       let first = length-level targets states in
-      let rest_fits : behind + length (words_of_levels behind ms levels) ≤ indexes = omega (arith, whole, first, fits)
+      let rest_fits : after + length (words_of_levels after ms levels) ≤ indexes = omega (arith, whole, first, fits)
       in
       let P : ℕ → Type 0 = λ word. is_sound_word rows next word ≡ true in
       let all = of_level P count levels targets (match_sound rows 0 next some small)
-      (succ_sound behind levels rest_fits) states are.0 in
+      (succ_sound after levels rest_fits) states are.0 in
       let here = none_by (λ word. not (is_sound_word rows next word)) place (take (level_len states) (drop place words))
       (λ k within. not_true _ (words_pass P words place (flat_map (node_words targets) states) (level_len states)
-      (has_front 0 words place (flat_map (node_words targets) states) (words_of_levels behind ms levels) has)
+      (has_front 0 words place (flat_map (node_words targets) states) (words_of_levels after ms levels) has)
       (sym first) all k within)) in
-      let rest = trie_sound behind levels are.1
-      (has_rest 0 words place (flat_map (node_words targets) states) (words_of_levels behind ms levels) has behind
+      let rest = trie_sound after levels are.1
+      (has_rest 0 words place (flat_map (node_words targets) states) (words_of_levels after ms levels) has after
       (omega (arith, first))) rest_fits in
       λ i. option_or (here i) (rest i)
 
@@ -223,9 +223,9 @@ pub length-levels-words : (place : ℕ) (ms : List ℕ) (levels : List (List (Li
     length (words_of_levels place ms levels) ≡ sum_by level_len levels
 length-levels-words place ms [] = refl
 length-levels-words place ms (states ∷ levels) =
-    let behind : ℕ = place + level_len states in
-    length-append (flat_map (node_words (targets_of behind ms levels)) states) (words_of_levels behind ms levels)
-    ∙ (λ i. length-level (targets_of behind ms levels) states i + length-levels-words behind ms levels i)
+    let after : ℕ = place + level_len states in
+    length-append (flat_map (node_words (targets_of after ms levels)) states) (words_of_levels after ms levels)
+    ∙ (λ i. length-level (targets_of after ms levels) states i + length-levels-words after ms levels i)
     ∙ sym (sum_by-cons level_len states levels)
 
 pub length-words : (place row : ℕ) (tries : List LevelsView) → length (words_of_tries place row tries)
@@ -294,13 +294,13 @@ module _ (set : RuleSetView) where
       let more = sum_by-cons nodes_len trie tries in
       let more_rows = sum_by-cons row_count trie tries in
       let mine : List ℕ = words_of_levels place (matches_of row trie) trie.levels in
-      let behind : List ℕ = words_of_tries (place + nodes_len trie) (row + length trie.rows) tries in
+      let after : List ℕ = words_of_tries (place + nodes_len trie) (row + length trie.rows) tries in
       let long = length-levels-words place (matches_of row trie) trie.levels in
       let here = trie_sound rows words row (length trie.rows) (omega (arith, more_rows, enough)) some small place
       trie.levels are.0.nodes.levels_lead
-      (has_front 0 words place mine behind has) (omega (arith, long, more, fits)) in
+      (has_front 0 words place mine after has) (omega (arith, long, more, fits)) in
       let rest = words_lead rows words (place + nodes_len trie) (row + length trie.rows) tries are.1
-      (has_rest 0 words place mine behind has (place + nodes_len trie) (omega (arith, long)))
+      (has_rest 0 words place mine after has (place + nodes_len trie) (omega (arith, long)))
       (omega (arith, more, fits)) (omega (arith, more_rows, enough)) some small in
       λ i. option_or (here i) (rest i)
 

@@ -61,24 +61,24 @@ pub trie_stands : (rules : List RuleView) (words : List ℕ) (rows : List (List 
     (get_or (roots_of place tries) t 0) (get_or tries t no_trie)
 trie_stands rules words rows place row [] t within has has_rows = absurd (omega (arith, within))
 trie_stands rules words rows place row (trie ∷ tries) zero within has has_rows =
-    let behind : List ℕ = words_of_tries (place + nodes_len trie) (row + length trie.rows) tries in
+    let after : List ℕ = words_of_tries (place + nodes_len trie) (row + length trie.rows) tries in
     record {
       place = place;
       row = row;
       root_is = refl;
-      has = has_front 0 words place (words_of_levels place (matches_of row trie) trie.levels) behind has;
+      has = has_front 0 words place (words_of_levels place (matches_of row trie) trie.levels) after has;
       has_rows = has_front [] rows row (rows_of_trie rules trie) (flat_map (rows_of_trie rules) tries) has_rows;
       fits = omega (arith, sum_by-cons nodes_len trie tries);
       few = omega (arith, sum_by-cons row_count trie tries);
     }
 trie_stands rules words rows place row (trie ∷ tries) (suc t) within has has_rows =
     let mine : List ℕ = words_of_levels place (matches_of row trie) trie.levels in
-    let behind : List ℕ = words_of_tries (place + nodes_len trie) (row + length trie.rows) tries in
+    let after : List ℕ = words_of_tries (place + nodes_len trie) (row + length trie.rows) tries in
     let long = length-levels-words place (matches_of row trie) trie.levels in
     let long_rows = length-map trie.rows (λ row. map (winner_word rules) row) in
     let rest = trie_stands rules words rows (place + nodes_len trie) (row + length trie.rows) tries t
     (omega (arith, within))
-    (has_rest 0 words place mine behind has (place + nodes_len trie) (omega (arith, long)))
+    (has_rest 0 words place mine after has (place + nodes_len trie) (omega (arith, long)))
     (has_rest [] rows row (rows_of_trie rules trie) (flat_map (rows_of_trie rules) tries) has_rows
     (row + length trie.rows) (omega (arith, long_rows))) in
     record {

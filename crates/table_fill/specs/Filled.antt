@@ -93,9 +93,9 @@ targets_of place matches (states ∷ levels) = words_into place states
 abbrev pub words_of_levels : ℕ → List ℕ → List (List (List Run)) → List ℕ
 words_of_levels place matches [] = []
 words_of_levels place matches (states ∷ levels) =
-    let behind = place + level_len states in
-    flat_map (node_words (targets_of behind matches levels)) states
-    ++ words_of_levels behind matches levels
+    let after = place + level_len states in
+    flat_map (node_words (targets_of after matches levels)) states
+    ++ words_of_levels after matches levels
 
 -- how many words the nodes of a trie have
 abbrev pub nodes_len : LevelsView → ℕ

@@ -142,9 +142,9 @@ fn push_many(words: &mut Vec<u64>, targets: &[u64], runs: &[Run]) -> Result<(), 
 {
     let mut first = 0;
     for run in runs {
-        let behind = usize::from(run.last) + 1;
-        push_copies(words, behind - first, succ_word(targets, run.to))?;
-        first = behind;
+        let after = usize::from(run.last) + 1;
+        push_copies(words, after - first, succ_word(targets, run.to))?;
+        first = after;
     }
     Ok(())
 }

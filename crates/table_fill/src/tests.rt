@@ -82,8 +82,8 @@ fn fill_two(rt: &impl Abort, alloc: Global, rules: &RuleSet, first: usize) -> Re
     let group = numbers(alloc, 0, first)?;
     let others = numbers(alloc, first, len - first)?;
     let levels = Levels::build(alloc, rules, &group, 1000)?;
-    let behind = Levels::build(alloc, rules, &others, 1000)?;
-    Ok(fill(alloc, rules, &[levels, behind])?)
+    let after = Levels::build(alloc, rules, &others, 1000)?;
+    Ok(fill(alloc, rules, &[levels, after])?)
 }
 
 /// Compares the table of one rule with its words in all and its root.
@@ -137,7 +137,7 @@ fn tables_of_one_rule_have_the_words_of_their_nodes(rt: HostRuntime) -> Result<(
 }
 
 #[test]
-fn a_second_trie_stands_behind_the_first(rt: HostRuntime) -> Result<(), Fail> {
+fn a_second_trie_stands_after_the_first(rt: HostRuntime) -> Result<(), Fail> {
     let any = ports(0, 0xFFFF);
     let mut rules = RuleSet::new(rt.alloc(), ip4_layout());
     add(

@@ -139,8 +139,8 @@ pub(crate) fn push_trie(
         ++ words_of_levels (length words.old.items) (matches_of row trie.now) trie.now.levels) }
 {
     for depth in 0..trie.depths() {
-        let behind = words.len() + level_len(trie, depth);
-        let targets = targets_of(alloc, trie, depth + 1, behind, row)?;
+        let after = words.len() + level_len(trie, depth);
+        let targets = targets_of(alloc, trie, depth + 1, after, row)?;
         push_level(words, &targets, trie, depth)?;
     }
     Ok(())

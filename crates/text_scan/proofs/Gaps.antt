@@ -29,7 +29,7 @@ two_bytes [] here = absurd (false≢true here)
 two_bytes (c ∷ []) here = absurd (false≢true (and_parts (nat_eq colon c) false here).1)
 two_bytes (c ∷ d ∷ cs) here = omega arith
 
--- a text without `:` moves the first `::` of what is behind it
+-- a text without `:` moves the first `::` of what is after it
 gap_place-append : (xs ys : List ℕ) → Lacks colon xs → gap_place (xs ++ ys) ≡ length xs + gap_place ys
 gap_place-append [] ys lacks = omega arith
 gap_place-append (x ∷ xs) ys lacks =
@@ -38,7 +38,7 @@ gap_place-append (x ∷ xs) ys lacks =
     cond-false _ _ _ (and_left (nat_eq colon x) _ other)
     ∙ omega (arith, gap_place-append xs ys (λ k d inside. lacks (suc k) d (omega arith)))
 
--- a `:` is no `::` where another byte is behind it
+-- a `:` is no `::` where another byte is after it
 gap_place-colon : (text : List ℕ) → get_or text 0 0 ≢ colon → gap_place (colon ∷ text) ≡ suc (gap_place text)
 gap_place-colon [] other = refl
 gap_place-colon (c ∷ cs) other =
@@ -48,29 +48,29 @@ gap_place-colon (c ∷ cs) other =
 abbrev pub ArePlain : List (List ℕ) → Type 0
 ArePlain parts = AllByRecursion (λ part. (0 < length part) × Lacks colon part) parts
 
-first_of_join : (c : ℕ) (part : List ℕ) (parts : List (List ℕ)) (behind : List ℕ)
-    → get_or (join_with_byte colon ((c ∷ part) ∷ parts) ++ behind) 0 0 ≡ c
-first_of_join c part [] behind = refl
-first_of_join c part (next ∷ parts) behind = refl
+first_of_join : (c : ℕ) (part : List ℕ) (parts : List (List ℕ)) (after : List ℕ)
+    → get_or (join_with_byte colon ((c ∷ part) ∷ parts) ++ after) 0 0 ≡ c
+first_of_join c part [] after = refl
+first_of_join c part (next ∷ parts) after = refl
 
 -- such parts, joined by `:`, have no `::`, nor a beginning of one
-pub gap_place-join : (parts : List (List ℕ)) (behind : List ℕ) → 0 < length parts → ArePlain parts
-    → gap_place (join_with_byte colon parts ++ behind) ≡ length (join_with_byte colon parts) + gap_place behind
-gap_place-join [] behind some plain = absurd (omega arith)
-gap_place-join (part ∷ []) behind some plain = gap_place-append part behind plain.0.1
-gap_place-join (part ∷ [] ∷ parts) behind some plain = absurd (omega (arith, plain.1.0.0))
-gap_place-join (part ∷ (c ∷ next) ∷ parts) behind some plain =
+pub gap_place-join : (parts : List (List ℕ)) (after : List ℕ) → 0 < length parts → ArePlain parts
+    → gap_place (join_with_byte colon parts ++ after) ≡ length (join_with_byte colon parts) + gap_place after
+gap_place-join [] after some plain = absurd (omega arith)
+gap_place-join (part ∷ []) after some plain = gap_place-append part after plain.0.1
+gap_place-join (part ∷ [] ∷ parts) after some plain = absurd (omega (arith, plain.1.0.0))
+gap_place-join (part ∷ (c ∷ next) ∷ parts) after some plain =
     let rest = join_with_byte colon ((c ∷ next) ∷ parts) in
-    let other : get_or (rest ++ behind) 0 0 ≢ colon =
-    λ same. eqb-false c colon (plain.1.0.1 0 0 (omega arith)) (sym (first_of_join c next parts behind) ∙ same) in
-    let moved = ap gap_place (append_assoc part (colon ∷ rest) behind) in
+    let other : get_or (rest ++ after) 0 0 ≢ colon =
+    λ same. eqb-false c colon (plain.1.0.1 0 0 (omega arith)) (sym (first_of_join c next parts after) ∙ same) in
+    let moved = ap gap_place (append_assoc part (colon ∷ rest) after) in
     omega (
       arith,
       moved,
-      gap_place-append part (colon ∷ (rest ++ behind)) plain.0.1,
+      gap_place-append part (colon ∷ (rest ++ after)) plain.0.1,
       gap_place-colon
-          (rest ++ behind) other,
-      gap_place-join ((c ∷ next) ∷ parts) behind (omega arith) plain.1,
+          (rest ++ after) other,
+      gap_place-join ((c ∷ next) ∷ parts) after (omega arith) plain.1,
       length-append part
           (colon ∷ rest),
     )

@@ -14,7 +14,7 @@ use Rattle.text_scan.specs.Digits.{place_value}
 use Rattle.text_scan.specs.Parts.{dot, parts_of}
 use Rattle.text_scan.specs.Ip4.{is_ip4}
 use Rattle.text_scan.specs.Ip6.{is_ip6_group, is_ip6_end, pieces_of, are_groups, are_last_groups, pieces_of_all, joined}
-use Rattle.text_scan.specs.Ip6.{has_gap, groups_before, groups_behind, is_shortened, filled_pieces, ip6_of}
+use Rattle.text_scan.specs.Ip6.{has_gap, groups_before, groups_after, is_shortened, filled_pieces, ip6_of}
 use Rattle.text_scan.specs.Pieces.{with_pieces, pieces_from}
 use Rattle.text_scan.proofs.Powers.{joined-filled}
 use Rattle.text_scan.proofs.Separators.{Lacks-digits, parts_of_one}
@@ -60,7 +60,7 @@ more_pieces (part ∷ parts) (suc n) inside =
           (pieces_of part) (pieces_of_all (take n parts)),
     )
 
--- pieces behind pieces
+-- pieces after pieces
 pub with_pieces-append : (before : Pieces) (xs ys : List ℕ)
     → with_pieces (with_pieces before xs) ys ≡ with_pieces before (xs ++ ys)
 with_pieces-append before xs ys =
@@ -69,7 +69,7 @@ with_pieces-append before xs ys =
     let value = sym (fold-append (λ n x. n * 65536 + x) before.value xs ys) in
     λ i. record { count = count i; value = value i }
 
--- the number of a group behind those of the groups before it
+-- the number of a group after those of the groups before it
 pub pieces_next : (parts : List (List ℕ)) (n number : ℕ) (part : List ℕ) (pieces : Pieces)
     → (n < length parts) × (part ≡ get_or parts n part) → is_ip6_group part ≡ true → number ≡ place_value 16 part
     → pieces ≡ pieces_from (pieces_of_all (take n parts))
@@ -126,7 +126,7 @@ read_last front last pieces all is =
     ∙ ap pieces_from (sym whole) in
     λ i. cond (tests i && nat_le (counts i) 8) (Some (values i)) None
 
--- groups that are refused refuse a text with a last part behind them too
+-- groups that are refused refuse a text with a last part after them too
 pub refused_before_last : (front : List (List ℕ)) (last : List ℕ)
     → (are_groups front && nat_le (length (pieces_of_all front)) 8) ≡ false
     → (are_last_groups (front ++ last ∷ []) && nat_le (length (pieces_of_all (front ++ last ∷ []))) 8) ≡ false
@@ -146,22 +146,22 @@ refused_before_last front last refused =
     ]
 
 -- an address with `::`
-pub ip6_of_shortened : (text : List ℕ) (before behind : Pieces) (value : ℕ) → has_gap text ≡ true
+pub ip6_of_shortened : (text : List ℕ) (before after : Pieces) (value : ℕ) → has_gap text ≡ true
     → are_groups (groups_before text) ≡ true → before ≡ pieces_from (pieces_of_all (groups_before text))
-    → are_last_groups (groups_behind text) ≡ true → behind ≡ pieces_from (pieces_of_all (groups_behind text))
-    → before.count + behind.count ≤ 7 → value ≡ before.value * 65536 ^ (8 - before.count) + behind.value
+    → are_last_groups (groups_after text) ≡ true → after ≡ pieces_from (pieces_of_all (groups_after text))
+    → before.count + after.count ≤ 7 → value ≡ before.value * 65536 ^ (8 - before.count) + after.value
     → Some value ≡ ip6_of text
-ip6_of_shortened text before behind value gap first before_is last behind_is few is =
+ip6_of_shortened text before after value gap first before_is last after_is few is =
     let xs = pieces_of_all (groups_before text) in
-    let ys = pieces_of_all (groups_behind text) in
+    let ys = pieces_of_all (groups_after text) in
     let counts : length xs + length ys ≤ 7 =
-    omega (arith, ap (λ ns. ns.count) before_is, ap (λ ns. ns.count) behind_is) in
+    omega (arith, ap (λ ns. ns.count) before_is, ap (λ ns. ns.count) after_is) in
     let shortened : is_shortened text ≡ true =
-    and_from (are_groups (groups_before text) && are_last_groups (groups_behind text)) _
+    and_from (are_groups (groups_before text) && are_last_groups (groups_after text)) _
     (and_from (are_groups (groups_before text)) _ first last) (le-leb (length xs + length ys) 7 counts) in
     let power : before.value * 65536 ^ (8 - before.count) ≡ joined xs * 65536 ^ (8 - length xs) =
     ap (λ ns. ns.value * 65536 ^ (8 - ns.count)) before_is
     ∙ ap (λ n. joined xs * 65536 ^ (8 - n)) (zero-add (length xs)) in
     let sum : value ≡ joined (filled_pieces xs ys) =
-    omega (arith, is, power, ap (λ ns. ns.value) behind_is, joined-filled xs ys counts) in
+    omega (arith, is, power, ap (λ ns. ns.value) after_is, joined-filled xs ys counts) in
     ap (λ n. Some n) sum ∙ sym (cond-true (has_gap text) _ _ gap ∙ cond-true (is_shortened text) _ _ shortened)

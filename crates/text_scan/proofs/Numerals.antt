@@ -48,7 +48,7 @@ pub record Begins (n : ℕ) (written rest : List ℕ) : Type 0 where
   pub value : numeral_value (written ++ rest) ≡ n
   pub len : numeral_len (written ++ rest) ≡ length written
   pub begins : (greatest : ℕ) → n ≤ greatest → begins_numeral greatest (written ++ rest) ≡ true
-  pub behind : drop (numeral_len (written ++ rest)) (written ++ rest) ≡ rest
+  pub after : drop (numeral_len (written ++ rest)) (written ++ rest) ≡ rest
 
 begins : (n : ℕ) (written rest : List ℕ) → numeral_value (written ++ rest) ≡ n
     → numeral_len (written ++ rest) ≡ length written → 0 < length (digits_of (written ++ rest)) → Begins n written rest
@@ -59,7 +59,7 @@ begins n written rest value len some =
       len = len;
       begins = λ greatest small. and_from (nat_le 1 (length (digits_of text))) _
           (le-leb 1 (length (digits_of text)) some) (le-leb (numeral_value text) greatest (omega (arith, value)));
-      behind = ap (λ k. drop k text) len ∙ drop-append_seam written rest;
+      after = ap (λ k. drop k text) len ∙ drop-append_seam written rest;
     }
 
 pub spelled_begins : (n : ℕ) (written rest : List ℕ) → Spelled 10 n written → EndsNumber 10 rest

@@ -11,7 +11,7 @@ use Rattle.std.proofs.lemmas.List.{take_more, take-append-drop}
 use Rattle.std.specs.Char.{is_digit, digit_value}
 use Rattle.text_scan.specs.Digits.{place_value, are_digits, run_of}
 
--- digits in front count as often as the power that the digits behind them leave
+-- digits in front count as often as the power that the digits after them leave
 pub place_value-append : (base : ℕ) (cs ds : List ℕ)
     → place_value base (cs ++ ds) ≡ place_value base cs * base ^ length ds + place_value base ds
 place_value-append base [] ds = omega arith
@@ -42,7 +42,7 @@ place_value-take_le base cs i positive =
           (one-le-pow (length (drop i cs)) base positive),
     )
 
--- digits of the base spell less than the power behind them
+-- digits of the base spell less than the power after them
 pub place_value-lt : (base : ℕ) (cs : List ℕ) → are_digits base cs ≡ true → place_value base cs < base ^ length cs
 place_value-lt base [] all = omega (arith, pow-zero base)
 place_value-lt base (c ∷ cs) all =

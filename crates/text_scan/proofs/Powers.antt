@@ -8,7 +8,7 @@ use Rattle.std.proofs.lemmas.List.Sums.{fold-append}
 use Rattle.std.specs.List.{fold}
 use Rattle.text_scan.specs.Ip6.{joined, filled_pieces}
 
--- numbers spelled behind a value move it by their power
+-- numbers spelled after a value move it by their power
 joined_from : (value : ℕ) (numbers : List ℕ)
     → fold (λ n x. n * 65536 + x) value numbers ≡ value * 65536 ^ length numbers + joined numbers
 joined_from value [] = omega arith
@@ -23,21 +23,21 @@ joined-zeros : (n : ℕ) → joined (replicate n 0) ≡ 0
 joined-zeros zero = refl
 joined-zeros (suc n) = joined-zeros n
 
--- zeros behind numbers
+-- zeros after numbers
 joined-append-zeros : (xs : List ℕ) (n : ℕ) → joined (xs ++ replicate n 0) ≡ joined xs * 65536 ^ n
 joined-append-zeros xs n =
     let powers = ap (λ k. joined xs * 65536 ^ k) (length-replicate {A = ℕ} n 0) in
     omega (arith, joined-append xs (replicate n 0), joined-zeros n, powers)
 
 -- what eight numbers with zeros between spell
-pub joined-filled : (before behind : List ℕ) → length before + length behind ≤ 7
-    → joined (filled_pieces before behind) ≡ joined before * 65536 ^ (8 - length before) + joined behind
-joined-filled before behind few =
-    let zeros : ℕ = 8 - (length before + length behind) in
-    let total : zeros + length behind ≡ 8 - length before = omega arith in
-    let moved : 65536 ^ zeros * 65536 ^ length behind ≡ 65536 ^ (8 - length before) =
-    sym (pow-add 65536 zeros (length behind)) ∙ ap (λ n. 65536 ^ n) total in
-    joined-append (before ++ replicate zeros 0) behind
-    ∙ ap (λ n. n * 65536 ^ length behind + joined behind) (joined-append-zeros before zeros)
-    ∙ ap (λ n. n + joined behind)
-    (mul_assoc (joined before) (65536 ^ zeros) (65536 ^ length behind) ∙ ap (λ n. joined before * n) moved)
+pub joined-filled : (before after : List ℕ) → length before + length after ≤ 7
+    → joined (filled_pieces before after) ≡ joined before * 65536 ^ (8 - length before) + joined after
+joined-filled before after few =
+    let zeros : ℕ = 8 - (length before + length after) in
+    let total : zeros + length after ≡ 8 - length before = omega arith in
+    let moved : 65536 ^ zeros * 65536 ^ length after ≡ 65536 ^ (8 - length before) =
+    sym (pow-add 65536 zeros (length after)) ∙ ap (λ n. 65536 ^ n) total in
+    joined-append (before ++ replicate zeros 0) after
+    ∙ ap (λ n. n * 65536 ^ length after + joined after) (joined-append-zeros before zeros)
+    ∙ ap (λ n. n + joined after)
+    (mul_assoc (joined before) (65536 ^ zeros) (65536 ^ length after) ∙ ap (λ n. joined before * n) moved)

@@ -32,7 +32,7 @@ parts_of_one separator text lacks = slice_split_none (λ c. eqb c separator) tex
 pub some_part : (separator : ℕ) (text : List ℕ) → 0 < length (parts_of separator text)
 some_part separator text = omega (arith, length-slice_split (λ c. eqb c separator) text)
 
--- the last part stands behind those of what is before its separator
+-- the last part stands after those of what is before its separator
 pub parts_of_last : (separator : ℕ) (front last : List ℕ) → Lacks separator last
     → parts_of separator (front ++ separator ∷ last) ≡ parts_of separator front ++ last ∷ []
 parts_of_last separator [] last lacks =
@@ -56,7 +56,7 @@ Lacks-drop separator place text lacks k d inside =
     (λ same. lacks (place + k) (omega arith) within
     (sym (get_or-drop place text k d ∙ get_or_default text (place + k) d 0 within) ∙ same))
 
--- the parts of a text are those before its last separator, and what is behind it
+-- the parts of a text are those before its last separator, and what is after it
 pub parts_of_split : (separator last : ℕ) (text : List ℕ) → 0 < last → last ≤ length text
     → get_or text (last - 1) 0 ≡ separator → ((k : ℕ) → last ≤ k → k < length text → get_or text k 0 ≢ separator)
     → parts_of separator text ≡ parts_of separator (take (last - 1) text) ++ drop last text ∷ []

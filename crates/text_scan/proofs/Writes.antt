@@ -4,13 +4,13 @@ use Rattle.std.proofs.Common.{arith, length-append}
 use Rattle.std.proofs.lemmas.List.{drop-set-lt, take_more_set}
 use Rattle.list_lemmas.proofs.Parts.{drop_later}
 
--- the buffer holds the text, and behind it what it held at the start
+-- the buffer holds the text, and after it what it held at the start
 pub record Holds (buffer start text : List ℕ) (len : ℕ) : Type 0 where
   pub counted : len ≡ length text
   pub shown : take len buffer ≡ text
   pub kept : drop len buffer ≡ drop len start
 
--- a piece behind the text
+-- a piece after the text
 pub Holds_piece : (buffer start text piece after : List ℕ) (len next : ℕ) → Holds buffer start text len
     → next ≡ len + length piece → take next after ≡ take len buffer ++ piece → drop next after ≡ drop next buffer
     → Holds after start (text ++ piece) next
@@ -20,7 +20,7 @@ Holds_piece buffer start text piece after len next held moved written left = rec
   kept = left ∙ drop_later buffer start len next held.kept (omega arith);
 }
 
--- a byte behind the text
+-- a byte after the text
 pub Holds_byte : (buffer start text : List ℕ) (len byte : ℕ) → Holds buffer start text len → len < length buffer
     → Holds (slice_set buffer len byte) start (text ++ byte ∷ []) (len + 1)
 Holds_byte buffer start text len byte held inside =

@@ -27,8 +27,8 @@ three_groups = refl
 five_groups : ip4_of (codes "1.2.3.4.5") ≡ None
 five_groups = refl
 
-dot_behind : ip4_of (codes "1.2.3.4.") ≡ None
-dot_behind = refl
+dot_after : ip4_of (codes "1.2.3.4.") ≡ None
+dot_after = refl
 
 dot_before : ip4_of (codes ".1.2.3.4") ≡ None
 dot_before = refl

@@ -1,6 +1,6 @@
 -- The address texts of RFC 4291, section 2.2: eight groups of one to four hexadecimal digits of
 -- either case, separated by `:` (form 1); `::` once, for one or more groups of zeros (form 2); the
--- last two groups as an IPv4 address (form 3). A zone behind the address (RFC 4007, section 11) is
+-- last two groups as an IPv4 address (form 3). A zone after the address (RFC 4007, section 11) is
 -- no part of it.
 use Rattle.std.specs.Prelude.{ℕ, suc, ◌+◌, ◌-◌, ◌*◌, ◌/◌, ◌%◌, ◌^◌, ◌==◌, Bool, ◌&&◌, ◌||◌, nat_le}
 use Rattle.std.specs.Prelude.{nat_lt, nat_eq, false, if◌then◌else◌, List, [], ◌∷◌, ◌++◌, map}
@@ -55,9 +55,9 @@ has_gap text = nat_lt (gap_place text) (length text)
 abbrev pub groups_before : List ℕ → List (List ℕ)
 groups_before text = groups_of (take (gap_place text) text)
 
--- the groups behind the first `::`, which itself has two bytes
-abbrev pub groups_behind : List ℕ → List (List ℕ)
-groups_behind text = groups_of (drop (gap_place text + 2) text)
+-- the groups after the first `::`, which itself has two bytes
+abbrev pub groups_after : List ℕ → List (List ℕ)
+groups_after text = groups_of (drop (gap_place text + 2) text)
 
 -- the whole text is an address without `::`: groups for eight pieces
 abbrev pub is_full : List ℕ → Bool
@@ -66,18 +66,18 @@ is_full text = are_last_groups (groups_of text) && length (pieces_of_all (groups
 -- the whole text is an address with one `::`: groups for at most seven pieces, on both sides
 -- together
 abbrev pub is_shortened : List ℕ → Bool
-is_shortened text = are_groups (groups_before text) && are_last_groups (groups_behind text)
+is_shortened text = are_groups (groups_before text) && are_last_groups (groups_after text)
     && nat_le (length (pieces_of_all (groups_before text)) + length
-    (pieces_of_all (groups_behind text))) 7
+    (pieces_of_all (groups_after text))) 7
 
 -- the eight pieces of an address with `::`: zeros stand in its place
 abbrev pub filled_pieces : List ℕ → List ℕ → List ℕ
-filled_pieces before behind = before ++ replicate (8 - (length before + length behind)) 0 ++ behind
+filled_pieces before after = before ++ replicate (8 - (length before + length after)) 0 ++ after
 
 -- the eight pieces that a text with `::` spells
 abbrev pub shortened_pieces : List ℕ → List ℕ
 shortened_pieces text =
-    filled_pieces (pieces_of_all (groups_before text)) (pieces_of_all (groups_behind text))
+    filled_pieces (pieces_of_all (groups_before text)) (pieces_of_all (groups_after text))
 
 -- the number that pieces of 16 bits spell, the most significant first
 abbrev pub joined : List ℕ → ℕ

@@ -41,8 +41,8 @@ colon_alone = refl
 colon_before : ip6_of (codes ":1:2:3:4:5:6:7:8") ≡ None
 colon_before = refl
 
-colon_behind : ip6_of (codes "1:2:3:4:5:6:7:8:") ≡ None
-colon_behind = refl
+colon_after : ip6_of (codes "1:2:3:4:5:6:7:8:") ≡ None
+colon_after = refl
 
 colon_before_seven : ip6_of (codes ":2:3:4:5:6:7:8") ≡ None
 colon_before_seven = refl
@@ -63,15 +63,15 @@ all_zeros = refl
 loopback : ip6_of (codes "::1") ≡ Some 1
 loopback = refl
 
-zeros_behind : ip6_of (codes "1::") ≡ Some 0x0001_0000_0000_0000_0000_0000_0000_0000
-zeros_behind = refl
+zeros_after : ip6_of (codes "1::") ≡ Some 0x0001_0000_0000_0000_0000_0000_0000_0000
+zeros_after = refl
 
 zeros_between : ip6_of
     (codes "2001:DB8::8:800:200C:417A") ≡ Some 0x2001_0DB8_0000_0000_0008_0800_200C_417A
 zeros_between = refl
 
-one_zero_behind : ip6_of (codes "1:2:3:4:5:6:7::") ≡ Some 0x0001_0002_0003_0004_0005_0006_0007_0000
-one_zero_behind = refl
+one_zero_after : ip6_of (codes "1:2:3:4:5:6:7::") ≡ Some 0x0001_0002_0003_0004_0005_0006_0007_0000
+one_zero_after = refl
 
 one_zero_before : ip6_of (codes "::2:3:4:5:6:7:8") ≡ Some 0x0002_0003_0004_0005_0006_0007_0008
 one_zero_before = refl
@@ -101,19 +101,19 @@ three_colons = refl
 three_colons_between : ip6_of (codes "1:::2") ≡ None
 three_colons_between = refl
 
-three_colons_behind : ip6_of (codes "1:::") ≡ None
-three_colons_behind = refl
+three_colons_after : ip6_of (codes "1:::") ≡ None
+three_colons_after = refl
 
-colon_behind_the_gap : ip6_of (codes "::1:") ≡ None
-colon_behind_the_gap = refl
+colon_after_the_gap : ip6_of (codes "::1:") ≡ None
+colon_after_the_gap = refl
 
 colon_before_the_gap : ip6_of (codes ":1::") ≡ None
 colon_before_the_gap = refl
 
 -- the last two groups as an IPv4 address
-ip4_behind_six : ip6_of
+ip4_after_six : ip6_of
     (codes "1:2:3:4:5:6:1.2.3.4") ≡ Some 0x0001_0002_0003_0004_0005_0006_0102_0304
-ip4_behind_six = refl
+ip4_after_six = refl
 
 ip4_alone : ip6_of (codes "::1.2.3.4") ≡ Some 0x0102_0304
 ip4_alone = refl
@@ -121,12 +121,12 @@ ip4_alone = refl
 ip4_mapped : ip6_of (codes "::FFFF:129.144.52.38") ≡ Some 0xFFFF_8190_3426
 ip4_mapped = refl
 
-ip4_behind_the_gap : ip6_of (codes "1::1.2.3.4") ≡ Some 0x0001_0000_0000_0000_0000_0000_0102_0304
-ip4_behind_the_gap = refl
+ip4_after_the_gap : ip6_of (codes "1::1.2.3.4") ≡ Some 0x0001_0000_0000_0000_0000_0000_0102_0304
+ip4_after_the_gap = refl
 
-ip4_behind_five : ip6_of
+ip4_after_five : ip6_of
     (codes "1:2:3:4:5::1.2.3.4") ≡ Some 0x0001_0002_0003_0004_0005_0000_0102_0304
-ip4_behind_five = refl
+ip4_after_five = refl
 
 -- anywhere else, or with another number of groups
 ip4_before_the_gap : ip6_of (codes "1.2.3.4::") ≡ None
@@ -144,11 +144,11 @@ ip4_twice = refl
 ip4_without_gap : ip6_of (codes "1.2.3.4") ≡ None
 ip4_without_gap = refl
 
-ip4_behind_seven : ip6_of (codes "1:2:3:4:5:6:7:1.2.3.4") ≡ None
-ip4_behind_seven = refl
+ip4_after_seven : ip6_of (codes "1:2:3:4:5:6:7:1.2.3.4") ≡ None
+ip4_after_seven = refl
 
-ip4_behind_five_without_gap : ip6_of (codes "1:2:3:4:5:1.2.3.4") ≡ None
-ip4_behind_five_without_gap = refl
+ip4_after_five_without_gap : ip6_of (codes "1:2:3:4:5:1.2.3.4") ≡ None
+ip4_after_five_without_gap = refl
 
 ip4_and_gap_for_no_group : ip6_of (codes "1:2:3:4:5:6::1.2.3.4") ≡ None
 ip4_and_gap_for_no_group = refl

@@ -1,4 +1,4 @@
--- Numbers in text as ClassBench filter sets spell them: in decimal, or in hexadecimal behind `0x`
+-- Numbers in text as ClassBench filter sets spell them: in decimal, or in hexadecimal after `0x`
 -- or `0X` with digits of either case. These are C's decimal and hexadecimal constants (ISO C,
 -- 6.4.4.1, without suffixes), but for one choice of ours: leading zeros change nothing, so no
 -- number is octal.

@@ -12,7 +12,7 @@ leading_zeros = refl
 no_octal : numeral_at (codes "010 ") 0 65535 ≡ Some (10, 3)
 no_octal = refl
 
--- `0x` with no digit behind it is a zero and a text that begins with `x`
+-- `0x` with no digit after it is a zero and a text that begins with `x`
 mark_alone : numeral_at (codes "0x") 0 65535 ≡ Some (0, 1)
 mark_alone = refl
 
@@ -28,12 +28,12 @@ lower_case = refl
 each_letter : numeral_at (codes "0xABCDEFabcdef") 0 (2 ^ 64 - 1) ≡ Some (0xABCDEFABCDEF, 14)
 each_letter = refl
 
-zeros_behind_the_mark : numeral_at (codes "0x0010") 0 65535 ≡ Some (16, 6)
-zeros_behind_the_mark = refl
+zeros_after_the_mark : numeral_at (codes "0x0010") 0 65535 ≡ Some (16, 6)
+zeros_after_the_mark = refl
 
 -- without the mark a letter ends the number, and none begins with one
-letter_behind_decimal : numeral_at (codes "12ab") 0 65535 ≡ Some (12, 2)
-letter_behind_decimal = refl
+letter_after_decimal : numeral_at (codes "12ab") 0 65535 ≡ Some (12, 2)
+letter_after_decimal = refl
 
 letter_first : numeral_at (codes "ab") 0 65535 ≡ None
 letter_first = refl

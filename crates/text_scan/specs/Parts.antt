@@ -42,7 +42,7 @@ is_blank c = c == space || c == tab
 abbrev pub parts_of : ℕ → List ℕ → List (List ℕ)
 parts_of separator text = slice_split (λ c. c == separator) text
 
--- the texts before and behind the first separator, where there is one
+-- the texts before and after the first separator, where there is one
 abbrev pub cut_at : ℕ → List ℕ → Option (List ℕ × List ℕ)
 cut_at separator text =
     let is_it = λ (c : ℕ). c == separator in

@@ -3,7 +3,7 @@ use Rattle.std.specs.Prelude.{ℕ, ◌+◌, ◌*◌, List, length}
 use Rattle.std.specs.List.{fold}
 use Rattle.text_scan.specs.declared.pieces.Pieces.{Pieces}
 
--- the same with more pieces behind them
+-- the same with more pieces after them
 abbrev pub with_pieces : Pieces → List ℕ → Pieces
 with_pieces before more = record {
   count = before.count + length more;

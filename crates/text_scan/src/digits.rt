@@ -72,7 +72,7 @@ pub fn group_value(text: &[u8], base: u32, most: usize) -> Option<u16>
 /// Writes numbers in the base at the beginning of `into`, separated by the separator, and gives the
 /// length of the text.
 ///
-/// The base is 10 or 16. The bytes of `into` behind the text stay as they are.
+/// The base is 10 or 16. The bytes of `into` after the text stay as they are.
 pub fn put_groups(groups: &[u16], base: u16, separator: u8, into: &mut [u8; 40]) -> usize
     requires base { (base ≡ 10) ⊎ (base ≡ 16) }
     requires room { length (join_with_byte separator (map (digits base false) groups.now)) ≤ 40 }
@@ -80,7 +80,7 @@ pub fn put_groups(groups: &[u16], base: u16, separator: u8, into: &mut [u8; 40])
         length (join_with_byte separator (map (digits base false) groups.now)) }
     ensures text { take result into.new ≡
         join_with_byte separator (map (digits base false) groups.now) }
-    ensures behind { drop result into.new ≡ drop result into.old }
+    ensures after { drop result into.new ≡ drop result into.old }
 {
     let mut len = 0;
     for (place, group) in groups.iter().enumerate() {
@@ -100,7 +100,7 @@ fn put_digits(value: u16, base: u16, into: &mut [u8; 40], at: usize) -> usize
     requires room { at + length (digits base false value) ≤ 40 }
     ensures len { result ≡ at + length (digits base false value) }
     ensures text { take result into.new ≡ take at into.old ++ digits base false value }
-    ensures behind { drop result into.new ≡ drop result into.old }
+    ensures after { drop result into.new ≡ drop result into.old }
 {
     let place = if value < base {
         at

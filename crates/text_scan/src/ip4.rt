@@ -37,13 +37,13 @@ fn group_byte(text: &[u8]) -> Option<u8>
 /// Prints an IPv4 address in its dotted form, without leading zeros, and gives the length of the
 /// text.
 ///
-/// The text has at most 15 bytes and stands at the beginning of `into`; the bytes behind it stay as
+/// The text has at most 15 bytes and stands at the beginning of `into`; the bytes after it stay as
 /// they are. It refuses nothing and takes no memory. Source: RFC 1123, section 2.1.
 pub fn put_ip4(value: u32, into: &mut [u8; 40]) -> usize
     ensures len { result ≡ length (ip4_spelling value) }
     ensures fits { result ≤ 15 }
     ensures text { take result into.new ≡ ip4_spelling value }
-    ensures behind { drop result into.new ≡ drop result into.old }
+    ensures after { drop result into.new ≡ drop result into.old }
 {
     let [a, b, c, d] = value.to_be_bytes();
     let groups = [u16::from(a), u16::from(b), u16::from(c), u16::from(d)];

@@ -25,13 +25,13 @@ pub fn ip6_text(bytes: &[u8]) -> Option<u128>
         return (pieces.count == 8).then_some(pieces.value);
     };
     let before = first_pieces(&bytes[..place])?;
-    let behind = last_pieces(&bytes[place + 2..])?;
-    if before.count + behind.count > MOST_BESIDE_GAP {
+    let after = last_pieces(&bytes[place + 2..])?;
+    if before.count + after.count > MOST_BESIDE_GAP {
         return None;
     }
     // Two shifts: with nothing before `::` one alone would be by all 128 bits, which isn't defined.
     let above = before.value << (16 * (7 - before.count)) << 16;
-    Some(above + behind.value)
+    Some(above + after.value)
 }
 
 /// The place of the first `::`.
@@ -50,13 +50,13 @@ fn find_gap(text: &[u8]) -> Option<usize>
 /// Prints an IPv6 address as eight groups of lower-case hexadecimal digits, without leading zeros
 /// and without `::`, and gives the length of the text.
 ///
-/// The text has at most 39 bytes and stands at the beginning of `into`; the bytes behind it stay as
+/// The text has at most 39 bytes and stands at the beginning of `into`; the bytes after it stay as
 /// they are. It refuses nothing and takes no memory. Source: RFC 4291, section 2.2, form 1.
 pub fn put_ip6(value: u128, into: &mut [u8; 40]) -> usize
     ensures len { result ≡ length (ip6_spelling value) }
     ensures fits { result ≤ 39 }
     ensures text { take result into.new ≡ ip6_spelling value }
-    ensures behind { drop result into.new ≡ drop result into.old }
+    ensures after { drop result into.new ≡ drop result into.old }
 {
     let pieces = [
         piece_at(value, 7),

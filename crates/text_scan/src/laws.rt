@@ -13,14 +13,14 @@ ghost use Rattle.text_scan.specs.Ip6.{ip6_of, ip6_spelling, joined, pieces_of_al
 ///
 /// The definition cuts a text at its first `::`. This says that it matters not where: a text that
 /// can be cut anywhere into such groups is an address, and that one.
-pub fn ip6_is_cut_anywhere(before: &[u8], behind: &[u8])
+pub fn ip6_is_cut_anywhere(before: &[u8], after: &[u8])
     requires before { IsTrue (are_groups (groups_of before.now)) }
-    requires behind { IsTrue (are_last_groups (groups_of behind.now)) }
+    requires after { IsTrue (are_last_groups (groups_of after.now)) }
     requires few { length (pieces_of_all (groups_of before.now))
-        + length (pieces_of_all (groups_of behind.now)) ≤ 7 }
+        + length (pieces_of_all (groups_of after.now)) ≤ 7 }
     ensures { let pieces = filled_pieces
-        (pieces_of_all (groups_of before.now)) (pieces_of_all (groups_of behind.now)) in
-        ip6_of (before.now ++ codes "::" ++ behind.now) ≡ Some (joined pieces) }
+        (pieces_of_all (groups_of before.now)) (pieces_of_all (groups_of after.now)) in
+        ip6_of (before.now ++ codes "::" ++ after.now) ≡ Some (joined pieces) }
 {}
 
 /// The text of an IPv4 address, read as a text, is the address. So `ip4_text` gives back what

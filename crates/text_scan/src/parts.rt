@@ -10,7 +10,7 @@ ghost use Rattle.text_scan.specs.Parts.{lines_of, parts_of, words_of};
 
 use memchr::memchr;
 
-/// The texts before and behind the first separator. None where there is no separator.
+/// The texts before and after the first separator. None where there is no separator.
 pub fn split_once(text: &[u8], separator: u8) -> Option<(&[u8], &[u8])>
     ensures parts { MatchOption result
         (parts_of separator text.now ≡ text.now ∷ [])
@@ -25,21 +25,21 @@ pub fn split_once(text: &[u8], separator: u8) -> Option<(&[u8], &[u8])>
     Some((&text[..place], &text[place + 1..]))
 }
 
-/// The texts before and behind the only separator. None where there is another number of
+/// The texts before and after the only separator. None where there is another number of
 /// separators.
 pub fn split_in_two(text: &[u8], separator: u8) -> Option<(&[u8], &[u8])>
     ensures parts { MatchOption result
         (length (parts_of separator text.now) ≢ 2)
         (λ texts. parts_of separator text.now ≡ texts.0.now ∷ texts.1.now ∷ []) }
 {
-    let (before, behind) = split_once(text, separator)?;
-    match split_once(behind, separator) {
+    let (before, after) = split_once(text, separator)?;
+    match split_once(after, separator) {
         Some(_) => None,
-        None => Some((before, behind)),
+        None => Some((before, after)),
     }
 }
 
-/// The first line without what ends it, LF or CR LF, and the text behind it. None where the text is
+/// The first line without what ends it, LF or CR LF, and the text after it. None where the text is
 /// empty.
 ///
 /// A last line without LF counts, and one CR at its end is dropped too.

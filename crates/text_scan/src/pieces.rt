@@ -87,10 +87,10 @@ pub fn last_pieces(text: &[u8]) -> Option<Pieces>
     pieces_of_groups(&text[..last - 1])?.with_end(&text[last..])
 }
 
-/// Where the last part begins: behind the last `:`, or at 0 where there is none.
+/// Where the last part begins: after the last `:`, or at 0 where there is none.
 fn last_part(text: &[u8]) -> usize
     ensures within { result ≤ length text.now }
-    ensures behind { 0 < result → slice_index text.now (result - 1) ≡ colon }
+    ensures after { 0 < result → slice_index text.now (result - 1) ≡ colon }
     ensures last { (k : ℕ) → result ≤ k → k < length text.now → slice_index text.now k ≢ colon }
 {
     let mut place = text.len();

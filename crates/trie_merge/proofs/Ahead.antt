@@ -88,13 +88,13 @@ module _ (column : ColumnView) where
           let tails : entries_step column entries one ≡ entries_step column entries other = cc in
           (is_a ∙ ap Some heads ∙ sym is_b, rest tails)
       by rest (Some a) None is_a is_b e =
-          let behind = subst (RisesFrom (number_in entry + 1)) (sym e)
+          let later = subst (RisesFrom (number_in entry + 1)) (sym e)
           (steps_rise (number_in entry + 1) entries other rise.1) in
-          absurd (omega (arith, behind.0, step_number entry one a is_a))
+          absurd (omega (arith, later.0, step_number entry one a is_a))
       by rest None (Some b) is_a is_b e =
-          let behind = subst (RisesFrom (number_in entry + 1)) e
+          let later = subst (RisesFrom (number_in entry + 1)) e
           (steps_rise (number_in entry + 1) entries one rise.1) in
-          absurd (omega (arith, behind.0, step_number entry other b is_b))
+          absurd (omega (arith, later.0, step_number entry other b is_b))
 
   same_edges : (number : ℕ) (one other : Option Edge)
       → option_map (entry_of number) one ≡ option_map (entry_of number) other → one ≡ other

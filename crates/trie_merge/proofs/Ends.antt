@@ -20,4 +20,4 @@ module _ (column : ColumnView) (entry : ℕ) where
       by None is = ap (option_map (entry_of (number_in entry))) is
       by (Some edge) is =
           let within = ends.none_outside byte below (rw is refl) in
-          elim outside [ inl before ↦ absurd (omega (arith, within.0)) | inr behind ↦ absurd (omega (arith, within.1)) ]
+          elim outside [ inl before ↦ absurd (omega (arith, within.0)) | inr after ↦ absurd (omega (arith, within.1)) ]

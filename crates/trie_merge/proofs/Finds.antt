@@ -17,8 +17,8 @@ module _ {X : Type 0} (same : X → X → Bool) (live : X → Bool) where
   pub stays_found : (found : List X) (x : X) → is_new found x ≡ false → found_with same live found x ≡ found
   stays_found found x old = ap (λ b. cond b (found ++ x ∷ []) found) old
 
-  pub goes_behind : (found : List X) (x : X) → is_new found x ≡ true → found_with same live found x ≡ found ++ x ∷ []
-  goes_behind found x new = ap (λ b. cond b (found ++ x ∷ []) found) new
+  pub goes_after : (found : List X) (x : X) → is_new found x ≡ true → found_with same live found x ≡ found ++ x ∷ []
+  goes_after found x new = ap (λ b. cond b (found ++ x ∷ []) found) new
 
   -- what isn't new stays so when more is found
   pub old_for_more : (found more : List X) (x : X) → is_new found x ≡ false → is_new (found ++ more) x ≡ false
@@ -38,7 +38,7 @@ module _ {X : Type 0} (same : X → X → Bool) (live : X → Bool) where
       elim (cases_Bool (is_new found x)) [
         | inl new ↦ (
           x ∷ rest.0,
-          rest.1 ∙ ap (λ f. f ++ rest.0) (goes_behind found x new)
+          rest.1 ∙ ap (λ f. f ++ rest.0) (goes_after found x new)
               ∙ append_assoc found (x ∷ []) rest.0,
         )
         | inr old ↦ (rest.0, rest.1 ∙ ap (λ f. f ++ rest.0) (stays_found found x old))
@@ -62,7 +62,7 @@ module _ {X : Type 0} (same : X → X → Bool) (live : X → Bool) where
     -- once found, an element isn't new
     pub old_once_found : (found : List X) (x : X) → is_new (found_with same live found x) x ≡ false
     old_once_found found x = elim (cases_Bool (is_new found x)) [
-      | inl new ↦ ap (λ f. is_new f x) (goes_behind found x new) ∙ at_end
+      | inl new ↦ ap (λ f. is_new f x) (goes_after found x new) ∙ at_end
       | inr old ↦ ap (λ f. is_new f x) (stays_found found x old) ∙ old
     ]
       where
@@ -89,7 +89,7 @@ module _ {X : Type 0} (same : X → X → Bool) (live : X → Bool) where
 module _ {X Y : Type 0} (same : X → X → Bool) (live : X → Bool) (sound : (x y : X) → same x y ≡ true → x ≡ y)
     (same_y : Y → Y → Bool) (live_y : Y → Bool) (reflexive : (y : Y) → same_y y y ≡ true)
     (f : X → List Y) (dead : (x : X) → live x ≡ false → (found : List Y) → NoneNew same_y live_y found (f x)) where
-  -- what an element that is among others leads to isn't new behind what those lead to
+  -- what an element that is among others leads to isn't new after what those lead to
   of_a_member : (found : List Y) (x : X) (xs : List X) → list_any (same x) xs ≡ true
       → NoneNew same_y live_y (fold (found_with same_y live_y) found (flat_map f xs)) (f x)
   of_a_member found x [] among = absurd (true≢false (sym among))
@@ -117,7 +117,7 @@ module _ {X Y : Type 0} (same : X → X → Bool) (live : X → Bool) (sound : (
       let before : List Y = fold (found_with same_y live_y) [] (flat_map f acc) in
       elim (cases_Bool (is_new same live acc x)) [
         | inl new ↦
-            ap (λ a. fold (found_with same_y live_y) [] (flat_map f a)) (goes_behind same live acc x new)
+            ap (λ a. fold (found_with same_y live_y) [] (flat_map f a)) (goes_after same live acc x new)
             ∙ ap (λ l. fold (found_with same_y live_y) [] l)
             (flat_map-append f acc (x ∷ []) ∙ ap (λ l. flat_map f acc ++ l) (append-nil (f x)))
             ∙ fold-append (found_with same_y live_y) [] (flat_map f acc) (f x)
@@ -143,11 +143,11 @@ module _ {X Y : Type 0} (same : X → X → Bool) (live : X → Bool) (sound : (
       ∙ ap (λ g. fold (found_with same_y live_y) g (flat_map f xs)) (one_more acc x)
       ∙ sym (fold-append (found_with same_y live_y) _ (f x) (flat_map f xs))
 
-  -- what is found behind those found is what is found behind all
-  pub found_behind_found : (xs : List X)
+  -- what is found after those found is what is found after all
+  pub found_after_found : (xs : List X)
       → found_in same_y live_y (flat_map f (found_in same live xs)) ≡ found_in same_y live_y (flat_map f xs)
   unfolding found_in
-  found_behind_found xs = finds_of_finds [] xs
+  found_after_found xs = finds_of_finds [] xs
 
 -- a function that keeps elements apart takes what is found to what is found
 module _ {X Y : Type 0} (same : X → X → Bool) (live : X → Bool) (same_y : Y → Y → Bool) (live_y : Y → Bool) (g : X → Y)

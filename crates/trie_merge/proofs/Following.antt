@@ -31,7 +31,7 @@ use Rattle.trie_merge.specs.Follow.{run_to, on_from, followed, matching, IsAnswe
 use Rattle.trie_merge.specs.Laws.{RunsLeadToTheRowOfTheMatchingRules}
 use Rattle.trie_merge.proofs.Finds.{is_new, none_new_once_found}
 use Rattle.trie_merge.proofs.Numbers.{bytes_eq_refl, bytes_eq_sound}
-use Rattle.trie_merge.proofs.Packed.{AreBytes, bytes_behind}
+use Rattle.trie_merge.proofs.Packed.{AreBytes, bytes_after}
 use Rattle.trie_merge.proofs.PackedState.{IsHeld, packed_state, packed_state_steps, packed_state_wild}
 use Rattle.trie_merge.proofs.PackedState.{packed_state_start, decoded, state_is, same_state-Decides}
 use Rattle.trie_merge.proofs.RestSteps.{state_goes_through}
@@ -179,7 +179,7 @@ take_none : {X : Type 0} (n : ℕ) → take n (let none : List X = [] in none) �
 take_none zero = refl
 take_none (suc n) = refl
 
--- the first elements, and some behind them
+-- the first elements, and some after them
 take_both : {X : Type 0} (m n : ℕ) (xs : List X) → take (m + n) xs ≡ take m xs ++ take n (drop m xs)
 take_both zero n xs = ap (λ k. take k xs) (omega arith)
 take_both (suc m) n [] = take_none (suc m + n) ∙ sym (take_none n)
@@ -271,7 +271,7 @@ module _ (set : RuleSetView) (group : List ℕ) (held : AllByRecursion (IsHeld s
       sym (whole_numbers set group key long)
       ∙ ap (map (λ (h : Held). h.number))
       (ap (state set group) (sym (take-append-drop place key))
-      ∙ state_goes_through set group (take place key) (drop place key) held (bytes_behind place key small)
+      ∙ state_goes_through set group (take place key) (drop place key) held (bytes_after place key small)
       (omega (arith, shorter, length-drop place key, long))
       ∙ (λ i. state_through set (shorter i) (dead i) (drop place key))
       ∙ dead_on set place (drop place key))
@@ -320,7 +320,7 @@ module _ (set : RuleSetView) (group : List ℕ) (held : AllByRecursion (IsHeld s
       ∙ sym (packed_state_steps set group start byte held (omega (arith, here, gap.rises, gap.within)) below)
       ∙ ap (packed_state set group) (sym one)
       ∙ sym (bytes_on (take (place + 1) key) rest (bytes_before (place + 1) key small)
-      (bytes_before (next - place - 1) (drop (place + 1) key) (bytes_behind (place + 1) key small))
+      (bytes_before (next - place - 1) (drop (place + 1) key) (bytes_after (place + 1) key small))
       (omega (arith, one_long, rest_long, gap.rises, gap.within))
       (λ g under. gap.wild (length (take (place + 1) key) + g) (omega (arith, one_long))
       (omega (arith, one_long, rest_long, gap.rises))))

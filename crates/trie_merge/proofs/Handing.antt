@@ -47,7 +47,7 @@ module _ (given : ℕ → List ℕ) (from : ℕ) (old lists : List (SmallVec ℕ
     (so_far : Handed given from old lists k) where
   there_left : (j : ℕ) → j < from ⊎ k + 1 ≤ j → (j ≢ k) × (j < from ⊎ k ≤ j)
   there_left j (inl before) = (omega arith, inl before)
-  there_left j (inr behind) = (omega arith, inr (omega arith))
+  there_left j (inr after) = (omega arith, inr (omega arith))
 
   -- one more list, where there is something to give
   pub handed_some : (v w : SmallVec ℕ) → k < length lists → v ≡ get_or lists k v →
@@ -112,14 +112,14 @@ module _ (column : ColumnView) (entry : ℕ) (marks : List Bool) (firsts of_byte
             absurd (omega (arith, before, rises, at.inside, are.interval first (omega arith))))
       ]
 
-  none_behind : (k : ℕ) → k < count → until ≤ k → entry_step column entry (its_first k) ≡ None
-  none_behind k within behind =
+  none_after : (k : ℕ) → k < count → until ≤ k → entry_step column entry (its_first k) ≡ None
+  none_after k within after =
       let at = are.first k within in
       elim (cases_lt last (its_first k)) [
         | inl lt ↦ none_above (its_first k) lt at.below
         | inr le ↦
             (let rises = interval_rises marks are.long (its_first k) last le last_below in
-            absurd (omega (arith, behind, rises, at.inside, are.interval last last_below)))
+            absurd (omega (arith, after, rises, at.inside, are.interval last last_below)))
       ]
 
   -- so the lists of the run are all that it changes
@@ -133,7 +133,7 @@ module _ (column : ColumnView) (entry : ℕ) (marks : List Bool) (firsts of_byte
         rw (none_before k below before) (outside k (inl before) ∙ sym (append-nil (list_at old k)))
     | inr above ↦ elim (cases_lt k until) [
       | inl inside ↦ within k above inside
-      | inr behind ↦ rw (none_behind k below behind) (outside k (inr behind) ∙ sym (append-nil (list_at old k)))
+      | inr after ↦ rw (none_after k below after) (outside k (inr after) ∙ sym (append-nil (list_at old k)))
     ]
   ]
 

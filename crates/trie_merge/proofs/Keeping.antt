@@ -28,7 +28,7 @@ module _ (column : ColumnView) (entry : ℕ) (can : CanStep column entry) (free 
         let after : edge_after (value_in column entry) column.size 0 0 ≡ Some Free =
         wild_stays_free.edge (value_in column entry) column.size 0 0 can.value wild (omega arith) (omega arith) in
         rw (start, after) refl)
-    | inr behind ↦ (let not_first = ne_eqb column.place 0 behind in rw not_first free_inside)
+    | inr later ↦ (let not_first = ne_eqb column.place 0 later in rw not_first free_inside)
   ]
 
   -- and so it is after each byte

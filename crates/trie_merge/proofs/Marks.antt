@@ -71,8 +71,8 @@ module _ (marks : List Bool) (firsts of_bytes : List ℕ) (last byte : ℕ) (som
   at_byte : byte - 1 + 1 ≡ byte
   at_byte = omega arith
 
-  behind : byte + 1 - 1 ≡ byte
-  behind = omega arith
+  after : byte + 1 - 1 ≡ byte
+  after = omega arith
 
   -- the byte is in an interval that begins with it
   pub parted_marked : get_or marks byte false ≡ true →
@@ -86,7 +86,7 @@ module _ (marks : List Bool) (firsts of_bytes : List ℕ) (last byte : ℕ) (som
         wide = so_far.wide;
         long = length-set firsts (last + 1) byte ∙ so_far.long;
         as_long = length-set of_bytes byte (last + 1) ∙ so_far.as_long;
-        latest = rw behind (sym here);
+        latest = rw after (sym here);
         few = omega (arith, so_far.few);
         zero_first = get_or-set_other firsts (last + 1) 0 byte 0 (omega arith) ∙ so_far.zero_first;
         first = λ k under. elim (cases_eq k (last + 1)) [
@@ -119,7 +119,7 @@ module _ (marks : List Bool) (firsts of_bytes : List ℕ) (last byte : ℕ) (som
         wide = so_far.wide;
         long = so_far.long;
         as_long = length-set of_bytes byte last ∙ so_far.as_long;
-        latest = rw behind (sym here);
+        latest = rw after (sym here);
         few = omega (arith, so_far.few);
         zero_first = so_far.zero_first;
         first = so_far.first;
@@ -130,7 +130,7 @@ module _ (marks : List Bool) (firsts of_bytes : List ℕ) (last byte : ℕ) (som
         ];
       }
 
-  -- a first byte behind those of the intervals begun is none yet
+  -- a first byte after those of the intervals begun is none yet
   spare : Parted marks (set firsts (last + 1) byte) of_bytes last byte
   spare = record {
     wide = so_far.wide;
@@ -200,7 +200,7 @@ module _ (marks : List Bool) (long : length marks ≡ 256) where
 
 -- ---- where an interval ends
 
--- the byte behind those of the first k intervals
+-- the byte after those of the first k intervals
 abbrev pub end_by : List ℕ → ℕ → ℕ → ℕ
 end_by firsts count k = cond (ltb k count) (get_or firsts k 0) 256
 
@@ -244,13 +244,13 @@ module _ (marks : List Bool) (firsts of_bytes : List ℕ) (count : ℕ)
       let ends = ends_with (k + 1) (omega arith) (omega arith) in (
         (elim (cases_lt (k + 1) count) [
           | inl next ↦
-              (let behind = are.first (k + 1) next in
+              (let after = are.first (k + 1) next in
               elim (cases_lt (get_or firsts k 0) (get_or firsts (k + 1) 0)) [
                 | inl lt ↦ rw (end_first firsts count (k + 1) next) lt
                 | inr le ↦
                     (let rises = interval_rises marks are.long (get_or firsts (k + 1) 0) (get_or firsts k 0) le
                     at.below in
-                    absurd (omega (arith, rises, at.inside, behind.inside)))
+                    absurd (omega (arith, rises, at.inside, after.inside)))
               ])
           | inr last ↦ (let all : k + 1 ≡ count = omega arith in rw (all, end_all firsts count) at.below)
         ]),

@@ -24,7 +24,7 @@ use Rattle.trie_merge.proofs.Finds.{found_grows}
 use Rattle.trie_merge.proofs.Handing.{list_at-read}
 use Rattle.trie_merge.proofs.Successors.{with_length, length-all_bytes}
 
--- The states so far: what they lead to is found, their runs stand whatever is found behind, and the words are within
+-- The states so far: what they lead to is found, their runs stand whatever is found after, and the words are within
 -- the cap.
 pub record MergedSoFar (set : RuleSetView) (column : ColumnView) (next : Option ColumnView) (is_last : Bool)
     (cap before : ℕ)
@@ -80,7 +80,7 @@ least_cost_some next is_last (list ∷ lists) =
           is_last lists,
     )
 
--- with a place behind, it is the words of the states there
+-- with a place after, it is the words of the states there
 pub least_cost_known : (next : ColumnView) (is_last : Bool) (lists : List (List ℕ)) →
     least_cost (Some next) is_last lists ≡ sum_by (cost_ahead next) lists
 unfolding least_cost
@@ -93,7 +93,7 @@ least_cost_known next is_last (list ∷ lists) =
       least_cost_known next is_last lists,
     )
 
--- without a place behind, each list takes as much as any other
+-- without a place after, each list takes as much as any other
 pub least_cost_flat : (is_last : Bool) (lists : List (List ℕ)) →
     least_cost None is_last lists ≡ (cond is_last row_words 1) * length lists
 unfolding least_cost
@@ -105,7 +105,7 @@ least_cost_flat false (list ∷ lists) =
     omega (arith, sum_by-cons (price None false) list lists, least_cost_flat false lists)
 
 module _ (set : RuleSetView) (column : ColumnView) (next : Option ColumnView) (is_last : Bool) where
-  -- one more state's finds come behind the others'
+  -- one more state's finds come after the others'
   found_more : (states : List (List ℕ)) (state : List ℕ) → level_found set column is_last (states ++ state ∷ [])
       ≡ fold lists_with (level_found set column is_last states) (map (successor set column is_last state) all_bytes)
   unfolding level_found found_in

@@ -70,7 +70,7 @@ pub there_stays : (list : List ℕ) (keys : List (SmallVec ℕ))
 there_stays list keys there =
     ap (λ b. cond b (lists_of keys) (lists_of keys ++ list ∷ [])) (there ∙ among_keys list keys)
 
--- the place of a list stays when others are found behind
+-- the place of a list stays when others are found after
 pub place_stays : (list : List ℕ) (found more : List (List ℕ)) → list_any (bytes_eq list) found ≡ true
     → position_or_len (bytes_eq list) (found ++ more) ≡ position_or_len (bytes_eq list) found
 place_stays list [] more there = absurd (true≢false (sym there))
@@ -84,11 +84,11 @@ place_stays list (x ∷ xs) more there = by (bytes_eq list x) (place_stays list 
     by true rest is = refl
     by false rest is = ap (λ n. 1 + n) (rest is)
 
--- and of one that goes behind is how many there were
-place_behind : (list : List ℕ) (found : List (List ℕ)) → list_any (bytes_eq list) found ≡ false
+-- and of one that goes after is how many there were
+place_after : (list : List ℕ) (found : List (List ℕ)) → list_any (bytes_eq list) found ≡ false
     → position_or_len (bytes_eq list) (found ++ list ∷ []) ≡ length found
-place_behind list [] none = ap (λ b. cond (not b) 1 0) (bytes_eq_refl list)
-place_behind list (x ∷ xs) none = by (bytes_eq list x) (place_behind list xs) none
+place_after list [] none = ap (λ b. cond (not b) 1 0) (bytes_eq_refl list)
+place_after list (x ∷ xs) none = by (bytes_eq list x) (place_after list xs) none
   where
     by : (b : Bool) → (list_any (bytes_eq list) xs ≡ false
         → position_or_len (bytes_eq list) (xs ++ list ∷ []) ≡ length xs) → (b || list_any (bytes_eq list) xs) ≡ false
@@ -119,11 +119,11 @@ inserted_place keys v n is = is ∙ place_of_key v.items keys
     by (inl there) = ap (λ b. position_or_len (bytes_eq v.items)
         (cond b (lists_of keys) (lists_of keys ++ v.items ∷ []))) (sym there)
     by (inr none) =
-        none_at_end v.items (lists_of keys) none ∙ sym (place_behind v.items (lists_of keys) none)
+        none_at_end v.items (lists_of keys) none ∙ sym (place_after v.items (lists_of keys) none)
         ∙ ap (λ b. position_or_len (bytes_eq v.items) (cond b (lists_of keys) (lists_of keys ++ v.items ∷ [])))
         (sym none)
 
--- what a list is reached as stays when others are found behind
+-- what a list is reached as stays when others are found after
 pub succ_stays : (is_last : Bool) (list : List ℕ) (found more : List (List ℕ))
     → is_new bytes_eq is_live found list ≡ false → succ_in is_last (found ++ more) list ≡ succ_in is_last found list
 succ_stays is_last [] found more old = refl

@@ -148,10 +148,10 @@ module _ (def : FieldDef) (defs : List FieldDef) (value : FieldValue) (values : 
   pub packed_in : length key < def.size → packed_edge (def ∷ defs) (value ∷ values) key ≡ kept_in value def.size key
   packed_in begun = cond-true _ _ _ (lt-ltb (length key) def.size begun)
 
-  pub packed_behind : def.size ≤ length key → packed_edge (def ∷ defs) (value ∷ values) key
+  pub packed_after : def.size ≤ length key → packed_edge (def ∷ defs) (value ∷ values) key
       ≡ cond (field_match value def.size (number_of (take def.size key))) (packed_edge defs values (drop def.size key))
       None
-  packed_behind whole = cond-false _ _ _ (le-ltb (length key) def.size whole)
+  packed_after whole = cond-false _ _ _ (le-ltb (length key) def.size whole)
 
 -- nothing read leaves the free edge
 pub packed_nothing : (defs : List FieldDef) (values : List FieldValue) → AllZip IsLawfulValue defs values
@@ -195,7 +195,7 @@ module _ (def : FieldDef) (defs : List FieldDef) (value : FieldValue) (values : 
         let all : take def.size (key ++ byte ∷ []) ≡ key ++ byte ∷ [] =
         take_all def.size (key ++ byte ∷ []) (omega (arith, long)) in
         let none : drop def.size (key ++ byte ∷ []) ≡ [] = drop_all def.size (key ++ byte ∷ []) (omega (arith, long)) in
-        packed_behind def defs value values (key ++ byte ∷ []) (omega (arith, long))
+        packed_after def defs value values (key ++ byte ∷ []) (omega (arith, long))
         ∙ (λ i. cond (field_match value def.size (number_of (all i))) (packed_edge defs values (none i)) None)
         ∙ (λ i. cond (field_match value def.size (number_push key byte i)) (packed_nothing defs values others i) None)
         ∙ sym (whole_edge value def.size (number_of key * 256 + byte))
@@ -208,7 +208,7 @@ stepped values at byte edge =
     edge_step (get_or values at.field (Mask 0 0)) at.size at.place
     (before_at (get_or values at.field (Mask 0 0)) at.size at.place edge) byte
 
--- the field of a place, in the first field and behind it
+-- the field of a place, in the first field and after it
 pub field_at_in : (def : FieldDef) (defs : List FieldDef) (place : ℕ) → place < def.size
     → field_at (def ∷ defs) place ≡ record { field = 0; size = def.size; place = place }
 field_at_in def defs place begun = cond-true _ _ _ (lt-ltb place def.size begun)
@@ -216,9 +216,9 @@ field_at_in def defs place begun = cond-true _ _ _ (lt-ltb place def.size begun)
 abbrev pub one_further : FieldPlace → FieldPlace
 one_further at = record { field = at.field + 1; size = at.size; place = at.place }
 
-pub field_at_behind : (def : FieldDef) (defs : List FieldDef) (place : ℕ) → def.size ≤ place
+pub field_at_after : (def : FieldDef) (defs : List FieldDef) (place : ℕ) → def.size ≤ place
     → field_at (def ∷ defs) place ≡ one_further (field_at defs (place - def.size))
-field_at_behind def defs place whole = cond-false _ _ _ (le-ltb place def.size whole)
+field_at_after def defs place whole = cond-false _ _ _ (le-ltb place def.size whole)
 
 pub further_value : (value : FieldValue) (values : List FieldValue) (n : ℕ)
     → get_or (value ∷ values) (n + 1) (Mask 0 0) ≡ get_or values n (Mask 0 0)
@@ -237,15 +237,15 @@ packed_steps (def ∷ defs) (value ∷ values) key byte lawful within small = el
       ∙ sym (field_steps def value key byte lawful.0 begun small)
       ∙ sym (λ i. option_and_then (stepped (value ∷ values) (field_at_in def defs (length key) begun i) byte)
       (packed_in def defs value values key begun i))
-  | inr behind ↦
+  | inr after ↦
       let rest : List ℕ = drop def.size key in
       let long : length rest ≡ length key - def.size = length-drop def.size key in
       let whole : ℕ = number_of (take def.size key) in
       let before : packed_edge (def ∷ defs) (value ∷ values) (key ++ byte ∷ [])
       ≡ cond (field_match value def.size whole) (packed_edge defs values (rest ++ byte ∷ [])) None =
-      packed_behind def defs value values (key ++ byte ∷ []) (omega (arith, length_one_more key byte))
-      ∙ (λ i. cond (field_match value def.size (number_of (take-append-le def.size key (byte ∷ []) behind i)))
-      (packed_edge defs values (drop-append-le def.size key (byte ∷ []) behind i)) None) in
+      packed_after def defs value values (key ++ byte ∷ []) (omega (arith, length_one_more key byte))
+      ∙ (λ i. cond (field_match value def.size (number_of (take-append-le def.size key (byte ∷ []) after i)))
+      (packed_edge defs values (drop-append-le def.size key (byte ∷ []) after i)) None) in
       let step_is : (edge : Edge)
       → stepped (value ∷ values) (one_further (field_at defs (length key - def.size))) byte edge
       ≡ stepped values (field_at defs (length rest)) byte edge = λ edge.
@@ -258,8 +258,8 @@ packed_steps (def ∷ defs) (value ∷ values) key byte lawful within small = el
       ∙ by (field_match value def.size whole) (packed_edge defs values rest) step_is
       (packed_steps defs values rest byte lawful.1
       (omega (arith, long, within, sum_by-cons (λ (d : FieldDef). d.size) def defs)) small)
-      ∙ sym (λ i. option_and_then (stepped (value ∷ values) (field_at_behind def defs (length key) behind i) byte)
-      (packed_behind def defs value values key behind i))
+      ∙ sym (λ i. option_and_then (stepped (value ∷ values) (field_at_after def defs (length key) after i) byte)
+      (packed_after def defs value values key after i))
 ]
   where
     by : (b : Bool) (found : Option Edge)
@@ -299,10 +299,10 @@ stands_in def value (k ∷ ks) edge lawful small begun is =
     (sym (ap (λ b. cond b (unwrap_or (edge_after value def.size 0 0) Free) edge) some))
     (record { prefix = number_of (k ∷ ks); within = number_small (k ∷ ks) small; form = form })
 
-pub bytes_behind : (n : ℕ) (bytes : List ℕ) → AreBytes bytes → AreBytes (drop n bytes)
-bytes_behind zero bytes small = small
-bytes_behind (suc n) [] small = tt
-bytes_behind (suc n) (byte ∷ bytes) small = bytes_behind n bytes small.1
+pub bytes_after : (n : ℕ) (bytes : List ℕ) → AreBytes bytes → AreBytes (drop n bytes)
+bytes_after zero bytes small = small
+bytes_after (suc n) [] small = tt
+bytes_after (suc n) (byte ∷ bytes) small = bytes_after n bytes small.1
 
 pub packed_stands : (defs : List FieldDef) (values : List FieldValue) (key : List ℕ) (edge : Edge)
     → AllZip IsLawfulValue defs values → AreBytes key → length key < key_len_of defs →
@@ -319,18 +319,18 @@ packed_stands (def ∷ defs) (value ∷ values) key edge lawful small within is 
         stands = stands_in def value key edge lawful.0 small begun
             (sym (packed_in def defs value values key begun) ∙ is);
       })
-  | inr behind ↦
+  | inr after ↦
       let rest : List ℕ = drop def.size key in
       let long : length rest ≡ length key - def.size = length-drop def.size key in
       let rest_is : packed_edge defs values rest ≡ Some edge =
       through (field_match value def.size (number_of (take def.size key))) (packed_edge defs values rest)
-      (sym (packed_behind def defs value values key behind) ∙ is) in
-      let there = packed_stands defs values rest edge lawful.1 (bytes_behind def.size key small)
+      (sym (packed_after def defs value values key after) ∙ is) in
+      let there = packed_stands defs values rest edge lawful.1 (bytes_after def.size key small)
       (omega (arith, long, within, sum_by-cons (λ (d : FieldDef). d.size) def defs)) rest_is in
       let at : FieldPlace = field_at defs (length key - def.size) in
       let here : Stands values at edge = subst (λ n. Stands values (field_at defs n) edge) long there in
       let value_is = further_value value values at.field in
-      subst (λ at. Stands (value ∷ values) at edge) (sym (field_at_behind def defs (length key) behind))
+      subst (λ at. Stands (value ∷ values) at edge) (sym (field_at_after def defs (length key) after))
       (record {
         place = here.place;
         value = subst (λ v. CanMatch v at.size) (sym value_is) here.value;
@@ -385,8 +385,8 @@ packed_rests (def ∷ defs) (value ∷ values) key lawful = elim (cases_lt (leng
       (cond (eqb (length key) 0) (unwrap_or (rest_after value def.size 0 0) Live)
       (rest_of value def.size (length key) edge)) (rest_at defs values (length key - def.size) edge))
       (packed_in def defs value values key begun i))
-  | inr behind ↦
-      let isnt : ltb (length key) def.size ≡ false = le-ltb (length key) def.size behind in
+  | inr after ↦
+      let isnt : ltb (length key) def.size ≡ false = le-ltb (length key) def.size after in
       let long : length (drop def.size key) ≡ length key - def.size = length-drop def.size key in
       cond-false _ _ _ isnt
       ∙ by (field_match value def.size (number_of (take def.size key))) (packed_edge defs values (drop def.size key))
@@ -395,7 +395,7 @@ packed_rests (def ∷ defs) (value ∷ values) key lawful = elim (cases_lt (leng
       ∙ sym (λ i. option_map (λ edge. cond (isnt i)
       (cond (eqb (length key) 0) (unwrap_or (rest_after value def.size 0 0) Live)
       (rest_of value def.size (length key) edge)) (rest_at defs values (length key - def.size) edge))
-      (packed_behind def defs value values key behind i))
+      (packed_after def defs value values key after i))
 ]
   where
     by : (b : Bool) (found : Option Edge)
@@ -455,20 +455,20 @@ packed_apart (def ∷ defs) (value ∷ values) one other edge another small othe
           (sym (packed_in def defs value values one begun) ∙ is)
           (sym (packed_in def defs value values other (omega (arith, long))) ∙ other_is)
           (sym (cond-true _ _ _ yes) ∙ same ∙ cond-true _ _ _ yes)
-      | inr behind ↦
-          let no_more : ltb (length one) def.size ≡ false = le-ltb (length one) def.size behind in
+      | inr after ↦
+          let no_more : ltb (length one) def.size ≡ false = le-ltb (length one) def.size after in
           let rest_long : length (drop def.size one) ≡ length one - def.size = length-drop def.size one in
           let other_long : length (drop def.size other) ≡ length (drop def.size one) = length-drop def.size other
           ∙ ap (λ n. n - def.size) long ∙ sym rest_long in
           packed_apart defs values (drop def.size one) (drop def.size other) edge another
-          (bytes_behind def.size one small)
-          (bytes_behind def.size other other_small) other_long
+          (bytes_after def.size one small)
+          (bytes_after def.size other other_small) other_long
           (through (field_match value def.size (number_of (take def.size one)))
           (packed_edge defs values (drop def.size one)) edge
-          (sym (packed_behind def defs value values one behind) ∙ is))
+          (sym (packed_after def defs value values one after) ∙ is))
           (through (field_match value def.size (number_of (take def.size other)))
           (packed_edge defs values (drop def.size other)) another
-          (sym (packed_behind def defs value values other (omega (arith, long, behind))) ∙ other_is))
+          (sym (packed_after def defs value values other (omega (arith, long, after))) ∙ other_is))
           (ap (λ n. rest_at defs values n edge) rest_long ∙ sym (cond-false _ _ _ no_more)
           ∙ same ∙ cond-false _ _ _ no_more
           ∙ sym (ap (λ n. rest_at defs values n another) rest_long))
@@ -512,15 +512,15 @@ packed_wild (def ∷ defs) (value ∷ values) key byte lawful small below within
           wild_in def defs value values key byte lawful.0 lawful.1 small below begun
           (sym (cond-true _ _ _ (lt-ltb (length key) def.size begun)) ∙ wild)
           ∙ sym (packed_in def defs value values key begun)
-      | inr behind ↦
+      | inr after ↦
           let rest : List ℕ = drop def.size key in
           let long : length rest ≡ length key - def.size = length-drop def.size key in
-          packed_behind def defs value values (key ++ byte ∷ []) (omega (arith, length_one_more key byte))
-          ∙ (λ i. cond (field_match value def.size (number_of (take-append-le def.size key (byte ∷ []) behind i)))
-          (packed_edge defs values (drop-append-le def.size key (byte ∷ []) behind i)) None)
+          packed_after def defs value values (key ++ byte ∷ []) (omega (arith, length_one_more key byte))
+          ∙ (λ i. cond (field_match value def.size (number_of (take-append-le def.size key (byte ∷ []) after i)))
+          (packed_edge defs values (drop-append-le def.size key (byte ∷ []) after i)) None)
           ∙ ap (λ found. cond (field_match value def.size (number_of (take def.size key))) found None)
-          (packed_wild defs values rest byte lawful.1 (bytes_behind def.size key small) below
+          (packed_wild defs values rest byte lawful.1 (bytes_after def.size key small) below
           (omega (arith, long, within, sum_by-cons (λ (d : FieldDef). d.size) def defs))
-          (ap (is_wild_at defs values) long ∙ sym (cond-false _ _ _ (le-ltb (length key) def.size behind)) ∙ wild))
-          ∙ sym (packed_behind def defs value values key behind)
+          (ap (is_wild_at defs values) long ∙ sym (cond-false _ _ _ (le-ltb (length key) def.size after)) ∙ wild))
+          ∙ sym (packed_after def defs value values key after)
     ]

@@ -6,14 +6,14 @@ use Rattle.std.proofs.lemmas.List.{drop-append-le, take-append-le, drop_at, take
 use Rattle.trie_merge.specs.Pieces.{pieces_of, IsPieces}
 
 module _ {X : Type 0} (xs more : List X) where
-  -- a piece within the list stays when more comes behind
+  -- a piece within the list stays when more comes after
   piece_stays : (start end : ℕ) → start ≤ end → end ≤ length xs
       → slice_range (xs ++ more) start end ≡ slice_range xs start end
   piece_stays start end rises within =
       ap (take (end - start)) (drop-append-le start xs more (omega arith))
       ∙ take-append-le (end - start) (drop start xs) more (omega (arith, length-drop start xs))
 
-  -- what comes behind is the last piece
+  -- what comes after is the last piece
   last_piece : slice_range (xs ++ more) (length xs) (length xs + length more) ≡ more
   last_piece = ap (take (length xs + length more - length xs)) (drop_at xs more (length xs) refl)
       ∙ take_all (length xs + length more - length xs) more (omega arith)

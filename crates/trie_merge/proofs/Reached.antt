@@ -18,7 +18,7 @@ use Rattle.trie_merge.specs.Row.{row_of, final_row, rows_of}
 use Rattle.trie_merge.specs.Levels.{states_at, reached, state_succ, row_succ, runs_of}
 use Rattle.trie_merge.specs.Entry.{ColumnView, entries_step, column_at}
 use Rattle.trie_merge.specs.Lists.{row_list, successor, level_found, succ_in, state_runs}
-use Rattle.trie_merge.proofs.Finds.{is_new, NoneNew, all_stays, old_once_found, found_behind_found, found_in-map}
+use Rattle.trie_merge.proofs.Finds.{is_new, NoneNew, all_stays, old_once_found, found_after_found, found_in-map}
 use Rattle.trie_merge.proofs.Finds.{position-map, All-found_in}
 use Rattle.trie_merge.proofs.Numbers.{bytes_eq_refl, bytes_eq_sound}
 use Rattle.trie_merge.proofs.Successors.{same_runs, length-all_bytes}
@@ -161,12 +161,12 @@ module _ (set : RuleSetView) (column : ColumnView) (is_last : Bool) where
       by false (byte ∷ bytes) = (refl, by false bytes)
   dead_leads_nowhere (entry ∷ entries) dead found = absurd (let e : true ≡ false = dead in true≢false e)
 
-  -- what is found behind those found is what is found behind all
+  -- what is found after those found is what is found after all
   pub level_of_all : (all : List (List ℕ))
       → level_found set column is_last (found_in bytes_eq is_live all)
       ≡ found_in bytes_eq is_live (flat_map successors all)
   unfolding level_found
-  level_of_all all = found_behind_found bytes_eq is_live bytes_eq_sound bytes_eq is_live bytes_eq_refl successors
+  level_of_all all = found_after_found bytes_eq is_live bytes_eq_sound bytes_eq is_live bytes_eq_refl successors
       dead_leads_nowhere all
 
 module _ (set : RuleSetView) (group : List ℕ) (held : AllByRecursion (IsHeld set) group) where
@@ -268,7 +268,7 @@ zeros_small : (count : ℕ) → AreBytes (replicate count 0)
 zeros_small zero = tt
 zeros_small (suc count) = (omega arith, zeros_small count)
 
--- The places behind one up to the next kept one, which lies within the key or at its end, are wild in all rules.
+-- The places after one up to the next kept one, which lies within the key or at its end, are wild in all rules.
 pub record IsGap (set : RuleSetView) (group : List ℕ) (place next : ℕ) : Type 0 where
   pub rises : place < next
   pub within : next ≤ key_len_of set.layout
@@ -414,10 +414,10 @@ module _ (set : RuleSetView) (group : List ℕ) (held : AllByRecursion (IsHeld s
   abbrev one_row : List ℕ → List (List ℕ)
   one_row entries = row_list set entries ∷ []
 
-  rows_behind : (all : List (List ℕ))
+  rows_following : (all : List (List ℕ))
       → found_in bytes_eq is_live (flat_map one_row (found_in bytes_eq is_live all))
       ≡ found_in bytes_eq is_live (flat_map one_row all)
-  rows_behind all = found_behind_found bytes_eq is_live bytes_eq_sound bytes_eq is_live bytes_eq_refl one_row dead_row
+  rows_following all = found_after_found bytes_eq is_live bytes_eq_sound bytes_eq is_live bytes_eq_refl one_row dead_row
       all
 
   flat_map-flat_map : {X Y Z : Type 0} (f : Y → List Z) (g : X → List Y) (xs : List X)
@@ -463,9 +463,9 @@ module _ (set : RuleSetView) (group : List ℕ) (held : AllByRecursion (IsHeld s
       let before : List (List ℕ) = packed_at set group place in
       sym (
       ap found rows_by_entries
-      ∙ sym (rows_behind entries)
+      ∙ sym (rows_following entries)
       ∙ ap (λ all. found (flat_map one_row all)) (sym (packed_next set group held place whole gap))
-      ∙ rows_behind (flat_map (successors set (column_at set place) false) before)
+      ∙ rows_following (flat_map (successors set (column_at set place) false) before)
       ∙ ap found (all_rows_after before)
       )
 

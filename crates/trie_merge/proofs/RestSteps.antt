@@ -30,10 +30,10 @@ module _ (def : FieldDef) (defs : List FieldDef) (value : FieldValue) (values : 
       → values_rest (def ∷ defs) (value ∷ values) key ≡ rest_after value def.size (length key) (number_of key)
   rest_in begun = cond-true _ _ _ (lt-ltb (length key) def.size begun)
 
-  rest_behind : def.size ≤ length key → values_rest (def ∷ defs) (value ∷ values) key
+  rest_following : def.size ≤ length key → values_rest (def ∷ defs) (value ∷ values) key
       ≡ cond (field_match value def.size (number_of (take def.size key))) (values_rest defs values (drop def.size key))
       None
-  rest_behind whole = cond-false _ _ _ (le-ltb (length key) def.size whole)
+  rest_following whole = cond-false _ _ _ (le-ltb (length key) def.size whole)
 
 -- what comes after a rest in the field of the place
 abbrev onward : FieldDef → List FieldDef → List FieldValue → ℕ → Rest → Option Rest
@@ -69,7 +69,7 @@ in_field def defs value values key byte begun below = elim (cases_lt (length key
       take_all def.size (key ++ byte ∷ []) (omega (arith, long)) in
       let none : drop def.size (key ++ byte ∷ []) ≡ [] = drop_all def.size (key ++ byte ∷ []) (omega (arith, long)) in
       let number : ℕ = number_of key * 256 + byte in
-      rest_behind def defs value values (key ++ byte ∷ []) (omega (arith, long))
+      rest_following def defs value values (key ++ byte ∷ []) (omega (arith, long))
       ∙ (λ i. cond (field_match value def.size (number_of (all i))) (values_rest defs values (none i)) None)
       ∙ ap (λ n. cond (field_match value def.size n) (values_rest defs values []) None) (number_push key byte)
       ∙ sym (ap (λ p. option_and_then (onward def defs values (length key)) (rest_after value def.size p number)) whole
@@ -106,14 +106,14 @@ values_go_on (def ∷ defs) (value ∷ values) key byte lawful within below = el
       (values_rest (def ∷ defs) (value ∷ values) key)) yes
       ∙ ap (option_and_then (λ before. option_and_then (onward def defs values place)
       (rest_step value def.size place before byte))) (rest_in def defs value values key begun))
-  | inr behind ↦
+  | inr later ↦
       let rest : List ℕ = drop def.size key in
       let long : length rest ≡ length key - def.size = length-drop def.size key in
-      let no_more : ltb (length key) def.size ≡ false = le-ltb (length key) def.size behind in
+      let no_more : ltb (length key) def.size ≡ false = le-ltb (length key) def.size later in
       let whole : ℕ = number_of (take def.size key) in
-      rest_behind def defs value values (key ++ byte ∷ []) (omega (arith, length_one_more key byte))
-      ∙ (λ i. cond (field_match value def.size (number_of (take-append-le def.size key (byte ∷ []) behind i)))
-      (values_rest defs values (drop-append-le def.size key (byte ∷ []) behind i)) None)
+      rest_following def defs value values (key ++ byte ∷ []) (omega (arith, length_one_more key byte))
+      ∙ (λ i. cond (field_match value def.size (number_of (take-append-le def.size key (byte ∷ []) later i)))
+      (values_rest defs values (drop-append-le def.size key (byte ∷ []) later i)) None)
       ∙ by (field_match value def.size whole)
       (values_go_on defs values rest byte lawful.1
       (omega (arith, long, within, sum_by-cons (λ (d : FieldDef). d.size) def defs)) below
@@ -124,7 +124,7 @@ values_go_on (def ∷ defs) (value ∷ values) key byte lawful within below = el
       (values_step defs values (length key - def.size) before byte))
       (values_rest (def ∷ defs) (value ∷ values) key)) no_more
       ∙ ap (option_and_then (λ before. values_step defs values (length key - def.size) before byte))
-      (rest_behind def defs value values key behind))
+      (rest_following def defs value values key later))
 ]
   where
     by : (b : Bool) → values_rest defs values (drop def.size key ++ byte ∷ [])

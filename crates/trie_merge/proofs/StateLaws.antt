@@ -33,7 +33,7 @@ use Rattle.trie_merge.proofs.Reached.{IsGap, IsPrefix, packed_at, packed_next, s
 use Rattle.trie_merge.proofs.Reached.{all-map, all-flat_map, map_same, flat_map_same, map-map, map-flat_map}
 use Rattle.trie_merge.proofs.Reached.{bytes_below, reached_is, entries_next}
 use Rattle.trie_merge.proofs.Gaps.{Gaps, each, kept_places_first}
-use Rattle.trie_merge.proofs.Walk.{group_held, gaps_behind}
+use Rattle.trie_merge.proofs.Walk.{group_held, gaps_after}
 
 pub whole_keys_are_live_where_they_match : WholeKeysAreLiveWhereTheyMatch
 whole_keys_are_live_where_they_match [] [] key long = refl
@@ -107,7 +107,7 @@ next_states_are_reached set group k is below =
     let rest : drop k places ≡ get_or places k 0 ∷ get_or places (k + 1) 0 ∷ drop (k + 1 + 1) places =
     drop_more places k 0 (omega arith) ∙ ap (λ ps. get_or places k 0 ∷ ps) (drop_more places (k + 1) 0 below) in
     let gaps = subst (Gaps set group) rest
-    (gaps_behind set group held is.group.some (short_keys set.layout is.layout).0 places k first.gaps) in
+    (gaps_after set group held is.group.some (short_keys set.layout is.layout).0 places k first.gaps) in
     states_next set group held (get_or places k 0) (get_or places (k + 1) 0) gaps.0
 
 -- a place of an idle group is wild

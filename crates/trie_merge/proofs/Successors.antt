@@ -18,7 +18,7 @@ use Rattle.trie_merge.specs.Levels.{same_succ, is_end, runs_of}
 use Rattle.trie_merge.specs.Lists.{lists_of, list_at, list_of_byte, lists_with, succ_in, interval_at}
 use Rattle.trie_merge.specs.Intervals.{AreIntervals}
 use Rattle.trie_merge.proofs.Marks.{end_by, all_inside, first_before_end}
-use Rattle.trie_merge.proofs.Finds.{is_new, found_grows, stays_found, goes_behind, old_once_found}
+use Rattle.trie_merge.proofs.Finds.{is_new, found_grows, stays_found, goes_after, old_once_found}
 use Rattle.trie_merge.proofs.Numbers.{bytes_eq_refl, succ_stays}
 
 pub length-all_bytes : length all_bytes ≡ 256
@@ -37,7 +37,7 @@ one_more_byte byte below =
 -- one more list makes the lists found no longer than by one
 pub with_length : (found : List (List ℕ)) (list : List ℕ) → length (lists_with found list) ≤ length found + 1
 with_length found list = elim (cases_Bool (is_new bytes_eq is_live found list)) [
-  | inl new ↦ rw (goes_behind bytes_eq is_live found list new, length-append found (list ∷ [])) (omega arith)
+  | inl new ↦ rw (goes_after bytes_eq is_live found list new, length-append found (list ∷ [])) (omega arith)
   | inr old ↦ rw (stays_found bytes_eq is_live found list old) (omega arith)
 ]
 
@@ -147,10 +147,10 @@ module _ (is_last : Bool) (marks : List Bool) (lists old : List (SmallVec ℕ)) 
     at_byte : byte - 1 + 1 ≡ byte
     at_byte = omega arith
 
-    behind : byte + 1 - 1 ≡ byte
-    behind = omega arith
+    after : byte + 1 - 1 ≡ byte
+    after = omega arith
 
-    -- the byte before has the last successor, whatever is found behind
+    -- the byte before has the last successor, whatever is found after
     last_is : (more : List (List ℕ)) → reached_in (lists_of keys ++ more) (byte - 1) ≡ succ
     last_is more =
         succ_stays is_last (list_of_byte marks lists (byte - 1)) (lists_of keys) more so_far.known ∙ sym so_far.same
@@ -173,8 +173,8 @@ module _ (is_last : Bool) (marks : List Bool) (lists old : List (SmallVec ℕ)) 
         record {
           found = sym (more_found ∙ stays_found bytes_eq is_live (lists_of keys) (list_of_byte marks lists byte)
               old_list);
-          known = rw behind old_list;
-          same = rw behind (so_far.same ∙ ap (succ_in is_last (lists_of keys)) (sym list));
+          known = rw after old_list;
+          same = rw after (so_far.same ∙ ap (succ_in is_last (lists_of keys)) (sym list));
           ended = λ more.
               let f : ℕ → Succ = reached_in (lists_of keys ++ more) in
               let goes : is_end f (byte - 1) ≡ false =
@@ -182,7 +182,7 @@ module _ (is_last : Bool) (marks : List Bool) (lists old : List (SmallVec ℕ)) 
               (rw at_byte (ap (λ l. same_succ (f (byte - 1)) (succ_in is_last (lists_of keys ++ more) l)) list
               ∙ same_as_itself (f (byte - 1)))) in
               so_far.ended more ∙ ap (λ ends. old_runs ++ ends)
-              (rw behind (sym (rw at_byte at (run_goes_on f (byte - 1) (omega arith) goes))));
+              (rw after (sym (rw at_byte at (run_goes_on f (byte - 1) (omega arith) goes))));
           room = omega (arith, so_far.room);
         }
 
@@ -201,8 +201,8 @@ module _ (is_last : Bool) (marks : List Bool) (lists old : List (SmallVec ℕ)) 
         let is_grown : lists_of keys' ≡ lists_of keys ++ grown.0 = found' ∙ grown.1 in
         record {
           found = found' ∙ sym more_found;
-          known = rw behind known';
-          same = rw behind same';
+          known = rw after known';
+          same = rw after same';
           ended = λ more.
               let same_found : lists_of keys ++ (grown.0 ++ more) ≡ lists_of keys' ++ more =
               sym (append_assoc (lists_of keys) grown.0 more) ∙ ap (λ f. f ++ more) (sym is_grown) in
@@ -217,7 +217,7 @@ module _ (is_last : Bool) (marks : List Bool) (lists old : List (SmallVec ℕ)) 
               rw at_byte (λ i. same_succ (last' i) (here i)) in
               joined ∙ one_more_run f old_runs runs (byte - 1) succ (same_succ succ succ') (omega arith) before last'
               test
-              ∙ ap (λ n. old_runs ++ some_runs f n) (at_byte ∙ sym behind);
+              ∙ ap (λ n. old_runs ++ some_runs f n) (at_byte ∙ sym after);
           room = omega (
             arith,
             so_far.room,
@@ -255,11 +255,11 @@ module _ (is_last : Bool) (marks : List Bool) (lists old : List (SmallVec ℕ)) 
       let end : ℕ = end_by firsts count (k + 1) in
       let ends = first_before_end marks firsts of_bytes count are k below in
       let there : first + 1 + (end - (first + 1)) ≡ end = omega (arith, ends.0) in
-      let behind : first + 1 - 1 ≡ first = omega arith in
+      let after : first + 1 - 1 ≡ first = omega arith in
       rw there at (on_joined keys runs succ (first + 1) (end - (first + 1)) (omega arith) (omega (arith, there, ends.1))
       (λ b from until.
       all_inside marks firsts of_bytes count are k below b (omega arith) (rw there at until)
-      ∙ sym (ap (interval_at marks) behind ∙ (are.first k below).inside)) joined)
+      ∙ sym (ap (interval_at marks) after ∙ (are.first k below).inside)) joined)
 
   -- the last run
   pub all_joined : (keys : List (SmallVec ℕ)) (runs : List Run) (succ : Succ) → Joined keys runs succ 256 →

@@ -265,15 +265,15 @@ module _ (set : RuleSetView) (group : List ℕ) (held : AllByRecursion (IsHeld s
         whole = λ h. absurd (omega (arith, h, first.some));
       }
 
-  pub gaps_behind : (ps : List ℕ) (n : ℕ) → Gaps set group ps → Gaps set group (drop n ps)
-  gaps_behind ps zero gaps = gaps
-  gaps_behind [] (suc n) gaps = tt
-  gaps_behind (p ∷ []) (suc n) gaps = by n
+  pub gaps_after : (ps : List ℕ) (n : ℕ) → Gaps set group ps → Gaps set group (drop n ps)
+  gaps_after ps zero gaps = gaps
+  gaps_after [] (suc n) gaps = tt
+  gaps_after (p ∷ []) (suc n) gaps = by n
     where
       by : (m : ℕ) → Gaps set group (drop m [])
       by zero = tt
       by (suc m) = tt
-  gaps_behind (p ∷ q ∷ ps) (suc n) gaps = gaps_behind (q ∷ ps) n gaps.1
+  gaps_after (p ∷ q ∷ ps) (suc n) gaps = gaps_after (q ∷ ps) n gaps.1
 
   gap_within : (place : ℕ) (ps : List ℕ) → Gaps set group (place ∷ ps) → place < key_len_of set.layout
   gap_within place [] gap = gap.rises
@@ -287,7 +287,7 @@ module _ (set : RuleSetView) (group : List ℕ) (held : AllByRecursion (IsHeld s
     rest_is = drop_more places place 0 below
 
     gaps_here : Gaps set group (get_or places place 0 ∷ drop (place + 1) places)
-    gaps_here = subst (Gaps set group) rest_is (gaps_behind places place (kept_places_first set group key).gaps)
+    gaps_here = subst (Gaps set group) rest_is (gaps_after places place (kept_places_first set group key).gaps)
 
     pub place_inside : get_or places place 0 < key_len_of set.layout
     place_inside = gap_within (get_or places place 0) (drop (place + 1) places) gaps_here
@@ -335,11 +335,11 @@ module _ (set : RuleSetView) (group : List ℕ) (held : AllByRecursion (IsHeld s
     found_here = level_found set (column_at set (get_or places place 0)) (place + 1 == length places)
         (packed_at set group (get_or places place 0))
 
-    none_behind : length places ≤ place + 2 → next_of set places place ≡ None
-    none_behind end = ap (λ b. cond b (Some (column_at set next_place)) None) (le-ltb (place + 2) (length places) end)
+    none_after : length places ≤ place + 2 → next_of set places place ≡ None
+    none_after end = ap (λ b. cond b (Some (column_at set next_place)) None) (le-ltb (place + 2) (length places) end)
 
-    one_behind : place + 2 < length places → next_of set places place ≡ Some (column_at set next_place)
-    one_behind more = ap (λ b. cond b (Some (column_at set next_place)) None) (lt-ltb (place + 2) (length places) more)
+    one_after : place + 2 < length places → next_of set places place ≡ Some (column_at set next_place)
+    one_after more = ap (λ b. cond b (Some (column_at set next_place)) None) (lt-ltb (place + 2) (length places) more)
 
     -- before the last place these are the states of the next
     found_next : place + 1 < length places → found_here ≡ packed_at set group next_place
@@ -351,10 +351,10 @@ module _ (set : RuleSetView) (group : List ℕ) (held : AllByRecursion (IsHeld s
     pub found_can_count : NumbersRise 0 group → AllCanCount (next_of set places place) found_here
     found_can_count rise = elim (cases_lt (place + 2) (length places)) [
       | inl more ↦
-          rw (one_behind more, found_next (omega arith))
+          rw (one_after more, found_next (omega arith))
           (All-from_recursion (CanCount (column_at set next_place)) (packed_at set group next_place)
           (all_can_count set group held rise next_place (place_inside (place + 1) (omega arith))))
-      | inr end ↦ subst (λ next. AllCanCount next found_here) (sym (none_behind end)) tt
+      | inr end ↦ subst (λ next. AllCanCount next found_here) (sym (none_after end)) tt
     ]
 
     more_rest : (ps : List ℕ) → 0 < length ps
@@ -372,16 +372,16 @@ module _ (set : RuleSetView) (group : List ℕ) (held : AllByRecursion (IsHeld s
         ap (λ levels. words_of levels (rows_of set group)) level.2 ∙ sum in
         omega (arith, whole, states_some level.0, level.3, count)
 
-    abbrev words_behind : ℕ
-    words_behind = words_of (runs_from (drop (place + 1) places)) (rows_of set group)
+    abbrev words_following : ℕ
+    words_following = words_of (runs_from (drop (place + 1) places)) (rows_of set group)
 
-    -- the rows take all words behind the last place
+    -- the rows take all words after the last place
     last_rest : place + 1 ≡ length places
-        → least_cost (next_of set places place) (place + 1 == length places) found_here ≤ words_behind
+        → least_cost (next_of set places place) (place + 1 == length places) found_here ≤ words_following
     last_rest e =
         let long = length-drop (place + 1) places in
         let found : found_here ≡ rows_of set group = (level_here place below).rows (omega (arith, long, e)) in
-        let next = none_behind (omega (arith, e)) in
+        let next = none_after (omega (arith, e)) in
         let last = eq-eqb (place + 1) (length places) e in
         let cost : least_cost (next_of set places place) (place + 1 == length places) found_here
         ≡ row_words * length (rows_of set group) =
@@ -390,11 +390,11 @@ module _ (set : RuleSetView) (group : List ℕ) (held : AllByRecursion (IsHeld s
 
     -- the states of the last place take a word each
     one_rest : place + 2 ≡ length places
-        → least_cost (next_of set places place) (place + 1 == length places) found_here ≤ words_behind
+        → least_cost (next_of set places place) (place + 1 == length places) found_here ≤ words_following
     one_rest e =
         let long = length-drop (place + 1) places in
         let found = (level_here place below).next (omega (arith, long, e)) in
-        let next = none_behind (omega (arith, e)) in
+        let next = none_after (omega (arith, e)) in
         let last = ne_eqb (place + 1) (length places) (λ same. omega (arith, same, e)) in
         let cost : least_cost (next_of set places place) (place + 1 == length places) found_here
         ≡ 1 * length (packed_at set group (get_or (drop (place + 1) places) 0 0)) =
@@ -404,10 +404,10 @@ module _ (set : RuleSetView) (group : List ℕ) (held : AllByRecursion (IsHeld s
 
     -- those of any other place take their words, which are known ahead
     known_rest : place + 2 < length places
-        → least_cost (next_of set places place) (place + 1 == length places) found_here ≤ words_behind
+        → least_cost (next_of set places place) (place + 1 == length places) found_here ≤ words_following
     known_rest more =
         let found = found_next (omega (arith, more)) in
-        let next = one_behind more in
+        let next = one_after more in
         let last = ne_eqb (place + 1) (length places) (λ same. omega (arith, same, more)) in
         let states : List (List ℕ) = packed_at set group next_place in
         let words : Bool → ℕ = λ b. states_words
@@ -417,10 +417,10 @@ module _ (set : RuleSetView) (group : List ℕ) (held : AllByRecursion (IsHeld s
         (λ i. least_cost (next i) (last i) (found i)) ∙ least_cost_known (column_at set next_place) false states
         ∙ words_are_ahead set (column_at set next_place) states in
         let split = words_split (place + 1) (omega (arith, more)) in
-        let last_behind = ap words (ne_eqb (place + 1 + 1) (length places) (λ same. omega (arith, same, more))) in
-        omega (arith, cost, split, last_behind)
+        let last_after = ap words (ne_eqb (place + 1 + 1) (length places) (λ same. omega (arith, same, more))) in
+        omega (arith, cost, split, last_after)
 
-    pub least_rest : least_cost (next_of set places place) (place + 1 == length places) found_here ≤ words_behind
+    pub least_rest : least_cost (next_of set places place) (place + 1 == length places) found_here ≤ words_following
     least_rest = elim (cases_eq (place + 1) (length places)) [
       | inl e ↦ last_rest e
       | inr other ↦ elim (cases_eq (place + 2) (length places)) [
@@ -473,7 +473,7 @@ module _ (set : RuleSetView) (group : List ℕ) (held : AllByRecursion (IsHeld s
           within = omega (arith, merged.within);
           whole = λ h. (
               let last = eq-eqb (place + 1) (length places) (omega (arith, h, below)) in
-              let next = none_behind place below (omega (arith, h)) in
+              let next = none_after place below (omega (arith, h)) in
               let cost : least_cost (next_of set places place) (place + 1 == length places) (lists_of found)
               ≡ row_words * length found =
               (λ i. least_cost (next i) (last i) (lists_of found)) ∙ least_cost_flat true (lists_of found)

@@ -16,7 +16,7 @@ use Rattle.rule_set.specs.Fault.{rule_fault}
 use Rattle.rule_set.proofs.Offered.{faultless_rules}
 use Rattle.trie_merge.specs.Kept.{is_wild_at}
 use Rattle.trie_merge.specs.Entry.{FieldPlace, field_at}
-use Rattle.trie_merge.proofs.Packed.{field_at_in, field_at_behind, further_value}
+use Rattle.trie_merge.proofs.Packed.{field_at_in, field_at_after, further_value}
 
 -- there are as many values as fields
 pub length-zipped : (defs : List FieldDef) (values : List FieldValue) → AllZip IsLawfulValue defs values
@@ -40,16 +40,16 @@ value_at_place (def ∷ defs) (value ∷ values) place lawful within = elim (cas
   | inl begun ↦
       subst (IsValueAt (def ∷ defs) (value ∷ values) place) (sym (field_at_in def defs place begun))
       (record { within = omega arith; can = lawful.0.can_match; wild = cond-true _ _ _ (lt-ltb place def.size begun) })
-  | inr behind ↦
+  | inr after ↦
       let there = value_at_place defs values (place - def.size) lawful.1
       (omega (arith, within, sum_by-cons (λ (d : FieldDef). d.size) def defs)) in
       let at : FieldPlace = field_at defs (place - def.size) in
       let same = further_value value values at.field in
-      subst (IsValueAt (def ∷ defs) (value ∷ values) place) (sym (field_at_behind def defs place behind))
+      subst (IsValueAt (def ∷ defs) (value ∷ values) place) (sym (field_at_after def defs place after))
       (record {
         within = omega (arith, there.within);
         can = subst (λ v. CanMatch v at.size) (sym same) there.can;
-        wild = cond-false _ _ _ (le-ltb place def.size behind) ∙ there.wild ∙ ap (λ v. is_wild v at.size) (sym same);
+        wild = cond-false _ _ _ (le-ltb place def.size after) ∙ there.wild ∙ ap (λ v. is_wild v at.size) (sym same);
       })
 ]
 

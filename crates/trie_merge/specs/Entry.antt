@@ -103,8 +103,8 @@ field_at [] place = record { field = 0; size = 0; place = place }
 field_at (def ∷ defs) place =
     if nat_lt place def.size
     then record { field = 0; size = def.size; place = place }
-    else (let behind = field_at defs (place - def.size) in
-    record behind { field = behind.field + 1 })
+    else (let after = field_at defs (place - def.size) in
+    record after { field = after.field + 1 })
 
 -- what the place of a key has of each rule of a set
 unfoldable pub column_at : RuleSetView → ℕ → ColumnView

@@ -11,7 +11,7 @@ use Rattle.trie_merge.specs.declared.run.Succ.TheVariants.{Dead, State, Row}
 use Rattle.trie_merge.specs.RuleRest.{values_of}
 use Rattle.trie_merge.specs.Row.{row_of}
 
--- what a byte leads to: the first run that ends with it or behind it
+-- what a byte leads to: the first run that ends with it or after it
 abbrev pub run_to : List Run → ℕ → Succ
 run_to runs byte = option_map_or (λ run. run.to) (find (λ run. nat_le byte run.last) runs) Dead
 

@@ -4,7 +4,7 @@ use Rattle.std.specs.Prelude.{ℕ, List, [], ◌∷◌, ◌++◌, fold, Bool, no
 use Rattle.std.specs.List.{list_any, flat_map, range_with_len}
 use Rattle.std.proofs.Common.{zero, suc}
 
--- one more element: it goes behind the ones found, unless it is dead or among them
+-- one more element: it goes after the ones found, unless it is dead or among them
 abbrev pub found_with : {X : Type 0} → (X → X → Bool) → (X → Bool) → List X → X → List X
 found_with same live found x =
     if live x && not (list_any (same x) found) then found ++ x ∷ [] else found

@@ -73,7 +73,7 @@ is_change column entries byte =
 unfoldable pub cost_ahead : ColumnView → List ℕ → ℕ
 cost_ahead column entries = cost_of (length (filter (is_change column entries) all_bytes))
 
--- How many words a list that is found takes at least. Where the place behind it is given, they are
+-- How many words a list that is found takes at least. Where the place after it is given, they are
 -- the words of the state; else a row takes its words, and a state one or more.
 abbrev pub price : Option ColumnView → Bool → List ℕ → ℕ
 price (Some next) is_last list = cost_ahead next list
@@ -105,7 +105,7 @@ pub record CanCount (column : ColumnView) (entries : List ℕ) : Type 0 where
   pub ask : All (CanStep column) entries
   pub rise : RisesFrom 0 entries
 
--- The lists can be counted, where the place behind them is given.
+-- The lists can be counted, where the place after them is given.
 abbrev pub AllCanCount : Option ColumnView → List (List ℕ) → Type 0
 AllCanCount None lists = Unit {0}
 AllCanCount (Some next) lists = All (CanCount next) lists

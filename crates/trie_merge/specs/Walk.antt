@@ -9,7 +9,7 @@ use Rattle.trie_merge.specs.Row.{rows_of}
 use Rattle.trie_merge.specs.Levels.{levels_of, row_words}
 use Rattle.trie_merge.specs.Lists.{lists_of}
 
--- what the place behind the one of that number has of each rule, where it isn't the last one
+-- what the place after the one of that number has of each rule, where it isn't the last one
 abbrev pub next_of : RuleSetView → List ℕ → ℕ → Option ColumnView
 next_of set places j = if nat_lt (j + 2) (length places) then Some
     (column_at set (slice_index_or places (j + 1) 0)) else None

@@ -116,7 +116,7 @@ fn place_at(alloc: Global, rules: &RuleSet, places: &[usize], j: usize) -> Resul
     })
 }
 
-/// Puts the level of the pieces behind the others.
+/// Puts the level of the pieces after the others.
 fn push_level(levels: &mut Vec<Level>, pieces: Pieces) -> Result<(), MergeFault>
     requires { IsPieces 0 pieces.ends.items (length pieces.runs.items) }
     ensures level { OnOk result (levels.new.items

@@ -58,10 +58,10 @@ pub(crate) fn count_runs(column: &Column, entries: &[u32]) -> usize
     let mut count = 1;
     let mut rest = entries;
     while !rest.is_empty() && count <= FEW_RUNS {
-        let (part, behind) = rest.split_at(rest.len().min(PART));
+        let (part, later) = rest.split_at(rest.len().min(PART));
         mark_cuts(column, part, &mut marks);
         count = count_intervals(&marks);
-        rest = behind;
+        rest = later;
     }
     count
 }
@@ -72,7 +72,7 @@ const FEW_RUNS: usize = 5;
 /// How many entries are looked at before their marks are counted.
 const PART: usize = 16;
 
-/// Puts the entry behind each of the first lists.
+/// Puts the entry after each of the first lists.
 fn hand_one_to_all(
     after: u32,
     count: usize,
@@ -88,7 +88,7 @@ fn hand_one_to_all(
     Ok(())
 }
 
-/// Puts the entries behind each of the first lists.
+/// Puts the entries after each of the first lists.
 fn hand_to_all(
     after: &[u32],
     count: usize,
@@ -104,7 +104,7 @@ fn hand_to_all(
     Ok(())
 }
 
-/// Puts the entries from one place to another behind each of the first lists.
+/// Puts the entries from one place to another after each of the first lists.
 fn hand_part_to_all(
     entries: &[u32],
     from: usize,
@@ -130,7 +130,7 @@ fn hand_part_to_all(
     hand_to_all(part, count, lists)
 }
 
-/// Puts what one entry is after the first byte of each interval from one to another behind the
+/// Puts what one entry is after the first byte of each interval from one to another after the
 /// interval's list.
 fn hand_to_run(
     column: &Column,
@@ -158,7 +158,7 @@ fn hand_to_run(
     Ok(())
 }
 
-/// Puts what one entry is after the first byte of each interval behind the interval's list.
+/// Puts what one entry is after the first byte of each interval after the interval's list.
 ///
 /// It is asked only in the run of intervals that it can survive in.
 fn hand_out(

@@ -55,7 +55,7 @@ fn make_successors(
     Ok(())
 }
 
-/// Numbers what one state leads to, and puts its runs behind the others.
+/// Numbers what one state leads to, and puts its runs after the others.
 fn expand_state(
     alloc: Global,
     rules: &RuleSet,
@@ -156,7 +156,7 @@ pub(crate) struct Place {
     pub(crate) column: Column,
     /// Whether it is the last one.
     pub(crate) is_last: bool,
-    /// The kept place behind it, where that isn't the last one: there a state's words are known
+    /// The kept place after it, where that isn't the last one: there a state's words are known
     /// when it is found.
     pub(crate) next: Option<Column>,
 }

@@ -62,7 +62,7 @@ fn number_of(
 }
 
 /// Numbers what the intervals lead to, in order, and puts the runs of bytes with one successor
-/// behind the others.
+/// after the others.
 ///
 /// Intervals that lead to one successor are one run.
 pub(crate) fn join_runs(

@@ -139,7 +139,7 @@ fn run_to(runs: &[Run], byte: u64) -> Succ {
     Succ::Dead
 }
 
-/// The number of the state, which goes behind the others if it isn't there.
+/// The number of the state, which goes after the others if it isn't there.
 fn number_of(states: &mut Vec<Vec<Rest>>, state: Vec<Rest>) -> Result<u32, AllocError> {
     for number in 0..states.len() {
         if states[number].as_slice() == state.as_slice() {

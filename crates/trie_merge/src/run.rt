@@ -28,7 +28,7 @@ impl Succ {
     }
 }
 
-/// A run of bytes that lead to one successor. It begins behind the run before it, and the first at
+/// A run of bytes that lead to one successor. It begins after the run before it, and the first at
 /// byte 0.
 #[derive(Clone, Copy, Debug, PartialEq, Eq)]
 pub struct Run {

@@ -19,7 +19,7 @@ use Rattle.rule_set.specs.Lawful.{IsLawfulTag, IsLawfulValue}
 use Rattle.rule_set.proofs.Offered.{some_category, faultless_rules}
 use Rattle.workload_gen.specs.Rule.{address, category_masks, protocol_value, source_value, destination_value}
 use Rattle.workload_gen.specs.Rule.{choice, destination_bits, destination_ports, first_user_port, last_port}
-use Rattle.workload_gen.specs.Rule.{ports_behind, rule_of, source_bits}
+use Rattle.workload_gen.specs.Rule.{ports_after, rule_of, source_bits}
 
 pub ip4_is_layout : IsLayout ip4_fields
 unfolding layout_fault failing_number
@@ -123,7 +123,7 @@ ports_of_words : (index input offset word : ℕ) → word < 2 ^ 32 →
     IsLawfulValue (field kinds.Range 2 index input offset) (destination_ports word)
 ports_of_words index input offset word fits =
     let first = word / 2 ^ 16 in
-    let last = min (first + ports_behind) last_port in
+    let last = min (first + ports_after) last_port in
     elim (cases_Bool (word % 4 == 0)) [
       | inl e ↦ rw e (ports index input offset 0 last_port (omega arith) (omega arith))
       | inr e ↦ rw e (elim (cases_Bool (word % 4 == 1)) [

@@ -9,7 +9,7 @@ first_six_of_42 : words_of 6 (seeded 42)
 unfolding state_after
 first_six_of_42 = refl
 
--- the words behind the first two
-behind_two : words_of 2 (after_words 2 (seeded 42)) ≡ 0xba1d3330 ∷ 0x83d2f293 ∷ []
+-- the words after the first two
+after_two : words_of 2 (after_words 2 (seeded 42)) ≡ 0xba1d3330 ∷ 0x83d2f293 ∷ []
 unfolding state_after
-behind_two = refl
+after_two = refl

@@ -34,7 +34,7 @@ at_the_second_rule : key_of_words rules (0x11000005 ∷ 5 ∷ 6 ∷ 0x01000201 �
 unfolding rules
 at_the_second_rule = refl
 
--- places begin again behind the last rule
+-- places begin again after the last rule
 around : key_of_words rules (0x11000009 ∷ 5 ∷ 6 ∷ 0x01000201 ∷ [])
     ≡ key_of_words rules (0x11000001 ∷ 5 ∷ 6 ∷ 0x01000201 ∷ [])
 unfolding rules

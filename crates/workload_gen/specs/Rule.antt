@@ -32,9 +32,9 @@ last_port = LAST_PORT
 abbrev pub first_user_port : ℕ
 first_user_port = FIRST_USER_PORT
 
--- how many ports a range has behind its first one, at most
-abbrev pub ports_behind : ℕ
-ports_behind = PORTS_BEHIND
+-- how many ports a range has after its first one, at most
+abbrev pub ports_after : ℕ
+ports_after = PORTS_BEHIND
 
 -- how many bits of a source decide
 abbrev pub source_bits : List ℕ
@@ -74,14 +74,14 @@ source_value word = Mask (address word) (slice_index source_bits (choice word % 
 abbrev pub destination_value : ℕ → FieldValue
 destination_value word = Mask (address word) (slice_index destination_bits (choice word % 4))
 
--- all ports, those from 1024 on, one port, or a port and up to a hundred behind it
+-- all ports, those from 1024 on, one port, or a port and up to a hundred after it
 abbrev pub destination_ports : ℕ → FieldValue
 destination_ports word =
     let first = word / 2 ^ 16 in
     if word % 4 == 0 then Range 0 last_port
     else (if word % 4 == 1 then Range first_user_port last_port
     else (if word % 4 == 2 then Range first first
-    else Range first (min (first + ports_behind) last_port)))
+    else Range first (min (first + ports_after) last_port)))
 
 -- the tag of a number: some of 16 categories, a priority from 0 on, and the number for its userdata
 abbrev pub tag_of : ℕ → ℕ → ℕ → RuleTag

@@ -1,4 +1,4 @@
--- The workload of a seed: its rules, its keys, and the generator behind them.
+-- The workload of a seed: its rules, its keys, and the generator after them.
 use Rattle.std.specs.Prelude.{ℕ, ◌+◌, ◌*◌, List, map}
 use Rattle.std.specs.List.{range_with_len}
 use Rattle.rand_pcg.specs.Lcg.{Lcg}
@@ -23,7 +23,7 @@ abbrev pub rules_of : ℕ → ℕ → List RuleView
 rules_of seed count =
     map (λ place. rule_of (place + 1) (rule_words seed place)) (range_with_len 0 count)
 
--- the key at a place, from 0, behind the rules: each key before it has taken four words
+-- the key at a place, from 0, after the rules: each key before it has taken four words
 abbrev pub key_at : List RuleView → Lcg → ℕ → List ℕ
 key_at rules generator place =
     key_of_words rules (words_of KEY_WORDS (after_words (KEY_WORDS * place) generator))

@@ -43,7 +43,7 @@ const LAST_PORT: u64 = 65_535;
 /// The first port that a program without special rights may listen at.
 const FIRST_USER_PORT: u64 = 1024;
 
-/// How many ports behind its first a range of ports has.
+/// How many ports after its first a range of ports has.
 const PORTS_BEHIND: u64 = 100;
 
 /// How many priorities there are.

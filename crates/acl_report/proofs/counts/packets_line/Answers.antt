@@ -1,4 +1,4 @@
--- The line is what the pieces are, one behind the other.
+-- The line is what the pieces are, one after the other.
 use Rattle.std.proofs.Common.{append_assoc}
 use Rattle.acl_report.proofs.counts.packets_line.Goals as goal
 

@@ -2,7 +2,7 @@ use Rattle.std.proofs.Common.{false, arith, get_or, ◌∙◌}
 use Rattle.node_expand.specs.declared.allowed.Allowed.TheVariants.{Agreeing}
 use Rattle.node_expand.specs.Edges.{is_change}
 use Rattle.node_expand.specs.Allowed.{answer_of}
-use Rattle.node_expand.proofs.Changes.{turns, unchanged_before, unchanged_behind}
+use Rattle.node_expand.proofs.Changes.{turns, unchanged_before, unchanged_after}
 use Rattle.node_expand.proofs.allowed.mark_agreeing.Goals as goal
 use Rattle.list_lemmas.proofs.Tests.{marked_more, marked_none, marked_all}
 
@@ -25,4 +25,4 @@ returns c = λ place within.
     let answer = answer_of (Agreeing c.args.value c.args.mask) in
     c.loop-byte.invariant place within
     ∙ marked_all (is_change answer) c.loop-byte.byte place (get_or c.args.marks.now place false)
-    (λ behind. unchanged_behind answer c.args.first c.args.last place c.requires.ends within (omega arith))
+    (λ after. unchanged_after answer c.args.first c.args.last place c.requires.ends within (omega arith))

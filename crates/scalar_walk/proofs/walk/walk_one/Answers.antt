@@ -31,13 +31,13 @@ pub bounds-key-from : goal.bounds-key-from
 bounds-key-from g c =
     byte_there c.loop-words.invariant.walks (sym c.is_end.ensures ∙ c.loop-words-test.true) c.from.ensures
 
-pub place_behind-requires : goal.place_behind-requires
-place_behind-requires g c = at_node c.loop-words.invariant.walks (sym c.is_end.ensures ∙ c.loop-words-test.true)
+pub place_after-requires : goal.place_after-requires
+place_after-requires g c = at_node c.loop-words.invariant.walks (sym c.is_end.ensures ∙ c.loop-words-test.true)
 
-pub bounds-words-place_behind : goal.bounds-words-place_behind
-bounds-words-place_behind g c =
+pub bounds-words-place_after : goal.bounds-words-place_after
+bounds-words-place_after g c =
     word_there c.loop-words.invariant.walks (sym c.is_end.ensures ∙ c.loop-words-test.true) c.from.ensures
-    c.place_behind.ensures
+    c.place_after.ensures
 
 pub overflow_add-taken : goal.overflow_add-taken
 overflow_add-taken g c =
@@ -52,7 +52,7 @@ loop-words-smaller g c =
 pub loop-words-preserved : goal.loop-words-preserved
 loop-words-preserved g c = record {
   walks = walks_on c.loop-words.invariant.walks (sym c.is_end.ensures ∙ c.loop-words-test.true) c.from.ensures
-      c.place_behind.ensures;
+      c.place_after.ensures;
   counted = omega arith;
 }
 

@@ -1,4 +1,4 @@
--- Behind the words of the runs stand the unused ones.
+-- After the words of the runs stand the unused ones.
 use Rattle.std.proofs.Common.{◌-◌, ◌++◌, List, ℕ, length, replicate, ap, sym, ◌∙◌, arith}
 use Rattle.std.proofs.lemmas.Bool.Decides.{nat_tests}
 use Rattle.std.proofs.lemmas.List.{append_assoc, take_all}

@@ -22,8 +22,8 @@ fill-requires-clause-groups g c =
     let len : ℕ = c.len-len.result in
     let first : ℕ = c.args.first in
     let own = own_group set c.deref.result.now c.in_ok-levels.levels c.in_ok-levels.ensures.levels in
-    let other = own_group set c.deref-2.result.now c.in_ok-behind.behind c.in_ok-behind.ensures.levels in
-    subst (λ (group : List ℕ). IsPartition (length set.rules) (group ∷ c.in_ok-behind.behind.group ∷ []))
+    let other = own_group set c.deref-2.result.now c.in_ok-after.after c.in_ok-after.ensures.levels in
+    subst (λ (group : List ℕ). IsPartition (length set.rules) (group ∷ c.in_ok-after.after.group ∷ []))
     (sym (own.0 ∙ c.deref.ensures.value ∙ c.in_ok-group.ensures))
     (subst (λ (group : List ℕ). IsPartition (length set.rules) (range_with_len 0 first ∷ group ∷ []))
     (sym (other.0 ∙ c.deref-2.ensures.value ∙ c.in_ok-others.ensures))
@@ -34,6 +34,6 @@ pub fill-requires-clause-levels : goal.fill-requires-clause-levels
 fill-requires-clause-levels g c =
     let set = c.args.rules.now in
     let own = own_group set c.deref.result.now c.in_ok-levels.levels c.in_ok-levels.ensures.levels in
-    let other = own_group set c.deref-2.result.now c.in_ok-behind.behind c.in_ok-behind.ensures.levels in
+    let other = own_group set c.deref-2.result.now c.in_ok-after.after c.in_ok-after.ensures.levels in
     All-from_recursion (λ (trie : LevelsView). trie ≡ levels_of set trie.group)
-    (c.in_ok-levels.levels ∷ c.in_ok-behind.behind ∷ []) (own.1, (other.1, tt))
+    (c.in_ok-levels.levels ∷ c.in_ok-after.after ∷ []) (own.1, (other.1, tt))

@@ -79,7 +79,7 @@ loop-place-preserved c =
           ∙ sym (join_with_byte_more separator parts place (omega arith) (omega arith)))
           (Holds_piece c.if-place-gt0.into start
           (joined ++ separator ∷ []) part put.new.into c.if-place-gt0.len put.result parted put.ensures.len
-          put.ensures.text put.ensures.behind)
+          put.ensures.text put.ensures.after)
       | else-place-gt0 w ↦
           let first : place ≡ 0 = omega arith in
           let none : joined ≡ [] = ap (λ k. join_with_byte separator (take k parts)) first in
@@ -90,5 +90,5 @@ loop-place-preserved c =
           (sym is ∙ ap (λ k. get_or parts k []) first ∙ sym (join_with_byte_first separator parts (omega arith))
           ∙ ap (λ k. join_with_byte separator (take (k + 1) parts)) (sym first))
           (Holds_piece c.if-place-gt0.into start [] part put.new.into c.if-place-gt0.len put.result begun
-          put.ensures.len put.ensures.text put.ensures.behind)
+          put.ensures.len put.ensures.text put.ensures.after)
     ]

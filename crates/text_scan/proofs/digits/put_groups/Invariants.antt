@@ -4,7 +4,7 @@ use Rattle.std.specs.List.{join_with_byte}
 use Rattle.text_scan.proofs.Writes.{Holds}
 use Rattle.text_scan.proofs.digits.put_groups.Given as goal
 
--- the groups so far stand at the beginning, and what is behind them is as it was
+-- the groups so far stand at the beginning, and what is after them is as it was
 abbrev pub invariant-loop-place : goal.invariant-loop-place
 invariant-loop-place l =
     Holds l.into l.initial.into (join_with_byte l.separator (take l.place (map (digits l.base false) l.groups))) l.len

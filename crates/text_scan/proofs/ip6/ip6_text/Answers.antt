@@ -9,24 +9,24 @@ use Rattle.list_lemmas.proofs.Tests.{test_passed}
 pub overflow_add-result : goal.overflow_add-result
 overflow_add-result c =
     let before = c.in_ok-before.before in
-    let behind = c.in_ok-behind.behind in
+    let after = c.in_ok-after.after in
     omega (
       arith,
       moved_to_top before.value before.count
           (omega arith) c.in_ok-before.ensures.fits,
-      top_and_bottom before.value before.count behind.value behind.count
-          c.if-before-behind-gt-MOST_BESIDE_GAP.false c.in_ok-before.ensures.fits c.in_ok-behind.ensures.fits,
+      top_and_bottom before.value before.count after.value after.count
+          c.if-before-after-gt-MOST_BESIDE_GAP.false c.in_ok-before.ensures.fits c.in_ok-after.ensures.fits,
     )
 
 pub returns : goal.returns
 returns c =
     let bytes = c.args.bytes.now in
     let before = c.in_ok-before.before in
-    let behind = c.in_ok-behind.behind in
+    let after = c.in_ok-after.after in
     let found = test_passed _ _ _ c.in-Some.ensures.first in
     let first = rw found.1 at (test_passed _ _ _ c.in_ok-before.ensures.pieces) in
     let last = rw (take_rest bytes (c.in-Some.place + 2), found.1) at
-    (test_passed _ _ _ c.in_ok-behind.ensures.pieces) in
-    ip6_of_shortened bytes before behind _ found.0 (and_parts _ _ first.0).0 first.1
-    (and_parts _ _ last.0).0 last.1 c.if-before-behind-gt-MOST_BESIDE_GAP.false
-    (ap (λ n. n + behind.value) (moved_to_top before.value before.count (omega arith) c.in_ok-before.ensures.fits))
+    (test_passed _ _ _ c.in_ok-after.ensures.pieces) in
+    ip6_of_shortened bytes before after _ found.0 (and_parts _ _ first.0).0 first.1
+    (and_parts _ _ last.0).0 last.1 c.if-before-after-gt-MOST_BESIDE_GAP.false
+    (ap (λ n. n + after.value) (moved_to_top before.value before.count (omega arith) c.in_ok-before.ensures.fits))

@@ -23,4 +23,4 @@ returns-clause-cut c =
     let rest = take_all (length text - (place + 1)) (drop (place + 1) text)
     (omega (arith, length-drop (place + 1) text)) in
     cut_at-some _ _ _ c.in_ok-place.ensures.0 c.in_ok-place.ensures.1
-    ∙ ap (λ behind. Some (take place text, behind)) (sym rest)
+    ∙ ap (λ after. Some (take place text, after)) (sym rest)

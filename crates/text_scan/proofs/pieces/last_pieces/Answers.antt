@@ -27,12 +27,12 @@ ended pieces last =
 groups_are_parts : (text : List ℕ) → eqb (length text) 0 ≡ false → groups_of text ≡ parts_of colon text
 groups_are_parts text some = cond-false _ _ _ some
 
--- the groups of a text whose last part begins behind a colon
+-- the groups of a text whose last part begins after a colon
 groups_split : (text : List ℕ) (last : ℕ) → eqb (length text) 0 ≡ false → 0 < last → last ≤ length text
     → get_or text (last - 1) 0 ≡ colon → ((k : ℕ) → last ≤ k → k < length text → get_or text k 0 ≢ colon)
     → groups_of text ≡ parts_of colon (take (last - 1) text) ++ drop last text ∷ []
-groups_split text last some behind within here lacks =
-    groups_are_parts text some ∙ parts_of_split colon last text behind within here lacks
+groups_split text last some after within here lacks =
+    groups_are_parts text some ∙ parts_of_split colon last text after within here lacks
 
 pub returns-then-last-eq0-clause-pieces : goal.returns-then-last-eq0-clause-pieces
 returns-then-last-eq0-clause-pieces c =
@@ -49,7 +49,7 @@ returns-in_err-pieces_of_groups-clause-pieces c =
     let last = c.last_part-last.result in
     let found = c.last_part-last.ensures in
     let some : eqb (length text) 0 ≡ false = sym c.is_empty.ensures ∙ c.if-is_empty.false in
-    let split = groups_split text last some (omega arith) found.within (found.behind (omega arith)) found.last in
+    let split = groups_split text last some (omega arith) found.within (found.after (omega arith)) found.last in
     let refused =
     refused_before_last (parts_of colon (take (last - 1) text)) (drop last text)
     (test_failed _ _ c.in_err-pieces_of_groups.ensures.pieces) in
@@ -61,7 +61,7 @@ returns-clause-pieces c =
     let last = c.last_part-last.result in
     let found = c.last_part-last.ensures in
     let some : eqb (length text) 0 ≡ false = sym c.is_empty.ensures ∙ c.if-is_empty.false in
-    let split = groups_split text last some (omega arith) found.within (found.behind (omega arith)) found.last in
+    let split = groups_split text last some (omega arith) found.within (found.after (omega arith)) found.last in
     let pieces = c.in_ok-pieces_of_groups.field-0 in
     let before = test_passed _ _ _ c.in_ok-pieces_of_groups.ensures.pieces in
     let front = parts_of colon (take (last - 1) text) in

@@ -18,9 +18,9 @@ pub loop-count-preserved : goal.loop-count-preserved
 loop-count-preserved c =
     let rest = c.loop-count.rest.now in
     let so_far = c.loop-count.invariant in
-    let behind = c.split_at.ensures.back in (
-      rw behind (All-drop (CanStep c.args.column.now) c.min.result rest so_far.0),
-      rw behind
+    let later = c.split_at.ensures.back in (
+      rw later (All-drop (CanStep c.args.column.now) c.min.result rest so_far.0),
+      rw later
           (more_marked c.args.column.now c.args.entries.now rest c.min.result c.loop-count.marks c.mark_cuts.new.marks
           so_far.1 (rw c.split_at.ensures.front at c.mark_cuts.ensures)),
       c.mark_cuts.array_long,

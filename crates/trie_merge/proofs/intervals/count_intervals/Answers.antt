@@ -11,9 +11,9 @@ loop-byte-preserved c =
     let marks = c.args.marks.now in
     let byte = c.loop-byte.byte in
     let here : byte - 1 + 1 ≡ byte = omega arith in
-    let behind : byte + 1 - 1 ≡ byte = omega arith in
+    let after : byte + 1 - 1 ≡ byte = omega arith in
     let more = rw here at (interval_more marks (byte - 1) (omega (arith, c.told-marks))) in (
-      rw (behind, more, c.from-further.ensures, c.loop-byte.invariant.0) refl,
+      rw (after, more, c.from-further.ensures, c.loop-byte.invariant.0) refl,
       rw c.from-further.ensures (omega (arith, c.loop-byte.invariant.1, at_most_one (get_or marks byte false))),
     )
 

@@ -6,9 +6,9 @@ use Rattle.acl_outside.proofs.read_buffer.ReadBuffer.give.Goals as goal
 drop-held : (start end count : ℕ) (bytes : List ℕ) → count ≤ end - start →
     take (end - (start + count)) (drop (start + count) bytes) ≡ drop count (take (end - start) (drop start bytes))
 drop-held start end count bytes in_held =
-    let behind = end - (start + count) in
-    let parts : count + behind ≡ end - start = omega arith in
-    ap (take behind) (sym (drop-drop count start bytes)) ∙ sym (drop-take count behind (drop start bytes)) ∙
+    let after = end - (start + count) in
+    let parts : count + after ≡ end - start = omega arith in
+    ap (take after) (sym (drop-drop count start bytes)) ∙ sym (drop-take count after (drop start bytes)) ∙
     ap (λ len. drop count (take len (drop start bytes))) parts
 
 pub returns-then-into-held-clause-left : goal.returns-then-into-held-clause-left
