@@ -11,7 +11,7 @@ use Rattle.pcap_reader.specs.declared.start.Start.{Start}
 use Rattle.pcap_reader.specs.Start.{start_of, start_in, file_header_len}
 use Rattle.pcap_reader.specs.declared.state.CaptureState.{CaptureState}
 use Rattle.pcap_reader.specs.State.{Answer, CaptureRecord, begun, state_after}
-use Rattle.pcap_reader.specs.Capture.{Next, End, Record, Fault, next_of, followed_by, records_from, capture_of, whole_records}
+use Rattle.pcap_reader.specs.Capture.{Record, next_of, followed_by, records_from, capture_of, whole_records}
 use Rattle.pcap_reader.specs.Reader.{HasNoRecord, IsNext, IsStart}
 use Rattle.pcap_reader.specs.Answers.{AreAnswersTo, AreAnswersOn, onto_given, records_given, have_ending, recorded_by}
 use Rattle.pcap_reader.proofs.NextLaws.{next_of-append, with_more, IsDecided}

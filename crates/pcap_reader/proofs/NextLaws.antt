@@ -5,14 +5,11 @@ use Rattle.std.proofs.lemmas.List.{take-append-le, drop-append-le, drop_at, take
 use Rattle.pcap_reader.specs.declared.fault.CaptureFault.TheVariants.{RecordCut, RecordTooLong, TooManyRecords}
 use Rattle.pcap_reader.specs.declared.start.Order.{Order}
 use Rattle.pcap_reader.specs.declared.start.Order.TheVariants.{Big, Little}
-use Rattle.pcap_reader.specs.Headers.{number_in, record_header_of}
+use Rattle.pcap_reader.specs.Headers.{number_in}
 use Rattle.pcap_reader.specs.declared.state.CaptureState.{CaptureState}
 use Rattle.pcap_reader.specs.State.{record_of}
+use Rattle.pcap_reader.specs.Reader.{captured_in}
 use Rattle.pcap_reader.specs.Capture.{Next, End, Record, Fault, max_records, max_captured, record_header_len, next_of}
-
--- the captured length of the next record
-abbrev pub captured_in : CaptureState → List ℕ → ℕ
-captured_in state left = (record_header_of state.start.order left).captured
 
 -- there is a byte, and room for a record more
 pub record IsOpen (state : CaptureState) (left : List ℕ) : Type 0 where

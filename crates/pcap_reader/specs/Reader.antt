@@ -1,5 +1,6 @@
 -- What the calls of a reader promise of the opened file.
-use Rattle.std.specs.Prelude.{◌≡◌, ℕ, List, [], ◌++◌, take, drop, Bool, true, false, Option, Some, None, Result, Ok, Err}
+use Rattle.std.specs.Prelude.{◌≡◌, ℕ, ◌<◌, ◌≤◌, List, [], ◌++◌, length, take, drop, Bool, true, false, Option, Some, None}
+use Rattle.std.specs.Prelude.{Result, Ok, Err}
 use Rattle.std.specs.Borrow.{Bor}
 use Rattle.acl_outside.specs.Fault.{Rose}
 use Rattle.acl_outside.specs.Told.{Steps}
@@ -13,7 +14,9 @@ use Rattle.pcap_reader.specs.declared.fault.CaptureFault.TheVariants.{HeaderCut,
 use Rattle.pcap_reader.specs.declared.start.Start.{Start}
 use Rattle.pcap_reader.specs.declared.state.CaptureState.{CaptureState}
 use Rattle.pcap_reader.specs.State.{Answer, begun, has_ended, record_of}
-use Rattle.pcap_reader.specs.Capture.{Next, End, Record, Fault, next_of}
+use Rattle.pcap_reader.specs.Headers.{record_header_of}
+use Rattle.pcap_reader.specs.Capture.{Next, End, Record, Fault, max_captured, max_records, next_of}
+use Rattle.pcap_reader.specs.Capture.{record_header_len}
 use Rattle.pcap_reader.specs.Fill.{KeepsReading, IsAtEnd}
 use Rattle.pcap_reader.specs.Start.{start_of, file_header_len}
 
@@ -97,6 +100,21 @@ abbrev pub answer_in : CaptureState → List ℕ → Result (Option ℕ) Capture
 answer_in state buffer (Ok None) = Ok None
 answer_in state buffer (Ok (Some len)) = Ok (Some (record_of state (take len buffer)))
 answer_in state buffer (Err fault) = Err fault
+
+-- how many captured bytes the header of a record says
+abbrev pub captured_in : CaptureState → List ℕ → ℕ
+captured_in state header = (record_header_of state.start.order header).captured
+
+-- The whole header of a record was read that a capture may have, and it says that so many bytes
+-- were captured.
+pub record HasHeader (state : CaptureState) (captured : ℕ) (old mid : DeskView) : Type 0 where
+  pub header : List ℕ
+  pub few : state.count < max_records
+  pub whole : length header ≡ record_header_len
+  pub says : captured ≡ captured_in state header
+  pub lawful : captured ≤ max_captured
+  pub reads : ReadsOn and_goes_on header old mid
+  pub keeps : KeepsReading old mid
 
 -- an answer to "what does the file header say"
 abbrev pub IsStart : List ℕ → List ℕ → Result Start CaptureFault → Type 0

@@ -1,8 +1,9 @@
 //! Reading the file header and the records from the opened file of a desk.
 
-ghost use Rattle.std.specs.Prelude.{◌≤◌, ℕ, List, length, IsTrue, IfOk, IfSome, IsNone};
+ghost use Rattle.std.specs.Prelude.{◌≡◌, ◌<◌, ◌≤◌, ℕ, List, length, IsTrue, IfOk, IfSome, IsNone};
+ghost use Rattle.acl_outside.specs.Desk.{DeskView};
 ghost use Rattle.pcap_reader.specs.Capture.{max_captured, max_records};
-ghost use Rattle.pcap_reader.specs.Reader.{ReadsNext, ReadsStart, answer_in};
+ghost use Rattle.pcap_reader.specs.Reader.{HasHeader, ReadsNext, ReadsStart, answer_in};
 ghost use Rattle.pcap_reader.specs.Start.{file_header_len};
 
 use crate::fault::CaptureFault;
@@ -61,8 +62,27 @@ pub fn read_record<D: Desk>(
     if captured > MAX_CAPTURED {
         return Err(CaptureFault::RecordTooLong(state.count + 1));
     }
-    match fill(desk, &mut buffer[..captured]) {
-        Ok(len) if len == captured => Ok(Some(captured)),
+    read_captured(desk, state, &mut buffer[..captured])
+}
+
+/// Fills `room` with the captured bytes of the next record, whose header was read and says that
+/// there are as many.
+#[inline]
+fn read_captured<D: Desk>(
+    desk: &mut D,
+    state: &CaptureState,
+    room: &mut [u8],
+) -> Result<Option<usize>, CaptureFault>
+    requires reading { IsTrue (D.view desk.old).reading }
+    requires number { state.now.count < max_records }
+
+    ensures within { IfOk result (λ len. IfSome len (λ n. n ≤ length room.old)) }
+    ensures record { (before : DeskView)
+        → HasHeader state.now (length room.old) before (D.view desk.old)
+        → ReadsNext state.now before (D.view desk.new) (answer_in state.now room.new result) }
+{
+    match fill(desk, room) {
+        Ok(len) if len == room.len() => Ok(Some(len)),
         Ok(_) => Err(CaptureFault::RecordCut(state.count + 1)),
         Err(Failed) => Err(CaptureFault::ReadFault),
     }

@@ -1,6 +1,5 @@
 use Rattle.std.proofs.Common.{◌≡◌, ℕ, ◌-◌, List, ◌++◌, length, take, drop, replicate, refl, Ok, sym, ap, ◌∙◌, arith}
 use Rattle.acl_outside.specs.declared.desk.Failed.{Failed}
-use Rattle.pcap_reader.specs.Start.{start_in}
 use Rattle.pcap_reader.specs.Fill.{Fills}
 use Rattle.pcap_reader.proofs.StartLaws.{ReadsStart-whole, ReadsStart-cut, ReadsStart-broken, length-rest, header-is}
 use Rattle.pcap_reader.proofs.record.read_file_header.Goals as goal
