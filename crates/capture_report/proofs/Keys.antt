@@ -129,7 +129,8 @@ module _ (family : Family) (table : TableView) (len : table.key_len ≡ key_len_
       go false own later = rw own later
 
   transitions_are : (packets : List FrameClass) → All IsPacket packets →
-      first_transitions table (keys_of family packets) (number_of family packets) ≡ transitions_of_family family table packets
+      first_transitions table (keys_of family packets) (number_of family packets)
+      ≡ transitions_of_family family table packets
   transitions_are [] all = refl
   transitions_are (p ∷ ps) all = go (is_of family p.class) refl (transitions_are ps (All-tail IsPacket p ps all))
     where

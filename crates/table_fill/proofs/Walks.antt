@@ -105,7 +105,8 @@ all_small key (p ∷ places) are = (small_anywhere key p are, all_small key plac
 
 pub from_root : (words matches key : List ℕ) (place : ℕ) (levels : List (List (List Run))) (places : List ℕ) →
     0 < length (get_or levels 0 []) → AreLevels (length matches) levels → AreBytes key →
-    HasPart 0 words place (words_of_levels place matches levels) → place + sum_by level_len levels ≤ indexes → length places
+    HasPart 0 words place (words_of_levels place matches levels) → place + sum_by level_len levels ≤ indexes
+    → length places
     ≡ length levels →
     fold (moved words) (node_word place (get_or (get_or levels 0 []) 0 [])) (map (λ p. get_or key p 0) places)
     ≡ succ_word matches (followed levels places key 0)

@@ -11,7 +11,8 @@ returns-in-Ok-clause-record g c before h =
     let new = g.D.Desk.view c.fill.new.desk in
     let len = c.in-Ok.len in
     let captured = take len c.fill.new.into in
-    let whole : captured ≡ c.fill.new.into = take_all len c.fill.new.into (omega (arith, c.fill.auto.into, c.if-len-room.true)) in
+    let whole : captured ≡ c.fill.new.into =
+    take_all len c.fill.new.into (omega (arith, c.fill.auto.into, c.if-len-room.true)) in
     let as_long : length c.args.room.now ≡ length captured = sym c.fill.auto.into ∙ sym (ap length whole) in
     ReadsNext-record c.args.state.now captured before mid new
     (subst (λ n. HasHeader c.args.state.now n before mid) as_long h)

@@ -94,7 +94,8 @@ returns-clause-steps g c =
     let serves : Serves (set_drawn numbers) (table_drawn numbers) =
     subst (λ (s : RuleSetView). Serves s (built_of s bench_budget)) rules c.in_ok-context.ensures.serves in
     let taken : c.table_tally.new.steps ≡ old + batch_transitions (table_drawn numbers) c.deref.result.now =
-    subst (λ (o : Option TableView). IfSome o (λ t. c.table_tally.new.steps ≡ old + batch_transitions t c.deref.result.now))
+    subst (λ (o : Option TableView). IfSome o
+    (λ t. c.table_tally.new.steps ≡ old + batch_transitions t c.deref.result.now))
     table c.in_ok-table.ensures.steps in
     taken ∙ ap (λ b. old + batch_transitions (table_drawn numbers) b) bytes
     ∙ ap (λ n. old + n) (transitions-drawn numbers serves)
