@@ -4,10 +4,11 @@ use Rattle.std.proofs.lemmas.List.{length-map}
 use Rattle.std.proofs.lemmas.List.Elements.{All-map}
 use Rattle.rule_set.specs.Rule.{RuleSetView}
 use Rattle.rule_set.specs.Groups.{IsPartition}
-use Rattle.trie_merge.specs.Levels.{LevelsView, levels_of, max_cap}
+use Rattle.table_sizes.specs.Sizes.{max_words, row_len}
+use Rattle.trie_merge.specs.Levels.{LevelsView, levels_of}
 use Rattle.rule_split.specs.Split.{groups_of, total_of, plan_of, PlanView}
 use Rattle.rule_split.proofs.Offered.{groups_hold, total_of_words}
-use Rattle.flat_table.specs.Sound.{most_tries, most_words, row_len}
+use Rattle.flat_table.specs.Sound.{most_tries}
 use Rattle.table_fill.specs.Filled.{filled}
 use Rattle.acl_context.specs.Context.{built_of}
 
@@ -66,11 +67,11 @@ pub record IsFillable (set : RuleSetView) (levels : List LevelsView) : Type 0 wh
   pub few : length levels ≤ most_tries
   pub groups : IsPartition (length set.rules) (map (λ (trie : LevelsView). trie.group) levels)
   pub each : All (λ (trie : LevelsView). trie ≡ levels_of set trie.group) levels
-  pub size : row_len + sum_by (λ (trie : LevelsView). trie.words) levels ≤ most_words
+  pub size : row_len + sum_by (λ (trie : LevelsView). trie.words) levels ≤ max_words
 
 -- A plan within a budget can be filled.
 pub plans_are_fillable : (set : RuleSetView) (budget : ℕ) →
-    budget ≤ max_cap → total_of set budget ≤ budget → IsFillable set (levels_in set budget)
+    budget ≤ max_words → total_of set budget ≤ budget → IsFillable set (levels_in set budget)
 plans_are_fillable set budget capped fits = record {
   few = omega (arith, length-map (groups_of set budget) (levels_of set), groups_hold.few set budget);
   groups = rw (groups_kept set (groups_of set budget)) (groups_hold.once set budget);

@@ -11,7 +11,7 @@ use Rattle.field_defs.specs.Layout.{key_len_of}
 use Rattle.rule_set.specs.Rule.{RuleSetView}
 use Rattle.rule_set.specs.Winner.{verdict}
 use Rattle.trie_merge.specs.Laws.{AreBytes}
-use Rattle.flat_table.specs.Sound.{row_len}
+use Rattle.table_sizes.specs.Sizes.{row_len}
 use Rattle.flat_table.specs.Table.{TableView}
 use Rattle.flat_table.specs.Walk.{table_verdict}
 use Rattle.flat_table.specs.Batch.{keys_of_len, key_at, key_verdicts, batch_verdicts}

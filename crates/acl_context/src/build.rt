@@ -1,7 +1,7 @@
 //! The table of a rule set under a budget of words.
 
 ghost use Rattle.std.specs.Prelude.{◌≡◌, ℕ, ◌<◌, ◌≤◌, Err, IfOk, OnOk};
-ghost use Rattle.flat_table.specs.Sound.{most_words};
+ghost use Rattle.table_sizes.specs.Sizes.{max_words};
 ghost use Rattle.rule_split.specs.Split.{total_of};
 ghost use Rattle.table_fill.specs.Serves.{Serves};
 ghost use Rattle.acl_context.specs.Context.{built_of};
@@ -29,10 +29,10 @@ pub enum BuildFault {
     OutOfMemory,
 }
 
-/// The table of the rules. The budget is from 1 to [`flat_table::MAX_WORDS`] words.
+/// The table of the rules. The budget is from 1 to [`table_sizes::MAX_WORDS`] words.
 pub(crate) fn make_table(alloc: Global, rules: &RuleSet, budget: u64) -> Result<Table, BuildFault>
     requires some { 0 < budget }
-    requires budget { budget ≤ most_words }
+    requires budget { budget ≤ max_words }
     ensures table { IfOk result (λ table. table ≡ built_of rules.now budget) }
     ensures serves { OnOk result (Serves rules.now (built_of rules.now budget)) }
     ensures fits { OnOk result (total_of rules.now budget ≤ budget) }

@@ -5,7 +5,7 @@ ghost use Rattle.std.specs.Prelude.{Some, None, Ok, Err, IfSome, IsErr, OnOk, On
 ghost use Rattle.field_defs.specs.Layout.{key_len_of, max_fields};
 ghost use Rattle.rule_set.specs.Rule.{RuleSetView};
 ghost use Rattle.rule_set.specs.declared.set.TheConstants.{MAX_RULES};
-ghost use Rattle.flat_table.specs.Sound.{most_words};
+ghost use Rattle.table_sizes.specs.Sizes.{max_words};
 ghost use Rattle.rule_split.specs.Split.{total_of};
 ghost use Rattle.flat_table.specs.Batch.{KeysFit, batch_verdicts, batch_transitions};
 ghost use Rattle.table_fill.specs.Serves.{Serves};
@@ -109,13 +109,13 @@ impl AclContext {
 
     /// Makes the table of the rules that are held, and puts it in the place of the one before.
     ///
-    /// The budget is from 1 to [`flat_table::MAX_WORDS`] words. `TooLarge` comes exactly where
+    /// The budget is from 1 to [`table_sizes::MAX_WORDS`] words. `TooLarge` comes exactly where
     /// [`rule_split::plan`] ends above the budget, unless memory ran out before. After a refusal
     /// the table of the build before is still there. It takes memory for the merged states, which
     /// it gives back, and for the table.
     pub fn build(&mut self, budget: u64) -> Result<(), BuildFault>
         requires some { 0 < budget }
-        requires budget { budget ≤ most_words }
+        requires budget { budget ≤ max_words }
         ensures table { OnOk result
             (self.new ≡ record self.old { table = Some (built_of self.old.set budget) }) }
         // The new table answers for each key and category as the rules that are held.

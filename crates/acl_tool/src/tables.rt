@@ -3,7 +3,7 @@
 ghost use Rattle.std.specs.Prelude.{◌≡◌, ◌<◌, ◌≤◌, ◌⊎◌, Ok, None, Some, IsSome, IfOk, IfErr, OnOk};
 ghost use Rattle.std.specs.Prelude.{OnErr};
 ghost use Rattle.field_defs.specs.Layout.{ip4_fields, ip6_fields};
-ghost use Rattle.trie_merge.specs.Levels.{max_cap};
+ghost use Rattle.table_sizes.specs.Sizes.{max_words};
 ghost use Rattle.table_fill.specs.Serves.{Serves};
 ghost use Rattle.acl_context.specs.Context.{built_of};
 ghost use Rattle.capture_report.specs.Classifier.{lists_of};
@@ -33,7 +33,7 @@ pub fn build_tables(alloc: Global, rules: RuleFile, budget: u64) -> Result<Conte
     requires ip4 { rules.ip4.layout ≡ ip4_fields }
     requires ip6 { rules.ip6.layout ≡ ip6_fields }
     requires some { 0 < budget }
-    requires budget { budget ≤ max_cap }
+    requires budget { budget ≤ max_words }
     ensures built { IfOk result
         (λ contexts. IsBuilt budget (lists_of rules) contexts.ip4.table contexts.ip6.table) }
     ensures refused { IfErr result (λ status. Refuses budget (lists_of rules) status) }
@@ -57,7 +57,7 @@ fn hold(alloc: Global, rules: RuleSet) -> AclContext
 /// Makes the table of the rules of a family.
 fn build(context: &mut AclContext, family: Family, budget: u64) -> Result<(), Status>
     requires some { 0 < budget }
-    requires budget { budget ≤ max_cap }
+    requires budget { budget ≤ max_words }
     ensures ok { OnOk result (BuildsTable context.old.set budget context.new.table) }
     ensures err { IfErr result (λ status. (status ≡ Status.OutOfMemory)
         ⊎ IsTooLarge family context.old.set budget status) }

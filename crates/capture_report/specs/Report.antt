@@ -1,11 +1,10 @@
 -- What is printed for the records of a capture.
-use Rattle.std.specs.Prelude.{ℕ, ◌+◌, ◌*◌, ◌==◌, List, [], ◌∷◌, ◌++◌, length, map, count_by, sum_by}
+use Rattle.std.specs.Prelude.{ℕ, ◌+◌, ◌==◌, List, [], ◌∷◌, ◌++◌, length, map, count_by, sum_by}
 use Rattle.std.specs.Prelude.{Bool, true, false, Option, Some, None, if◌then◌else◌}
 use Rattle.std.specs.List.{range_with_len}
 use Rattle.field_defs.specs.declared.field.Family.{Family}
 use Rattle.field_defs.specs.declared.field.Family.TheVariants as family
-use Rattle.flat_table.specs.Sound.{row_len}
-use Rattle.flat_table.specs.Table.{TableView}
+use Rattle.flat_table.specs.Table.{TableView, words_of}
 use Rattle.flat_table.specs.Walk.{key_transitions}
 use Rattle.header_extract.specs.declared.class.Class.{Class}
 use Rattle.header_extract.specs.declared.class.Class.TheVariants.{Ip4, Ip6, Other, Short}
@@ -82,10 +81,6 @@ transitions_of_packets tables packets =
 -- how many transitions the packets of records take
 abbrev pub transitions_of_records : Tables → List CaptureRecord → ℕ
 transitions_of_records tables records = transitions_of_packets tables (map packet_of records)
-
--- how many words a table has, those of its rows counted
-abbrev pub words_of : TableView → ℕ
-words_of table = length table.words + row_len * length table.rows
 
 -- the line of a table
 abbrev pub line_of_table : Family → TableView → List ℕ

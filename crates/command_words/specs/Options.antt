@@ -4,7 +4,7 @@ use Rattle.std.specs.Prelude.{nat_le, Option, Some, None, Result, Ok, Err, codes
 use Rattle.std.specs.Option.{unwrap_or}
 use Rattle.std.specs.Str.{bytes_eq}
 use Rattle.rule_set.specs.Categories.{is_count_of_categories}
-use Rattle.flat_table.specs.Sound.{most_words}
+use Rattle.table_sizes.specs.Sizes.{max_words}
 use Rattle.text_scan.specs.Digits.{are_digits, place_value}
 use Rattle.command_words.specs.declared.allowed.Allowed.{Allowed}
 use Rattle.command_words.specs.declared.fault.UsageKind.{UsageKind}
@@ -67,7 +67,7 @@ categories_in text = lawful is_count_of_categories (number_in text)
 
 -- a lawful budget: at most as many words as a table may have
 abbrev pub is_budget : ℕ → Bool
-is_budget words = nat_le 1 words && nat_le words most_words
+is_budget words = nat_le 1 words && nat_le words max_words
 
 -- the budget that a text is: a number of words
 abbrev pub budget_in : List ℕ → Option ℕ

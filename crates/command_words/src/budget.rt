@@ -1,10 +1,10 @@
 //! How many words a table may have.
 
 ghost use Rattle.std.specs.Prelude.{◌≡◌, ◌<◌, ◌≤◌, ◌↔◌, IsTrue, IsSome, IfSome};
-ghost use Rattle.flat_table.specs.Sound.{most_words};
+ghost use Rattle.table_sizes.specs.Sizes.{max_words};
 ghost use Rattle.command_words.specs.Options.{is_budget};
 
-use flat_table::MAX_WORDS;
+use table_sizes::MAX_WORDS;
 
 /// How many words of 64 bits the table of each family may have.
 #[derive(Clone, Copy, Debug)]
@@ -12,7 +12,7 @@ pub struct Budget {
     words: u64,
     ghost some: { 0 < words },
     /// A table never has more.
-    ghost bound: { words ≤ most_words },
+    ghost bound: { words ≤ max_words },
 }
 
 impl Budget {
@@ -32,7 +32,7 @@ impl Budget {
     pub fn words(&self) -> u64
         ensures value { result ≡ self.now.words }
         ensures some { 0 < result }
-        ensures bound { result ≤ most_words }
+        ensures bound { result ≤ max_words }
     {
         self.words
     }

@@ -4,7 +4,8 @@ use Rattle.std.specs.List.{list_all}
 use Rattle.std.proofs.lemmas.Bool.Decides.{nat_tests}
 use Rattle.flat_table.specs.Groups.{longest_key, is_key_len, is_kept_word}
 use Rattle.flat_table.specs.Table.{TableView, depths_of}
-use Rattle.flat_table.specs.Sound.{most_tries, most_words, row_len, begins_with_zeros, is_shaped, first_unsound_root}
+use Rattle.table_sizes.specs.Sizes.{max_words, row_len}
+use Rattle.flat_table.specs.Sound.{most_tries, begins_with_zeros, is_shaped, first_unsound_root}
 use Rattle.flat_table.specs.Sound.{first_unsound_word, sound_fault}
 use Rattle.std.specs.Option.{option_or}
 use Rattle.std.specs.Prelude.{Option, Some, None, option_map, if◌then◌else◌, refl}
@@ -20,7 +21,7 @@ pub record IsShaped (table : TableView) : Type 0 where
   pub levels : length table.level_lens ≡ sum (depths_of table)
   pub words : length table.words ≡ sum table.level_lens
   pub zeros : begins_with_zeros table.rows ≡ true
-  pub small : length table.words + row_len * length table.rows ≤ most_words
+  pub small : length table.words + row_len * length table.rows ≤ max_words
 
 pub shaped : (table : TableView) → IsTrue (is_shaped table) → IsShaped table
 shaped table h = record {
@@ -55,3 +56,8 @@ unfolding sound_fault
 sound_parts table e =
     let p = parts_of_none (is_shaped table) (first_unsound_root table) (first_unsound_word table) e in
     record { shape = shaped table p.0; roots = p.1; words = p.2 }
+
+pub shape_is : (table : TableView) → sound_fault table ≡ None → is_shaped table ≡ true
+unfolding sound_fault
+shape_is table e =
+    (parts_of_none (is_shaped table) (first_unsound_root table) (first_unsound_word table) e).0

@@ -6,22 +6,15 @@ use Rattle.std.specs.List.{list_all, position_from}
 use Rattle.std.specs.Option.{option_or, option_map_or}
 use Rattle.flat_table.specs.Word.{index_of, is_match, is_node, is_unbounded, node_len}
 use Rattle.flat_table.specs.Groups.{is_key_len, is_kept_word}
-use Rattle.flat_table.specs.Table.{TableView, depths_of, trie_levels, no_level}
+use Rattle.flat_table.specs.Table.{TableView, words_of, depths_of, trie_levels, no_level}
 use Rattle.flat_table.specs.declared.level.Level.{Level}
 use Rattle.flat_table.specs.declared.sound.SoundFault.{SoundFault}
 use Rattle.flat_table.specs.declared.sound.SoundFault.TheVariants.{Shape, Root, Word}
+use Rattle.table_sizes.specs.Sizes.{max_words}
 
 -- how many tries a table has at most
 abbrev pub most_tries : ℕ
 most_tries = 8
-
--- how many categories a row has
-abbrev pub row_len : ℕ
-row_len = 16
-
--- how many words a table has at most, those of the rows counted
-abbrev pub most_words : ℕ
-most_words = 67108864
 
 -- row 0 is there, and has a 0 for each category
 abbrev pub begins_with_zeros : List (List ℕ) → Bool
@@ -38,7 +31,7 @@ is_shaped table =
     && length table.level_lens == sum (depths_of table)
     && length table.words == sum table.level_lens
     && begins_with_zeros table.rows
-    && nat_le (length table.words + row_len * length table.rows) most_words
+    && nat_le (words_of table) max_words
 
 -- the word leads to a node that lies whole in the level
 abbrev pub leads_into : Level → ℕ → Bool

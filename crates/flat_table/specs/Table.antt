@@ -1,5 +1,6 @@
 -- Tables as contracts see them: numbers and lists of numbers.
-use Rattle.std.specs.Prelude.{ℕ, ◌+◌, List, [], ◌∷◌, map, take, drop, slice_index_or}
+use Rattle.std.specs.Prelude.{ℕ, ◌+◌, ◌*◌, List, length, [], ◌∷◌, map, take, drop, slice_index_or}
+use Rattle.table_sizes.specs.Sizes.{row_len}
 use Rattle.flat_table.specs.Groups.{kept_places, depth_of}
 use Rattle.flat_table.specs.declared.level.Level.{Level}
 use Rattle.flat_table.specs.declared.parts.Parts.{Parts}
@@ -13,6 +14,10 @@ pub record TableView : Type 0 where
   pub level_lens : List ℕ  -- for each trie and each of its depths how many words that level has
   pub words : List ℕ  -- the words, trie by trie and level by level
   pub rows : List (List ℕ)  -- for each row a word for each of sixteen categories
+
+-- how many words the table has, those of its rows counted
+abbrev pub words_of : TableView → ℕ
+words_of table = length table.words + row_len * length table.rows
 
 -- the levels of so many words each, one after the other from a place on
 abbrev pub levels_from : ℕ → List ℕ → List Level

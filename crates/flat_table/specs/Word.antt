@@ -7,6 +7,7 @@
 use Rattle.std.specs.Prelude.{ℕ, ◌+◌, ◌*◌, ◌/◌, ◌%◌, ◌^◌, ◌==◌, nat_lt, List, map, Bool, ◌&&◌, ◌||◌}
 use Rattle.std.specs.Prelude.{if◌then◌else◌, slice_index, count_by}
 use Rattle.std.specs.List.{range_with_len}
+use Rattle.table_sizes.specs.Sizes.{few_runs, full_len, single_len}
 
 -- how many numbers there are for an index
 abbrev pub indexes : ℕ
@@ -35,18 +36,6 @@ quad = 3
 -- that of the end of a walk
 abbrev pub matching : ℕ
 matching = 4
-
--- how many words a full node has: one for each byte value
-abbrev pub full_len : ℕ
-full_len = 256
-
--- how many a quad-range node has: one for each run
-abbrev pub quad_len : ℕ
-quad_len = 5
-
--- how many a single node has
-abbrev pub single_len : ℕ
-single_len = 1
 
 -- the index of a word
 abbrev pub index_of : ℕ → ℕ
@@ -78,7 +67,7 @@ is_node word =
 abbrev pub node_len : ℕ → ℕ
 node_len word =
     if kind_of word == full then full_len
-    else (if kind_of word == quad then quad_len else single_len)
+    else (if kind_of word == quad then few_runs else single_len)
 
 -- which of the node's words is taken by the byte: its own of 256, that of its run, or the only one
 abbrev pub offset_of : ℕ → ℕ → ℕ

@@ -37,7 +37,7 @@ mod word;
 pub use groups::MAX_KEY_LEN;
 pub use level::Level;
 pub use parts::Parts;
-pub use sound::{MAX_TRIES, MAX_WORDS, ROW_LEN, SoundFault, check_sound};
+pub use sound::{MAX_TRIES, SoundFault, check_sound};
 pub use steps::Steps;
 pub use table::{NotSound, Table};
 pub use word::{

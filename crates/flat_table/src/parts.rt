@@ -1,5 +1,7 @@
 //! What a table is made of.
 
+use table_sizes::ROW_LEN;
+
 /// The numbers and lists of which a table is made. Contracts see each vector as its list.
 #[derive(Debug, Drop)]
 pub struct Parts {
@@ -17,5 +19,5 @@ pub struct Parts {
     pub words: Vec<u64>,
     /// For each row a word for each category: 0 where no rule wins, or else the winner's rank in
     /// its high half and its userdata in its low half. Row 0 has sixteen zeros.
-    pub rows: Vec<[u64; 16]>,
+    pub rows: Vec<[u64; ROW_LEN]>,
 }

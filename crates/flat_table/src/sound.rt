@@ -11,7 +11,8 @@ ghost use Rattle.std.specs.List.{list_all, position_from};
 ghost use Rattle.std.specs.Result.{result_err};
 ghost use Rattle.flat_table.specs.Groups.{longest_key, is_key_len, is_kept_word, depth_of};
 ghost use Rattle.flat_table.specs.Table.{view_of, levels_from};
-ghost use Rattle.flat_table.specs.Sound.{most_tries, most_words, row_len, begins_with_zeros};
+ghost use Rattle.table_sizes.specs.Sizes.{max_words, row_len};
+ghost use Rattle.flat_table.specs.Sound.{most_tries, begins_with_zeros};
 ghost use Rattle.flat_table.specs.Sound.{is_shaped, is_sound_word, unsound_word};
 ghost use Rattle.flat_table.specs.Sound.{first_unsound_root, first_unsound_word, sound_fault};
 
@@ -19,16 +20,11 @@ use crate::groups::{depth_of, is_kept_word, is_key_len};
 use crate::level::Level;
 use crate::parts::Parts;
 use crate::word::{index_of, is_match, is_unbounded};
+use table_sizes::{MAX_WORDS, ROW_LEN};
 use thiserror::Error;
 
 /// The most tries that a table has.
 pub const MAX_TRIES: usize = 8;
-
-/// The most words that a table has, sixteen for each row counted.
-pub const MAX_WORDS: usize = 67_108_864;
-
-/// How many words a row has: one for each category.
-pub const ROW_LEN: usize = 16;
 
 /// Why parts make no table.
 #[derive(Clone, Copy, Debug, PartialEq, Eq, Error)]
@@ -146,7 +142,7 @@ fn unsound_in_level(rows: usize, next: Level, from: usize, words: &[u64]) -> Opt
 /// on.
 fn unsound_word(rows: usize, words: &[u64], from: usize, lens: &[u32]) -> Option<usize>
     requires words { from + sum lens.now ≤ length words.now }
-    requires few { length words.now ≤ most_words }
+    requires few { length words.now ≤ max_words }
     ensures place { result ≡ unsound_word rows words.now (levels_from from lens.now) }
     ensures bound { IfSome result (λ place. place < length words.now) }
 {
@@ -187,7 +183,7 @@ fn unsound_root(parts: &Parts) -> Option<usize>
 fn first_unsound_word(parts: &Parts) -> Option<usize>
     requires { IsTrue (is_shaped (view_of parts.now)) }
     ensures place { result ≡ first_unsound_word (view_of parts.now) }
-    ensures bound { IfSome result (λ place. place < most_words) }
+    ensures bound { IfSome result (λ place. place < max_words) }
 {
     let mut first = 0;
     let mut from = 0;
@@ -220,7 +216,7 @@ fn is_shaped(parts: &Parts) -> bool
 
 /// Whether so many words and rows are few enough for a table.
 fn is_small(words: usize, rows: usize) -> bool
-    ensures { result ≡ nat_le (words + row_len * rows) most_words }
+    ensures { result ≡ nat_le (words + row_len * rows) max_words }
 {
     rows <= MAX_WORDS / ROW_LEN && words <= MAX_WORDS - ROW_LEN * rows
 }

@@ -5,15 +5,16 @@ ghost use Rattle.std.specs.Prelude.{slice_index_or, None, IfOk, IfErr, Some, map
 ghost use Rattle.std.specs.Prelude.{option_map};
 ghost use Rattle.std.specs.Result.{result_err};
 ghost use Rattle.flat_table.specs.Groups.{longest_key, kept_places};
-ghost use Rattle.flat_table.specs.Table.{view_of, depths_of, places_of, level_of};
-ghost use Rattle.flat_table.specs.Sound.{most_tries, row_len, leads_into, sound_fault};
+ghost use Rattle.flat_table.specs.Table.{view_of, words_of, depths_of, places_of, level_of};
+ghost use Rattle.flat_table.specs.Sound.{most_tries, leads_into, sound_fault};
 ghost use Rattle.flat_table.specs.Walk.{root_of};
 
 use crate::groups::{Places, kept_places};
 use crate::parts::Parts;
-use crate::sound::{MAX_TRIES, ROW_LEN, SoundFault, check_sound};
+use crate::sound::{MAX_TRIES, SoundFault, check_sound};
 use arrayvec::ArrayVec;
 use std::marker::Model;
+use table_sizes::ROW_LEN;
 
 /// Parts that make no table, and why.
 #[derive(Debug, Drop)]
@@ -124,7 +125,7 @@ impl Table {
 
     /// How many words the table has, sixteen for each row counted, row 0 too.
     pub fn total_words(&self) -> u64
-        ensures { result ≡ length self.now.words + row_len * length self.now.rows }
+        ensures { result ≡ words_of self.now }
     {
         (self.parts.words.len() + ROW_LEN * self.parts.rows.len()) as u64
     }

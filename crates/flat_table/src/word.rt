@@ -14,9 +14,12 @@
 //! word for each byte value.
 
 ghost use Rattle.std.specs.Prelude.{◌≡◌, ◌+◌, ◌*◌, ◌/◌, ◌%◌, ◌^◌, ◌<◌, ◌≤◌, nat_lt, count_by};
-ghost use Rattle.flat_table.specs.Word.{indexes, full_len, index_of, kind_of, boundaries_of};
+ghost use Rattle.table_sizes.specs.Sizes.{full_len};
+ghost use Rattle.flat_table.specs.Word.{indexes, index_of, kind_of, boundaries_of};
 ghost use Rattle.flat_table.specs.Word.{is_match, is_node, is_unbounded, node_len, offset_of};
 ghost use Rattle.flat_table.specs.Word.{next_place};
+
+use table_sizes::{FEW_RUNS, FULL_LEN};
 
 /// How many bits of a word are the index.
 const INDEX_BITS: u32 = 29;
@@ -88,8 +91,8 @@ pub(crate) fn node_len(word: u64) -> usize
     ensures bound { result ≤ full_len }
 {
     match kind_of(word) {
-        FULL => 256,
-        QUAD => 5,
+        FULL => FULL_LEN,
+        QUAD => FEW_RUNS,
         _ => 1,
     }
 }

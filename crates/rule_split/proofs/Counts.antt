@@ -10,7 +10,8 @@ use Rattle.std.proofs.lemmas.List.Edits.{insert-append_right}
 use Rattle.std.proofs.lemmas.List.Sums.{sum_by-cons}
 use Rattle.std.proofs.lemmas.List.Elements.{All-head, All-tail, filter_map-append}
 use Rattle.rule_set.specs.Rule.{RuleSetView}
-use Rattle.trie_merge.specs.Levels.{LevelsView, row_words}
+use Rattle.table_sizes.specs.Sizes.{row_len}
+use Rattle.trie_merge.specs.Levels.{LevelsView}
 use Rattle.rule_split.specs.declared.counted.Counted.{Counted}
 use Rattle.rule_split.specs.declared.counted.Counted.TheVariants.{Fits, TooLarge}
 use Rattle.rule_split.specs.Counted.{group_in, levels_in, words_counted, words_to_split, most_counted, is_most}
@@ -85,12 +86,12 @@ module _ (set : RuleSetView) (budget : ℕ) where
       (Some (first_is (most_words (words_of_group set) budget (map group_in groups)) groups right i)) None)
 
   pub total_is : (groups : List Counted) → All Right groups →
-      row_words + sum_by (words_counted budget) groups ≡ total (words_of_group set) budget (map group_in groups)
-  total_is groups right = ap (λ words. row_words + words) (sum_is groups right)
+      row_len + sum_by (words_counted budget) groups ≡ total (words_of_group set) budget (map group_in groups)
+  total_is groups right = ap (λ words. row_len + words) (sum_is groups right)
 
   -- a turn where the total is within the budget
   pub turn_fits : (groups : List Counted) (words : ℕ) → All Right groups →
-      words ≡ row_words + sum_by (words_counted budget) groups → words ≤ budget →
+      words ≡ row_len + sum_by (words_counted budget) groups → words ≤ budget →
       map group_in groups ≡ turn (words_of_group set) set budget (map group_in groups)
   unfolding turn
   turn_fits groups words right is within =
@@ -99,7 +100,7 @@ module _ (set : RuleSetView) (budget : ℕ) where
 
   -- a turn where it is above
   pub turn_over : (groups : List Counted) (words : ℕ) (found : Option ℕ) → All Right groups →
-      words ≡ row_words + sum_by (words_counted budget) groups → budget < words →
+      words ≡ row_len + sum_by (words_counted budget) groups → budget < words →
       found ≡ position (is_most budget (most_counted budget groups)) groups →
       turn (words_of_group set) set budget (map group_in groups)
       ≡ option_map_or (split_at set (map group_in groups)) found (map group_in groups)

@@ -6,7 +6,8 @@ use Rattle.std.proofs.lemmas.List.Sums.{sum_by-cons}
 use Rattle.std.proofs.lemmas.List.Elements.{All-head, All-tail}
 use Rattle.rule_set.specs.Rule.{RuleSetView}
 use Rattle.rule_set.specs.Groups.{IsPartition}
-use Rattle.trie_merge.specs.Levels.{levels_of, row_words}
+use Rattle.table_sizes.specs.Sizes.{row_len}
+use Rattle.trie_merge.specs.Levels.{levels_of}
 use Rattle.rule_split.specs.declared.counted.Counted.{Counted}
 use Rattle.rule_split.specs.declared.counted.Counted.TheVariants.{Fits, TooLarge}
 use Rattle.rule_split.specs.Counted.{group_in, levels_in, words_counted, IsCounted}
@@ -59,7 +60,7 @@ module _ (set : RuleSetView) (budget : ℕ) where
 
   -- their total
   pub total_of_last : (groups : List Counted) → map group_in groups ≡ groups_of set budget →
-      All (IsCounted set budget) groups → row_words + sum_by (words_counted budget) groups ≡ total_of set budget
+      All (IsCounted set budget) groups → row_len + sum_by (words_counted budget) groups ≡ total_of set budget
   unfolding total_of
   total_of_last groups is right = total_is set budget groups right ∙ ap (total (words_of_group set) budget) is
 

@@ -7,7 +7,8 @@ use Rattle.rule_set.specs.Among.{winner_among}
 use Rattle.rule_set.specs.Winner.{winner}
 use Rattle.rule_set.specs.Groups.{IsPartition, rank_or_none, greatest}
 use Rattle.rule_set.specs.GroupLaws.{winners_ranks}
-use Rattle.trie_merge.specs.Levels.{IsGroup, LevelsView, row_words}
+use Rattle.table_sizes.specs.Sizes.{row_len}
+use Rattle.trie_merge.specs.Levels.{IsGroup, LevelsView}
 use Rattle.rule_split.specs.Split.{groups_of, total_of, plan_of, max_groups}
 
 -- The groups of a set together hold each rule once, each of them is one of the set, and there are
@@ -23,7 +24,7 @@ abbrev pub TheTotalIsOfAllWords : Type 0
 TheTotalIsOfAllWords =
     (set : RuleSetView) (budget : ℕ) → total_of set budget ≤ budget →
     total_of set budget
-    ≡ row_words + sum_by (λ (levels : LevelsView). levels.words) (plan_of set budget).levels
+    ≡ row_len + sum_by (λ (levels : LevelsView). levels.words) (plan_of set budget).levels
 
 -- The winner of all rules is the group's winner of greatest rank.
 pub record TheWinnerHasTheGreatestRank : Type 0 where

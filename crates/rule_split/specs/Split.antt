@@ -8,7 +8,8 @@ use Rattle.std.specs.Option.{option_map_or}
 use Rattle.std.proofs.Common.{zero, suc}
 use Rattle.rule_set.specs.Rule.{RuleSetView}
 use Rattle.rule_set.specs.Groups.{greatest}
-use Rattle.trie_merge.specs.Levels.{LevelsView, levels_of, row_words}
+use Rattle.table_sizes.specs.Sizes.{row_len}
+use Rattle.trie_merge.specs.Levels.{LevelsView, levels_of}
 use Rattle.rule_split.specs.Divide.{divided}
 
 -- how many groups there are at most, as DPDK's `lib/acl`, `acl.h`, has at most 8 tries
@@ -26,7 +27,7 @@ capped words budget group = min (words group) (budget + 1)
 
 -- the words of a table: the row for keys that no rule matches, and the words of each group
 abbrev pub total : (List ℕ → ℕ) → ℕ → List (List ℕ) → ℕ
-total words budget groups = row_words + sum_by (capped words budget) groups
+total words budget groups = row_len + sum_by (capped words budget) groups
 
 -- the most words of a group that can be split
 abbrev pub most_words : (List ℕ → ℕ) → ℕ → List (List ℕ) → ℕ

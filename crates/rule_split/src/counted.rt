@@ -15,7 +15,8 @@ pub(crate) enum Counted {
 
 impl Counted {
     ghost use Rattle.std.specs.Prelude.{◌≡◌, ◌≤◌, IfOk};
-    ghost use Rattle.trie_merge.specs.Levels.{IsGroup, max_cap};
+    ghost use Rattle.table_sizes.specs.Sizes.{max_words};
+    ghost use Rattle.trie_merge.specs.Levels.{IsGroup};
     ghost use Rattle.rule_split.specs.Counted.{group_in, words_counted, words_to_split};
     ghost use Rattle.rule_split.specs.Counted.{is_most, IsCounted};
     ghost use Rattle.rule_split.specs.Split.{can_split};
@@ -28,7 +29,7 @@ impl Counted {
         budget: u64,
     ) -> Result<Self, AllocError>
         requires group { IsGroup rules.now group.items }
-        requires budget { budget ≤ max_cap }
+        requires budget { budget ≤ max_words }
         ensures group { IfOk result (λ counted. group_in counted ≡ group.items) }
         ensures counted { IfOk result (λ counted. IsCounted rules.now budget counted) }
     {
@@ -51,7 +52,7 @@ impl Counted {
 
     /// Its words. More than the budget count as one word more than it.
     pub(crate) fn words(&self, budget: u64) -> u64
-        requires { budget ≤ max_cap }
+        requires { budget ≤ max_words }
         ensures { result ≡ words_counted budget self.now }
     {
         match self {
@@ -69,7 +70,7 @@ impl Counted {
 
     /// Its words where it can be split, and else 0.
     pub(crate) fn words_to_split(&self, budget: u64) -> u64
-        requires { budget ≤ max_cap }
+        requires { budget ≤ max_words }
         ensures { result ≡ words_to_split budget self.now }
     {
         if self.can_split() {
@@ -81,7 +82,7 @@ impl Counted {
 
     /// Whether it can be split and has so many words.
     pub(crate) fn is_most(&self, budget: u64, most: u64) -> bool
-        requires { budget ≤ max_cap }
+        requires { budget ≤ max_words }
         ensures { result ≡ is_most budget most self.now }
     {
         self.can_split() && self.words(budget) == most

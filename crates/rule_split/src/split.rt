@@ -5,7 +5,7 @@ ghost use Rattle.std.specs.Prelude.{All, [], slice_index_or, Err, IfOk, OnOk};
 ghost use Rattle.std.specs.Option.{option_to_list};
 ghost use Rattle.std.specs.List.{filter_map, position, range_with_len, sum_by};
 ghost use Rattle.rule_set.specs.Groups.{IsPartition};
-ghost use Rattle.trie_merge.specs.Levels.{max_cap, row_words};
+ghost use Rattle.table_sizes.specs.Sizes.{max_words, row_len};
 ghost use Rattle.rule_split.specs.declared.answer.PlanFault.TheVariants.{TooLarge};
 ghost use Rattle.rule_split.specs.Counted.{group_in, levels_in, words_counted, most_counted};
 ghost use Rattle.rule_split.specs.Counted.{is_most, IsCounted, IsWithin};
@@ -17,7 +17,8 @@ use crate::counted::Counted;
 use crate::divide::divide;
 use rule_set::RuleSet;
 use std::alloc::{AllocError, Global};
-use trie_merge::{Levels, ROW_WORDS};
+use table_sizes::ROW_LEN;
+use trie_merge::Levels;
 
 /// How many groups the rules of a set are split into at most, as `RTE_ACL_MAX_TRIES` of DPDK's
 /// `lib/acl`, `acl.h`.
@@ -26,11 +27,11 @@ pub const MAX_GROUPS: usize = 8;
 /// The words of a table of the groups: those of each, and one row for keys that no rule matches.
 fn total(groups: &[Counted], budget: u64) -> u64
     requires few { length groups.now ≤ max_groups }
-    requires budget { budget ≤ max_cap }
+    requires budget { budget ≤ max_words }
     requires within { All (IsWithin budget) groups.now }
-    ensures { result ≡ row_words + sum_by (words_counted budget) groups.now }
+    ensures { result ≡ row_len + sum_by (words_counted budget) groups.now }
 {
-    let mut words = ROW_WORDS;
+    let mut words = ROW_LEN as u64;
     for group in groups {
         words += group.words(budget);
     }
@@ -39,7 +40,7 @@ fn total(groups: &[Counted], budget: u64) -> u64
 
 /// The most words of a group that can be split, and 0 where none can.
 fn most_words(groups: &[Counted], budget: u64) -> u64
-    requires { budget ≤ max_cap }
+    requires { budget ≤ max_words }
     ensures { result ≡ most_counted budget groups.now }
 {
     let mut most = 0;
@@ -51,7 +52,7 @@ fn most_words(groups: &[Counted], budget: u64) -> u64
 
 /// The place of the group that is split, or none where no group can be.
 fn split_place(groups: &[Counted], budget: u64) -> Option<usize>
-    requires { budget ≤ max_cap }
+    requires { budget ≤ max_words }
     ensures { result
         ≡ position (λ group. is_most budget (most_counted budget groups.now) group) groups.now }
 {
@@ -83,7 +84,7 @@ fn split_at(
     groups: &mut Vec<Counted>,
     place: usize,
 ) -> Result<(), AllocError>
-    requires budget { budget ≤ max_cap }
+    requires budget { budget ≤ max_words }
     requires place { place < length groups.old.items }
     requires two { 2 ≤ length (slice_index_or (map group_in groups.old.items) place []) }
     requires partition { IsPartition (length rules.now.rules) (map group_in groups.old.items) }
@@ -108,7 +109,7 @@ fn take_turn(
     budget: u64,
     groups: &mut Vec<Counted>,
 ) -> Result<(), AllocError>
-    requires budget { budget ≤ max_cap }
+    requires budget { budget ≤ max_words }
     requires few { length groups.old.items ≤ max_groups }
     requires partition { IsPartition (length rules.now.rules) (map group_in groups.old.items) }
     requires counted { All (IsCounted rules.now budget) groups.old.items }
@@ -139,7 +140,7 @@ fn all_rules(alloc: Global, rules: &RuleSet) -> Result<Vec<u32>, AllocError>
 
 /// The groups before the first turn: one of all rules, or none where there is no rule.
 fn first_groups(alloc: Global, rules: &RuleSet, budget: u64) -> Result<Vec<Counted>, AllocError>
-    requires { budget ≤ max_cap }
+    requires { budget ≤ max_words }
     ensures groups { IfOk result (λ groups. map group_in groups.items ≡ first_groups rules.now) }
     ensures counted { IfOk result (λ groups. All (IsCounted rules.now budget) groups.items) }
 {
@@ -153,7 +154,7 @@ fn first_groups(alloc: Global, rules: &RuleSet, budget: u64) -> Result<Vec<Count
 
 /// The groups after the last turn. Each turn adds at most one.
 fn last_groups(alloc: Global, rules: &RuleSet, budget: u64) -> Result<Vec<Counted>, AllocError>
-    requires { budget ≤ max_cap }
+    requires { budget ≤ max_words }
     ensures groups { IfOk result
         (λ groups. map group_in groups.items ≡ groups_of rules.now budget) }
     ensures counted { IfOk result (λ groups. All (IsCounted rules.now budget) groups.items) }
@@ -191,7 +192,7 @@ fn kept_levels(alloc: Global, groups: Vec<Counted>) -> Result<Vec<Levels>, Alloc
 
 /// Splits the rules into groups until the words of their table are within the budget.
 ///
-/// The budget is from 1 to [`trie_merge::MAX_CAP`] words. `TooLarge` comes exactly where the split
+/// The budget is from 1 to [`table_sizes::MAX_WORDS`] words. `TooLarge` comes exactly where the split
 /// ends with a total above the budget, with that total, unless memory ran out before that was
 /// known. It takes memory for the merged states of each group, and gives it back after a refusal.
 /// Each group is counted once, when it is made, so at most fifteen are.
@@ -199,7 +200,7 @@ fn kept_levels(alloc: Global, groups: Vec<Counted>) -> Result<Vec<Levels>, Alloc
 /// Source: DPDK's `lib/acl`, `acl_bld.c`; which group is split and where is ours.
 pub fn plan(alloc: Global, rules: &RuleSet, budget: u64) -> Result<Plan, PlanFault>
     requires some { 0 < budget }
-    requires budget { budget ≤ max_cap }
+    requires budget { budget ≤ max_words }
     ensures plan { IfOk result (λ plan. plan ≡ plan_of rules.now budget) }
     ensures fits { IfOk result (λ plan. plan.total ≤ budget) }
     ensures too_large { (words most : ℕ) → result ≡ Err (TooLarge words most) →

@@ -1,7 +1,7 @@
 //! Lists whose words were worked out by hand, split under budgets around them.
 
 ghost use Rattle.std.specs.Prelude.{◌<◌, ◌≤◌};
-ghost use Rattle.trie_merge.specs.Levels.{max_cap};
+ghost use Rattle.table_sizes.specs.Sizes.{max_words};
 
 use crate::{PlanFault, plan};
 use field_defs::{FieldValue, ip4_layout};
@@ -9,7 +9,7 @@ use rule_set::{RuleSet, RuleTag, StoredRule};
 use std::alloc::Global;
 use std::process::Abort;
 use std::test::Fail;
-use trie_merge::MAX_CAP;
+use table_sizes::MAX_WORDS;
 
 const ANY: FieldValue = FieldValue::Mask { value: 0, bits: 0 };
 
@@ -51,7 +51,7 @@ fn split(
     budget: u64,
 ) -> Result<Result<(usize, u64), u64>, Fail> {
     assert!(rt; 0 < budget);
-    assert!(rt; budget <= MAX_CAP);
+    assert!(rt; budget <= MAX_WORDS as u64);
     match plan(alloc, rules, budget) {
         Ok(plan) => Ok(Ok((plan.levels().len(), plan.total()))),
         Err(PlanFault::TooLarge { words, .. }) => Ok(Err(words)),

@@ -9,7 +9,8 @@ use Rattle.std.proofs.Math.ListN.{length-set}
 use Rattle.std.proofs.lemmas.Simd.{map-map}
 use borrow.Author.Count.{below_more}
 use Rattle.std.specs.Prelude.{slice_index, Bool, false, not, ◌==◌}
-use Rattle.flat_table.specs.Sound.{most_tries, row_len}
+use Rattle.table_sizes.specs.Sizes.{row_len}
+use Rattle.flat_table.specs.Sound.{most_tries}
 use Rattle.flat_table.specs.Table.{TableView}
 use Rattle.flat_table.specs.Walk.{walk_row, walk_transitions, tries_of, joined, greatest, key_transitions, userdatas}
 use Rattle.flat_table.specs.Batch.{key_verdicts}

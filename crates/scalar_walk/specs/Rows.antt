@@ -3,7 +3,8 @@ use Rattle.std.specs.Prelude.{◌≡◌, ℕ, ◌+◌, ◌<◌, ◌%◌, List, [
 use Rattle.std.specs.Prelude.{slice_index_or, Bool, not, ◌==◌, if◌then◌else◌}
 use Rattle.std.specs.List.{range_with_len}
 use Rattle.flat_table.specs.Table.{TableView}
-use Rattle.flat_table.specs.Sound.{most_tries, row_len}
+use Rattle.table_sizes.specs.Sizes.{row_len}
+use Rattle.flat_table.specs.Sound.{most_tries}
 use Rattle.flat_table.specs.Word.{is_match}
 use Rattle.flat_table.specs.Walk.{greatest, joined, userdatas, walk_row, moved}
 

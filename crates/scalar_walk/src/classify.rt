@@ -4,7 +4,8 @@ ghost use Rattle.std.specs.Prelude.{◌≡◌, ◌+◌, ◌*◌, ◌%◌, ◌<�
 ghost use Rattle.std.specs.Prelude.{not, slice_index, flat_map, ◌∷◌, [], All};
 ghost use Rattle.std.specs.List.{range_with_len};
 ghost use Rattle.flat_table.specs.Groups.{longest_key};
-ghost use Rattle.flat_table.specs.Sound.{most_tries, row_len};
+ghost use Rattle.table_sizes.specs.Sizes.{row_len};
+ghost use Rattle.flat_table.specs.Sound.{most_tries};
 ghost use Rattle.flat_table.specs.Walk.{joined, key_transitions, userdatas};
 ghost use Rattle.flat_table.specs.Batch.{LengthsFit, key_at, key_verdicts, first_verdicts};
 ghost use Rattle.flat_table.specs.Batch.{first_transitions, batch_verdicts, batch_transitions};
@@ -12,10 +13,11 @@ ghost use Rattle.scalar_walk.specs.Rows.{Reaches, joined_rows, row_verdicts, win
 
 use crate::in_step::{FourWalked, IN_STEP, walk_four};
 use crate::walk::walk_one;
-use flat_table::{MAX_TRIES, ROW_LEN, Steps, Table};
+use flat_table::{MAX_TRIES, Steps, Table};
 use rule_set::Categories;
 use std::marker::Brand;
 use std::sync::ledger::{Blank, Ledger};
+use table_sizes::ROW_LEN;
 
 /// The bits of a row word that are the userdata.
 const USERDATA_MASK: u64 = 0xFFFF_FFFF;

@@ -3,7 +3,8 @@
 ghost use Rattle.std.specs.Prelude.{◌≡◌, ◌+◌, ◌*◌, ◌^◌, ◌<◌, ◌≤◌, ◌==◌, length, true, false};
 ghost use Rattle.std.specs.Prelude.{if◌then◌else◌};
 ghost use Rattle.flat_table.specs.Groups.{longest_key};
-ghost use Rattle.flat_table.specs.Word.{full, full_len, kind_of, is_match, is_node, offset_of};
+ghost use Rattle.table_sizes.specs.Sizes.{full_len};
+ghost use Rattle.flat_table.specs.Word.{full, kind_of, is_match, is_node, offset_of};
 ghost use Rattle.flat_table.specs.Word.{next_place};
 ghost use Rattle.flat_table.specs.Walk.{walk_transitions};
 ghost use Rattle.flat_table.specs.Batch.{key_at};

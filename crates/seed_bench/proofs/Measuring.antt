@@ -12,7 +12,7 @@ use Rattle.workload_gen.specs.Workload.{rule_words, workload_of}
 use Rattle.command_words.specs.BenchWords.{BenchNumbers}
 use Rattle.seed_bench.specs.declared.lines.Measured.{Measured}
 use Rattle.seed_bench.specs.declared.tally.Tally.{Tally}
-use Rattle.seed_bench.specs.Bench.{words_of}
+use Rattle.flat_table.specs.Table.{words_of}
 use Rattle.seed_bench.specs.Bench.{keys_drawn, measured_of, set_drawn, transitions_drawn, table_drawn, tally_drawn}
 use Rattle.seed_bench.specs.Bench.{verdicts_on_keys}
 use Rattle.seed_bench.proofs.Drawing.{keys_are_whole, length-keys}

@@ -1,15 +1,15 @@
 -- What `bench` does: keys that a seed gives are classified in all categories, by the plain filter
 -- over rules of the seed and by their table.
-use Rattle.std.specs.Prelude.{◌≡◌, ℕ, ◌+◌, ◌*◌, ◌<◌, ◌⊎◌, List, [], ◌∷◌, ◌++◌, length, map, flat_map, sum_by}
+use Rattle.std.specs.Prelude.{◌≡◌, ℕ, ◌<◌, ◌⊎◌, List, [], ◌∷◌, ◌++◌, length, map, flat_map, sum_by}
 use Rattle.std.specs.Prelude.{codes, decimal}
 use Rattle.std.specs.List.{range_with_len}
 use Rattle.field_defs.specs.declared.field.Family.TheVariants.{Ip4}
 use Rattle.field_defs.specs.Layout.{ip4_fields}
 use Rattle.rule_set.specs.Rule.{RuleSetView}
+use Rattle.rule_set.specs.Limits.{max_categories}
 use Rattle.rule_set.specs.Winner.{verdict}
 use Rattle.rule_split.specs.Split.{total_of}
-use Rattle.flat_table.specs.Table.{TableView}
-use Rattle.flat_table.specs.Sound.{row_len}
+use Rattle.flat_table.specs.Table.{TableView, words_of}
 use Rattle.flat_table.specs.Walk.{key_transitions}
 use Rattle.acl_context.specs.Context.{built_of}
 use Rattle.workload_gen.specs.Workload.{keys_of, workload_of}
@@ -20,14 +20,6 @@ use Rattle.command_plan.specs.declared.status.Status.TheVariants.{OutOfMemory, T
 use Rattle.seed_bench.specs.declared.tally.Tally.{Tally}
 use Rattle.command_words.specs.BenchWords.{BenchNumbers}
 use Rattle.seed_bench.specs.Tally.{tally_of}
-
--- how many categories there are
-abbrev pub all_categories : ℕ
-all_categories = 16
-
--- how many words of 64 bits a table has, its rows with them
-abbrev pub words_of : TableView → ℕ
-words_of table = length table.words + row_len * length table.rows
 
 -- how many words the table may have: 128 MiB
 abbrev pub bench_budget : ℕ
@@ -70,7 +62,7 @@ transitions_of_keys table keys = sum_by (key_transitions table) keys
 -- what the rules say of the keys in all 16 categories
 abbrev pub tally_drawn : BenchNumbers → Tally
 tally_drawn numbers =
-    tally_of (verdicts_on_keys (set_drawn numbers) all_categories (keys_drawn numbers))
+    tally_of (verdicts_on_keys (set_drawn numbers) max_categories (keys_drawn numbers))
 
 -- what is measured: the table says the same as the rules
 abbrev pub measured_of : BenchNumbers → Measured

@@ -1,6 +1,7 @@
 //! The measuring of a workload: its keys, its table, and what rules and table say of the keys.
 
 ghost use Rattle.std.specs.Prelude.{◌≡◌, ◌+◌, ◌≤◌, IfOk, IfErr, OnOk, OnErr};
+ghost use Rattle.rule_set.specs.Limits.{max_categories};
 ghost use Rattle.rule_split.specs.Split.{total_of};
 ghost use Rattle.seed_bench.specs.Bench.{IsRefused, bench_budget, measured_of, set_drawn};
 ghost use Rattle.seed_bench.specs.Bench.{transitions_drawn};
@@ -12,7 +13,7 @@ use crate::table::{built_context, table_tally};
 use command_plan::Status;
 use command_words::BenchNumbers;
 use flat_table::Steps;
-use rule_set::Categories;
+use rule_set::{Categories, MAX_CATEGORIES};
 use std::alloc::Global;
 use std::sync::ledger::Ledger;
 use workload_gen::make_rules;
@@ -49,11 +50,11 @@ pub fn measure<L: Ledger>(
     })
 }
 
-/// All 16 categories.
+/// All categories.
 fn all_categories() -> Categories
-    ensures { result.count ≡ 16 }
+    ensures { result.count ≡ max_categories }
 {
-    match Categories::new(16) {
+    match Categories::new(MAX_CATEGORIES as u32) {
         Some(cats) => cats,
         None => unreachable!(),
     }

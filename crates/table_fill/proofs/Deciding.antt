@@ -28,7 +28,7 @@ use Rattle.trie_merge.specs.Levels.{LevelsView, levels_of}
 use Rattle.trie_merge.specs.Laws.{AreBytes, IsGrouped}
 use Rattle.trie_merge.proofs.Offered.{runs_lead, all-map, all_weaker, map-map}
 use Rattle.flat_table.specs.Word.{index_of}
-use Rattle.flat_table.specs.Sound.{row_len}
+use Rattle.table_sizes.specs.Sizes.{row_len}
 use Rattle.flat_table.specs.Table.{TableView}
 use Rattle.flat_table.specs.Walk.{moved, walk_row, bytes_of, joined, userdatas}
 use Rattle.table_fill.specs.Filled.{match_of, matches_of, succ_word, nodes_len, rule_word, table_of_tries}

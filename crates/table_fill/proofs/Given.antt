@@ -13,7 +13,8 @@ use Rattle.rule_set.specs.RuleSet.{IsRuleSet}
 use Rattle.trie_merge.specs.Levels.{LevelsView, levels_of}
 use Rattle.trie_merge.proofs.Offered.{all_weaker}
 use Rattle.list_lemmas.proofs.Sums.{sum_by-map}
-use Rattle.flat_table.specs.Sound.{most_tries, most_words, row_len, sound_fault}
+use Rattle.table_sizes.specs.Sizes.{max_words, row_len}
+use Rattle.flat_table.specs.Sound.{most_tries, sound_fault}
 use Rattle.flat_table.specs.Walk.{userdatas}
 use Rattle.table_fill.specs.Filled.{filled, table_of_tries, roots_of, level_lens_of, words_of_tries, rule_word}
 use Rattle.table_fill.specs.Filled.{winner_word, rows_of_tries}
@@ -93,7 +94,7 @@ module _ {set : RuleSetView} {tries : List LevelsView} where
   -- and from that the tries of groups can be filled
   pub given_by : CanBeFilled set (groups_of_tries tries) → length tries ≤ most_tries →
       All (λ (trie : LevelsView). trie ≡ levels_of set trie.group) tries →
-      row_len + sum_by (λ (trie : LevelsView). trie.words) tries ≤ most_words → AreGiven set tries
+      row_len + sum_by (λ (trie : LevelsView). trie.words) tries ≤ max_words → AreGiven set tries
   given_by can few levels size = given can.rules can.layout can.userdata
       record { few = few; groups = can.partition; levels = levels; size = size }
 

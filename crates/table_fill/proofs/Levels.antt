@@ -10,7 +10,7 @@ use Rattle.trie_merge.specs.declared.run.Run.{Run}
 use Rattle.trie_merge.specs.declared.run.Succ.{Succ}
 use Rattle.trie_merge.specs.declared.run.Succ.TheVariants.{Dead, State, Row}
 use Rattle.trie_merge.specs.Follow.{run_to, on_from, followed}
-use Rattle.trie_merge.specs.Levels.{cost_of}
+use Rattle.table_sizes.specs.Sizes.{cost_of}
 use Rattle.flat_table.specs.Word.{indexes, next_word}
 use Rattle.flat_table.specs.Walk.{moved}
 use Rattle.table_fill.specs.Filled.{match_of, node_word, node_words, succ_word, level_len, words_into, targets_of}

@@ -13,7 +13,7 @@ use Rattle.trie_merge.specs.declared.run.Run.{Run}
 use Rattle.trie_merge.specs.declared.run.Succ.TheVariants.{Dead}
 use Rattle.trie_merge.specs.Found.{all_bytes}
 use Rattle.trie_merge.specs.Follow.{run_to}
-use Rattle.trie_merge.specs.Levels.{cost_of, few_runs}
+use Rattle.table_sizes.specs.Sizes.{cost_of, few_runs}
 use Rattle.flat_table.specs.Word.{indexes, index_of, kind_of, boundaries_of, is_match, is_node, node_len, next_word}
 use Rattle.flat_table.specs.Word.{offset_of}
 use Rattle.list_lemmas.proofs.Positions.{HasPart}

@@ -11,7 +11,7 @@ use Rattle.rule_set.specs.Rule.{RuleView}
 use Rattle.rule_set.specs.Rank.{rank_of, ranks_of}
 use Rattle.rule_set.specs.Winner.{userdata_at}
 use Rattle.trie_merge.specs.Levels.{LevelsView}
-use Rattle.flat_table.specs.Sound.{row_len}
+use Rattle.table_sizes.specs.Sizes.{row_len}
 use Rattle.flat_table.specs.Walk.{userdatas}
 use Rattle.table_fill.specs.Filled.{nodes_len, rule_word, winner_word}
 use Rattle.table_fill.specs.Tries.{HasNodes, HasWinners, winner_in, row_count}

@@ -22,12 +22,13 @@ use Rattle.trie_merge.specs.declared.run.Succ.{Succ}
 use Rattle.trie_merge.specs.declared.run.Succ.TheVariants.{Dead, State, Row}
 use Rattle.trie_merge.specs.Found.{all_bytes}
 use Rattle.trie_merge.specs.Follow.{run_to}
-use Rattle.trie_merge.specs.Levels.{LevelsView, cost_of, few_runs}
+use Rattle.table_sizes.specs.Sizes.{cost_of, few_runs, max_words, row_len}
+use Rattle.trie_merge.specs.Levels.{LevelsView}
 use Rattle.flat_table.specs.declared.level.Level.{Level}
 use Rattle.flat_table.specs.Word.{indexes, index_of, is_match, is_unbounded}
 use Rattle.flat_table.specs.Table.{TableView, levels_from, portions, depths_of, trie_levels}
 use Rattle.flat_table.specs.Sound.{leads_into, is_sound_word, first_level, unsound_word, first_some, most_tries}
-use Rattle.flat_table.specs.Sound.{most_words, row_len, begins_with_zeros, is_shaped, sound_fault, first_unsound_root}
+use Rattle.flat_table.specs.Sound.{begins_with_zeros, is_shaped, sound_fault, first_unsound_root}
 use Rattle.flat_table.specs.Sound.{first_unsound_word}
 use Rattle.flat_table.specs.Groups.{is_key_len, is_kept_word, depth_of}
 use Rattle.field_defs.specs.Layout.{key_len_of}
@@ -328,7 +329,7 @@ pub record CanStand (set : RuleSetView) (tries : List LevelsView) : Type 0 where
   pub tries_are : AllByRecursion (IsTrie set) tries
   pub few : length tries ≤ most_tries
   pub key : is_key_len (key_len_of set.layout) ≡ true
-  pub size : row_len + (sum_by nodes_len tries + row_len * sum_by row_count tries) ≤ most_words
+  pub size : row_len + (sum_by nodes_len tries + row_len * sum_by row_count tries) ≤ max_words
 
 module _ (set : RuleSetView) (tries : List LevelsView) (can : CanStand set tries) where
   depths_are : (ts : List LevelsView) → AllByRecursion (IsTrie set) ts →
@@ -358,7 +359,7 @@ module _ (set : RuleSetView) (tries : List LevelsView) (can : CanStand set tries
       let s5 : (length (words_of_tries 0 1 tries) == sum (level_lens_of tries))
       ≡ true = eq-eqb _ _ (omega (arith, words, sum-lens tries)) in
       let s6 : begins_with_zeros (rows_of_tries set.rules tries) ≡ true = zeros set.rules tries in
-      let s7 : nat_le (length (words_of_tries 0 1 tries) + row_len * length (rows_of_tries set.rules tries)) most_words
+      let s7 : nat_le (length (words_of_tries 0 1 tries) + row_len * length (rows_of_tries set.rules tries)) max_words
       ≡ true = le-leb _ _ (omega (arith, words, rows, can.size)) in
       λ i. s0 i && s1 i && can.key i && kept_are tries can.tries_are i && s4 i && s5 i && s6 i && s7 i
 

@@ -20,7 +20,7 @@ use Rattle.trie_merge.specs.Follow.{followed, IsAnswer}
 use Rattle.trie_merge.specs.Row.{row_of, winner_of}
 use Rattle.trie_merge.specs.Levels.{LevelsView}
 use Rattle.trie_merge.specs.Laws.{AreBytes}
-use Rattle.flat_table.specs.Sound.{row_len}
+use Rattle.table_sizes.specs.Sizes.{row_len}
 use Rattle.flat_table.specs.Word.{indexes, index_of}
 use Rattle.flat_table.specs.Table.{TableView, places_of}
 use Rattle.flat_table.specs.Walk.{moved, root_of, walk_row, bytes_of}

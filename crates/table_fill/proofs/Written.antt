@@ -9,7 +9,7 @@ use Rattle.trie_merge.specs.declared.run.Succ.{Succ}
 use Rattle.trie_merge.specs.declared.run.Succ.TheVariants.{Dead, State, Row}
 use Rattle.trie_merge.specs.Found.{all_bytes}
 use Rattle.trie_merge.specs.Follow.{run_to}
-use Rattle.trie_merge.specs.Levels.{cost_of, few_runs}
+use Rattle.table_sizes.specs.Sizes.{cost_of, few_runs}
 use Rattle.table_fill.specs.Filled.{boundaries, inner_lasts, node_words, succ_word, level_len, words_into, targets_of}
 use Rattle.table_fill.specs.Filled.{words_of_levels}
 use Rattle.table_fill.specs.Tries.{HoldBytes, IsThere, AreRuns, HasTarget, HasTargets}

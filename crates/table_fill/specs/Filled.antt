@@ -15,9 +15,9 @@ use Rattle.trie_merge.specs.declared.run.Succ.{Succ}
 use Rattle.trie_merge.specs.declared.run.Succ.TheVariants.{Dead, State, Row}
 use Rattle.trie_merge.specs.Found.{all_bytes}
 use Rattle.trie_merge.specs.Follow.{run_to}
-use Rattle.trie_merge.specs.Levels.{LevelsView, levels_of, cost_of, few_runs, last_byte}
+use Rattle.table_sizes.specs.Sizes.{cost_of, few_runs, row_len}
+use Rattle.trie_merge.specs.Levels.{LevelsView, levels_of, last_byte}
 use Rattle.flat_table.specs.Word.{indexes, below_boundaries, full, single, quad, matching}
-use Rattle.flat_table.specs.Sound.{row_len}
 use Rattle.flat_table.specs.Walk.{userdatas}
 use Rattle.flat_table.specs.Table.{TableView}
 

@@ -11,7 +11,8 @@ use Rattle.trie_merge.specs.declared.run.Succ.{Succ}
 use Rattle.trie_merge.specs.declared.run.Succ.TheVariants.{Dead, State, Row}
 use Rattle.trie_merge.specs.Levels.{LevelsView, levels_of, last_byte}
 use Rattle.flat_table.specs.Groups.{is_kept_word, depth_of}
-use Rattle.flat_table.specs.Sound.{most_tries, most_words, row_len}
+use Rattle.table_sizes.specs.Sizes.{max_words, row_len}
+use Rattle.flat_table.specs.Sound.{most_tries}
 use Rattle.table_fill.specs.Filled.{nodes_len}
 
 -- Runs that hold the bytes from the first one to the last.
@@ -76,8 +77,8 @@ row_count trie = length trie.rows
 -- Tries that have room in a table: each of them, and the nodes and the rows of all.
 pub record HaveRoom (tries : List LevelsView) : Type 0 where
   pub nodes : All HasNodes tries
-  pub each : All (λ (trie : LevelsView). trie.words ≤ most_words) tries
-  pub size : sum_by nodes_len tries + row_len * sum_by row_count tries ≤ most_words
+  pub each : All (λ (trie : LevelsView). trie.words ≤ max_words) tries
+  pub size : sum_by nodes_len tries + row_len * sum_by row_count tries ≤ max_words
 
 -- the groups of rules that the tries are of
 abbrev pub groups_of_tries : List LevelsView → List (List ℕ)
@@ -89,7 +90,7 @@ pub record AreOfGroups (set : RuleSetView) (tries : List LevelsView) : Type 0 wh
   pub few : length tries ≤ most_tries
   pub groups : IsPartition (length set.rules) (groups_of_tries tries)
   pub levels : All (λ (trie : LevelsView). trie ≡ levels_of set trie.group) tries
-  pub size : row_len + sum_by (λ (trie : LevelsView). trie.words) tries ≤ most_words
+  pub size : row_len + sum_by (λ (trie : LevelsView). trie.words) tries ≤ max_words
 
 -- the word for a category of a row, where the words for the rules are given, and the winner's
 -- number plus 1, or 0 for none

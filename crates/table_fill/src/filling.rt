@@ -6,12 +6,13 @@ ghost use Rattle.field_defs.specs.Lawful.{IsLayout};
 ghost use Rattle.rule_set.specs.RuleSet.{IsRuleSet};
 ghost use Rattle.rule_set.specs.Groups.{IsPartition};
 ghost use Rattle.trie_merge.specs.Levels.{LevelsView, levels_of};
-ghost use Rattle.flat_table.specs.Sound.{most_tries, most_words, row_len};
+ghost use Rattle.table_sizes.specs.Sizes.{max_words, row_len};
+ghost use Rattle.flat_table.specs.Sound.{most_tries};
 ghost use Rattle.table_fill.specs.Filled.{table_of_tries, filled};
 ghost use Rattle.table_fill.specs.Serves.{Serves};
 ghost use Rattle.table_fill.specs.Tries.{groups_of_tries, AreOfGroups};
 ghost use Rattle.table_fill.specs.Laws.{CanBeFilled};
-ghost use Rattle.flat_table.specs.Table.{view_of};
+ghost use Rattle.flat_table.specs.Table.{view_of, words_of};
 
 use crate::rows::{rows_of, rule_words};
 use crate::tries::{kept_of, level_lens_of, roots_of, words_of};
@@ -54,7 +55,7 @@ fn parts_of(alloc: Global, rules: &RuleSet, levels: &[Levels]) -> Result<Parts, 
 /// The table of the rules: a trie for each of the levels, in order.
 ///
 /// The levels are at most 8, each of its group of these rules, and the groups hold each rule once.
-/// The words of all levels and the 16 of the row of no rule are at most [`flat_table::MAX_WORDS`].
+/// The words of all levels and the 16 of the row of no rule are at most [`table_sizes::MAX_WORDS`].
 /// It refuses nothing, and takes memory for the table, for a word for each rule, and for a word for
 /// each state of the greatest level.
 /// Source: DPDK Programmer's Guide, "Packet Classification and Access Control", and `lib/acl`,
@@ -64,10 +65,10 @@ pub fn fill(alloc: Global, rules: &RuleSet, levels: &[Levels]) -> Result<Table, 
     requires groups { IsPartition (length rules.now.rules) (groups_of_tries levels.now) }
     requires levels { All (λ (trie : LevelsView). trie ≡ levels_of rules.now trie.group)
         levels.now }
-    requires size { row_len + sum_by (λ (trie : LevelsView). trie.words) levels.now ≤ most_words }
+    requires size { row_len + sum_by (λ (trie : LevelsView). trie.words) levels.now ≤ max_words }
     ensures table { IfOk result (λ table. table ≡ filled rules.now (groups_of_tries levels.now)) }
     ensures serves { IfOk result (λ table. Serves rules.now table) }
-    ensures words { IfOk result (λ table. length table.words + row_len * length table.rows
+    ensures words { IfOk result (λ table. words_of table
         ≡ row_len + sum_by (λ (trie : LevelsView). trie.words) levels.now) }
 {
     let parts = parts_of(alloc, rules, levels)?;

@@ -3,13 +3,14 @@
 ghost use Rattle.std.specs.Prelude.{◌≡◌, ◌*◌, ◌<◌, ◌≤◌, ◌^◌, ◌++◌, map, length, slice_index, OnOk};
 ghost use Rattle.std.specs.Prelude.{All, replicate};
 ghost use Rattle.flat_table.specs.Word.{indexes, kinds, below_boundaries};
-ghost use Rattle.trie_merge.specs.Levels.{cost_of, few_runs};
+ghost use Rattle.table_sizes.specs.Sizes.{few_runs};
 ghost use Rattle.table_fill.specs.Filled.{word_of, match_of, boundaries, boundary_count, as_number};
 ghost use Rattle.table_fill.specs.Filled.{node_word, node_words, succ_word};
 ghost use Rattle.table_fill.specs.Tries.{HoldBytes, HasTarget, HasTargets};
 
 use flat_table::{FULL, MATCH, QUAD, SINGLE};
 use std::alloc::AllocError;
+use table_sizes::{FEW_RUNS, node_len};
 use trie_merge::{Run, Succ};
 
 /// The lowest bit of a word's kind.
@@ -17,12 +18,6 @@ const KIND_BIT: u32 = 29;
 
 /// The lowest bit of a word's boundaries.
 const BOUNDARY_BIT: u32 = 32;
-
-/// The most runs of a node that has no word for each byte.
-const FEW_RUNS: usize = 5;
-
-/// How many words a node has that has one for each byte.
-const MANY_WORDS: usize = 256;
 
 /// The last byte.
 const LAST_BYTE: u8 = 255;
@@ -80,20 +75,6 @@ pub(crate) fn node_word(place: usize, runs: &[Run]) -> u64
         word_of(boundaries(runs), QUAD, place)
     } else {
         word_of(0, FULL, place)
-    }
-}
-
-/// How many words the node of a state with so many runs has.
-pub(crate) fn node_len(runs: usize) -> usize
-    ensures value { result ≡ cost_of runs }
-    ensures bound { result ≤ 256 }
-{
-    if runs == 1 {
-        1
-    } else if runs <= FEW_RUNS {
-        FEW_RUNS
-    } else {
-        MANY_WORDS
     }
 }
 

@@ -5,15 +5,18 @@ ghost use Rattle.std.specs.Prelude.{OnOk, IfOk, All, sum_by};
 ghost use Rattle.std.specs.List.{flat_map, range_with_len};
 ghost use Rattle.rule_set.specs.Rule.{RuleView};
 ghost use Rattle.trie_merge.specs.Levels.{LevelsView};
-ghost use Rattle.flat_table.specs.Sound.{most_words, row_len};
+ghost use Rattle.table_sizes.specs.Sizes.{max_words, row_len};
 ghost use Rattle.flat_table.specs.Walk.{userdatas};
 ghost use Rattle.table_fill.specs.Filled.{rule_word};
 ghost use Rattle.table_fill.specs.Tries.{HasWinners, HaveRoom, winner_in};
 
-use flat_table::ROW_LEN;
-use rule_set::{RuleSet, ranks};
+use rule_set::{MAX_CATEGORIES, RuleSet, ranks};
 use std::alloc::{AllocError, Global};
+use table_sizes::ROW_LEN;
 use trie_merge::Levels;
+
+// A row has a word for each category that a rule can take part in.
+const _: () = prove!(ROW_LEN == MAX_CATEGORIES);
 
 /// The word of a row for a rule that wins: its rank in the high half, its userdata in the low half.
 fn rule_word(rank: u32, userdata: u32) -> u64
@@ -80,7 +83,7 @@ fn push_rows(rows: &mut Vec<[u64; ROW_LEN]>, words: &[u64], trie: &Levels) -> Re
 fn count_rows(tries: &[Levels]) -> usize
     requires { HaveRoom tries.now }
     ensures value { result ≡ sum_by (λ (trie : LevelsView). length trie.rows) tries.now }
-    ensures bound { result ≤ most_words }
+    ensures bound { result ≤ max_words }
 {
     let mut rows = 0;
     for trie in tries {

@@ -5,22 +5,22 @@ ghost use Rattle.std.specs.Prelude.{slice_index_or, OnOk, IfOk, All};
 ghost use Rattle.std.specs.List.{flat_map};
 ghost use Rattle.trie_merge.specs.Levels.{LevelsView};
 ghost use Rattle.flat_table.specs.Word.{indexes};
-ghost use Rattle.flat_table.specs.Sound.{most_words};
+ghost use Rattle.table_sizes.specs.Sizes.{max_words};
 ghost use Rattle.table_fill.specs.Filled.{root_at, node_words, level_len, words_into, targets_of};
 ghost use Rattle.table_fill.specs.Filled.{words_of_levels, nodes_len, matches_of};
 ghost use Rattle.table_fill.specs.Tries.{HasNodes, HasTargets};
 
-use crate::node::{match_of, node_len, node_word, push_node};
-use flat_table::ROW_LEN;
+use crate::node::{match_of, node_word, push_node};
 use std::alloc::{AllocError, Global};
+use table_sizes::{ROW_LEN, node_len};
 use trie_merge::Levels;
 
 /// How many words the nodes of a trie have.
 pub(crate) fn nodes_len(trie: &Levels) -> usize
     requires nodes { HasNodes trie.now }
-    requires size { trie.now.words ≤ most_words }
+    requires size { trie.now.words ≤ max_words }
     ensures value { result ≡ nodes_len trie.now }
-    ensures bound { result ≤ most_words }
+    ensures bound { result ≤ max_words }
 {
     trie.words() as usize - ROW_LEN * trie.rows()
 }
@@ -37,7 +37,7 @@ pub(crate) fn root_at(place: usize, trie: &Levels) -> u64
 /// How many words the nodes of a level have.
 pub(crate) fn level_len(trie: &Levels, depth: usize) -> usize
     requires depth { depth < length trie.now.levels }
-    requires size { level_len (slice_index_or trie.now.levels depth []) ≤ most_words }
+    requires size { level_len (slice_index_or trie.now.levels depth []) ≤ max_words }
     ensures { result ≡ level_len (slice_index_or trie.now.levels depth []) }
 {
     let mut words = 0;
@@ -55,7 +55,7 @@ fn words_into(
     place: usize,
 ) -> Result<Vec<u64>, AllocError>
     requires depth { depth < length trie.now.levels }
-    requires size { place + level_len (slice_index_or trie.now.levels depth []) ≤ most_words }
+    requires size { place + level_len (slice_index_or trie.now.levels depth []) ≤ max_words }
     ensures { IfOk result (λ words. words.items
         ≡ words_into place (slice_index_or trie.now.levels depth [])) }
 {
@@ -91,7 +91,7 @@ fn targets_of(
     row: usize,
 ) -> Result<Vec<u64>, AllocError>
     requires size { depth < length trie.now.levels →
-        place + level_len (slice_index_or trie.now.levels depth []) ≤ most_words }
+        place + level_len (slice_index_or trie.now.levels depth []) ≤ max_words }
     requires depth { depth ≤ length trie.now.levels }
     requires rows { row + length trie.now.rows ≤ indexes }
     ensures { IfOk result (λ words. words.items
@@ -133,7 +133,7 @@ pub(crate) fn push_trie(
     row: usize,
 ) -> Result<(), AllocError>
     requires nodes { HasNodes trie.now }
-    requires size { length words.old.items + nodes_len trie.now ≤ most_words }
+    requires size { length words.old.items + nodes_len trie.now ≤ max_words }
     requires rows { row + length trie.now.rows ≤ indexes }
     ensures { OnOk result (words.new.items ≡ words.old.items
         ++ words_of_levels (length words.old.items) (matches_of row trie.now) trie.now.levels) }

@@ -2,7 +2,7 @@
 
 ghost use Rattle.std.specs.Prelude.{◌≡◌, ◌+◌, ◌≤◌, ◌++◌, map, length, sum_by, OnOk, IfOk};
 ghost use Rattle.trie_merge.specs.Levels.{LevelsView};
-ghost use Rattle.flat_table.specs.Sound.{most_words};
+ghost use Rattle.table_sizes.specs.Sizes.{max_words};
 ghost use Rattle.table_fill.specs.Filled.{level_len, nodes_len, roots_of, level_lens_of};
 ghost use Rattle.table_fill.specs.Filled.{words_of_tries};
 ghost use Rattle.table_fill.specs.Tries.{HasNodes, HaveRoom};
@@ -39,7 +39,7 @@ pub(crate) fn roots_of(alloc: Global, tries: &[Levels]) -> Result<Vec<u64>, Allo
 /// Puts how many words each level of the trie has after the others.
 fn push_level_lens(lens: &mut Vec<u32>, trie: &Levels) -> Result<(), AllocError>
     requires nodes { HasNodes trie.now }
-    requires size { trie.now.words ≤ most_words }
+    requires size { trie.now.words ≤ max_words }
     ensures { OnOk result (lens.new.items ≡ lens.old.items ++ map level_len trie.now.levels) }
 {
     for depth in 0..trie.depths() {

@@ -18,7 +18,8 @@ use Rattle.trie_merge.specs.State.{is_live}
 use Rattle.trie_merge.specs.Entry.{ColumnView, entry_of, number_in, edge_in, edge_before, value_in, entry_step}
 use Rattle.trie_merge.specs.Entry.{entries_step, is_entry_cut}
 use Rattle.trie_merge.specs.Found.{all_bytes, found_in}
-use Rattle.trie_merge.specs.Levels.{same_succ, is_end, runs_of, cost_of}
+use Rattle.table_sizes.specs.Sizes.{cost_of}
+use Rattle.trie_merge.specs.Levels.{same_succ, is_end, runs_of}
 use Rattle.trie_merge.specs.Lists.{interval_at, is_change, cost_ahead, RisesFrom, succ_in, successor, level_found}
 use Rattle.trie_merge.specs.Lists.{state_runs, states_words}
 use Rattle.trie_merge.proofs.Finds.{is_new, none_new_once_found}

@@ -9,7 +9,7 @@ use Rattle.std.proofs.lemmas.List.{length-map, get_or-replicate, take-append-dro
 use Rattle.std.proofs.lemmas.List.Folds.{list_any-append}
 use Rattle.std.proofs.lemmas.List.FromFn.{length-range_with_len, get_or-map-range_with_len}
 use Rattle.trie_merge.specs.Entry.{ColumnView, is_entry_cut}
-use Rattle.trie_merge.specs.Levels.{cost_of, few_runs, many_runs}
+use Rattle.table_sizes.specs.Sizes.{cost_of, few_runs, full_len}
 use Rattle.trie_merge.specs.Lists.{interval_at, cost_ahead, RisesFrom}
 use Rattle.trie_merge.proofs.Ahead.{changes_are_intervals}
 use Rattle.trie_merge.proofs.Marks.{interval_first, interval_unmarked, interval_more}
@@ -111,5 +111,5 @@ module _ (column : ColumnView) (entries : List ℕ) (rise : RisesFrom 0 entries)
       full (interval_at marks 255 + 1) many ∙ sym (full all (omega (arith, grows, many)))
       ∙ ap cost_of (sym (changes_are_intervals column entries all_marks all_long all_cuts rise))
     where
-      full : (count : ℕ) → few_runs < count → cost_of count ≡ many_runs
+      full : (count : ℕ) → few_runs < count → cost_of count ≡ full_len
       full count many = rw (ne_eqb count 1 (omega arith), lt-leb count few_runs many) refl

@@ -16,7 +16,7 @@ use Rattle.trie_merge.specs.declared.run.Run.{Run}
 use Rattle.trie_merge.specs.State.{is_live}
 use Rattle.trie_merge.specs.Found.{found_in, all_bytes}
 use Rattle.trie_merge.specs.Entry.{ColumnView}
-use Rattle.trie_merge.specs.Levels.{cost_of, few_runs, many_runs, row_words}
+use Rattle.table_sizes.specs.Sizes.{cost_of, few_runs, full_len, row_len}
 use Rattle.trie_merge.specs.Pieces.{pieces_of, IsPieces}
 use Rattle.trie_merge.specs.Lists.{lists_of, lists_with, successor, level_found, state_runs, states_words, is_change}
 use Rattle.trie_merge.specs.Lists.{cost_ahead, price, least_cost, least_words, CanCount, AllCanCount, IsMergedWithin}
@@ -42,7 +42,7 @@ pub record MergedSoFar (set : RuleSetView) (column : ColumnView) (next : Option 
 cost_some : (count : ℕ) → (0 < cost_of count) × (cost_of count ≤ 256)
 cost_some count = by (count == 1) (nat_le count few_runs)
   where
-    by : (a b : Bool) → (0 < cond a 1 (cond b few_runs many_runs)) × (cond a 1 (cond b few_runs many_runs) ≤ 256)
+    by : (a b : Bool) → (0 < cond a 1 (cond b few_runs full_len)) × (cond a 1 (cond b few_runs full_len) ≤ 256)
     by true b = (omega arith, omega arith)
     by false true = (omega arith, omega arith)
     by false false = (omega arith, omega arith)
@@ -95,7 +95,7 @@ least_cost_known next is_last (list ∷ lists) =
 
 -- without a place after, each list takes as much as any other
 pub least_cost_flat : (is_last : Bool) (lists : List (List ℕ)) →
-    least_cost None is_last lists ≡ (cond is_last row_words 1) * length lists
+    least_cost None is_last lists ≡ (cond is_last row_len 1) * length lists
 unfolding least_cost
 least_cost_flat true [] = omega arith
 least_cost_flat false [] = omega arith

@@ -24,7 +24,8 @@ use Rattle.trie_merge.specs.State.{Held, state, is_live}
 use Rattle.trie_merge.specs.Found.{found_with, found_in, prefixes}
 use Rattle.trie_merge.specs.Kept.{is_wild_place, kept_places}
 use Rattle.trie_merge.specs.Row.{row_of, final_row, rows_of}
-use Rattle.trie_merge.specs.Levels.{states_at, level_runs, cost_of, words_of, few_runs, many_runs, row_words, levels_of}
+use Rattle.table_sizes.specs.Sizes.{cost_of, few_runs, full_len, row_len}
+use Rattle.trie_merge.specs.Levels.{states_at, level_runs, words_of, levels_of}
 use Rattle.trie_merge.specs.Walk.{next_of, IsWalk}
 use Rattle.trie_merge.specs.RuleRest.{values_of}
 use Rattle.trie_merge.specs.Entry.{ColumnView, entry_of, field_at, column_at, CanStep}
@@ -203,7 +204,7 @@ module _ (set : RuleSetView) (group : List ℕ) (held : AllByRecursion (IsHeld s
 cost_some : (count : ℕ) → 0 < cost_of count
 cost_some count = by (count == 1) (nat_le count few_runs)
   where
-    by : (a b : Bool) → 0 < cond a 1 (cond b few_runs many_runs)
+    by : (a b : Bool) → 0 < cond a 1 (cond b few_runs full_len)
     by true b = omega arith
     by false true = omega arith
     by false false = omega arith
@@ -242,7 +243,7 @@ pub record Walked (set : RuleSetView) (group : List ℕ) (cap place : ℕ) (leve
       (rows_of set group)
       ≡ words_of (level_runs set (states_at set group) (rows_of set group) (kept_places set group)) (rows_of set group)
   pub within : words ≤ cap
-  pub whole : length (kept_places set group) ≤ place → words + row_words * length keys ≤ cap
+  pub whole : length (kept_places set group) ≤ place → words + row_len * length keys ≤ cap
 
 module _ (set : RuleSetView) (group : List ℕ) (held : AllByRecursion (IsHeld set) group) (some : 0 < length group)
     (key : 0 < key_len_of set.layout) where
@@ -384,7 +385,7 @@ module _ (set : RuleSetView) (group : List ℕ) (held : AllByRecursion (IsHeld s
         let next = none_after (omega (arith, e)) in
         let last = eq-eqb (place + 1) (length places) e in
         let cost : least_cost (next_of set places place) (place + 1 == length places) found_here
-        ≡ row_words * length (rows_of set group) =
+        ≡ row_len * length (rows_of set group) =
         (λ i. least_cost (next i) (last i) (found i)) ∙ least_cost_flat true (rows_of set group) in
         omega (arith, cost)
 
@@ -475,9 +476,9 @@ module _ (set : RuleSetView) (group : List ℕ) (held : AllByRecursion (IsHeld s
               let last = eq-eqb (place + 1) (length places) (omega (arith, h, below)) in
               let next = none_after place below (omega (arith, h)) in
               let cost : least_cost (next_of set places place) (place + 1 == length places) (lists_of found)
-              ≡ row_words * length found =
+              ≡ row_len * length found =
               (λ i. least_cost (next i) (last i) (lists_of found)) ∙ least_cost_flat true (lists_of found)
-              ∙ ap (λ n. row_words * n) (length-map found (λ (v : SmallVec ℕ). v.items)) in
+              ∙ ap (λ n. row_len * n) (length-map found (λ (v : SmallVec ℕ). v.items)) in
               omega (arith, merged.within, cost));
         }
 
@@ -509,7 +510,7 @@ module _ (set : RuleSetView) (group : List ℕ) (held : AllByRecursion (IsHeld s
         within = omega (arith, so_far.whole end, count);
       }
     where
-      nothing : words_of (runs_from []) (rows_of set group) ≡ row_words * length (rows_of set group)
+      nothing : words_of (runs_from []) (rows_of set group) ≡ row_len * length (rows_of set group)
       nothing = omega arith
 
 -- every row has a number for each category

@@ -16,6 +16,7 @@ use Rattle.trie_merge.specs.State.{Held, state, state_through, is_live, same_sta
 use Rattle.trie_merge.specs.Found.{found_in, all_bytes, prefixes}
 use Rattle.trie_merge.specs.Kept.{kept_places, kept_bits}
 use Rattle.trie_merge.specs.Row.{final_row, rows_of}
+use Rattle.table_sizes.specs.Sizes.{cost_of, row_len}
 
 -- the states after so many bytes: live, distinct, in the order of their least prefixes
 unfoldable pub states_at : RuleSetView → List ℕ → ℕ → List (List Held)
@@ -74,30 +75,10 @@ level_runs set states rows (place ∷ next ∷ places) =
     (states place)
     ∷ level_runs set states rows (next ∷ places)
 
--- how many words a node of few runs takes
-abbrev pub few_runs : ℕ
-few_runs = 5
-
--- and one of many
-abbrev pub many_runs : ℕ
-many_runs = 256
-
--- the greatest cap
-abbrev pub max_cap : ℕ
-max_cap = 67108864
-
--- how many words a row takes: one for each category
-abbrev pub row_words : ℕ
-row_words = 16
-
--- the words of a state with so many runs
-abbrev pub cost_of : ℕ → ℕ
-cost_of count = if count == 1 then 1 else (if nat_le count few_runs then few_runs else many_runs)
-
 -- the words of a group: the costs of all states, and the rows
 abbrev pub words_of : List (List (List Run)) → List (List ℕ) → ℕ
 words_of levels rows = sum_by (λ states. sum_by (λ (runs : List Run). cost_of (length runs)) states)
-    levels + row_words * length rows
+    levels + row_len * length rows
 
 -- Merged states as contracts see them: the kept groups, the group of rules, the runs of each state
 -- at each kept place, the rows, and the words.

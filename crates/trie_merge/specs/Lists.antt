@@ -13,7 +13,8 @@ use Rattle.trie_merge.specs.Entry.{ColumnView, entries_step, number_in, CanStep}
 use Rattle.trie_merge.specs.State.{is_live}
 use Rattle.trie_merge.specs.Found.{found_with, found_in, all_bytes}
 use Rattle.trie_merge.specs.Row.{row_of}
-use Rattle.trie_merge.specs.Levels.{runs_of, cost_of, row_words, last_byte}
+use Rattle.table_sizes.specs.Sizes.{cost_of, row_len}
+use Rattle.trie_merge.specs.Levels.{runs_of, last_byte}
 
 -- the elements of each list
 abbrev pub lists_of : List (SmallVec ℕ) → List (List ℕ)
@@ -77,7 +78,7 @@ cost_ahead column entries = cost_of (length (filter (is_change column entries) a
 -- the words of the state; else a row takes its words, and a state one or more.
 abbrev pub price : Option ColumnView → Bool → List ℕ → ℕ
 price (Some next) is_last list = cost_ahead next list
-price None is_last list = if is_last then row_words else 1
+price None is_last list = if is_last then row_len else 1
 
 -- the same for lists
 unfoldable pub least_cost : Option ColumnView → Bool → List (List ℕ) → ℕ

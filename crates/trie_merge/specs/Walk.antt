@@ -6,7 +6,8 @@ use Rattle.rule_set.specs.Rule.{RuleSetView}
 use Rattle.trie_merge.specs.declared.run.Run.{Run}
 use Rattle.trie_merge.specs.Entry.{ColumnView, column_at}
 use Rattle.trie_merge.specs.Row.{rows_of}
-use Rattle.trie_merge.specs.Levels.{levels_of, row_words}
+use Rattle.table_sizes.specs.Sizes.{row_len}
+use Rattle.trie_merge.specs.Levels.{levels_of}
 use Rattle.trie_merge.specs.Lists.{lists_of}
 
 -- what the place after the one of that number has of each rule, where it isn't the last one
@@ -20,5 +21,5 @@ pub record IsWalk (set : RuleSetView) (group : List ℕ) (cap : ℕ) (levels : L
     (found : List (SmallVec ℕ)) (words : ℕ) : Type 0 where
   pub runs : levels ≡ (levels_of set group).levels
   pub rows : lists_of found ≡ rows_of set group
-  pub sum : words + row_words * length (rows_of set group) ≡ (levels_of set group).words
-  pub within : words + row_words * length (rows_of set group) ≤ cap
+  pub sum : words + row_len * length (rows_of set group) ≡ (levels_of set group).words
+  pub within : words + row_len * length (rows_of set group) ≤ cap

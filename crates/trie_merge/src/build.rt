@@ -7,7 +7,8 @@ ghost use Rattle.field_defs.specs.Layout.{key_len_of};
 ghost use Rattle.trie_merge.specs.Entry.{entry_of, column_at};
 ghost use Rattle.trie_merge.specs.Laws.{IsGrouped};
 ghost use Rattle.trie_merge.specs.Kept.{kept_places, kept_bits};
-ghost use Rattle.trie_merge.specs.Levels.{IsGroup, max_cap, levels_of, row_words};
+ghost use Rattle.table_sizes.specs.Sizes.{max_words, row_len};
+ghost use Rattle.trie_merge.specs.Levels.{IsGroup, levels_of};
 ghost use Rattle.trie_merge.specs.Row.{rows_of};
 ghost use Rattle.trie_merge.specs.Lists.{lists_of};
 ghost use Rattle.trie_merge.specs.Walk.{next_of, IsWalk};
@@ -18,13 +19,13 @@ use crate::entry::entry_of;
 use crate::expand::INLINE_ENTRIES;
 use crate::kept::Kept;
 use crate::levels::{Level, Levels};
-use crate::merge::{MergeFault, Pieces, Place, ROW_WORDS, merge_states};
-use crate::row::CATEGORIES;
+use crate::merge::{MergeFault, Pieces, Place, merge_states};
 use indexmap::IndexSet;
 use node_expand::Edge;
 use rule_set::RuleSet;
 use smallvec::SmallVec;
 use std::alloc::{AllocError, Global};
+use table_sizes::ROW_LEN;
 
 /// The entries of all rules of the group before the first byte.
 fn start_entries(
@@ -140,7 +141,7 @@ fn walk(
     lists: &mut [SmallVec<u32, INLINE_ENTRIES, Global>],
 ) -> Result<Walked, MergeFault>
     requires group { IsGrouped rules.now group.now }
-    requires cap { cap ≤ max_cap }
+    requires cap { cap ≤ max_words }
     requires places { places.now ≡ kept_places rules.now group.now }
     requires start { lists_of start.keys ≡ map (λ number. entry_of number Free) group.now ∷ [] }
     requires lists { 256 ≤ length lists.old }
@@ -173,12 +174,12 @@ fn walk(
 
 impl Levels {
     ghost use Rattle.std.specs.Prelude.{◌≡◌, ◌<◌, ◌≤◌, IfOk};
-    ghost use Rattle.trie_merge.specs.Levels.{IsGroup, max_cap, levels_of};
+    ghost use Rattle.trie_merge.specs.Levels.{IsGroup, levels_of};
 
     /// The merged states of the group.
     ///
     /// The group has numbers of rules of the set, ascending, and at least one; the cap is at most
-    /// [`MAX_CAP`]. `OverCap` comes exactly where the words exceed the cap, unless memory ran out
+    /// [`table_sizes::MAX_WORDS`]. `OverCap` comes exactly where the words exceed the cap, unless memory ran out
     /// before that was known. It takes memory for the states of two places, for the runs and for
     /// the rows, and gives it back after a refusal. Source: DPDK Programmer's Guide, "Packet
     /// Classification and Access Control", and `lib/acl`, `acl_bld.c`.
@@ -189,7 +190,7 @@ impl Levels {
         cap: u64,
     ) -> Result<Self, MergeFault>
         requires group { IsGroup rules.now group.now }
-        requires cap { cap ≤ max_cap }
+        requires cap { cap ≤ max_words }
         ensures levels { IfOk result (λ levels. levels ≡ levels_of rules.now group.now) }
         ensures within { IfOk result (λ levels. levels.words ≤ cap) }
         ensures over { (result ≡ Err MergeFault.OverCap)
@@ -252,13 +253,13 @@ fn prepare(alloc: Global, rules: &RuleSet, group: &[u32]) -> Result<Prepared, Al
 fn copy_rows(
     alloc: Global,
     found: &[SmallVec<u32, INLINE_ENTRIES, Global>],
-) -> Result<Vec<[u32; CATEGORIES]>, AllocError>
+) -> Result<Vec<[u32; ROW_LEN]>, AllocError>
     requires { All (λ row. length row.items ≡ 16) found.now }
     ensures { IfOk result (λ rows. rows.items ≡ lists_of found.now) }
 {
     let mut rows = Vec::with_capacity(alloc, found.len())?;
     for row in found {
-        let mut copy = [0; CATEGORIES];
+        let mut copy = [0; ROW_LEN];
         copy.copy_from_slice(row.as_slice());
         rows.push(copy)?;
     }
@@ -268,19 +269,19 @@ fn copy_rows(
 /// The merged states of what was walked.
 fn finish(alloc: Global, group: &[u32], kept: u128, walked: Walked) -> Result<Levels, AllocError>
     requires rows { All (λ row. length row.items ≡ 16) walked.found.keys }
-    requires words { walked.words + row_words * length walked.found.keys ≤ max_cap }
+    requires words { walked.words + row_len * length walked.found.keys ≤ max_words }
     ensures { IfOk result (λ levels. levels ≡ record {
       kept = kept;
       group = group.now;
       levels = walked.levels.items;
       rows = lists_of walked.found.keys;
-      words = walked.words + row_words * length walked.found.keys;
+      words = walked.words + row_len * length walked.found.keys;
     }) }
 {
     let rows = copy_rows(alloc, walked.found.as_slice())?;
     let mut members = Vec::with_capacity(alloc, group.len())?;
     members.extend_from_slice(group)?;
-    let words = walked.words + ROW_WORDS * rows.len() as u64;
+    let words = walked.words + (ROW_LEN * rows.len()) as u64;
     Ok(Levels {
         kept,
         group: members,
@@ -301,7 +302,7 @@ pub fn count_capped(
     cap: u64,
 ) -> Result<u64, AllocError>
     requires group { IsGroup rules.now group.now }
-    requires cap { cap ≤ max_cap }
+    requires cap { cap ≤ max_words }
     ensures { IfOk result (λ words. words ≡ min (levels_of rules.now group.now).words (cap + 1)) }
 {
     match Levels::build(alloc, rules, group, cap) {

@@ -5,7 +5,7 @@ ghost use Rattle.std.specs.Prelude.{take, drop};
 ghost use Rattle.std.specs.Prelude.{slice_index_or, false, All, OnOk, option_to_list};
 ghost use Rattle.std.specs.List.{list_any};
 ghost use Rattle.trie_merge.specs.Entry.{entry_step, entries_step, is_entry_cut, CanStep};
-ghost use Rattle.trie_merge.specs.Levels.{cost_of};
+ghost use Rattle.table_sizes.specs.Sizes.{cost_of};
 ghost use Rattle.trie_merge.specs.Lists.{list_at, list_of_byte, interval_at, cost_ahead, CanCount};
 ghost use Rattle.trie_merge.specs.Intervals.{AreIntervals};
 
@@ -13,6 +13,7 @@ use crate::column::Column;
 use crate::intervals::{Intervals, count_intervals};
 use smallvec::SmallVec;
 use std::alloc::{AllocError, Global};
+use table_sizes::FEW_RUNS;
 
 /// How many entries of a state are stored without an allocation.
 pub(crate) const INLINE_ENTRIES: usize = 4;
@@ -65,9 +66,6 @@ pub(crate) fn count_runs(column: &Column, entries: &[u32]) -> usize
     }
     count
 }
-
-/// The most runs of a state that isn't a full node.
-const FEW_RUNS: usize = 5;
 
 /// How many entries are looked at before their marks are counted.
 const PART: usize = 16;

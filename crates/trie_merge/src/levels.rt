@@ -4,9 +4,9 @@ ghost use Rattle.std.specs.Prelude.{◌≡◌, ◌<◌, ◌∷◌, [], length, s
 ghost use Rattle.trie_merge.specs.Pieces.{pieces_of, IsPieces};
 
 use crate::merge::Pieces;
-use crate::row::CATEGORIES;
 use crate::run::Run;
 use std::marker::Model;
+use table_sizes::ROW_LEN;
 
 /// The runs of the states of one kept place. Contracts see the list of the runs of each state.
 #[derive(Drop)]
@@ -84,7 +84,7 @@ pub struct Levels {
     pub(crate) kept: u128,
     pub(crate) group: Vec<u32>,
     pub(crate) levels: Vec<Level>,
-    pub(crate) rows: Vec<[u32; CATEGORIES]>,
+    pub(crate) rows: Vec<[u32; ROW_LEN]>,
     pub(crate) words: u64,
 }
 
@@ -155,7 +155,7 @@ impl Levels {
 
     /// The row of that number, which is below [`Levels::rows`]: for each category the winner's
     /// number plus 1, or 0 for none.
-    pub fn row(&self, r: usize) -> &[u32; CATEGORIES]
+    pub fn row(&self, r: usize) -> &[u32; ROW_LEN]
         requires { r < length self.now.rows }
         ensures { result.now ≡ slice_index_or self.now.rows r [] }
     {

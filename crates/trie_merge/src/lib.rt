@@ -46,5 +46,5 @@ mod tests;
 
 pub use build::count_capped;
 pub use levels::Levels;
-pub use merge::{MAX_CAP, MergeFault, ROW_WORDS};
+pub use merge::MergeFault;
 pub use run::{Run, Succ};

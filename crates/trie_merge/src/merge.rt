@@ -6,7 +6,7 @@ ghost use Rattle.std.specs.Prelude.{map, fold, slice_index_or, take, All, OnOk, 
 ghost use Rattle.std.specs.Prelude.{if◌then◌else◌};
 ghost use Rattle.trie_merge.specs.Entry.{number_in, CanStep};
 ghost use Rattle.trie_merge.specs.Found.{all_bytes};
-ghost use Rattle.trie_merge.specs.Levels.{cost_of, max_cap};
+ghost use Rattle.table_sizes.specs.Sizes.{cost_of, max_words};
 ghost use Rattle.trie_merge.specs.Lists.{lists_of, list_at, lists_with, row_list, successor};
 ghost use Rattle.trie_merge.specs.Lists.{state_runs, level_found, price, least_cost, least_words};
 ghost use Rattle.trie_merge.specs.Lists.{CanCount, AllCanCount, IsMergedWithin};
@@ -22,17 +22,14 @@ use indexmap::IndexSet;
 use rule_set::RuleSet;
 use smallvec::SmallVec;
 use std::alloc::{AllocError, Global};
+use table_sizes::{ROW_LEN, node_len};
 
 /// The words of a state with so many runs.
 pub(crate) fn cost_of(count: usize) -> u64
     ensures cost { result ≡ cost_of count }
     ensures bound { (0 < result) × (result ≤ 256) }
 {
-    match count {
-        1 => 1,
-        0..=5 => 5,
-        _ => 256,
-    }
+    node_len(count) as u64
 }
 
 /// Makes the list of each interval what its bytes lead to: its row at the last place.
@@ -169,7 +166,7 @@ fn price(place: &Place, list: &[u32]) -> u64
 {
     match &place.next {
         Some(next) => cost_of(count_runs(next, list)),
-        None => { if place.is_last { ROW_WORDS } else { 1 } }
+        None => { if place.is_last { ROW_LEN as u64 } else { 1 } }
     }
 }
 
@@ -207,7 +204,7 @@ pub(crate) fn merge_states(
         (level_found rules.now place.now.column place.now.is_last (lists_of states.now)) }
     requires rules { length place.now.column.values ≡ length rules.now.rules }
     requires lists { 256 ≤ length lists.old }
-    requires cap { cap ≤ max_cap }
+    requires cap { cap ≤ max_words }
     requires before { before ≤ cap }
     ensures merged { IfOk result
         (λ merged. IsMergedWithin rules.now place.now.column place.now.next place.now.is_last cap
@@ -256,9 +253,3 @@ pub(crate) fn merge_states(
         words,
     })
 }
-
-/// The greatest cap: 512 MiB of words.
-pub const MAX_CAP: u64 = 67_108_864;
-
-/// How many words a row takes in a table: one for each category.
-pub const ROW_WORDS: u64 = 16;

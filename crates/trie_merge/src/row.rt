@@ -11,9 +11,7 @@ use crate::expand::INLINE_ENTRIES;
 use rule_set::{RuleSet, RuleTag};
 use smallvec::SmallVec;
 use std::alloc::{AllocError, Global};
-
-/// How many categories there are.
-pub(crate) const CATEGORIES: usize = 16;
+use table_sizes::ROW_LEN;
 
 /// Whether the rule of the tag takes part in the category and has a greater priority than the best
 /// so far, if there is one.
@@ -32,8 +30,8 @@ fn is_better(tag: &RuleTag, best: &Option<RuleTag>, category: u32) -> bool
 fn name_rule(
     tag: &RuleTag,
     number: u32,
-    best: &mut [Option<RuleTag>; CATEGORIES],
-    row: &mut [u32; CATEGORIES],
+    best: &mut [Option<RuleTag>; ROW_LEN],
+    row: &mut [u32; ROW_LEN],
 )
     requires { number + 1 < 2 ^ 32 }
     ensures best { (category : ℕ) → category < 16 → slice_index_or best.new category None
@@ -43,7 +41,7 @@ fn name_rule(
         ≡ (if is_better tag.now (slice_index_or best.old category None) category then number + 1
         else slice_index_or row.old category 0) }
 {
-    for category in 0..CATEGORIES {
+    for category in 0..ROW_LEN {
         if is_better(tag, &best[category], category as u32) {
             best[category] = Some(*tag);
             row[category] = number + 1;
@@ -53,12 +51,12 @@ fn name_rule(
 
 /// The row of the entries after a whole key: for each category the winner's number plus 1, or 0 for
 /// none.
-fn row_of(rules: &RuleSet, entries: &[u32]) -> [u32; CATEGORIES]
+fn row_of(rules: &RuleSet, entries: &[u32]) -> [u32; ROW_LEN]
     requires { All (λ entry. number_in entry < length rules.now.rules) entries.now }
     ensures { result ≡ row_of rules.now (map number_in entries.now) }
 {
-    let mut best = [None; CATEGORIES];
-    let mut row = [0; CATEGORIES];
+    let mut best = [None; ROW_LEN];
+    let mut row = [0; ROW_LEN];
     for entry in entries {
         let number = number_in(*entry);
         let tag = rules.at(number as usize).tag();

@@ -3,15 +3,16 @@
 ghost use Rattle.std.specs.Prelude.{◌≡◌, ◌≤◌, IfOk};
 ghost use Rattle.std.specs.List.{range_with_len};
 ghost use Rattle.rule_set.specs.Limits.{max_rules};
-ghost use Rattle.trie_merge.specs.Levels.{max_cap};
+ghost use Rattle.table_sizes.specs.Sizes.{max_words};
 
 use crate::plain::{PlainRule, compare};
-use crate::{Levels, MAX_CAP, MergeFault, count_capped};
+use crate::{Levels, MergeFault, count_capped};
 use field_defs::{FieldValue, ip4_layout};
 use rule_set::{MAX_RULES, RuleSet, RuleTag, StoredRule};
 use std::alloc::{AllocError, Global};
 use std::process::Abort;
 use std::test::Fail;
+use table_sizes::MAX_WORDS;
 
 const ANY: FieldValue = FieldValue::Mask { value: 0, bits: 0 };
 
@@ -34,7 +35,7 @@ fn of_all(
     rules: &RuleSet,
     cap: u64,
 ) -> Result<(Result<Levels, MergeFault>, u64), Fail>
-    requires { cap ≤ max_cap }
+    requires { cap ≤ max_words }
 {
     let len = rules.len();
     assert!(rt; 0 < len);
@@ -204,7 +205,7 @@ fn states_and_rows_are_those_worked_out_byte_by_byte(rt: HostRuntime) -> Result<
     for plain in &RULES {
         add_plain(&rt, rt.alloc(), &mut rules, plain)?;
     }
-    let (levels, count) = of_all(&rt, rt.alloc(), &rules, MAX_CAP)?;
+    let (levels, count) = of_all(&rt, rt.alloc(), &rules, MAX_WORDS as u64)?;
     let levels = levels?;
     assert_eq!(rt; count, levels.words());
     compare(&rt, rt.alloc(), &RULES, &levels)

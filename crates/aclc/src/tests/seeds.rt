@@ -9,7 +9,8 @@ use rule_set::{MAX_RULES, RuleSet};
 use std::alloc::{AllocError, Global};
 use std::process::Abort;
 use std::test::Fail;
-use trie_merge::{Levels, MAX_CAP, Run};
+use table_sizes::MAX_WORDS;
+use trie_merge::{Levels, Run};
 use workload_gen::make_rules;
 
 /// How many rules each seed gives.
@@ -63,7 +64,7 @@ fn compare(
     assert!(rt; len <= count);
     assert!(rt; first <= count - len);
     let group = numbers(alloc, first, len)?;
-    let levels = Levels::build(alloc, rules, group.as_slice(), MAX_CAP)?;
+    let levels = Levels::build(alloc, rules, group.as_slice(), MAX_WORDS as u64)?;
     let counted = recount(alloc, rules, group.as_slice())?;
     assert_eq!(rt; levels.kept(), counted.kept);
     assert_eq!(rt; levels.group(), group.as_slice());

@@ -1,6 +1,6 @@
 -- the marks so far
 use Rattle.std.proofs.Common.{◌≡◌, ◌<◌, ℕ, not, ◌==◌, false, get_or, length}
-use Rattle.flat_table.specs.Sound.{row_len}
+use Rattle.table_sizes.specs.Sizes.{row_len}
 use Rattle.scalar_walk.specs.Rows.{joined_rows}
 use Rattle.scalar_walk.proofs.classify.mark_winners.Given as goal
 

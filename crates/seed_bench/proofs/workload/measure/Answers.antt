@@ -12,7 +12,7 @@ use Rattle.acl_context.specs.Context.{ContextView, built_of}
 use Rattle.workload_gen.specs.Workload.{WorkloadView, keys_of}
 use Rattle.command_words.specs.CommandLine.{numbers_in}
 use Rattle.seed_bench.specs.Tally.{tally_of}
-use Rattle.seed_bench.specs.Bench.{words_of}
+use Rattle.flat_table.specs.Table.{words_of}
 use Rattle.seed_bench.specs.Bench.{bench_budget, keys_drawn, set_drawn, table_drawn, verdicts_on_keys}
 use Rattle.seed_bench.proofs.Measuring.{few_bytes, length-drawn, length-rules, measured-is, transitions-drawn, verdicts-drawn}
 use Rattle.seed_bench.proofs.Measuring.{whole_bytes}

@@ -1,5 +1,6 @@
 use Rattle.std.proofs.Common.{◌+◌, ◌*◌, length, ap, sym, ◌∙◌, subst}
-use Rattle.flat_table.specs.Sound.{row_len, sound_fault}
+use Rattle.table_sizes.specs.Sizes.{row_len}
+use Rattle.flat_table.specs.Sound.{sound_fault}
 use Rattle.flat_table.specs.Table.{TableView}
 use Rattle.table_fill.specs.Serves.{Serves}
 use Rattle.table_fill.proofs.Given.{given_by, table_is, serves, sound, size_is, no_fault}

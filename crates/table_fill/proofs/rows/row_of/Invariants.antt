@@ -1,6 +1,6 @@
 -- the words of the categories so far
 use Rattle.std.proofs.Common.{◌≡◌, length, map, take}
-use Rattle.flat_table.specs.Sound.{row_len}
+use Rattle.table_sizes.specs.Sizes.{row_len}
 use Rattle.table_fill.specs.Tries.{winner_in}
 use Rattle.table_fill.proofs.rows.row_of.Given as goal
 

@@ -2,7 +2,7 @@
 use Rattle.std.proofs.Common.{◌≡◌, ◌∷◌, map, take, replicate}
 use Rattle.std.specs.List.{flat_map}
 use Rattle.trie_merge.specs.Levels.{LevelsView}
-use Rattle.flat_table.specs.Sound.{row_len}
+use Rattle.table_sizes.specs.Sizes.{row_len}
 use Rattle.table_fill.specs.Tries.{winner_in}
 use Rattle.table_fill.proofs.rows.rows_of.Given as goal
 

@@ -1,6 +1,6 @@
 use Rattle.std.proofs.Common.{◌≡◌, ℕ, List, ◌+◌, ◌-◌, ◌++◌, ◌∷◌, [], length, ◌∙◌, ap, arith, length-append}
 use Rattle.trie_merge.specs.declared.run.Run.{Run}
-use Rattle.trie_merge.specs.Levels.{cost_of}
+use Rattle.table_sizes.specs.Sizes.{cost_of}
 use Rattle.trie_merge.specs.Pieces.{pieces_of}
 use Rattle.trie_merge.specs.Lists.{lists_of, state_runs}
 use Rattle.trie_merge.proofs.Pieces.{pieces-push, IsPieces-push}

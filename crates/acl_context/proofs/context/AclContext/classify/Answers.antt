@@ -1,7 +1,7 @@
 use Rattle.std.proofs.Common.{◌≡◌, ◌≤◌, ap, ◌∙◌, sym, arith}
 use Rattle.std.proofs.lemmas.Bool.Decides.{nat_tests}
 use Rattle.field_defs.specs.Layout.{key_len_of}
-use Rattle.flat_table.specs.Sound.{row_len}
+use Rattle.table_sizes.specs.Sizes.{row_len}
 use Rattle.acl_context.specs.Context.{ContextView}
 use Rattle.acl_context.proofs.Serving.{batch_by_rules, are_bytes_from_fits, whole_of_lengths}
 use Rattle.acl_context.proofs.context.AclContext.classify.Goals as goal
