@@ -13,6 +13,7 @@ use Rattle.std.proofs.lemmas.Bool.Decides.{nat_tests}
 use Rattle.flat_table.specs.Table.{TableView, level_of, places_of}
 use Rattle.flat_table.specs.Sound.{leads_into, sound_fault}
 use Rattle.flat_table.specs.Walk.{root_of, moved, word_after, transitions_after}
+use Rattle.flat_table.proofs.Shape.{sound_parts}
 use Rattle.flat_table.proofs.Safe.{root_leads, node_is_no_match, next_leads_on, none_after}
 use Rattle.list_lemmas.proofs.Positions.{filter-range-below}
 use Rattle.flat_table.proofs.Transitions.{word_more, transition_more}
@@ -102,5 +103,9 @@ module _ (table : TableView) (trie : ℕ) (key : List ℕ) (sound : sound_fault 
   ends_at_match word s =
       elim (cases_Bool (is_match word)) [
         | inl w ↦ w
-        | inr w ↦ cc (s.level w, none_after table trie sound lt (length (places_of table trie)) word (omega arith))
+        | inr w ↦ cc (
+          s.level w,
+          none_after table trie (sound_parts table sound).shape lt
+              (length (places_of table trie)) word (omega arith),
+        )
       ]

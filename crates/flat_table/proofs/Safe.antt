@@ -80,7 +80,7 @@ level-bound place (len ∷ lens) (suc n) = omega (
 )
 
 -- the first level is that at depth 0
-first-is : (levels : List Level) → first_level levels ≡ get_or levels 0 no_level
+pub first-is : (levels : List Level) → first_level levels ≡ get_or levels 0 no_level
 first-is [] = refl
 first-is (level ∷ levels) = refl
 
@@ -110,7 +110,7 @@ sound_word rows word next e =
 
 -- two lists side by side
 
-length-zip : {A B : Type 0} (xs : List A) (ys : List B) → length xs ≡ length ys → length (zip xs ys) ≡ length xs
+pub length-zip : {A B : Type 0} (xs : List A) (ys : List B) → length xs ≡ length ys → length (zip xs ys) ≡ length xs
 length-zip [] ys e = refl
 length-zip (x ∷ xs) [] e = absurd (omega arith)
 length-zip (x ∷ xs) (y ∷ ys) e = ap suc (length-zip xs ys (omega arith))
@@ -119,68 +119,40 @@ length-portions : {A : Type 0} (sizes : List ℕ) (xs : List A) → length (port
 length-portions [] xs = refl
 length-portions (size ∷ sizes) xs = ap suc (length-portions sizes (drop size xs))
 
--- the tries of a sound table
-module _ (table : TableView) (trie : ℕ) (sound : sound_fault table ≡ None) (lt : trie < length table.roots) where
-  shape : IsShaped table
-  shape = (sound_parts table sound).shape
+-- there are as many tries with levels as roots
+pub levels_len : (table : TableView) → IsShaped table → length (trie_levels table) ≡ length table.roots
+levels_len table shape =
+    length-portions (depths_of table) (levels_from 0 table.level_lens)
+    ∙ length-map table.kept (depth_of table.key_len) ∙ shape.same
 
+-- the tries of parts that fit together
+module _ (table : TableView) (trie : ℕ) (shape : IsShaped table) (lt : trie < length table.roots) where
   lt_kept : trie < length table.kept
   lt_kept = omega (arith, shape.same)
-
-  depth : ℕ
-  depth = depth_of table.key_len (get_or table.kept trie 0)
 
   depth_is : get_or (depths_of table) trie 0 ≡ length (places_of table trie)
   depth_is = get_or-map (depth_of table.key_len) table.kept trie 0 0 lt_kept
 
-  depths_len : length (depths_of table) ≡ length table.kept
-  depths_len = length-map table.kept (depth_of table.key_len)
-
-  levels_len : length (trie_levels table) ≡ length table.roots
-  levels_len = length-portions (depths_of table) (levels_from 0 table.level_lens) ∙ depths_len ∙ shape.same
-
   lt_depths : trie < length (depths_of table)
-  lt_depths = omega (arith, lt_kept, depths_len)
+  lt_depths = omega (arith, lt_kept, length-map table.kept (depth_of table.key_len))
 
-  lt_levels : trie < length (trie_levels table)
-  lt_levels = omega (arith, levels_len)
-
-  before : ℕ
-  before = sum (take trie (depths_of table))
-
-  levels : List Level
-  levels = get_or (trie_levels table) trie []
+  pub lt_levels : trie < length (trie_levels table)
+  lt_levels = omega (arith, levels_len table shape)
 
   levels_cut : get_or (trie_levels table) trie [] ≡ take (length (places_of table trie))
       (drop (sum (take trie (depths_of table))) (levels_from 0 table.level_lens))
   levels_cut = portion-at (depths_of table) trie (levels_from 0 table.level_lens) lt_depths
       ∙ ap (λ (n : ℕ). take n (drop (sum (take trie (depths_of table))) (levels_from 0 table.level_lens))) depth_is
 
-  pub root_leads : leads_into (level_of table trie 0) (root_of table trie) ≡ true
-  root_leads =
-      let lens : trie < length (zip table.roots (trie_levels table)) =
-      omega (arith, length-zip table.roots (trie_levels table) (sym levels_len)) in
-      let none = position_none is_unsound_root 0 (zip table.roots (trie_levels table)) trie (0, [])
-      (sound_parts table sound).roots lens in
-      let at = get_or-zip table.roots (trie_levels table) trie (0, []) lt lt_levels in
-      ap (λ (level : Level). leads_into level (root_of table trie))
-      (sym (first-is (get_or (trie_levels table) trie [])))
-      ∙ not_false _ (rw at at none)
+  -- a trie has no more levels than it keeps places
+  pub levels_few : length (get_or (trie_levels table) trie []) ≤ length (places_of table trie)
+  levels_few = omega (arith, ap (λ (ls : List Level). length ls) levels_cut, length-take {A = Level})
 
   pub none_after : (depth word : ℕ) → length (places_of table trie) ≤ depth →
       leads_into (level_of table trie depth) word ≡ false
   none_after depth word le =
-      let past : length (get_or (trie_levels table) trie []) ≤ depth =
-      omega (arith, ap (λ (ls : List Level). length ls) levels_cut, length-take {A = Level}) in
       ap (λ (level : Level). leads_into level word) (get_or_past (get_or (trie_levels table) trie []) depth no_level
-      past) ∙ nowhere word
-
-  sound_levels : unsound_word (length table.rows) table.words (get_or (trie_levels table) trie []) ≡ None
-  sound_levels =
-      sym (get_or-map (unsound_word (length table.rows) table.words) (trie_levels table) trie [] None lt_levels)
-      ∙ first_none (map (unsound_word (length table.rows) table.words) (trie_levels table)) trie
-      (sound_parts table sound).words
-      (omega (arith, lt_levels, length-map (trie_levels table) (unsound_word (length table.rows) table.words)))
+      (omega (arith, levels_few))) ∙ nowhere word
 
   level_within : (depth : ℕ) → (level_of table trie depth).from + (level_of table trie depth).len ≤ length table.words
   level_within depth =
@@ -196,35 +168,72 @@ module _ (table : TableView) (trie : ℕ) (sound : sound_fault table ≡ None) (
       let l = ap (λ (ls : List Level). (get_or ls depth no_level).from + (get_or ls depth no_level).len) is in
       omega (arith, bound, one, two, l, shape.words)
 
-  pub next_leads_on : (depth word byte : ℕ) → byte < 256 → leads_into (level_of table trie depth) word ≡ true →
-      LeadsOn table trie (depth + 1) (next_place word byte)
-  next_leads_on depth word byte small leads =
+-- the word at an offset of a level
+pub word_in : (words : List ℕ) (level : Level) (k : ℕ) → k < level.len →
+    get_or (words_in words level) k 0 ≡ slice_index words (level.from + k)
+word_in words level k below =
+    get_or-take level.len (drop level.from words) k 0 below ∙ get_or-drop level.from words k 0
+
+-- the tries of a sound table
+module _ (table : TableView) (trie : ℕ) (sound : sound_fault table ≡ None) (lt : trie < length table.roots) where
+  shape : IsShaped table
+  shape = (sound_parts table sound).shape
+
+  pub root_leads : leads_into (level_of table trie 0) (root_of table trie) ≡ true
+  root_leads =
+      let count = levels_len table shape in
+      let lens : trie < length (zip table.roots (trie_levels table)) =
+      omega (arith, length-zip table.roots (trie_levels table) (sym count)) in
+      let none = position_none is_unsound_root 0 (zip table.roots (trie_levels table)) trie (0, [])
+      (sound_parts table sound).roots lens in
+      let at = get_or-zip table.roots (trie_levels table) trie (0, []) lt (lt_levels table trie shape lt) in
+      ap (λ (level : Level). leads_into level (root_of table trie))
+      (sym (first-is (get_or (trie_levels table) trie [])))
+      ∙ not_false _ (rw at at none)
+
+  sound_levels : unsound_word (length table.rows) table.words (get_or (trie_levels table) trie []) ≡ None
+  sound_levels =
+      let below = lt_levels table trie shape lt in
+      sym (get_or-map (unsound_word (length table.rows) table.words) (trie_levels table) trie [] None below)
+      ∙ first_none (map (unsound_word (length table.rows) table.words) (trie_levels table)) trie
+      (sound_parts table sound).words
+      (omega (arith, below, length-map (trie_levels table) (unsound_word (length table.rows) table.words)))
+
+  -- each word of a level is sound for the next one
+  pub word_sound : (depth place : ℕ) → (level_of table trie depth).from ≤ place →
+      place < (level_of table trie depth).from + (level_of table trie depth).len →
+      is_sound_word (length table.rows) (level_of table trie (depth + 1)) (slice_index table.words place) ≡ true
+  word_sound depth place from to =
       let level : Level = level_of table trie depth in
-      let within = leads_within level word leads in
-      let off = offset-below word byte small in
-      let bound = level_within depth in
-      let k : ℕ = next_place word byte - level.from in
-      let there : next_place word byte < length table.words = omega (arith, within.0, within.1, off, bound) in
-      let in_level : k < level.len = omega (arith, within.0, within.1, off) in
+      let k : ℕ = place - level.from in
+      let in_level : k < level.len = omega (arith, from, to) in
       let in_words : k < length (words_in table.words level) =
       omega (
         arith,
         length-take level.len (drop level.from table.words),
         length-drop level.from table.words,
-        there,
+        level_within table trie shape lt depth,
+        from,
         in_level,
-        within.0,
       ) in
-      let back : level.from + k ≡ next_place word byte = omega (arith, within.0) in
-      let e = level_sound (length table.rows) table.words (get_or (trie_levels table) trie []) depth k sound_levels
-      in_words in
-      let at : get_or (words_in table.words level) k 0 ≡ slice_index table.words (next_place word byte) =
-      get_or-take level.len (drop level.from table.words) k 0 in_level ∙ get_or-drop level.from table.words k 0
-      ∙ ap (λ (n : ℕ). get_or table.words n 0) back in
+      let at : get_or (words_in table.words level) k 0 ≡ slice_index table.words place =
+      word_in table.words level k in_level ∙ ap (λ (n : ℕ). slice_index table.words n) (omega (arith, from)) in
+      ap (λ (w : ℕ). is_sound_word (length table.rows) (level_of table trie (depth + 1)) w) (sym at)
+      ∙ level_sound (length table.rows) table.words (get_or (trie_levels table) trie []) depth k sound_levels in_words
+
+  pub next_leads_on : (depth word byte : ℕ) → byte < 256 → leads_into (level_of table trie depth) word ≡ true →
+      LeadsOn table trie (depth + 1) (next_place word byte)
+  next_leads_on depth word byte small leads =
+      let within = leads_within (level_of table trie depth) word leads in
+      let off = offset-below word byte small in
       let s = sound_word (length table.rows) (slice_index table.words (next_place word byte))
-      (level_of table trie (depth + 1)) (ap (λ (w : ℕ). is_sound_word (length table.rows)
-      (level_of table trie (depth + 1)) w) (sym at) ∙ e) in
-      record { there = there; row = s.0; level = s.1 }
+      (level_of table trie (depth + 1)) (word_sound depth (next_place word byte) (omega (arith, within.0))
+      (omega (arith, within.1, off))) in
+      record {
+        there = omega (arith, within.1, off, level_within table trie shape lt depth);
+        row = s.0;
+        level = s.1;
+      }
 
 pub node_is_no_match : (table : TableView) (trie depth word : ℕ) → leads_into (level_of table trie depth) word
     ≡ true →

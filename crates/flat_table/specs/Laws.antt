@@ -3,8 +3,25 @@ use Rattle.std.specs.Prelude.{◌≡◌, ℕ, ◌+◌, ◌<◌, ◌≤◌, List,
 use Rattle.std.specs.Prelude.{if◌then◌else◌}
 use Rattle.flat_table.specs.Word.{index_of, is_match, next_place}
 use Rattle.flat_table.specs.Table.{TableView, level_of, places_of}
-use Rattle.flat_table.specs.Sound.{leads_into, sound_fault}
+use Rattle.flat_table.specs.Sound.{is_shaped, leads_into, is_sound_word, sound_fault}
 use Rattle.flat_table.specs.Walk.{root_of, moved, word_after, transitions_after, walk_row, walk_transitions}
+
+-- The parts fit together, each root leads into the first level of its trie, and each word of each
+-- level is sound for the next level.
+pub record IsEachSound (table : TableView) : Type 0 where
+  pub shape : is_shaped table ≡ true
+  pub root : (trie : ℕ) → trie < length table.roots →
+      leads_into (level_of table trie 0) (root_of table trie) ≡ true
+  pub word : (trie depth place : ℕ) → trie < length table.roots →
+      depth < length (places_of table trie) → (level_of table trie depth).from ≤ place →
+      place < (level_of table trie depth).from + (level_of table trie depth).len →
+      is_sound_word (length table.rows) (level_of table trie (depth + 1))
+      (slice_index table.words place) ≡ true
+
+-- There is no first fault exactly where every root and every word is sound.
+pub record SoundnessIsEach : Type 0 where
+  pub each : (table : TableView) → sound_fault table ≡ None → IsEachSound table
+  pub sound : (table : TableView) → IsEachSound table → sound_fault table ≡ None
 
 -- there is a word at the place, and it names a row of the table or leads into the level of the trie
 -- at the depth

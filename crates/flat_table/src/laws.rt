@@ -1,6 +1,11 @@
 //! Laws of sound tables and of walks, over their definitions alone. They run no code.
 
-ghost use Rattle.flat_table.specs.Laws.{WalksStay, WalksGoStepByStep};
+ghost use Rattle.flat_table.specs.Laws.{SoundnessIsEach, WalksStay, WalksGoStepByStep};
+
+/// Parts have no first fault exactly where they fit together and every root and word is sound.
+pub fn soundness_is_of_every_root_and_word()
+    ensures { SoundnessIsEach }
+{}
 
 /// Each walk through a sound table stays in it, whatever the key.
 pub fn walks_stay()
