@@ -30,3 +30,11 @@ pub use Rattle.flat_table.proofs.Lanes.{begins}
 pub use Rattle.flat_table.proofs.Lanes.{goes}
 -- after all bytes a match stands
 pub use Rattle.flat_table.proofs.Lanes.{ends_at_match}
+-- ---- what makes a table sound
+
+-- the levels of a trie, and those after them
+pub use Rattle.flat_table.proofs.Levels.{levels-take, levels-drop}
+-- what the shape of parts says, fact by fact
+pub use Rattle.flat_table.proofs.Shape.{IsShaped}
+-- what is sound is shaped, and no root and no word is unsound
+pub use Rattle.flat_table.proofs.Shape.{IsSound, sound_parts}

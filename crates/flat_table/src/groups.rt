@@ -28,7 +28,7 @@ pub(crate) fn is_key_len(key_len: u32) -> bool
 }
 
 /// Whether some group of the key is kept, and none that it hasn't.
-pub(crate) fn is_kept_word(key_len: u32, kept: u128) -> bool
+pub fn is_kept_word(key_len: u32, kept: u128) -> bool
     requires { IsTrue (is_key_len key_len) }
     ensures { result ≡ is_kept_word key_len kept }
 {
@@ -46,7 +46,7 @@ fn is_kept(kept: u128, place: usize) -> bool
 }
 
 /// How many places of a key are kept.
-pub(crate) fn depth_of(key_len: u32, kept: u128) -> usize
+pub fn depth_of(key_len: u32, kept: u128) -> usize
     requires { key_len ≤ longest_key }
     ensures value { result ≡ depth_of key_len kept }
     ensures bound { result ≤ key_len }

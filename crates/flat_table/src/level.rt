@@ -17,7 +17,7 @@ pub struct Level {
 
 impl Level {
     /// The first of the levels of these lengths, from a place on, or one in which no node lies.
-    pub(crate) fn first(from: usize, lens: &[u32]) -> Level
+    pub fn first(from: usize, lens: &[u32]) -> Level
         ensures level { result ≡ first_level (levels_from from lens.now) }
         ensures bound { result.from + result.len < from + 2 ^ 32 }
     {
@@ -31,7 +31,7 @@ impl Level {
     }
 
     /// Whether the word leads to a node that lies whole in the level.
-    pub(crate) fn holds_node_of(self, word: u64) -> bool
+    pub fn holds_node_of(self, word: u64) -> bool
         requires { self.from + self.len < 2 ^ 64 }
         ensures { result ≡ leads_into self word }
     {

@@ -34,10 +34,10 @@ mod table;
 mod tests;
 mod word;
 
-pub use groups::MAX_KEY_LEN;
+pub use groups::{MAX_KEY_LEN, depth_of, is_kept_word};
 pub use level::Level;
 pub use parts::Parts;
-pub use sound::{MAX_TRIES, SoundFault, check_sound};
+pub use sound::{MAX_TRIES, SoundFault, check_sound, is_sound_word};
 pub use steps::Steps;
 pub use table::{NotSound, Table};
 pub use word::{

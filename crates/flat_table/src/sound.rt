@@ -98,8 +98,10 @@ fn begins_with_zeros(rows: &[[u64; ROW_LEN]]) -> bool
     }
 }
 
-/// A match names one of so many rows, and any other word leads into the next level.
-fn is_sound_word(rows: usize, next: Level, word: u64) -> bool
+/// Whether a match names one of so many rows, and any other word leads into the next level.
+///
+/// It takes no memory and refuses nothing.
+pub fn is_sound_word(rows: usize, next: Level, word: u64) -> bool
     requires { next.from + next.len < 2 ^ 64 }
     ensures { result ≡ is_sound_word rows next word }
 {
