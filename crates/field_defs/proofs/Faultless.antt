@@ -88,13 +88,13 @@ sum_of_sizes (def ∷ defs) sizes =
     omega (arith, whole, size_at_most_8 def.size parts.0, sum_of_sizes defs parts.1)
 
 -- a layout has a first field
-some_first : (defs : List FieldDef) → layout_fault defs ≡ None → 0 < length defs
+pub some_first : (defs : List FieldDef) → layout_fault defs ≡ None → 0 < length defs
 unfolding layout_fault
 some_first [] none = absurd (cc)
 some_first (def ∷ defs) none = omega arith
 
 -- which has one byte
-first_size : (def : FieldDef) (defs : List FieldDef) → layout_fault (def ∷ defs) ≡ None → def.size ≡ 1
+pub first_size : (def : FieldDef) (defs : List FieldDef) → layout_fault (def ∷ defs) ≡ None → def.size ≡ 1
 unfolding layout_fault
 first_size def defs none =
     let first : fault_unless (def.size == 1) FirstNotOneByte ≡ None = none_at (layout_faults (def ∷ defs)) 3 none in

@@ -1,5 +1,6 @@
 pub mod Offered
 mod Faultless
+mod Filled
 mod Groups
 mod Keys
 mod Sizes

@@ -3,10 +3,15 @@ use Rattle.std.specs.Prelude.{◌≡◌, List, [], ◌∷◌, refl}
 use Rattle.std.specs.List.{range_with_len}
 use Rattle.field_defs.specs.declared.field.FieldKind.TheVariants.{Range, Bitmask}
 use Rattle.field_defs.specs.declared.field.FieldDef.{FieldDef}
-use Rattle.field_defs.specs.Layout.{key_of, key_len_of, buffer_len_of, ip4_fields, ip6_fields}
+use Rattle.field_defs.specs.Layout.{key_of, key_len_of, buffer_len_of, group_count, ip4_fields, ip6_fields}
 
 ip4_key_len : key_len_of ip4_fields ≡ 13
 ip4_key_len = refl
+
+-- both addresses fill a group each, and both ports fill one together
+ip4_groups : group_count ip4_fields ≡ 3
+unfolding group_count
+ip4_groups = refl
 
 ip4_buffer_len : buffer_len_of ip4_fields ≡ 13
 ip4_buffer_len = refl
@@ -17,6 +22,11 @@ ip4_key = refl
 
 ip6_key_len : key_len_of ip6_fields ≡ 37
 ip6_key_len = refl
+
+-- each half of an address fills two groups
+ip6_groups : group_count ip6_fields ≡ 9
+unfolding group_count
+ip6_groups = refl
 
 ip6_buffer_len : buffer_len_of ip6_fields ≡ 37
 ip6_buffer_len = refl

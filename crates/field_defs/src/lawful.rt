@@ -201,3 +201,48 @@ fn first_unfilled_group(later: &[FieldDef]) -> Option<u8>
     }
     None
 }
+
+#[cfg(test)]
+mod tests {
+    use super::*;
+    use std::test::Fail;
+
+    #[test]
+    fn faults_are_said_in_words(rt: HostRuntime) -> Result<(), Fail> {
+        let cases = [
+            (LayoutFault::NoFields, "there is no field"),
+            (
+                LayoutFault::FieldIndex(1),
+                "field 1: the field index isn't the place of the field",
+            ),
+            (
+                LayoutFault::BadSize(2),
+                "field 2: the size isn't 1, 2, 4 or 8",
+            ),
+            (
+                LayoutFault::FirstNotOneByte,
+                "the first field isn't one byte long",
+            ),
+            (
+                LayoutFault::InputOrder(3),
+                "field 3: the input index can't follow the one before",
+            ),
+            (
+                LayoutFault::GroupSize(4),
+                "group 4: the fields don't fill it",
+            ),
+            (
+                LayoutFault::GroupOffsets(5),
+                "field 5: the field doesn't lie after the one before in its group",
+            ),
+            (
+                LayoutFault::OffsetTooLarge(63),
+                "field 63: the offset is too large",
+            ),
+        ];
+        for (fault, words) in cases {
+            assert_eq!(rt; format!(in rt.alloc(); "{fault}")?.as_str(), words);
+        }
+        Ok(())
+    }
+}

@@ -264,14 +264,62 @@ mod tests {
     use super::*;
     use std::test::Fail;
 
+    /// A field that is bounded by a mask.
+    fn field(field_index: u8, size: u8, input_index: u8, offset: u32) -> FieldDef {
+        FieldDef {
+            kind: FieldKind::Mask,
+            size,
+            field_index,
+            input_index,
+            offset,
+        }
+    }
+
     /// The definitions of the DPDK Programmer's Guide, "Packet Classification and Access Control",
-    /// are those of IPv4.
+    /// are those of IPv4, and with one of them changed they are no layout.
     #[test]
     fn the_fields_of_the_guide_are_a_layout(rt: HostRuntime) -> Result<(), Fail> {
         let layout = Layout::new(&IP4_FIELDS)?;
         assert_eq!(rt; layout.fields(), ip4_layout().fields());
-        let wrong = Layout::of(&IP4_FIELDS[1..]).map(|_| ());
-        assert_eq!(rt; wrong, Err(LayoutFault::FieldIndex(0)));
+        assert_eq!(rt; (layout.key_len(), layout.buffer_len()), (13, 13));
+        let cases = [
+            (0, field(0, 2, 0, 0), LayoutFault::FirstNotOneByte),
+            (1, field(1, 3, 1, 1), LayoutFault::BadSize(1)),
+            (4, field(4, 2, 4, 11), LayoutFault::GroupSize(3)),
+            (4, field(4, 2, 3, 12), LayoutFault::GroupOffsets(4)),
+        ];
+        for (place, changed, fault) in cases {
+            let mut defs = IP4_FIELDS;
+            if let Some(def) = defs.get_mut(place) {
+                *def = changed;
+            }
+            assert_eq!(rt; Layout::new(&defs).err(), Some(fault));
+        }
+        assert_eq!(rt;
+            Layout::of(&IP4_FIELDS[1..]).err(),
+            Some(LayoutFault::FieldIndex(0))
+        );
+        assert_eq!(rt; Layout::of(&[]).err(), Some(LayoutFault::NoFields));
+        Ok(())
+    }
+
+    #[test]
+    fn the_key_of_nine_fields_is_their_bytes_in_order(rt: HostRuntime) -> Result<(), Fail> {
+        let layout = Layout::new(&[
+            field(0, 1, 0, 24),
+            field(1, 2, 1, 0),
+            field(2, 2, 1, 2),
+            field(3, 1, 2, 4),
+            field(4, 1, 2, 5),
+            field(5, 2, 2, 6),
+            field(6, 8, 3, 8),
+            field(7, 4, 5, 16),
+            field(8, 4, 6, 20),
+        ])?;
+        let mut key = [0; 25];
+        assert!(rt; layout.buffer_len() == 25 && layout.key_len() == 25);
+        layout.gather(b"ABCDEFGHIJKLMNOPQRSTUVWXY", &mut key);
+        assert_eq!(rt; key.as_slice(), b"YABCDEFGHIJKLMNOPQRSTUVWX".as_slice());
         Ok(())
     }
 

@@ -9,7 +9,8 @@
 //! - `lawful`: whether definitions are a layout, and the first reason if they are none
 //! - `layout`: layouts of lawful definitions, that of IPv4 and that of IPv6, and keys
 //! - `matching`: whether a number matches a value, and whether every number does
-//! - `laws`: wild values match every number; lawful layouts have lawful sizes and short keys
+//! - `laws`: wild values match every number; lawful layouts have lawful sizes, and keys of one byte
+//!   and four for each group
 #![tactic(auto)]
 
 mod field;
