@@ -86,7 +86,7 @@ ReadsOn-ended into_old into_new old new read some = record {
 }
 
 -- what isn't lost was given with no bytes
-unlost : (old new : Option Content) → new ≡ old → Steps (Gives []) old new
+pub unlost : (old new : Option Content) → new ≡ old → Steps (Gives []) old new
 unlost old new same = subst (λ content. Steps (Gives []) old content) (sym same) (same_content old)
 
 -- A read failed.

@@ -5,4 +5,5 @@ mod MadeLaws
 mod ReadingLaws
 mod WritingLaws
 mod FileLaws
+mod TogetherLaws
 pub mod Offered

@@ -13,4 +13,5 @@ pub mod Writing
 pub mod System
 pub mod MemFile
 pub mod Memory
+pub mod Together
 pub mod MemoryExamples

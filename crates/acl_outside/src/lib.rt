@@ -13,9 +13,11 @@
 //!   they are told to
 //! - `std_desk`, `read_buffer`, `std_sink`: files and output streams of the system
 //! - `transcript`: what was asked and answered, which only clauses read
+//! - `laws`: what was heard of a file and what is left to read of it are the file
 #![tactic(auto)]
 
 mod desk;
+pub mod laws;
 mod listed;
 mod made_file;
 mod mem_desk;

@@ -80,9 +80,10 @@ impl MadeFile {
     {
         self.there = true;
         self.name.clear();
-        let Ok(()) = self.name.extend_from_slice(name.as_bytes()) else {
-            unreachable!()
-        };
+        match self.name.extend_from_slice(name.as_bytes()) {
+            Ok(()) => {}
+            Err(AllocError) => unreachable!(),
+        }
         self.bytes.clear();
     }
 
@@ -92,9 +93,10 @@ impl MadeFile {
 
         ensures { self.new ≡ record self.old { bytes = self.old.bytes ++ piece.now } }
     {
-        let Ok(()) = self.bytes.extend_from_slice(piece) else {
-            unreachable!()
-        };
+        match self.bytes.extend_from_slice(piece) {
+            Ok(()) => {}
+            Err(AllocError) => unreachable!(),
+        }
     }
 
     pub(crate) fn bytes(&self) -> &[u8]

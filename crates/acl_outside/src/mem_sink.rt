@@ -124,9 +124,9 @@ impl Sink for MemSink {
         let count = self
             .piece
             .min(piece.len().min(self.room - self.bytes.len()));
-        let Ok(()) = self.bytes.extend_from_slice(&piece[..count]) else {
-            unreachable!()
-        };
-        Ok(count)
+        match self.bytes.extend_from_slice(&piece[..count]) {
+            Ok(()) => Ok(count),
+            Err(AllocError) => unreachable!(),
+        }
     }
 }

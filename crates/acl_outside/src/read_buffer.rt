@@ -93,7 +93,7 @@ impl ReadBuffer {
 }
 
 /// Reads once of the file into the beginning of the slice, and says how many bytes. A read that is
-/// interrupted is made again.
+/// interrupted is made again, and any other error is a failure.
 pub(crate) fn read_once<F: Read>(file: &mut F, into: &mut [u8]) -> Result<usize, Failed>
     ensures within { IfOk result (λ count. count ≤ length into.old) }
     ensures bytes { ReadConsumes (F.remaining file.old) (F.remaining file.new) result into.new }
@@ -101,8 +101,11 @@ pub(crate) fn read_once<F: Read>(file: &mut F, into: &mut [u8]) -> Result<usize,
     for _ in 0..u64::MAX {
         match file.read(into) {
             Ok(count) => return Ok(count),
-            Err(error) if error.kind() == ErrorKind::Interrupted => {}
-            Err(_) => return Err(Failed),
+            Err(error) => {
+                if error.kind() != ErrorKind::Interrupted {
+                    return Err(Failed);
+                }
+            }
         }
     }
     Err(Failed)

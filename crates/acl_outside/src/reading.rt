@@ -1,6 +1,6 @@
 //! Reading an opened file to its end.
 
-ghost use Rattle.std.specs.Prelude.{◌≡◌, ◌<◌, ◌≤◌, take, vec_len, IsTrue, IfErr, OnOk};
+ghost use Rattle.std.specs.Prelude.{◌≡◌, ◌<◌, ◌≤◌, take, vec_len, IsTrue, OnOk};
 ghost use Rattle.acl_outside.specs.Reading.{ReadsUpTo};
 
 use crate::desk::{Desk, Failed};
@@ -13,6 +13,16 @@ pub enum ReadAll {
     ReadFault,
     /// Memory ran out.
     OutOfMemory,
+}
+
+impl From<AllocError> for ReadAll {
+    ghost use Rattle.acl_outside.specs.declared.reading.ReadAll.TheVariants.{OutOfMemory};
+
+    ghost from_gives = { λ _ fault. fault ≡ OutOfMemory };
+
+    fn from(_: AllocError) -> ReadAll {
+        ReadAll::OutOfMemory
+    }
 }
 
 /// The first and smallest part that is made for the bytes of a file.
@@ -43,7 +53,7 @@ pub fn read_up_to<D: Desk>(alloc: Global, desk: &mut D, cap: usize) -> Result<Ve
 }
 
 /// Makes room for bytes after the first `len`, where there is none: as much again, up to the cap.
-fn make_room(bytes: &mut Vec<u8>, len: usize, cap: usize) -> Result<(), ReadAll>
+fn make_room(bytes: &mut Vec<u8>, len: usize, cap: usize) -> Result<(), AllocError>
     requires in_bytes { len ≤ vec_len bytes.old }
     requires in_cap { vec_len bytes.old ≤ cap }
     requires below_cap { len < cap }
@@ -51,14 +61,11 @@ fn make_room(bytes: &mut Vec<u8>, len: usize, cap: usize) -> Result<(), ReadAll>
     ensures room { OnOk result (len < vec_len bytes.new) }
     ensures within { vec_len bytes.new ≤ cap }
     ensures kept { OnOk result (take len bytes.new.items ≡ take len bytes.old.items) }
-    ensures out_of_memory { IfErr result (λ fault. fault ≡ ReadAll.OutOfMemory) }
 {
     if len < bytes.len() {
         return Ok(());
     }
     let part = len.max(FIRST_PART).min(cap - len);
-    match bytes.resize(len + part, 0) {
-        Ok(()) => Ok(()),
-        Err(AllocError) => Err(ReadAll::OutOfMemory),
-    }
+    bytes.resize(len + part, 0)?;
+    Ok(())
 }

@@ -86,7 +86,7 @@ impl<W: Write + Drop> Sink for StdSink<W> {
 }
 
 /// Writes a prefix of the piece, which isn't empty, and says how many bytes it has. A write that is
-/// interrupted is made again, and one that takes nothing has failed.
+/// interrupted is made again. One that takes nothing has failed, and so has one of any other error.
 pub(crate) fn write_once<W: Write>(writer: &mut W, piece: &[u8]) -> Result<usize, Failed>
     ensures within { IfOk result (λ count. (0 < count) × (count ≤ length piece.now)) }
     ensures bytes { WriteAppends (W.contents writer.old) (W.contents writer.new) result piece.now }
@@ -95,8 +95,11 @@ pub(crate) fn write_once<W: Write>(writer: &mut W, piece: &[u8]) -> Result<usize
         match writer.write(piece) {
             Ok(0) => return Err(Failed),
             Ok(count) => return Ok(count),
-            Err(error) if error.kind() == ErrorKind::Interrupted => {}
-            Err(_) => return Err(Failed),
+            Err(error) => {
+                if error.kind() != ErrorKind::Interrupted {
+                    return Err(Failed);
+                }
+            }
         }
     }
     Err(Failed)

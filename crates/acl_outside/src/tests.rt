@@ -1,20 +1,32 @@
 ghost use Rattle.std.specs.Prelude.{◌≡◌, IsTrue};
 
+use crate::read_buffer::read_once;
 use crate::{
     Desk, Failed, MemDesk, MemFile, MemSink, ReadAll, Sink, StdDesk, StdSink, put_all, read_up_to,
     write_all,
 };
 use std::alloc::{AllocError, Global};
-use std::io::{ErrorKind, Write};
+use std::io::{ErrorKind, Read, Write};
 use std::process::Abort;
 use std::test::Fail;
 use std::{fs, io};
 
-fn file(alloc: Global, name: &str, bytes: &[u8]) -> Result<MemFile, AllocError> {
-    Ok(MemFile {
-        name: String::from_str(alloc, name)?,
-        bytes: Vec::from_slice(alloc, bytes)?,
-    })
+/// A desk with a file of ten digits, whose reads and writes move three bytes, with room for eight.
+fn memory_desk<R: Abort + AllocGlobal>(
+    rt: &R,
+    failing_read: u64,
+    failing_write: u64,
+) -> Result<MemDesk, AllocError> {
+    let alloc = rt.alloc();
+    let digits = MemFile {
+        name: String::from_str(alloc, "digits")?,
+        bytes: Vec::from_slice(alloc, b"0123456789")?,
+    };
+    let files = vec![in alloc; digits]?;
+    assert!(rt; MemDesk::has_distinct_names(&files));
+    let reads = vec![in alloc; failing_read]?;
+    let writes = vec![in alloc; failing_write]?;
+    MemDesk::new(alloc, files, 3, 8, reads, writes)
 }
 
 /// The opened file has these bytes up to the cap, or none for a read fault.
@@ -28,41 +40,31 @@ fn reads<R: Abort + AllocGlobal, D: Desk>(rt: &R, desk: &mut D, cap: usize, want
     }
 }
 
+/// Call 1 finds no file, call 2 opens one, calls 3 to 6 read it, and call 7 meets its end. The
+/// first reading goes up to the cap.
+fn reads_twice<R: Abort + AllocGlobal>(
+    rt: &R,
+    failing: u64,
+    cap: usize,
+    first: Option<&[u8]>,
+    second: &[u8],
+) -> Result<(), Fail> {
+    let mut desk = memory_desk(rt, failing, 0)?;
+    assert_eq!(rt; desk.open_file("digit"), Err(Failed));
+    desk.open_file("digits")?;
+    reads(rt, &mut desk, cap, first);
+    reads(rt, &mut desk, 100, Some(second));
+    let faults = (desk.absent_count(), desk.read_fault_count());
+    assert_eq!(rt; faults, (1, u64::from(first.is_none())));
+    Ok(())
+}
+
 #[test]
 fn a_file_in_memory_is_read_to_its_end_its_cap_or_its_fault(rt: HostRuntime) -> Result<(), Fail> {
-    // A read gives three bytes. Call 1 finds no file, call 2 opens one, calls 3 to 6 read it, and
-    // call 7 meets its end. What is read first and then, or none for a read fault.
-    let cases: [(&str, usize, u64, Option<&str>, Option<&str>); 8] = [
-        ("digits", 100, 0, Some("0123456789"), Some("")),
-        ("digits", 11, 0, Some("0123456789"), Some("")),
-        ("digits", 10, 7, Some("0123456789"), None),
-        ("digits", 4, 1, Some("0123"), Some("456789")),
-        ("digits", 0, 0, Some(""), Some("0123456789")),
-        ("empty", 100, 0, Some(""), Some("")),
-        ("digits", 100, 5, None, Some("6789")),
-        ("digits", 100, 7, None, Some("")),
-    ];
-    for (name, cap, failing, first, then) in cases {
-        let alloc = rt.alloc();
-        let digits = file(alloc, "digits", b"0123456789")?;
-        let files = vec![in alloc; file(alloc, "empty", b"")?, digits]?;
-        assert!(rt; MemDesk::has_distinct_names(&files));
-        let mut desk = MemDesk::new(
-            alloc,
-            files,
-            3,
-            0,
-            vec![in alloc; failing]?,
-            Vec::new(alloc),
-        )?;
-
-        assert_eq!(rt; desk.open_file("digit"), Err(Failed));
-        assert_eq!(rt; (desk.absent_count(), desk.read_fault_count()), (1, 0));
-        desk.open_file(name)?;
-        reads(&rt, &mut desk, cap, first.map(|text| text.as_bytes()));
-        reads(&rt, &mut desk, 100, then.map(|text| text.as_bytes()));
-    }
-    Ok(())
+    reads_twice(&rt, 0, 100, Some(b"0123456789"), b"")?;
+    reads_twice(&rt, 1, 4, Some(b"0123"), b"456789")?;
+    reads_twice(&rt, 0, 0, Some(b""), b"0123456789")?;
+    reads_twice(&rt, 5, 100, None, b"6789")
 }
 
 /// Creates the named file, writes two pieces and finishes it, up to the first failure.
@@ -73,156 +75,129 @@ fn makes<D: Desk>(desk: &mut D, name: &str, first: &[u8], second: &[u8]) -> Resu
     desk.finish()
 }
 
-/// A desk with a file of ten digits, whose writes take three bytes, with room for eight.
-fn room_for_eight<R: Abort + AllocGlobal>(rt: &R, failing: u64) -> Result<MemDesk, AllocError> {
-    let alloc = rt.alloc();
-    let files = vec![in alloc; file(alloc, "digits", b"0123456789")?]?;
-    assert!(rt; MemDesk::has_distinct_names(&files));
-    let failing = vec![in alloc; failing]?;
-    MemDesk::new(alloc, files, 3, 8, Vec::new(alloc), failing)
-}
-
-#[test]
-fn a_file_in_memory_is_made_up_to_its_room_or_its_fault(rt: HostRuntime) -> Result<(), Fail> {
-    // Call 1 creates the file, and a file of no fault takes one call for each three bytes of a
-    // piece and one to finish. The name, the failing call, both pieces, whether all succeeds, and
-    // what the file holds afterwards.
-    let long = "n".repeat(rt.alloc(), 256)?;
-    let cases: [(&str, u64, &str, &str, bool, Option<&str>); 10] = [
-        ("image", 0, "01234", "567", true, Some("01234567")),
-        ("image", 0, "", "", true, Some("")),
-        ("image", 0, "01234", "5678", false, Some("01234567")),
-        ("image", 1, "01234", "567", false, None),
-        ("image", 2, "01234", "567", false, Some("")),
-        ("image", 3, "01234", "567", false, Some("012")),
-        ("image", 4, "01234", "567", false, Some("01234")),
-        ("image", 5, "01234", "567", false, Some("01234567")),
-        ("digits", 0, "76", "5", true, Some("765")),
-        (&long, 0, "", "", false, None),
-    ];
-    for (name, failing, first, second, succeeds, want) in cases {
-        let mut desk = room_for_eight(&rt, failing)?;
-        let made = makes(&mut desk, name, first.as_bytes(), second.as_bytes());
-        assert_eq!(rt; made.is_ok(), succeeds, "{name} {failing} {first} {second}");
-        assert_eq!(rt; desk.write_fault_count(), u64::from(!succeeds));
-        assert_eq!(rt; desk.file(name), want.map(|text| text.as_bytes()));
-        if want.is_some() {
-            desk.open_file(name)?;
-            reads(&rt, &mut desk, 100, want.map(|text| text.as_bytes()));
-        }
-    }
+/// Call 1 creates a file, calls 2 and 3 write five bytes, call 4 writes the second piece, and the
+/// next finishes the file. What the file holds afterwards, and whether all calls succeed.
+fn makes_up_to<R: Abort + AllocGlobal>(
+    rt: &R,
+    failing: u64,
+    second: &[u8],
+    want: Option<&[u8]>,
+    succeeds: bool,
+) -> Result<(), Fail> {
+    let mut desk = memory_desk(rt, 0, failing)?;
+    let made = makes(&mut desk, "image", b"01234", second);
+    assert_eq!(rt; (made.is_ok(), desk.file("image")), (succeeds, want));
+    assert_eq!(rt; desk.write_fault_count(), u64::from(!succeeds));
+    assert_eq!(rt; desk.file("digits"), Some(b"0123456789".as_slice()));
     Ok(())
 }
 
 #[test]
-fn one_file_in_memory_is_made_and_made_anew(rt: HostRuntime) -> Result<(), Fail> {
-    let mut desk = room_for_eight(&rt, 0)?;
-    makes(&mut desk, "image", b"0123", b"4567")?;
-    assert_eq!(rt; desk.create_file("second"), Err(Failed));
-    assert_eq!(rt; desk.file("second"), None);
-    makes(&mut desk, "image", b"", b"9")?;
-    assert_eq!(rt; desk.file("image"), Some(b"9".as_slice()));
-    assert_eq!(rt; desk.file("digits"), Some(b"0123456789".as_slice()));
-    assert_eq!(rt; desk.write_fault_count(), 1);
+fn a_file_in_memory_is_made_up_to_its_room_or_its_fault(rt: HostRuntime) -> Result<(), Fail> {
+    makes_up_to(&rt, 0, b"567", Some(b"01234567"), true)?;
+    makes_up_to(&rt, 0, b"5678", Some(b"01234567"), false)?;
+    makes_up_to(&rt, 1, b"567", None, false)?;
+    makes_up_to(&rt, 3, b"567", Some(b"012"), false)?;
+    makes_up_to(&rt, 5, b"567", Some(b"01234567"), false)
+}
+
+/// What a sink took, which takes three bytes in a put and has room for eight.
+fn puts<R: Abort + AllocGlobal>(
+    rt: &R,
+    failing: u64,
+    piece: &[u8],
+    want: &[u8],
+) -> Result<(), Fail> {
+    let failing = vec![in rt.alloc(); failing]?;
+    let mut sink = MemSink::new(rt.alloc(), 8, 3, failing)?;
+    let put = put_all(&mut sink, piece);
+    assert_eq!(rt; (put.is_ok(), sink.bytes()), (piece == want, want));
+    assert_eq!(rt; sink.fault_count(), u64::from(piece != want));
     Ok(())
 }
 
 #[test]
 fn a_sink_in_memory_takes_pieces_up_to_its_room_or_its_fault(rt: HostRuntime) -> Result<(), Fail> {
-    // A put takes three bytes, and there is room for eight.
-    let cases: [(u64, &str, &str, &str, u64); 6] = [
-        (0, "0123456", "7", "01234567", 0),
-        (0, "0123456", "789", "01234567", 1),
-        (0, "012345678", "9", "01234567", 2),
-        (2, "0123456", "", "012", 1),
-        (2, "", "0123", "012", 1),
-        (4, "0123456", "7", "0123456", 1),
-    ];
-    for (failing, first, second, want, faults) in cases {
-        let alloc = rt.alloc();
-        let mut sink = MemSink::new(alloc, 8, 3, vec![in alloc; failing]?)?;
-        let _ = put_all(&mut sink, first.as_bytes());
-        let _ = put_all(&mut sink, second.as_bytes());
-        assert_eq!(rt; sink.bytes(), want.as_bytes(), "{failing} {first} {second}");
-        assert_eq!(rt; sink.fault_count(), faults, "{failing} {first} {second}");
-    }
-    Ok(())
+    puts(&rt, 0, b"01234567", b"01234567")?;
+    puts(&rt, 0, b"012345678", b"01234567")?;
+    puts(&rt, 2, b"01234567", b"012")
 }
 
-#[test]
-fn a_file_of_the_system_is_read_as_it_was_written(rt: HostRuntime) -> Result<(), Fail> {
-    // A name keeps its spaces, and 9,600,000 bytes are more than two buffers and two parts of
-    // memory.
-    let path = " acl_outside std_desk test ";
-    let alloc = rt.alloc();
-    let mut written = Vec::new(alloc);
-    for place in 0u32..2_400_000 {
-        written.extend_from_slice(&place.to_be_bytes())?;
+/// The numbers from 0 on, each of four bytes in network order.
+fn numbers(alloc: Global, count: u32) -> Result<Vec<u8>, AllocError> {
+    let mut bytes = Vec::new(alloc);
+    for number in 0..count {
+        bytes.extend_from_slice(&number.to_be_bytes())?;
     }
-    fs::write(&rt, path, written.as_slice())?;
-
-    let mut desk = StdDesk::new(&rt);
-    assert_eq!(rt; desk.open_file("acl_outside std_desk test"), Err(Failed));
-    desk.open_file(path)?;
-    // A few bytes by way of the buffer, the rest of the buffer, and then straight into the list.
-    reads(&rt, &mut desk, 24, written.get(..24));
-    reads(&rt, &mut desk, 10_000_000, written.get(24..));
-    // An opened file is read from its beginning.
-    desk.open_file(path)?;
-    reads(&rt, &mut desk, 10, written.get(..10));
-
-    // A folder can be opened, and not read.
-    desk.open_file(".")?;
-    reads(&rt, &mut desk, 10, None);
-    fs::remove_file(&rt, path)?;
-    Ok(())
+    Ok(bytes)
 }
 
 #[test]
 fn a_file_of_the_system_is_made_and_read_back(rt: HostRuntime) -> Result<(), Fail> {
-    let path = " acl_outside std_desk made ";
-    let alloc = rt.alloc();
+    // A name keeps its spaces. 240,000 bytes are more than two buffers and two parts of memory.
+    let path = " acl_outside std_desk ";
     let mut desk = StdDesk::new(&rt);
-    // What was there before is gone.
     makes(&mut desk, path, b"earlier and longer", b"")?;
     makes(&mut desk, path, b"packets", b" and rules")?;
     desk.open_file(path)?;
-    reads(&rt, &mut desk, 100, Some(b"packets and rules".as_slice()));
+    reads(&rt, &mut desk, 100, Some(b"packets and rules"));
 
-    // More than two buffers.
-    let mut long = Vec::new(alloc);
-    for place in 0u32..60_000 {
-        long.extend_from_slice(&place.to_be_bytes())?;
-    }
-    makes(&mut desk, path, &long, b"")?;
+    let long = numbers(rt.alloc(), 60_000)?;
+    makes(&mut desk, path, b"", &long)?;
+    assert_eq!(rt; desk.open_file("acl_outside std_desk"), Err(Failed));
     desk.open_file(path)?;
-    reads(&rt, &mut desk, 1_000_000, Some(&long));
+    // A few bytes by way of the buffer, the rest of it, and then straight into the list.
+    reads(&rt, &mut desk, 24, long.get(..24));
+    reads(&rt, &mut desk, 1_000_000, long.get(24..));
+    // An opened file is read from its beginning.
+    desk.open_file(path)?;
+    reads(&rt, &mut desk, 10, long.get(..10));
     fs::remove_file(&rt, path)?;
+    Ok(())
+}
 
-    // A folder can't be written.
+#[test]
+fn a_path_of_the_system_is_taken_as_it_is(rt: HostRuntime) -> Result<(), Fail> {
+    let mut desk = StdDesk::new(&rt);
+    desk.open_file("/dev/null")?;
+    reads(&rt, &mut desk, 10, Some(b""));
+    assert_eq!(rt; desk.open_file("dev/null"), Err(Failed));
+    desk.create_file("/dev/null")?;
+    // A folder can be opened, and neither be read nor be written.
+    desk.open_file(".")?;
+    reads(&rt, &mut desk, 10, None);
     assert_eq!(rt; desk.create_file("."), Err(Failed));
     Ok(())
 }
 
-/// A writer that is interrupted first, then takes two bytes, then nothing, and then fails.
+/// A file that is interrupted three times, then moves two bytes, then none, and then fails.
 #[derive(Drop)]
 struct Stubborn<'a> {
-    taken: &'a mut Vec<u8>,
-    writes: u8,
+    taken: &'a mut [u8; 2],
+    calls: u8,
+}
+
+impl Stubborn<'_> {
+    /// How many bytes the next call moves.
+    fn next(&mut self) -> io::Result<usize> {
+        self.calls = self.calls.saturating_add(1);
+        match self.calls {
+            1..=3 => Err(io::Error::from(ErrorKind::Interrupted)),
+            4 => Ok(2),
+            5 => Ok(0),
+            _ => Err(io::Error::from(ErrorKind::StorageFull)),
+        }
+    }
 }
 
 impl Write for Stubborn<'_> {
     fn write(&mut self, piece: &[u8]) -> io::Result<usize> {
-        self.writes = self.writes.saturating_add(1);
-        match self.writes {
-            1 => Err(io::Error::from(ErrorKind::Interrupted)),
-            2 => {
-                let prefix = piece.get(..2).unwrap_or(piece);
-                self.taken.extend_from_slice(prefix)?;
-                Ok(prefix.len())
+        match (self.next()?, piece) {
+            (2, [first, second, ..]) => {
+                *self.taken = [*first, *second];
+                Ok(2)
             }
-            3 => Ok(0),
-            _ => Err(io::Error::from(ErrorKind::StorageFull)),
+            _ => Ok(0),
         }
     }
 
@@ -231,27 +206,40 @@ impl Write for Stubborn<'_> {
     }
 }
 
+impl Read for Stubborn<'_> {
+    fn read(&mut self, into: &mut [u8]) -> io::Result<usize> {
+        match (self.next()?, into) {
+            (2, [first, second, ..]) => {
+                [*first, *second] = *self.taken;
+                Ok(2)
+            }
+            _ => Ok(0),
+        }
+    }
+}
+
 #[test]
-fn a_writer_is_asked_again_where_it_was_interrupted(rt: HostRuntime) -> Result<(), Fail> {
-    let mut taken = Vec::new(rt.alloc());
+fn a_call_is_made_again_where_it_was_interrupted(rt: HostRuntime) {
+    let mut taken = [0; 2];
     let mut sink = StdSink::new(Stubborn {
         taken: &mut taken,
-        writes: 0,
+        calls: 0,
     });
     assert_eq!(rt; sink.put(b"packets"), Ok(2));
+    // A put that takes nothing has failed, and so has one of another error.
     assert_eq!(rt; sink.put(b"ckets"), Err(Failed));
     assert_eq!(rt; put_all(&mut sink, b"ckets"), Err(Failed));
     assert_eq!(rt; put_all(&mut sink, b""), Ok(()));
     drop(sink);
-    assert_eq!(rt; taken.as_slice(), b"pa".as_slice());
+    assert_eq!(rt; taken, *b"pa");
 
-    // A long piece is written once, and as it is.
-    let mut piece = Vec::new(rt.alloc());
-    for place in 0u32..10_000 {
-        piece.extend_from_slice(&place.to_be_bytes())?;
-    }
-    let mut whole = Vec::new(rt.alloc());
-    put_all(&mut StdSink::new(&mut whole), &piece)?;
-    assert_eq!(rt; whole.as_slice(), piece.as_slice());
-    Ok(())
+    let mut file = Stubborn {
+        taken: &mut taken,
+        calls: 0,
+    };
+    let mut into = [0; 4];
+    assert_eq!(rt; read_once(&mut file, &mut into), Ok(2));
+    assert_eq!(rt; into, *b"pa\0\0");
+    assert_eq!(rt; read_once(&mut file, &mut into), Ok(0));
+    assert_eq!(rt; read_once(&mut file, &mut into), Err(Failed));
 }

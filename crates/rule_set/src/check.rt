@@ -130,3 +130,48 @@ impl ValueCheck {
             .position(|(def, value)| !self.passes(def, value))
     }
 }
+
+#[cfg(test)]
+mod tests {
+    use super::*;
+    use crate::set::PushFault;
+    use std::test::Fail;
+
+    #[test]
+    fn faults_are_said_in_words(rt: HostRuntime) -> Result<(), Fail> {
+        let cases = [
+            (
+                RuleFault::FieldCount,
+                "the rule has another number of values than the layout has fields",
+            ),
+            (
+                RuleFault::FieldKind(1),
+                "field 1: the value is of another kind",
+            ),
+            (RuleFault::NoCategory, "the rule has no category"),
+            (RuleFault::PriorityRange, "the priority is out of range"),
+            (
+                RuleFault::FieldTooWide(2),
+                "field 2: the value is wider than the field",
+            ),
+            (
+                RuleFault::MaskTooLong(3),
+                "field 3: the mask is longer than the field",
+            ),
+            (RuleFault::EmptyRange(63), "field 63: the range is empty"),
+        ];
+        for (fault, words) in cases {
+            assert_eq!(rt; format!(in rt.alloc(); "{fault}")?.as_str(), words);
+        }
+        let pushed = [
+            PushFault::Rule(RuleFault::FieldKind(1)),
+            PushFault::OutOfMemory,
+        ];
+        let text = format!(in rt.alloc(); "{}; {}", pushed[0], pushed[1])?;
+        assert_eq!(rt;
+            text.as_str(),
+            "field 1: the value is of another kind; out of memory"
+        );
+        Ok(())
+    }
+}

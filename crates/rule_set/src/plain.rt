@@ -78,6 +78,7 @@ fn matches_key(defs: &[FieldDef], values: &[FieldValue], key: &[u8]) -> bool
 #[cfg(test)]
 mod tests {
     use super::*;
+    use crate::categories::{Categories, MAX_CATEGORIES};
     use crate::rule::StoredRule;
     use field_defs::ip4_layout;
     use std::alloc::Global;
@@ -191,6 +192,37 @@ mod tests {
         // 300 is the address 0.0.1.44.
         let key = [17, 0, 0, 1, 44, 201, 212, 111, 12, 0, 1, 0, 2];
         assert_eq!(rt; verdicts(&rt, &rules, &key), [300, 0, 0, 0]);
+        Ok(())
+    }
+
+    /// In each of the categories the winner's userdata is 100 plus the category.
+    fn each_has_its_own(rt: &impl Abort, rules: &RuleSet, cats: &Categories) {
+        let key = [0; 13];
+        assert!(rt; key.len() == rules.layout().key_len());
+        for category in 0..cats.count() as u32 {
+            assert_eq!(rt; plain_verdict(rules, &key, category), 100 + category);
+        }
+    }
+
+    #[test]
+    fn each_category_has_its_own_winner(rt: HostRuntime) -> Result<(), Fail> {
+        // A rule for all categories, and one of a greater priority for each.
+        let mut rules = guide_rules(&rt, rt.alloc())?;
+        for category in 0..MAX_CATEGORIES as u32 {
+            let tag = RuleTag {
+                category_mask: 1 << category,
+                priority: 4,
+                userdata: 100 + category,
+            };
+            assert!(rt; !rules.is_full());
+            rules.push(rule(rt.alloc(), tag, ANY, ANY)?)?;
+        }
+        for n in [1, 4, 8, 12, 16] {
+            match Categories::new(n) {
+                Some(cats) => each_has_its_own(&rt, &rules, &cats),
+                None => assert_eq!(rt; n, 0),
+            }
+        }
         Ok(())
     }
 }

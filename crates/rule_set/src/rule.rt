@@ -95,34 +95,29 @@ mod tests {
     use super::*;
     use std::test::Fail;
 
+    const TAG: RuleTag = RuleTag {
+        category_mask: 1,
+        priority: 2,
+        userdata: 0,
+    };
+
     #[test]
     fn a_rule_of_two_values_is_stored(rt: HostRuntime) -> Result<(), Fail> {
-        let tag = RuleTag {
-            category_mask: 1,
-            priority: 2,
-            userdata: 0,
-        };
         let fields = [
             FieldValue::Range { low: 4, high: 5 },
             FieldValue::Mask { value: 6, bits: 7 },
         ];
-        let rule = Rule { tag, fields }.store(rt.alloc())?;
-        assert_eq!(rt; rule.fields(), fields.as_slice());
-        assert_eq!(rt; rule.tag(), tag);
+        let rule = Rule { tag: TAG, fields }.store(rt.alloc())?;
+        assert_eq!(rt; (rule.fields(), rule.tag()), (fields.as_slice(), TAG));
         Ok(())
     }
 
     #[test]
     fn a_rule_of_nine_values_is_stored(rt: HostRuntime) -> Result<(), Fail> {
-        let tag = RuleTag {
-            category_mask: 1,
-            priority: 2,
-            userdata: 3,
-        };
-        let values = [FieldValue::Range { low: 4, high: 5 }; 9];
-        let rule = StoredRule::new(rt.alloc(), tag, &values)?;
-        assert_eq!(rt; rule.fields(), values.as_slice());
-        assert_eq!(rt; rule.tag(), tag);
+        let mut fields = [FieldValue::Range { low: 4, high: 5 }; 9];
+        fields[8] = FieldValue::Bitmask { value: 6, mask: 7 };
+        let rule = Rule { tag: TAG, fields }.store(rt.alloc())?;
+        assert_eq!(rt; (rule.fields(), rule.tag()), (fields.as_slice(), TAG));
         Ok(())
     }
 }

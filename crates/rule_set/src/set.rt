@@ -28,6 +28,16 @@ pub enum PushFault {
     OutOfMemory,
 }
 
+impl From<AllocError> for PushFault {
+    ghost use Rattle.rule_set.specs.declared.set.PushFault.TheVariants.{OutOfMemory};
+
+    ghost from_gives = { λ _ fault. fault ≡ OutOfMemory };
+
+    fn from(_: AllocError) -> PushFault {
+        PushFault::OutOfMemory
+    }
+}
+
 /// Rules that are lawful for one layout, in the order in which they were added, at most 262,144.
 ///
 /// Contracts see the layout and the list of the rules. No call but `push` and `push_lawful` takes
@@ -76,10 +86,8 @@ impl RuleSet {
         ensures err { OnErr result (self.new ≡ self.old) }
     {
         check_rule(&self.layout, &rule.tag(), rule.fields()).map_err(PushFault::Rule)?;
-        match self.push_lawful(rule) {
-            Ok(()) => Ok(()),
-            Err(AllocError) => Err(PushFault::OutOfMemory),
-        }
+        self.push_lawful(rule)?;
+        Ok(())
     }
 
     /// Adds a rule after the others that the caller knows to be lawful for the layout.

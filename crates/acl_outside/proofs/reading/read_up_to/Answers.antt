@@ -56,7 +56,7 @@ parts-preserved g c =
 pub returns-in_err-make_room : goal.returns-in_err-make_room
 returns-in_err-make_room g c =
     let failed = err_from_is_err_and c.from_residual.result c.from_residual.ensures.1 in
-    rw (failed.1, failed.2, c.in_err-make_room.ensures.out_of_memory)
+    rw (failed.1, failed.2)
     record {
       within = tt;
       bytes = tt;
