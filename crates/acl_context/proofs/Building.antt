@@ -9,6 +9,7 @@ use Rattle.trie_merge.specs.Levels.{LevelsView, levels_of}
 use Rattle.rule_split.specs.Split.{groups_of, total_of, plan_of, PlanView}
 use Rattle.rule_split.proofs.Offered.{groups_hold, total_of_words}
 use Rattle.flat_table.specs.Sound.{most_tries}
+use Rattle.flat_table.specs.Table.{TableView, words_of}
 use Rattle.table_fill.specs.Filled.{filled}
 use Rattle.acl_context.specs.Context.{built_of}
 
@@ -78,3 +79,13 @@ plans_are_fillable set budget capped fits = record {
   each = each_of_its_group set (groups_of set budget);
   size = omega (arith, rw (levels_of_plan set budget) at (total_of_words set budget fits), fits, capped);
 }
+
+-- the table of a plan within the budget has as many words as the total of its split
+pub words_are : (set : RuleSetView) (budget : ℕ) (table : TableView) (levels : List LevelsView) →
+    table ≡ built_of set budget → levels ≡ levels_in set budget → total_of set budget ≤ budget →
+    words_of table ≡ row_len + sum_by (λ (trie : LevelsView). trie.words) levels →
+    words_of (built_of set budget) ≡ total_of set budget
+words_are set budget table levels is are fits words =
+    ap words_of (sym is) ∙ words
+    ∙ ap (λ (tries : List LevelsView). row_len + sum_by (λ (trie : LevelsView). trie.words) tries) are
+    ∙ sym (rw (levels_of_plan set budget) at (total_of_words set budget fits))

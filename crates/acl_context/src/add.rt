@@ -10,7 +10,7 @@ ghost use Rattle.rule_set.specs.Rule.{RuleView};
 ghost use Rattle.acl_context.specs.Add.{refusals};
 
 use field_defs::{FieldValue, Layout};
-use rule_set::{PushFault, Rule, RuleFault, RuleSet, RuleTag, StoredRule, check_rule};
+use rule_set::{Rule, RuleFault, RuleSet, RuleTag, StoredRule, check_rule};
 use std::alloc::{AllocError, Global};
 use thiserror::Error;
 
@@ -93,9 +93,9 @@ pub(crate) fn push_all<R: Given>(
 {
     let held = set.len();
     for rule in rules {
-        if let Err(AllocError) = push_one(alloc, set, rule) {
+        if let Err(want) = push_one(alloc, set, rule) {
             set.truncate(held);
-            return Err(AllocError);
+            return Err(want);
         }
     }
     Ok(())
@@ -111,9 +111,5 @@ fn push_one<R: Given>(alloc: Global, set: &mut RuleSet, rule: &R) -> Result<(), 
     ensures err { OnErr result (set.new ≡ set.old) }
 {
     let stored = StoredRule::new(alloc, rule.given_tag(), rule.given_fields())?;
-    match set.push(stored) {
-        Ok(()) => Ok(()),
-        Err(PushFault::Rule(_)) => unreachable!(),
-        Err(PushFault::OutOfMemory) => Err(AllocError),
-    }
+    set.push_lawful(stored)
 }

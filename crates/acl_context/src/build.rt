@@ -3,6 +3,7 @@
 ghost use Rattle.std.specs.Prelude.{◌≡◌, ℕ, ◌<◌, ◌≤◌, Err, IfOk, OnOk};
 ghost use Rattle.table_sizes.specs.Sizes.{max_words};
 ghost use Rattle.rule_split.specs.Split.{total_of};
+ghost use Rattle.flat_table.specs.Table.{words_of};
 ghost use Rattle.table_fill.specs.Serves.{Serves};
 ghost use Rattle.acl_context.specs.Context.{built_of};
 
@@ -36,6 +37,8 @@ pub(crate) fn make_table(alloc: Global, rules: &RuleSet, budget: u64) -> Result<
     ensures table { IfOk result (λ table. table ≡ built_of rules.now budget) }
     ensures serves { OnOk result (Serves rules.now (built_of rules.now budget)) }
     ensures fits { OnOk result (total_of rules.now budget ≤ budget) }
+    ensures words { OnOk result
+        (words_of (built_of rules.now budget) ≡ total_of rules.now budget) }
     ensures too_large { (words most : ℕ) → result ≡ Err (BuildFault.TooLarge words most) →
         (words ≡ total_of rules.now budget) × (most ≡ budget) × (budget < words) }
 {

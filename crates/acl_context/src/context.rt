@@ -1,13 +1,15 @@
 //! Rules of one layout, and the table of the last build.
 
 ghost use Rattle.std.specs.Prelude.{◌≡◌, ◌↔◌, ℕ, ◌+◌, ◌<◌, ◌≤◌, [], length, map};
-ghost use Rattle.std.specs.Prelude.{Some, None, Ok, Err, IfSome, IsErr, OnOk, OnErr, option_copied};
+ghost use Rattle.std.specs.Prelude.{Some, None, Ok, Err, IfOk, IfSome, IsErr, OnOk, OnErr, option_copied};
 ghost use Rattle.field_defs.specs.Layout.{key_len_of, max_fields};
 ghost use Rattle.rule_set.specs.Rule.{RuleSetView};
 ghost use Rattle.rule_set.specs.declared.set.TheConstants.{MAX_RULES};
 ghost use Rattle.table_sizes.specs.Sizes.{max_words};
 ghost use Rattle.rule_split.specs.Split.{total_of};
 ghost use Rattle.flat_table.specs.Batch.{KeysFit, batch_verdicts, batch_transitions};
+ghost use Rattle.flat_table.specs.Batch.{most_of_batch};
+ghost use Rattle.flat_table.specs.Table.{words_of};
 ghost use Rattle.table_fill.specs.Serves.{Serves};
 ghost use Rattle.acl_context.specs.Context.{built_of, rule_view, with_rules};
 ghost use Rattle.acl_context.specs.Add.{Adds};
@@ -121,6 +123,9 @@ impl AclContext {
         // The new table answers for each key and category as the rules that are held.
         ensures serves { OnOk result (Serves self.old.set (built_of self.old.set budget)) }
         ensures fits { OnOk result (total_of self.old.set budget ≤ budget) }
+        // The words of the new table are the total at which the split ends.
+        ensures words { OnOk result
+            (words_of (built_of self.old.set budget) ≡ total_of self.old.set budget) }
         ensures too_large { (words most : ℕ) → result ≡ Err (BuildFault.TooLarge words most) →
             (words ≡ total_of self.old.set budget) × (most ≡ budget) × (budget < words) }
         ensures err { OnErr result (self.new ≡ self.old) }
@@ -156,6 +161,8 @@ impl AclContext {
             (λ table. out.new ≡ batch_verdicts table cats.count keys.now) }
         ensures taken { IfSome self.now.table
             (λ table. result ≡ Ok (batch_transitions table keys.now)) }
+        ensures bound { IfSome self.now.table (λ table. IfOk result
+            (λ taken. taken ≤ most_of_batch table keys.now)) }
         ensures steps { IfSome self.now.table
             (λ table. steps.new ≡ steps.old + batch_transitions table keys.now) }
         // They are those of the rules, where the table answers as some rules do.

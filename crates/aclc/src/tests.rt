@@ -1,7 +1,4 @@
-//! The program over files and streams of the system, and what stands on several crates.
-
-mod recount;
-mod seeds;
+//! The program over files and streams of the system.
 
 use crate::exit_code;
 use acl_outside::{StdDesk, StdSink};

@@ -7,8 +7,7 @@ use Rattle.std.proofs.lemmas.List.FromFn.{length-range_with_len}
 use Rattle.acl_outside.specs.Desk.{File}
 use Rattle.acl_outside.specs.Heard.{Heard}
 use Rattle.flat_table.specs.Table.{TableView}
-use Rattle.flat_table.specs.Walk.{key_transitions, tries_of, walk_transitions}
-use Rattle.flat_table.proofs.Offered.{places_bound, transitions_bound}
+use Rattle.flat_table.proofs.Offered.{key_bound}
 use Rattle.header_extract.specs.declared.class.Class.{Class}
 use Rattle.header_extract.specs.declared.class.Class.TheVariants.{Ip4, Ip6, Other, Short}
 use Rattle.header_extract.specs.Class.{FrameClass}
@@ -19,28 +18,12 @@ use Rattle.command_plan.specs.Plan.{Outcome}
 use Rattle.command_plan.specs.Endings.{is_decided}
 use Rattle.command_plan.specs.Follow.{Reached, Follows, outcome_of}
 use Rattle.command_plan.specs.Effects.{Outside, Ends, files_of, heard_of}
-use Rattle.capture_report.specs.Bound.{TransitionsAreBounded, most_of_key, most_on, most_of_records}
+use Rattle.capture_report.specs.Bound.{TransitionsAreBounded, most_on, most_of_records}
 use Rattle.capture_report.specs.CaptureOutcome.{report, report_of_capture, reported}
 use Rattle.capture_report.specs.Classifier.{Tables}
 use Rattle.capture_report.specs.Packet.{packet_of}
 use Rattle.capture_report.specs.Report.{transitions_on}
 use Rattle.capture_report.specs.ReportForm.{ReportForm}
-
--- the walks of a key take at most one word for each trie and byte
-pub key_bound : (table : TableView) (key : List ℕ) → key_transitions table key ≤ most_of_key table
-key_bound table key =
-    let each : All (λ trie. walk_transitions table trie key ≤ table.key_len) (tries_of table) =
-    λ k d below. omega (
-      arith,
-      places_bound table (slice_index_or (tries_of table) k d),
-      transitions_bound table (slice_index_or (tries_of table) k d) key,
-    ) in
-    omega (
-      arith,
-      sum_by_from (λ trie. walk_transitions table trie key) 0 (tries_of table),
-      sum_by-le (λ trie. walk_transitions table trie key) table.key_len (tries_of table) each,
-      ap (λ (n : ℕ). n * table.key_len) (length-range_with_len 0 (length table.roots)),
-    )
 
 class_bound : (class : Class) (tables : Tables) (key : List ℕ) → transitions_on class tables key ≤ most_on class tables
 class_bound Ip4 tables key = key_bound tables.ip4 key

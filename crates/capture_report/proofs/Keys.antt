@@ -23,7 +23,7 @@ use Rattle.capture_report.specs.Packet.{IsPacket}
 use Rattle.capture_report.specs.Classifier.{Tables, key_len_of_family}
 use Rattle.capture_report.specs.Report.{transitions_on, transitions_of_packets}
 use Rattle.capture_report.specs.Taken.{max_batch}
-use Rattle.capture_report.proofs.Bounds.{key_bound}
+use Rattle.flat_table.proofs.Offered.{key_bound}
 use Rattle.capture_report.specs.Batch.{is_of, keys_of, number_of, verdicts_of, transitions_of_family, max_transitions}
 
 zero-add : (n : ℕ) → 0 + n ≡ n

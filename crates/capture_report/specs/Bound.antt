@@ -1,6 +1,6 @@
 -- How many transitions the report of a capture tells at most.
-use Rattle.std.specs.Prelude.{ℕ, ◌*◌, ◌≤◌, List, length, map, sum_by}
-use Rattle.flat_table.specs.Table.{TableView}
+use Rattle.std.specs.Prelude.{ℕ, ◌≤◌, List, map, sum_by}
+use Rattle.flat_table.specs.Walk.{most_of_key}
 use Rattle.header_extract.specs.declared.class.Class.{Class}
 use Rattle.header_extract.specs.declared.class.Class.TheVariants.{Ip4, Ip6, Other, Short}
 use Rattle.pcap_reader.specs.State.{CaptureRecord}
@@ -9,10 +9,6 @@ use Rattle.capture_report.specs.Classifier.{Tables}
 use Rattle.capture_report.specs.Packet.{packet_of}
 use Rattle.capture_report.specs.ReportForm.{ReportForm}
 use Rattle.capture_report.specs.CaptureOutcome.{report}
-
--- of a key: one for each trie of its table and byte of the key
-abbrev pub most_of_key : TableView → ℕ
-most_of_key table = length table.roots * table.key_len
 
 -- of the key of a class: a frame without a packet has none
 abbrev pub most_on : Class → Tables → ℕ

@@ -6,6 +6,10 @@
 pub use Rattle.flat_table.proofs.Lanes.{place_below}
 -- a trie keeps no more places than a key has bytes
 pub use Rattle.flat_table.proofs.Lanes.{places_bound}
+-- a key takes at most one transition for each trie and byte
+pub use Rattle.flat_table.proofs.Bounds.{key_bound}
+-- and so does each key of a batch
+pub use Rattle.flat_table.proofs.Bounds.{batch_bound}
 -- a match stays, whatever bytes follow
 pub use Rattle.flat_table.proofs.Transitions.{match_stays}
 -- a trie gives a walk as many bytes as it keeps places

@@ -3,7 +3,7 @@ use Rattle.std.specs.Prelude.{◌≡◌, ℕ, ◌+◌, ◌*◌, ◌/◌, ◌≤�
 use Rattle.std.specs.Prelude.{flat_map}
 use Rattle.std.specs.List.{range_with_len}
 use Rattle.flat_table.specs.Table.{TableView}
-use Rattle.flat_table.specs.Walk.{table_verdict, key_transitions}
+use Rattle.flat_table.specs.Walk.{table_verdict, key_transitions, most_of_key}
 
 -- how many keys a batch has at most
 abbrev pub most_keys : ℕ
@@ -58,3 +58,7 @@ first_transitions table keys n = fold
 -- how many transitions the walks of all keys take
 abbrev pub batch_transitions : TableView → List ℕ → ℕ
 batch_transitions table keys = first_transitions table keys (keys_in table keys)
+
+-- how many transitions all keys take at most
+abbrev pub most_of_batch : TableView → List ℕ → ℕ
+most_of_batch table keys = keys_in table keys * most_of_key table

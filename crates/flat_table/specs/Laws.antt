@@ -4,6 +4,8 @@ use Rattle.std.specs.Prelude.{if◌then◌else◌}
 use Rattle.flat_table.specs.Word.{index_of, is_match, next_place}
 use Rattle.flat_table.specs.Table.{TableView, level_of, places_of}
 use Rattle.flat_table.specs.Sound.{is_shaped, leads_into, is_sound_word, sound_fault}
+use Rattle.flat_table.specs.Batch.{batch_transitions, most_of_batch}
+use Rattle.flat_table.specs.Walk.{key_transitions, most_of_key}
 use Rattle.flat_table.specs.Walk.{root_of, moved, word_after, transitions_after, walk_row, walk_transitions}
 
 -- The parts fit together, each root leads into the first level of its trie, and each word of each
@@ -69,3 +71,10 @@ pub record WalksGoStepByStep : Type 0 where
       (if is_match (word_after table trie key n) then 0 else 1)
   pub bound : (table : TableView) (trie : ℕ) (key : List ℕ) →
       walk_transitions table trie key ≤ length (places_of table trie)
+
+-- Whatever the table, a key takes at most one transition for each trie and byte, and so does each
+-- key of a batch.
+pub record WalksAreBounded : Type 0 where
+  pub key : (table : TableView) (key : List ℕ) → key_transitions table key ≤ most_of_key table
+  pub batch : (table : TableView) (keys : List ℕ) →
+      batch_transitions table keys ≤ most_of_batch table keys

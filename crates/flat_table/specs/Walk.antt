@@ -1,5 +1,5 @@
 -- The walk of a key through a trie, and the verdicts of a table.
-use Rattle.std.specs.Prelude.{ℕ, ◌+◌, ◌%◌, ◌^◌, max, List, [], ◌∷◌, map, take, length, fold}
+use Rattle.std.specs.Prelude.{ℕ, ◌*◌, ◌+◌, ◌%◌, ◌^◌, max, List, [], ◌∷◌, map, take, length, fold}
 use Rattle.std.specs.Prelude.{slice_index, slice_index_or, if◌then◌else◌}
 use Rattle.std.specs.List.{range_with_len}
 use Rattle.flat_table.specs.Word.{index_of, is_match, next_word}
@@ -81,3 +81,7 @@ table_verdict table key category = joined table key category % userdatas
 abbrev pub key_transitions : TableView → List ℕ → ℕ
 key_transitions table key = fold (λ total trie. total + walk_transitions table trie key) 0
     (tries_of table)
+
+-- how many transitions a key takes at most: one for each trie and byte
+abbrev pub most_of_key : TableView → ℕ
+most_of_key table = length table.roots * table.key_len

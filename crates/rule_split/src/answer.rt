@@ -1,5 +1,6 @@
 //! What a split comes to: a plan, or why there is none.
 
+use std::alloc::AllocError;
 use std::marker::Model;
 use thiserror::Error;
 use trie_merge::Levels;
@@ -19,6 +20,18 @@ pub enum PlanFault {
     /// There is no memory for the merged states.
     #[error("out of memory")]
     OutOfMemory,
+}
+
+/// Want of memory ends a split, whatever it was doing.
+impl From<AllocError> for PlanFault {
+    ghost use Rattle.std.specs.Prelude.{◌≡◌};
+    ghost use Rattle.rule_split.specs.declared.answer.PlanFault.TheVariants.{OutOfMemory};
+
+    ghost from_gives = { λ _ fault. fault ≡ OutOfMemory };
+
+    fn from(_: AllocError) -> PlanFault {
+        PlanFault::OutOfMemory
+    }
 }
 
 /// The merged states of each group of a rule set, and the words of a table of all of them.

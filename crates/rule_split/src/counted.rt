@@ -1,7 +1,8 @@
 //! A group of rules whose words were counted.
 
+use crate::answer::PlanFault;
 use rule_set::RuleSet;
-use std::alloc::{AllocError, Global};
+use std::alloc::Global;
 use trie_merge::{Levels, MergeFault};
 
 /// A group of rules whose words were counted, up to a budget.
@@ -14,9 +15,10 @@ pub(crate) enum Counted {
 }
 
 impl Counted {
-    ghost use Rattle.std.specs.Prelude.{◌≡◌, ◌≤◌, IfOk};
+    ghost use Rattle.std.specs.Prelude.{◌≡◌, ◌≤◌, IfErr, IfOk};
     ghost use Rattle.table_sizes.specs.Sizes.{max_words};
     ghost use Rattle.trie_merge.specs.Levels.{IsGroup};
+    ghost use Rattle.rule_split.specs.declared.answer.PlanFault.TheVariants.{OutOfMemory};
     ghost use Rattle.rule_split.specs.Counted.{group_in, words_counted, words_to_split};
     ghost use Rattle.rule_split.specs.Counted.{is_most, IsCounted};
     ghost use Rattle.rule_split.specs.Split.{can_split};
@@ -27,16 +29,17 @@ impl Counted {
         rules: &RuleSet,
         group: Vec<u32>,
         budget: u64,
-    ) -> Result<Self, AllocError>
+    ) -> Result<Self, PlanFault>
         requires group { IsGroup rules.now group.items }
         requires budget { budget ≤ max_words }
         ensures group { IfOk result (λ counted. group_in counted ≡ group.items) }
         ensures counted { IfOk result (λ counted. IsCounted rules.now budget counted) }
+        ensures memory { IfErr result (λ fault. fault ≡ OutOfMemory) }
     {
         match Levels::build(alloc, rules, group.as_slice(), budget) {
             Ok(levels) => Ok(Counted::Fits(levels)),
             Err(MergeFault::OverCap) => Ok(Counted::TooLarge(group)),
-            Err(MergeFault::OutOfMemory) => Err(AllocError),
+            Err(MergeFault::OutOfMemory) => Err(PlanFault::OutOfMemory),
         }
     }
 

@@ -1,12 +1,12 @@
 //! The split of a rule set under a budget of words, turn by turn.
 
 ghost use Rattle.std.specs.Prelude.{◌≡◌, ℕ, ◌+◌, ◌<◌, ◌≤◌, ◌∷◌, ◌++◌, length, map, take, drop};
-ghost use Rattle.std.specs.Prelude.{All, [], slice_index_or, Err, IfOk, OnOk};
+ghost use Rattle.std.specs.Prelude.{All, [], slice_index_or, Err, IfErr, IfOk, OnOk};
 ghost use Rattle.std.specs.Option.{option_to_list};
 ghost use Rattle.std.specs.List.{filter_map, position, range_with_len, sum_by};
 ghost use Rattle.rule_set.specs.Groups.{IsPartition};
 ghost use Rattle.table_sizes.specs.Sizes.{max_words, row_len};
-ghost use Rattle.rule_split.specs.declared.answer.PlanFault.TheVariants.{TooLarge};
+ghost use Rattle.rule_split.specs.declared.answer.PlanFault.TheVariants.{OutOfMemory, TooLarge};
 ghost use Rattle.rule_split.specs.Counted.{group_in, levels_in, words_counted, most_counted};
 ghost use Rattle.rule_split.specs.Counted.{is_most, IsCounted, IsWithin};
 ghost use Rattle.rule_split.specs.Split.{plan_of, total_of, split_at, turn, groups_of};
@@ -76,6 +76,14 @@ fn put_two(
     Ok(())
 }
 
+/// Puts a group after the others.
+fn put_last(groups: &mut Vec<Counted>, group: Counted) -> Result<(), AllocError>
+    ensures { OnOk result (groups.new.items ≡ groups.old.items ++ group ∷ []) }
+{
+    groups.push(group)?;
+    Ok(())
+}
+
 /// Splits the group at the place in two, and counts both.
 fn split_at(
     alloc: Global,
@@ -83,7 +91,7 @@ fn split_at(
     budget: u64,
     groups: &mut Vec<Counted>,
     place: usize,
-) -> Result<(), AllocError>
+) -> Result<(), PlanFault>
     requires budget { budget ≤ max_words }
     requires place { place < length groups.old.items }
     requires two { 2 ≤ length (slice_index_or (map group_in groups.old.items) place []) }
@@ -92,6 +100,7 @@ fn split_at(
     ensures groups { OnOk result (map group_in groups.new.items
         ≡ split_at rules.now (map group_in groups.old.items) place) }
     ensures counted { OnOk result (All (IsCounted rules.now budget) groups.new.items) }
+    ensures memory { IfErr result (λ fault. fault ≡ OutOfMemory) }
 {
     let group = groups.remove(place);
     let two = divide(alloc, rules, group.group())?;
@@ -99,7 +108,8 @@ fn split_at(
     drop(group);
     let first = Counted::new(alloc, rules, two.first, budget)?;
     let second = Counted::new(alloc, rules, two.second, budget)?;
-    put_two(groups, place, first, second)
+    put_two(groups, place, first, second)?;
+    Ok(())
 }
 
 /// Takes one turn: where the total is above the budget, the group of most words becomes two.
@@ -108,7 +118,7 @@ fn take_turn(
     rules: &RuleSet,
     budget: u64,
     groups: &mut Vec<Counted>,
-) -> Result<(), AllocError>
+) -> Result<(), PlanFault>
     requires budget { budget ≤ max_words }
     requires few { length groups.old.items ≤ max_groups }
     requires partition { IsPartition (length rules.now.rules) (map group_in groups.old.items) }
@@ -116,6 +126,7 @@ fn take_turn(
     ensures groups { OnOk result (map group_in groups.new.items
         ≡ turn (words_of_group rules.now) rules.now budget (map group_in groups.old.items)) }
     ensures counted { OnOk result (All (IsCounted rules.now budget) groups.new.items) }
+    ensures memory { IfErr result (λ fault. fault ≡ OutOfMemory) }
 {
     if total(groups.as_slice(), budget) <= budget {
         return Ok(());
@@ -139,25 +150,28 @@ fn all_rules(alloc: Global, rules: &RuleSet) -> Result<Vec<u32>, AllocError>
 }
 
 /// The groups before the first turn: one of all rules, or none where there is no rule.
-fn first_groups(alloc: Global, rules: &RuleSet, budget: u64) -> Result<Vec<Counted>, AllocError>
+fn first_groups(alloc: Global, rules: &RuleSet, budget: u64) -> Result<Vec<Counted>, PlanFault>
     requires { budget ≤ max_words }
     ensures groups { IfOk result (λ groups. map group_in groups.items ≡ first_groups rules.now) }
     ensures counted { IfOk result (λ groups. All (IsCounted rules.now budget) groups.items) }
+    ensures memory { IfErr result (λ fault. fault ≡ OutOfMemory) }
 {
     let mut groups = Vec::with_capacity(alloc, MAX_GROUPS)?;
     if !rules.is_empty() {
         let all = all_rules(alloc, rules)?;
-        groups.push(Counted::new(alloc, rules, all, budget)?)?;
+        let group = Counted::new(alloc, rules, all, budget)?;
+        put_last(&mut groups, group)?;
     }
     Ok(groups)
 }
 
 /// The groups after the last turn. Each turn adds at most one.
-fn last_groups(alloc: Global, rules: &RuleSet, budget: u64) -> Result<Vec<Counted>, AllocError>
+fn last_groups(alloc: Global, rules: &RuleSet, budget: u64) -> Result<Vec<Counted>, PlanFault>
     requires { budget ≤ max_words }
     ensures groups { IfOk result
         (λ groups. map group_in groups.items ≡ groups_of rules.now budget) }
     ensures counted { IfOk result (λ groups. All (IsCounted rules.now budget) groups.items) }
+    ensures memory { IfErr result (λ fault. fault ≡ OutOfMemory) }
 {
     let mut groups = first_groups(alloc, rules, budget)?;
     for _ in 0..MAX_GROUPS - 1 {
@@ -192,10 +206,11 @@ fn kept_levels(alloc: Global, groups: Vec<Counted>) -> Result<Vec<Levels>, Alloc
 
 /// Splits the rules into groups until the words of their table are within the budget.
 ///
-/// The budget is from 1 to [`table_sizes::MAX_WORDS`] words. `TooLarge` comes exactly where the split
-/// ends with a total above the budget, with that total, unless memory ran out before that was
-/// known. It takes memory for the merged states of each group, and gives it back after a refusal.
-/// Each group is counted once, when it is made, so at most fifteen are.
+/// The budget is from 1 to [`table_sizes::MAX_WORDS`] words. `TooLarge` comes exactly where the
+/// split ends with a total above the budget, with that total, unless memory ran out before that was
+/// known: no memory is taken between. It takes memory for the merged states of each group, and
+/// gives it back after a refusal. Each group is counted once, when it is made, so at most fifteen
+/// are.
 ///
 /// Source: DPDK's `lib/acl`, `acl_bld.c`; which group is split and where is ours.
 pub fn plan(alloc: Global, rules: &RuleSet, budget: u64) -> Result<Plan, PlanFault>
@@ -206,19 +221,14 @@ pub fn plan(alloc: Global, rules: &RuleSet, budget: u64) -> Result<Plan, PlanFau
     ensures too_large { (words most : ℕ) → result ≡ Err (TooLarge words most) →
         (words ≡ total_of rules.now budget) × (most ≡ budget) × (budget < words) }
 {
-    let groups = match last_groups(alloc, rules, budget) {
-        Ok(groups) => groups,
-        Err(_) => return Err(PlanFault::OutOfMemory),
-    };
+    let groups = last_groups(alloc, rules, budget)?;
     let words = total(groups.as_slice(), budget);
     if words > budget {
         return Err(PlanFault::TooLarge { words, budget });
     }
-    match kept_levels(alloc, groups) {
-        Ok(levels) => Ok(Plan {
-            levels,
-            total: words,
-        }),
-        Err(_) => Err(PlanFault::OutOfMemory),
-    }
+    let levels = kept_levels(alloc, groups)?;
+    Ok(Plan {
+        levels,
+        total: words,
+    })
 }

@@ -15,7 +15,9 @@ use Rattle.flat_table.specs.Groups.{longest_key}
 use Rattle.flat_table.specs.Sound.{most_tries}
 use Rattle.flat_table.specs.Table.{TableView}
 use Rattle.flat_table.specs.Walk.{key_transitions}
-use Rattle.flat_table.specs.Batch.{key_at, key_verdicts, first_verdicts, first_transitions}
+use Rattle.flat_table.specs.Batch.{key_at, key_verdicts, first_verdicts, first_transitions, batch_transitions}
+use Rattle.flat_table.specs.Batch.{most_of_batch}
+use Rattle.flat_table.proofs.Offered.{batch_bound}
 
 module _ (table : TableView) (count : ℕ) (keys : List ℕ) where
   pub verdicts-more : (k : ℕ) → first_verdicts table count keys (k + 1)
@@ -172,3 +174,8 @@ one_key {table = table} {count = count} {len = len} {n = n} keys out k e room wi
       most = omega (arith, most);
       counted = omega (arith, steps, taken);
     }
+
+-- what all keys take is within their bound
+pub taken_bound : (table : TableView) (keys : List ℕ) {taken : ℕ} → taken ≡ batch_transitions table keys →
+    taken ≤ most_of_batch table keys
+taken_bound table keys is = omega (arith, is, batch_bound table keys)

@@ -9,6 +9,7 @@ ghost use Rattle.flat_table.specs.Sound.{most_tries};
 ghost use Rattle.flat_table.specs.Walk.{joined, key_transitions, userdatas};
 ghost use Rattle.flat_table.specs.Batch.{LengthsFit, key_at, key_verdicts, first_verdicts};
 ghost use Rattle.flat_table.specs.Batch.{first_transitions, batch_verdicts, batch_transitions};
+ghost use Rattle.flat_table.specs.Batch.{most_of_batch};
 ghost use Rattle.scalar_walk.specs.Rows.{Reaches, joined_rows, row_verdicts, winners_of};
 
 use crate::in_step::{FourWalked, IN_STEP, walk_four};
@@ -292,6 +293,7 @@ fn classify_four<L: Ledger>(
 /// room for the verdicts of each: the categories from 0 on of the first key, then those of the
 /// second. A verdict is the userdata of the winner, or 0 where no rule wins. It refuses nothing and
 /// takes no memory.
+#[tactic(auto, using(crate::proofs::Batches::taken_bound))]
 pub fn classify_scalar<L: Ledger>(
     table: &Table,
     keys: &[u8],
@@ -302,6 +304,7 @@ pub fn classify_scalar<L: Ledger>(
     requires { LengthsFit table.now keys.now cats.count (length out.old) }
     ensures verdicts { out.new ≡ batch_verdicts table.now cats.count keys.now }
     ensures taken { result ≡ batch_transitions table.now keys.now }
+    ensures bound { result ≤ most_of_batch table.now keys.now }
     ensures steps { steps.new ≡ steps.old + batch_transitions table.now keys.now }
 {
     let key_len = table.key_len();

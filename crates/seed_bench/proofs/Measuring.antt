@@ -3,7 +3,11 @@ use Rattle.std.proofs.Common.{◌≡◌, ℕ, ◌+◌, ◌*◌, ◌/◌, ◌<◌
 use Rattle.std.specs.List.{concat}
 use Rattle.std.proofs.Math.Nat.{mul-div_cancel}
 use Rattle.std.proofs.lemmas.List.FromFn.{length-map-range_with_len}
+use Rattle.std.specs.Prelude.{slice_index_or, All}
+use Rattle.std.proofs.lemmas.List.Sums.{sum_by-le}
 use Rattle.flat_table.specs.Batch.{batch_transitions}
+use Rattle.flat_table.specs.Walk.{key_transitions, most_of_key}
+use Rattle.flat_table.proofs.Offered.{key_bound}
 use Rattle.table_fill.specs.Serves.{Serves}
 use Rattle.acl_context.specs.Batch.{verdicts_by_rules}
 use Rattle.workload_gen.specs.declared.packet.TheConstants.{KEY_LEN}
@@ -14,6 +18,7 @@ use Rattle.seed_bench.specs.declared.lines.Measured.{Measured}
 use Rattle.seed_bench.specs.declared.tally.Tally.{Tally}
 use Rattle.flat_table.specs.Table.{words_of}
 use Rattle.seed_bench.specs.Bench.{keys_drawn, measured_of, set_drawn, transitions_drawn, table_drawn, tally_drawn}
+use Rattle.seed_bench.specs.Bench.{most_drawn}
 use Rattle.seed_bench.specs.Bench.{verdicts_on_keys}
 use Rattle.seed_bench.proofs.Drawing.{keys_are_whole, length-keys}
 use Rattle.seed_bench.proofs.KeyBytes.{AreOf, length-bytes, transitions_are, verdicts_are}
@@ -49,6 +54,19 @@ transitions-drawn numbers serves =
     let len : (table_drawn numbers).key_len ≡ KEY_LEN = serves.key_len in
     transitions_are (table_drawn numbers) (keys_drawn numbers) (omega (arith, len))
     (subst (λ n. AreOf n (keys_drawn numbers)) (sym len) (whole numbers))
+
+-- they are at most one for each key, trie and byte
+pub transitions-bound : (numbers : BenchNumbers) → transitions_drawn numbers ≤ most_drawn numbers
+transitions-bound numbers =
+    let table = table_drawn numbers in
+    let drawn = workload_of numbers.seed numbers.rules in
+    let each : All (λ key. key_transitions table key ≤ most_of_key table) (keys_drawn numbers) =
+    λ k d below. key_bound table (slice_index_or (keys_drawn numbers) k d) in
+    omega (
+      arith,
+      sum_by-le (key_transitions table) (most_of_key table) (keys_drawn numbers) each,
+      ap (λ n. n * most_of_key table) (length-keys drawn.rules drawn.generator numbers.packets),
+    )
 
 -- bytes of whole keys
 pub whole_bytes : (bytes : List ℕ) (count : ℕ) → length bytes ≡ count * KEY_LEN →

@@ -1,6 +1,6 @@
 -- What `bench` does: keys that a seed gives are classified in all categories, by the plain filter
 -- over rules of the seed and by their table.
-use Rattle.std.specs.Prelude.{◌≡◌, ℕ, ◌<◌, ◌⊎◌, List, [], ◌∷◌, ◌++◌, length, map, flat_map, sum_by}
+use Rattle.std.specs.Prelude.{◌≡◌, ℕ, ◌*◌, ◌<◌, ◌⊎◌, List, [], ◌∷◌, ◌++◌, length, map, flat_map, sum_by}
 use Rattle.std.specs.Prelude.{codes, decimal}
 use Rattle.std.specs.List.{range_with_len}
 use Rattle.field_defs.specs.declared.field.Family.TheVariants.{Ip4}
@@ -10,7 +10,7 @@ use Rattle.rule_set.specs.Limits.{max_categories}
 use Rattle.rule_set.specs.Winner.{verdict}
 use Rattle.rule_split.specs.Split.{total_of}
 use Rattle.flat_table.specs.Table.{TableView, words_of}
-use Rattle.flat_table.specs.Walk.{key_transitions}
+use Rattle.flat_table.specs.Walk.{key_transitions, most_of_key}
 use Rattle.acl_context.specs.Context.{built_of}
 use Rattle.workload_gen.specs.Workload.{keys_of, workload_of}
 use Rattle.acl_report.specs.Line.{line_feed}
@@ -78,6 +78,10 @@ measured_of numbers = record {
 -- how many transitions the keys take
 abbrev pub transitions_drawn : BenchNumbers → ℕ
 transitions_drawn numbers = transitions_of_keys (table_drawn numbers) (keys_drawn numbers)
+
+-- how many transitions the keys take at most: each one for each trie and byte
+abbrev pub most_drawn : BenchNumbers → ℕ
+most_drawn numbers = numbers.packets * most_of_key (table_drawn numbers)
 
 -- a line of two numbers, each after its label
 abbrev pub pair_text : List ℕ → ℕ → List ℕ → ℕ → List ℕ

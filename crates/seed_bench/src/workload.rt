@@ -4,7 +4,7 @@ ghost use Rattle.std.specs.Prelude.{◌≡◌, ◌+◌, ◌≤◌, IfOk, IfErr, 
 ghost use Rattle.rule_set.specs.Limits.{max_categories};
 ghost use Rattle.rule_split.specs.Split.{total_of};
 ghost use Rattle.seed_bench.specs.Bench.{IsRefused, bench_budget, measured_of, set_drawn};
-ghost use Rattle.seed_bench.specs.Bench.{transitions_drawn};
+ghost use Rattle.seed_bench.specs.Bench.{most_drawn, transitions_drawn};
 ghost use Rattle.command_words.specs.CommandLine.{numbers_in};
 
 use crate::keys::draw_keys;
@@ -29,6 +29,7 @@ pub fn measure<L: Ledger>(
     ensures fits { OnOk result
         (total_of (set_drawn (numbers_in numbers)) bench_budget ≤ bench_budget) }
     ensures steps { OnOk result (steps.new ≡ steps.old + transitions_drawn (numbers_in numbers)) }
+    ensures bound { OnOk result (steps.new ≤ steps.old + most_drawn (numbers_in numbers)) }
     ensures refused { IfErr result (λ status. IsRefused (set_drawn (numbers_in numbers)) status) }
     ensures idle { OnErr result (steps.new ≡ steps.old) }
 {

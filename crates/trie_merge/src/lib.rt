@@ -37,8 +37,6 @@ pub mod laws;
 mod levels;
 mod merge;
 mod number;
-#[cfg(test)]
-mod plain;
 mod row;
 mod run;
 #[cfg(test)]

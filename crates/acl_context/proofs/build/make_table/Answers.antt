@@ -1,5 +1,5 @@
 use Rattle.std.proofs.Common.{◌∙◌, subst}
-use Rattle.acl_context.proofs.Building.{levels_are, total_fits, filled_is, plans_are_fillable, IsFillable}
+use Rattle.acl_context.proofs.Building.{levels_are, total_fits, filled_is, plans_are_fillable, words_are, IsFillable}
 use Rattle.table_fill.specs.Serves.{Serves}
 use Rattle.acl_context.proofs.build.make_table.Goals as goal
 
@@ -39,3 +39,11 @@ returns-in-Ok-fill-clause-serves c =
 pub returns-in-Ok-fill-clause-fits : goal.returns-in-Ok-fill-clause-fits
 returns-in-Ok-fill-clause-fits c =
     total_fits c.args.rules.now c.args.budget c.in-Ok.plan c.in-Ok.ensures.plan c.in-Ok.ensures.fits
+
+pub returns-in-Ok-fill-clause-words : goal.returns-in-Ok-fill-clause-words
+returns-in-Ok-fill-clause-words c =
+    let rules = c.args.rules.now in
+    let plan = c.in-Ok.plan in
+    words_are rules c.args.budget c.in-Ok-fill.table c.levels.result.now (returns-in-Ok-fill-clause-table c)
+    (levels_are rules c.args.budget plan c.levels.result.now c.in-Ok.ensures.plan c.levels.ensures)
+    (total_fits rules c.args.budget plan c.in-Ok.ensures.plan c.in-Ok.ensures.fits) c.in-Ok-fill.ensures.words

@@ -4,7 +4,7 @@ use Rattle.rule_split.specs.declared.counted.Counted.{Counted}
 use Rattle.rule_split.specs.Counted.{group_in, IsCounted}
 use Rattle.rule_split.specs.Divide.{divided}
 use Rattle.rule_split.proofs.Halves.{groups_of_two}
-use Rattle.rule_split.proofs.Splitting.{on_ok, two_for_one, group_at, group_is, split_groups, split_counted}
+use Rattle.rule_split.proofs.Splitting.{two_for_one, group_at, group_is, split_groups, split_counted}
 use Rattle.rule_split.proofs.split.split_at.Goals as goal
 
 pub divide-requires : goal.divide-requires
@@ -41,12 +41,12 @@ returns-clause-groups c =
     let first = c.in_ok-first.first in
     let second = c.in_ok-second.second in
     let at = group_at groups place c.remove-group.result c.requires.place c.remove-group.ensures.value in
-    on_ok c.put_two.result (λ put.
+    let put = c.in_ok-put_two.ensures in
     ap (map group_in) (put ∙ ap (λ (rest : List Counted). take place rest ++ first ∷ second ∷ drop place rest)
     c.remove-group.ensures.items ∙ two_for_one groups place first second c.requires.place)
     ∙ split_groups set groups place first second
     ((λ i. c.in_ok-first.ensures.group i ∷ c.in_ok-second.ensures.group i ∷ [])
-    ∙ c.in_ok-two.ensures ∙ ap (divided set) (c.group.ensures ∙ at))) c.put_two.ensures
+    ∙ c.in_ok-two.ensures ∙ ap (divided set) (c.group.ensures ∙ at))
 
 pub returns-clause-counted : goal.returns-clause-counted
 returns-clause-counted c =
@@ -55,10 +55,10 @@ returns-clause-counted c =
     let place = c.args.place in
     let first = c.in_ok-first.first in
     let second = c.in_ok-second.second in
-    on_ok c.put_two.result (λ put.
+    let put = c.in_ok-put_two.ensures in
     All-same (IsCounted set c.args.budget) c.put_two.new.groups.items
     (take place groups ++ first ∷ second ∷ drop (place + 1) groups)
     (put ∙ ap (λ (rest : List Counted). take place rest ++ first ∷ second ∷ drop place rest)
     c.remove-group.ensures.items ∙ two_for_one groups place first second c.requires.place)
     (split_counted set c.args.budget groups place first second c.requires.counted c.in_ok-first.ensures.counted
-    c.in_ok-second.ensures.counted)) c.put_two.ensures
+    c.in_ok-second.ensures.counted)

@@ -1,5 +1,5 @@
 -- Rules and keys are those of the seed, and rules and table say the same of the keys.
-use Rattle.std.proofs.Common.{◌≡◌, ◌+◌, ℕ, List, length, Option, Some, IfSome, ap, subst, ◌∙◌}
+use Rattle.std.proofs.Common.{◌≡◌, ◌+◌, ℕ, List, length, Option, Some, IfSome, ap, subst, ◌∙◌, arith}
 use Rattle.std.specs.List.{concat}
 use Rattle.std.specs.Option.{unwrap_or}
 use Rattle.field_defs.specs.Layout.{ip4_fields}
@@ -15,7 +15,7 @@ use Rattle.seed_bench.specs.Tally.{tally_of}
 use Rattle.flat_table.specs.Table.{words_of}
 use Rattle.seed_bench.specs.Bench.{bench_budget, keys_drawn, set_drawn, table_drawn, verdicts_on_keys}
 use Rattle.seed_bench.proofs.Measuring.{few_bytes, length-drawn, length-rules, measured-is, transitions-drawn, verdicts-drawn}
-use Rattle.seed_bench.proofs.Measuring.{whole_bytes}
+use Rattle.seed_bench.proofs.Measuring.{transitions-bound, whole_bytes}
 use Rattle.seed_bench.proofs.workload.measure.Goals as goal
 
 -- the keys that a workload gives
@@ -99,3 +99,7 @@ returns-clause-steps g c =
     table c.in_ok-table.ensures.steps in
     taken ∙ ap (λ b. old + batch_transitions (table_drawn numbers) b) bytes
     ∙ ap (λ n. old + n) (transitions-drawn numbers serves)
+
+pub returns-clause-bound : goal.returns-clause-bound
+returns-clause-bound g c =
+    omega (arith, returns-clause-steps g c, transitions-bound (numbers_in c.args.numbers))

@@ -4,7 +4,7 @@ use Rattle.std.specs.List.{range_with_len}
 use Rattle.std.proofs.lemmas.List.FromFn.{length-range_with_len, get_or-range_with_len}
 use Rattle.trie_merge.specs.Levels.{IsGroup}
 use Rattle.rule_set.specs.Rule.{RuleSetView}
-use Rattle.aclc.proofs.tests.seeds.compare.Goals as goal
+use Rattle.context_cases.proofs.seeds.compare.Goals as goal
 
 range_is_group : (set : RuleSetView) (first len : ℕ) → 0 < len → first + len ≤ length set.rules →
     IsGroup set (range_with_len first len)

@@ -4,8 +4,9 @@ ghost use Rattle.std.specs.Prelude.{◌≡◌, ◌≤◌, ◌+◌, IfOk};
 ghost use Rattle.std.specs.List.{range_with_len};
 ghost use Rattle.rule_set.specs.Limits.{max_rules};
 
-use super::recount::recount;
-use rule_set::{MAX_RULES, RuleSet};
+use crate::recount::recount;
+use field_defs::{FieldValue, ip4_layout};
+use rule_set::{MAX_RULES, RuleSet, RuleTag, StoredRule};
 use std::alloc::{AllocError, Global};
 use std::process::Abort;
 use std::test::Fail;
@@ -86,4 +87,118 @@ fn merged_states_are_those_that_a_recount_finds(rt: HostRuntime) -> Result<(), F
         }
     }
     Ok(())
+}
+
+/// A rule for IPv4 packets: its category mask and priority, the value and the mask of the protocol,
+/// the value and the bits of each address, and the first and the last number of each port.
+#[derive(Clone, Copy)]
+struct Row {
+    part: (u32, i32),
+    protocol: (u64, u64),
+    source: (u64, u8),
+    destination: (u64, u8),
+    from: (u64, u64),
+    to: (u64, u64),
+}
+
+/// Rules of all kinds: whole and partial masks, ranges, wild fields, categories, and priorities
+/// that rise and fall.
+const ROWS: [Row; 7] = [
+    Row {
+        part: (1, 5),
+        protocol: (6, 255),
+        source: (0x0A00_0000, 8),
+        destination: (0, 0),
+        from: (0, 65535),
+        to: (80, 80),
+    },
+    Row {
+        part: (3, 5),
+        protocol: (17, 255),
+        source: (0x0A01_0000, 16),
+        destination: (0xC0A8_0200, 25),
+        from: (0, 65535),
+        to: (1024, 65535),
+    },
+    Row {
+        part: (0xFFFF, 7),
+        protocol: (0, 0),
+        source: (0, 0),
+        destination: (0xC0A8_0000, 16),
+        from: (1000, 2000),
+        to: (0, 65535),
+    },
+    Row {
+        part: (2, 1),
+        protocol: (16, 240),
+        source: (0xAC10_0000, 12),
+        destination: (0, 0),
+        from: (0, 65535),
+        to: (0, 65535),
+    },
+    Row {
+        part: (0x8001, 2),
+        protocol: (6, 255),
+        source: (0, 0),
+        destination: (0, 0),
+        from: (0, 65535),
+        to: (443, 443),
+    },
+    Row {
+        part: (1, 9),
+        protocol: (6, 255),
+        source: (0x0A01_0203, 32),
+        destination: (0xC0A8_02FF, 32),
+        from: (33746, 33846),
+        to: (0, 1023),
+    },
+    Row {
+        part: (1, 1),
+        protocol: (0, 0),
+        source: (0, 0),
+        destination: (0, 0),
+        from: (0, 65535),
+        to: (0, 65535),
+    },
+];
+
+/// The rule of the row.
+fn rule_of(alloc: Global, row: &Row) -> Result<StoredRule, AllocError> {
+    let tag = RuleTag {
+        category_mask: row.part.0,
+        priority: row.part.1,
+        userdata: 1,
+    };
+    let (protocol, mask) = row.protocol;
+    let fields = [
+        FieldValue::Bitmask {
+            value: protocol,
+            mask,
+        },
+        net(row.source),
+        net(row.destination),
+        ports(row.from),
+        ports(row.to),
+    ];
+    StoredRule::new(alloc, tag, &fields)
+}
+
+/// The addresses that agree in the first bits.
+fn net((value, bits): (u64, u8)) -> FieldValue {
+    FieldValue::Mask { value, bits }
+}
+
+/// The ports from the first to the last.
+fn ports((low, high): (u64, u64)) -> FieldValue {
+    FieldValue::Range { low, high }
+}
+
+#[test]
+fn rules_of_all_kinds_are_merged_as_a_recount_finds(rt: HostRuntime) -> Result<(), Fail> {
+    let mut rules = RuleSet::new(rt.alloc(), ip4_layout());
+    for row in &ROWS {
+        assert!(rt; !rules.is_full());
+        rules.push(rule_of(rt.alloc(), row)?)?;
+    }
+    compare(&rt, rt.alloc(), &rules, 0, rules.len())
 }

@@ -1,0 +1,54 @@
+//! What a context answers to a batch of keys.
+
+ghost use Rattle.std.specs.Prelude.{◌≡◌, ◌<◌};
+
+use acl_context::AclContext;
+use flat_table::Steps;
+use rule_set::Categories;
+use std::alloc::Global;
+use std::marker::Brand;
+use std::process::Abort;
+use std::sync::ledger::{Blank, Ledger};
+use std::test::Fail;
+
+/// Writes what the context says of the keys in so many categories, and gives how many transitions
+/// that took, or None where there is no table or the keys don't fit.
+fn answers<L: Ledger>(
+    blank: Blank,
+    context: &AclContext,
+    keys: &[u8],
+    count: u32,
+    out: &mut [u32],
+) -> Option<u64>
+    requires name { blank.name ≡ L.name }
+    requires parts { blank.parts ≡ L.parts }
+    requires some { 0 < blank.parts }
+{
+    let mut steps = Steps::<L>::new(blank);
+    let cats = Categories::new(count)?;
+    let key_len = context.rules().layout().key_len();
+    if key_len == 0 {
+        return None;
+    }
+    let n = keys.len() / key_len;
+    if n > 65_536 || keys.len() != n * key_len || out.len() != n * cats.count() {
+        return None;
+    }
+    context.classify(keys, cats, out, &mut steps).ok()
+}
+
+/// What the context says of so many keys in so many categories.
+pub(crate) fn answered(
+    rt: &impl Abort,
+    alloc: Global,
+    context: &AclContext,
+    keys: &[u8],
+    n: u32,
+    count: u32,
+) -> Result<Vec<u32>, Fail> {
+    let room = (n as usize).wrapping_mul(count as usize);
+    let mut out = vec![in alloc; 9u32; room]?;
+    let taken = answers::<Brand>(Blank::new(1), context, keys, count, &mut out);
+    assert!(rt; taken.is_some());
+    Ok(out)
+}
