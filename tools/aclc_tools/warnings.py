@@ -132,5 +132,5 @@ def of_file(rules):
         for part, said in of_rule(rule):
             yield rule, part, said
     for rule, winner in dead(rules):
-        yield rule, None, f"This rule never decides: line {winner.line} matches all that it matches, and wins: {shown(winner.text.strip())}"
+        yield rule, None, f"This rule never decides: line {winner.line} matches all that it matches, and wins: {' '.join(shown(winner.text).split())}"
     yield from of_order(rules)

@@ -11,7 +11,7 @@ from aclc_tools.program import TOP
 
 DATA = Path(__file__).resolve().parent / "data"
 CONVERT = TOP / "tools" / "convert"
-SHIPPED = [("iptables", {"chain": "FORWARD"}, "office.iptables-save", "office.rules"), ("iptables", {}, "office6.ip6tables-save", "office6.rules"),
+SHIPPED = [("iptables", {"chain": "FORWARD"}, "gateway.iptables-save", "gateway.rules"), ("iptables", {}, "gateway6.ip6tables-save", "gateway6.rules"),
            ("nft", {"chain": "forward"}, "router.nft-json", "router.rules"), ("cisco", {"list": "OUTSIDE-IN"}, "edge.cisco", "edge-outside.rules"),
            ("cisco", {"list": "101"}, "edge.cisco", "edge-101.rules"), ("cisco", {"list": "WEB6"}, "edge.cisco", "edge-web6.rules"),
            ("cisco", {"list": "WITH-STATE", "lenient": True}, "edge.cisco", "edge-state.rules"), ("l3fwd", {}, "sample.l3fwd", "sample-l3fwd.rules")]
@@ -149,7 +149,7 @@ class Convert(unittest.TestCase):
         self.assertEqual([rule.userdata for rule in rule_file.read_rules(text.encode())[0]], [4, 2])
 
     def test_the_command_writes_and_refuses(self):
-        for words, code, said in ((["iptables", "--chain", "FORWARD", "office.iptables-save"], 0, ""),
+        for words, code, said in ((["iptables", "--chain", "FORWARD", "gateway.iptables-save"], 0, ""),
                                   (["cisco", "--list", "WITH-STATE", "edge.cisco"], 1, "edge.cisco:30: TCP flags"),
                                   (["cisco", "--lenient", "--list", "WITH-STATE", "edge.cisco"], 0, "edge.cisco:31: left out: a type of ICMP"),
                                   (["classbench-trace", "sample.trace"], 0, ""), (["l3fwd", "none"], 7, "No such file"), (["other", "x"], 2, "")):
