@@ -1,0 +1,1 @@
+"""What the tools share: rule files, captures, the program, and lists of other programs."""

@@ -1,0 +1,111 @@
+"""Sets of packets that a firewall rule matches, and the rules of aclc that say them.
+
+A box has a family and, for each of source, destination, both ports and protocol, the numbers that it allows: disjoint
+intervals in order, both ends included. A packet is in it where each of its numbers is allowed.
+"""
+from collections import namedtuple
+
+BITS = {4: 32, 6: 128}
+PORTS = ((0, 0xFFFF),)
+PROTOCOLS = ((0, 0xFF),)
+PORTED = ((6, 6), (17, 17), (132, 132))
+Box = namedtuple("Box", "family source destination source_ports destination_ports protocols")
+SIDES = ("source", "destination", "source_ports", "destination_ports", "protocols")
+
+
+def whole(family):
+    """All packets of a family."""
+    every = ((0, (1 << BITS[family]) - 1),)
+    return Box(family, every, every, PORTS, PORTS, PROTOCOLS)
+
+
+def union(intervals):
+    """Disjoint intervals in order, with those joined that meet."""
+    joined = []
+    for low, high in sorted(intervals):
+        if joined and low <= joined[-1][1] + 1:
+            joined[-1] = joined[-1][0], max(joined[-1][1], high)
+        else:
+            joined.append((low, high))
+    return tuple(joined)
+
+
+def both(one, other):
+    """What two sets of intervals have in common."""
+    found, first, second = [], 0, 0
+    while first < len(one) and second < len(other):
+        low, high = max(one[first][0], other[second][0]), min(one[first][1], other[second][1])
+        if low <= high:
+            found.append((low, high))
+        if one[first][1] < other[second][1]:
+            first += 1
+        else:
+            second += 1
+    return tuple(found)
+
+
+def without(most, intervals):
+    """The numbers up to the greatest that aren't in the intervals."""
+    found, at = [], 0
+    for low, high in union(intervals):
+        if at < low:
+            found.append((at, low - 1))
+        at = high + 1
+    return tuple(found) + (((at, most),) if at <= most else ())
+
+
+def meet(one, other):
+    """The box of what two boxes have in common, or None."""
+    if one.family != other.family:
+        return None
+    sides = [both(getattr(one, side), getattr(other, side)) for side in SIDES]
+    return Box(one.family, *sides) if all(sides) else None
+
+
+def prefixes(low, high, bits):
+    """The prefixes that an interval is made of: the first number of each and its length."""
+    while low <= high:
+        free = (low & -low).bit_length() - 1 if low else bits
+        while low + (1 << free) - 1 > high:
+            free -= 1
+        yield low, bits - free
+        low += 1 << free
+
+
+def masks(intervals, low=0, free=8):
+    """The protocols of the intervals as numbers and masks."""
+    high = low + (1 << free) - 1
+    kept = both(intervals, ((low, high),))
+    if kept == ((low, high),):
+        yield low, 0xFF >> free << free
+    elif kept:
+        yield from masks(kept, low, free - 1)
+        yield from masks(kept, low + (1 << free - 1), free - 1)
+
+
+def address_text(family, value):
+    if family == 4:
+        return ".".join(str(value >> shift & 255) for shift in (24, 16, 8, 0))
+    from aclc_tools.warnings import ip6_text
+    return ip6_text(value)
+
+
+def size(box):
+    """How many rules a box takes."""
+    count = 1
+    for side in SIDES[:2]:
+        count *= sum(1 for low, high in getattr(box, side) for _ in prefixes(low, high, BITS[box.family]))
+    return count * len(box.source_ports) * len(box.destination_ports) * sum(1 for _ in masks(box.protocols))
+
+
+def lines(box, tail):
+    """The lines of the rules of a box, each with what stands after its columns."""
+    networks = [[f"{address_text(box.family, first)}/{length}" for low, high in getattr(box, side)
+                 for first, length in prefixes(low, high, BITS[box.family])] for side in SIDES[:2]]
+    for source in networks[0]:
+        for destination in networks[1]:
+            for low, high in box.source_ports:
+                for first, last in box.destination_ports:
+                    for number, mask in masks(box.protocols):
+                        yield (f"@{source}\t{destination}\t{low} : {high}\t{first} : {last}"
+                               f"\t0x{number:02X}/0x{mask:02X}\t{tail}")

@@ -1,0 +1,75 @@
+"""Captures: their records, or the fault that ends them, and what to do about it."""
+import struct
+
+MAGICS = (0xA1B2C3D4, 0xA1B23C4D)
+LINKS = (1, 101, 113, 228, 229, 276)
+MOST_CAPTURED = 262144
+OTHER_LINKS = {0: "BSD loopback", 9: "PPP", 12: "raw IP of some systems", 105: "802.11", 108: "OpenBSD loopback", 127: "802.11 radiotap",
+               147: "a private link type", 189: "USB", 195: "802.15.4", 239: "netfilter log", 280: "VPP", 253: "netlink"}
+
+
+class Fault(Exception):
+    """Why a capture isn't read: the number of the record, 0 for the header, a kind of the program, and a sentence."""
+
+    def __init__(self, record, kind, sentence):
+        super().__init__(kind)
+        self.record, self.kind, self.sentence = record, kind, sentence
+
+
+def foreign(content):
+    """What a file is that isn't a capture."""
+    if content[:2] == b"\x1f\x8b":
+        return "It is compressed by gzip: gunzip it first, or give <(zcat FILE) as the capture."
+    if content[:4] == b"\x28\xb5\x2f\xfd" or content[:3] == b"BZh" or content[:6] == b"\xfd7zXZ\0":
+        return "It is compressed: unpack it first."
+    if content[:4] == b"\n\r\r\n":
+        return "It is a pcapng file: editcap -F pcap FILE NEW makes a capture of it."
+    if content[:4] in (b"\x34\xcd\xb2\xa1", b"\xa1\xb2\xcd\x34"):
+        return "It is a capture in the modified form of 1999: editcap -F pcap FILE NEW makes a capture of it."
+    if content[:8] == b"snoop\0\0\0":
+        return "It is a snoop file: editcap -F pcap FILE NEW makes a capture of it."
+    if content.lstrip(b" \t\r\n")[:1] in (b"@", b"#"):
+        return "It is a rule file: the rule file is named first, and the capture second."
+    return "It is no capture: tcpdump -w FILE writes one."
+
+
+def begin(content):
+    """The byte order, the link type and the snap length."""
+    if len(content) < 24:
+        sentence = "The file is empty: tcpdump writes what it holds back when it ends." if not content else foreign(content)
+        raise Fault(0, "header cut", sentence)
+    orders = [order for order in "<>" if struct.unpack(order + "I", content[:4])[0] in MAGICS]
+    if not orders:
+        raise Fault(0, "magic", foreign(content))
+    major, minor, _, _, snap, network = struct.unpack(orders[0] + "HHIIII", content[4:24])
+    if (major, minor) != (2, 4):
+        raise Fault(0, "version", f"Its version is {major}.{minor}, and only 2.4 is read.")
+    link = network & 0xFFFF
+    if link not in LINKS:
+        name = f" ({OTHER_LINKS[link]})" if link in OTHER_LINKS else ""
+        raise Fault(0, "link type", f"Its link type is {link}{name}; read are Ethernet, raw IP, IPv4, IPv6 and Linux cooked captures.")
+    return orders[0], link, snap
+
+
+def records(content):
+    """Each record's captured bytes and its length on the wire; a Fault at the first one that isn't whole."""
+    order, _, _ = begin(content)
+    at, count = 24, 0
+    while at < len(content):
+        count += 1
+        header = content[at:at + 16]
+        if len(header) < 16:
+            raise Fault(count, "cut", "The file ends within this record: it is still being written, or was cut.")
+        captured, length = struct.unpack(order + "II", header[8:])
+        if captured > MOST_CAPTURED:
+            raise Fault(count, "too long", f"The record claims {captured} bytes: the file is damaged here, or one before it is.")
+        at += 16 + captured
+        if at > len(content):
+            raise Fault(count, "cut", "The file ends within this record: it is still being written, or was cut.")
+        yield content[at - captured:at], length
+
+
+def write(frames, link=1):
+    """A capture of these frames."""
+    head = struct.pack("<IHHIIII", 0xA1B2C3D4, 2, 4, 0, 0, MOST_CAPTURED, link)
+    return head + b"".join(struct.pack("<IIII", 0, 0, len(frame), len(frame)) + frame for frame in frames)

@@ -1,0 +1,47 @@
+"""Where the program is, and how it is run."""
+import os
+import subprocess
+import sys
+from pathlib import Path
+
+TOP = Path(__file__).resolve().parents[2]
+BUILT = TOP / "crates" / "aclc" / "out" / "aclc"
+
+
+class Ran:
+    """What a run printed, and its exit code."""
+
+    def __init__(self, code, lines, message):
+        self.code, self.lines, self.message = code, lines, message
+
+
+def program():
+    """The words that start the program: what ACLC names, or the script at the top of the repository."""
+    return os.environ.get("ACLC") or str(TOP / "aclc")
+
+
+def built_program():
+    """The built program, or None: what ACLC names, or what a build left."""
+    named = os.environ.get("ACLC")
+    found = Path(named) if named else BUILT
+    return found if os.access(found, os.X_OK) and not found.is_dir() else None
+
+
+def run(*words, path=None):
+    """Runs the program with these words."""
+    done = subprocess.run([str(path or program()), *map(str, words)], stdout=subprocess.PIPE, stderr=subprocess.PIPE)
+    return Ran(done.returncode, done.stdout, done.stderr.decode(errors="replace"))
+
+
+def leave(message, code=1):
+    """Ends the tool with a line on standard error."""
+    print(f"{Path(sys.argv[0]).name}: {message}", file=sys.stderr)
+    sys.exit(code)
+
+
+def read_file(name):
+    """The bytes of a file; `-` is standard input."""
+    try:
+        return sys.stdin.buffer.read() if name == "-" else Path(name).read_bytes()
+    except OSError as error:
+        return leave(f"{name}: {error.strerror}", 7)

@@ -1,0 +1,103 @@
+"""Mistakes that people make, each with what the program says of it.
+
+The first text of a row stands in docs/MISTAKES.md under the message. RULES are lines of a rule file after a lawful one,
+CAPTURES the bytes of a capture, WORDS the words of a command.
+"""
+from aclc_tools import capture
+
+GUIDE = b"@192.168.1.0/24 192.168.2.31/32 0:65535 1234:1234 0x11/0xFF\n"
+NETWORKS = b"@10.0.0.0/8 0.0.0.0/0 "
+LINE = NETWORKS + b"0:65535 80:80 6/0xFF"
+
+RULES = [
+    ("bad start", "the two names are swapped", capture.write([bytes(60)])[:40], "capture second"),
+    ("bad start", "the file is compressed", b"\x1f\x8b\x08\x00rules", "gunzip"),
+    ("bad start", "a byte order mark stands first", b"\xef\xbb\xbf" + LINE, "byte order mark"),
+    ("bad start", "the text is UTF-16", LINE.decode().encode("utf-16"), "UTF-8"),
+    ("bad start", "it is a list of iptables", b"*filter", "tools/convert"),
+    ("bad start", "it is a list of another firewall", b"permit tcp any any eq 80", "tools/convert cisco"),
+    ("bad start", "the @ is missing", LINE[1:], "begins with @"),
+    ("bad start", "a comment begins with //", b"// web servers", "A comment begins with #"),
+    ("bad address", "`any` in place of a network", b"@any 0.0.0.0/0 0:65535 80:80 6/0xFF", "0.0.0.0/0"),
+    ("bad address", "a number of the address is missing", b"@10.0.0/8 0.0.0.0/0 0:65535 80:80 6/0xFF", "four numbers"),
+    ("bad address", "a number is above 255", b"@10.0.0.256/32 0.0.0.0/0 0:65535 80:80 6/0xFF", "at most 255"),
+    ("bad address", "the name of a host", b"@server/32 0.0.0.0/0 0:65535 80:80 6/0xFF", "names aren't looked up"),
+    ("bad address", "a negation", b"@!10.0.0.0/8 0.0.0.0/0 0:65535 80:80 6/0xFF", "no negation"),
+    ("bad address", "a second @", b"@10.0.0.0/8 @0.0.0.0/0 0:65535 80:80 6/0xFF", "Only the source"),
+    ("bad address", "brackets around an IPv6 address", b"@[2001:db8::1]/128 ::/0 0:65535 80:80 6/0xFF", "without brackets"),
+    ("bad address", "a zone", b"@fe80::1%eth0/64 ::/0 0:65535 80:80 6/0xFF", "no zone"),
+    ("bad address", "a range of addresses", b"@10.0.0.1-10.0.0.9 0.0.0.0/0 0:65535 80:80 6/0xFF", "one rule for each"),
+    ("bad address", "the destination is missing", b"@10.0.0.0/8", "The line ends"),
+    ("bad prefix", "a host without its prefix length", b"@10.0.0.1 0.0.0.0/0 0:65535 80:80 6/0xFF", "10.0.0.1/32"),
+    ("bad prefix", "a mask in place of the prefix length", b"@10.0.0.0/255.0.0.0 0.0.0.0/0 0:65535 80:80 6/0xFF", "10.0.0.0/8"),
+    ("bad prefix", "a wildcard mask", b"@10.0.0.0/0.255.255.255 0.0.0.0/0 0:65535 80:80 6/0xFF", "10.0.0.0/8"),
+    ("bad prefix", "more bits than the address has", b"@10.0.0.0/33 0.0.0.0/0 0:65535 80:80 6/0xFF", "at most 32"),
+    ("mixed families", "anywhere of the other family", b"@10.0.0.0/8 ::/0 0:65535 80:80 6/0xFF", "both IPv4 or both IPv6"),
+    ("bad ports", "a dash in place of the colon", NETWORKS + b"0:65535 80-90 6/0xFF", "80 : 90"),
+    ("bad ports", "the name of a service", NETWORKS + b"0:65535 http 6/0xFF", "80 : 80"),
+    ("bad ports", "`any` in place of ports", NETWORKS + b"any 80:80 6/0xFF", "0 : 65535"),
+    ("bad ports", "a list of ports", NETWORKS + b"0:65535 80,443 6/0xFF", "a rule for each"),
+    ("bad ports", "one port written once", NETWORKS + b"0:65535 80 6/0xFF", "Two ranges of ports|written twice|come before the protocol"),
+    ("bad ports", "no ports at all", NETWORKS + b"6/0xFF", "come before the protocol"),
+    ("bad ports", "a port above 65535", NETWORKS + b"0:65536 80:80 6/0xFF", "at most 65535"),
+    ("bad ports", "a range without its upper end", NETWORKS + b"1024: tcp 6/0xFF", "two ranges|Two ranges|upper end"),
+    ("empty range", "the ends are turned round", NETWORKS + b"0:65535 90:80 6/0xFF", "80 : 90"),
+    ("bad protocol", "the name of a protocol", NETWORKS + b"0:65535 80:80 tcp", "6/0xFF"),
+    ("bad protocol", "a number without its mask", NETWORKS + b"0:65535 80:80 6", "6/0xFF"),
+    ("bad protocol", "a number or mask above 255", NETWORKS + b"0:65535 80:80 6/0x1FF", "at most 255"),
+    ("bad protocol", "the line ends after the ports", NETWORKS + b"0:65535 80:80", "The line ends"),
+    ("bad flags", "a flag by its name, or a number above 65535", LINE + b" SYN/SYN", "at most 65535"),
+    ("bad attribute", "a name or another attribute that rules don't have", LINE + b" name=web", "pri=, cat= and data="),
+    ("bad attribute", "a negative priority", LINE + b" pri=-1", "without a sign"),
+    ("bad attribute", "an attribute twice", LINE + b" pri=5 pri=6", "given before"),
+    ("bad attribute", "no number after the sign", LINE + b" data=", "stands right after"),
+    ("tail left", "a comment after a rule", LINE + b" # web", "line of its own"),
+    ("tail left", "`accept` or another action", LINE + b" accept", "attributes alone"),
+    ("tail left", "blanks around the sign", LINE + b" pri = 5", "without blanks"),
+    ("no category", "`cat=0`", LINE + b" cat=0", "decide nothing"),
+    ("priority range", "a priority above 536870911", LINE + b" pri=600000000", "at most 536870911"),
+]
+
+FRAME = capture.write([bytes(60)])
+CAPTURES = [
+    ("record 0: header cut", "nothing was captured yet", b"", "is empty"),
+    ("record 0: magic", "the capture is compressed", b"\x1f\x8b\x08\x08" + bytes(40), "gunzip"),
+    ("record 0: magic", "it is a pcapng file", b"\n\r\r\n" + bytes(40), "editcap"),
+    ("record 0: magic", "a rule file in place of the capture", GUIDE, "rule file"),
+    ("record 0: version", "another version", FRAME[:6] + b"\5" + FRAME[7:], "only 2.4"),
+    ("record 0: link type", "wireless frames, or a loopback of BSD", FRAME[:20] + b"\x69" + FRAME[21:], "802.11"),
+    ("record 1: cut", "the capture is still being written", FRAME[:-1], "still being written"),
+    ("record 1: too long", "the file is damaged", FRAME[:32] + b"\xff\xff\xff\xff" + FRAME[36:], "damaged"),
+]
+
+R, C = "guide.rules", "guide.pcap"
+WORDS = [
+    ("word 1: missing command", "no words at all", []),
+    ("word 1: unknown command", "`--version`, or another word that is no command", ["--version"]),
+    ("word 3: missing name", "the capture isn't named", ["classify", R]),
+    ("word 4: unknown option", "an option before the names", ["classify", "stats=on", R, C]),
+    ("word 4: unknown option", "dashes before an option", ["classify", R, C, "--stats"]),
+    ("word 4: unknown option", "a third file", ["classify", R, C, C]),
+    ("word 4: bad value", "`stats=yes`", ["classify", R, C, "stats=yes"]),
+    ("word 4: bad value", "`categories=2`", ["classify", R, C, "categories=2"]),
+    ("word 4: bad value", "`max-words=16M`", ["classify", R, C, "max-words=16M"]),
+    ("word 5: repeated option", "an option twice", ["classify", R, C, "stats=on", "stats=on"]),
+    ("word 3: bad value", "more than 1,024 rules for `bench`", ["bench", "42", "2000", "10"]),
+]
+FILES = [
+    ("read fault", "a file that isn't there", ["classify", R, "none.pcap"]),
+    ("read fault", "a folder in place of a file", ["classify", ".", C]),
+]
+
+# Lawful rule files that are likely mistakes, and what tools/check says of them.
+WARNED = [
+    ("bits after the prefix", b"@10.0.0.1/8 0.0.0.0/0 0:65535 80:80 6/0xFF", "this is 10.0.0.0/8"),
+    ("flags", LINE + b" 0x0200/0x0200", "Flags are ignored"),
+    ("a protocol whose mask is 0", NETWORKS + b"0:65535 80:80 6/0", "any protocol matches"),
+    ("ports of a protocol that has none", NETWORKS + b"0:65535 80:80 1/0xFF", "can't match"),
+    ("userdata 0", LINE + b" data=0", "marks=on"),
+    ("a list without rules", b"# nothing yet", "no rule"),
+    ("a rule after one that matches as much", NETWORKS + b"0:65535 0:65535 0/0\n" + LINE, "never decides"),
+    ("`pri=` on some rules alone", LINE + b" pri=9\n" + NETWORKS + b"0:65535 0:65535 0/0", "above this one"),
+    ("`pri=` that rises from line to line", LINE + b" pri=1\n" + NETWORKS + b"0:65535 90:90 6/0xFF pri=2", "from the last one to the first"),
+]

@@ -1,0 +1,135 @@
+"""tools/check: its judgement against the program's, and the page of mistakes against both."""
+import importlib.machinery
+import importlib.util
+import os
+import re
+import subprocess
+import tempfile
+import unittest
+from pathlib import Path
+
+import mistakes
+from aclc_tools import advice, capture, rule_file, warnings
+from aclc_tools.program import TOP, built_program, run
+
+HERE = Path(__file__).resolve().parent
+CHECK = TOP / "tools" / "check"
+EXAMPLES = TOP / "examples"
+PAGE = TOP / "docs" / "MISTAKES.md"
+
+
+def script(path):
+    """A script without a suffix, as a module."""
+    loader = importlib.machinery.SourceFileLoader(path.name, str(path))
+    module = importlib.util.module_from_spec(importlib.util.spec_from_loader(path.name, loader))
+    loader.exec_module(module)
+    return module
+
+
+damaged = script(HERE / "damaged")
+
+
+def judged(content):
+    """The faults of a rule file, with what is said of each."""
+    lines = rule_file.lines_of(content)
+    return [(fault.line, fault.kind, advice.sentence(fault, lines[fault.line - 1])) for fault in rule_file.read_rules(content)[1]]
+
+
+class Check(unittest.TestCase):
+    def setUp(self):
+        self.folder = tempfile.TemporaryDirectory()
+        self.addCleanup(self.folder.cleanup)
+
+    def write(self, name, content):
+        path = Path(self.folder.name) / name
+        path.write_bytes(content)
+        return path
+
+    def program_says(self, message, code, *words):
+        """The program's message, where it is built."""
+        if not built_program():
+            return
+        done = run(*words, path=built_program())
+        self.assertEqual((done.message, done.code), (message, code))
+
+    def test_examples_are_read(self):
+        for rules in sorted(EXAMPLES.glob("*.rules")):
+            content, packets = rules.read_bytes(), rules.with_suffix(".pcap")
+            self.assertEqual(judged(content), [])
+            self.assertTrue(list(capture.records(packets.read_bytes())))
+            self.program_says("", 0, "classify", rules, packets)
+
+    def test_mistakes_in_rules(self):
+        for kind, title, lines, advised in mistakes.RULES:
+            with self.subTest(title=title):
+                line, said, sentence = judged(mistakes.GUIDE + lines)[0]
+                self.assertEqual((line, said), (2, kind))
+                self.assertRegex(sentence, advised)
+                rules = self.write("list.rules", mistakes.GUIDE + lines)
+                self.program_says(f"aclc: rules: line 2: {kind}\n", 3, "classify", rules, EXAMPLES / "guide.pcap")
+
+    def test_mistakes_in_captures(self):
+        for kind, title, content, advised in mistakes.CAPTURES:
+            with self.subTest(title=title):
+                with self.assertRaises(capture.Fault) as raised:
+                    list(capture.records(content))
+                fault = raised.exception
+                self.assertEqual(f"record {fault.record}: {fault.kind}", kind)
+                self.assertIn(advised, fault.sentence)
+                self.program_says(f"aclc: capture: {kind}\n", 5, "classify", EXAMPLES / "guide.rules", self.write("list.pcap", content))
+
+    @unittest.skipUnless(built_program(), "the program isn't built")
+    def test_mistakes_in_words_and_names(self):
+        here = os.getcwd()
+        os.chdir(EXAMPLES)
+        self.addCleanup(os.chdir, here)
+        for said, _, words in mistakes.WORDS:
+            self.program_says(f"aclc: usage: {said}\n", 2, *words)
+        for said, _, words in mistakes.FILES:
+            self.program_says(f"aclc: {said}\n", 7, *words)
+
+    def test_likely_mistakes_are_warned_of(self):
+        for title, content, said in mistakes.WARNED:
+            with self.subTest(title=title):
+                rules, faults = rule_file.read_rules(content)
+                self.assertEqual(faults, [])
+                self.assertIn(said, " ".join(sentence for _, _, sentence in warnings.of_file(rules)))
+        rules, _ = rule_file.read_rules((EXAMPLES / "mixed.rules").read_bytes())
+        self.assertEqual(list(warnings.of_file(rules)), [])
+
+    def test_the_page_has_each_mistake_under_its_message(self):
+        page = PAGE.read_text(encoding="utf-8")
+        rows = re.findall(r"(?m)^\| ([^|]+) \| ", page)
+        titles = [it[1] for it in mistakes.RULES + mistakes.CAPTURES + mistakes.WORDS + mistakes.FILES] + [it[0] for it in mistakes.WARNED]
+        for title in titles:
+            self.assertIn(title, rows)
+        for kind in {it[0] for it in mistakes.RULES} | {it[0].split(": ")[-1] for it in mistakes.CAPTURES + mistakes.WORDS}:
+            self.assertIn(f"### {kind}\n", page)
+
+    def test_a_mark_stands_under_the_word(self):
+        rules = self.write("list.rules", b"@10.0.0.0/8\t0.0.0.0/0 0:65535 80-90 6/0xFF\n@1.1.1.1/32 any\n")
+        done = subprocess.run([str(CHECK), str(rules), str(EXAMPLES / "guide.pcap")], stdout=subprocess.PIPE)
+        lines = done.stdout.decode().split("\n")
+        self.assertEqual(done.returncode, 3)
+        self.assertEqual(lines[0], f"{rules}:1: bad ports")
+        self.assertEqual(lines[1][lines[2].index("^"):lines[2].rindex("^") + 1], "80-90")
+        self.assertIn(f"{rules}:2: bad address", lines)
+        self.assertIn("the program says: aclc: rules: line 1: bad ports", lines)
+
+    def test_codes(self):
+        for words, code in (([EXAMPLES / "office.rules"], 0), ([EXAMPLES / "guide.rules", EXAMPLES / "office.rules"], 5),
+                            ([EXAMPLES / "guide.pcap"], 3), (["none"], 7), ([], 2)):
+            done = subprocess.run([str(CHECK), *map(str, words)], stdout=subprocess.PIPE, stderr=subprocess.PIPE)
+            self.assertEqual(done.returncode, code, done.stderr)
+
+    def test_damaged_files_as_the_program_judged_them(self):
+        for content, judgement in damaged.stored():
+            self.assertEqual(damaged.by_check(content), judgement, content)
+
+    @unittest.skipUnless(built_program(), "the program isn't built")
+    def test_damaged_files_as_the_program_judges_them(self):
+        self.assertEqual(damaged.compare(300, 7)[0], [])
+
+
+if __name__ == "__main__":
+    unittest.main()

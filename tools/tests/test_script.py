@@ -1,0 +1,125 @@
+"""The script aclc at the top, with a stand-in for `rt` that proves nothing: what it answers, proves and installs, and when."""
+import os
+import shutil
+import stat
+import subprocess
+import tempfile
+import time
+import unittest
+from pathlib import Path
+
+from aclc_tools.program import TOP
+
+# Tries and builds a program that prints its words and ends with 5, or the example's lines.
+RT = """#!/bin/bash
+echo "$PWD: $*" >> "$CALLS"
+program='#!/bin/bash
+case $3 in *guide.pcap) cat "${2%.rules}.expected" ;; *) echo "$@"; echo told >&2; exit 5 ;; esac'
+case $1 in
+try) shift; [ -z "$BROKEN" ] || { echo refused >&2; exit 1; }
+    while [ "$1" != -- ]; do shift; done
+    shift; echo "$@"; printf 'told\\nchecked: ended status=5\\nrun=ended status=5 runners=1 proved=no\\n' >&2; exit 5 ;;
+all) [ -z "$BROKEN" ] || exit 1; for crate in low aclc; do printf '== %s\\nlogic=proved functions=1\\n' $crate; done; echo '== summary' ;;
+run) mkdir -p out; echo "$program" > out/aclc; chmod +x out/aclc; shift 2; out/aclc "$@" ;;
+esac
+"""
+
+
+class Script(unittest.TestCase):
+    def setUp(self):
+        self.folder = Path(tempfile.mkdtemp())
+        self.addCleanup(shutil.rmtree, self.folder)
+        for name in ("aclc", "HANDLES", "examples", "docs/aclc.1"):
+            target = self.folder / name
+            target.parent.mkdir(parents=True, exist_ok=True)
+            (shutil.copytree if (TOP / name).is_dir() else shutil.copy)(TOP / name, target)
+        (self.folder / "crates.txt").write_text("low:\naclc: low\nother: low\n")
+        for crate in ("low", "aclc", "other"):
+            (self.folder / "crates" / crate / "src").mkdir(parents=True)
+            (self.folder / "crates" / crate / "src" / "lib.rt").write_text("fn one()\n")
+        (self.folder / "bin").mkdir()
+        (self.folder / "bin" / "rt").write_text(RT)
+        (self.folder / "bin" / "rt").chmod(0o755)
+        self.calls = self.folder / "calls"
+
+    def run_script(self, *words, rt=True, **more):
+        path = f"{self.folder / 'bin'}:/usr/bin:/bin" if rt else "/usr/bin:/bin"
+        env = {"PATH": path, "CALLS": str(self.calls), "HOME": str(self.folder), **more}
+        done = subprocess.run([str(self.folder / "aclc"), *words], env=env, stdout=subprocess.PIPE, stderr=subprocess.PIPE, text=True,
+                              cwd=self.folder)
+        return done.returncode, done.stdout, done.stderr
+
+    def calls_of_rt(self):
+        return self.calls.read_text().count("\n") if self.calls.exists() else 0
+
+    def test_an_unproved_program_is_tried_and_says_so(self):
+        code, lines, said = self.run_script("classify", "examples/office.rules", "no.pcap", "marks=on")
+        self.assertEqual((code, lines), (5, "classify file1 no.pcap marks=on\n"))
+        self.assertIn("unproved", said)
+        self.assertTrue(said.endswith("told\n"))
+
+    def test_it_is_proved_once_and_again_after_an_edit_alone(self):
+        code, _, said = self.run_script("prove")
+        self.assertEqual(code, 0, said)
+        self.assertIn("crate 1 of 2: low", said)
+        self.assertIn("crate 2 of 2: aclc", said)
+        calls = self.calls_of_rt()
+        self.assertEqual(self.run_script("classify", "a", "b"), (5, "classify a b\n", "told\n"))
+        self.run_script("prove")
+        (self.folder / "crates" / "low" / "src" / "lib.rt").touch()
+        self.assertEqual(self.run_script("x"), (5, "x\n", "told\n"))
+        self.assertEqual(self.calls_of_rt(), calls)
+        (self.folder / "crates" / "low" / "src" / "lib.rt").write_text("fn two()\n")
+        self.assertIn("unproved", self.run_script("x")[2])
+        (self.folder / "crates" / "low" / "src" / "lib.rt").write_text("fn one()\n")
+        self.assertEqual(self.run_script("x"), (5, "x\n", "told\n"))
+
+    def test_an_edit_that_keeps_its_old_time_is_seen(self):
+        self.run_script("prove")
+        file = self.folder / "crates" / "low" / "src" / "lib.rt"
+        before = os.stat(file).st_mtime
+        time.sleep(1.2)
+        file.write_text("fn two()\n")
+        os.utime(file, (before, before))
+        self.assertIn("unproved", self.run_script("x")[2])
+
+    def test_another_program_in_its_place_is_not_run(self):
+        self.run_script("prove")
+        program = self.folder / "crates" / "aclc" / "out" / "aclc"
+        program.write_text("#!/bin/bash\necho another\n")
+        self.assertIn("unproved", self.run_script("x")[2])
+
+    def test_a_failed_proof_ends_with_101(self):
+        code, lines, said = self.run_script("prove", BROKEN="1")
+        self.assertEqual((code, lines), (101, ""))
+        self.assertIn("the proof failed", said)
+        self.assertEqual(self.run_script("x", BROKEN="1")[0], 101)
+
+    def test_without_rt_it_says_so_in_one_line(self):
+        for words in (["prove"], ["classify", "a", "b"]):
+            code, _, said = self.run_script(*words, rt=False)
+            self.assertEqual(code, 101)
+            self.assertEqual(said.count("\n"), 1)
+            self.assertIn("rt isn't on the path", said)
+
+    def test_it_installs_what_is_proved(self):
+        target = self.folder / "target"
+        self.assertEqual(self.run_script("install", str(target))[0], 101)
+        self.run_script("prove")
+        self.assertEqual(self.run_script("install")[0], 101)
+        self.assertEqual(self.run_script("install", str(target))[0], 0)
+        self.assertTrue(os.stat(target / "bin" / "aclc").st_mode & stat.S_IXUSR)
+        self.assertTrue((target / "share" / "man" / "man1" / "aclc.1").exists())
+        note = (target / "share" / "doc" / "aclc" / "proof").read_text()
+        self.assertIn("logic=proved", note)
+        self.assertIn("bin/aclc", note)
+
+    def test_help_is_the_page(self):
+        for word in ("help", "--help"):
+            code, lines, _ = self.run_script(word)
+            self.assertEqual(code, 0)
+            self.assertIn("classify", lines)
+
+
+if __name__ == "__main__":
+    unittest.main()
