@@ -118,16 +118,13 @@ fn place_at(alloc: Global, rules: &RuleSet, places: &[usize], j: usize) -> Resul
 }
 
 /// Puts the level of the pieces after the others.
-fn push_level(levels: &mut Vec<Level>, pieces: Pieces) -> Result<(), MergeFault>
+fn push_level(levels: &mut Vec<Level>, pieces: Pieces) -> Result<(), AllocError>
     requires { IsPieces 0 pieces.ends.items (length pieces.runs.items) }
     ensures level { OnOk result (levels.new.items
         ≡ levels.old.items ++ pieces_of pieces.runs.items 0 pieces.ends.items ∷ []) }
-    ensures fault { result ≢ Err MergeFault.OverCap }
 {
-    match levels.push(Level::new(pieces)) {
-        Ok(()) => Ok(()),
-        Err(_) => Err(MergeFault::OutOfMemory),
-    }
+    levels.push(Level::new(pieces))?;
+    Ok(())
 }
 
 /// Merges the states of the places, one place after the other.
@@ -153,8 +150,9 @@ fn walk(
     let mut found = start;
     let mut words = 0;
     for j in 0..places.len() {
-        let Ok(place) = place_at(alloc, rules, places, j) else {
-            return Err(MergeFault::OutOfMemory)
+        let place = match place_at(alloc, rules, places, j) {
+            Ok(place) => place,
+            Err(AllocError) => return Err(MergeFault::OutOfMemory),
         };
         let states = found.as_slice();
         let merged = match merge_states(alloc, rules, &place, cap, words, states, lists) {
@@ -163,7 +161,10 @@ fn walk(
         };
         words = merged.words;
         found = merged.found;
-        push_level(&mut levels, merged.pieces)?;
+        match push_level(&mut levels, merged.pieces) {
+            Ok(()) => {}
+            Err(AllocError) => return Err(MergeFault::OutOfMemory),
+        }
     }
     Ok(Walked {
         levels,
@@ -198,7 +199,7 @@ impl Levels {
     {
         let prepared = match prepare(alloc, rules, group) {
             Ok(prepared) => prepared,
-            Err(_) => return Err(MergeFault::OutOfMemory),
+            Err(AllocError) => return Err(MergeFault::OutOfMemory),
         };
         let kept = prepared.kept;
         let mut lists = prepared.lists;
@@ -216,7 +217,7 @@ impl Levels {
         };
         match finish(alloc, group, kept.bits, walked) {
             Ok(levels) => Ok(levels),
-            Err(_) => Err(MergeFault::OutOfMemory),
+            Err(AllocError) => Err(MergeFault::OutOfMemory),
         }
     }
 }

@@ -238,7 +238,7 @@ pub(crate) fn merge_states(
             &mut pieces,
         ) {
             Ok(cost) => cost,
-            Err(_) => return Err(MergeFault::OutOfMemory),
+            Err(AllocError) => return Err(MergeFault::OutOfMemory),
         };
         words += cost;
         let keys = found.as_slice();

@@ -81,7 +81,7 @@ loop-j-preserved c =
       c.requires.places,
     ) at
     c.in-Ok-merge_states.ensures.merged in
-    rw c.in_ok-push_level.ensures.level
+    rw c.in-Ok-push_level.ensures.level
     (walk_on set group (group_held set group its.rules its.layout its.group.within) its.group.some
     (short_keys set.layout its.layout).0
     c.args.cap c.loop-j.j c.loop-j.levels.items c.loop-j.found.keys c.loop-j.words c.loop-j.invariant below _ _ _
@@ -97,14 +97,14 @@ returns-clause-walked c =
     c.args.cap c.loop-j.j c.loop-j.levels.items c.loop-j.found.keys c.loop-j.words c.loop-j.invariant
     (rw (← c.requires.places) c.loop-j-test.false)
 
-pub returns-in-Err-clause-over : goal.returns-in-Err-clause-over
+pub returns-in-Err-merge_states-clause-over : goal.returns-in-Err-merge_states-clause-over
 unfolding levels_of
-returns-in-Err-clause-over c = λ over.
+returns-in-Err-merge_states-clause-over c = λ over.
     let set = c.args.rules.now in
     let group = c.args.group.now in
     let its = c.requires.group in
     let below : c.loop-j.j < length (kept_places set group) = rw (← c.requires.places) c.loop-j-test.true in
-    let is : c.in-Err.fault ≡ OverCap = cc in
+    let is : c.in-Err-merge_states.fault ≡ OverCap = cc in
     let past = rw (
       c.as_slice-states.ensures.keys,
       c.in-Ok.ensures.column,
@@ -112,7 +112,7 @@ returns-in-Err-clause-over c = λ over.
       c.in-Ok.ensures.is_last,
       c.requires.places,
     ) at
-    (c.in-Err.ensures.over (ap Err is)) in
+    (c.in-Err-merge_states.ensures.over (ap Err is)) in
     walk_over set group (group_held set group its.rules its.layout its.group.within) its.group.some
     (short_keys set.layout its.layout).0
     c.args.cap c.loop-j.j c.loop-j.levels.items c.loop-j.found.keys c.loop-j.words c.loop-j.invariant below past
