@@ -6,3 +6,4 @@ pub mod PrintedLines
 pub mod PrintedFiles
 pub mod PrintedRules
 pub mod JoinedParts
+mod SplitParts

@@ -9,7 +9,6 @@ use Rattle.std.specs.List.{list_all}
 use Rattle.field_defs.specs.declared.field.Family.{Family}
 use Rattle.field_defs.specs.declared.field.Family.TheVariants as family
 use Rattle.field_defs.specs.declared.field.FieldValue.TheVariants.{Range, Bitmask}
-use Rattle.rule_set.specs.declared.rule.RuleTag.{RuleTag}
 use Rattle.text_scan.specs.Parts.{slash, tab, line_feed, carriage_return, is_blank, lines_of}
 use Rattle.text_scan.proofs.Offered.{ends_no_line, lines_of-one, length-ip4_spelling-le, length-ip6_spelling-le}
 use Rattle.text_scan.proofs.Offered.{after_blanks-other}
@@ -25,7 +24,8 @@ use Rattle.classbench_reader.specs.Lawful.{IsLawfulLine}
 use Rattle.classbench_reader.specs.Print.{address_text, network_text, ports_text, byte_text, protocol_text, tag_text}
 use Rattle.classbench_reader.specs.Print.{line_text, rule_alone}
 use Rattle.classbench_reader.proofs.PrintedParts.{is_address_byte, address_text-bytes, reads_back}
-use Rattle.classbench_reader.proofs.PrintedLines.{FitsTag, Bounds, plain, plain_line, network_small, rule_line_of-text}
+use Rattle.classbench_reader.proofs.PrintedLines.{FitsTag, Numbers, Bounds, small_numbers, numbered_tag}
+use Rattle.classbench_reader.proofs.PrintedLines.{plain, plain_line, network_small, rule_line_of-text}
 use Rattle.list_lemmas.proofs.Tests.{passes_other}
 use Rattle.list_lemmas.proofs.Digits.{decimal_all, long_digits}
 use Rattle.list_lemmas.proofs.Parts.{length-append-le}
@@ -73,25 +73,25 @@ tag_bytes p c u small_p small_c small_u =
     (decimal_bytes u small_u))
 
 -- and so none of a printed line does
-plain_bytes : (from to : Network) (low high other_low other_high value mask p c u : ℕ)
-    → IsLawfulNetwork from → IsLawfulNetwork to → Bounds low high other_low other_high value mask p c u
-    → list_all ends_no_line (line_text (plain_line from to low high other_low other_high value mask p c u)) ≡ true
-plain_bytes from to low high other_low other_high value mask p c u lawful_from lawful_to bounds =
-    let its_tag : RuleTag = record { category_mask = c; priority = pos p; userdata = u } in
+plain_bytes : (from to : Network) (n : Numbers) → IsLawfulNetwork from → IsLawfulNetwork to → Bounds n
+    → list_all ends_no_line (line_text (plain_line from to n)) ≡ true
+plain_bytes from to n lawful_from lawful_to bounds =
+    let small = small_numbers n bounds in
+    let its_tag = numbered_tag n in
     let seventh : List ℕ = tab ∷ tag_text its_tag in
-    let sixth : List ℕ = tab ∷ (protocol_text (Bitmask value mask) ++ seventh) in
-    let fifth : List ℕ = tab ∷ (ports_text (Range other_low other_high) ++ sixth) in
-    let fourth : List ℕ = tab ∷ (ports_text (Range low high) ++ fifth) in
+    let sixth : List ℕ = tab ∷ (protocol_text (Bitmask n.value n.mask) ++ seventh) in
+    let fifth : List ℕ = tab ∷ (ports_text (Range n.other_low n.other_high) ++ sixth) in
+    let fourth : List ℕ = tab ∷ (ports_text (Range n.low n.high) ++ fifth) in
     let third : List ℕ = tab ∷ (network_text to ++ fourth) in
     list_all_both ends_no_line (network_text from) third (network_bytes from (network_small from lawful_from))
     (list_all_both ends_no_line (network_text to) fourth (network_bytes to (network_small to lawful_to))
-    (list_all_both ends_no_line (ports_text (Range low high)) fifth (ports_bytes low high bounds.filled bounds.within)
-    (list_all_both ends_no_line (ports_text (Range other_low other_high)) sixth
-    (ports_bytes other_low other_high bounds.other_filled bounds.other_within)
-    (list_all_both ends_no_line (protocol_text (Bitmask value mask)) seventh
-    (protocol_bytes value mask bounds.small bounds.masked)
-    (tag_bytes p c u (omega (arith, bounds.priority)) (omega (arith, bounds.categories))
-    (omega (arith, bounds.userdata)))))))
+    (list_all_both ends_no_line (ports_text (Range n.low n.high)) fifth
+    (ports_bytes n.low n.high bounds.filled bounds.within)
+    (list_all_both ends_no_line (ports_text (Range n.other_low n.other_high)) sixth
+    (ports_bytes n.other_low n.other_high bounds.other_filled bounds.other_within)
+    (list_all_both ends_no_line (protocol_text (Bitmask n.value n.mask)) seventh
+    (protocol_bytes n.value n.mask bounds.small bounds.masked)
+    (tag_bytes n.priority n.categories n.userdata small.0 small.1 small.2)))))
 
 address_short : (address : Address) → length (address_text address) ≤ 39
 address_short (Ip4 address) = omega (arith, length-ip4_spelling-le address)
@@ -120,24 +120,23 @@ tag_short p c u small_p small_c small_u =
     (omega (arith, second)) in
     omega (arith, first)
 
-plain_short : (from to : Network) (low high other_low other_high value mask p c u : ℕ)
-    → IsLawfulNetwork from → IsLawfulNetwork to → Bounds low high other_low other_high value mask p c u
-    → length (line_text (plain_line from to low high other_low other_high value mask p c u)) ≤ 296
-plain_short from to low high other_low other_high value mask p c u lawful_from lawful_to bounds =
-    let its_tag : RuleTag = record { category_mask = c; priority = pos p; userdata = u } in
+plain_short : (from to : Network) (n : Numbers) → IsLawfulNetwork from → IsLawfulNetwork to → Bounds n
+    → length (line_text (plain_line from to n)) ≤ 296
+plain_short from to n lawful_from lawful_to bounds =
+    let its_tag = numbered_tag n in
     let seventh : List ℕ = tab ∷ tag_text its_tag in
-    let sixth : List ℕ = tab ∷ (protocol_text (Bitmask value mask) ++ seventh) in
-    let fifth : List ℕ = tab ∷ (ports_text (Range other_low other_high) ++ sixth) in
-    let fourth : List ℕ = tab ∷ (ports_text (Range low high) ++ fifth) in
+    let sixth : List ℕ = tab ∷ (protocol_text (Bitmask n.value n.mask) ++ seventh) in
+    let fifth : List ℕ = tab ∷ (ports_text (Range n.other_low n.other_high) ++ sixth) in
+    let fourth : List ℕ = tab ∷ (ports_text (Range n.low n.high) ++ fifth) in
     let third : List ℕ = tab ∷ (network_text to ++ fourth) in
-    let tags = tag_short p c u (omega (arith, bounds.priority)) (omega (arith, bounds.categories))
-    (omega (arith, bounds.userdata)) in
-    let e = length-append-le (protocol_text (Bitmask value mask)) seventh 9 76 (protocol_short value mask)
+    let small = small_numbers n bounds in
+    let tags = tag_short n.priority n.categories n.userdata small.0 small.1 small.2 in
+    let e = length-append-le (protocol_text (Bitmask n.value n.mask)) seventh 9 76 (protocol_short n.value n.mask)
     (omega (arith, tags)) in
-    let d = length-append-le (ports_text (Range other_low other_high)) sixth 43 86
-    (ports_short other_low other_high bounds.other_filled bounds.other_within) (omega (arith, e)) in
-    let b = length-append-le (ports_text (Range low high)) fifth 43 130
-    (ports_short low high bounds.filled bounds.within)
+    let d = length-append-le (ports_text (Range n.other_low n.other_high)) sixth 43 86
+    (ports_short n.other_low n.other_high bounds.other_filled bounds.other_within) (omega (arith, e)) in
+    let b = length-append-le (ports_text (Range n.low n.high)) fifth 43 130
+    (ports_short n.low n.high bounds.filled bounds.within)
     (omega (arith, d)) in
     let a = length-append-le (network_text to) fourth 60 174 (network_short to (network_small to lawful_to))
     (omega (arith, b)) in
@@ -152,12 +151,12 @@ record IsTextOfLine (line : RuleLine) : Type 0 where
 
 text_of_line : (line : RuleLine) → IsLawfulLine line → FitsTag line.tag → IsTextOfLine line
 text_of_line line lawful fits =
-    let n = plain line lawful fits in
-    subst IsTextOfLine (sym n.is) (record {
-      bytes = plain_bytes line.source line.destination n.low n.high n.other_low n.other_high n.value n.mask n.p n.c n.u
-          lawful.source_network lawful.destination_network n.bounds;
-      short = plain_short line.source line.destination n.low n.high n.other_low n.other_high n.value n.mask n.p n.c n.u
-          lawful.source_network lawful.destination_network n.bounds;
+    let it = plain line lawful fits in
+    subst IsTextOfLine (sym it.is) (record {
+      bytes = plain_bytes line.source line.destination it.numbers lawful.source_network lawful.destination_network
+          it.bounds;
+      short = plain_short line.source line.destination it.numbers lawful.source_network lawful.destination_network
+          it.bounds;
     })
 
 -- one line of its own is the file's only rule

@@ -169,45 +169,71 @@ with_source ordinal from = next_network from.rest >>= with_another ordinal from.
 abbrev pub with_text : ℕ → List ℕ → Result RuleLine LineKind
 with_text ordinal text = next_network text >>= with_source ordinal
 
--- the bounds of the numbers of a line
-pub record Bounds (low high other_low other_high value mask p c u : ℕ) : Type 0 where
-  pub filled : low ≤ high
-  pub within : high ≤ 65535
-  pub other_filled : other_low ≤ other_high
-  pub other_within : other_high ≤ 65535
-  pub small : value < 256
-  pub masked : mask < 256
-  pub priority : p ≤ max_priority
-  pub some : c % 65536 ≡ 0 → ⊥
-  pub categories : c ≤ max_category_mask
-  pub userdata : u ≤ max_userdata
+-- the numbers of a line, as they are printed
+pub record Numbers : Type 0 where
+  pub low : ℕ
+  pub high : ℕ
+  pub other_low : ℕ
+  pub other_high : ℕ
+  pub value : ℕ
+  pub mask : ℕ
+  pub priority : ℕ
+  pub categories : ℕ
+  pub userdata : ℕ
 
-abbrev pub plain_line : Network → Network → ℕ → ℕ → ℕ → ℕ → ℕ → ℕ → ℕ → ℕ → ℕ → RuleLine
-plain_line from to low high other_low other_high value mask p c u = record {
+-- and their bounds
+pub record Bounds (n : Numbers) : Type 0 where
+  pub filled : n.low ≤ n.high
+  pub within : n.high ≤ 65535
+  pub other_filled : n.other_low ≤ n.other_high
+  pub other_within : n.other_high ≤ 65535
+  pub small : n.value < 256
+  pub masked : n.mask < 256
+  pub lawful_priority : n.priority ≤ max_priority
+  pub some : n.categories % 65536 ≡ 0 → ⊥
+  pub lawful_categories : n.categories ≤ max_category_mask
+  pub lawful_userdata : n.userdata ≤ max_userdata
+
+-- those of the tag are small
+pub small_numbers : (n : Numbers) → Bounds n → (n.priority < 2 ^ 64) × (n.categories < 2 ^ 64) × (n.userdata < 2 ^ 64)
+small_numbers n bounds = (
+  omega (arith, bounds.lawful_priority),
+  omega (arith, bounds.lawful_categories),
+  omega (arith, bounds.lawful_userdata),
+)
+
+abbrev pub numbered_tag : Numbers → RuleTag
+numbered_tag n = record { category_mask = n.categories; priority = pos n.priority; userdata = n.userdata }
+
+abbrev pub plain_line : Network → Network → Numbers → RuleLine
+plain_line from to n = record {
   source = from;
   destination = to;
-  source_ports = Range low high;
-  destination_ports = Range other_low other_high;
-  protocol = Bitmask value mask;
-  tag = record { category_mask = c; priority = pos p; userdata = u };
+  source_ports = Range n.low n.high;
+  destination_ports = Range n.other_low n.other_high;
+  protocol = Bitmask n.value n.mask;
+  tag = numbered_tag n;
 }
 
 pub network_small : (network : Network) → IsLawfulNetwork network → network.bits < 2 ^ 64
 network_small network lawful = omega (arith, lawful.within, most_bits-small network.address)
 
 -- a printed line is read as what it says
-read_plain : (ordinal : ℕ) (from to : Network) (low high other_low other_high value mask p c u : ℕ)
-    → IsLawfulNetwork from → IsLawfulNetwork to → same_family (family_of from) (family_of to) ≡ true
-    → Bounds low high other_low other_high value mask p c u
-    → rule_line_of ordinal (line_text (plain_line from to low high other_low other_high value mask p c u))
-    ≡ Ok (plain_line from to low high other_low other_high value mask p c u)
-read_plain ordinal from to low high other_low other_high value mask p c u lawful_from lawful_to same bounds =
-    let ports = Range low high in
-    let others = Range other_low other_high in
-    let proto = Bitmask value mask in
-    let its_tag : RuleTag = record { category_mask = c; priority = pos p; userdata = u } in
-    let found : Attributes = record { priority = Some p; categories = Some c; userdata = Some u } in
-    let words = pri_word p ∷ cat_word c ∷ data_word u ∷ [] in
+read_plain : (ordinal : ℕ) (from to : Network) (n : Numbers) → IsLawfulNetwork from → IsLawfulNetwork to
+    → same_family (family_of from) (family_of to) ≡ true → Bounds n
+    → rule_line_of ordinal (line_text (plain_line from to n)) ≡ Ok (plain_line from to n)
+read_plain ordinal from to n lawful_from lawful_to same bounds =
+    let ports = Range n.low n.high in
+    let others = Range n.other_low n.other_high in
+    let proto = Bitmask n.value n.mask in
+    let its_tag = numbered_tag n in
+    let found : Attributes = record {
+      priority = Some n.priority;
+      categories = Some n.categories;
+      userdata = Some n.userdata;
+    } in
+    let small = small_numbers n bounds in
+    let words = pri_word n.priority ∷ cat_word n.categories ∷ data_word n.userdata ∷ [] in
     let seventh : List ℕ = tab ∷ tag_text its_tag in
     let sixth : List ℕ = tab ∷ (protocol_text proto ++ seventh) in
     let fifth : List ℕ = tab ∷ (ports_text others ++ sixth) in
@@ -225,18 +251,18 @@ read_plain ordinal from to low high other_low other_high value mask p c u lawful
     (network_text-some to) refl)
     lawful_to in
     let beside : beside_source from (read_of to fourth) ≡ Ok (read_of to fourth) = rw same refl in
-    let first_ports = ports_of-text low high (ports_text others ++ sixth) bounds.filled bounds.within in
+    let first_ports = ports_of-text n.low n.high (ports_text others ++ sixth) bounds.filled bounds.within in
     let other_ports =
-    ports_of-text other_low other_high (protocol_text proto ++ seventh) bounds.other_filled bounds.other_within in
-    let protocol = protocol_next sixth seventh value mask bounds.small bounds.masked
-    (word_after_tab (protocol_text proto) seventh (protocol_text-word value mask bounds.small bounds.masked)
+    ports_of-text n.other_low n.other_high (protocol_text proto ++ seventh) bounds.other_filled bounds.other_within in
+    let protocol = protocol_next sixth seventh n.value n.mask bounds.small bounds.masked
+    (word_after_tab (protocol_text proto) seventh (protocol_text-word n.value n.mask bounds.small bounds.masked)
     (omega arith) refl) in
     let flags : after_flags (words_of seventh) ≡ Ok words =
     ap after_flags
-    (tag_words p c u (omega (arith, bounds.priority)) (omega (arith, bounds.categories))
-    (omega (arith, bounds.userdata)))
-    ∙ after_flags-pri p (cat_word c ∷ data_word u ∷ []) (omega (arith, bounds.priority)) in
-    let attributes = attributes_of-words p c u (omega (arith, bounds.priority)) bounds.categories bounds.userdata in
+    (tag_words n.priority n.categories n.userdata small.0 small.1 small.2)
+    ∙ after_flags-pri n.priority (cat_word n.categories ∷ data_word n.userdata ∷ []) small.0 in
+    let attributes = attributes_of-words n.priority n.categories n.userdata (omega (arith, bounds.lawful_priority))
+    bounds.lawful_categories bounds.lawful_userdata in
     bind (after_at_sign (after_blanks (64 ∷ second))) second (with_text ordinal) start
     ∙ bind (next_network second) (read_of from third) (with_source ordinal) source
     ∙ bind (next_network third) (read_of to fourth) (with_another ordinal from) destination
@@ -247,7 +273,7 @@ read_plain ordinal from to low high other_low other_high value mask p c u lawful
     ∙ bind (after_flags (words_of seventh)) words (with_words ordinal from to ports others proto) flags
     ∙ bind (attributes_of words) found (with_attributes ordinal from to ports others proto) attributes
     ∙ bind (tag_of ordinal found) its_tag (made from to ports others proto)
-    (tag_of-numbers ordinal p c u bounds.some bounds.priority)
+    (tag_of-numbers ordinal n.priority n.categories n.userdata bounds.some bounds.lawful_priority)
 
 -- two of the tests of a lawful value
 record Tested (value : FieldValue) (size : ℕ) : Type 0 where
@@ -321,17 +347,9 @@ some_category_left its_tag lawful none =
 
 -- each lawful line has such numbers
 pub record IsPlain (line : RuleLine) : Type 0 where
-  pub low : ℕ
-  pub high : ℕ
-  pub other_low : ℕ
-  pub other_high : ℕ
-  pub value : ℕ
-  pub mask : ℕ
-  pub p : ℕ
-  pub c : ℕ
-  pub u : ℕ
-  pub is : line ≡ plain_line line.source line.destination low high other_low other_high value mask p c u
-  pub bounds : Bounds low high other_low other_high value mask p c u
+  pub numbers : Numbers
+  pub is : line ≡ plain_line line.source line.destination numbers
+  pub bounds : Bounds numbers
 
 pub plain : (line : RuleLine) → IsLawfulLine line → FitsTag line.tag → IsPlain line
 plain line lawful fits =
@@ -341,15 +359,17 @@ plain line lawful fits =
     let priority = natural line.tag.priority lawful.lawful_tag.not_below in
     let above = rw priority.is at lawful.lawful_tag.not_above in
     record {
-      low = ports.low;
-      high = ports.high;
-      other_low = others.low;
-      other_high = others.high;
-      value = proto.number;
-      mask = proto.mask;
-      p = priority.number;
-      c = line.tag.category_mask;
-      u = line.tag.userdata;
+      numbers = record {
+        low = ports.low;
+        high = ports.high;
+        other_low = others.low;
+        other_high = others.high;
+        value = proto.number;
+        mask = proto.mask;
+        priority = priority.number;
+        categories = line.tag.category_mask;
+        userdata = line.tag.userdata;
+      };
       is = λ i. record {
         source = line.source;
         destination = line.destination;
@@ -365,10 +385,10 @@ plain line lawful fits =
         other_within = others.within;
         small = proto.small;
         masked = proto.masked;
-        priority = leb-true priority.number max_priority above;
+        lawful_priority = leb-true priority.number max_priority above;
         some = some_category_left line.tag lawful.lawful_tag;
-        categories = omega (arith, fits.categories);
-        userdata = omega (arith, fits.userdata);
+        lawful_categories = omega (arith, fits.categories);
+        lawful_userdata = omega (arith, fits.userdata);
       };
     }
 
@@ -376,10 +396,8 @@ plain line lawful fits =
 pub rule_line_of-text : (ordinal : ℕ) (line : RuleLine) → IsLawfulLine line → FitsTag line.tag
     → rule_line_of ordinal (line_text line) ≡ Ok line
 rule_line_of-text ordinal line lawful fits =
-    let numbers = plain line lawful fits in
+    let it = plain line lawful fits in
     let P : RuleLine → Type 0 = λ l. rule_line_of ordinal (line_text l) ≡ Ok l in
-    subst P (sym numbers.is) (
-    read_plain ordinal line.source line.destination numbers.low numbers.high numbers.other_low numbers.other_high
-    numbers.value
-    numbers.mask numbers.p numbers.c numbers.u lawful.source_network lawful.destination_network lawful.one_family
-    numbers.bounds)
+    subst P (sym it.is)
+    (read_plain ordinal line.source line.destination it.numbers lawful.source_network lawful.destination_network
+    lawful.one_family it.bounds)

@@ -105,3 +105,15 @@ abbrev pub JoinedPartsAreRead : Type 0
 JoinedPartsAreRead =
     (ordinal : ℕ) (parts : LineParts) (line : RuleLine) → SaysLine ordinal parts line
     → rule_line_of ordinal (joined_line parts) ≡ Ok line
+
+-- The text is parts, joined, that say the line.
+pub record IsJoined (ordinal : ℕ) (text : List ℕ) (line : RuleLine) : Type 0 where
+  pub parts : LineParts
+  pub joined : joined_line parts ≡ text
+  pub says : SaysLine ordinal parts line
+
+-- a line that is read is such parts, joined
+abbrev pub ReadLinesAreJoinedParts : Type 0
+ReadLinesAreJoinedParts =
+    (ordinal : ℕ) (text : List ℕ) (line : RuleLine) → rule_line_of ordinal text ≡ Ok line
+    → IsJoined ordinal text line

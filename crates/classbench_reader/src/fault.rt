@@ -1,5 +1,7 @@
 //! Why a rule file is refused.
 
+use std::alloc::AllocError;
+
 /// Why a rule file isn't read.
 #[derive(Clone, Copy, Debug, PartialEq, Eq)]
 pub enum RulesFault {
@@ -7,6 +9,17 @@ pub enum RulesFault {
     Line(LineFault),
     /// There is no memory for one more rule.
     OutOfMemory,
+}
+
+impl From<AllocError> for RulesFault {
+    ghost use Rattle.std.specs.Prelude.{◌≡◌};
+    ghost use Rattle.classbench_reader.specs.declared.fault.RulesFault.TheVariants.{OutOfMemory};
+
+    ghost from_gives = { λ _ fault. fault ≡ OutOfMemory };
+
+    fn from(_: AllocError) -> RulesFault {
+        RulesFault::OutOfMemory
+    }
 }
 
 /// The first faulty line of a rule file, by its number from 1, and its fault. Line 0 stands for the

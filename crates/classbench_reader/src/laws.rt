@@ -3,7 +3,7 @@
 
 ghost use Rattle.std.specs.Prelude.{◌≡◌, [], ◌∷◌, ◌++◌, Ok};
 ghost use Rattle.text_scan.specs.Parts.{line_feed};
-ghost use Rattle.classbench_reader.specs.Joined.{JoinedPartsAreRead};
+ghost use Rattle.classbench_reader.specs.Joined.{JoinedPartsAreRead, ReadLinesAreJoinedParts};
 ghost use Rattle.classbench_reader.specs.Lawful.{IsLawfulLine};
 ghost use Rattle.classbench_reader.specs.Line.{family_of_line, rule_line_of, rule_of};
 ghost use Rattle.classbench_reader.specs.Print.{line_text, rule_alone};
@@ -29,4 +29,10 @@ pub fn printed_lines_are_files(line: RuleLine)
 /// its parts say.
 pub fn joined_parts_are_read()
     ensures { JoinedPartsAreRead }
+{}
+
+/// The other way round: a line that is read is its parts, joined, which say what was read. So
+/// nothing else is read, and nothing in a line is passed over.
+pub fn read_lines_are_joined_parts()
+    ensures { ReadLinesAreJoinedParts }
 {}

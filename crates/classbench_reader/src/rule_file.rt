@@ -14,7 +14,7 @@ ghost use Rattle.classbench_reader.specs.declared.fault.LineFault.{LineFault};
 use crate::fault::{LineFault, LineKind, RulesFault};
 use crate::line::{RuleLine, is_skipped};
 use field_defs::{Family, ip4_layout, ip6_layout};
-use rule_set::{MAX_RULES, RuleSet, StoredRule};
+use rule_set::{MAX_RULES, RuleSet};
 use std::alloc::{AllocError, Global};
 use text_scan::split_line;
 
@@ -58,36 +58,24 @@ impl RuleFile {
             return Err(line_fault(number, LineKind::TooManyRules));
         }
         match RuleLine::read(line, ordinal) {
-            Ok(rule_line) => self.add(alloc, &rule_line),
+            Ok(rule_line) => {
+                self.add(alloc, &rule_line)?;
+                Ok(())
+            }
             Err(kind) => Err(line_fault(number, kind)),
         }
     }
 
     /// Adds the rule of a line after the others of its family.
-    fn add(&mut self, alloc: Global, line: &RuleLine) -> Result<(), RulesFault>
+    fn add(&mut self, alloc: Global, line: &RuleLine) -> Result<(), AllocError>
         requires room { HasRoom self.old }
         requires lawful { IsLawfulLine line.now }
-        ensures ok { OnOk result (Adds line.now self.old self.new) }
-        ensures err { IfErr result (λ fault. fault ≡ RulesFault.OutOfMemory) }
+        ensures { OnOk result (Adds line.now self.old self.new) }
     {
         match line.family() {
-            Family::Ip4 => push(&mut self.ip4, line.rule(alloc)),
-            Family::Ip6 => push(&mut self.ip6, line.rule(alloc)),
+            Family::Ip4 => self.ip4.push_lawful(line.rule(alloc)),
+            Family::Ip6 => self.ip6.push_lawful(line.rule(alloc)),
         }
-    }
-}
-
-/// Adds a lawful rule after the others.
-fn push(rules: &mut RuleSet, rule: StoredRule) -> Result<(), RulesFault>
-    requires room { length rules.old.rules < max_rules }
-    requires lawful { rule_fault rules.old.layout rule.tag rule.fields ≡ None }
-    ensures ok { OnOk result
-        (rules.new ≡ record rules.old { rules = rules.old.rules ++ rule ∷ [] }) }
-    ensures err { IfErr result (λ fault. fault ≡ RulesFault.OutOfMemory) }
-{
-    match rules.push_lawful(rule) {
-        Ok(()) => Ok(()),
-        Err(AllocError) => Err(RulesFault::OutOfMemory),
     }
 }
 

@@ -1,7 +1,7 @@
 //! Rule files as people write them, and files with a fault. What is expected is done by hand.
 
 use crate::{LineFault, LineKind, RulesFault, print_rule, read_rules};
-use field_defs::{Family, FieldValue, ip4_layout};
+use field_defs::{Family, FieldValue, ip4_layout, ip6_layout};
 use rule_set::{RuleTag, StoredRule, check_rule};
 use std::alloc::Global;
 use std::test::Fail;
@@ -14,11 +14,19 @@ const LIST: &str = "# edge filters\r\n\
     \t@ 2001:db8::/48 ::/0 0:65535 443:443 6/0xff pri=100 cat=0x3 data=7\n\
     @0.0.0.0/0 0.0.0.0/0 0:65535 0:65535 0/0 data=0";
 
+/// What a rule is for, apart from what it matches.
+fn tag(category_mask: u32, priority: i32, userdata: u32) -> RuleTag {
+    RuleTag {
+        category_mask,
+        priority,
+        userdata,
+    }
+}
+
 #[test]
 fn a_list_of_both_families_is_read(rt: HostRuntime) -> Result<(), Fail> {
     let file = read_rules(rt.alloc(), LIST.as_bytes())?;
-    assert_eq!(rt; file.ip4.len(), 2);
-    assert_eq!(rt; file.ip6.len(), 1);
+    assert_eq!(rt; (file.ip4.len(), file.ip6.len()), (2, 1));
     let guide = [
         FieldValue::Bitmask {
             value: 17,
@@ -42,18 +50,17 @@ fn a_list_of_both_families_is_read(rt: HostRuntime) -> Result<(), Fail> {
         },
     ];
     assert_eq!(rt; file.ip4.at(0).fields(), guide.as_slice());
-    let third = RuleTag {
-        category_mask: 0xFFFF,
-        priority: 536_870_908,
-        userdata: 0,
-    };
-    assert_eq!(rt; file.ip4.at(1).tag(), third);
-    let second = RuleTag {
-        category_mask: 3,
-        priority: 100,
-        userdata: 7,
-    };
-    assert_eq!(rt; file.ip6.at(0).tag(), second);
+    assert_eq!(rt; file.ip4.at(1).tag(), tag(0xFFFF, 536_870_908, 0));
+    assert_eq!(rt; file.ip6.at(0).tag(), tag(3, 100, 7));
+    Ok(())
+}
+
+#[test]
+fn a_rule_alone_has_the_first_priority(rt: HostRuntime) -> Result<(), Fail> {
+    let text = "# top\r\n\r\n@0.0.0.0/0 0.0.0.0/0 0x0:0xFFFF 53 : 53 17/255 data=9\r\n";
+    let file = read_rules(rt.alloc(), text.as_bytes())?;
+    assert_eq!(rt; (file.ip4.len(), file.ip6.len()), (1, 0));
+    assert_eq!(rt; file.ip4.at(0).tag(), tag(0xFFFF, 536_870_910, 9));
     Ok(())
 }
 
@@ -94,37 +101,66 @@ fn hundreds_of_rules_are_read(rt: HostRuntime) -> Result<(), Fail> {
     Ok(())
 }
 
+/// The protocol, and the range of the ports.
+const UDP: FieldValue = FieldValue::Bitmask {
+    value: 17,
+    mask: 255,
+};
+
+const ANY_PORT: FieldValue = FieldValue::Range {
+    low: 0,
+    high: 65535,
+};
+
+const PORT_1234: FieldValue = FieldValue::Range {
+    low: 1234,
+    high: 1234,
+};
+
 #[test]
-fn a_printed_rule_is_one_line(rt: HostRuntime) -> Result<(), Fail> {
-    let tag = RuleTag {
-        category_mask: 3,
-        priority: 5,
-        userdata: 7,
+fn a_printed_ip4_rule_is_one_line(rt: HostRuntime) -> Result<(), Fail> {
+    let source = FieldValue::Mask {
+        value: 0xC0A8_0100,
+        bits: 24,
     };
-    let fields = [
-        FieldValue::Bitmask {
-            value: 6,
-            mask: 0xFA,
-        },
-        FieldValue::Mask {
-            value: 0xC0A8_0100,
-            bits: 24,
-        },
-        FieldValue::Mask { value: 0, bits: 0 },
-        FieldValue::Range {
-            low: 0,
-            high: 65535,
-        },
-        FieldValue::Range { low: 80, high: 80 },
-    ];
-    let rule = StoredRule::new(rt.alloc(), tag, &fields)?;
+    let destination = FieldValue::Mask {
+        value: 0xC0A8_021F,
+        bits: 32,
+    };
+    let fields = [UDP, source, destination, ANY_PORT, PORT_1234];
+    let rule = StoredRule::new(rt.alloc(), tag(65535, 536_870_910, 1), &fields)?;
     assert_eq!(rt;
         check_rule(&ip4_layout(), &rule.tag(), rule.fields()),
         Ok(())
     );
     let line = print_rule(rt.alloc(), Family::Ip4, &rule)?;
-    let expected =
-        b"@192.168.1.0/24\t0.0.0.0/0\t0 : 65535\t80 : 80\t0x06/0xFA\tpri=5 cat=3 data=7\n";
-    assert_eq!(rt; line.as_slice(), expected.as_slice());
+    let want = b"@192.168.1.0/24\t192.168.2.31/32\t0 : 65535\t1234 : 1234\t0x11/0xFF\t\
+        pri=536870910 cat=65535 data=1\n";
+    assert_eq!(rt; line.as_slice(), want.as_slice());
+    Ok(())
+}
+
+#[test]
+fn a_printed_ip6_rule_is_one_line(rt: HostRuntime) -> Result<(), Fail> {
+    let prefix = FieldValue::Mask {
+        value: 0x2001_0DB8_0000_0000,
+        bits: 48,
+    };
+    let rest = FieldValue::Mask { value: 0, bits: 0 };
+    let high = FieldValue::Mask {
+        value: 0x2001_0DB8_00AB_0000,
+        bits: 64,
+    };
+    let low = FieldValue::Mask { value: 1, bits: 64 };
+    let fields = [UDP, prefix, rest, high, low, ANY_PORT, PORT_1234];
+    let rule = StoredRule::new(rt.alloc(), tag(3, 5, 7), &fields)?;
+    assert_eq!(rt;
+        check_rule(&ip6_layout(), &rule.tag(), rule.fields()),
+        Ok(())
+    );
+    let line = print_rule(rt.alloc(), Family::Ip6, &rule)?;
+    let want = b"@2001:db8:0:0:0:0:0:0/48\t2001:db8:ab:0:0:0:0:1/128\t0 : 65535\t1234 : 1234\t\
+        0x11/0xFF\tpri=5 cat=3 data=7\n";
+    assert_eq!(rt; line.as_slice(), want.as_slice());
     Ok(())
 }

@@ -1,0 +1,5 @@
+use Rattle.classbench_reader.proofs.SplitParts.{read_lines_are_joined_parts}
+use Rattle.classbench_reader.proofs.laws.read_lines_are_joined_parts.Goals as goal
+
+pub returns : goal.returns
+returns c = read_lines_are_joined_parts
