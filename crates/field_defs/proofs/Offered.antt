@@ -11,3 +11,5 @@ pub use Rattle.field_defs.proofs.Faultless.{none_at, passes_test, passes_each, l
 pub use Rattle.field_defs.proofs.Sizes.{size_at_least_1, size_at_most_8}
 -- wild_is_every: a value is wild by its numbers exactly where every number of its size matches
 pub use Rattle.field_defs.proofs.Wild.{wild_is_every}
+-- filled_groups: a key of a lawful layout has the byte of the first field and four for each group
+pub use Rattle.field_defs.proofs.Filled.{filled_groups}
