@@ -5,7 +5,7 @@ use Rattle.header_extract.specs.declared.class.Class.TheVariants.{Ip4, Short}
 use Rattle.header_extract.specs.Class.{or_short}
 use Rattle.header_extract.specs.Ip4.{protocol_of, ip4_ports}
 use Rattle.header_extract.proofs.Ip4Packets.{HasHeader, ip4_class-key, ip4_class-cut}
-use Rattle.header_extract.proofs.Keys.{Extracts-written}
+use Rattle.header_extract.proofs.Keys.{KeyParts, Extracts-written}
 use Rattle.header_extract.proofs.ip4.extract_ip4.Goals as goal
 use Rattle.list_lemmas.proofs.Parts.{take-both}
 
@@ -24,10 +24,21 @@ returns-in-Some c =
     ap (ip4_ports packet) (sym (take_rest packet header_len)) ∙ c.packet_ports.ensures ∙ ap or_short c.in-Some.is in
     let len : 5 + length (take 8 (drop 12 packet)) ≡ 13 =
     omega (arith, length-take 8 (drop 12 packet), length-drop 12 packet, header.front) in
-    Extracts-written _ Ip4 (protocol_of packet) (take 4 (drop 12 packet)) (take 4 (drop 16 packet))
-    (take 8 (drop 12 packet)) c.in-Some.ports c.args.key.now.bytes _
-    (ip4_class-key packet c.in-Some.ports header_len header found) (take-both 4 12 packet) (omega arith) len
-    c.write.ensures
+    let parts : KeyParts = record {
+      protocol = protocol_of packet;
+      source = take 4 (drop 12 packet);
+      destination = take 4 (drop 16 packet);
+      addresses = take 8 (drop 12 packet);
+      ports = c.in-Some.ports;
+    } in
+    Extracts-written _ Ip4 parts c.args.key.now.bytes _
+    record {
+      is_frame = ip4_class-key packet c.in-Some.ports header_len header found;
+      both = take-both 4 12 packet;
+      four = omega arith;
+      whole = len;
+      written = c.write.ensures;
+    }
 
 pub returns-in-None : goal.returns-in-None
 returns-in-None c =

@@ -4,7 +4,7 @@ use Rattle.header_extract.specs.declared.class.Class.TheVariants.{Ip6, Short}
 use Rattle.header_extract.specs.Class.{or_short}
 use Rattle.header_extract.specs.Ip6.{upper_of}
 use Rattle.header_extract.proofs.Ip6Packets.{ip6_class-key, ip6_class-cut}
-use Rattle.header_extract.proofs.Keys.{Extracts-written}
+use Rattle.header_extract.proofs.Keys.{KeyParts, Extracts-written}
 use Rattle.header_extract.proofs.ip6.extract_ip6.Goals as goal
 use Rattle.list_lemmas.proofs.Parts.{take-both}
 
@@ -17,10 +17,21 @@ returns-in-Some c =
     ∙ ap or_short c.in-Some.is in
     let len : 5 + length (take 32 (drop 8 packet)) ≡ 37 =
     omega (arith, length-take 32 (drop 8 packet), length-drop 8 packet) in
-    Extracts-written _ Ip6 upper.protocol (take 16 (drop 8 packet)) (take 16 (drop 24 packet))
-    (take 32 (drop 8 packet)) upper.ports c.args.key.now.bytes _
-    (ip6_class-key packet upper c.if-packet-lt-HEADER.false c.if-packet-ne-VERSION.false found)
-    (take-both 16 8 packet) (omega arith) len c.write.ensures
+    let parts : KeyParts = record {
+      protocol = upper.protocol;
+      source = take 16 (drop 8 packet);
+      destination = take 16 (drop 24 packet);
+      addresses = take 32 (drop 8 packet);
+      ports = upper.ports;
+    } in
+    Extracts-written _ Ip6 parts c.args.key.now.bytes _
+    record {
+      is_frame = ip6_class-key packet upper c.if-packet-lt-HEADER.false c.if-packet-ne-VERSION.false found;
+      both = take-both 16 8 packet;
+      four = omega arith;
+      whole = len;
+      written = c.write.ensures;
+    }
 
 pub returns-in-None : goal.returns-in-None
 returns-in-None c =
