@@ -269,28 +269,34 @@ record PortsSplit (text : List ℕ) (read : Read FieldValue) : Type 0 where
   ends : EndsTheWord read.rest
 
 -- the ports and what stands around them are the text again
-ports_joined : (text gap low before after high low_rest second rest : List ℕ) → gap ++ (low ++ low_rest) ≡ text →
-    before ++ after_blanks low_rest ≡ low_rest → colon ∷ second ≡ after_blanks low_rest →
-    after ++ (high ++ rest) ≡ second →
-    gap ++ ((low ++ (before ++ colon ∷ (after ++ high))) ++ rest) ≡ text
-ports_joined text gap low before after high low_rest second rest whole blanks colon_is last =
-    ap (λ t. gap ++ t) (append_assoc low (before ++ colon ∷ (after ++ high)) rest
-    ∙ ap (λ t. low ++ t) (append_assoc before (colon ∷ (after ++ high)) rest
-    ∙ ap (λ t. before ++ colon ∷ t) (append_assoc after high rest ∙ last)
-    ∙ ap (λ t. before ++ t) colon_is ∙ blanks))
+ports_joined : (text gap : List ℕ) (ports : PortTexts) (low_rest second rest : List ℕ) →
+    gap ++ (ports.low ++ low_rest) ≡ text → ports.before_colon ++ after_blanks low_rest ≡ low_rest →
+    colon ∷ second ≡ after_blanks low_rest → ports.after_colon ++ (ports.high ++ rest) ≡ second →
+    gap ++ (port_text ports ++ rest) ≡ text
+ports_joined text gap ports low_rest second rest whole blanks colon_is last =
+    let after : List ℕ = ports.after_colon ++ ports.high in
+    ap (λ t. gap ++ t) (append_assoc ports.low (ports.before_colon ++ colon ∷ after) rest
+    ∙ ap (λ t. ports.low ++ t) (append_assoc ports.before_colon (colon ∷ after) rest
+    ∙ ap (λ t. ports.before_colon ++ colon ∷ t) (append_assoc ports.after_colon ports.high rest ∙ last)
+    ∙ ap (λ t. ports.before_colon ++ t) colon_is ∙ blanks))
     ∙ whole
 
 ports_of_parts : (text : List ℕ) (read : Read FieldValue) (low : Read ℕ) (second : List ℕ) (high : Read ℕ) →
     PortSplit text low → colon ∷ second ≡ after_blanks low.rest → PortSplit second high →
     IsRange low.value high.value high.rest read → PortsSplit text read
 ports_of_parts text read low second high first colon_is last range =
-    let before = take_while is_blank low.rest in
+    let ports : PortTexts = record {
+      low = first.number;
+      before_colon = take_while is_blank low.rest;
+      after_colon = last.gap;
+      high = last.number;
+    } in
     subst (PortsSplit text) range.is
     record {
       gap = first.gap;
-      ports = record { low = first.number; before_colon = before; after_colon = last.gap; high = last.number };
-      joined = ports_joined text first.gap first.number before last.gap last.number low.rest second high.rest
-          first.joined (split_again is_blank low.rest) colon_is last.joined;
+      ports = ports;
+      joined = ports_joined text first.gap ports low.rest second high.rest first.joined
+          (split_again is_blank low.rest) colon_is last.joined;
       blanks = first.blanks;
       spaced = first.spaced;
       spells = record {
