@@ -10,7 +10,7 @@ use crate::link::Link;
 use crate::record::{MAX_CAPTURED, read_file_header, read_record};
 use crate::state::{CaptureState, Progress};
 use acl_outside::Desk;
-use std::alloc::{AllocError, Global};
+use std::alloc::Global;
 use std::marker::Model;
 
 /// A capture that is read record by record from the opened file of a desk.
@@ -69,10 +69,7 @@ impl Capture {
         ensures { BeginsWith first.now (D.view desk.old) (D.view desk.new) result }
     {
         let mut buffer = Vec::new(alloc);
-        match buffer.resize(MAX_CAPTURED, 0) {
-            Ok(()) => {}
-            Err(AllocError) => return Err(BeginFault::OutOfMemory),
-        }
+        buffer.resize(MAX_CAPTURED, 0)?;
         match read_file_header(desk, first) {
             Ok(start) => {
                 let state = CaptureState {

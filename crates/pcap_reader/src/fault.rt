@@ -1,5 +1,6 @@
 //! Why a capture is refused.
 
+use std::alloc::AllocError;
 use thiserror::Error;
 
 /// Why a capture is refused. A number is that of the record, from 1.
@@ -44,4 +45,45 @@ pub enum BeginFault {
     /// Memory ran out, before anything was read.
     #[error("out of memory")]
     OutOfMemory,
+}
+
+impl From<AllocError> for BeginFault {
+    ghost use Rattle.std.specs.Prelude.{◌≡◌};
+    ghost use Rattle.pcap_reader.specs.declared.fault.BeginFault.TheVariants.{OutOfMemory};
+
+    ghost from_gives = { λ _ fault. fault ≡ OutOfMemory };
+
+    fn from(_: AllocError) -> BeginFault {
+        BeginFault::OutOfMemory
+    }
+}
+
+#[cfg(test)]
+mod tests {
+    use super::*;
+    use std::test::Fail;
+
+    #[test]
+    fn faults_are_said_in_words(rt: HostRuntime) -> Result<(), Fail> {
+        let cases = [
+            (CaptureFault::HeaderCut, "header cut"),
+            (CaptureFault::Magic, "magic"),
+            (CaptureFault::Version, "version"),
+            (CaptureFault::LinkType, "link type"),
+            (CaptureFault::RecordCut(1), "record 1: cut"),
+            (
+                CaptureFault::RecordTooLong(1_000_000_000),
+                "record 1000000000: too long",
+            ),
+            (CaptureFault::TooManyRecords, "too many"),
+            (CaptureFault::ReadFault, "read fault"),
+        ];
+        for (fault, words) in cases {
+            let text = format!(in rt.alloc(); "{}", BeginFault::Capture(fault))?;
+            assert_eq!(rt; text.as_str(), words);
+        }
+        let text = format!(in rt.alloc(); "{}", BeginFault::OutOfMemory)?;
+        assert_eq!(rt; text.as_str(), "out of memory");
+        Ok(())
+    }
 }
