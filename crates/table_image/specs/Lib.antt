@@ -1,0 +1,3 @@
+pub mod ImageExamples
+pub mod Reading
+pub mod Spelling

@@ -1,0 +1,8 @@
+//! Pairs of tables in, their image out; any bytes in, the pair or the first failing check out.
+#![tactic(auto)]
+
+mod fault;
+mod version;
+
+pub use fault::{ImageFault, ImageKind, LoadFault};
+pub use version::Version;
