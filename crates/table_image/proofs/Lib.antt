@@ -6,3 +6,5 @@ pub mod WordsSpelled
 pub mod Tries
 pub mod TriesSpelled
 pub mod RowsRead
+pub mod TriesSound
+pub mod TablesRead

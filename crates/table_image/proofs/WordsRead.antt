@@ -21,7 +21,7 @@ use Rattle.table_image.proofs.Lists.{after, joined, of_both, both}
 use Rattle.table_image.proofs.NumbersRead.{fits, numbers_read, numbers_spelled, length-all_spelled, tested_all, all_tested}
 
 -- where each number passes a test, none is found that fails it
-none_found : (test : ℕ → Bool) (place : ℕ) (ns : List ℕ) → list_all test ns ≡ true →
+pub none_found : {A : Type 0} (test : A → Bool) (place : ℕ) (ns : List A) → list_all test ns ≡ true →
     position_from (λ n. not (test n)) place ns ≡ None
 none_found test place [] all = refl
 none_found test place (n ∷ ns) all =
@@ -29,7 +29,7 @@ none_found test place (n ∷ ns) all =
     rw parts.0 (none_found test (place + 1) ns parts.1)
 
 -- and the other way round
-pub none_fails : (test : ℕ → Bool) (place : ℕ) (ns : List ℕ) → position_from (λ n. not (test n)) place ns ≡ None →
+pub none_fails : {A : Type 0} (test : A → Bool) (place : ℕ) (ns : List A) → position_from (λ n. not (test n)) place ns ≡ None →
     list_all test ns ≡ true
 none_fails test place [] none = refl
 none_fails test place (n ∷ ns) none = elim (cases_Bool (test n)) [
