@@ -8,3 +8,4 @@ pub mod TriesSpelled
 pub mod RowsRead
 pub mod TriesSound
 pub mod TablesRead
+pub mod TablesSpelled
