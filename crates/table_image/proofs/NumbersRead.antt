@@ -9,7 +9,7 @@ use Rattle.std.proofs.lemmas.List.Sums.{sum_by-append, sum_by-cons}
 use Rattle.std.proofs.lemmas.Bool.Decides.{nat_tests}
 use Rattle.std.proofs.lemmas.Bool.{lt-ltb, le-leb, ltb-true, leb-true, and_parts, and_from}
 use Rattle.byte_numbers.specs.Number.{number_of, number_at}
-use Rattle.flat_table.specs.Sound.{most_words}
+use Rattle.table_sizes.specs.Sizes.{max_words}
 use Rattle.table_image.specs.declared.fault.ImageKind.{ImageKind}
 use Rattle.table_image.specs.declared.fault.ImageKind.TheVariants.{Length}
 use Rattle.table_image.specs.Spelling.{spelled, all_spelled}
@@ -166,10 +166,10 @@ all_tested test first (n ∷ ns) all =
     (parts.0, all_tested test (first ++ n ∷ []) ns parts.1)
 
 -- levels that fit one after the other fit together
-pub levels_fit : (taken : ℕ) (first lens : List ℕ) → taken + sum first ≤ most_words → AllTested (level_fits taken) first lens →
-    taken + sum (first ++ lens) ≤ most_words
+pub levels_fit : (taken : ℕ) (first lens : List ℕ) → taken + sum first ≤ max_words → AllTested (level_fits taken) first lens →
+    taken + sum (first ++ lens) ≤ max_words
 levels_fit taken first [] fit all = rw (append-nil first) fit
 levels_fit taken first (len ∷ lens) fit all =
     let total : sum (first ++ len ∷ []) ≡ sum first + len = sum_by-append (λ n. n) first (len ∷ []) ∙ omega arith in
     rw (← append_assoc first (len ∷ []) lens)
-    (levels_fit taken (first ++ len ∷ []) lens (omega (arith, leb-true (taken + sum first + len) most_words all.0)) all.1)
+    (levels_fit taken (first ++ len ∷ []) lens (omega (arith, leb-true (taken + sum first + len) max_words all.0)) all.1)

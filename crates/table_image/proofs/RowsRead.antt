@@ -5,7 +5,7 @@ use Rattle.std.specs.Prelude.{◌&&◌, ◌==◌, nat_lt}
 use Rattle.std.specs.List.{list_all, flat_map}
 use Rattle.std.proofs.lemmas.List.{append-nil, length_push}
 use Rattle.std.proofs.lemmas.Bool.{and_parts, and_from, eq-eqb, eqb-true}
-use Rattle.flat_table.specs.Sound.{row_len}
+use Rattle.table_sizes.specs.Sizes.{row_len}
 use Rattle.table_image.specs.declared.fault.ImageKind.TheVariants.{RowForm}
 use Rattle.table_image.specs.Spelling.{long, spelled, all_spelled, is_row_word, is_row}
 use Rattle.table_image.specs.Reading.{Reading, ◌>>=◌, numbers, numbers_after, rows_after, row_bytes}

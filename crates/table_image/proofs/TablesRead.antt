@@ -8,7 +8,8 @@ use Rattle.std.proofs.lemmas.Bool.{and_from, le-leb, leb-true, eq-eqb, eqb-true}
 use Rattle.std.proofs.lemmas.Bool.Decides.{nat_tests}
 use Rattle.flat_table.specs.Groups.{is_key_len, is_kept_word, depth_of}
 use Rattle.flat_table.specs.Table.{TableView, levels_from, portions, depths_of, trie_levels}
-use Rattle.flat_table.specs.Sound.{most_tries, most_words, row_len, begins_with_zeros, is_shaped, first_unsound_root, first_unsound_word, sound_fault}
+use Rattle.flat_table.specs.Sound.{most_tries, begins_with_zeros, is_shaped, first_unsound_root, first_unsound_word, sound_fault}
+use Rattle.table_sizes.specs.Sizes.{max_words, row_len}
 use Rattle.table_image.specs.declared.version.Version.{Version}
 use Rattle.table_image.specs.declared.version.Version.TheVariants.{One, Two}
 use Rattle.table_image.specs.declared.fault.ImageKind.TheVariants.{Family, TooMany}
@@ -26,7 +27,7 @@ use Rattle.table_image.proofs.RowsRead.{RowsAt, rows_read}
 pub record CountsAt (family : ℕ) (bytes : List ℕ) (at : ℕ) (c : Counts) : Type 0 where
   pub few_rules : c.rules ≤ most_rules
   pub few_tries : c.tries ≤ most_tries
-  pub few_rows : row_len * (c.rows + 1) ≤ most_words
+  pub few_rows : row_len * (c.rows + 1) ≤ max_words
   pub text : drop at bytes ≡ spelled short family ++ (spelled short c.rules ++ (spelled short c.tries
       ++ (spelled short c.rows ++ drop (at + 16) bytes)))
 
@@ -35,7 +36,7 @@ counts_read : (family : ℕ) (bytes : List ℕ) (at : ℕ) (c : Counts) → AreB
 counts_read family bytes at c are e =
     let few_rules : ℕ → Bool = λ number. nat_le number most_rules in
     let few_tries : ℕ → Bool = λ number. nat_le number most_tries in
-    let few_rows : ℕ → Bool = λ number. nat_le (row_len * (number + 1)) most_words in
+    let few_rows : ℕ → Bool = λ number. nat_le (row_len * (number + 1)) max_words in
     let made : ℕ → ℕ → ℕ → Counts = λ rules tries rows. record { rules = rules; tries = tries; rows = rows } in
     let one = of_both (tested Family short (λ number. number == family) bytes at)
     (λ _. tested TooMany short few_rules bytes (at + 4) >>= λ rules. tested TooMany short few_tries bytes (at + 8) >>= λ tries.
@@ -69,7 +70,7 @@ counts_read family bytes at c are e =
     record {
       few_rules = omega (arith, leb-true two.0 most_rules r.1, rules_is);
       few_tries = omega (arith, leb-true three.0 most_tries t.1, tries_is);
-      few_rows = omega (arith, leb-true (row_len * (four.0 + 1)) most_words w.1, rows_is);
+      few_rows = omega (arith, leb-true (row_len * (four.0 + 1)) max_words w.1, rows_is);
       text = family_text ∙ ap (λ xs. spelled short family ++ xs) (rules_text
           ∙ ap (λ xs. spelled short c.rules ++ xs) (tries_text ∙ ap (λ xs. spelled short c.tries ++ xs) rows_text));
     }
@@ -158,7 +159,7 @@ of_version One key_len taken from kept roots lens table s keys same = rw (keys, 
 of_version Two key_len taken from kept roots lens table s keys same = refl
 
 saved : (version : Version) (key_len : ℕ) (c : Counts) (tries : TriesView) (words : List ℕ) (rows : List (List ℕ)) →
-    is_key_len key_len ≡ true → c.rules ≤ most_rules → c.tries ≤ most_tries → row_len * (c.rows + 1) ≤ most_words →
+    is_key_len key_len ≡ true → c.rules ≤ most_rules → c.tries ≤ most_tries → row_len * (c.rows + 1) ≤ max_words →
     length tries.kept ≡ c.tries →
     AreSound version key_len (row_len * (c.rows + 1)) 0 tries.kept tries.roots tries.level_lens →
     length words ≡ sum tries.level_lens → length rows ≡ c.rows →
@@ -174,7 +175,7 @@ saved version key_len c tries words rows keyed few_rules few_tries few_rows coun
     (le-leb (length table.roots) most_tries (omega (arith, s.same, count)))) keyed) s.keeps)
     (eq-eqb (length table.level_lens) (sum (depths_of table)) s.levels))
     (eq-eqb (length table.words) (sum table.level_lens) words_count)) (zeros_begin rows))
-    (le-leb (length table.words + row_len * length table.rows) most_words (omega (arith, s.fit, words_count, rows_len))) in
+    (le-leb (length table.words + row_len * length table.rows) max_words (omega (arith, s.fit, words_count, rows_len))) in
     record {
       sound = sound_of table shape (none_found root_leads 0 (zip table.roots (trie_levels table)) s.leads)
           (ap (λ n. tries_fault n (trie_levels table) words) rows_len ∙ sound);

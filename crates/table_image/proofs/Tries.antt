@@ -12,7 +12,8 @@ use Rattle.std.proofs.Math.Path.{subst}
 use Rattle.std.proofs.lemmas.Bool.Decides.{nat_tests}
 use Rattle.flat_table.specs.Groups.{groups_of, is_kept_word, depth_of}
 use Rattle.flat_table.specs.Table.{levels_from}
-use Rattle.flat_table.specs.Sound.{most_words, leads_into, first_level}
+use Rattle.flat_table.specs.Sound.{leads_into, first_level}
+use Rattle.table_sizes.specs.Sizes.{max_words}
 use Rattle.table_image.specs.declared.version.Version.{Version}
 use Rattle.table_image.specs.declared.version.Version.TheVariants.{One, Two}
 use Rattle.table_image.specs.declared.fault.ImageKind.TheVariants.{TooMany, Unsound, KeptGroups}
@@ -28,7 +29,7 @@ pub record IsTrie (version : Version) (key_len taken from kept root : ℕ) (own 
   pub keeps : is_kept_word key_len kept ≡ true
   pub groups : version ≡ One → kept ≡ all_groups key_len
   pub levels : length own ≡ depth_of key_len kept
-  pub fit : taken + (from + sum own) ≤ most_words
+  pub fit : taken + (from + sum own) ≤ max_words
   pub leads : leads_into (first_level (levels_from from own)) root ≡ true
   pub small : fits long root ≡ true
 
@@ -73,7 +74,7 @@ kept_read Two key_len bytes at kept are e =
     record { text = read.0.text; keeps = read.1; groups = λ is. absurd cc }
 
 -- a list of numbers whose sum is small has small ones
-pub small_lens : (lens : List ℕ) → sum lens ≤ most_words → list_all (fits short) lens ≡ true
+pub small_lens : (lens : List ℕ) → sum lens ≤ max_words → list_all (fits short) lens ≡ true
 small_lens [] bound = refl
 small_lens (len ∷ lens) bound =
     let total = sum_by-cons (λ n. n) len lens in
@@ -92,7 +93,7 @@ pub record TrieAt (version : Version) (key_len taken : ℕ) (bytes : List ℕ) (
   pub text : drop tries.end bytes ≡ spelled_trie version kept own root ++ drop more.end bytes
 
 one_read : (version : Version) (key_len taken : ℕ) (bytes : List ℕ) (tries more : TriesView) → AreBytes bytes →
-    taken + sum tries.level_lens ≤ most_words → one_trie version key_len taken bytes tries ≡ Ok more →
+    taken + sum tries.level_lens ≤ max_words → one_trie version key_len taken bytes tries ≡ Ok more →
     TrieAt version key_len taken bytes tries more
 one_read version key_len taken bytes tries more are fit e =
     let parts = of_both (kept_groups version key_len bytes tries.end)
@@ -169,7 +170,7 @@ front_lawful version key_len taken from kept root own others roots lens h =
     (λ i. (front i, back i)) h
 
 pub tries_read : (version : Version) (key_len taken : ℕ) (bytes : List ℕ) (count : ℕ) (tries all : TriesView) → AreBytes bytes →
-    taken + sum tries.level_lens ≤ most_words → tries_after version key_len taken bytes count tries ≡ Ok all →
+    taken + sum tries.level_lens ≤ max_words → tries_after version key_len taken bytes count tries ≡ Ok all →
     TriesAt version key_len taken bytes count tries all
 unfolding tries_after
 tries_read version key_len taken bytes zero tries all are fit e =

@@ -8,7 +8,8 @@ use Rattle.std.proofs.lemmas.Bool.{and_parts, and_from, eq-eqb, eqb-true}
 use Rattle.flat_table.specs.declared.level.Level.{Level}
 use Rattle.flat_table.specs.Groups.{is_kept_word, depth_of}
 use Rattle.flat_table.specs.Table.{levels_from, portions}
-use Rattle.flat_table.specs.Sound.{most_words, leads_into, first_level}
+use Rattle.flat_table.specs.Sound.{leads_into, first_level}
+use Rattle.table_sizes.specs.Sizes.{max_words}
 use Rattle.flat_table.proofs.Offered.{levels-take, levels-drop}
 use Rattle.table_image.specs.declared.version.Version.{Version}
 use Rattle.table_image.specs.declared.version.Version.TheVariants.{One, Two}
@@ -26,11 +27,11 @@ pub record AreSound (version : Version) (key_len taken from : ℕ) (kept roots l
   pub keeps : list_all (is_kept_word key_len) kept ≡ true
   pub groups : version ≡ One → list_all (λ word. word == all_groups key_len) kept ≡ true
   pub levels : length lens ≡ sum (map (depth_of key_len) kept)
-  pub fit : taken + (from + sum lens) ≤ most_words
+  pub fit : taken + (from + sum lens) ≤ max_words
   pub leads : list_all root_leads (zip roots (portions (map (depth_of key_len) kept) (levels_from from lens))) ≡ true
   pub small : list_all (fits long) roots ≡ true
 
-pub are_sound : (version : Version) (key_len taken from : ℕ) (kept roots lens : List ℕ) → taken + from ≤ most_words →
+pub are_sound : (version : Version) (key_len taken from : ℕ) (kept roots lens : List ℕ) → taken + from ≤ max_words →
     AreTries version key_len taken from kept roots lens → AreSound version key_len taken from kept roots lens
 are_sound version key_len taken from [] [] lens bound are = record {
   same = refl;

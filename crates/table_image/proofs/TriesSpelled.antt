@@ -11,7 +11,8 @@ use Rattle.std.proofs.Math.Nat.{one-le-pow}
 use Rattle.std.proofs.lemmas.Nat.{div-add-mod', mod_below}
 use Rattle.flat_table.specs.Groups.{groups_of, is_kept_word, depth_of}
 use Rattle.flat_table.specs.Table.{levels_from}
-use Rattle.flat_table.specs.Sound.{most_words, leads_into, first_level}
+use Rattle.flat_table.specs.Sound.{leads_into, first_level}
+use Rattle.table_sizes.specs.Sizes.{max_words}
 use Rattle.table_image.specs.declared.version.Version.{Version}
 use Rattle.table_image.specs.declared.version.Version.TheVariants.{One, Two}
 use Rattle.table_image.specs.declared.fault.ImageKind.TheVariants.{TooMany, Unsound, KeptGroups}
@@ -54,13 +55,13 @@ kept_spelled Two key_len bytes at kept rest few keeps groups e = record {
 }
 
 -- levels that fit together fit one after the other
-fit_levels : (taken : ℕ) (first lens : List ℕ) → taken + sum (first ++ lens) ≤ most_words → AllTested (level_fits taken) first lens
+fit_levels : (taken : ℕ) (first lens : List ℕ) → taken + sum (first ++ lens) ≤ max_words → AllTested (level_fits taken) first lens
 fit_levels taken first [] fit = tt
 fit_levels taken first (len ∷ lens) fit =
     let total : sum (first ++ len ∷ lens) ≡ sum first + (len + sum lens) =
     sum_by-append (λ n. n) first (len ∷ lens) ∙ ap (λ n. sum first + n) (sum_by-cons (λ n. n) len lens) in
     (
-      le-leb (taken + sum first + len) most_words (omega (arith, fit, total)),
+      le-leb (taken + sum first + len) max_words (omega (arith, fit, total)),
       fit_levels taken (first ++ len ∷ []) lens (rw (append_assoc first (len ∷ []) lens) fit),
     )
 

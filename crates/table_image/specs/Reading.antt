@@ -6,7 +6,8 @@ use Rattle.byte_numbers.specs.Number.{number_at}
 use Rattle.flat_table.specs.declared.level.Level.{Level}
 use Rattle.flat_table.specs.Groups.{is_kept_word, depth_of}
 use Rattle.flat_table.specs.Table.{TableView, levels_from, trie_levels}
-use Rattle.flat_table.specs.Sound.{most_tries, most_words, row_len, leads_into, first_level, is_sound_word}
+use Rattle.flat_table.specs.Sound.{most_tries, leads_into, first_level, is_sound_word}
+use Rattle.table_sizes.specs.Sizes.{max_words, row_len}
 use Rattle.table_image.specs.declared.fault.ImageFault.{ImageFault}
 use Rattle.table_image.specs.declared.fault.ImageKind.{ImageKind}
 use Rattle.table_image.specs.declared.fault.ImageKind.TheVariants.{Magic, Family, Length, TooMany, Unsound, RowForm, Trailing, KeptGroups}
@@ -75,7 +76,7 @@ kept_groups Two key_len bytes at = tested KeptGroups short (is_kept_word key_len
 -- with one more level the table doesn't have too many words, of which the rows take some and the
 -- levels before it others
 abbrev pub level_fits : ℕ → List ℕ → ℕ → Bool
-level_fits taken lens len = nat_le (taken + sum lens + len) most_words
+level_fits taken lens len = nat_le (taken + sum lens + len) max_words
 
 -- one trie more, of these kept groups: the lengths of its levels, and its root, which leads into
 -- the first of them
@@ -161,7 +162,7 @@ counts family bytes at =
     tested Family short (λ number. number == family) bytes at >>= λ number.
     tested TooMany short (λ number. nat_le number most_rules) bytes (at + 4) >>= λ rules.
     tested TooMany short (λ number. nat_le number most_tries) bytes (at + 8) >>= λ tries.
-    tested TooMany short (λ number. nat_le (row_len * (number + 1)) most_words) bytes (at + 12)
+    tested TooMany short (λ number. nat_le (row_len * (number + 1)) max_words) bytes (at + 12)
     >>= λ rows.
     Ok (record { rules = rules; tries = tries; rows = rows })
 

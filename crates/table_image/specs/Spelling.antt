@@ -14,7 +14,8 @@ use Rattle.std.specs.List.{list_all}
 use Rattle.std.specs.Int.{bytes_high_first}
 use Rattle.flat_table.specs.Groups.{groups_of, depth_of}
 use Rattle.flat_table.specs.Table.{TableView}
-use Rattle.flat_table.specs.Sound.{row_len, sound_fault}
+use Rattle.flat_table.specs.Sound.{sound_fault}
+use Rattle.table_sizes.specs.Sizes.{row_len}
 use Rattle.table_image.specs.declared.version.Version.{Version}
 use Rattle.table_image.specs.declared.version.Version.TheVariants.{One, Two}
 
