@@ -3,9 +3,10 @@ pub mod Lists
 pub mod NumbersRead
 pub mod WordsRead
 pub mod WordsSpelled
-pub mod Tries
+pub mod TriesRead
 pub mod TriesSpelled
 pub mod RowsRead
 pub mod TriesSound
 pub mod TablesRead
 pub mod TablesSpelled
+pub mod Images

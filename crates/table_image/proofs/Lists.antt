@@ -17,6 +17,13 @@ within at bytes text rest e some =
     let lens : length (drop at bytes) ≡ length text + length rest = ap length e ∙ length-append text rest in
     omega (arith, lens, length-drop at bytes)
 
+-- so does any part that begins within them
+pub inside : (at : ℕ) (bytes text rest : List ℕ) → at ≤ length bytes → drop at bytes ≡ text ++ rest →
+    at + length text ≤ length bytes
+inside at bytes text rest begins e =
+    let lens : length (drop at bytes) ≡ length text + length rest = ap length e ∙ length-append text rest in
+    omega (arith, lens, length-drop at bytes)
+
 -- two parts, one after the other
 pub joined : {A : Type 0} (xs one other after rest : List A) → xs ≡ one ++ after → after ≡ other ++ rest →
     xs ≡ (one ++ other) ++ rest

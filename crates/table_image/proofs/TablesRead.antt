@@ -19,7 +19,7 @@ use Rattle.table_image.proofs.Fields.{AreBytes}
 use Rattle.table_image.proofs.Lists.{joined, of_both}
 use Rattle.table_image.proofs.NumbersRead.{fits, tested_read}
 use Rattle.table_image.proofs.WordsRead.{WordsAt, tries_fault, tries_words_read, none_found}
-use Rattle.table_image.proofs.Tries.{TriesAt, tries_read}
+use Rattle.table_image.proofs.TriesRead.{TriesAt, tries_read}
 use Rattle.table_image.proofs.TriesSound.{root_leads, AreSound, are_sound}
 use Rattle.table_image.proofs.RowsRead.{RowsAt, rows_read}
 

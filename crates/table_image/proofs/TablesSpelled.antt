@@ -15,7 +15,8 @@ use Rattle.table_image.specs.declared.version.Version.TheVariants.{One, Two}
 use Rattle.table_image.specs.declared.fault.ImageKind.TheVariants.{Family, TooMany}
 use Rattle.table_image.specs.Spelling.{most_rules, short, long, spelled, all_spelled, spelled_tries, spelled_rows, spelled_table, is_of_version, all_groups, is_row_word, is_row, IsSaved}
 use Rattle.table_image.specs.Reading.{Reading, ◌>>=◌, tested, Counts, counts, TriesView, no_tries, tries_after, words_of_tries, rows_after, row_bytes, no_rule, table_of, TableRead, words_and_rows, table_read}
-use Rattle.table_image.proofs.Lists.{after, both}
+use Rattle.table_image.proofs.Fields.{length_spelled}
+use Rattle.table_image.proofs.Lists.{after, within, inside, both}
 use Rattle.table_image.proofs.NumbersRead.{fits, tested_spelled, after_field, length-all_spelled}
 use Rattle.table_image.proofs.WordsRead.{tries_fault, none_fails}
 use Rattle.table_image.proofs.WordsSpelled.{Spelled, tries_words_spelled}
@@ -31,6 +32,7 @@ counts_of table = record { rules = table.rules; tries = length table.roots; rows
 record CountsOf (family : ℕ) (bytes : List ℕ) (at : ℕ) (c : Counts) (rest : List ℕ) : Type 0 where
   pub read : counts family bytes at ≡ Ok c
   pub next : drop (at + 16) bytes ≡ rest
+  pub within : at + 16 ≤ length bytes
 
 counts_spelled : (family : ℕ) (bytes : List ℕ) (at : ℕ) (c : Counts) (rest : List ℕ) → fits short family ≡ true →
     c.rules ≤ most_rules → c.tries ≤ most_tries → row_len * (c.rows + 1) ≤ max_words →
@@ -68,6 +70,8 @@ counts_spelled family bytes at c rest small few_rules few_tries few_rows e =
           (λ tries. tested TooMany short rows_test bytes (at + 12) >>= λ rows. Ok (made c.rules tries rows)) c.tries _ tries_read
           (both (tested TooMany short rows_test bytes (at + 12)) (λ rows. Ok (made c.rules c.tries rows)) c.rows _ rows_read refl)));
       next = ap (λ k. drop k bytes) (omega arith) ∙ after_field short bytes (at + 12) c.rows rest rows_text;
+      within = omega (arith, within (at + 12) bytes (spelled short c.rows) rest rows_text (omega (arith, length_spelled short c.rows)),
+          length_spelled short c.rows);
     }
 
 -- a row of so many zeros
@@ -113,6 +117,7 @@ pub record TableOf (version : Version) (family : ℕ) (bytes : List ℕ) (at : �
   pub end : ℕ
   pub read : table_read version family table.key_len bytes at ≡ Ok (record { table = table; end = end })
   pub next : drop end bytes ≡ rest
+  pub within : end ≤ length bytes
 
 pub table_spelled : (version : Version) (family : ℕ) (bytes : List ℕ) (at : ℕ) (table : TableView) (rest : List ℕ) →
     fits short family ≡ true → 2 ^ groups_of table.key_len ≤ 256 ^ short → IsSaved version table.key_len table →
@@ -143,7 +148,7 @@ table_spelled version family bytes at table rest small few is e =
       small = is.typed.roots;
     } in
     let t = tries_spelled version key_len taken bytes (no_tries (at + 16)) table.kept table.roots table.level_lens words_rest few
-    (sound_are version key_len taken 0 table.kept table.roots table.level_lens s) front.next in
+    front.within (sound_are version key_len taken 0 table.kept table.roots table.level_lens s) front.next in
     let tries : TriesView = with_tries (no_tries (at + 16)) table.kept table.roots table.level_lens t.end in
     let tries_count : length table.kept ≡ c.tries = shape.same in
     let words_text : Spelled bytes t.end [] table.words rows_rest = record {
@@ -185,6 +190,9 @@ table_spelled version family bytes at table rest small few is e =
           rows _ rows_read (ap Ok same))));
       next = ap (λ k. drop k bytes) (omega (arith, length-rows rows b.typed))
           ∙ after rows_from bytes rows_bytes rest rows_text;
+      within = omega (arith, inside rows_from bytes rows_bytes rest (omega (arith,
+          inside t.end bytes (all_spelled long table.words) rows_rest t.within t.next, length-all_spelled long table.words)) rows_text,
+          length-rows rows b.typed);
     }
   where
     table_with : List (List ℕ) → ℕ → TableRead

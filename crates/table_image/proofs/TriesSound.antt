@@ -15,7 +15,7 @@ use Rattle.table_image.specs.declared.version.Version.{Version}
 use Rattle.table_image.specs.declared.version.Version.TheVariants.{One, Two}
 use Rattle.table_image.specs.Spelling.{long, all_groups}
 use Rattle.table_image.proofs.NumbersRead.{fits}
-use Rattle.table_image.proofs.Tries.{IsTrie, AreTries}
+use Rattle.table_image.proofs.TriesRead.{IsTrie, AreTries}
 
 -- the root leads into the first level of its trie
 abbrev pub root_leads : ℕ × List Level → Bool
