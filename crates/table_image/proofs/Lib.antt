@@ -10,3 +10,4 @@ pub mod TriesSound
 pub mod TablesRead
 pub mod TablesSpelled
 pub mod Images
+pub mod Loops
