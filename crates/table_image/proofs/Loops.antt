@@ -1,11 +1,19 @@
 -- One more number, trie, level or row is read after those so far.
-use Rattle.std.proofs.Common.{◌≡◌, ℕ, zero, suc, ◌+◌, ◌-◌, ◌*◌, List, [], ◌∷◌, ◌++◌, length, refl, sym, ap, ◌∙◌, arith, Bool, Ok, Err, add-one}
+use Rattle.std.proofs.Common.{◌≡◌, ℕ, zero, suc, ◌+◌, ◌-◌, ◌*◌, List, [], ◌∷◌, ◌++◌, length, refl, sym, ap, ◌∙◌, arith, Bool, Ok, Err, add-one, take, drop, sum, map, get_or, ◌<◌, ◌≤◌}
 use Rattle.table_image.specs.declared.fault.ImageKind.{ImageKind}
 use Rattle.table_image.specs.declared.fault.ImageFault.{ImageFault}
 use Rattle.table_image.specs.declared.fault.LoadFault.{LoadFault}
 use Rattle.table_image.specs.declared.fault.LoadFault.TheVariants.{Image, OutOfMemory}
 use Rattle.table_image.specs.declared.version.Version.{Version}
 use Rattle.table_image.specs.Reading.{Reading, ◌>>=◌, checked, field, tested, numbers_after, TriesView, one_trie, tries_after}
+use Rattle.table_image.specs.Reading.{numbers, words_of_levels, words_of_tries, rows_after, row_bytes}
+use Rattle.table_image.specs.Spelling.{long, is_row_word}
+use Rattle.table_image.specs.declared.fault.ImageKind.TheVariants.{Unsound, RowForm}
+use Rattle.table_sizes.specs.Sizes.{row_len}
+use Rattle.flat_table.specs.Table.{levels_from, portions}
+use Rattle.flat_table.specs.Sound.{is_sound_word, first_level}
+use Rattle.flat_table.proofs.Offered.{levels-take, levels-drop}
+use Rattle.std.proofs.lemmas.List.{drop_more, drop_all}
 use Rattle.table_image.specs.Loading.{IsFaultOf}
 
 -- the fault of a reading is that of a reading that begins with it
@@ -46,6 +54,56 @@ pub numbers_end : (kind : ImageKind) (size : ℕ) (test : List ℕ → ℕ → B
     count ≡ 0 → numbers_after kind size test bytes from count first ≡ Ok first
 unfolding numbers_after
 numbers_end kind size test bytes from count first none = rw none refl
+
+-- the words of one level more, and of no levels more
+pub level_more : (rows : ℕ) (bytes : List ℕ) (from p i : ℕ) (lens first : List ℕ) → i < length lens →
+    words_of_levels rows bytes from (levels_from p (drop i lens)) first
+    ≡ (numbers_after Unsound long (λ _. is_sound_word rows (first_level (levels_from (p + get_or lens i 0) (drop (i + 1) lens))))
+    bytes from (get_or lens i 0) first
+    >>= words_of_levels rows bytes from (levels_from (p + get_or lens i 0) (drop (i + 1) lens)))
+unfolding words_of_levels
+level_more rows bytes from p i lens first within =
+    ap (λ ls. words_of_levels rows bytes from (levels_from p ls) first) (drop_more lens i 0 within)
+
+pub levels_end : (rows : ℕ) (bytes : List ℕ) (from p n : ℕ) (lens first : List ℕ) → length lens ≤ n →
+    words_of_levels rows bytes from (levels_from p (drop n lens)) first ≡ Ok first
+unfolding words_of_levels
+levels_end rows bytes from p n lens first all =
+    ap (λ ls. words_of_levels rows bytes from (levels_from p ls) first) (drop_all n lens all)
+
+-- the words of one trie more, and of no tries more
+pub trie_words_more : (rows : ℕ) (bytes : List ℕ) (from : ℕ) (depth : ℕ → ℕ) (i p : ℕ) (kept lens first : List ℕ) → i < length kept →
+    words_of_tries rows bytes from (portions (map depth (drop i kept)) (levels_from p lens)) first
+    ≡ (words_of_levels rows bytes from (levels_from p (take (depth (get_or kept i 0)) lens)) first
+    >>= words_of_tries rows bytes from (portions (map depth (drop (i + 1) kept))
+    (levels_from (p + sum (take (depth (get_or kept i 0)) lens)) (drop (depth (get_or kept i 0)) lens))))
+unfolding words_of_tries
+trie_words_more rows bytes from depth i p kept lens first within =
+    let d : ℕ = depth (get_or kept i 0) in
+    ap (λ ks. words_of_tries rows bytes from (portions (map depth ks) (levels_from p lens)) first) (drop_more kept i 0 within)
+    ∙ ap (λ levels. words_of_levels rows bytes from levels first >>= words_of_tries rows bytes from
+    (portions (map depth (drop (i + 1) kept)) (drop d (levels_from p lens)))) (levels-take d p lens)
+    ∙ ap (λ levels. words_of_levels rows bytes from (levels_from p (take d lens)) first >>= words_of_tries rows bytes from
+    (portions (map depth (drop (i + 1) kept)) levels)) (levels-drop d p lens)
+
+pub tries_words_end : (rows : ℕ) (bytes : List ℕ) (from : ℕ) (depth : ℕ → ℕ) (n p : ℕ) (kept lens first : List ℕ) → length kept ≤ n →
+    words_of_tries rows bytes from (portions (map depth (drop n kept)) (levels_from p lens)) first ≡ Ok first
+unfolding words_of_tries
+tries_words_end rows bytes from depth n p kept lens first all =
+    ap (λ ks. words_of_tries rows bytes from (portions (map depth ks) (levels_from p lens)) first) (drop_all n kept all)
+
+-- one row more, and no rows more
+pub row_more : (rules : ℕ) (bytes : List ℕ) (from count left : ℕ) (first : List (List ℕ)) → count ≡ left + 1 →
+    rows_after rules bytes from count first
+    ≡ (numbers RowForm long (λ _. is_row_word rules) bytes (from + row_bytes * length first) row_len >>= λ row.
+    rows_after rules bytes from left (first ++ row ∷ []))
+unfolding rows_after
+row_more rules bytes from count left first some = rw (some, add-one left) refl
+
+pub rows_end : (rules : ℕ) (bytes : List ℕ) (from count : ℕ) (first : List (List ℕ)) → count ≡ 0 →
+    rows_after rules bytes from count first ≡ Ok first
+unfolding rows_after
+rows_end rules bytes from count first none = rw none refl
 
 -- one trie more, and no tries more
 pub trie_more : (version : Version) (key_len taken : ℕ) (bytes : List ℕ) (count left : ℕ) (tries : TriesView) → count ≡ left + 1 →

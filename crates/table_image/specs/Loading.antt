@@ -1,10 +1,14 @@
 -- What the readers of an image have and answer, over what is read of it.
-use Rattle.std.specs.Prelude.{◌≡◌, ℕ, ⊤, Result, Ok, Err}
+use Rattle.std.specs.Prelude.{◌≡◌, ℕ, ⊤, List, map, Result, Ok, Err}
 use Rattle.table_image.specs.declared.fault.LoadFault.{LoadFault}
 use Rattle.table_image.specs.declared.fault.LoadFault.TheVariants.{Image, OutOfMemory}
 use Rattle.table_image.specs.declared.tries.Tries.{Tries}
 use Rattle.table_image.specs.declared.counts.Counts as declared
-use Rattle.table_image.specs.Reading.{Reading, Counts, TriesView}
+use Rattle.table_image.specs.declared.table.TableRead as declared_table
+use Rattle.table_image.specs.Reading.{Reading, Counts, TriesView, TableRead}
+use Rattle.flat_table.specs.declared.level.Level.{Level}
+use Rattle.flat_table.specs.Groups.{depth_of}
+use Rattle.flat_table.specs.Table.{levels_from, portions}
 
 -- the fault is that of the reading, where memory is enough
 abbrev pub IsFaultOf : {A : Type 0} → Reading A → LoadFault → Type 0
@@ -23,3 +27,11 @@ tries_of tries = record {
   level_lens = tries.level_lens.items;
   end = tries.end;
 }
+
+-- the levels of tries with these kept groups, whose levels have these lengths
+abbrev pub levels_of_tries : ℕ → List ℕ → List ℕ → List (List Level)
+levels_of_tries key_len kept lens = portions (map (depth_of key_len) kept) (levels_from 0 lens)
+
+-- a table that was read
+abbrev pub table_of_read : declared_table.TableRead → TableRead
+table_of_read read = record { table = read.table; end = read.end }

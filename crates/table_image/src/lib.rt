@@ -5,8 +5,11 @@ mod counts;
 mod fault;
 mod field;
 mod list;
+mod rows;
+mod table;
 mod tries;
 mod version;
+mod words;
 
 pub use fault::{ImageFault, ImageKind, LoadFault};
 pub use version::Version;

@@ -14,7 +14,8 @@ returns-in_err-read_one-clause-fault c =
     let one = fault_of_both (one_trie c.args.version c.args.key_len c.args.taken c.args.bytes.now (tries_of c.loop-trie.tries))
     (tries_after c.args.version c.args.key_len c.args.taken c.args.bytes.now (c.args.count - (c.loop-trie.trie + 1)))
     c.in_err-read_one.field-0.0 c.in_err-read_one.ensures.fault in
-    rw c.from_residual.ensures (fault_of_same _ _ _ more one)
+    let failed = err_from_is_err_and c.from_residual.result c.from_residual.ensures.1 in
+    rw (failed.1, failed.2) (fault_of_same _ _ _ more one)
 
 pub loop-trie-preserved : goal.loop-trie-preserved
 loop-trie-preserved c = record {
