@@ -13,7 +13,8 @@ use Rattle.table_sizes.specs.Sizes.{row_len}
 use Rattle.flat_table.specs.Table.{levels_from, portions}
 use Rattle.flat_table.specs.Sound.{is_sound_word, first_level}
 use Rattle.flat_table.proofs.Offered.{levels-take, levels-drop}
-use Rattle.std.proofs.lemmas.List.{drop_more, drop_all}
+use Rattle.std.proofs.lemmas.List.{drop_more, drop_all, drop-drop}
+use Rattle.std.proofs.lemmas.List.Sums.{sum_by-cons, sum_by-take-drop}
 use Rattle.table_image.specs.Loading.{IsFaultOf}
 
 -- the fault of a reading is that of a reading that begins with it
@@ -91,6 +92,28 @@ pub tries_words_end : (rows : ℕ) (bytes : List ℕ) (from : ℕ) (depth : ℕ 
 unfolding words_of_tries
 tries_words_end rows bytes from depth n p kept lens first all =
     ap (λ ks. words_of_tries rows bytes from (portions (map depth ks) (levels_from p lens)) first) (drop_all n kept all)
+
+-- a loop over tries stands at one of them: its levels are there, and those of the tries after it
+pub record TrieTurn (depth : ℕ → ℕ) (i first : ℕ) (kept lens : List ℕ) : Type 0 where
+  pub bound : first + depth (get_or kept i 0) ≤ length lens
+  pub levels : first + depth (get_or kept i 0) + sum (map depth (drop (i + 1) kept)) ≡ length lens
+  pub words : sum (take (depth (get_or kept i 0)) (drop first lens)) + sum (drop (first + depth (get_or kept i 0)) lens)
+      ≡ sum (drop first lens)
+  pub back : drop (depth (get_or kept i 0)) (drop first lens) ≡ drop (first + depth (get_or kept i 0)) lens
+
+pub trie_turn : (depth : ℕ → ℕ) (i first : ℕ) (kept lens : List ℕ) → i < length kept →
+    first + sum (map depth (drop i kept)) ≡ length lens → TrieTurn depth i first kept lens
+trie_turn depth i first kept lens within at =
+    let d : ℕ = depth (get_or kept i 0) in
+    let total : sum (map depth (drop i kept)) ≡ d + sum (map depth (drop (i + 1) kept)) =
+    ap (λ ks. sum (map depth ks)) (drop_more kept i 0 within) ∙ sum_by-cons (λ n. n) d (map depth (drop (i + 1) kept)) in
+    let back : drop d (drop first lens) ≡ drop (first + d) lens = drop-drop d first lens in
+    record {
+      bound = omega (arith, total, at);
+      levels = omega (arith, total, at);
+      words = ap (λ xs. sum (take d (drop first lens)) + sum xs) (sym back) ∙ sum_by-take-drop (λ (x : ℕ). x) (drop first lens) d;
+      back = back;
+    }
 
 -- one row more, and no rows more
 pub row_more : (rules : ℕ) (bytes : List ℕ) (from count left : ℕ) (first : List (List ℕ)) → count ≡ left + 1 →

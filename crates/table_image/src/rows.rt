@@ -72,9 +72,9 @@ pub(crate) fn read_rows(
     let mut rows = Vec::with_capacity(alloc, room)?;
     push(&mut rows, no_rule())?;
     let mut at = from;
-    for _row in 0..count {
-        let row = read_row(rules, bytes, at)?;
-        push(&mut rows, row)?;
+    for row in 0..count {
+        let words = read_row(rules, bytes, at)?;
+        push(&mut rows, words)?;
         at += ROW_BYTES;
     }
     Ok(rows)

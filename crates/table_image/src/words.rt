@@ -100,9 +100,10 @@ pub(crate) fn read_words(
     // A header may claim more words than there are bytes: no memory is taken for those.
     let room = tries.words.min((bytes.len() - tries.end) / LONG);
     let mut words = Vec::with_capacity(alloc, room)?;
+    let groups = tries.kept.as_slice();
     let lens = tries.level_lens.as_slice();
     let mut first = 0;
-    for kept in &tries.kept {
+    for kept in groups {
         let end = first + depth_of(key_len, *kept);
         read_levels(&mut words, rows, &lens[first..end], bytes, tries.end)?;
         first = end;
