@@ -4,7 +4,9 @@ use Rattle.table_image.specs.declared.fault.LoadFault.{LoadFault}
 use Rattle.table_image.specs.declared.fault.LoadFault.TheVariants.{Image, OutOfMemory}
 use Rattle.table_image.specs.declared.tries.Tries.{Tries}
 use Rattle.table_image.specs.declared.counts.Counts as declared
+use Rattle.table_image.specs.declared.pair.TablePair.{TablePair}
 use Rattle.table_image.specs.declared.table.TableRead as declared_table
+use Rattle.table_image.specs.Spelling.{PairView}
 use Rattle.table_image.specs.Reading.{Reading, Counts, TriesView, TableRead}
 use Rattle.flat_table.specs.declared.level.Level.{Level}
 use Rattle.flat_table.specs.Groups.{depth_of}
@@ -35,3 +37,7 @@ levels_of_tries key_len kept lens = portions (map (depth_of key_len) kept) (leve
 -- a table that was read
 abbrev pub table_of_read : declared_table.TableRead → TableRead
 table_of_read read = record { table = read.table; end = read.end }
+
+-- a pair of tables
+abbrev pub pair_of : TablePair → PairView
+pair_of pair = record { ip4 = pair.ip4; ip6 = pair.ip6 }

@@ -5,6 +5,8 @@ mod counts;
 mod fault;
 mod field;
 mod list;
+mod loading;
+mod pair;
 mod rows;
 mod table;
 mod tries;
@@ -12,4 +14,6 @@ mod version;
 mod words;
 
 pub use fault::{ImageFault, ImageKind, LoadFault};
+pub use loading::load;
+pub use pair::TablePair;
 pub use version::Version;

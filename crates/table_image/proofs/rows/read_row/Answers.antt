@@ -1,4 +1,5 @@
 use Rattle.std.proofs.Common.{◌≡◌, ℕ, List, ◌+◌, ◌*◌, ◌-◌, ◌∙◌, sym, ap, arith, Ok, length, refl, take, set}
+use Rattle.std.proofs.lemmas.Result.{err_from_is_err_and}
 use Rattle.std.proofs.lemmas.List.{take_more_set, length-take-le, take_all, length-set}
 use Rattle.table_sizes.specs.Sizes.{row_len}
 use Rattle.table_image.specs.Spelling.{is_row_word}
@@ -11,7 +12,8 @@ pub returns-in_err-word-clause-fault : goal.returns-in_err-word-clause-fault
 returns-in_err-word-clause-fault c =
     let l = c.loop-category in
     let len = length-take-le l.category l.row (omega (arith, l.invariant.len)) in
-    rw c.from_residual.ensures (l.invariant.rest
+    let failed = err_from_is_err_and c.from_residual.result c.from_residual.ensures.1 in
+    rw (failed.1, failed.2) (l.invariant.rest
     ∙ number_cut RowForm 8 (λ _. is_row_word c.args.rules) c.args.bytes.now c.args.from (row_len - l.category)
     (row_len - (l.category + 1)) l.at (take l.category l.row) (omega arith) (omega (arith, len, l.invariant.place))
     c.in_err-word.field-0.0 (sym c.in_err-word.ensures.number))
@@ -20,7 +22,8 @@ pub returns-in_err-word-2-clause-fault : goal.returns-in_err-word-2-clause-fault
 returns-in_err-word-2-clause-fault c =
     let l = c.loop-category in
     let len = length-take-le l.category l.row (omega (arith, l.invariant.len)) in
-    rw c.from_residual-in_err-word-2.ensures (l.invariant.rest
+    let failed = err_from_is_err_and c.from_residual-in_err-word-2.result c.from_residual-in_err-word-2.ensures.1 in
+    rw (failed.1, failed.2) (l.invariant.rest
     ∙ number_refused RowForm 8 (λ _. is_row_word c.args.rules) c.args.bytes.now c.args.from (row_len - l.category)
     (row_len - (l.category + 1)) l.at (take l.category l.row) (omega arith) (omega (arith, len, l.invariant.place))
     c.in_ok-word.word c.in_err-word-2.field-0.0 (sym c.in_ok-word.ensures.number)
