@@ -1,8 +1,8 @@
 -- A number in network order is read as it is spelled, and spelled as it is read.
 use Rattle.std.proofs.Common.{◌≡◌, ℕ, zero, suc, ◌+◌, ◌-◌, ◌*◌, ◌/◌, ◌%◌, ◌^◌, ◌<◌, ◌≤◌, List, [], ◌∷◌, ◌++◌, length, take, drop, fold}
-use Rattle.std.proofs.Common.{refl, sym, ap, ◌∙◌, arith, Bool, true, false, All, length-append, length-drop, inl, inr, Ok, Err, Result}
+use Rattle.std.proofs.Common.{refl, sym, ap, ◌∙◌, arith, Bool, true, false, All, length-append, get_or}
 use Rattle.std.proofs.Math.Nat.{pow-succ', add-mul, mul_assoc, mul-le-mul_right, mod-eq_of_lt, div-one}
-use Rattle.std.proofs.lemmas.List.{take_all, take_at, drop_at, drop-drop, take-append-drop, length-take-le}
+use Rattle.std.proofs.lemmas.List.{get_or_default, take_all, take_at, drop_at, drop-drop, take-append-drop, length-take-le}
 use Rattle.std.proofs.lemmas.List.Elements.{All-head, All-tail, All-take, All-drop}
 use Rattle.std.proofs.lemmas.Nat.{div-mul-add}
 use Rattle.std.specs.Int.{byte_at, bytes_high_first}
@@ -14,6 +14,10 @@ use Rattle.table_image.specs.Spelling.{spelled}
 -- numbers below 256
 abbrev pub AreBytes : List ℕ → Type 0
 AreBytes bytes = All (λ byte. byte < 256) bytes
+
+-- what holds of each element by its place
+pub are_bytes : (bytes : List ℕ) → ((k : ℕ) → get_or bytes k 0 < 256) → AreBytes bytes
+are_bytes bytes each k d below = omega (arith, get_or_default bytes k d 0 below, each k)
 
 -- bytes that are read after a number: that number moves up, and a lower part is added
 fold_split : (acc : ℕ) (bs : List ℕ) → AreBytes bs →

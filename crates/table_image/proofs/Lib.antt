@@ -11,3 +11,5 @@ pub mod TablesRead
 pub mod TablesSpelled
 pub mod Images
 pub mod Loops
+pub mod TableSteps
+pub mod ImageSteps

@@ -1,12 +1,10 @@
 //! Any bytes in, the pair of tables of which they are the image out, or their first failing check.
 
-ghost use Rattle.std.specs.Prelude.{◌≡◌, ◌==◌, ◌||◌, ◌+◌, ◌≤◌, ◌⊎◌, length, All, IfOk, IfErr, Ok, Err, ℕ, ◌<◌};
-ghost use Rattle.table_image.specs.declared.fault.ImageFault.{ImageFault};
-ghost use Rattle.table_image.specs.declared.fault.LoadFault.TheVariants.{Image, OutOfMemory};
+ghost use Rattle.std.specs.Prelude.{◌≡◌, ◌==◌, ◌||◌, ◌+◌, ◌≤◌, ◌⊎◌, length, IfOk, IfErr, Ok};
 ghost use Rattle.table_image.specs.declared.version.Version.TheVariants.{One, Two};
 ghost use Rattle.table_image.specs.Spelling.{IsImage};
 ghost use Rattle.table_image.specs.Reading.{version_of, version_read, image_of};
-ghost use Rattle.table_image.specs.Loading.{pair_of};
+ghost use Rattle.table_image.specs.Loading.{IsFaultOf, pair_of};
 
 use crate::fault::{ImageFault, ImageKind, LoadFault};
 use crate::field::{checked, short};
@@ -57,10 +55,7 @@ pub fn load(alloc: Global, bytes: &[u8]) -> Result<TablePair, LoadFault>
     ensures pair { IfOk result (λ pair. image_of bytes.now ≡ Ok (pair_of pair)) }
     ensures image { IfOk result (λ pair. IsImage One bytes.now (pair_of pair)
         ⊎ IsImage Two bytes.now (pair_of pair)) }
-    ensures fault { (fault : ImageFault) → result ≡ Err (Image fault) →
-        image_of bytes.now ≡ Err fault }
-    ensures refused { (fault : ImageFault) → image_of bytes.now ≡ Err fault →
-        (result ≡ Err (Image fault)) ⊎ (result ≡ Err OutOfMemory) }
+    ensures fault { IfErr result (IsFaultOf (image_of bytes.now)) }
 {
     let version = read_version(bytes)?;
     let ip4 = read_table(alloc, version, 4, 13, bytes, 8)?;

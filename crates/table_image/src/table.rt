@@ -1,7 +1,9 @@
 //! One table of an image.
 
-ghost use Rattle.std.specs.Prelude.{◌≡◌, ◌+◌, ◌≤◌, length, IfOk, IfErr, Ok, IsTrue};
-ghost use Rattle.flat_table.specs.Groups.{is_key_len, longest_key};
+ghost use Rattle.std.specs.Prelude.{◌≡◌, ◌+◌, ◌≤◌, length, IfOk, IfErr, Ok, None, IsTrue};
+ghost use Rattle.flat_table.specs.Groups.{is_key_len};
+ghost use Rattle.flat_table.specs.Sound.{sound_fault};
+ghost use Rattle.flat_table.specs.Table.{view_of};
 ghost use Rattle.table_image.specs.Reading.{table_read};
 ghost use Rattle.table_image.specs.Loading.{IsFaultOf, table_of_read};
 
@@ -22,6 +24,17 @@ pub(crate) struct TableRead {
     pub table: Table,
     /// The place of the field after it.
     pub end: usize,
+}
+
+/// The table of parts that are known to be sound.
+fn table_of(parts: Parts) -> Table
+    requires { sound_fault (view_of parts) ≡ None }
+    ensures { result ≡ view_of parts }
+{
+    match Table::from_parts(parts) {
+        Ok(table) => table,
+        Err(NotSound { .. }) => unreachable!(),
+    }
 }
 
 /// The table at the place, of the family, whose keys have so many bytes.
@@ -48,7 +61,7 @@ pub(crate) fn read_table(
     let rows_at = tries.end + LONG * words.len();
     let rows = read_rows(alloc, counts.rules, bytes, rows_at, counts.rows as usize)?;
     let end = rows_at + ROW_BYTES * counts.rows as usize;
-    let parts = Parts {
+    let table = table_of(Parts {
         key_len,
         rules: counts.rules,
         kept: tries.kept,
@@ -56,9 +69,6 @@ pub(crate) fn read_table(
         level_lens: tries.level_lens,
         words,
         rows,
-    };
-    match Table::from_parts(parts) {
-        Ok(table) => Ok(TableRead { table, end }),
-        Err(NotSound { .. }) => unreachable!(),
-    }
+    });
+    Ok(TableRead { table, end })
 }
