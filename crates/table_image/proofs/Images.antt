@@ -1,6 +1,6 @@
 -- Bytes are read exactly where they are the image of a pair of tables.
 use Rattle.std.proofs.Common.{◌≡◌, ℕ, zero, suc, ◌+◌, ◌-◌, ◌*◌, ◌^◌, ◌<◌, ◌≤◌, List, [], ◌∷◌, ◌++◌, length, take, drop}
-use Rattle.std.proofs.Common.{refl, sym, ap, ◌∙◌, arith, Bool, true, false, append_assoc, Ok, Err, inl, inr, length-drop}
+use Rattle.std.proofs.Common.{refl, sym, ap, ◌∙◌, arith, Bool, true, false, append_assoc, Ok, Err, ◌⊎◌, inl, inr, length-drop}
 use Rattle.std.specs.Prelude.{◌||◌, ◌==◌}
 use Rattle.std.proofs.lemmas.List.{append-nil, drop_all}
 use Rattle.std.proofs.lemmas.Bool.{cases_Bool, lt-ltb, eq-eqb, eqb-true}
@@ -140,3 +140,11 @@ image_spelled version bytes pair is =
     (λ b. checked (length bytes == b.end) Trailing b.end (record { ip4 = pair.ip4; ip6 = b.table })) _ _
     (ap (λ k. table_read version 6 k bytes ip4.end) (sym keys6) ∙ ip6.read)
     (check_passed (length bytes == ip6.end) Trailing ip6.end pair (eq-eqb (length bytes) ip6.end ends))))
+
+-- an image is of one version or the other
+pub either : (bytes : List ℕ) (pair : PairView) → ImageAt bytes pair → IsImage One bytes pair ⊎ IsImage Two bytes pair
+either bytes pair at = by_version at.version at.is
+  where
+    by_version : (version : Version) → IsImage version bytes pair → IsImage One bytes pair ⊎ IsImage Two bytes pair
+    by_version One is = inl is
+    by_version Two is = inr is
