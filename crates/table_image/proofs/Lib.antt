@@ -13,3 +13,4 @@ pub mod Images
 pub mod Loops
 pub mod TableSteps
 pub mod ImageSteps
+pub mod Written

@@ -10,7 +10,7 @@ use Rattle.table_image.specs.Spelling.{PairView}
 use Rattle.table_image.specs.Reading.{Reading, Counts, TriesView, TableRead}
 use Rattle.flat_table.specs.declared.level.Level.{Level}
 use Rattle.flat_table.specs.Groups.{depth_of}
-use Rattle.flat_table.specs.Table.{levels_from, portions}
+use Rattle.flat_table.specs.Table.{TableView, levels_from, portions}
 
 -- the fault is that of the reading, where memory is enough
 abbrev pub IsFaultOf : {A : Type 0} → Reading A → LoadFault → Type 0
@@ -41,3 +41,7 @@ table_of_read read = record { table = read.table; end = read.end }
 -- a pair of tables
 abbrev pub pair_of : TablePair → PairView
 pair_of pair = record { ip4 = pair.ip4; ip6 = pair.ip6 }
+
+-- two tables as a pair
+abbrev pub pair_of_tables : TableView → TableView → PairView
+pair_of_tables ip4 ip6 = record { ip4 = ip4; ip6 = ip6 }

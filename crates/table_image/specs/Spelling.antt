@@ -117,14 +117,18 @@ pub record CanBeSaved (key_len : ℕ) (table : TableView) : Type 0 where
   pub few : table.rules ≤ most_rules
   pub ranked : list_all (list_all (is_row_word table.rules)) (drop 1 table.rows) ≡ true
 
--- a row has sixteen words of 64 bits
+-- a word has 64 bits
+abbrev pub is_word : ℕ → Bool
+is_word word = nat_lt word (2 ^ 64)
+
+-- a row has sixteen words
 abbrev pub is_row : List ℕ → Bool
-is_row row = length row == row_len && list_all (λ word. nat_lt word (2 ^ 64)) row
+is_row row = length row == row_len && list_all is_word row
 
 -- the words of a table have 64 bits, and its rows sixteen of them
 pub record HasWords (table : TableView) : Type 0 where
-  pub roots : list_all (λ word. nat_lt word (2 ^ 64)) table.roots ≡ true
-  pub words : list_all (λ word. nat_lt word (2 ^ 64)) table.words ≡ true
+  pub roots : list_all is_word table.roots ≡ true
+  pub words : list_all is_word table.words ≡ true
   pub rows : list_all is_row table.rows ≡ true
 
 -- a table that an image of the version can have
