@@ -180,6 +180,13 @@ impl Table {
         lens[first + depth]
     }
 
+    /// How many words each level has, trie by trie.
+    pub fn level_lens(&self) -> &[u32]
+        ensures { result.now ≡ self.now.level_lens }
+    {
+        &self.parts.level_lens
+    }
+
     /// All words, trie by trie and level by level.
     pub fn words(&self) -> &[u64]
         ensures { result.now ≡ self.now.words }

@@ -1,0 +1,16 @@
+pub mod Fields
+pub mod Lists
+pub mod NumbersRead
+pub mod WordsRead
+pub mod WordsSpelled
+pub mod TriesRead
+pub mod TriesSpelled
+pub mod RowsRead
+pub mod TriesSound
+pub mod TablesRead
+pub mod TablesSpelled
+pub mod Images
+pub mod Loops
+pub mod TableSteps
+pub mod ImageSteps
+pub mod Written

@@ -1,0 +1,232 @@
+-- A table that was read stands in the bytes as it is spelled, and can be saved.
+use Rattle.std.proofs.Common.{◌≡◌, ℕ, zero, suc, ◌+◌, ◌-◌, ◌*◌, ◌^◌, ◌<◌, ◌≤◌, List, [], ◌∷◌, ◌++◌, length, take, drop, sum, map}
+use Rattle.std.proofs.Common.{refl, sym, ap, ◌∙◌, arith, Bool, true, false, IsTrue, append_assoc, Ok, Err, Option, Some, None}
+use Rattle.std.specs.Prelude.{◌&&◌, ◌==◌, nat_le}
+use Rattle.std.specs.List.{list_all, flat_map, zip}
+use Rattle.std.proofs.lemmas.List.{append-nil}
+use Rattle.std.proofs.lemmas.Bool.{and_from, le-leb, leb-true, eq-eqb, eqb-true}
+use Rattle.std.proofs.lemmas.Bool.Decides.{nat_tests}
+use Rattle.flat_table.specs.Groups.{is_key_len, is_kept_word, depth_of}
+use Rattle.flat_table.specs.Table.{TableView, levels_from, portions, depths_of, trie_levels}
+use Rattle.flat_table.specs.Sound.{most_tries, begins_with_zeros, is_shaped, first_unsound_root, first_unsound_word, sound_fault}
+use Rattle.table_sizes.specs.Sizes.{max_words, row_len}
+use Rattle.table_image.specs.declared.version.Version.{Version}
+use Rattle.table_image.specs.declared.version.Version.TheVariants.{One, Two}
+use Rattle.table_image.specs.declared.fault.ImageKind.TheVariants.{Family, TooMany}
+use Rattle.table_image.specs.Spelling.{most_rules, short, long, spelled, all_spelled, spelled_tries, spelled_rows, spelled_table, is_of_version, is_row_word, is_row, CanBeSaved, HasWords, IsSaved}
+use Rattle.table_image.specs.Reading.{Reading, ◌>>=◌, tested, Counts, counts, TriesView, no_tries, tries_after, words_of_tries, rows_after, row_bytes, no_rule, table_of, TableRead, words_and_rows, table_read}
+use Rattle.table_image.proofs.Fields.{AreBytes}
+use Rattle.table_image.proofs.Lists.{joined, of_both}
+use Rattle.table_image.proofs.NumbersRead.{fits, tested_read}
+use Rattle.table_image.proofs.WordsRead.{WordsAt, tries_fault, tries_words_read, none_found}
+use Rattle.table_image.proofs.TriesRead.{TriesAt, tries_read}
+use Rattle.table_image.proofs.TriesSound.{root_leads, AreSound, are_sound}
+use Rattle.table_image.proofs.RowsRead.{RowsAt, rows_read}
+
+-- what was read of the numbers before the tries
+pub record CountsAt (family : ℕ) (bytes : List ℕ) (at : ℕ) (c : Counts) : Type 0 where
+  pub few_rules : c.rules ≤ most_rules
+  pub few_tries : c.tries ≤ most_tries
+  pub few_rows : row_len * (c.rows + 1) ≤ max_words
+  pub text : drop at bytes ≡ spelled short family ++ (spelled short c.rules ++ (spelled short c.tries
+      ++ (spelled short c.rows ++ drop (at + 16) bytes)))
+
+counts_read : (family : ℕ) (bytes : List ℕ) (at : ℕ) (c : Counts) → AreBytes bytes → counts family bytes at ≡ Ok c →
+    CountsAt family bytes at c
+counts_read family bytes at c are e =
+    let few_rules : ℕ → Bool = λ number. nat_le number most_rules in
+    let few_tries : ℕ → Bool = λ number. nat_le number most_tries in
+    let few_rows : ℕ → Bool = λ number. nat_le (row_len * (number + 1)) max_words in
+    let made : ℕ → ℕ → ℕ → Counts = λ rules tries rows. record { rules = rules; tries = tries; rows = rows } in
+    let one = of_both (tested Family short (λ number. number == family) bytes at)
+    (λ _. tested TooMany short few_rules bytes (at + 4) >>= λ rules. tested TooMany short few_tries bytes (at + 8) >>= λ tries.
+    tested TooMany short few_rows bytes (at + 12) >>= λ rows. Ok (made rules tries rows)) c e in
+    let two = of_both (tested TooMany short few_rules bytes (at + 4))
+    (λ rules. tested TooMany short few_tries bytes (at + 8) >>= λ tries.
+    tested TooMany short few_rows bytes (at + 12) >>= λ rows. Ok (made rules tries rows)) c one.2 in
+    let three = of_both (tested TooMany short few_tries bytes (at + 8))
+    (λ tries. tested TooMany short few_rows bytes (at + 12) >>= λ rows. Ok (made two.0 tries rows)) c two.2 in
+    let four = of_both (tested TooMany short few_rows bytes (at + 12)) (λ rows. Ok (made two.0 three.0 rows)) c three.2 in
+    let f = tested_read Family short (λ number. number == family) bytes at one.0 are one.1 in
+    let r = tested_read TooMany short few_rules bytes (at + 4) two.0 are two.1 in
+    let t = tested_read TooMany short few_tries bytes (at + 8) three.0 are three.1 in
+    let w = tested_read TooMany short few_rows bytes (at + 12) four.0 are four.1 in
+    let is : made two.0 three.0 four.0 ≡ c = cc in
+    let rules_is : two.0 ≡ c.rules = ap (λ (x : Counts). x.rules) is in
+    let tries_is : three.0 ≡ c.tries = ap (λ (x : Counts). x.tries) is in
+    let rows_is : four.0 ≡ c.rows = ap (λ (x : Counts). x.rows) is in
+    let family_is : one.0 ≡ family = eqb-true one.0 family f.1 in
+    let rows_text : drop (at + 12) bytes ≡ spelled short c.rows ++ drop (at + 16) bytes =
+    w.0.text ∙ ap (λ n. spelled short n ++ drop (at + 12 + short) bytes) rows_is
+    ∙ ap (λ k. spelled short c.rows ++ drop k bytes) (omega arith) in
+    let tries_text : drop (at + 8) bytes ≡ spelled short c.tries ++ drop (at + 12) bytes =
+    t.0.text ∙ ap (λ n. spelled short n ++ drop (at + 8 + short) bytes) tries_is
+    ∙ ap (λ k. spelled short c.tries ++ drop k bytes) (omega arith) in
+    let rules_text : drop (at + 4) bytes ≡ spelled short c.rules ++ drop (at + 8) bytes =
+    r.0.text ∙ ap (λ n. spelled short n ++ drop (at + 4 + short) bytes) rules_is
+    ∙ ap (λ k. spelled short c.rules ++ drop k bytes) (omega arith) in
+    let family_text : drop at bytes ≡ spelled short family ++ drop (at + 4) bytes =
+    f.0.text ∙ ap (λ n. spelled short n ++ drop (at + short) bytes) family_is in
+    record {
+      few_rules = omega (arith, leb-true two.0 most_rules r.1, rules_is);
+      few_tries = omega (arith, leb-true three.0 most_tries t.1, tries_is);
+      few_rows = omega (arith, leb-true (row_len * (four.0 + 1)) max_words w.1, rows_is);
+      text = family_text ∙ ap (λ xs. spelled short family ++ xs) (rules_text
+          ∙ ap (λ xs. spelled short c.rules ++ xs) (tries_text ∙ ap (λ xs. spelled short c.tries ++ xs) rows_text));
+    }
+
+-- row 0 has zeros
+zeros_begin : (rows : List (List ℕ)) → begins_with_zeros (no_rule ∷ rows) ≡ true
+unfolding no_rule
+zeros_begin rows = refl
+
+zeros_are_row : is_row no_rule ≡ true
+unfolding no_rule
+zeros_are_row = refl
+
+-- the parts of a sound table
+pub sound_of : (table : TableView) → is_shaped table ≡ true → first_unsound_root table ≡ None → first_unsound_word table ≡ None →
+    sound_fault table ≡ None
+unfolding sound_fault
+sound_of table shape root word = rw (shape, root, word) refl
+
+-- the words and the rows of a table that was read
+record TailAt (key_len : ℕ) (bytes : List ℕ) (c : Counts) (tries : TriesView) (read : TableRead) : Type 0 where
+  pub words : List ℕ
+  pub rows : List (List ℕ)
+  pub is : read.table ≡ table_of key_len c.rules tries words rows
+  pub words_count : length words ≡ sum tries.level_lens
+  pub rows_count : length rows ≡ c.rows
+  pub sound : tries_fault (c.rows + 1) (trie_levels (table_of key_len c.rules tries [] [])) words ≡ None
+  pub small : list_all (fits long) words ≡ true
+  pub ranked : list_all (list_all (is_row_word c.rules)) rows ≡ true
+  pub typed : list_all is_row rows ≡ true
+  pub text : drop tries.end bytes ≡ (all_spelled long words ++ flat_map (all_spelled long) rows) ++ drop read.end bytes
+
+tail_read : (key_len : ℕ) (bytes : List ℕ) (c : Counts) (tries : TriesView) (read : TableRead) → AreBytes bytes →
+    length tries.level_lens ≡ sum (map (depth_of key_len) tries.kept) →
+    words_and_rows key_len bytes c tries ≡ Ok read → TailAt key_len bytes c tries read
+tail_read key_len bytes c tries read are levels e =
+    let all_levels = trie_levels (table_of key_len c.rules tries [] []) in
+    let made : List ℕ → List (List ℕ) → TableRead = λ words rows. record {
+      table = table_of key_len c.rules tries words rows;
+      end = tries.end + long * length words + row_bytes * length rows;
+    } in
+    let one = of_both (words_of_tries (c.rows + 1) bytes tries.end all_levels [])
+    (λ words. rows_after c.rules bytes (tries.end + long * length words) c.rows [] >>= λ rows. Ok (made words rows)) read e in
+    let words : List ℕ = one.0 in
+    let rows_from : ℕ = tries.end + long * length words in
+    let two = of_both (rows_after c.rules bytes rows_from c.rows []) (λ rows. Ok (made words rows)) read one.2 in
+    let rows : List (List ℕ) = two.0 in
+    let w = tries_words_read (c.rows + 1) bytes tries.end (map (depth_of key_len) tries.kept) tries.level_lens 0 [] words are refl
+    levels one.1 in
+    let r = rows_read c.rules bytes rows_from c.rows [] rows are two.1 in
+    let is : made words rows ≡ read = cc in
+    let count : length words ≡ sum tries.level_lens = ap length w.are ∙ w.count_is in
+    let rows_count : length rows ≡ c.rows = ap length r.are ∙ r.count_is in
+    let words_text : drop tries.end bytes ≡ all_spelled long words ++ drop rows_from bytes =
+    ap (λ k. drop k bytes) (omega arith) ∙ w.text
+    ∙ ap (λ xs. all_spelled long xs ++ drop (tries.end + long * (0 + sum tries.level_lens)) bytes) (sym w.are)
+    ∙ ap (λ k. all_spelled long words ++ drop k bytes) (omega (arith, count)) in
+    let rows_text : drop rows_from bytes ≡ flat_map (all_spelled long) rows ++ drop read.end bytes =
+    ap (λ k. drop k bytes) (omega arith) ∙ r.text
+    ∙ ap (λ xs. flat_map (all_spelled long) xs ++ drop (rows_from + row_bytes * (0 + c.rows)) bytes) (sym r.are)
+    ∙ ap (λ k. flat_map (all_spelled long) rows ++ drop k bytes) (omega (arith, rows_count))
+    ∙ ap (λ (t : TableRead). flat_map (all_spelled long) rows ++ drop t.end bytes) is in
+    record {
+      words = words;
+      rows = rows;
+      is = ap (λ (t : TableRead). t.table) (sym is);
+      words_count = count;
+      rows_count = rows_count;
+      sound = ap (tries_fault (c.rows + 1) all_levels) (w.are ∙ sym (append-nil w.more)) ∙ w.sound [];
+      small = ap (list_all (fits long)) w.are ∙ w.small;
+      ranked = ap (list_all (list_all (is_row_word c.rules))) r.are ∙ r.ranked;
+      typed = ap (list_all is_row) r.are ∙ r.typed;
+      text = joined (drop tries.end bytes) (all_spelled long words) (flat_map (all_spelled long) rows) _ _ words_text rows_text;
+    }
+
+-- a table that was read
+pub record TableAt (version : Version) (family key_len : ℕ) (bytes : List ℕ) (at : ℕ) (read : TableRead) : Type 0 where
+  pub text : drop at bytes ≡ spelled_table version family read.table ++ drop read.end bytes
+  pub is : IsSaved version key_len read.table
+
+-- the tries of a table have what their version spells
+of_version : (version : Version) (key_len taken from : ℕ) (kept roots lens : List ℕ) (table : TableView) →
+    AreSound version key_len taken from kept roots lens → table.key_len ≡ key_len → table.kept ≡ kept →
+    is_of_version version table ≡ true
+of_version One key_len taken from kept roots lens table s keys same = rw (keys, same) (s.groups refl)
+of_version Two key_len taken from kept roots lens table s keys same = refl
+
+saved : (version : Version) (key_len : ℕ) (c : Counts) (tries : TriesView) (words : List ℕ) (rows : List (List ℕ)) →
+    is_key_len key_len ≡ true → c.rules ≤ most_rules → c.tries ≤ most_tries → row_len * (c.rows + 1) ≤ max_words →
+    length tries.kept ≡ c.tries →
+    AreSound version key_len (row_len * (c.rows + 1)) 0 tries.kept tries.roots tries.level_lens →
+    length words ≡ sum tries.level_lens → length rows ≡ c.rows →
+    tries_fault (c.rows + 1) (trie_levels (table_of key_len c.rules tries [] [])) words ≡ None →
+    list_all (fits long) words ≡ true → list_all (list_all (is_row_word c.rules)) rows ≡ true → list_all is_row rows ≡ true →
+    IsSaved version key_len (table_of key_len c.rules tries words rows)
+saved version key_len c tries words rows keyed few_rules few_tries few_rows count s words_count rows_count sound small ranked typed =
+    let table : TableView = table_of key_len c.rules tries words rows in
+    let rows_len : length table.rows ≡ c.rows + 1 = omega (arith, rows_count) in
+    let shape : is_shaped table ≡ true =
+    and_from _ _ (and_from _ _ (and_from _ _ (and_from _ _ (and_from _ _ (and_from _ _ (and_from _ _
+    (eq-eqb (length table.kept) (length table.roots) s.same)
+    (le-leb (length table.roots) most_tries (omega (arith, s.same, count)))) keyed) s.keeps)
+    (eq-eqb (length table.level_lens) (sum (depths_of table)) s.levels))
+    (eq-eqb (length table.words) (sum table.level_lens) words_count)) (zeros_begin rows))
+    (le-leb (length table.words + row_len * length table.rows) max_words (omega (arith, s.fit, words_count, rows_len))) in
+    record {
+      sound = sound_of table shape (none_found root_leads 0 (zip table.roots (trie_levels table)) s.leads)
+          (ap (λ n. tries_fault n (trie_levels table) words) rows_len ∙ sound);
+      saved = record { keys = refl; few = few_rules; ranked = ranked };
+      typed = record { roots = s.small; words = small; rows = and_from (is_row no_rule) (list_all is_row rows) zeros_are_row typed };
+      groups = of_version version key_len _ _ _ _ _ table s refl refl;
+    }
+
+pub table_at : (version : Version) (family key_len : ℕ) (bytes : List ℕ) (at : ℕ) (read : TableRead) → AreBytes bytes →
+    is_key_len key_len ≡ true → table_read version family key_len bytes at ≡ Ok read →
+    TableAt version family key_len bytes at read
+unfolding table_read spelled_table
+table_at version family key_len bytes at read are keyed e =
+    let one = of_both (counts family bytes at)
+    (λ c. tries_after version key_len (row_len * (c.rows + 1)) bytes c.tries (no_tries (at + 16)) >>= λ tries.
+    words_and_rows key_len bytes c tries) read e in
+    let c : Counts = one.0 in
+    let front = counts_read family bytes at c are one.1 in
+    let two = of_both (tries_after version key_len (row_len * (c.rows + 1)) bytes c.tries (no_tries (at + 16)))
+    (words_and_rows key_len bytes c) read one.2 in
+    let tries : TriesView = two.0 in
+    let t = tries_read version key_len (row_len * (c.rows + 1)) bytes c.tries (no_tries (at + 16)) tries are
+    (omega (arith, front.few_rows)) two.1 in
+    let s' = are_sound version key_len (row_len * (c.rows + 1)) 0 t.kept t.roots t.lens (omega (arith, front.few_rows)) t.are in
+    let s : AreSound version key_len (row_len * (c.rows + 1)) 0 tries.kept tries.roots tries.level_lens =
+    rw (t.kept_are, t.roots_are, t.lens_are) s' in
+    let back = tail_read key_len bytes c tries read are s.levels two.2 in
+    let count : length tries.kept ≡ c.tries = ap length t.kept_are ∙ t.count_is in
+    let table : TableView = table_of key_len c.rules tries back.words back.rows in
+    let is : IsSaved version key_len table = saved version key_len c tries back.words back.rows keyed front.few_rules front.few_tries
+    front.few_rows count s back.words_count back.rows_count back.sound back.small back.ranked back.typed in
+    let tries_text : drop (at + 16) bytes ≡ spelled_tries version key_len tries.kept tries.roots tries.level_lens ++ drop tries.end bytes =
+    t.text ∙ ap (λ xs. spelled_tries version key_len xs t.roots t.lens ++ drop tries.end bytes) (sym t.kept_are)
+    ∙ ap (λ xs. spelled_tries version key_len tries.kept xs t.lens ++ drop tries.end bytes) (sym t.roots_are)
+    ∙ ap (λ xs. spelled_tries version key_len tries.kept tries.roots xs ++ drop tries.end bytes) (sym t.lens_are) in
+    let parts : List ℕ = spelled_tries version key_len tries.kept tries.roots tries.level_lens
+    ++ (all_spelled long back.words ++ flat_map (all_spelled long) back.rows) in
+    let parts_text : drop (at + 16) bytes ≡ parts ++ drop read.end bytes =
+    joined (drop (at + 16) bytes) (spelled_tries version key_len tries.kept tries.roots tries.level_lens)
+    (all_spelled long back.words ++ flat_map (all_spelled long) back.rows) _ _ tries_text back.text in
+    let rows_is : length table.rows - 1 ≡ c.rows = omega (arith, back.rows_count) in
+    let tries_is : length tries.roots ≡ c.tries = omega (arith, s.same, count) in
+    let whole : drop at bytes ≡ spelled short family ++ (spelled short c.rules ++ (spelled short c.tries
+    ++ (spelled short c.rows ++ (parts ++ drop read.end bytes)))) =
+    front.text ∙ ap (λ xs. spelled short family ++ (spelled short c.rules ++ (spelled short c.tries ++ (spelled short c.rows ++ xs))))
+    parts_text in
+    let spelling : spelled_table version family table ++ drop read.end bytes
+    ≡ spelled short family ++ (spelled short c.rules ++ (spelled short c.tries ++ (spelled short c.rows
+    ++ (parts ++ drop read.end bytes)))) =
+    rw (tries_is, rows_is) (simp append_assoc) in
+    record {
+      text = whole ∙ sym spelling ∙ ap (λ t. spelled_table version family t ++ drop read.end bytes) (sym back.is);
+      is = rw back.is is;
+    }

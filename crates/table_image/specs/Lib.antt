@@ -1,0 +1,4 @@
+pub mod ImageExamples
+pub mod Loading
+pub mod Reading
+pub mod Spelling
