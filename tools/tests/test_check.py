@@ -93,7 +93,7 @@ class Check(unittest.TestCase):
             with self.subTest(title=title):
                 rules, faults = rule_file.read_rules(content)
                 self.assertEqual(faults, [])
-                self.assertIn(said, " ".join(sentence for _, _, sentence in warnings.of_file(rules)))
+                self.assertIn(said, " ".join(sentence for _, _, _, sentence in warnings.of_file(rules)))
         rules, _ = rule_file.read_rules((EXAMPLES / "mixed.rules").read_bytes())
         self.assertEqual(list(warnings.of_file(rules)), [])
 
