@@ -132,6 +132,7 @@ def of_file(rules):
         for part, said in of_rule(rule):
             yield part, rule, part, said
     for rule, winner in dead(rules):
-        yield "dead", rule, None, f"This rule never decides: line {winner.line} matches all that it matches, and wins: {' '.join(shown(winner.text).split())}"
+        text = " ".join(shown(winner.text).split())
+        yield "dead", rule, None, f"This rule never decides: line {winner.line} matches all that it matches, and wins: {text}"
     for rule, part, said in of_order(rules):
         yield "order", rule, part, said
