@@ -125,12 +125,14 @@ def of_order(rules):
 
 
 def of_file(rules):
-    """All warnings on a file: a rule or None, a part of it or None, and a sentence."""
+    """All warnings on a file: what it is about, a rule or None, a part of it or None, and a sentence."""
     if not rules:
-        yield None, None, "There is no rule, so that the answer is 0 for each packet."
+        yield "empty", None, None, "There is no rule, so that the answer is 0 for each packet."
     for rule in rules:
         for part, said in of_rule(rule):
-            yield rule, part, said
+            yield part, rule, part, said
     for rule, winner in dead(rules):
-        yield rule, None, f"This rule never decides: line {winner.line} matches all that it matches, and wins: {' '.join(shown(winner.text).split())}"
-    yield from of_order(rules)
+        text = " ".join(shown(winner.text).split())
+        yield "dead", rule, None, f"This rule never decides: line {winner.line} matches all that it matches, and wins: {text}"
+    for rule, part, said in of_order(rules):
+        yield "order", rule, part, said

@@ -99,5 +99,6 @@ WARNED = [
     ("a list without rules", b"# nothing yet", "no rule"),
     ("a rule after one that matches as much", NETWORKS + b"0:65535 0:65535 0/0\n" + LINE, "never decides"),
     ("`pri=` on some rules alone", LINE + b" pri=9\n" + NETWORKS + b"0:65535 0:65535 0/0", "above this one"),
-    ("`pri=` that rises from line to line", LINE + b" pri=1\n" + NETWORKS + b"0:65535 90:90 6/0xFF pri=2", "from the last one to the first"),
+    ("`pri=` that rises from line to line", LINE + b" pri=1\n" + NETWORKS + b"0:65535 90:90 6/0xFF pri=2",
+     "from the last one to the first"),
 ]

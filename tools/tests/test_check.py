@@ -93,14 +93,15 @@ class Check(unittest.TestCase):
             with self.subTest(title=title):
                 rules, faults = rule_file.read_rules(content)
                 self.assertEqual(faults, [])
-                self.assertIn(said, " ".join(sentence for _, _, sentence in warnings.of_file(rules)))
+                self.assertIn(said, " ".join(sentence for _, _, _, sentence in warnings.of_file(rules)))
         rules, _ = rule_file.read_rules((EXAMPLES / "mixed.rules").read_bytes())
         self.assertEqual(list(warnings.of_file(rules)), [])
 
     def test_the_page_has_each_mistake_under_its_message(self):
         page = PAGE.read_text(encoding="utf-8")
         rows = re.findall(r"(?m)^\| ([^|]+) \| ", page)
-        titles = [it[1] for it in mistakes.RULES + mistakes.CAPTURES + mistakes.WORDS + mistakes.FILES] + [it[0] for it in mistakes.WARNED]
+        titles = [it[1] for it in mistakes.RULES + mistakes.CAPTURES + mistakes.WORDS + mistakes.FILES]
+        titles += [it[0] for it in mistakes.WARNED]
         for title in titles:
             self.assertIn(title, rows)
         for kind in {it[0] for it in mistakes.RULES} | {it[0].split(": ")[-1] for it in mistakes.CAPTURES + mistakes.WORDS}:

@@ -11,15 +11,18 @@ from aclc_tools.program import TOP
 
 DATA = Path(__file__).resolve().parent / "data"
 CONVERT = TOP / "tools" / "convert"
-SHIPPED = [("iptables", {"chain": "FORWARD"}, "gateway.iptables-save", "gateway.rules"), ("iptables", {}, "gateway6.ip6tables-save", "gateway6.rules"),
-           ("nft", {"chain": "forward"}, "router.nft-json", "router.rules"), ("cisco", {"list": "OUTSIDE-IN"}, "edge.cisco", "edge-outside.rules"),
+SHIPPED = [("iptables", {"chain": "FORWARD"}, "gateway.iptables-save", "gateway.rules"),
+           ("iptables", {}, "gateway6.ip6tables-save", "gateway6.rules"),
+           ("nft", {"chain": "forward"}, "router.nft-json", "router.rules"),
+           ("cisco", {"list": "OUTSIDE-IN"}, "edge.cisco", "edge-outside.rules"),
            ("cisco", {"list": "101"}, "edge.cisco", "edge-101.rules"), ("cisco", {"list": "WEB6"}, "edge.cisco", "edge-web6.rules"),
-           ("cisco", {"list": "WITH-STATE", "lenient": True}, "edge.cisco", "edge-state.rules"), ("l3fwd", {}, "sample.l3fwd", "sample-l3fwd.rules")]
+           ("cisco", {"list": "WITH-STATE", "lenient": True}, "edge.cisco", "edge-state.rules"),
+           ("l3fwd", {}, "sample.l3fwd", "sample-l3fwd.rules")]
 IPTABLES = "*filter\n:INPUT ACCEPT [0:0]\n-A INPUT {} -j ACCEPT\nCOMMIT\n"
 CISCO = "ip access-list extended A\n {}\n"
-NFT = ('{{"nftables": [{{"table": {{"family": "inet", "name": "t", "handle": 1}}}}, {{"chain": {{"family": "inet", "table": "t", "name": "c", '
-       '"handle": 2, "hook": "input", "policy": "drop"}}}}, {{"rule": {{"family": "inet", "table": "t", "chain": "c", "handle": 3, '
-       '"expr": [{}, {{"accept": null}}]}}}}]}}')
+NFT = ('{{"nftables": [{{"table": {{"family": "inet", "name": "t", "handle": 1}}}}, {{"chain": {{"family": "inet", "table": "t", '
+       '"name": "c", "handle": 2, "hook": "input", "policy": "drop"}}}}, {{"rule": {{"family": "inet", "table": "t", '
+       '"chain": "c", "handle": 3, "expr": [{}, {{"accept": null}}]}}}}]}}')
 MATCH = '{{"match": {{"op": "{}", "left": {}, "right": {}}}}}'
 TCP_DPORT = '{"payload": {"protocol": "tcp", "field": "dport"}}'
 # What a rule file can't say: the form, the list, and the reason.
@@ -79,7 +82,8 @@ def decided(rules, fields):
     family, source, destination, ports, protocol = fields
     for rule in rules:
         near = [(rule.source, source), (rule.destination, destination)]
-        if (rule.family == family and all(value >> rule.bits - length == network >> rule.bits - length for (network, length), value in near)
+        if (rule.family == family
+                and all(value >> rule.bits - length == network >> rule.bits - length for (network, length), value in near)
                 and rule.source_ports[0] <= ports[0] <= rule.source_ports[1]
                 and rule.destination_ports[0] <= ports[1] <= rule.destination_ports[1]
                 and protocol & rule.protocol[1] == rule.protocol[0] & rule.protocol[1]):
@@ -151,15 +155,18 @@ class Convert(unittest.TestCase):
     def test_the_command_writes_and_refuses(self):
         for words, code, said in ((["iptables", "--chain", "FORWARD", "gateway.iptables-save"], 0, ""),
                                   (["cisco", "--list", "WITH-STATE", "edge.cisco"], 1, "edge.cisco:30: TCP flags"),
-                                  (["cisco", "--lenient", "--list", "WITH-STATE", "edge.cisco"], 0, "edge.cisco:31: left out: a type of ICMP"),
-                                  (["classbench-trace", "sample.trace"], 0, ""), (["l3fwd", "none"], 7, "No such file"), (["other", "x"], 2, "")):
+                                  (["cisco", "--lenient", "--list", "WITH-STATE", "edge.cisco"], 0,
+                                   "edge.cisco:31: left out: a type of ICMP"),
+                                  (["classbench-trace", "sample.trace"], 0, ""),
+                                  (["l3fwd", "none"], 7, "No such file"), (["other", "x"], 2, "")):
             done = subprocess.run([str(CONVERT), *words], cwd=DATA, stdout=subprocess.PIPE, stderr=subprocess.PIPE)
             self.assertEqual(done.returncode, code, done.stderr)
             self.assertIn(said, done.stderr.decode())
             self.assertEqual(code == 0, bool(done.stdout))
 
     def test_traces_with_what_a_packet_cannot_say(self):
-        for text, reason in (("1 2 3 4 1", "has no ports"), ("1 2 3", "a line has"), ("1 ::1 0 0 1", "different families"), ("x 2 3 4 6", "no number")):
+        for text, reason in (("1 2 3 4 1", "has no ports"), ("1 2 3", "a line has"),
+                             ("1 ::1 0 0 1", "different families"), ("x 2 3 4 6", "no number")):
             content, faults = traces.convert([text, "1 2 3 4 6"], True)
             self.assertIn(reason, faults[0].reason)
             self.assertEqual(len(list(capture.records(content))), 1)
@@ -169,7 +176,8 @@ class Convert(unittest.TestCase):
         self.assertEqual(content, (DATA / "sample-trace.pcap").read_bytes())
         frames = list(capture.records(content))
         self.assertEqual(len(frames), 6)
-        self.assertEqual(frames[0][0][14:].hex()[18:64], "06" + frames[0][0][24:26].hex() + "0a010105" + "c000020a" + "9c400050" + "0000" * 4)
+        packet = frames[0][0][14:].hex()
+        self.assertEqual(packet[18:20] + packet[24:48], "06" + "0a010105" + "c000020a" + "9c400050")
 
     def test_a_list_of_chains_decides_as_the_chains_do(self):
         draw = random.Random(5)
