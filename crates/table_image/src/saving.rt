@@ -120,7 +120,8 @@ fn put_table(out: &mut Vec<u8>, family: u32, table: &Table) -> Result<(), AllocE
     put_short(out, rows_after_first(table))?;
     put_tries(out, table)?;
     put_words(out, table.words())?;
-    put_later_rows(out, table.rows())
+    put_later_rows(out, table.rows())?;
+    Ok(())
 }
 
 /// How many bytes the image has of a table.
