@@ -1,6 +1,6 @@
 -- Bytes that are written one part after the other.
 use Rattle.std.proofs.Common.{◌≡◌, ℕ, zero, suc, ◌+◌, ◌*◌, ◌^◌, ◌<◌, ◌≤◌, List, [], ◌∷◌, ◌++◌, length, take, drop, map, sum, refl, sym, ap, ◌∙◌, arith, append_assoc, get_or, Bool, true, None}
-use Rattle.std.specs.Prelude.{nat_lt, ◌&&◌, ◌==◌}
+use Rattle.std.specs.Prelude.{nat_lt, ◌&&◌, ◌==◌, Result, Ok, Err, OnOk}
 use Rattle.std.specs.List.{flat_map, list_all, range_with_len}
 use Rattle.std.proofs.lemmas.List.{take_more, take_all, flat_map_more, drop_more, get_or_default}
 use Rattle.std.proofs.lemmas.List.Folds.{list_all_more}
@@ -15,7 +15,8 @@ use Rattle.flat_table.specs.Table.{TableView}
 use Rattle.flat_table.specs.Sound.{sound_fault}
 use Rattle.flat_table.proofs.Offered.{IsSound, sound_parts}
 use Rattle.table_image.specs.declared.version.Version.TheVariants.{Two}
-use Rattle.table_image.specs.Spelling.{short, long, spelled, all_spelled, spelled_trie, spelled_tries, is_word}
+use Rattle.table_image.specs.Spelling.{PairView, magic, spelled_table, spelled_pair, short, long, spelled, all_spelled, spelled_trie, spelled_tries, is_word, is_row}
+use Rattle.table_image.proofs.TablesSpelled.{zeros_are}
 use Rattle.table_image.proofs.TriesSpelled.{kept_small}
 use Rattle.std.proofs.Math.Pow.{pow_mono}
 
@@ -107,6 +108,13 @@ depths_bound key_len [] few = omega arith
 depths_bound key_len (k ∷ kept) few =
     omega (arith, sum_by-cons (λ n. n) (depth_of key_len k) (map (depth_of key_len) kept), depths_bound key_len kept few, depth_le key_len k)
 
+-- row 0 is a row, and is there
+pub zeros_typed : (zeros : List ℕ) (later : List (List ℕ)) → length zeros ≡ 16 → begins_with_zeros (zeros ∷ later) ≡ true →
+    list_all is_row later ≡ true → list_all is_row (zeros ∷ later) ≡ true
+zeros_typed zeros later len begins typed =
+    and_from (is_row zeros) (list_all is_row later)
+    (ap is_row (sym (zeros_are 16 zeros len begins))) typed
+
 some_row : (rows : List (List ℕ)) → begins_with_zeros rows ≡ true → 0 < length rows
 some_row [] zeros = absurd cc
 some_row (row ∷ rows) zeros = omega arith
@@ -121,3 +129,19 @@ bounded table sound =
       words = shape.small;
       rows = some_row table.rows shape.zeros;
     }
+
+-- row 0 of a sound table has zeros
+pub zeros_of : (table : TableView) → sound_fault table ≡ None → begins_with_zeros table.rows ≡ true
+zeros_of table sound = (sound_parts table sound).shape.zeros
+
+-- a pair is written: its magic, its version and its two tables
+pub pair_written : (pair : PairView) (none one two three all : List ℕ) → none ≡ [] → one ≡ none ++ spelled 4 magic →
+    two ≡ one ++ spelled 4 2 → three ≡ two ++ spelled_table Two 4 pair.ip4 → all ≡ three ++ spelled_table Two 6 pair.ip6 →
+    all ≡ spelled_pair Two pair
+unfolding spelled_pair
+pair_written pair none one two three all a b c d e = rw (e, d, c, b, a) (simp append_assoc)
+
+-- what follows from a fact about an answer that is Ok
+pub on_ok : {A E P Q : Type 0} (result : Result A E) → (P → Q) → OnOk result P → OnOk result Q
+on_ok (Ok x) then h = then h
+on_ok (Err fault) then h = tt
