@@ -75,7 +75,7 @@ counts_spelled family bytes at c rest small few_rules few_tries few_rows e =
     }
 
 -- a row of so many zeros
-zeros_are : (n : ℕ) (row : List ℕ) → length row ≡ n → list_all (λ word. word == 0) row ≡ true → replicate n 0 ≡ row
+pub zeros_are : (n : ℕ) (row : List ℕ) → length row ≡ n → list_all (λ word. word == 0) row ≡ true → replicate n 0 ≡ row
 zeros_are zero [] len zeros = refl
 zeros_are zero (word ∷ row) len zeros = absurd (omega arith)
 zeros_are (suc n) [] len zeros = absurd (omega arith)

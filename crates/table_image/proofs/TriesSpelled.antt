@@ -29,7 +29,7 @@ record KeptOf (version : Version) (key_len : ℕ) (bytes : List ℕ) (at kept : 
   pub next : drop (at + kept_len version) bytes ≡ rest
 
 -- a word of kept groups is below the power of two that a key of so many groups has
-kept_small : (key_len kept : ℕ) → 2 ^ groups_of key_len ≤ 256 ^ short → is_kept_word key_len kept ≡ true → fits short kept ≡ true
+pub kept_small : (key_len kept : ℕ) → 2 ^ groups_of key_len ≤ 256 ^ short → is_kept_word key_len kept ≡ true → fits short kept ≡ true
 kept_small key_len kept few keeps =
     let parts = and_parts (nat_lt 0 kept) (kept / 2 ^ groups_of key_len == 0) keeps in
     let none : kept / 2 ^ groups_of key_len ≡ 0 = eqb-true _ _ parts.1 in

@@ -2,7 +2,7 @@
 
 ghost use Rattle.std.specs.Prelude.{◌≡◌, ◌+◌, ◌-◌, ◌*◌, ◌≤◌, ◌<◌, ◌^◌, ◌++◌, length, OnOk, IfOk, true, None};
 ghost use Rattle.std.specs.List.{flat_map, list_all};
-ghost use Rattle.flat_table.specs.Sound.{sound_fault};
+ghost use Rattle.flat_table.specs.Sound.{begins_with_zeros, sound_fault};
 ghost use Rattle.table_image.specs.declared.version.Version.TheVariants.{Two};
 ghost use Rattle.table_image.specs.Spelling.{spelled, all_spelled, spelled_tries, spelled_rows, spelled_table, spelled_pair};
 ghost use Rattle.table_image.specs.Spelling.{is_word, is_row, HasWords, CanBeSaved, IsImage};
@@ -69,7 +69,7 @@ fn put_rows(out: &mut Vec<u8>, rows: &[[u64; ROW_LEN]]) -> Result<(), AllocError
 
 /// Puts the bytes of all rows but the first after the others.
 fn put_later_rows(out: &mut Vec<u8>, rows: &[[u64; ROW_LEN]]) -> Result<(), AllocError>
-    requires { 0 < length rows.now }
+    requires { begins_with_zeros rows.now ≡ true }
     ensures text { OnOk result (out.new.items ≡ out.old.items ++ spelled_rows rows.now) }
     ensures typed { OnOk result (list_all is_row rows.now ≡ true) }
 {
@@ -81,6 +81,7 @@ fn put_later_rows(out: &mut Vec<u8>, rows: &[[u64; ROW_LEN]]) -> Result<(), Allo
 
 /// How many rows there are after row 0.
 fn rows_after_first(table: &Table) -> u32
+    requires { sound_fault table.now ≡ None }
     ensures value { result ≡ length table.now.rows - 1 }
     ensures some { 0 < length table.now.rows }
 {
@@ -120,7 +121,8 @@ fn put_table(out: &mut Vec<u8>, family: u32, table: &Table) -> Result<(), AllocE
     put_short(out, rows_after_first(table))?;
     put_tries(out, table)?;
     put_words(out, table.words())?;
-    put_later_rows(out, table.rows())
+    put_later_rows(out, table.rows())?;
+    Ok(())
 }
 
 /// How many bytes the image has of a table.
