@@ -4,6 +4,7 @@
 mod counts;
 mod fault;
 mod field;
+pub mod laws;
 mod list;
 mod loading;
 mod pair;
