@@ -11,6 +11,8 @@ mod pair;
 mod rows;
 mod saving;
 mod table;
+#[cfg(test)]
+mod tests;
 mod tries;
 mod version;
 mod words;
