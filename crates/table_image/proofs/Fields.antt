@@ -1,14 +1,13 @@
 -- A number in network order is read as it is spelled, and spelled as it is read.
 use Rattle.std.proofs.Common.{◌≡◌, ℕ, zero, suc, ◌+◌, ◌-◌, ◌*◌, ◌/◌, ◌%◌, ◌^◌, ◌<◌, ◌≤◌, List, [], ◌∷◌, ◌++◌, length, take, drop, fold}
 use Rattle.std.proofs.Common.{refl, sym, ap, ◌∙◌, arith, Bool, true, false, All, length-append, get_or}
-use Rattle.std.proofs.Math.Nat.{pow-succ', add-mul, mul_assoc, mul-le-mul_right, mod-eq_of_lt, div-one}
+use Rattle.std.proofs.Math.Nat.{pow-succ', add-mul, mul_assoc, mul-le-mul_right, mod-eq_of_lt, div-one, one-le-pow, mod-one}
 use Rattle.std.proofs.lemmas.List.{get_or_default, take_all, take_at, drop_at, drop-drop, take-append-drop, length-take-le}
 use Rattle.std.proofs.lemmas.List.Elements.{All-head, All-tail, All-take, All-drop}
-use Rattle.std.proofs.lemmas.Nat.{div-mul-add}
+use Rattle.std.proofs.lemmas.Nat.{div-mul-add, div-add-mod'}
 use Rattle.std.specs.Int.{byte_at, bytes_high_first}
-use Rattle.byteorder.specs.Numbers.{length-bytes_high_first, big_from-bytes}
 use Rattle.byte_numbers.specs.Number.{number_of, number_at}
-use Rattle.byte_numbers.proofs.Orders.{number_of-take}
+use Rattle.list_lemmas.proofs.Numbers.{byte_of_end, end_of_end}
 use Rattle.table_image.specs.Spelling.{spelled}
 
 -- numbers below 256
@@ -59,14 +58,35 @@ pub spelled_again : (size : ℕ) (bs : List ℕ) → length bs ≡ size → AreB
 unfolding spelled
 spelled_again size bs len small = rw (← len) (high_first-fold 0 bs small)
 
+-- a number has as many bytes as it is spelled by
+length-high_first : (size n : ℕ) → length (bytes_high_first size n) ≡ size
+length-high_first zero n = refl
+length-high_first (suc size) n = ap suc (length-high_first size n)
+
 pub length_spelled : (size n : ℕ) → length (spelled size n) ≡ size
 unfolding spelled
-length_spelled size n = length-bytes_high_first size n
+length_spelled size n = length-high_first size n
+
+-- the bytes of a number, read after another one: that one moves up, and the number's end is added
+fold-high_first : (acc size n : ℕ) →
+    fold (λ m b. m * 256 + b) acc (bytes_high_first size n) ≡ acc * 256 ^ size + n % 256 ^ size
+fold-high_first acc zero n = omega (arith, mod-one n)
+fold-high_first acc (suc size) n =
+    let m : ℕ = 256 ^ size in
+    let some : 0 < m = one-le-pow size 256 (omega arith) in
+    let rest = fold-high_first (acc * 256 + byte_at size n) size n in
+    let power : 256 ^ suc size ≡ 256 * m = pow-succ' 256 size in
+    let split : n % (256 * m) / m * m + n % (256 * m) % m ≡ n % (256 * m) = div-add-mod' (n % (256 * m)) m in
+    let high : n % (256 * m) / m ≡ byte_at size n = byte_of_end n m some ∙ sym (byte_at-power size n) in
+    let low : n % (256 * m) % m ≡ n % m = end_of_end n m some in
+    let joined : byte_at size n * m + n % m ≡ n % (256 * m) = rw (high, low) at split in
+    let parts : (acc * 256 + byte_at size n) * m ≡ acc * 256 * m + byte_at size n * m = add-mul (acc * 256) (byte_at size n) m in
+    let whole : acc * 256 * m ≡ acc * (256 * m) = mul_assoc acc 256 m in
+    rw power (omega (arith, rest, parts, whole, joined))
 
 -- a number that was spelled is read again, whatever stands after it
 pub read_again : (size n : ℕ) (rest : List ℕ) → n < 256 ^ size → number_of (take size (spelled size n ++ rest)) ≡ n
 unfolding spelled
 read_again size n rest small =
-    let len = length-bytes_high_first size n in
-    number_of-take size (bytes_high_first size n ++ rest) (omega (arith, length-append (bytes_high_first size n) rest))
-    ∙ big_from-bytes size n rest ∙ mod-eq_of_lt small
+    ap number_of (take_at (bytes_high_first size n) rest size (length-high_first size n))
+    ∙ fold-high_first 0 size n ∙ omega (arith, mod-eq_of_lt small)

@@ -70,8 +70,11 @@ counts_spelled family bytes at c rest small few_rules few_tries few_rows e =
           (λ tries. tested TooMany short rows_test bytes (at + 12) >>= λ rows. Ok (made c.rules tries rows)) c.tries _ tries_read
           (both (tested TooMany short rows_test bytes (at + 12)) (λ rows. Ok (made c.rules c.tries rows)) c.rows _ rows_read refl)));
       next = ap (λ k. drop k bytes) (omega arith) ∙ after_field short bytes (at + 12) c.rows rest rows_text;
-      within = omega (arith, within (at + 12) bytes (spelled short c.rows) rest rows_text (omega (arith, length_spelled short c.rows)),
-          length_spelled short c.rows);
+      within = omega (
+        arith,
+        within (at + 12) bytes (spelled short c.rows) rest rows_text (omega (arith, length_spelled short c.rows)),
+        length_spelled short c.rows,
+      );
     }
 
 -- a row of so many zeros
@@ -190,9 +193,15 @@ table_spelled version family bytes at table rest small few is e =
           rows _ rows_read (ap Ok same))));
       next = ap (λ k. drop k bytes) (omega (arith, length-rows rows b.typed))
           ∙ after rows_from bytes rows_bytes rest rows_text;
-      within = omega (arith, inside rows_from bytes rows_bytes rest (omega (arith,
-          inside t.end bytes (all_spelled long table.words) rows_rest t.within t.next, length-all_spelled long table.words)) rows_text,
-          length-rows rows b.typed);
+      within = omega (
+        arith,
+        inside rows_from bytes rows_bytes rest (omega (
+          arith,
+          inside t.end bytes (all_spelled long table.words) rows_rest t.within t.next,
+          length-all_spelled long table.words,
+        )) rows_text,
+        length-rows rows b.typed,
+      );
     }
   where
     table_with : List (List ℕ) → ℕ → TableRead

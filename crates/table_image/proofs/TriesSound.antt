@@ -81,8 +81,7 @@ sound_are version key_len taken from (kept ∷ others) (root ∷ roots) lens s =
     (list_all root_leads (zip roots (portions (map (depth_of key_len) others) (drop d (levels_from from lens))))) s.leads in
     let groups : version ≡ One → (kept ≡ all_groups key_len) × (list_all (λ word. word == all_groups key_len) others ≡ true) =
     λ one. (let both = and_parts (kept == all_groups key_len) (list_all (λ word. word == all_groups key_len) others) (s.groups one) in
-    (eqb-true kept (all_groups key_len) both.0, both.1)) in
-    (
+    (eqb-true kept (all_groups key_len) both.0, both.1)) in (
       record {
         keeps = keeps.0;
         groups = λ one. (groups one).0;

@@ -60,8 +60,7 @@ fit_levels : (taken : ℕ) (first lens : List ℕ) → taken + sum (first ++ len
 fit_levels taken first [] fit = tt
 fit_levels taken first (len ∷ lens) fit =
     let total : sum (first ++ len ∷ lens) ≡ sum first + (len + sum lens) =
-    sum_by-append (λ n. n) first (len ∷ lens) ∙ ap (λ n. sum first + n) (sum_by-cons (λ n. n) len lens) in
-    (
+    sum_by-append (λ n. n) first (len ∷ lens) ∙ ap (λ n. sum first + n) (sum_by-cons (λ n. n) len lens) in (
       le-leb (taken + sum first + len) max_words (omega (arith, fit, total)),
       fit_levels taken (first ++ len ∷ []) lens (rw (append_assoc first (len ∷ []) lens) fit),
     )
@@ -121,8 +120,11 @@ one_spelled version key_len taken bytes tries kept root own rest few is e =
           (both (tested Unsound long (leads_into (first_level (levels_from (sum tries.level_lens) own))) bytes root_at)
           (λ r. Ok (with_trie tries kept r own end)) root _ root_read refl));
       next = after_field long bytes root_at root rest root_text;
-      within = omega (arith, within root_at bytes (spelled long root) rest root_text (omega (arith, length_spelled long root)),
-          length_spelled long root);
+      within = omega (
+        arith,
+        within root_at bytes (spelled long root) rest root_text (omega (arith, length_spelled long root)),
+        length_spelled long root,
+      );
     }
 
 -- tries after others

@@ -46,7 +46,12 @@ impl Counts {
         let rules = short(bytes, at + 4)?;
         let rules = checked(rules, rules <= MAX_RULES, ImageKind::TooMany, at + 4)?;
         let tries = short(bytes, at + 8)?;
-        let tries = checked(tries, tries as usize <= MAX_TRIES, ImageKind::TooMany, at + 8)?;
+        let tries = checked(
+            tries,
+            tries as usize <= MAX_TRIES,
+            ImageKind::TooMany,
+            at + 8,
+        )?;
         let rows = short(bytes, at + 12)?;
         let rows = checked(rows, has_room(rows), ImageKind::TooMany, at + 12)?;
         Ok(Counts { rules, tries, rows })

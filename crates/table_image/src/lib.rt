@@ -4,12 +4,15 @@
 mod counts;
 mod fault;
 mod field;
+pub mod laws;
 mod list;
 mod loading;
 mod pair;
 mod rows;
 mod saving;
 mod table;
+#[cfg(test)]
+mod tests;
 mod tries;
 mod version;
 mod words;

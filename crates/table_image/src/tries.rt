@@ -11,7 +11,7 @@ ghost use Rattle.table_image.specs.Reading.{numbers, tested, level_fits, kept_gr
 ghost use Rattle.table_image.specs.Loading.{IsFaultOf, tries_of};
 
 use crate::fault::{ImageFault, ImageKind, LoadFault};
-use crate::field::{checked, long, short, LONG, SHORT};
+use crate::field::{LONG, SHORT, checked, long, short};
 use crate::list::push;
 use crate::version::Version;
 use flat_table::{Level, depth_of, is_kept_word};
@@ -65,12 +65,7 @@ fn sum_of(lens: &[u32]) -> usize
 }
 
 /// The kept groups of a trie.
-fn kept_groups(
-    version: Version,
-    key_len: u32,
-    bytes: &[u8],
-    at: usize,
-) -> Result<u128, ImageFault>
+fn kept_groups(version: Version, key_len: u32, bytes: &[u8], at: usize) -> Result<u128, ImageFault>
     requires key { IsTrue (is_key_len key_len) }
     requires inside { at ≤ length bytes.now }
     ensures kept { result ≡ kept_groups version key_len bytes.now at }

@@ -10,7 +10,7 @@ ghost use Rattle.table_image.specs.Reading.{numbers_after, words_of_levels, word
 ghost use Rattle.table_image.specs.Loading.{IsFaultOf, levels_of_tries};
 
 use crate::fault::{ImageKind, LoadFault};
-use crate::field::{checked, long, LONG};
+use crate::field::{LONG, checked, long};
 use crate::list::push;
 use crate::tries::Tries;
 use flat_table::{Level, depth_of, is_sound_word};
@@ -40,7 +40,12 @@ fn read_level(
     let mut at = from + LONG * words.len();
     for word in 0..count {
         let number = long(bytes, at)?;
-        let number = checked(number, is_sound_word(rows, next, number), ImageKind::Unsound, at)?;
+        let number = checked(
+            number,
+            is_sound_word(rows, next, number),
+            ImageKind::Unsound,
+            at,
+        )?;
         push(words, number)?;
         at += LONG;
     }

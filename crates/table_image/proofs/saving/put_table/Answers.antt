@@ -12,9 +12,20 @@ put_later_rows-requires c =
 pub returns-clause-text : goal.returns-clause-text
 unfolding spelled_table
 returns-clause-text c =
-    rw (c.in_ok-put_later_rows.ensures.text, c.in_ok-put_words.ensures.text, c.in_ok-put_tries.ensures.text, c.in_ok-put_short-4.ensures,
-    c.in_ok-put_short-3.ensures, c.in_ok-put_short-2.ensures, c.in_ok-put_short.ensures, c.rows.ensures, c.words.ensures,
-    c.rows_after_first.ensures.value, c.tries.ensures.value, c.rules.ensures) (simp append_assoc)
+    rw (
+      c.in_ok-put_later_rows.ensures.text,
+      c.in_ok-put_words.ensures.text,
+      c.in_ok-put_tries.ensures.text,
+      c.in_ok-put_short-4.ensures,
+      c.in_ok-put_short-3.ensures,
+      c.in_ok-put_short-2.ensures,
+      c.in_ok-put_short.ensures,
+      c.rows.ensures,
+      c.words.ensures,
+      c.rows_after_first.ensures.value,
+      c.tries.ensures.value,
+      c.rules.ensures,
+    ) (simp append_assoc)
 
 pub returns-clause-typed : goal.returns-clause-typed
 returns-clause-typed c = record {

@@ -17,8 +17,12 @@ split_at-requires c =
 
 pub overflow_cast-kept : goal.overflow_cast-kept
 overflow_cast-kept c =
-    omega (arith, c.kept.ensures, kept_fits c.args.table.now c.loop-trie.trie c.loop-trie.invariant.sound c.requires.keys
-    (omega (arith, kept_count c.args.table.now c.loop-trie.invariant.sound)))
+    omega (
+      arith,
+      c.kept.ensures,
+      kept_fits c.args.table.now c.loop-trie.trie c.loop-trie.invariant.sound c.requires.keys
+          (omega (arith, kept_count c.args.table.now c.loop-trie.invariant.sound)),
+    )
 
 pub loop-trie-init : goal.loop-trie-init
 loop-trie-init c = record {
@@ -54,8 +58,11 @@ loop-trie-preserved c =
           ∙ trie_written table.key_len i table.kept table.roots c.loop-trie.lens.now c.loop-trie.out.items c.put_long.new.out.items
           within within' next
           ∙ c.loop-trie.invariant.rest;
-      levels = ap length back ∙ omega (arith, length-drop d c.loop-trie.lens.now,
-          levels_left (depth_of table.key_len) i table.kept c.loop-trie.lens.now within c.loop-trie.invariant.levels);
+      levels = ap length back ∙ omega (
+        arith,
+        length-drop d c.loop-trie.lens.now,
+        levels_left (depth_of table.key_len) i table.kept c.loop-trie.lens.now within c.loop-trie.invariant.levels,
+      );
       typed = list_all_more is_word table.roots i 0 within'
           ∙ and_from (list_all is_word (take i table.roots)) (is_word (get_or table.roots i 0)) c.loop-trie.invariant.typed
           (lt-ltb (get_or table.roots i 0) (2 ^ 64) (omega (arith, c.root.ensures.value, c.root.type_inv)));

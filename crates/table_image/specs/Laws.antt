@@ -1,0 +1,24 @@
+-- Laws of images, over their definitions alone.
+use Rattle.std.specs.Prelude.{◌≡◌, ℕ, ◌<◌, ◌⊎◌, List, All, Ok}
+use Rattle.table_image.specs.declared.version.Version.{Version}
+use Rattle.table_image.specs.declared.version.Version.TheVariants.{One, Two}
+use Rattle.table_image.specs.Spelling.{PairView, spelled_pair, IsSaved, IsImage}
+use Rattle.table_image.specs.Reading.{image_of}
+
+-- In each version a pair has at most one image. No two pairs share one, whatever their versions.
+pub record OneSpelling : Type 0 where
+  pub one : (version : Version) (pair : PairView) (bytes other : List ℕ) →
+      IsImage version bytes pair → IsImage version other pair → bytes ≡ other
+  pub shared : (version second : Version) (pair other : PairView) (bytes : List ℕ) →
+      IsImage version bytes pair → IsImage second bytes other → pair ≡ other
+
+-- What is read of bytes is the pair of which they are the image, and of every image its pair is
+-- read. So bytes have a first failing check exactly where they are the image of no pair. What is
+-- saved of a pair is read as that pair.
+pub record ReadsImages : Type 0 where
+  pub read : (bytes : List ℕ) (pair : PairView) → All (λ byte. byte < 256) bytes →
+      image_of bytes ≡ Ok pair → IsImage One bytes pair ⊎ IsImage Two bytes pair
+  pub image : (version : Version) (bytes : List ℕ) (pair : PairView) →
+      IsImage version bytes pair → image_of bytes ≡ Ok pair
+  pub saved : (version : Version) (pair : PairView) → IsSaved version 13 pair.ip4 →
+      IsSaved version 37 pair.ip6 → image_of (spelled_pair version pair) ≡ Ok pair
