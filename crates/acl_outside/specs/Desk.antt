@@ -1,43 +1,10 @@
--- What a desk shows of the files that it reads and makes, what it answered so far, and what each
--- call changes of that.
+-- What each call of a desk changes of what the desk shows.
 use Rattle.std.specs.Prelude.{◌≡◌, ◌≢◌, ℕ, ◌<◌, ◌≤◌, ◌⊎◌, List, [], ◌∷◌, ◌++◌, length, take, Bool, false, Option, Some, None, Result, Ok, Err, is_ok, IsSome, IfOk, OnOk, OnErr, if◌then◌else◌}
 use Rattle.std.specs.Str.{bytes_eq}
+pub use Rattle.acl_outside.specs.View.{File, Content, DeskView}
+pub use Rattle.acl_outside.specs.View.{Answer, Opening, Reading, Creating, Writing, Finishing}
 use Rattle.acl_outside.specs.Fault.{Rose}
 use Rattle.acl_outside.specs.Told.{Steps}
-
--- a file: its name and its bytes
-pub record File : Type 0 where
-  pub name : List ℕ
-  pub bytes : List ℕ
-
--- the files of a desk, the name of the opened one, what is left to read of it, and the name of the
--- one that is created and not finished
-pub record Content : Type 0 where
-  pub files : List File
-  pub opened : Option (List ℕ)
-  pub left : List ℕ
-  pub created : Option (List ℕ)
-
--- An answer of a desk: the file of this name was opened or not, a read with room for so many bytes
--- gave these or failed, the file of this name was created or not, a write took these bytes or
--- failed, or the created file was finished or not.
-pub data Answer : Type 0 where
-  Opening : (name : List ℕ) → (succeeded : Bool) → Answer
-  Reading : (room : ℕ) → (given : Option (List ℕ)) → Answer
-  Creating : (name : List ℕ) → (succeeded : Bool) → Answer
-  Writing : (taken : Option (List ℕ)) → Answer
-  Finishing : (succeeded : Bool) → Answer
-
--- What a desk shows: its files where it tells them, its answers so far, newest first, whether a
--- file is opened, whether one is created and not finished, and the counts of its faults.
-pub record DeskView : Type 0 where
-  pub content : Option Content
-  pub answers : List Answer
-  pub reading : Bool
-  pub writing : Bool
-  pub read_faults : ℕ
-  pub absent : ℕ
-  pub write_faults : ℕ
 
 -- the last call that wasn't a read or a write was a finish that succeeded
 abbrev pub is_finished : List Answer → Bool

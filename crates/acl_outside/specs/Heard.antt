@@ -1,6 +1,6 @@
 -- What a desk gave of its files, read off its answers.
 use Rattle.std.specs.Prelude.{◌≡◌, ℕ, ◌==◌, List, [], ◌∷◌, ◌++◌, Bool, true, false, Option, Some, None, if◌then◌else◌}
-use Rattle.acl_outside.specs.Desk.{Answer, Opening, Reading, DeskView}
+use Rattle.acl_outside.specs.View.{Answer, Opening, Reading, DeskView}
 
 -- How the reading of a file stands: it couldn't be opened, more of it may come, its end was met, or
 -- a read failed.

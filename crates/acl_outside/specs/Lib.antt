@@ -1,6 +1,7 @@
 pub mod Note
 pub mod Fault
 pub mod Told
+pub mod View
 pub mod Desk
 pub mod Sink
 pub mod Answers

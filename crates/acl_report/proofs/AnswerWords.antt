@@ -3,7 +3,8 @@ use Rattle.std.proofs.Common.{◌≡◌, ℕ, ◌+◌, ◌<◌, List, [], ◌∷
 use Rattle.std.proofs.Common.{ap, ◌∙◌}
 use Rattle.std.proofs.lemmas.List.{map-append, map_more, take-map, take_all, flat_map_more, length-map}
 use Rattle.acl_report.specs.Line.{space, spaced}
-use Rattle.acl_report.specs.Packet.{answer, answer_word, answers}
+use Rattle.acl_report.specs.Packet.{answer_word}
+use Rattle.acl_report.specs.Verdicts.{answer, answers}
 
 -- one more of the answers, after those before it
 pub answers_more : (verdicts : List ℕ) (dashes : List Bool) (n : ℕ) (pair : ℕ × Bool) →

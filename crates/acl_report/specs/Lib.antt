@@ -1,4 +1,5 @@
 pub mod Counts
+pub mod Counting
 pub mod CountsExamples
 pub mod Laws
 pub mod Line
@@ -6,3 +7,4 @@ pub mod Packet
 pub mod PacketExamples
 pub mod Tables
 pub mod TablesExamples
+pub mod Verdicts

@@ -1,7 +1,5 @@
 -- The line of a packet: what is printed of a record of a capture.
-use Rattle.std.specs.Prelude.{ℕ, List, [], ◌∷◌, map, Bool, Option, Some, None, codes, decimal}
-use Rattle.std.specs.Prelude.{if◌then◌else◌}
-use Rattle.std.specs.List.{zip}
+use Rattle.std.specs.Prelude.{ℕ, List, [], ◌∷◌, map, Option, Some, None, codes, decimal}
 use Rattle.header_extract.specs.declared.class.Class.{Class}
 use Rattle.header_extract.specs.declared.class.Class.TheVariants.{Ip4, Ip6, Other, Short}
 use Rattle.acl_report.specs.Line.{line_of}
@@ -29,11 +27,3 @@ answer_words Short answers = answer_word None ∷ []
 abbrev pub packet_text : ℕ → Class → List (Option ℕ) → List ℕ
 packet_text number class answers =
     line_of (decimal number) (class_word class ∷ answer_words class answers)
-
--- a verdict, or none where a dash stands for it
-abbrev pub answer : ℕ → Bool → Option ℕ
-answer verdict dash = if dash then None else Some verdict
-
--- the verdicts, and none where a dash stands
-abbrev pub answers : List ℕ → List Bool → List (Option ℕ)
-answers verdicts dashes = map (λ pair. answer pair.0 pair.1) (zip verdicts dashes)

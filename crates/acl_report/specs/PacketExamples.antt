@@ -4,7 +4,8 @@ use Rattle.std.specs.Prelude.{codes, refl}
 use Rattle.std.specs.Fmt.{digits}
 use Rattle.header_extract.specs.declared.class.Class.TheVariants.{Ip4, Ip6, Other, Short}
 use Rattle.acl_report.specs.Line.{line_feed}
-use Rattle.acl_report.specs.Packet.{answers, packet_text}
+use Rattle.acl_report.specs.Packet.{packet_text}
+use Rattle.acl_report.specs.Verdicts.{answers}
 
 -- a text and the LF after it
 abbrev line : List ℕ → List ℕ

@@ -19,7 +19,7 @@ pub struct Counts {
 }
 
 impl Counts {
-    ghost use Rattle.acl_report.specs.Counts.{CountsFit, counted};
+    ghost use Rattle.acl_report.specs.Counting.{CountsFit, counted};
 
     /// Counts one more record, which is of the class.
     ///

@@ -4,7 +4,8 @@ ghost use Rattle.std.specs.Prelude.{◌≡◌, ◌+◌, ◌*◌, ◌≤◌, ◌�
 ghost use Rattle.acl_report.specs.declared.line.TheConstants.{LINE_ROOM};
 ghost use Rattle.acl_report.specs.declared.packet.TheConstants.{MAX_VERDICTS, VERDICT_ROOM};
 ghost use Rattle.acl_report.specs.Line.{space, spaced};
-ghost use Rattle.acl_report.specs.Packet.{answer, answers, answer_word, packet_text};
+ghost use Rattle.acl_report.specs.Packet.{answer_word, packet_text};
+ghost use Rattle.acl_report.specs.Verdicts.{answer, answers};
 
 use crate::line::{LINE_ROOM, append, append_number, append_short};
 use header_extract::Class;

@@ -1,25 +1,30 @@
 -- How `classify` ends, link by link.
-use Rattle.std.proofs.Common.{◌≡◌, ℕ, List, true, false, Some, None, Ok, Err, inl, inr, sym, subst, ap, ◌∙◌}
+use Rattle.std.proofs.Common.{◌≡◌, ◌≢◌, ℕ, List, ◌∷◌, length, false, Option, None, Result, Ok, Err}
+use Rattle.std.proofs.Common.{inl, inr, refl, sym, subst, ap, ◌∙◌, arith}
 use Rattle.std.proofs.lemmas.Bool.{false≢true}
 use Rattle.acl_outside.specs.Desk.{File, DeskView}
-use Rattle.classbench_reader.specs.RuleFile.{RuleLists}
+use Rattle.acl_outside.specs.Heard.{Heard}
+use Rattle.classbench_reader.specs.declared.fault.LineFault.{LineFault}
+use Rattle.classbench_reader.specs.RuleFile.{RuleLists, rule_file_of}
 use Rattle.command_plan.specs.declared.status.Status.{Status}
 use Rattle.command_plan.specs.declared.status.Status.TheVariants.{RulesRefused}
 use Rattle.command_words.specs.Options.{Options}
 use Rattle.command_words.specs.Command.{Classify}
+use Rattle.capture_report.specs.ReportForm.{ReportForm}
 use Rattle.capture_report.specs.Classifier.{ByRules, Tables}
 use Rattle.capture_report.specs.CaptureOutcome.{reported}
 use Rattle.capture_report.specs.PrintsCapture.{KeepsUp, Reports}
 use Rattle.capture_report.proofs.Offered.{report-begins}
-use Rattle.command_plan.specs.Plan.{Outcome, Plan, Give, ◌>>=◌}
+use Rattle.command_plan.specs.Plan.{Outcome, Plan, Give, ◌>>=◌, unless_refused}
 use Rattle.command_plan.specs.Endings.{is_reported, is_usage, is_decided}
-use Rattle.command_plan.specs.Effects.{Outside, Takes, Ends}
+use Rattle.command_plan.specs.Follow.{Reached, Given, Follows}
+use Rattle.command_plan.specs.Effects.{Outside, Takes, Ends, files_of, heard_of}
 use Rattle.command_plan.proofs.Offered.{BeginsWith-nothing, IsFaithful, faithful_unless, unwritten}
 use Rattle.command_plan.proofs.Offered.{Ends-stopped, Ends-full, Ends-cut, Ends-then}
-use Rattle.acl_tool.specs.RuleTables.{rules_of_bytes, rules_in, tables_within}
+use Rattle.acl_tool.specs.RuleTables.{refused_rules, rules_of_bytes, rules_in, tables_within}
 use Rattle.acl_tool.specs.ClassifyPlan.{form_of, classify_plan}
-use Rattle.acl_tool.specs.Built.{Refuses}
-use Rattle.acl_tool.specs.Effects.{Answers}
+use Rattle.acl_tool.specs.Built.{Refuses, WordsAreTotals}
+use Rattle.acl_tool.specs.Effects.{Answers, HasTotals}
 use Rattle.acl_tool.proofs.Answering.{Answers-request}
 use Rattle.acl_tool.proofs.RuleFiles.{tables_faithful}
 
@@ -51,6 +56,7 @@ answered_early rules capture options old new status ends lawful unreported =
       ends = ends;
       lawful = lawful;
       opened = λ files told reported. absurd (false≢true (sym unreported ∙ reported));
+      totals = λ reported. absurd (false≢true (sym unreported ∙ reported));
       keeps_up = λ w. absurd (unwritten status unreported w);
     }
 
@@ -109,13 +115,61 @@ keeps_up_later capture old new mid k = record {
   few = k.few;
 }
 
+-- the rule file was heard of which the rules are
+rules_heard : (name : List ℕ) (told : Option (List File)) (old new : List Heard) (reached : Reached RuleLists)
+    (lists : RuleLists) → Follows told (rules_in RulesRefused name) old new reached → reached ≡ Given lists →
+    (file : Heard) × (new ≡ file ∷ old) × (rule_file_of file.bytes ≡ Ok lists)
+rules_heard name told old new reached lists (inl before) is = absurd (let e = sym (before.1) ∙ is in cc)
+rules_heard name told old new reached lists (inr (file, named, part, inl within)) is =
+    absurd (let e = sym (within.1) ∙ is in cc)
+rules_heard name told old new reached lists (inr (file, named, part, inr (enough, rest))) is =
+    go (rule_file_of file.bytes) refl rest
+  where
+    go : (result : Result RuleLists LineFault) → rule_file_of file.bytes ≡ result →
+        Follows told (unless_refused (refused_rules RulesRefused result)) (file ∷ old) new reached →
+        (heard : Heard) × (new ≡ heard ∷ old) × (rule_file_of heard.bytes ≡ Ok lists)
+    go (Ok all) at follows =
+        let same : all ≡ lists = (let e = sym (follows.1) ∙ is in cc) in
+        (file, follows.0, at ∙ ap Ok same)
+    go (Err fault) at follows = absurd (let e = sym (follows.1) ∙ is in cc)
+
+-- a file that was heard after others isn't among them
+heard_more : (file : Heard) (old : List Heard) → old ≢ file ∷ old
+heard_more file old is = omega (arith, ap length is)
+
+-- a report hears the capture alone
+heard_before : (form : ReportForm) (name : List ℕ) (told : Option (List File)) (old mid new : List Heard)
+    (reached : Reached Outcome) (first rule_file file : Heard) → Follows told (reported form name) mid new reached →
+    mid ≡ first ∷ old → new ≡ file ∷ rule_file ∷ old → rule_file ≡ first
+heard_before form name told old mid new reached first rule_file file (inl before) at is =
+    absurd (heard_more rule_file old (let e = sym at ∙ sym (before.0) ∙ is in cc))
+heard_before form name told old mid new reached first rule_file file (inr (one, named, part, inl within)) at is =
+    let e = sym (within.0) ∙ is in let f = sym at in cc
+heard_before form name told old mid new reached first rule_file file (inr (one, named, part, inr (enough, rest))) at
+    is =
+    let e = sym (rest.0) ∙ is in let f = sym at in cc
+
+-- the words of the tables are the totals of the rules that were heard
+has_totals : (rules capture : List ℕ) (options : Options) (form : ReportForm) (told now : Option (List File))
+    (old mid new : List Heard) (first : Reached RuleLists) (last : Reached Outcome) (lists : RuleLists) →
+    Follows told (rules_in RulesRefused rules) old mid first → first ≡ Given lists →
+    Follows now (reported form capture) mid new last → WordsAreTotals lists options.max_words →
+    HasTotals (Classify rules capture options) old new
+has_totals rules capture options form told now old mid new first last lists follows is later totals rule_file file other
+    newest accepted =
+    let (heard, next, read) = rules_heard rules told old mid first lists follows is in
+    let same = heard_before form capture now old mid new last heard rule_file file later next newest in
+    let lists_same : other ≡ lists =
+    (let e = sym accepted ∙ ap (λ (h : Heard). rule_file_of h.bytes) same ∙ read in cc) in
+    subst (λ (l : RuleLists). WordsAreTotals l options.max_words) (sym lists_same) totals
+
 -- the report is printed
 pub Answers-reported : {X : Type 0} (rules capture : List ℕ) (options : Options) (seen : X → RuleLists)
     (old new : Outside) (status : Status) (has : HasRules rules seen old) (tables : Tables) →
-    tables_within options.max_words (seen has.set) ≡ Give tables →
+    tables_within options.max_words (seen has.set) ≡ Give tables → WordsAreTotals (seen has.set) options.max_words →
     Reports (form_of (ByRules (seen has.set)) tables options) capture (with_rules rules seen old has) new status →
     Answers (Ok (Classify rules capture options)) old new status
-Answers-reported rules capture options seen old new status has tables within reports =
+Answers-reported rules capture options seen old new status has tables within totals reports =
     Answers-request (Classify rules capture options) old new status
     record {
       faithful = classify_faithful rules capture options;
@@ -125,6 +179,10 @@ Answers-reported rules capture options seen old new status has tables within rep
           Ends (plan >>= report_by options capture (seen has.set)) (with_rules rules seen old has) new status)
           (sym within) reports.ends);
       lawful = reports.lawful;
+      totals = λ reported. has_totals rules capture options (form_of (ByRules (seen has.set)) tables options)
+          (files_of old.desk) (files_of has.desk) (heard_of old.desk) (heard_of has.desk) (heard_of new.desk)
+          has.step.reached reports.ends.reached (seen has.set) has.step.follows has.step.answer reports.ends.follows
+          totals;
       opened = λ files told reported. reports.opened files (has.step.kept.files ∙ told) reported;
       keeps_up = λ w. keeps_up_later capture old new has.desk (reports.keeps_up w);
     }

@@ -3,3 +3,8 @@ mod RuleFiles
 mod Making
 mod Classifying
 mod Benching
+mod GivenOptions
+mod Asked
+mod ReadOn
+mod Printing
+mod Sizing

@@ -16,10 +16,12 @@ use Rattle.flat_table.specs.Walk.{joined, table_verdict}
 use Rattle.table_fill.specs.Serves.{Serves}
 use Rattle.acl_context.specs.Context.{built_of}
 use Rattle.classbench_reader.specs.RuleFile.{RuleLists}
-use Rattle.capture_report.specs.Classifier.{Tables, ByRules, AnswersAs, answer_of_rules, answer_of_table}
+use Rattle.capture_report.specs.Shown.{answer_of_rules}
+use Rattle.capture_report.specs.Classifier.{Tables, ByRules, AnswersAs, answer_of_table}
 use Rattle.acl_report.specs.declared.packet.TheConstants.{MAX_VERDICTS}
-use Rattle.acl_tool.specs.RuleTables.{set_of, table_within}
-use Rattle.acl_tool.specs.Built.{BuildsTable, IsBuilt}
+use Rattle.acl_tool.specs.FamilySet.{set_of}
+use Rattle.acl_tool.specs.RuleTables.{table_within}
+use Rattle.acl_tool.specs.Built.{BuildsTable, IsBuilt, WordsAreTotals}
 
 -- what the joined word says, by the rule that wins
 by_winner : (rules : List RuleView) (table : TableView) (key : List ℕ) (category : ℕ) (won : Option ℕ) →
@@ -56,8 +58,13 @@ IsBuilt-both budget lists ip4 ip6 one two = record {
   ip4_keys = one.serves.key_len;
   ip6_keys = two.serves.key_len;
   answers = λ family key category is below. answers family key category is below;
+  totals = λ family. totals family;
 }
   where
+    totals : WordsAreTotals lists budget
+    totals Ip4 = one.words
+    totals Ip6 = two.words
+
     answers : AnswersAs (ByRules lists)
         (record { ip4 = built_of (set_of Ip4 lists) budget; ip6 = built_of (set_of Ip6 lists) budget })
     answers Ip4 key category is below =

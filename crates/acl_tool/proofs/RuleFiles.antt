@@ -15,7 +15,8 @@ use Rattle.command_plan.specs.Plan.{◌>>=◌, Outcome, Plan, Give, unless_refus
 use Rattle.command_plan.proofs.Offered.{IsFaithful}
 use Rattle.acl_tool.specs.RuleTables.{refused_rules, rules_of_bytes, table_within, tables_within}
 
-rule_file_of-long : (bytes : List ℕ) → max_rule_file < length bytes →
+-- a rule file of too many bytes is refused as such
+pub rule_file_of-long : (bytes : List ℕ) → max_rule_file < length bytes →
     rule_file_of bytes ≡ Err (record { line = 0; kind = FileTooLong })
 rule_file_of-long bytes long = rw (lt-ltb max_rule_file (length bytes) long) refl
 

@@ -3,7 +3,7 @@ use Rattle.std.specs.Prelude.{◌≡◌, ℕ, ◌<◌, ◌≤◌, ◌⊎◌, Opt
 use Rattle.field_defs.specs.declared.field.Family.{Family}
 use Rattle.rule_set.specs.Rule.{RuleSetView}
 use Rattle.rule_split.specs.Split.{total_of}
-use Rattle.flat_table.specs.Table.{TableView}
+use Rattle.flat_table.specs.Table.{TableView, words_of}
 use Rattle.table_fill.specs.Serves.{Serves}
 use Rattle.acl_context.specs.Context.{built_of}
 use Rattle.classbench_reader.specs.RuleFile.{RuleLists}
@@ -11,12 +11,14 @@ use Rattle.command_plan.specs.declared.status.Status.{Status}
 use Rattle.command_plan.specs.declared.status.Status.TheVariants.{TooLarge, OutOfMemory}
 use Rattle.capture_report.specs.Classifier.{Tables, ByRules, AnswersAs}
 use Rattle.command_plan.specs.Plan.{Give, Stop}
-use Rattle.acl_tool.specs.RuleTables.{set_of, tables_within}
+use Rattle.acl_tool.specs.FamilySet.{set_of}
+use Rattle.acl_tool.specs.RuleTables.{tables_within}
 
 -- The table of the set under the budget was made. It answers as the rules do.
 pub record BuildsTable (set : RuleSetView) (budget : ℕ) (table : Option TableView) : Type 0 where
   pub built : table ≡ Some (built_of set budget)
   pub fits : total_of set budget ≤ budget
+  pub words : words_of (built_of set budget) ≡ total_of set budget
   pub serves : Serves set (built_of set budget)
 
 -- The total of the set of the family is above the budget, and the status says so.
@@ -24,6 +26,12 @@ pub record IsTooLarge (family : Family) (set : RuleSetView) (budget : ℕ) (stat
     : Type 0 where
   pub says : status ≡ TooLarge family (total_of set budget) budget
   pub above : budget < total_of set budget
+
+-- The words of the table of each family are the total at which the split of its rules ends.
+abbrev pub WordsAreTotals : RuleLists → ℕ → Type 0
+WordsAreTotals lists budget =
+    (family : Family) →
+    words_of (built_of (set_of family lists) budget) ≡ total_of (set_of family lists) budget
 
 -- The tables of both families were made. They answer as the rules do.
 pub record IsBuilt (budget : ℕ) (lists : RuleLists) (ip4 ip6 : Option TableView) : Type 0 where
@@ -34,6 +42,7 @@ pub record IsBuilt (budget : ℕ) (lists : RuleLists) (ip4 ip6 : Option TableVie
   pub ip4_keys : tables.ip4.key_len ≡ 13
   pub ip6_keys : tables.ip6.key_len ≡ 37
   pub answers : AnswersAs (ByRules lists) tables
+  pub totals : WordsAreTotals lists budget
 
 -- The tables weren't made: a family needs more words than the budget, or memory ran out.
 abbrev pub Refuses : ℕ → RuleLists → Status → Type 0

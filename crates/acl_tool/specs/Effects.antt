@@ -1,24 +1,37 @@
 -- What a command promises, before and after it.
-use Rattle.std.specs.Prelude.{◌≡◌, ℕ, ◌⊎◌, List, false, true}
+use Rattle.std.specs.Prelude.{◌≡◌, ℕ, ◌⊎◌, List, ◌∷◌, false, true, ⊤}
 use Rattle.std.specs.Prelude.{Option, Some, None, Result, Ok, Err, IfOk, IfErr, IfSome}
 use Rattle.acl_outside.specs.Desk.{File}
+use Rattle.acl_outside.specs.Heard.{Heard}
 use Rattle.acl_outside.specs.Sink.{SinkView}
 use Rattle.command_plan.specs.declared.status.Status.{Status}
 use Rattle.command_plan.specs.declared.status.Status.TheVariants.{Usage, WriteFault, OutOfMemory}
 use Rattle.command_words.specs.declared.fault.UsageFault.{UsageFault}
-use Rattle.command_words.specs.Command.{Request, capture_name, made_name, command}
+use Rattle.classbench_reader.specs.RuleFile.{RuleLists, rule_file_of}
+use Rattle.command_words.specs.Command.{Request, Bench, Classify, capture_name, made_name, command}
 use Rattle.command_plan.specs.Message.{message}
 use Rattle.command_plan.specs.Plan.{found, settled}
 use Rattle.command_plan.specs.Endings.{is_reported, is_usage}
+use Rattle.acl_tool.specs.Built.{WordsAreTotals}
 use Rattle.acl_tool.specs.Outcome.{outcome, plan_of}
+use Rattle.acl_tool.specs.Headline.{ClassifyPrints}
+use Rattle.acl_tool.specs.Transitions.{BenchWalks, ClassifyWalks}
+use Rattle.acl_tool.specs.Sizes.{ClassifySizes}
 use Rattle.command_plan.specs.Effects.{Outside, EndsMaking, EndsAsTold, HasNoFaultMaking, PutsLine}
-use Rattle.command_plan.specs.Effects.{files_of, opened_of}
+use Rattle.command_plan.specs.Effects.{files_of, heard_of, opened_of}
 use Rattle.capture_report.specs.PrintsCapture.{KeepsUp}
 
 -- the name of the file that a request makes, if it makes one; words that are no command make none
 abbrev pub makes_of : Result Request UsageFault → Option (List ℕ)
 makes_of (Ok request) = made_name request
 makes_of (Err fault) = None
+
+-- The tables of a `classify` have the words of the splits of the rules that were heard.
+abbrev pub HasTotals : Request → List Heard → List Heard → Type 0
+HasTotals (Classify rules capture options) old new =
+    (rule_file file : Heard) (lists : RuleLists) → new ≡ file ∷ rule_file ∷ old →
+    rule_file_of rule_file.bytes ≡ Ok lists → WordsAreTotals lists options.max_words
+HasTotals (Bench numbers) old new = ⊤
 
 -- A request or a usage fault was answered: all that is promised of a command but its message.
 pub record Answers (request : Result Request UsageFault) (old new : Outside)
@@ -35,6 +48,9 @@ pub record Answers (request : Result Request UsageFault) (old new : Outside)
   pub opened : (files : List File) → files_of old.desk ≡ Some files → is_reported status ≡ true →
       IfOk request (λ r. IfSome (capture_name r)
       (λ name. opened_of new.desk ≡ Some (Some name)))
+  -- the tables that a report tells have the words of their splits
+  pub totals : is_reported status ≡ true →
+      IfOk request (λ r. HasTotals r (heard_of old.desk) (heard_of new.desk))
   -- lines are put soon after their records were read
   pub keeps_up : status ≡ WriteFault →
       IfOk request (λ r. IfSome (capture_name r) (λ name. KeepsUp name old new))
@@ -42,6 +58,15 @@ pub record Answers (request : Result Request UsageFault) (old new : Outside)
 -- All that `run` promises.
 pub record Runs (words : List (List ℕ)) (old new : Outside) (err_old err_new : SinkView)
     (status : Status) : Type 0 where
+  -- what is printed, said by rule lines, winners, captures, headers and lines alone
+  pub prints : ClassifyPrints words status (heard_of old.desk) (heard_of new.desk) old.out.taken
+      new.out.taken
+  -- how many transitions are taken, by the tables of the rules, and how many at most
+  pub walks : ClassifyWalks words status (heard_of old.desk) (heard_of new.desk) old.steps new.steps
+  pub bench_walks : BenchWalks words status old.steps new.steps
+  -- how large the tables are that are told, and when rules are too large
+  pub sizes : ClassifySizes words status (heard_of old.desk) (heard_of new.desk) old.out.taken
+      new.out.taken
   pub answers : Answers (command words) old new status
   -- where the outside has no fault, only memory keeps the command from its outcome
   pub complete : HasNoFaultMaking (makes_of (command words)) old new → (files : List File) →

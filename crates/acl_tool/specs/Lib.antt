@@ -1,8 +1,12 @@
+pub mod FamilySet
 pub mod RuleTables
 pub mod Built
 pub mod ClassifyPlan
 pub mod BenchPlan
 pub mod Outcome
+pub mod Headline
+pub mod Transitions
+pub mod Sizes
 pub mod Effects
 pub mod ClassifyExamples
 pub mod FollowExamples

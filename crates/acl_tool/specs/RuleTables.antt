@@ -3,8 +3,6 @@
 use Rattle.std.specs.Prelude.{ℕ, nat_le, if◌then◌else◌, List, Result, Ok, Err}
 use Rattle.field_defs.specs.declared.field.Family.{Family}
 use Rattle.field_defs.specs.declared.field.Family.TheVariants.{Ip4, Ip6}
-use Rattle.field_defs.specs.Layout.{ip4_fields, ip6_fields}
-use Rattle.rule_set.specs.Rule.{RuleSetView}
 use Rattle.rule_split.specs.Split.{total_of}
 use Rattle.flat_table.specs.Table.{TableView}
 use Rattle.acl_context.specs.Context.{built_of}
@@ -14,6 +12,7 @@ use Rattle.command_plan.specs.declared.status.Status.{Status}
 use Rattle.command_plan.specs.declared.status.Status.TheVariants.{TooLarge}
 use Rattle.command_plan.specs.Plan.{◌>>=◌, Plan, Give, reading, unless_refused}
 use Rattle.capture_report.specs.Classifier.{Tables}
+use Rattle.acl_tool.specs.FamilySet.{set_of}
 
 -- the rules of a file by family, or the status that stands for its fault
 abbrev pub refused_rules : (LineFault → Status) → Result RuleLists LineFault →
@@ -30,11 +29,6 @@ abbrev pub rules_in : (LineFault → Status) → List ℕ → Plan RuleLists
 rules_in refused name = do
   bytes ← reading name
   unless_refused (rules_of_bytes refused bytes)
-
--- a rule set of a family
-abbrev pub set_of : Family → RuleLists → RuleSetView
-set_of Ip4 lists = record { layout = ip4_fields; rules = lists.ip4 }
-set_of Ip6 lists = record { layout = ip6_fields; rules = lists.ip6 }
 
 -- the table of a family's rules under the budget, or the status that stands for a total above it
 abbrev pub table_within : ℕ → Family → RuleLists → Result TableView Status

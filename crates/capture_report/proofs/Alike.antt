@@ -20,10 +20,11 @@ use Rattle.pcap_reader.specs.declared.state.CaptureState.{CaptureState}
 use Rattle.pcap_reader.specs.State.{CaptureRecord}
 use Rattle.capture_report.specs.declared.form.PrintOptions.{PrintOptions}
 use Rattle.command_plan.specs.declared.status.Status.{Status}
-use Rattle.capture_report.specs.Packet.{IsPacket, packet_of}
+use Rattle.capture_report.specs.Packet.{IsPacket}
+use Rattle.capture_report.specs.Shown.{packet_of, shown}
 use Rattle.capture_report.specs.Classifier.{Classifier, ByTables, Tables, AnswersAs, IsKey, answer_of}
 use Rattle.capture_report.specs.ReportForm.{ReportForm, form_by}
-use Rattle.capture_report.specs.Report.{shown, answers_of, answers_on, line_of_packet, lines_of_packets}
+use Rattle.capture_report.specs.Report.{answers_of, answers_on, line_of_packet, lines_of_packets}
 use Rattle.capture_report.specs.Report.{lines_of_records}
 use Rattle.capture_report.specs.CaptureOutcome.{last_lines, reported}
 use Rattle.command_plan.specs.declared.status.Status.TheVariants.{OutOfMemory}

@@ -21,7 +21,7 @@ use Rattle.command_plan.specs.Effects.{Outside, Ends, files_of, heard_of}
 use Rattle.capture_report.specs.Bound.{TransitionsAreBounded, most_on, most_of_records}
 use Rattle.capture_report.specs.CaptureOutcome.{report, report_of_capture, reported}
 use Rattle.capture_report.specs.Classifier.{Tables}
-use Rattle.capture_report.specs.Packet.{packet_of}
+use Rattle.capture_report.specs.Shown.{packet_of}
 use Rattle.capture_report.specs.Report.{transitions_on}
 use Rattle.capture_report.specs.ReportForm.{ReportForm}
 

@@ -9,7 +9,8 @@ use Rattle.pcap_reader.specs.State.{CaptureRecord}
 use Rattle.pcap_reader.specs.declared.state.CaptureState.{CaptureState}
 use Rattle.capture_report.specs.declared.batch.BatchEnd.{BatchEnd}
 use Rattle.capture_report.specs.declared.batch.BatchEnd.TheVariants.{Full}
-use Rattle.capture_report.specs.Packet.{IsPacket, packet_of}
+use Rattle.capture_report.specs.Packet.{IsPacket}
+use Rattle.capture_report.specs.Shown.{packet_of}
 use Rattle.capture_report.specs.Taken.{Took, TakesBatch, TakesRecord, max_batch}
 use Rattle.capture_report.proofs.Taking.{Took-none, Took-then}
 use Rattle.capture_report.proofs.Reader.{TookRecord, TookRecord-from, IsStop, end-is_stop, records_by, records_by-stop}

@@ -10,13 +10,14 @@ use Rattle.header_extract.specs.Class.{FrameClass}
 use Rattle.pcap_reader.specs.State.{CaptureRecord}
 use Rattle.acl_report.specs.declared.counts.Counts.{Counts}
 use Rattle.acl_report.specs.Line.{line_feed, line_of, spaced}
-use Rattle.acl_report.specs.Counts.{counted, counts_of, is_ip4, is_ip6, is_other, is_short}
+use Rattle.acl_report.specs.Counting.{counted}
+use Rattle.acl_report.specs.Counts.{counts_of, same_class}
 use Rattle.acl_report.specs.Packet.{class_word, answer_words}
-use Rattle.capture_report.specs.Packet.{packet_of}
+use Rattle.capture_report.specs.Shown.{classes_of, counts_of_records, packet_of}
 use Rattle.capture_report.specs.Classifier.{Tables}
 use Rattle.capture_report.specs.ReportForm.{ReportForm}
 use Rattle.capture_report.specs.Report.{transitions_on, transitions_of_packets, transitions_of_records, answers_on, line_of_packet}
-use Rattle.capture_report.specs.Report.{lines_of_packets, lines_of_records, classes_of, counts_of_records, counted_all}
+use Rattle.capture_report.specs.Report.{lines_of_packets, lines_of_records, counted_all}
 use Rattle.capture_report.specs.Report.{lines_in}
 
 lines_of_packets-append : (form : ReportForm) (number : ℕ) (first second : List FrameClass) →
@@ -83,24 +84,26 @@ packets_counted records =
 
 -- a record more of one of the classes adds one
 one_class : (class : Class) →
-    cond (is_ip4 class) 1 0 + cond (is_ip6 class) 1 0 + cond (is_other class) 1 0 + cond (is_short class) 1 0 ≡ 1
+    cond (same_class Ip4 class) 1 0 + cond (same_class Ip6 class) 1 0 + cond (same_class Other class) 1 0
+    + cond (same_class Short class) 1 0 ≡ 1
 one_class Ip4 = refl
 one_class Ip6 = refl
 one_class Other = refl
 one_class Short = refl
 
 classes_add_up : (classes : List Class) →
-    count_by is_ip4 classes + count_by is_ip6 classes + count_by is_other classes + count_by is_short classes
+    count_by (same_class Ip4) classes + count_by (same_class Ip6) classes + count_by (same_class Other) classes
+    + count_by (same_class Short) classes
     ≡ length classes
 classes_add_up [] = refl
 classes_add_up (class ∷ classes) =
     omega (
       arith,
       one_class class,
-      sum_by-cons (λ c. cond (is_ip4 c) 1 0) class classes,
-      sum_by-cons (λ c. cond (is_ip6 c) 1 0) class classes,
-      sum_by-cons (λ c. cond (is_other c) 1 0) class classes,
-      sum_by-cons (λ c. cond (is_short c) 1 0) class classes,
+      sum_by-cons (λ c. cond (same_class Ip4 c) 1 0) class classes,
+      sum_by-cons (λ c. cond (same_class Ip6 c) 1 0) class classes,
+      sum_by-cons (λ c. cond (same_class Other c) 1 0) class classes,
+      sum_by-cons (λ c. cond (same_class Short c) 1 0) class classes,
       classes_add_up classes,
     )
 

@@ -28,7 +28,8 @@ use Rattle.pcap_reader.proofs.Offered.{no_records, unanswered, capture_of-read, 
 use Rattle.capture_report.specs.declared.batch.BatchEnd.{BatchEnd}
 use Rattle.capture_report.specs.declared.batch.BatchEnd.TheVariants.{Full, End, Fault}
 use Rattle.capture_report.specs.NextRecord.{IsBegun, MayGoOn, record_in}
-use Rattle.capture_report.specs.Packet.{IsPacket, packet_of}
+use Rattle.capture_report.specs.Packet.{IsPacket}
+use Rattle.capture_report.specs.Shown.{packet_of}
 use Rattle.capture_report.specs.Streams.{IsUnbroken}
 use Rattle.capture_report.specs.Taken.{AreAll, Took, TakesRecord, end_of, stands}
 

@@ -26,7 +26,8 @@ use Rattle.command_plan.specs.Plan.{Outcome, Plan, Give, silent, found, settled}
 use Rattle.command_plan.specs.Follow.{Given, Within, IsEnough, IsOpened, IsOneOf, said_in, status_within}
 use Rattle.command_plan.specs.Endings.{is_decided, is_usage}
 use Rattle.capture_report.specs.CaptureOutcome.{refusal, report, report_of_capture, reported, lines_so_far}
-use Rattle.capture_report.specs.CaptureOutcome.{status_of_fault, text_of_records}
+use Rattle.capture_report.specs.CaptureOutcome.{text_of_records}
+use Rattle.capture_report.specs.Shown.{status_of_fault}
 use Rattle.command_plan.specs.Effects.{Outside, outside, files_of, opened_of, heard_of, earlier_of, KeepsFiles, Ends}
 use Rattle.capture_report.specs.PrintsCapture.{KeepsUp, Reports}
 use Rattle.capture_report.specs.Streams.{Reading, Whole, Part, records_read, text_of, IsUnbroken, AreRead, IsStatus}

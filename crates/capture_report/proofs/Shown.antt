@@ -14,12 +14,14 @@ use Rattle.header_extract.specs.declared.class.Class.{Class}
 use Rattle.header_extract.specs.declared.class.Class.TheVariants.{Ip4, Ip6, Other, Short}
 use Rattle.header_extract.specs.Class.{FrameClass}
 use Rattle.acl_report.specs.declared.counts.Counts.{Counts}
-use Rattle.acl_report.specs.Counts.{counted}
+use Rattle.acl_report.specs.Counting.{counted}
 use Rattle.acl_report.specs.declared.packet.TheConstants.{MAX_VERDICTS}
-use Rattle.acl_report.specs.Packet.{answer, answers, packet_text}
+use Rattle.acl_report.specs.Packet.{packet_text}
+use Rattle.acl_report.specs.Verdicts.{answer, answers}
 use Rattle.capture_report.specs.Classifier.{ByTables, answer_of_table}
 use Rattle.capture_report.specs.ReportForm.{ReportForm}
-use Rattle.capture_report.specs.Report.{shown, answers_on, line_of_packet}
+use Rattle.capture_report.specs.Shown.{shown}
+use Rattle.capture_report.specs.Report.{answers_on, line_of_packet}
 use Rattle.capture_report.specs.Batch.{verdicts_on, dashes_of, dashes_on}
 use Rattle.capture_report.proofs.LineLaws.{counted-packets}
 

@@ -18,9 +18,10 @@ use Rattle.capture_report.specs.declared.batch.BatchEnd.TheVariants.{Full, End, 
 use Rattle.command_plan.specs.declared.status.Status.{Status}
 use Rattle.command_plan.specs.declared.status.Status.TheVariants.{CaptureRefused, WriteFault}
 use Rattle.capture_report.specs.NextRecord.{IsBegun}
-use Rattle.capture_report.specs.Packet.{IsPacket, packet_of}
+use Rattle.capture_report.specs.Packet.{IsPacket}
+use Rattle.capture_report.specs.Shown.{counts_of_records, packet_of}
 use Rattle.capture_report.specs.ReportForm.{ReportForm}
-use Rattle.capture_report.specs.Report.{counted_all, counts_of_records, lines_of_packets, lines_of_records}
+use Rattle.capture_report.specs.Report.{counted_all, lines_of_packets, lines_of_records}
 use Rattle.capture_report.specs.Report.{transitions_of_packets, transitions_of_records}
 use Rattle.capture_report.specs.Taken.{ending_of, ending_of_fault, AreAll, Took, TakesBatch}
 use Rattle.capture_report.specs.CaptureOutcome.{last_lines, last_text, refusal}

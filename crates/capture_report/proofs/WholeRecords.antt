@@ -7,7 +7,7 @@ use Rattle.pcap_reader.specs.Capture.{Recorded, capture_of, whole_records, recor
 use Rattle.capture_report.specs.ReportForm.{ReportForm}
 use Rattle.capture_report.specs.Report.{lines_of_packets, lines_of_records}
 use Rattle.capture_report.specs.CaptureOutcome.{last_lines, lines_so_far, report, report_of_capture}
-use Rattle.capture_report.specs.Packet.{packet_of}
+use Rattle.capture_report.specs.Shown.{packet_of}
 use Rattle.capture_report.proofs.LineLaws.{lines_of_records-append}
 use Rattle.capture_report.proofs.Reader.{AreFirst, whole_first}
 use Rattle.command_plan.proofs.Offered.{BeginsWith, BeginsWith-nothing}

@@ -14,7 +14,7 @@ use Rattle.header_extract.specs.Class.{FrameClass}
 use Rattle.pcap_reader.specs.Capture.{max_records}
 use Rattle.acl_report.specs.declared.counts.Counts.{Counts}
 use Rattle.acl_report.specs.declared.packet.TheConstants.{MAX_VERDICTS}
-use Rattle.acl_report.specs.Counts.{is_ip4, is_ip6}
+use Rattle.acl_report.specs.Counts.{same_class}
 use Rattle.capture_report.specs.Packet.{IsPacket}
 use Rattle.capture_report.specs.Classifier.{Tables}
 use Rattle.capture_report.specs.ReportForm.{ReportForm}
@@ -35,8 +35,8 @@ pub record IsFormByTables (tables : Tables) (categories : ℕ) : Type 0 where
 
 -- a frame that holds a packet of the family
 abbrev pub is_of : Family → Class → Bool
-is_of family.Ip4 class = is_ip4 class
-is_of family.Ip6 class = is_ip6 class
+is_of family.Ip4 class = same_class Ip4 class
+is_of family.Ip6 class = same_class Ip6 class
 
 -- the keys of the packets of a family, one after the other
 abbrev pub keys_of : Family → List FrameClass → List ℕ

@@ -6,7 +6,7 @@ use Rattle.header_extract.specs.declared.class.Class.TheVariants.{Ip4, Ip6, Othe
 use Rattle.pcap_reader.specs.State.{CaptureRecord}
 use Rattle.pcap_reader.specs.Capture.{whole_records}
 use Rattle.capture_report.specs.Classifier.{Tables}
-use Rattle.capture_report.specs.Packet.{packet_of}
+use Rattle.capture_report.specs.Shown.{packet_of}
 use Rattle.capture_report.specs.ReportForm.{ReportForm}
 use Rattle.capture_report.specs.CaptureOutcome.{report}
 

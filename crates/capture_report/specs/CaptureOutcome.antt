@@ -8,9 +8,10 @@ use Rattle.pcap_reader.specs.declared.fault.CaptureFault.TheVariants.{ReadFault 
 use Rattle.pcap_reader.specs.State.{CaptureRecord}
 use Rattle.pcap_reader.specs.Capture.{Recorded, capture_of, whole_records}
 use Rattle.command_plan.specs.declared.status.Status.{Status}
-use Rattle.command_plan.specs.declared.status.Status.TheVariants.{Done, CaptureRefused, ReadFault}
+use Rattle.command_plan.specs.declared.status.Status.TheVariants.{CaptureRefused, ReadFault}
 use Rattle.capture_report.specs.ReportForm.{ReportForm}
-use Rattle.capture_report.specs.Report.{counts_of_records, lines_of_records, stats_of}
+use Rattle.capture_report.specs.Shown.{counts_of_records, status_of_fault}
+use Rattle.capture_report.specs.Report.{lines_of_records, stats_of}
 use Rattle.capture_report.specs.Report.{transitions_of_records}
 use Rattle.command_plan.specs.Plan.{Outcome, printed, silent, Plan, Give, Read}
 
@@ -29,11 +30,6 @@ last_lines form records (Some fault) = []
 abbrev pub text_of_records : ReportForm → List CaptureRecord → Option CaptureFault → List ℕ
 text_of_records form records fault =
     lines_of_records form records ++ last_lines form records fault
-
--- the status of a capture by how it ended
-abbrev pub status_of_fault : Option CaptureFault → Status
-status_of_fault None = Done
-status_of_fault (Some fault) = CaptureRefused fault
 
 -- the status that stands for a fault
 abbrev pub refusal : CaptureFault → Status

@@ -1,18 +1,15 @@
 -- What answers for packets: the rules of both families, or the tables that were made of them.
 use Rattle.std.specs.Prelude.{◌≡◌, ℕ, ◌<◌, ◌==◌, List, length, All, Option, Some, None}
 use Rattle.std.specs.Prelude.{if◌then◌else◌}
-use Rattle.std.specs.Option.{option_map}
-use Rattle.field_defs.specs.declared.field.FieldDef.{FieldDef}
 use Rattle.field_defs.specs.declared.field.Family.{Family}
 use Rattle.field_defs.specs.declared.field.Family.TheVariants.{Ip4, Ip6}
 use Rattle.field_defs.specs.Layout.{ip4_fields, ip6_fields}
-use Rattle.rule_set.specs.Rule.{RuleView}
-use Rattle.rule_set.specs.Winner.{userdata_at, winner}
 use Rattle.flat_table.specs.Table.{TableView}
 use Rattle.flat_table.specs.Walk.{joined, table_verdict}
 use Rattle.acl_report.specs.declared.packet.TheConstants.{MAX_VERDICTS}
 use Rattle.classbench_reader.specs.declared.rule_file.RuleFile.{RuleFile}
 use Rattle.classbench_reader.specs.RuleFile.{RuleLists}
+use Rattle.capture_report.specs.Shown.{answer_of_rules}
 
 -- the rules that the code holds, as lists
 abbrev pub lists_of : RuleFile → RuleLists
@@ -27,11 +24,6 @@ pub record Tables : Type 0 where
 pub data Classifier : Type 0 where
   ByRules : (rules : RuleLists) → Classifier
   ByTables : (tables : Tables) → Classifier
-
--- the userdata of the rule that wins, or none
-abbrev pub answer_of_rules : List FieldDef → List RuleView → List ℕ → ℕ → Option ℕ
-answer_of_rules layout rules key category =
-    option_map (λ place. userdata_at rules (Some place)) (winner layout rules key category)
 
 -- the userdata in the joined word, or none where that is 0
 abbrev pub answer_of_table : TableView → List ℕ → ℕ → Option ℕ

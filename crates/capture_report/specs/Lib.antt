@@ -1,4 +1,5 @@
 pub mod Packet
+pub mod Shown
 pub mod Classifier
 pub mod ReportForm
 pub mod Report

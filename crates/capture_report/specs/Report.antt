@@ -1,6 +1,6 @@
 -- What is printed for the records of a capture.
 use Rattle.std.specs.Prelude.{ℕ, ◌+◌, ◌==◌, List, [], ◌∷◌, ◌++◌, length, map, count_by, sum_by}
-use Rattle.std.specs.Prelude.{Bool, true, false, Option, Some, None, if◌then◌else◌}
+use Rattle.std.specs.Prelude.{Option, if◌then◌else◌}
 use Rattle.std.specs.List.{range_with_len}
 use Rattle.field_defs.specs.declared.field.Family.{Family}
 use Rattle.field_defs.specs.declared.field.Family.TheVariants as family
@@ -12,18 +12,12 @@ use Rattle.header_extract.specs.Class.{FrameClass}
 use Rattle.pcap_reader.specs.State.{CaptureRecord}
 use Rattle.acl_report.specs.declared.counts.Counts.{Counts}
 use Rattle.acl_report.specs.Line.{line_feed}
-use Rattle.acl_report.specs.Counts.{counted, counts_of}
+use Rattle.acl_report.specs.Counting.{counted}
 use Rattle.acl_report.specs.Packet.{packet_text}
 use Rattle.acl_report.specs.Tables.{table_text, transitions_text}
-use Rattle.capture_report.specs.Packet.{packet_of}
+use Rattle.capture_report.specs.Shown.{packet_of, shown}
 use Rattle.capture_report.specs.Classifier.{Tables, answer_of}
 use Rattle.capture_report.specs.ReportForm.{ReportForm}
-
--- what is shown of an answer: where there is none the digit 0, and a dash where marks are asked for
-abbrev pub shown : Bool → Option ℕ → Option ℕ
-shown marks (Some userdata) = Some userdata
-shown true None = None
-shown false None = Some 0
 
 -- what is shown of a key of the family, from category 0 on
 abbrev pub answers_of : ReportForm → Family → List ℕ → List (Option ℕ)
@@ -52,14 +46,6 @@ lines_of_packets form number (packet ∷ packets) =
 -- a line for each record, numbered from 1
 abbrev pub lines_of_records : ReportForm → List CaptureRecord → List ℕ
 lines_of_records form records = lines_of_packets form 1 (map packet_of records)
-
--- the classes of packets
-abbrev pub classes_of : List FrameClass → List Class
-classes_of packets = map (λ packet. packet.class) packets
-
--- the counts of the records of a capture
-abbrev pub counts_of_records : List CaptureRecord → Counts
-counts_of_records records = counts_of (classes_of (map packet_of records))
 
 -- the counts with these packets more
 abbrev pub counted_all : List FrameClass → Counts → Counts

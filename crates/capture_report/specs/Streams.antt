@@ -10,11 +10,12 @@ use Rattle.pcap_reader.specs.Fill.{KeepsReading, IsAtEnd}
 use Rattle.pcap_reader.specs.declared.state.CaptureState.{CaptureState}
 use Rattle.command_plan.specs.declared.status.Status.{Status}
 use Rattle.command_plan.specs.declared.status.Status.TheVariants.{ReadFault, WriteFault}
-use Rattle.capture_report.specs.Packet.{IsPacket, packet_of}
+use Rattle.capture_report.specs.Packet.{IsPacket}
+use Rattle.capture_report.specs.Shown.{packet_of, status_of_fault}
 use Rattle.capture_report.specs.ReportForm.{ReportForm}
 use Rattle.capture_report.specs.Report.{lines_of_records, lines_in, transitions_of_records}
 use Rattle.capture_report.specs.Taken.{max_batch, stands, AreAll, AreWhole}
-use Rattle.capture_report.specs.CaptureOutcome.{status_of_fault, text_of_records}
+use Rattle.capture_report.specs.CaptureOutcome.{text_of_records}
 use Rattle.command_plan.specs.Follow.{IsOpened}
 use Rattle.command_plan.specs.Effects.{Outside}
 

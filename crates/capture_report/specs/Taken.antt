@@ -16,7 +16,8 @@ use Rattle.pcap_reader.specs.declared.state.CaptureState.{CaptureState}
 use Rattle.capture_report.specs.declared.batch.BatchEnd.{BatchEnd}
 use Rattle.capture_report.specs.declared.batch.BatchEnd.TheVariants.{Full, End, Fault}
 use Rattle.capture_report.specs.NextRecord.{MayGoOn, record_in}
-use Rattle.capture_report.specs.Packet.{packet_of, IsPacket}
+use Rattle.capture_report.specs.Packet.{IsPacket}
+use Rattle.capture_report.specs.Shown.{packet_of}
 
 -- how many records are taken at most before their lines are put
 abbrev pub max_batch : ℕ

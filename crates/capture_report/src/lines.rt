@@ -3,8 +3,9 @@
 ghost use Rattle.std.specs.Prelude.{◌≡◌, ◌+◌, ◌*◌, ◌≤◌, ◌++◌, [], length, take};
 ghost use Rattle.acl_report.specs.declared.line.TheConstants.{LINE_ROOM};
 ghost use Rattle.acl_report.specs.declared.packet.TheConstants.{MAX_VERDICTS};
-ghost use Rattle.acl_report.specs.Counts.{CountsFit, counted};
-ghost use Rattle.acl_report.specs.Packet.{answers, packet_text};
+ghost use Rattle.acl_report.specs.Counting.{CountsFit, counted};
+ghost use Rattle.acl_report.specs.Packet.{packet_text};
+ghost use Rattle.acl_report.specs.Verdicts.{answers};
 ghost use Rattle.capture_report.specs.Packet.{IsPacket};
 ghost use Rattle.capture_report.specs.Report.{counted_all, line_of_packet, line_of_table};
 ghost use Rattle.capture_report.specs.Report.{lines_of_packets};

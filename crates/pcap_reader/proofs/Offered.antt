@@ -33,6 +33,8 @@ pub use Rattle.pcap_reader.proofs.CaptureLaws.{records_from-end}
 pub use Rattle.pcap_reader.proofs.CaptureLaws.{records_from-fault}
 -- some records, and then more
 pub use Rattle.pcap_reader.proofs.CaptureLaws.{followed_by-then}
+-- after a whole capture the records of the bytes after it follow
+pub use Rattle.pcap_reader.proofs.CaptureLaws.{capture_of-append}
 -- the state after records
 -- some records, and then more
 pub use Rattle.pcap_reader.proofs.CaptureLaws.{state_past-then}

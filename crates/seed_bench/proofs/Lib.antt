@@ -3,3 +3,4 @@ mod KeyBytes
 mod Measuring
 mod Tallies
 mod Unrefused
+pub mod Offered

@@ -2,7 +2,8 @@
 use Rattle.std.proofs.Common.{◌≡◌, ◌+◌, ◌*◌, ◌≤◌, ◌++◌, length, map, take}
 use Rattle.acl_report.specs.declared.packet.TheConstants.{VERDICT_ROOM}
 use Rattle.acl_report.specs.Line.{spaced}
-use Rattle.acl_report.specs.Packet.{answers, answer_word}
+use Rattle.acl_report.specs.Packet.{answer_word}
+use Rattle.acl_report.specs.Verdicts.{answers}
 use Rattle.acl_report.proofs.packet.append_answers.Given as goal
 
 abbrev pub invariant-loop-verdict : goal.invariant-loop-verdict

@@ -3,6 +3,7 @@ use Rattle.command_words.specs.CommandLine.{options_of}
 use Rattle.capture_report.specs.Classifier.{Tables, lists_of, ByRules, AnswersAs}
 use Rattle.command_plan.specs.Effects.{Outside, outside}
 use Rattle.command_plan.specs.Plan.{Give}
+use Rattle.acl_tool.specs.Built.{WordsAreTotals}
 use Rattle.acl_tool.specs.RuleTables.{tables_within}
 use Rattle.acl_tool.proofs.Making.{same_tables}
 use Rattle.acl_tool.proofs.Classifying.{HasRules, Answers-no_rules, Answers-no_tables, Answers-reported}
@@ -41,4 +42,5 @@ returns g c =
     (outside (desk c.print_packets.new.desk) (out c.print_packets.new.out) c.print_packets.new.steps)
     c.print_packets.result has tables
     (ap (λ (budget : ℕ). tables_within budget lists) (sym c.words.ensures.value) ∙ built.within ∙ ap Give same)
+    (subst (λ (budget : ℕ). WordsAreTotals lists budget) c.words.ensures.value built.totals)
     (c.print_packets.ensures.alike (ByRules lists) (subst (AnswersAs (ByRules lists)) same built.answers))

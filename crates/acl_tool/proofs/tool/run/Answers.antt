@@ -1,9 +1,21 @@
+use Rattle.std.proofs.Common.{ℕ, List, map}
+use Rattle.std.specs.Prelude.{string_bytes}
 use Rattle.command_plan.proofs.Offered.{Ends-complete}
+use Rattle.acl_tool.proofs.Benching.{bench_walks}
+use Rattle.acl_tool.proofs.Printing.{classify_prints, classify_walks}
+use Rattle.acl_tool.proofs.Sizing.{classify_sizes}
 use Rattle.acl_tool.proofs.tool.run.Goals as goal
 
 pub returns : goal.returns
-returns g c = record {
-  answers = c.answer-status.ensures;
-  complete = Ends-complete _ _ _ c.answer-status.result c.answer-status.ensures.ends;
-  message = c.put_message.ensures;
-}
+returns g c =
+    let words : List (List ℕ) = map string_bytes c.args.words.now in
+    let answers = c.answer-status.ensures in
+    record {
+      prints = classify_prints words _ _ c.answer-status.result answers;
+      walks = classify_walks words _ _ c.answer-status.result answers;
+      bench_walks = bench_walks words _ _ c.answer-status.result answers;
+      sizes = classify_sizes words _ _ c.answer-status.result answers;
+      answers = answers;
+      complete = Ends-complete _ _ _ c.answer-status.result answers.ends;
+      message = c.put_message.ensures;
+    }

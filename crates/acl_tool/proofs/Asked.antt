@@ -1,0 +1,60 @@
+-- What words that begin with `classify` ask for, where they are no usage fault.
+use Rattle.std.proofs.Common.{◌≡◌, ℕ, List, [], ◌∷◌, true, false, None, Result, Ok, Err, refl, sym, ap}
+use Rattle.std.proofs.Common.{subst, ◌∙◌}
+use Rattle.std.specs.Prelude.{codes}
+use Rattle.std.proofs.lemmas.Bool.{false≢true}
+use Rattle.command_words.specs.declared.fault.UsageFault.{UsageFault}
+use Rattle.command_words.specs.Options.{Options, for_classify, none_given}
+use Rattle.command_words.specs.Command.{Classify, classify_of, classify_with, command, options_from}
+use Rattle.command_plan.specs.declared.status.Status.{Status}
+use Rattle.command_plan.specs.declared.status.Status.TheVariants.{Usage}
+use Rattle.command_plan.specs.Endings.{is_reported, is_usage}
+use Rattle.command_plan.specs.Effects.{EndsMaking, Outside, heard_of}
+use Rattle.acl_tool.specs.ClassifyPlan.{classify_plan}
+use Rattle.acl_tool.specs.Effects.{Answers, HasTotals}
+use Rattle.acl_tool.proofs.GivenOptions.{SaidBy, options_said}
+
+-- The words are two names and options, and the command ended by its plan.
+pub record Asked (words : List (List ℕ)) (old new : Outside) (status : Status) : Type 0 where
+  pub rules : List ℕ
+  pub capture : List ℕ
+  pub options : List (List ℕ)
+  pub read : Options
+  pub is : words ≡ codes "classify" ∷ rules ∷ capture ∷ options
+  pub said : SaidBy options read
+  pub ends : EndsMaking None (classify_plan rules capture read) old new status
+  pub totals : is_reported status ≡ true →
+      HasTotals (Classify rules capture read) (heard_of old.desk) (heard_of new.desk)
+
+no_usage : {A : Type 0} (status : Status) (usage : UsageFault) → is_usage status ≡ false → status ≡ Usage usage → A
+no_usage status usage lawful is = absurd (false≢true (sym lawful ∙ ap is_usage is))
+
+asked_after : (after : List (List ℕ)) (old new : Outside) (status : Status) → is_usage status ≡ false →
+    Answers (classify_of after) old new status → Asked (codes "classify" ∷ after) old new status
+asked_after [] old new status lawful answers = no_usage status _ lawful answers.usage
+asked_after (rules ∷ []) old new status lawful answers = no_usage status _ lawful answers.usage
+asked_after (rules ∷ capture ∷ words) old new status lawful answers =
+    go (options_from for_classify 4 none_given words) refl answers
+  where
+    go : (options : Result Options UsageFault) → options_from for_classify 4 none_given words ≡ options →
+        Answers (classify_with rules capture options) old new status →
+        Asked (codes "classify" ∷ rules ∷ capture ∷ words) old new status
+    go (Ok options) at all = record {
+      rules = rules;
+      capture = capture;
+      options = words;
+      read = options;
+      is = refl;
+      said = options_said words options at;
+      ends = all.ends;
+      totals = all.totals;
+    }
+    go (Err usage) at all = no_usage status usage lawful all.usage
+
+pub asked_words : (words : List (List ℕ)) (old new : Outside) (status : Status) →
+    Answers (command words) old new status → is_usage status ≡ false → (after : List (List ℕ)) →
+    words ≡ codes "classify" ∷ after → Asked words old new status
+asked_words words old new status answers lawful after is =
+    subst (λ (w : List (List ℕ)). Asked w old new status) (sym is)
+    (asked_after after old new status lawful
+    (subst (λ (w : List (List ℕ)). Answers (command w) old new status) is answers))

@@ -1,0 +1,338 @@
+-- What `classify` printed: the lines of the capture that was heard, by the rules that were heard.
+use Rattle.std.proofs.Common.{◌≡◌, ◌≢◌, ◌⊎◌, ℕ, ◌+◌, List, [], ◌∷◌, ◌++◌, map, Bool, true, false, Option, Some, None}
+use Rattle.std.proofs.Common.{Result, Ok, Err, inl, inr, refl, sym, ap, subst, ◌∙◌, append-nil, arith}
+use Rattle.std.specs.Prelude.{codes, nat_lt}
+use Rattle.std.specs.List.{enumerate_from, flat_map, range_with_len}
+use Rattle.acl_outside.specs.Heard.{Heard, Ended}
+use Rattle.classbench_reader.specs.RuleFile.{RuleLists}
+use Rattle.field_defs.specs.declared.field.FieldDef.{FieldDef}
+use Rattle.field_defs.specs.declared.field.Family.TheVariants.{Ip4 as Ip4Rules, Ip6 as Ip6Rules}
+use Rattle.field_defs.specs.Layout.{ip4_fields, ip6_fields}
+use Rattle.rule_set.specs.Rule.{RuleView}
+use Rattle.header_extract.specs.declared.class.Class.{Class}
+use Rattle.header_extract.specs.declared.class.Class.TheVariants.{Ip4, Ip6, Other, Short}
+use Rattle.pcap_reader.specs.declared.fault.CaptureFault.{CaptureFault}
+use Rattle.pcap_reader.specs.declared.start.Start.{Start}
+use Rattle.pcap_reader.specs.declared.state.CaptureState.{CaptureState}
+use Rattle.pcap_reader.specs.State.{CaptureRecord, begun, state_past}
+use Rattle.pcap_reader.specs.Start.{start_of}
+use Rattle.pcap_reader.specs.Capture.{Recorded, capture_of, max_records, records_from, records_in}
+use Rattle.pcap_reader.specs.Capture.{whole_records}
+use Rattle.pcap_reader.proofs.Offered.{capture_of-append}
+use Rattle.acl_report.specs.Packet.{packet_text}
+use Rattle.command_words.specs.Options.{Options}
+use Rattle.command_words.specs.Command.{command}
+use Rattle.command_plan.specs.declared.status.Status.{Status}
+use Rattle.command_plan.specs.declared.status.Status.TheVariants.{Done, WriteFault, OutOfMemory}
+use Rattle.command_plan.specs.Plan.{Outcome, Plan, Give, Stop, Read}
+use Rattle.command_plan.specs.Follow.{IsEnough, Reached, outcome_of}
+use Rattle.command_plan.specs.Effects.{EndsMaking, Outside, files_of, heard_of}
+use Rattle.capture_report.specs.Classifier.{ByRules, Tables}
+use Rattle.capture_report.specs.ReportForm.{ReportForm}
+use Rattle.capture_report.specs.Shown.{answer_of_rules, fault_of_capture, packet_of, shown, status_of_fault}
+use Rattle.capture_report.specs.Report.{answers_on, lines_of_packets, lines_of_records, stats_of}
+use Rattle.capture_report.specs.Report.{transitions_of_records}
+use Rattle.capture_report.specs.CaptureOutcome.{last_lines, report, report_of_capture}
+use Rattle.capture_report.proofs.Offered.{report_bound}
+use Rattle.acl_context.specs.Context.{built_of}
+use Rattle.command_plan.specs.Endings.{is_decided, is_usage}
+use Rattle.acl_tool.specs.FamilySet.{set_of}
+use Rattle.acl_tool.specs.ClassifyPlan.{classify_plan, form_of}
+use Rattle.acl_tool.specs.Transitions.{ClassifyWalks, Walks}
+use Rattle.acl_tool.specs.Effects.{Answers}
+use Rattle.acl_tool.specs.Headline.{ClassifyPrints, Hears, Prints, answers_by, answers_to, categories_shown}
+use Rattle.acl_tool.specs.Headline.{last_lines_to, line_to, lines_to}
+use Rattle.acl_tool.proofs.Asked.{Asked, asked_words}
+use Rattle.acl_tool.proofs.GivenOptions.{SaidBy}
+use Rattle.acl_tool.proofs.ReadOn.{Classified, classify_heard, is_told}
+
+-- the faults of two captures that end alike
+same_fault : (one two : Option CaptureFault) → status_of_fault one ≡ status_of_fault two → one ≡ two
+same_fault None None is = refl
+same_fault None (Some two) is = absurd (cc)
+same_fault (Some one) None is = absurd (cc)
+same_fault (Some one) (Some two) is = cc
+
+told_fault : (fault : Option CaptureFault) → is_told (status_of_fault fault) ≡ true
+told_fault None = refl
+told_fault (Some fault) = refl
+
+-- the status of an outcome that a plan gives
+abbrev given_status : Plan Outcome → Status
+given_status (Give outcome) = outcome.status
+given_status (Stop status) = status
+given_status (Read name shown next) = Done
+
+-- a report ends as its capture does
+pub report_status : (form : ReportForm) (capture : Result Recorded CaptureFault) →
+    (report_of_capture form capture).status ≡ status_of_fault (fault_of_capture capture)
+report_status form (Ok capture) = refl
+report_status form (Err fault) = refl
+
+report_text : (form : ReportForm) (capture : Result Recorded CaptureFault) →
+    (report_of_capture form capture).text
+    ≡ lines_of_records form (records_in capture) ++ last_lines form (records_in capture) (fault_of_capture capture)
+report_text form (Ok capture) = refl
+report_text form (Err fault) = refl
+
+-- one byte is no record
+one_byte : (state : CaptureState) → (records_from state (0 ∷ [])).fault ≢ None
+one_byte state none = go (nat_lt max_records (state.count + 1)) refl
+  where
+    go : (many : Bool) → nat_lt max_records (state.count + 1) ≡ many → ⊥
+    go true e = absurd (let faulty = rw e at none in cc)
+    go false e = absurd (let faulty = rw e at none in cc)
+
+-- one byte more after a whole capture is a fault
+one_more : (bytes : List ℕ) → fault_of_capture (capture_of bytes) ≡ None →
+    fault_of_capture (capture_of (bytes ++ 0 ∷ [])) ≢ None
+one_more bytes whole none = started (start_of bytes) refl
+  where
+    recorded : (start : Start) → start_of bytes ≡ Ok start → (capture : Result Recorded CaptureFault) →
+        capture_of bytes ≡ capture → ⊥
+    recorded start begins (Ok capture) is =
+        let faultless : capture.fault ≡ None = ap fault_of_capture (sym is) ∙ whole in
+        let all = capture_of-append bytes (0 ∷ []) start capture.records begins
+        (is ∙ ap (λ (fault : Option CaptureFault).
+        let r : Recorded = record { records = capture.records; fault = fault } in Ok r) faultless) in
+        one_byte (state_past (begun start) capture.records) (sym (ap fault_of_capture all) ∙ none)
+    recorded start begins (Err fault) is = absurd (let e = sym (ap fault_of_capture is) ∙ whole in cc)
+
+    started : (start : Result Start CaptureFault) → start_of bytes ≡ start → ⊥
+    started (Ok start) begins = recorded start begins (capture_of bytes) refl
+    started (Err fault) begins = absurd (let e = rw begins at whole in cc)
+
+-- so many categories of a key, with marks or not
+abbrev shown_by : List FieldDef → List RuleView → List ℕ → ℕ → Bool → List (Option ℕ)
+shown_by layout rules key count marks =
+    map (λ category. shown marks (answer_of_rules layout rules key category)) (range_with_len 0 count)
+
+-- what the options ask for is what their words ask for
+same_shown : (layout : List FieldDef) (rules : List RuleView) (key : List ℕ) (options : Options)
+    (words : List (List ℕ)) → SaidBy words options →
+    shown_by layout rules key options.categories options.marks ≡ answers_by layout rules words key
+same_shown layout rules key options words is =
+    ap (λ (n : ℕ). shown_by layout rules key n options.marks) is.categories
+    ∙ ap (λ (b : Bool). shown_by layout rules key (categories_shown words) b) is.marks
+
+answers_same : (lists : RuleLists) (tables : Tables) (options : Options) (words : List (List ℕ)) (class : Class)
+    (key : List ℕ) → SaidBy words options →
+    answers_on class (form_of (ByRules lists) tables options) key ≡ answers_to lists words class key
+answers_same lists tables options words Ip4 key is = same_shown ip4_fields lists.ip4 key options words is
+answers_same lists tables options words Ip6 key is = same_shown ip6_fields lists.ip6 key options words is
+answers_same lists tables options words Other key is = refl
+answers_same lists tables options words Short key is = refl
+
+lines_same : (lists : RuleLists) (tables : Tables) (options : Options) (words : List (List ℕ)) (number : ℕ)
+    (records : List CaptureRecord) → SaidBy words options →
+    lines_of_packets (form_of (ByRules lists) tables options) number (map packet_of records)
+    ≡ flat_map (λ numbered. line_to lists words numbered.0 numbered.1) (enumerate_from number records)
+lines_same lists tables options words number [] is = refl
+lines_same lists tables options words number (captured ∷ records) is =
+    let packet = packet_of captured in
+    ap (λ (answers : List (Option ℕ)). packet_text number packet.class answers
+    ++ lines_of_packets (form_of (ByRules lists) tables options) (number + 1) (map packet_of records))
+    (answers_same lists tables options words packet.class packet.key is)
+    ∙ ap (λ (later : List ℕ). line_to lists words number captured ++ later)
+    (lines_same lists tables options words (number + 1) records is)
+
+-- the last lines, of which the line of the counts is the first
+last_same : (form : ReportForm) (records : List CaptureRecord) (fault : Option CaptureFault) →
+    last_lines form records fault
+    ≡ last_lines_to fault records (stats_of form (transitions_of_records form.tables records))
+last_same form records None = refl
+last_same form records (Some fault) = refl
+
+-- the text of a report, by the words
+pub text_same : (lists : RuleLists) (tables : Tables) (options : Options) (words : List (List ℕ)) (bytes : List ℕ)
+    (fault : Option CaptureFault) → SaidBy words options → fault_of_capture (capture_of bytes) ≡ fault →
+    (report (form_of (ByRules lists) tables options) bytes).text
+    ≡ lines_to lists words (whole_records bytes) ++ last_lines_to fault (whole_records bytes)
+    (stats_of (form_of (ByRules lists) tables options) (transitions_of_records tables (whole_records bytes)))
+text_same lists tables options words bytes fault is ended =
+    let form : ReportForm = form_of (ByRules lists) tables options in
+    let records = whole_records bytes in
+    report_text form (capture_of bytes)
+    ∙ ap (λ (l : List ℕ). l ++ last_lines form records (fault_of_capture (capture_of bytes)))
+    (lines_same lists tables options words 1 records is)
+    ∙ ap (λ (l : List ℕ). lines_to lists words records ++ l)
+    (ap (last_lines form records) ended ∙ last_same form records fault)
+
+-- where no more bytes come, or none of them changes the report, the capture ends as it was reported
+ends_so : (form : ReportForm) (file : Heard) (fault : Option CaptureFault) →
+    IsEnough (λ bytes. Give (report form bytes)) file → fault_of_capture (capture_of file.bytes) ≡ fault →
+    (more : List ℕ) → (file.ending ≡ Ended → more ≡ []) →
+    fault_of_capture (capture_of (file.bytes ++ more)) ≡ fault
+ends_so form file fault (inl ended) is more none =
+    ap (λ (l : List ℕ). fault_of_capture (capture_of (file.bytes ++ l))) (none ended)
+    ∙ ap (λ (l : List ℕ). fault_of_capture (capture_of l)) (append-nil file.bytes)
+    ∙ is
+ends_so form file fault (inr on) is more none =
+    same_fault (fault_of_capture (capture_of (file.bytes ++ more))) fault
+    (sym (report_status form (capture_of (file.bytes ++ more)))
+    ∙ ap given_status ((on.1) more)
+    ∙ report_status form (capture_of file.bytes)
+    ∙ ap status_of_fault is)
+
+-- a whole capture was heard to its end, since one byte more is a fault
+whole_capture : (form : ReportForm) (file : Heard) → IsEnough (λ bytes. Give (report form bytes)) file →
+    fault_of_capture (capture_of file.bytes) ≡ None → file.ending ≡ Ended
+whole_capture form file (inl ended) is = ended
+whole_capture form file (inr on) is =
+    absurd (one_more file.bytes is
+    (same_fault (fault_of_capture (capture_of (file.bytes ++ 0 ∷ []))) None
+    (sym (report_status form (capture_of (file.bytes ++ 0 ∷ [])))
+    ∙ ap given_status ((on.1) (0 ∷ []))
+    ∙ report_status form (capture_of file.bytes)
+    ∙ ap status_of_fault is)))
+
+-- what isn't asked for isn't told
+unasked : (form : ReportForm) (transitions : ℕ) → form.stats ≡ false → stats_of form transitions ≡ []
+unasked form transitions off = rw off refl
+
+unwritten_fault : (fault : Option CaptureFault) → status_of_fault fault ≢ WriteFault
+unwritten_fault None is = absurd (cc)
+unwritten_fault (Some fault) is = absurd (cc)
+
+unfull_fault : (fault : Option CaptureFault) → status_of_fault fault ≢ OutOfMemory
+unfull_fault None is = absurd (cc)
+unfull_fault (Some fault) is = absurd (cc)
+
+decided_fault : (fault : Option CaptureFault) → is_decided (status_of_fault fault) ≡ true
+decided_fault None = refl
+decided_fault (Some fault) = refl
+
+-- a report's status is that of the outcome
+reported_status : (fault : Option CaptureFault) (status : Status) →
+    (status_of_fault fault ≡ status)
+    ⊎ ((status_of_fault fault ≡ WriteFault) ⊎ (status_of_fault fault ≡ OutOfMemory)) →
+    status_of_fault fault ≡ status
+reported_status fault status (inl is) = is
+reported_status fault status (inr (inl written)) = absurd (unwritten_fault fault written)
+reported_status fault status (inr (inr full)) = absurd (unfull_fault fault full)
+
+-- What a `classify` that ended with a report heard and reached, and what it took and counted.
+pub record ReportedBy (rules capture : List ℕ) (options : Options) (old new : Outside) (fault : Option CaptureFault)
+    : Type 0 where
+  pub reached : Reached Outcome
+  pub heard : Classified rules capture options (heard_of old.desk) (heard_of new.desk) reached
+  pub ended : fault_of_capture (capture_of heard.file.bytes) ≡ fault
+  pub taken : new.out.taken
+      ≡ old.out.taken ++ (report (form_of (ByRules heard.lists) heard.tables options) heard.file.bytes).text
+  pub steps : new.steps
+      ≡ old.steps + (report (form_of (ByRules heard.lists) heard.tables options) heard.file.bytes).transitions
+
+pub reported_by : (rules capture : List ℕ) (options : Options) (old new : Outside) (fault : Option CaptureFault) →
+    EndsMaking None (classify_plan rules capture options) old new (status_of_fault fault) →
+    ReportedBy rules capture options old new fault
+reported_by rules capture options old new fault ends =
+    let same = reported_status fault (outcome_of ends.reached).status ends.ended in
+    let c = classify_heard rules capture options (files_of old.desk) (heard_of old.desk) (heard_of new.desk)
+    ends.reached ends.follows (ap is_told (sym same) ∙ told_fault fault) in
+    let form : ReportForm = form_of (ByRules c.lists) c.tables options in
+    let outcome : outcome_of ends.reached ≡ report form c.file.bytes = ap outcome_of c.is in
+    let gains = ends.text (unwritten_fault fault) (unfull_fault fault) in
+    record {
+      reached = ends.reached;
+      heard = c;
+      ended =
+          same_fault (fault_of_capture (capture_of c.file.bytes)) fault
+          (sym (report_status form (capture_of c.file.bytes))
+          ∙ ap (λ (o : Outcome). o.status) (sym outcome)
+          ∙ sym same);
+      taken = gains.taken ∙ ap (λ (o : Outcome). old.out.taken ++ o.text) outcome;
+      steps = ends.steps (decided_fault fault) ∙ ap (λ (o : Outcome). old.steps + o.transitions) outcome;
+    }
+
+-- what it heard, by its words
+abbrev pub heard_by : (words : List (List ℕ)) (old new : Outside) (fault : Option CaptureFault)
+    (asked : Asked words old new (status_of_fault fault)) →
+    ReportedBy asked.rules asked.capture asked.read old new fault → Hears words (heard_of old.desk) (heard_of new.desk)
+heard_by words old new fault asked by = record {
+  rule_file = by.heard.rule_file;
+  capture = by.heard.file;
+  options = asked.options;
+  rules = by.heard.lists;
+  named =
+      asked.is
+      ∙ ap (λ (name : List ℕ). codes "classify" ∷ name ∷ asked.capture ∷ asked.options) (sym by.heard.rules_named)
+      ∙ ap (λ (name : List ℕ). codes "classify" ∷ by.heard.rule_file.name ∷ name ∷ asked.options)
+      (sym by.heard.named);
+  once = by.heard.newest;
+  whole = by.heard.whole;
+  accepted = by.heard.accepted;
+}
+
+-- A `classify` that ended with a report printed so.
+prints_so : (words : List (List ℕ)) (old new : Outside) (fault : Option CaptureFault)
+    (asked : Asked words old new (status_of_fault fault)) →
+    ReportedBy asked.rules asked.capture asked.read old new fault →
+    Prints words fault (heard_of old.desk) (heard_of new.desk) old.out.taken new.out.taken
+prints_so words old new fault asked by =
+    let c = by.heard in
+    let form : ReportForm = form_of (ByRules c.lists) c.tables asked.read in
+    let transitions = transitions_of_records c.tables (whole_records c.file.bytes) in
+    record {
+      heard = heard_by words old new fault asked by;
+      stats = stats_of form transitions;
+      is_last = λ none. whole_capture form c.file c.enough (by.ended ∙ none);
+      refused = ends_so form c.file fault c.enough by.ended;
+      taken =
+          by.taken
+          ∙ ap (λ (l : List ℕ). old.out.taken ++ l)
+          (text_same c.lists c.tables asked.read asked.options c.file.bytes fault asked.said by.ended);
+      no_stats = λ off. unasked form transitions (asked.said.stats ∙ off);
+    }
+
+-- a report takes the transitions of its capture's whole records
+report_transitions : (form : ReportForm) (capture : Result Recorded CaptureFault) →
+    (report_of_capture form capture).transitions ≡ transitions_of_records form.tables (records_in capture)
+report_transitions form (Ok capture) = refl
+report_transitions form (Err fault) = refl
+
+-- And it walked so.
+walks_so : (words : List (List ℕ)) (old new : Outside) (fault : Option CaptureFault)
+    (asked : Asked words old new (status_of_fault fault)) →
+    ReportedBy asked.rules asked.capture asked.read old new fault →
+    Walks words (heard_of old.desk) (heard_of new.desk) old.steps new.steps
+walks_so words old new fault asked by =
+    let c = by.heard in
+    let form : ReportForm = form_of (ByRules c.lists) c.tables asked.read in
+    record {
+      heard = heard_by words old new fault asked by;
+      tables = c.tables;
+      ip4 = c.ip4_is ∙ ap (λ (budget : ℕ). built_of (set_of Ip4Rules c.lists) budget) asked.said.max_words;
+      ip6 = c.ip6_is ∙ ap (λ (budget : ℕ). built_of (set_of Ip6Rules c.lists) budget) asked.said.max_words;
+      steps = by.steps ∙ ap (λ (n : ℕ). old.steps + n) (report_transitions form (capture_of c.file.bytes));
+      bound = omega (arith, by.steps, report_bound form c.file.bytes);
+    }
+
+lawful_fault : (fault : Option CaptureFault) → is_usage (status_of_fault fault) ≡ false
+lawful_fault None = refl
+lawful_fault (Some fault) = refl
+
+-- what was asked for by a `classify` that ended with a report
+pub asked_of : (words : List (List ℕ)) (old new : Outside) (status : Status) → Answers (command words) old new status →
+    (after : List (List ℕ)) (fault : Option CaptureFault) → words ≡ codes "classify" ∷ after →
+    status ≡ status_of_fault fault → Asked words old new (status_of_fault fault)
+asked_of words old new status answers after fault is ends =
+    asked_words words old new (status_of_fault fault)
+    (subst (λ (s : Status). Answers (command words) old new s) ends answers) (lawful_fault fault) after is
+
+-- Wherever `classify` ends with a report, it printed so.
+pub classify_prints : (words : List (List ℕ)) (old new : Outside) (status : Status) →
+    Answers (command words) old new status →
+    ClassifyPrints words status (heard_of old.desk) (heard_of new.desk) old.out.taken new.out.taken
+classify_prints words old new status answers after fault is ends =
+    let asked = asked_of words old new status answers after fault is ends in
+    prints_so words old new fault asked
+    (reported_by asked.rules asked.capture asked.read old new fault asked.ends)
+
+-- And it walked so.
+pub classify_walks : (words : List (List ℕ)) (old new : Outside) (status : Status) →
+    Answers (command words) old new status →
+    ClassifyWalks words status (heard_of old.desk) (heard_of new.desk) old.steps new.steps
+classify_walks words old new status answers after fault is ends =
+    let asked = asked_of words old new status answers after fault is ends in
+    walks_so words old new fault asked
+    (reported_by asked.rules asked.capture asked.read old new fault asked.ends)

@@ -1,0 +1,254 @@
+-- A command that ended with a report went through all of its plan, step by step.
+use Rattle.std.proofs.Common.{◌≡◌, ℕ, ◌+◌, ◌<◌, ◌≤◌, List, ◌∷◌, ◌++◌, Bool, true, false, Option}
+use Rattle.std.proofs.Common.{Result}
+use Rattle.std.proofs.Common.{Ok, Err, inl, inr, refl, sym, ap, ◌∙◌, arith, length, length-append}
+use Rattle.std.specs.Prelude.{nat_le, replicate, if◌then◌else◌}
+use Rattle.std.proofs.lemmas.Bool.{false≢true, leb-true}
+use Rattle.std.proofs.lemmas.List.{length-replicate}
+use Rattle.acl_outside.specs.Desk.{File}
+use Rattle.acl_outside.specs.Heard.{Heard, Ending, NotOpened, GoesOn, Ended, BrokenOff}
+use Rattle.classbench_reader.specs.declared.fault.LineFault.{LineFault}
+use Rattle.classbench_reader.specs.Limits.{max_rule_file}
+use Rattle.classbench_reader.specs.RuleFile.{RuleLists, rule_file_of}
+use Rattle.field_defs.specs.declared.field.Family.{Family}
+use Rattle.field_defs.specs.declared.field.Family.TheVariants.{Ip4, Ip6}
+use Rattle.flat_table.specs.Table.{TableView}
+use Rattle.rule_split.specs.Split.{total_of}
+use Rattle.acl_context.specs.Context.{built_of}
+use Rattle.command_words.specs.Options.{Options}
+use Rattle.command_plan.specs.declared.status.Status.{Status}
+use Rattle.command_plan.specs.declared.status.Status.TheVariants.{Done, CaptureRefused, OutOfMemory, ReadFault}
+use Rattle.command_plan.specs.declared.status.Status.TheVariants.{RulesRefused, TooLarge}
+use Rattle.command_plan.specs.Plan.{Outcome, Plan, Give, Stop, Read, ◌>>=◌, nothing, unless_refused}
+use Rattle.command_plan.specs.Follow.{Reached, Given, Follows, IsEnough, IsOneOf, outcome_of, status_within}
+use Rattle.capture_report.specs.Classifier.{Tables, ByRules}
+use Rattle.capture_report.specs.ReportForm.{ReportForm}
+use Rattle.capture_report.specs.CaptureOutcome.{lines_so_far, report, reported}
+use Rattle.acl_tool.specs.FamilySet.{set_of}
+use Rattle.acl_tool.specs.RuleTables.{refused_rules, rules_of_bytes, table_within, tables_within}
+use Rattle.acl_tool.specs.ClassifyPlan.{classify_plan, form_of}
+use Rattle.acl_tool.proofs.RuleFiles.{rule_file_of-long}
+
+-- a status that comes with a report, whole or up to a fault of the capture
+abbrev pub is_told : Status → Bool
+is_told Done = true
+is_told (CaptureRefused fault) = true
+is_told status = false
+
+-- A test of statuses that no end within a file passes.
+pub record IsTest (test : Status → Bool) : Type 0 where
+  pub unread : test ReadFault ≡ false
+  pub full : test OutOfMemory ≡ false
+
+told_test : IsTest is_told
+told_test = record { unread = refl; full = refl }
+
+untold_within : (test : Status → Bool) → IsTest test → (ending : Ending) → test (status_within ending) ≡ false
+untold_within test is NotOpened = is.unread
+untold_within test is GoesOn = is.full
+untold_within test is Ended = is.full
+untold_within test is BrokenOff = is.unread
+
+-- A file was read, and the rest of the plan followed.
+pub record ReadsOn (told : Option (List File)) (name : List ℕ) (next : List ℕ → Plan Outcome) (old new : List Heard)
+    (reached : Reached Outcome) : Type 0 where
+  pub file : Heard
+  pub named : file.name ≡ name
+  pub part : IsOneOf told file
+  pub enough : IsEnough next file
+  pub rest : Follows told (next file.bytes) (file ∷ old) new reached
+
+pub read_on : (test : Status → Bool) → IsTest test → (told : Option (List File)) (name : List ℕ)
+    (shown : List ℕ → List ℕ) (next : List ℕ → Plan Outcome) (old new : List Heard) (reached : Reached Outcome) →
+    Follows told (Read name shown next) old new reached → test (outcome_of reached).status ≡ true →
+    ReadsOn told name next old new reached
+read_on test is told name shown next old new reached (inl before) passed =
+    absurd (false≢true (sym is.full ∙ (rw (before.1) at passed)))
+read_on test is told name shown next old new reached (inr (file, named, part, inl within)) passed =
+    absurd (false≢true (sym (untold_within test is file.ending) ∙ (rw (within.1) at passed)))
+read_on test is told name shown next old new reached (inr (file, named, part, inr (enough, rest))) passed =
+    record { file = file; named = named; part = part; enough = enough; rest = rest }
+
+-- a result was no fault, since its fault doesn't pass
+pub unless_on : {A : Type 0} (test : Status → Bool) (told : Option (List File)) (result : Result A Status)
+    (f : A → Plan Outcome) (old new : List Heard) (reached : Reached Outcome) →
+    Follows told (unless_refused result >>= f) old new reached → test (outcome_of reached).status ≡ true →
+    ((status : Status) → result ≡ Err status → test status ≡ false) →
+    (value : A) × (result ≡ Ok value) × Follows told (f value) old new reached
+unless_on test told (Ok value) f old new reached follows passed faulty = (value, refl, follows)
+unless_on test told (Err status) f old new reached follows passed faulty =
+    absurd (false≢true (sym (faulty status refl) ∙ (rw (follows.1) at passed)))
+
+-- a rule file that is accepted has these rules
+pub accepted_rules : (result : Result RuleLists LineFault) (lists : RuleLists) →
+    refused_rules RulesRefused result ≡ Ok lists → result ≡ Ok lists
+accepted_rules (Ok all) lists is = let same : all ≡ lists = cc in ap Ok same
+accepted_rules (Err fault) lists is = absurd (cc)
+
+untold_rules : (result : Result RuleLists LineFault) (status : Status) →
+    refused_rules RulesRefused result ≡ Err status → is_told status ≡ false
+untold_rules (Ok all) status is = absurd (cc)
+untold_rules (Err fault) status is = let same : RulesRefused fault ≡ status = cc in rw (← same) refl
+
+-- the result of a test that refuses is no report
+untold_table : (fits : Bool) (table : TableView) (refusal status : Status) → is_told refusal ≡ false →
+    (if fits then Ok table else Err refusal) ≡ Err status → is_told status ≡ false
+untold_table true table refusal status no_report is = absurd (cc)
+untold_table false table refusal status no_report is = let same : refusal ≡ status = cc in rw (← same) no_report
+
+untold_total : (budget : ℕ) (family : Family) (lists : RuleLists) (status : Status) →
+    table_within budget family lists ≡ Err status → is_told status ≡ false
+untold_total budget family lists status is =
+    untold_table (nat_le (total_of (set_of family lists) budget) budget) (built_of (set_of family lists) budget)
+    (TooLarge family (total_of (set_of family lists) budget) budget) status refl is
+
+-- a table that was made is that of the rules, and within the budget
+table_made : (budget : ℕ) (family : Family) (lists : RuleLists) (table : TableView) →
+    table_within budget family lists ≡ Ok table →
+    (table ≡ built_of (set_of family lists) budget) × (total_of (set_of family lists) budget ≤ budget)
+table_made budget family lists table is = go (nat_le (total_of (set_of family lists) budget) budget) refl is
+  where
+    go : (fits : Bool) → nat_le (total_of (set_of family lists) budget) budget ≡ fits →
+        (if fits then Ok (built_of (set_of family lists) budget)
+        else Err (TooLarge family (total_of (set_of family lists) budget) budget)) ≡ Ok table →
+        (table ≡ built_of (set_of family lists) budget) × (total_of (set_of family lists) budget ≤ budget)
+    go true at e = (cc, leb-true (total_of (set_of family lists) budget) budget at)
+    go false at e = absurd (cc)
+
+-- Both tables were made, and the rest of the plan followed.
+pub record MakesBoth (told : Option (List File)) (budget : ℕ) (lists : RuleLists) (f : Tables → Plan Outcome)
+    (old new : List Heard) (reached : Reached Outcome) : Type 0 where
+  pub tables : Tables
+  pub within : tables_within budget lists ≡ Give tables
+  pub ip4_is : tables.ip4 ≡ built_of (set_of Ip4 lists) budget
+  pub ip6_is : tables.ip6 ≡ built_of (set_of Ip6 lists) budget
+  pub ip4_fits : total_of (set_of Ip4 lists) budget ≤ budget
+  pub ip6_fits : total_of (set_of Ip6 lists) budget ≤ budget
+  pub rest : Follows told (f tables) old new reached
+
+-- the tables of both families were made
+both_on : (told : Option (List File)) (budget : ℕ) (lists : RuleLists) (f : Tables → Plan Outcome)
+    (old new : List Heard) (reached : Reached Outcome) →
+    Follows told (tables_within budget lists >>= f) old new reached → is_told (outcome_of reached).status ≡ true →
+    MakesBoth told budget lists f old new reached
+both_on told budget lists f old new reached follows is =
+    go (table_within budget Ip4 lists) (table_within budget Ip6 lists) refl refl follows
+  where
+    go : (one two : Result TableView Status) → table_within budget Ip4 lists ≡ one →
+        table_within budget Ip6 lists ≡ two →
+        Follows told
+        ((unless_refused one >>= λ ip4. unless_refused two >>= λ ip6. Give (record { ip4 = ip4; ip6 = ip6 })) >>= f)
+        old new reached → MakesBoth told budget lists f old new reached
+    go (Ok ip4) (Ok ip6) at_ip4 at_ip6 rest =
+        let first = table_made budget Ip4 lists ip4 at_ip4 in
+        let second = table_made budget Ip6 lists ip6 at_ip6 in
+        record {
+          tables = record { ip4 = ip4; ip6 = ip6 };
+          within = rw (at_ip4, at_ip6) refl;
+          ip4_is = first.0;
+          ip6_is = second.0;
+          ip4_fits = first.1;
+          ip6_fits = second.1;
+          rest = rest;
+        }
+    go (Ok ip4) (Err status) at_ip4 at_ip6 rest =
+        absurd (false≢true (sym (untold_total budget Ip6 lists status at_ip6) ∙ (rw (rest.1) at is)))
+    go (Err status) two at_ip4 at_ip6 rest =
+        absurd (false≢true (sym (untold_total budget Ip4 lists status at_ip4) ∙ (rw (rest.1) at is)))
+
+-- some list is longer than a number
+longer : (n : ℕ) → (long : List ℕ) × (n < length long)
+longer n = (replicate (n + 1) 0, omega (arith, length-replicate {A = ℕ} (n + 1) 0))
+
+-- a plan asks for a file
+abbrev asks : Plan Outcome → Bool
+asks (Give value) = false
+asks (Stop status) = false
+asks (Read name shown next) = true
+
+-- What a `classify` heard that ended with a report, and what it reached.
+pub record Classified (rules capture : List ℕ) (options : Options) (old new : List Heard) (reached : Reached Outcome)
+    : Type 0 where
+  pub rule_file : Heard
+  pub file : Heard
+  pub lists : RuleLists
+  pub tables : Tables
+  pub rules_named : rule_file.name ≡ rules
+  pub named : file.name ≡ capture
+  pub newest : new ≡ file ∷ rule_file ∷ old
+  pub whole : rule_file.ending ≡ Ended
+  pub accepted : rule_file_of rule_file.bytes ≡ Ok lists
+  pub within : tables_within options.max_words lists ≡ Give tables
+  pub ip4_is : tables.ip4 ≡ built_of (set_of Ip4 lists) options.max_words
+  pub ip6_is : tables.ip6 ≡ built_of (set_of Ip6 lists) options.max_words
+  pub ip4_fits : total_of (set_of Ip4 lists) options.max_words ≤ options.max_words
+  pub ip6_fits : total_of (set_of Ip6 lists) options.max_words ≤ options.max_words
+  pub enough : IsEnough (λ bytes. Give (report (form_of (ByRules lists) tables options) bytes)) file
+  pub is : reached ≡ Given (report (form_of (ByRules lists) tables options) file.bytes)
+
+-- what comes after the rules
+abbrev pub after_rules : Options → List ℕ → RuleLists → Plan Outcome
+after_rules options capture lists =
+    tables_within options.max_words lists >>= λ tables. reported (form_of (ByRules lists) tables options) capture
+
+-- what comes after the bytes of the rule file
+abbrev pub after_bytes : Options → List ℕ → List ℕ → Plan Outcome
+after_bytes options capture bytes = unless_refused (rules_of_bytes RulesRefused bytes) >>= after_rules options capture
+
+-- an accepted rule file isn't all of it where more bytes may come: with enough of them it is too long
+never_enough : (options : Options) (capture bytes long : List ℕ) (lists : RuleLists) (tables : Tables) →
+    max_rule_file < length long → rules_of_bytes RulesRefused bytes ≡ Ok lists →
+    tables_within options.max_words lists ≡ Give tables →
+    after_bytes options capture (bytes ++ long) ≡ after_bytes options capture bytes → ⊥
+never_enough options capture bytes long lists tables is_long accepted within same =
+    let refused = rule_file_of-long (bytes ++ long) (omega (arith, length-append bytes long, is_long)) in
+    let stops : asks (after_bytes options capture (bytes ++ long)) ≡ false =
+    ap (λ (r : Result RuleLists LineFault). asks (unless_refused (refused_rules RulesRefused r)
+    >>= after_rules options capture)) refused in
+    let reads : asks (after_bytes options capture bytes) ≡ true =
+    ap (λ (r : Result RuleLists Status). asks (unless_refused r >>= after_rules options capture)) accepted
+    ∙ ap (λ (plan : Plan Tables). asks (plan >>= λ tables. reported (form_of (ByRules lists) tables options) capture))
+    within in
+    false≢true (sym stops ∙ ap asks same ∙ reads)
+
+whole_rules : (options : Options) (capture : List ℕ) (file : Heard) (lists : RuleLists) (tables : Tables) →
+    rules_of_bytes RulesRefused file.bytes ≡ Ok lists → tables_within options.max_words lists ≡ Give tables →
+    IsEnough (after_bytes options capture) file → file.ending ≡ Ended
+whole_rules options capture file lists tables accepted within (inl ended) = ended
+whole_rules options capture file lists tables accepted within (inr on) =
+    let (long, is_long) = longer max_rule_file in
+    absurd (never_enough options capture file.bytes long lists tables is_long accepted within ((on.1) long))
+
+-- A `classify` that ended with a report heard both files, and reached the report.
+pub classify_heard : (rules capture : List ℕ) (options : Options) (told : Option (List File)) (old new : List Heard)
+    (reached : Reached Outcome) → Follows told (classify_plan rules capture options) old new reached →
+    is_told (outcome_of reached).status ≡ true → Classified rules capture options old new reached
+classify_heard rules capture options told old new reached follows is =
+    let first = read_on is_told told_test told rules nothing (after_bytes options capture) old new reached follows is in
+    let (lists, accepted, rest) =
+    unless_on is_told told (rules_of_bytes RulesRefused first.file.bytes) (after_rules options capture)
+    (first.file ∷ old) new reached first.rest is (λ status e. untold_rules (rule_file_of first.file.bytes) status e) in
+    let both =
+    both_on told options.max_words lists (λ tables. reported (form_of (ByRules lists) tables options) capture)
+    (first.file ∷ old) new reached rest is in
+    let form : ReportForm = form_of (ByRules lists) both.tables options in
+    let second = read_on is_told told_test told capture (lines_so_far form) (λ bytes. Give (report form bytes))
+    (first.file ∷ old) new reached both.rest is in
+    record {
+      rule_file = first.file;
+      file = second.file;
+      lists = lists;
+      tables = both.tables;
+      rules_named = first.named;
+      named = second.named;
+      newest = second.rest.0;
+      whole = whole_rules options capture first.file lists both.tables accepted both.within first.enough;
+      accepted = accepted_rules (rule_file_of first.file.bytes) lists accepted;
+      within = both.within;
+      ip4_is = both.ip4_is;
+      ip6_is = both.ip6_is;
+      ip4_fits = both.ip4_fits;
+      ip6_fits = both.ip6_fits;
+      enough = second.enough;
+      is = second.rest.1;
+    }

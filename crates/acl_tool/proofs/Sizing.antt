@@ -1,0 +1,285 @@
+-- How large the tables were of which `classify` tells, and when rules were too large.
+use Rattle.std.proofs.Common.{◌≡◌, ◌⊎◌, ℕ, ◌+◌, ◌<◌, List, [], ◌∷◌, ◌++◌, length, map, Bool, true, false}
+use Rattle.std.proofs.Common.{Option, Some, None, Result, Ok, Err, inl, inr, refl, sym, ap, subst, ◌∙◌, append-nil}
+use Rattle.std.proofs.Common.{append_assoc, suc}
+use Rattle.std.proofs.lemmas.List.{length-map}
+use Rattle.std.specs.Prelude.{codes, nat_le, if◌then◌else◌}
+use Rattle.std.proofs.lemmas.Bool.{false≢true, leb-false}
+use Rattle.field_defs.specs.declared.field.Family.{Family}
+use Rattle.field_defs.specs.declared.field.Family.TheVariants.{Ip4, Ip6}
+use Rattle.rule_set.specs.Rule.{RuleSetView}
+use Rattle.trie_merge.specs.Levels.{LevelsView, levels_of}
+use Rattle.rule_split.specs.Split.{groups_of, total_of}
+use Rattle.flat_table.specs.Table.{TableView, words_of}
+use Rattle.table_fill.specs.Filled.{filled, roots_of, nodes_len, table_of_tries}
+use Rattle.acl_context.specs.Context.{built_of}
+use Rattle.acl_outside.specs.Desk.{File}
+use Rattle.acl_outside.specs.Heard.{Heard}
+use Rattle.classbench_reader.specs.RuleFile.{RuleLists, rule_file_of}
+use Rattle.classbench_reader.specs.declared.fault.LineFault.{LineFault}
+use Rattle.pcap_reader.specs.declared.fault.CaptureFault.{CaptureFault}
+use Rattle.pcap_reader.specs.Capture.{capture_of, whole_records}
+use Rattle.acl_report.specs.Counts.{packets_text}
+use Rattle.acl_report.specs.Tables.{table_text, transitions_text}
+use Rattle.command_words.specs.Options.{Options}
+use Rattle.command_words.specs.Command.{command}
+use Rattle.command_plan.specs.declared.status.Status.{Status}
+use Rattle.command_plan.specs.declared.status.Status.TheVariants.{OutOfMemory, RulesRefused, TooLarge}
+use Rattle.command_plan.specs.declared.status.Status.TheVariants.{WriteFault}
+use Rattle.command_plan.specs.Plan.{Outcome, Give, ◌>>=◌, nothing, unless_refused}
+use Rattle.command_plan.specs.Follow.{Reached, Stopped, Follows, outcome_of}
+use Rattle.command_plan.specs.Effects.{Outside, files_of, heard_of}
+use Rattle.capture_report.specs.Classifier.{ByRules, Tables}
+use Rattle.capture_report.specs.ReportForm.{ReportForm}
+use Rattle.capture_report.specs.Shown.{counts_of_records, fault_of_capture, status_of_fault}
+use Rattle.capture_report.specs.Report.{line_of_table, stats_of, stats_text, transitions_of_records}
+use Rattle.capture_report.specs.CaptureOutcome.{lines_so_far, report, reported}
+use Rattle.acl_tool.specs.Built.{WordsAreTotals}
+use Rattle.acl_tool.specs.FamilySet.{set_of}
+use Rattle.acl_tool.specs.RuleTables.{refused_rules, rules_of_bytes, table_within}
+use Rattle.acl_tool.specs.ClassifyPlan.{classify_plan, form_of}
+use Rattle.acl_tool.specs.Effects.{Answers}
+use Rattle.acl_tool.specs.Headline.{lines_to}
+use Rattle.acl_tool.specs.Sizes.{ClassifySizes, NeedsMore, TellsSizes, budget_given, size_line}
+use Rattle.acl_tool.proofs.Asked.{Asked, asked_words}
+use Rattle.acl_tool.proofs.ReadOn.{IsTest, accepted_rules, after_bytes, after_rules, read_on, unless_on}
+use Rattle.acl_tool.proofs.Printing.{ReportedBy, asked_of, heard_by, report_status, reported_by, text_same}
+
+-- a status of rules that are too large
+abbrev is_large : Status → Bool
+is_large (TooLarge family words budget) = true
+is_large status = false
+
+large_test : IsTest is_large
+large_test = record { unread = refl; full = refl }
+
+small_report : (fault : Option CaptureFault) → is_large (status_of_fault fault) ≡ false
+small_report None = refl
+small_report (Some fault) = refl
+
+-- a table has as many rules as its set
+built_rules : (set : RuleSetView) (budget : ℕ) → (built_of set budget).rules ≡ length set.rules
+unfolding filled table_of_tries
+built_rules set budget = refl
+
+roots_length : (place : ℕ) (tries : List LevelsView) → length (roots_of place tries) ≡ length tries
+roots_length place [] = refl
+roots_length place (trie ∷ tries) = ap suc (roots_length (place + nodes_len trie) tries)
+
+-- and a trie for each group of the split
+built_tries : (set : RuleSetView) (budget : ℕ) → length (built_of set budget).roots ≡ length (groups_of set budget)
+unfolding filled table_of_tries
+built_tries set budget =
+    roots_length 0 (map (levels_of set) (groups_of set budget)) ∙ length-map (groups_of set budget) (levels_of set)
+
+-- the line of a table is that of its sizes
+size_line_is : (family : Family) (lists : RuleLists) (budget : ℕ) (table : TableView) →
+    table ≡ built_of (set_of family lists) budget → WordsAreTotals lists budget →
+    line_of_table family table ≡ size_line family lists budget
+size_line_is family lists budget table is totals =
+    let set = set_of family lists in
+    ap (line_of_table family) is
+    ∙ ap (λ (n : ℕ). table_text family n (length (built_of set budget).roots) (words_of (built_of set budget)))
+    (built_rules set budget)
+    ∙ ap (λ (n : ℕ). table_text family (length set.rules) n (words_of (built_of set budget))) (built_tries set budget)
+    ∙ ap (λ (n : ℕ). table_text family (length set.rules) (length (groups_of set budget)) n) (totals family)
+
+-- a total that is above the budget is told so
+table_large : (budget : ℕ) (family : Family) (lists : RuleLists) (status : Status) →
+    table_within budget family lists ≡ Err status →
+    (status ≡ TooLarge family (total_of (set_of family lists) budget) budget)
+    × (budget < total_of (set_of family lists) budget)
+table_large budget family lists status is = go (nat_le (total_of (set_of family lists) budget) budget) refl is
+  where
+    go : (fits : Bool) → nat_le (total_of (set_of family lists) budget) budget ≡ fits →
+        (if fits then Ok (built_of (set_of family lists) budget)
+        else Err (TooLarge family (total_of (set_of family lists) budget) budget)) ≡ Err status →
+        (status ≡ TooLarge family (total_of (set_of family lists) budget) budget)
+        × (budget < total_of (set_of family lists) budget)
+    go true at e = absurd (cc)
+    go false at e = (cc, leb-false (total_of (set_of family lists) budget) budget at)
+
+-- What a `classify` heard whose rules are too large.
+record Large (rules : List ℕ) (options : Options) (status : Status) (old new : List Heard) (reached : Reached Outcome)
+    : Type 0 where
+  pub rule_file : Heard
+  pub named : rule_file.name ≡ rules
+  pub lists : RuleLists
+  pub family : Family
+  pub newest : new ≡ rule_file ∷ old
+  pub accepted : rule_file_of rule_file.bytes ≡ Ok lists
+  pub says : status ≡ TooLarge family (total_of (set_of family lists) options.max_words) options.max_words
+  pub above : options.max_words < total_of (set_of family lists) options.max_words
+  pub silent : (outcome_of reached).text ≡ []
+
+large_tables : (rules capture : List ℕ) (options : Options) (status : Status) (told : Option (List File)) (file : Heard)
+    (lists : RuleLists) (old new : List Heard) (reached : Reached Outcome) → file.name ≡ rules →
+    rule_file_of file.bytes ≡ Ok lists → status ≡ (outcome_of reached).status → is_large status ≡ true →
+    Follows told (after_rules options capture lists) (file ∷ old) new reached →
+    Large rules options status old new reached
+large_tables rules capture options status told file lists old new reached named accepted is large follows =
+    go (table_within options.max_words Ip4 lists) (table_within options.max_words Ip6 lists) refl refl follows
+  where
+    stopped : (family : Family) (refusal : Status) → table_within options.max_words family lists ≡ Err refusal →
+        (new ≡ file ∷ old) × (reached ≡ Stopped refusal) → Large rules options status old new reached
+    stopped family refusal at rest =
+        let all = table_large options.max_words family lists refusal at in
+        record {
+          rule_file = file;
+          named = named;
+          lists = lists;
+          family = family;
+          newest = rest.0;
+          accepted = accepted;
+          says = is ∙ ap (λ (r : Reached Outcome). (outcome_of r).status) (rest.1) ∙ all.0;
+          above = all.1;
+          silent = ap (λ (r : Reached Outcome). (outcome_of r).text) (rest.1);
+        }
+
+    go : (one two : Result TableView Status) → table_within options.max_words Ip4 lists ≡ one →
+        table_within options.max_words Ip6 lists ≡ two →
+        Follows told
+        ((unless_refused one >>= λ ip4. unless_refused two >>= λ ip6. Give (record { ip4 = ip4; ip6 = ip6 }))
+        >>= λ tables. reported (form_of (ByRules lists) tables options) capture)
+        (file ∷ old) new reached → Large rules options status old new reached
+    go (Ok ip4) (Ok ip6) at_ip4 at_ip6 rest =
+        let tables : Tables = record { ip4 = ip4; ip6 = ip6 } in
+        let form : ReportForm = form_of (ByRules lists) tables options in
+        let second = read_on is_large large_test told capture (lines_so_far form) (λ bytes. Give (report form bytes))
+        (file ∷ old) new reached rest (ap is_large (sym is) ∙ large) in
+        let ended : status ≡ status_of_fault (fault_of_capture (capture_of second.file.bytes)) =
+        is ∙ ap (λ (r : Reached Outcome). (outcome_of r).status) (second.rest.1)
+        ∙ report_status form (capture_of second.file.bytes) in
+        absurd (false≢true (sym (small_report (fault_of_capture (capture_of second.file.bytes)))
+        ∙ ap is_large (sym ended) ∙ large))
+    go (Ok ip4) (Err refusal) at_ip4 at_ip6 rest = stopped Ip6 refusal at_ip6 rest
+    go (Err refusal) two at_ip4 at_ip6 rest = stopped Ip4 refusal at_ip4 rest
+
+small_rules : (result : Result RuleLists LineFault) (status : Status) →
+    refused_rules RulesRefused result ≡ Err status → is_large status ≡ false
+small_rules (Ok all) status is = absurd (cc)
+small_rules (Err fault) status is = let same : RulesRefused fault ≡ status = cc in rw (← same) refl
+
+-- A `classify` whose rules are too large read the rule file alone.
+large_heard : (rules capture : List ℕ) (options : Options) (status : Status) (told : Option (List File))
+    (old new : List Heard) (reached : Reached Outcome) → status ≡ (outcome_of reached).status →
+    is_large status ≡ true → Follows told (classify_plan rules capture options) old new reached →
+    Large rules options status old new reached
+large_heard rules capture options status told old new reached is large follows =
+    let passed : is_large (outcome_of reached).status ≡ true = ap is_large (sym is) ∙ large in
+    let first = read_on is_large large_test told rules nothing (after_bytes options capture) old new reached follows
+    passed in
+    let (lists, accepted, rest) =
+    unless_on is_large told (rules_of_bytes RulesRefused first.file.bytes) (after_rules options capture)
+    (first.file ∷ old) new reached first.rest passed
+    (λ refusal e. small_rules (rule_file_of first.file.bytes) refusal e) in
+    large_tables rules capture options status told first.file lists old new reached first.named
+    (accepted_rules (rule_file_of first.file.bytes) lists accepted) is large rest
+
+-- where sizes are asked for, the last lines are those of the tables and of the transitions
+asked_stats : (form : ReportForm) (transitions : ℕ) → form.stats ≡ true →
+    stats_of form transitions ≡ stats_text form.tables transitions
+asked_stats form transitions on = rw on refl
+
+-- The lines of the tables are the last that were taken, but for that of the transitions.
+tells_sizes : (words : List (List ℕ)) (old new : Outside) (asked : Asked words old new (status_of_fault None)) →
+    ReportedBy asked.rules asked.capture asked.read old new None →
+    TellsSizes words (heard_of old.desk) (heard_of new.desk) old.out.taken new.out.taken
+tells_sizes words old new asked by =
+    let c = by.heard in
+    let form : ReportForm = form_of (ByRules c.lists) c.tables asked.read in
+    let records = whole_records c.file.bytes in
+    let transitions = transitions_of_records c.tables records in
+    let budget = budget_given asked.options in
+    let lines = lines_to c.lists asked.options records in
+    let counts = packets_text (counts_of_records records) in
+    let totals : WordsAreTotals c.lists budget =
+    subst (λ (n : ℕ). WordsAreTotals c.lists n) asked.said.max_words
+    (asked.totals refl c.rule_file c.file c.lists c.newest c.accepted) in
+    let ip4 = size_line_is Ip4 c.lists budget c.tables.ip4
+    (c.ip4_is ∙ ap (λ (n : ℕ). built_of (set_of Ip4 c.lists) n) asked.said.max_words) totals in
+    let ip6 = size_line_is Ip6 c.lists budget c.tables.ip6
+    (c.ip6_is ∙ ap (λ (n : ℕ). built_of (set_of Ip6 c.lists) n) asked.said.max_words) totals in
+    record {
+      heard = heard_by words old new None asked by;
+      front = lines ++ counts;
+      transitions = transitions;
+      taken = λ on.
+          by.taken
+          ∙ ap (λ (l : List ℕ). old.out.taken ++ l)
+          (text_same c.lists c.tables asked.read asked.options c.file.bytes None asked.said by.ended
+          ∙ sym (append_assoc lines counts (stats_of form transitions))
+          ∙ ap (λ (l : List ℕ). lines ++ counts ++ l)
+          (asked_stats form transitions (asked.said.stats ∙ on)
+          ∙ ap (λ (l : List ℕ). l ++ line_of_table Ip6 c.tables.ip6 ++ transitions_text transitions) ip4
+          ∙ ap (λ (l : List ℕ). size_line Ip4 c.lists budget ++ l ++ transitions_text transitions) ip6));
+    }
+
+-- the parts of a status of rules that are too large
+abbrev family_in : Status → Option Family
+family_in (TooLarge family words budget) = Some family
+family_in status = None
+
+abbrev words_in : Status → ℕ
+words_in (TooLarge family words budget) = words
+words_in status = 0
+
+abbrev budget_in : Status → ℕ
+budget_in (TooLarge family words budget) = budget
+budget_in status = 0
+
+same_family : (one two : Family) → Some one ≡ Some two → one ≡ two
+same_family one two is = cc
+
+large_status : (family : Family) (size budget : ℕ) (status : Status) →
+    (TooLarge family size budget ≡ status)
+    ⊎ ((TooLarge family size budget ≡ WriteFault) ⊎ (TooLarge family size budget ≡ OutOfMemory)) →
+    TooLarge family size budget ≡ status
+large_status family size budget status (inl is) = is
+large_status family size budget status (inr (inl written)) = absurd (cc)
+large_status family size budget status (inr (inr full)) = absurd (cc)
+
+needs_more : (words : List (List ℕ)) (old new : Outside) (family : Family) (size budget : ℕ) →
+    Asked words old new (TooLarge family size budget) →
+    NeedsMore words family size budget (heard_of old.desk) (heard_of new.desk) old.out.taken new.out.taken
+needs_more words old new family size budget asked =
+    let ends = asked.ends in
+    let same = large_status family size budget (outcome_of ends.reached).status ends.ended in
+    let l = large_heard asked.rules asked.capture asked.read (TooLarge family size budget) (files_of old.desk)
+    (heard_of old.desk) (heard_of new.desk) ends.reached same refl ends.follows in
+    let its : l.family ≡ family = same_family l.family family (sym (ap family_in l.says)) in
+    let most : budget ≡ asked.read.max_words = ap budget_in l.says in
+    let gains = ends.text (λ e. absurd (cc)) (λ e. absurd (cc)) in
+    let total : size ≡ total_of (set_of family l.lists) budget =
+    ap words_in l.says
+    ∙ ap (λ (f : Family). total_of (set_of f l.lists) asked.read.max_words) its
+    ∙ ap (λ (n : ℕ). total_of (set_of family l.lists) n) (sym most) in
+    record {
+      rule_file = l.rule_file;
+      capture = asked.capture;
+      options = asked.options;
+      rules = l.lists;
+      named =
+          asked.is
+          ∙ ap (λ (name : List ℕ). codes "classify" ∷ name ∷ asked.capture ∷ asked.options) (sym l.named);
+      once = l.newest;
+      accepted = l.accepted;
+      given = most ∙ asked.said.max_words;
+      total = total;
+      above = subst (λ (n : ℕ). budget < n) (sym (ap words_in l.says))
+          (subst (λ (n : ℕ). n < total_of (set_of l.family l.lists) asked.read.max_words) (sym most) l.above);
+      taken = gains.taken ∙ ap (λ (l : List ℕ). old.out.taken ++ l) l.silent ∙ append-nil old.out.taken;
+    }
+
+pub classify_sizes : (words : List (List ℕ)) (old new : Outside) (status : Status) →
+    Answers (command words) old new status →
+    ClassifySizes words status (heard_of old.desk) (heard_of new.desk) old.out.taken new.out.taken
+classify_sizes words old new status answers = record {
+  tells = λ after is done.
+      let asked = asked_of words old new status answers after None is done in
+      tells_sizes words old new asked (reported_by asked.rules asked.capture asked.read old new None asked.ends);
+  needs_more = λ after family size budget is large.
+      needs_more words old new family size budget
+      (asked_words words old new (TooLarge family size budget)
+      (subst (λ (s : Status). Answers (command words) old new s) large answers) refl after is);
+}

@@ -1,0 +1,65 @@
+-- How large the tables of `classify` are, said by itself: their tries and words, and when rules
+-- need more words than the budget.
+use Rattle.std.specs.Prelude.{◌≡◌, ℕ, ◌<◌, List, ◌∷◌, ◌++◌, length, codes, true, Ok}
+use Rattle.std.specs.Option.{option_map_or}
+use Rattle.text_scan.specs.Digits.{place_value}
+use Rattle.field_defs.specs.declared.field.Family.{Family}
+use Rattle.field_defs.specs.declared.field.Family.TheVariants.{Ip4, Ip6}
+use Rattle.rule_split.specs.Split.{groups_of, total_of}
+use Rattle.classbench_reader.specs.RuleFile.{RuleLists, rule_file_of}
+use Rattle.acl_outside.specs.Heard.{Heard}
+use Rattle.acl_report.specs.Tables.{table_text, transitions_text}
+use Rattle.command_words.specs.Options.{usual_words}
+use Rattle.command_plan.specs.declared.status.Status.{Status}
+use Rattle.command_plan.specs.declared.status.Status.TheVariants.{Done, TooLarge}
+use Rattle.acl_tool.specs.FamilySet.{set_of}
+use Rattle.acl_tool.specs.Headline.{Hears, is_on, value_given}
+
+-- how many words the table of a family may have: as many as `max-words=` says, or the usual number
+abbrev pub budget_given : List (List ℕ) → ℕ
+budget_given options =
+    option_map_or (place_value 10) (value_given (codes "max-words=") options) usual_words
+
+-- the line of a family's table: its rules, a trie for each group of their split, and the total of
+-- the split as its words
+abbrev pub size_line : Family → RuleLists → ℕ → List ℕ
+size_line family rules budget =
+    table_text family (length (set_of family rules).rules)
+    (length (groups_of (set_of family rules) budget))
+    (total_of (set_of family rules) budget)
+
+-- The last lines that were taken are those of both tables and that of the transitions.
+pub record TellsSizes (words : List (List ℕ)) (old new : List Heard) (out_old out_new : List ℕ)
+    : Type 0 where
+  pub heard : Hears words old new
+  pub front : List ℕ
+  pub transitions : ℕ
+  pub taken : is_on (codes "stats=") heard.options ≡ true → out_new ≡ out_old ++ (front
+      ++ (size_line Ip4 heard.rules (budget_given heard.options)
+      ++ size_line Ip6 heard.rules (budget_given heard.options)
+      ++ transitions_text transitions))
+
+-- The rules of the family need more words than the budget, which the split of the rules comes to.
+-- The rule file was read to its end, the capture wasn't opened, and nothing was taken.
+pub record NeedsMore (words : List (List ℕ)) (family : Family) (size budget : ℕ)
+    (old new : List Heard) (out_old out_new : List ℕ) : Type 0 where
+  pub rule_file : Heard
+  pub capture : List ℕ
+  pub options : List (List ℕ)
+  pub rules : RuleLists
+  pub named : words ≡ codes "classify" ∷ rule_file.name ∷ capture ∷ options
+  pub once : new ≡ rule_file ∷ old
+  pub accepted : rule_file_of rule_file.bytes ≡ Ok rules
+  pub given : budget ≡ budget_given options
+  pub total : size ≡ total_of (set_of family rules) budget
+  pub above : budget < size
+  pub taken : out_new ≡ out_old
+
+-- Wherever `classify` ends with Done, or with rules that are too large, it told so.
+pub record ClassifySizes (words : List (List ℕ)) (status : Status) (old new : List Heard)
+    (out_old out_new : List ℕ) : Type 0 where
+  pub tells : (after : List (List ℕ)) → words ≡ codes "classify" ∷ after → status ≡ Done →
+      TellsSizes words old new out_old out_new
+  pub needs_more : (after : List (List ℕ)) (family : Family) (size budget : ℕ) →
+      words ≡ codes "classify" ∷ after → status ≡ TooLarge family size budget →
+      NeedsMore words family size budget old new out_old out_new
