@@ -24,7 +24,12 @@ fn assert_says<F: Display + Drop>(
 #[test]
 fn a_table_says_what_is_unsound(rt: HostRuntime) -> Result<(), Fail> {
     let alloc = rt.alloc();
-    assert_says(&rt, alloc, SoundFault::Shape, "the parts don't fit together")?;
+    assert_says(
+        &rt,
+        alloc,
+        SoundFault::Shape,
+        "the parts don't fit together",
+    )?;
     let root = "root 3 doesn't lead into the first level of its trie";
     assert_says(&rt, alloc, SoundFault::Root(3), root)?;
     let word = "word 70 leads to no row and to no node of the next level";
