@@ -1,11 +1,15 @@
-//! The program over files and streams of the system.
+//! The program over files of the system, the words that the system gives, and closed streams.
 
-use crate::exit_code;
-use acl_outside::{StdDesk, StdSink};
+use crate::held_streams::held_stream;
+use crate::program::run_over;
+use crate::words::system_words;
+use os::FromRawFd;
 use std::alloc::{AllocError, Global};
+use std::env::FillError;
 use std::fs;
-use std::marker::Brand;
-use std::sync::ledger::Blank;
+use std::os::fd::{AsRawFd, OwnedFd};
+use std::process::ExitCode;
+use std::rt::Env;
 use std::test::Fail;
 
 /// The guide's rule, and two packets of which the first matches it.
@@ -21,7 +25,7 @@ const CAPTURE: &[u8] = b"\xd4\xc3\xb2\xa1\x02\x00\x04\x00\x00\x00\x00\x00\x00\x0
 \x00\x00\x00\x00\x40\x11\x00\x00\xc0\xa8\x01\x05\xc0\xa8\x02\x1f\
 \x13\x88\x04\xd3";
 
-fn words(alloc: Global, all: &[&str]) -> Result<Vec<String>, AllocError> {
+fn strings(alloc: Global, all: &[&str]) -> Result<Vec<String>, AllocError> {
     let mut words = Vec::new(alloc);
     for word in all {
         words.push(String::from_str(alloc, word)?)?;
@@ -57,18 +61,11 @@ fn the_guides_example_is_printed_as_it_is_shipped(rt: HostRuntime) -> Result<(),
         (&[], 2, "", "aclc: usage: word 1: missing command\n"),
     ];
     for (all, code, printed, told) in cases {
-        let all = words(rt.alloc(), all)?;
-        let mut out = StdSink::new(fs::create(&rt, "aclc_test.out")?);
-        let mut err = StdSink::new(fs::create(&rt, "aclc_test.err")?);
-        let ended = exit_code::<_, _, _, Brand>(
-            Blank::new(1),
-            rt.alloc(),
-            Some(all),
-            &mut StdDesk::new(&rt),
-            &mut out,
-            &mut err,
-        );
-        assert_eq!(rt; ended, code);
+        let all = strings(rt.alloc(), all)?;
+        let out = fs::create(&rt, "aclc_test.out")?;
+        let err = fs::create(&rt, "aclc_test.err")?;
+        let ended = run_over(&rt, rt.alloc(), Some(all), out, err);
+        assert!(rt; ended == ExitCode::from(code));
         assert_eq!(rt;
             fs::read(&rt, "aclc_test.out")?.as_slice(),
             printed.as_bytes()
@@ -84,4 +81,49 @@ fn the_guides_example_is_printed_as_it_is_shipped(rt: HostRuntime) -> Result<(),
         fs::remove_file(&rt, name)?;
     }
     Ok(())
+}
+
+/// A system whose command line has these words.
+#[derive(Drop)]
+struct CommandLine<'a>(&'a [&'a [u8]]);
+
+impl<'a> Env for CommandLine<'a> {
+    fn arg(&self, place: usize, buf: &mut [u8]) -> Result<usize, FillError> {
+        match self.0.get(place) {
+            Some(word) if word.len() <= buf.len() => {
+                buf[..word.len()].copy_from_slice(word);
+                Ok(word.len())
+            }
+            Some(_) => Err(FillError::TooLong),
+            None => Err(FillError::NotPresent),
+        }
+    }
+
+    fn var(&self, _name: &str, _buf: &mut [u8]) -> Result<usize, FillError> {
+        Err(FillError::NotPresent)
+    }
+
+    fn var_at(&self, _place: usize, _buf: &mut [u8]) -> Result<usize, FillError> {
+        Err(FillError::NotPresent)
+    }
+}
+
+#[test]
+fn all_words_are_had_and_none_where_one_is_no_text(rt: HostRuntime) {
+    let six: &[&[u8]] = &[b"aclc", b"classify", b"r", b"c", b"marks=on", b""];
+    for count in 0..7usize {
+        let words = system_words(&(CommandLine(&six[..count]), rt.alloc()));
+        assert_eq!(rt; words.map(|all| all.len()), Some(count));
+    }
+    let latin: &[&[u8]] = &[b"aclc", b"classify", b"r\xe8gles", b"c"];
+    assert!(rt; system_words(&(CommandLine(latin), rt.alloc())).is_none());
+}
+
+#[test]
+fn a_closed_stream_is_held_and_an_open_one_is_not(rt: HostRuntime) {
+    assert!(rt; held_stream(&rt).is_none());
+    // Standard input is closed.
+    drop(unsafe { OwnedFd::from_raw_fd(0) });
+    let held = held_stream(&rt);
+    assert_eq!(rt; held.map(|null| null.as_raw_fd()), Some(0));
 }
