@@ -11,7 +11,7 @@ same_class Ip4 Ip4 = true
 same_class Ip6 Ip6 = true
 same_class Other Other = true
 same_class Short Short = true
-same_class one other = false
+same_class first second = false
 
 -- the counts of records of these classes
 abbrev pub counts_of : List Class → Counts
