@@ -6,7 +6,7 @@ use Rattle.std.proofs.lemmas.List.{drop_more, drop_all}
 use Rattle.shared_parts.specs.declared.pieces.Piece.{Piece}
 use Rattle.shared_parts.specs.declared.target.Target.{Target}
 use Rattle.shared_parts.specs.Keys.{KeyAt, same_pair}
-use Rattle.shared_parts.specs.Target.{count, Grows, JoinsIn, Leads}
+use Rattle.shared_parts.specs.Target.{count, Grows, JoinsIn, HasEntry, Leads}
 use Rattle.shared_parts.specs.Pieces.{number_at, Covers, PiecesLead, Pushed, Merges}
 use Rattle.shared_parts.proofs.Leading.{count_grows, grows_none, grows_on, leads_grow, pair_is_led}
 
@@ -111,6 +111,19 @@ rest_some pieces place first below rest = elim (cases_lt place (length pieces)) 
       absurd (omega (arith, below, end))
 ]
 
+-- a piece begins before the end
+pub rest_below : (pieces : List Piece) (place first : ℕ) → place < length pieces → RestIs pieces place first
+    → first < 256
+rest_below pieces place first within rest =
+    let its : Covers first (get_or pieces place no_piece ∷ drop (place + 1) pieces) 256 =
+    subst (λ ps. Covers first ps 256) (drop_more pieces place no_piece within) rest.covers in
+    omega (arith, its.0, covers_rise ((get_or pieces place no_piece).last + 1) 256 (drop (place + 1) pieces) its.1)
+
+-- and none at the end
+pub rest_end : (pieces : List Piece) (place first : ℕ) → length pieces ≤ place → RestIs pieces place first
+    → first ≡ 256
+rest_end pieces place first past rest = subst (λ ps. Covers first ps 256) (drop_all place pieces past) rest.covers
+
 module _ (pieces : List Piece) (place first : ℕ) (below : first < 256) (rest : RestIs pieces place first) (p : Piece)
     (is : p ≡ get_or pieces place no_piece) where
   piece_first : drop place pieces ≡ p ∷ drop (place + 1) pieces
@@ -159,6 +172,7 @@ module _ (pieces : List Piece) (place first : ℕ) (below : first < 256) (rest :
 -- The pieces of the bytes before one are those of the pair.
 pub record Merged (old now : Target) (one other pieces : List Piece) (i j first : ℕ) : Type 0 where
   pub grows : Grows old now
+  pub entries : (entry : ℕ) → HasEntry now entry → HasEntry old entry
   pub left : RestIs one i first
   pub right : RestIs other j first
   pub covers : Covers 0 pieces first
@@ -170,6 +184,7 @@ pub none_merged : (old : Target) (one other : List Piece) → Covers 0 one 256 �
     → Merged old old one other [] 0 0 0
 none_merged old one other left right = record {
   grows = grows_none old;
+  entries = λ entry has. has;
   left = rest_all one left;
   right = rest_all other right;
   covers = refl;
@@ -204,10 +219,12 @@ module _ (old now new : Target) (one other pieces pieces' : List Piece) (i j fir
       )
 
   pub one_merged : (last to : ℕ) → first ≤ last → last ≤ mine.last → last ≤ its.last → Grows now new →
+      ((entry : ℕ) → HasEntry new entry → HasEntry now entry) →
       JoinsIn new mine.to its.to to → to ≤ count new → Pushed pieces pieces' last to →
       Merged old new one other pieces' (cond (mine.last == last) (i + 1) i) (cond (its.last == last) (j + 1) j) (last + 1)
-  one_merged last to from in_mine in_its grows joins within pushed = record {
+  one_merged last to from in_mine in_its grows entries joins within pushed = record {
     grows = grows_on old now new so_far.grows grows;
+    entries = λ entry has. so_far.entries entry (entries entry has);
     left = rest_on one i first below so_far.left mine mine_is last from in_mine;
     right = rest_on other j first below so_far.right its its_is last from in_its;
     covers = pushed.covers first so_far.covers from;
@@ -238,6 +255,7 @@ all_merged old now one other pieces i j first end so_far =
     let last : first ≡ 256 = omega (arith, end, covers_rise first 256 (drop i one) so_far.left.covers) in
     record {
       grows = so_far.grows;
+      entries = so_far.entries;
       covers = subst (Covers 0 pieces) last so_far.covers;
       leads = λ step pairs a b part at some more lead_a lead_b byte below.
           so_far.leads step pairs a b part at some more lead_a lead_b byte (omega (arith, below, last));

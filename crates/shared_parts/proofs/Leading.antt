@@ -12,8 +12,8 @@ use Rattle.shared_parts.specs.Keys.{KeyAt, same_pair}
 use Rattle.shared_parts.specs.Tree.{Tree, leaves, Joins, IsLeaf, Stands, stepped}
 use Rattle.shared_parts.specs.Tree.Tree.{Leaf, Node}
 use Rattle.shared_parts.specs.Rows.{row_of_entry, join_rows, best_row, IsRow}
-use Rattle.shared_parts.specs.Target.{count, StandsIn, Grows, JoinsIn, IsEntryIn, Leads}
-use Rattle.shared_parts.proofs.Keys.{key_some, key_is}
+use Rattle.shared_parts.specs.Target.{count, StandsIn, Grows, JoinsIn, IsEntryIn, IsFoundIn, Leads}
+use Rattle.shared_parts.proofs.Keys.{key_grows, key_some, key_is}
 use Rattle.shared_parts.proofs.RowLaws.{join-none, best_append, entry_has_rank, row_grows, no_row, some_row}
 use Rattle.shared_parts.proofs.Standing.{pair_sound, stands_grow, none_joined}
 
@@ -154,10 +154,18 @@ entry_stands (Rows rows) rule entry number entries is at =
     (subst (λ row. IsRow rows.rows row number) (sym (join-none (row_of_entry rows.ranked entry)))
     (some_row rows.rows (row_of_entry rows.ranked entry) number (entry_has_rank rows.ranked entry) at))
 
--- The number stands for what is left of one rule.
-abbrev pub IsFoundIn : Target → Option ℕ → ℕ → Type 0
-IsFoundIn target None number = number ≡ 0
-IsFoundIn target (Some entry) number = IsEntryIn target entry number
+-- what is left of one rule has the same number when more come
+pub found_grows : (old new : Target) (found : Option ℕ) (number : ℕ) → Grows old new → IsFoundIn old found number
+    → IsFoundIn new found number
+found_grows old new None number grows is = is
+found_grows (Parts pairs) (Parts now) (Some entry) number (more, same) is =
+    subst (λ ps. KeyAt same_pair ps (0, entry) number) (sym same) (key_grows same_pair pairs more (0, entry) number is)
+found_grows (Parts pairs) (Rows rows) (Some entry) number grows is = absurd grows
+found_grows (Rows rows) (Parts pairs) (Some entry) number grows is = absurd grows
+found_grows (Rows rows) (Rows now) (Some entry) number (same, more) is =
+    subst (λ ranked. KeyAt bytes_eq now.rows (row_of_entry ranked entry) number) (sym same)
+    (subst (λ rs. KeyAt bytes_eq rs (row_of_entry rows.ranked entry) number) (sym more.1)
+    (key_grows bytes_eq rows.rows more.0 (row_of_entry rows.ranked entry) number is))
 
 module _ (step : ℕ → Option ℕ) (pairs : List (ℕ × ℕ)) (target : Target) (part number : ℕ) where
   -- an entry leads to what the step makes of it

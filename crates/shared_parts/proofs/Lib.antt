@@ -4,3 +4,6 @@ pub mod Standing
 pub mod Leading
 pub mod Slices
 pub mod Covering
+pub mod Pairs
+pub mod All
+pub mod Offered

@@ -32,6 +32,13 @@ get-join (x ∷ xs) [] i same below = absurd (omega (arith, same))
 get-join (x ∷ xs) (y ∷ ys) zero same below = refl
 get-join (x ∷ xs) (y ∷ ys) (suc i) same below = get-join xs ys i (omega (arith, same)) (omega arith)
 
+-- the rank of a category in two rows as one, where either may be missing
+pub get-join-any : (one other : List ℕ) (i : ℕ) → get_or (join_rows one other) i 0 ≡ max (get_or one i 0) (get_or other i 0)
+get-join-any [] other i = omega arith
+get-join-any (x ∷ xs) [] i = omega arith
+get-join-any (x ∷ xs) (y ∷ ys) zero = refl
+get-join-any (x ∷ xs) (y ∷ ys) (suc i) = get-join-any xs ys i
+
 pub join-none : (row : List ℕ) → join_rows row [] ≡ row
 join-none [] = refl
 join-none (x ∷ xs) = refl

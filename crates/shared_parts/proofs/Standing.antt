@@ -15,6 +15,11 @@ pair_sound one other same =
     let parts = and_parts (one.0 == other.0) (one.1 == other.1) same in
     λ i. (eqb-true one.0 other.0 parts.0 i, eqb-true one.1 other.1 parts.1 i)
 
+-- Two functions give the leaves of a tree the same entries.
+abbrev pub SameOn : Tree → (ℕ → Option ℕ) → (ℕ → Option ℕ) → Type 0
+SameOn (Leaf rule) f g = f rule ≡ g rule
+SameOn (Node left right) f g = SameOn left f g × SameOn right f g
+
 module _ (pairs more : List (ℕ × ℕ)) where
   pub joins_grow : (left right number : ℕ) → Joins pairs left right number → Joins (pairs ++ more) left right number
   joins_grow left right number (inl a) = inl a
@@ -58,6 +63,28 @@ module _ (pairs : List (ℕ × ℕ)) where
       ∙ (λ i. none_left left entries (subst (Stands pairs left entries) none.0 a) i
       ++ none_left right entries (subst (Stands pairs right entries) none.1 b) i)
 
+  both_none : (xs ys : List ℕ) → xs ++ ys ≡ [] → (xs ≡ []) × (ys ≡ [])
+  both_none [] ys none = (refl, none)
+  both_none (x ∷ xs) ys none = absurd cc
+
+  -- and only number 0 does
+  pub nothing_stands : (tree : Tree) (entries : ℕ → Option ℕ) (number : ℕ) → filter_map entries (leaves tree) ≡ []
+      → Stands pairs tree entries number → number ≡ 0
+  nothing_stands (Leaf rule) entries number none stands = by (entries rule) none stands
+    where
+      by : (found : Option ℕ) → cons_option found [] ≡ [] → IsLeaf pairs found number → number ≡ 0
+      by None none is = is
+      by (Some entry) none is = absurd cc
+  nothing_stands (Node left right) entries number none (one, other, a, b, joins) =
+      let parts = both_none (filter_map entries (leaves left)) (filter_map entries (leaves right))
+      (sym (filter_map-append entries (leaves left) (leaves right)) ∙ none) in
+      by (nothing_stands left entries one parts.0 a) (nothing_stands right entries other parts.1 b) joins
+    where
+      by : one ≡ 0 → other ≡ 0 → Joins pairs one other number → number ≡ 0
+      by x y (inl (l, n)) = n ∙ y
+      by x y (inr (inl (r, n))) = n ∙ x
+      by x y (inr (inr (some, more, at))) = absurd (omega (arith, x, some))
+
   joins_alone : (left right one other : ℕ) → Joins pairs left right one → Joins pairs left right other → one ≡ other
   joins_alone left right one other (inl (l, n)) (inl (k, m)) = n ∙ sym m
   joins_alone left right one other (inl (l, n)) (inr (inl (k, m))) = omega (arith, l, n, k, m)
@@ -70,15 +97,9 @@ module _ (pairs : List (ℕ × ℕ)) where
   joins_alone left right one other (inr (inr (a, b, at))) (inr (inr (c, d, to))) =
       key_alone same_pair pairs (left, right) one other at to
 
-  -- Two functions give the leaves of a tree the same entries.
-  pub SameOn : Tree → (ℕ → Option ℕ) → (ℕ → Option ℕ) → Type 0
-  SameOn (Leaf rule) f g = f rule ≡ g rule
-  SameOn (Node left right) f g = SameOn left f g × SameOn right f g
-
   -- equal parts have equal numbers
   pub stands_alone : (tree : Tree) (f g : ℕ → Option ℕ) (one other : ℕ) → SameOn tree f g → Stands pairs tree f one
       → Stands pairs tree g other → one ≡ other
-  unfolding SameOn
   stands_alone (Leaf rule) f g one other same a b = by (g rule) (subst (λ found. IsLeaf pairs found one) same a) b
     where
       by : (found : Option ℕ) → IsLeaf pairs found one → IsLeaf pairs found other → one ≡ other

@@ -14,7 +14,18 @@ pub record KeyAt {X : Type 0} (same : X → X → Bool) (keys : List X) (key : X
 abbrev pub same_pair : ℕ × ℕ → ℕ × ℕ → Bool
 same_pair one other = one.0 == other.0 && one.1 == other.1
 
--- The parts are lower than the pair that is made of them. A pair whose left part is 0 is an entry.
+-- The parts are lower than the pair that is made of them, and there. A pair whose left part is 0 is
+-- an entry.
 abbrev pub AreLower : List (ℕ × ℕ) → Type 0
 AreLower pairs = (k : ℕ) → k < length pairs → 0 < (slice_index_or pairs k (0, 0)).0 →
-    ((slice_index_or pairs k (0, 0)).0 ≤ k) × ((slice_index_or pairs k (0, 0)).1 ≤ k)
+    ((slice_index_or pairs k (0, 0)).0 ≤ k) × (0 < (slice_index_or pairs k (0, 0)).1)
+    × ((slice_index_or pairs k (0, 0)).1 ≤ k)
+
+-- No pair stands twice.
+abbrev pub AreDistinct : List (ℕ × ℕ) → Type 0
+AreDistinct pairs = (k : ℕ) → k < length pairs →
+    KeyAt same_pair pairs (slice_index_or pairs k (0, 0)) (k + 1)
+
+-- the entry is among the pairs
+abbrev pub has_entry : List (ℕ × ℕ) → ℕ → Bool
+has_entry pairs entry = list_any (same_pair (0, entry)) pairs

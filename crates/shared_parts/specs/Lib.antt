@@ -5,3 +5,4 @@ pub mod RowsView
 pub mod Target
 pub mod Pieces
 pub mod Slices
+pub mod Joined

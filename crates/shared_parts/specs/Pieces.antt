@@ -4,7 +4,7 @@ use Rattle.std.specs.Prelude.{slice_index_or, if◌then◌else◌}
 use Rattle.shared_parts.specs.declared.pieces.Piece.{Piece}
 use Rattle.shared_parts.specs.declared.target.Target.{Target}
 use Rattle.shared_parts.specs.Keys.{KeyAt, same_pair}
-use Rattle.shared_parts.specs.Target.{Leads, Grows, count}
+use Rattle.shared_parts.specs.Target.{Leads, Grows, HasEntry, count}
 
 -- what a byte leads to: the first piece that ends with it or after it
 abbrev pub number_at : List Piece → ℕ → ℕ
@@ -33,6 +33,7 @@ pub record Pushed (old new : List Piece) (last to : ℕ) : Type 0 where
 -- The pieces are those of a pair, where the two lists of pieces are those of its parts.
 pub record Merges (old new : Target) (one other pieces : List Piece) : Type 0 where
   pub grows : Grows old new
+  pub entries : (entry : ℕ) → HasEntry new entry → HasEntry old entry
   pub covers : Covers 0 pieces 256
   pub leads : (step : ℕ → ℕ → Option ℕ) (pairs : List (ℕ × ℕ)) (left right part : ℕ) →
       KeyAt same_pair pairs (left, right) part → 0 < left → 0 < right →

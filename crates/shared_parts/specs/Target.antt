@@ -1,12 +1,12 @@
 -- What the bytes of a place lead to: numbered parts of the next place, or after the last place
 -- numbered rows.
-use Rattle.std.specs.Prelude.{◌≡◌, ℕ, ◌<◌, ◌≤◌, List, [], ◌++◌, length, Option}
+use Rattle.std.specs.Prelude.{◌≡◌, ℕ, ◌<◌, ◌≤◌, List, [], ◌++◌, length, true, Option, Some, None, ◌⊎◌}
 use Rattle.std.specs.List.{filter_map}
 use Rattle.std.specs.Str.{bytes_eq}
 use Rattle.shared_parts.specs.declared.target.Target.{Target}
 use Rattle.shared_parts.specs.declared.target.Target.TheVariants.{Parts, Rows}
 use Rattle.shared_parts.specs.RowsView.{RowsView}
-use Rattle.shared_parts.specs.Keys.{KeyAt, same_pair}
+use Rattle.shared_parts.specs.Keys.{KeyAt, same_pair, has_entry}
 use Rattle.shared_parts.specs.Tree.{Tree, leaves, Joins, Stands, stepped}
 use Rattle.shared_parts.specs.Rows.{row_of_entry, join_rows, best_row, IsRow}
 
@@ -41,6 +41,16 @@ abbrev pub IsEntryIn : Target → ℕ → ℕ → Type 0
 IsEntryIn (Parts pairs) entry number = KeyAt same_pair pairs (0, entry) number
 IsEntryIn (Rows rows) entry number =
     KeyAt bytes_eq rows.rows (row_of_entry rows.ranked entry) number
+
+-- The number stands for what is left of one rule.
+abbrev pub IsFoundIn : Target → Option ℕ → ℕ → Type 0
+IsFoundIn target None number = number ≡ 0
+IsFoundIn target (Some entry) number = IsEntryIn target entry number
+
+-- The entry is a part.
+abbrev pub HasEntry : Target → ℕ → Type 0
+HasEntry (Parts pairs) entry = has_entry pairs entry ≡ true
+HasEntry (Rows rows) entry = ⊥
 
 -- By a step a part of a place leads to a number: whatever rules it stands for, that one stands for
 -- what the step leaves of them.

@@ -15,20 +15,21 @@ pub struct Parts {
 
 impl Model for Parts {
     ghost use Rattle.std.specs.Prelude.{List, ℕ};
-    ghost use Rattle.shared_parts.specs.Keys.{AreLower};
+    ghost use Rattle.shared_parts.specs.Keys.{AreLower, AreDistinct};
 
     ghost Value = { List (ℕ × ℕ) };
 
     ghost view = { λ p. p.pairs.keys };
 
-    ghost invariant = { λ p. AreLower p.pairs.keys };
+    ghost invariant = { λ p. AreLower p.pairs.keys × AreDistinct p.pairs.keys };
 }
 
 impl Parts {
-    ghost use Rattle.std.specs.Prelude.{◌≡◌, ℕ, ◌<◌, ◌≤◌, ◌+◌, ◌++◌, [], List, length};
-    ghost use Rattle.std.specs.Prelude.{OnOk, IfOk, slice_index_or};
-    ghost use Rattle.shared_parts.specs.Keys.{same_pair, KeyAt, AreLower};
+    ghost use Rattle.std.specs.Prelude.{◌≡◌, ℕ, ◌<◌, ◌≤◌, ◌+◌, ◌++◌, [], List, length, true, ◌⊎◌};
+    ghost use Rattle.std.specs.Prelude.{OnOk, IfOk, slice_index_or, Contains};
+    ghost use Rattle.shared_parts.specs.Keys.{same_pair, KeyAt, has_entry};
     ghost use Rattle.shared_parts.specs.Tree.{Joins};
+    ghost use Rattle.shared_parts.specs.Joined.{IsAll};
 
     /// No parts.
     pub fn new(alloc: Global) -> Self
@@ -51,7 +52,9 @@ impl Parts {
     pub fn pair(&self, index: usize) -> (u32, u32)
         requires { index < length self.now }
         ensures pair { result ≡ slice_index_or self.now index (0, 0) }
-        ensures lower { 0 < result.0 → (result.0 ≤ index) × (result.1 ≤ index) }
+        ensures lower { 0 < result.0 →
+            (result.0 ≤ index) × (0 < result.1) × (result.1 ≤ index) }
+        ensures part { KeyAt same_pair self.now result (index + 1) }
     {
         match self.pairs.get_index(index) {
             Some(pair) => *pair,
@@ -63,6 +66,9 @@ impl Parts {
     pub fn entry(&mut self, entry: u32) -> Result<u32, AllocError>
         ensures grows { OnOk result ((more : List (ℕ × ℕ)) × (self.new ≡ self.old ++ more)) }
         ensures entry { IfOk result (λ number. KeyAt same_pair self.new (0, entry) number) }
+        ensures within { IfOk result (λ number. number ≤ length self.new) }
+        ensures entries { OnOk result ((other : ℕ) → has_entry self.new other ≡ true →
+            (has_entry self.old other ≡ true) ⊎ (other ≡ entry)) }
     {
         check_room(self.alloc, self.pairs.len())?;
         let (index, _) = self.pairs.insert_full((0, entry))?;
@@ -77,6 +83,8 @@ impl Parts {
         ensures grows { OnOk result ((more : List (ℕ × ℕ)) × (self.new ≡ self.old ++ more)) }
         ensures joins { IfOk result (λ number. Joins self.new left right number) }
         ensures within { IfOk result (λ number. number ≤ length self.new) }
+        ensures entries { OnOk result ((entry : ℕ) → has_entry self.new entry ≡ true →
+            has_entry self.old entry ≡ true) }
     {
         if left == 0 {
             return Ok(right);
@@ -87,5 +95,26 @@ impl Parts {
         check_room(self.alloc, self.pairs.len())?;
         let (index, _) = self.pairs.insert_full((left, right))?;
         Ok(index as u32 + 1)
+    }
+
+    /// The number of all entries together, the halves of the list as a pair. There is one entry or
+    /// more. It takes memory where a part is new.
+    pub fn join_all(&mut self, entries: &[u32]) -> Result<u32, AllocError>
+        requires { 0 < length entries.now }
+        ensures grows { OnOk result ((more : List (ℕ × ℕ)) × (self.new ≡ self.old ++ more)) }
+        ensures all { IfOk result (λ number. IsAll self.new entries.now number) }
+        ensures within { IfOk result (λ number. number ≤ length self.new) }
+        ensures entries { OnOk result ((entry : ℕ) → has_entry self.new entry ≡ true →
+            (has_entry self.old entry ≡ true) ⊎ Contains entries.now entry) }
+    {
+        if entries.len() == 1 {
+            let number = self.entry(entries[0])?;
+            return Ok(number);
+        }
+        let (left, right) = entries.split_at(entries.len() / 2);
+        let one = self.join_all(left)?;
+        let other = self.join_all(right)?;
+        let number = self.join(one, other)?;
+        Ok(number)
     }
 }

@@ -4,8 +4,8 @@ ghost use Rattle.std.specs.Prelude.{◌<◌, ◌^◌, ◌+◌, OnOk};
 
 use std::alloc::{AllocError, Global};
 
-/// The most numbers that there are: each fits 32 bits, and 0 is no number of a part.
-const MOST: usize = 0xFFFF_FFFE;
+/// How many numbers there are: each fits 32 bits, and 0 stands for nothing.
+const MOST: usize = 0xFFFF_FFFF;
 
 /// Whether there is one more number than `count`. Where there is none, more memory than can be had
 /// is asked for, so that the answer is the allocator's own.

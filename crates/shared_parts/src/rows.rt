@@ -120,6 +120,7 @@ impl Rows {
         ensures grows { OnOk result
             ((more : List (List ℕ)) × (self.new.rows ≡ self.old.rows ++ more)) }
         ensures number { IfOk result (λ number. KeyAt bytes_eq self.new.rows row number) }
+        ensures within { IfOk result (λ number. number ≤ length self.new.rows) }
     {
         check_room(self.alloc, self.rows.len())?;
         let (index, _) = self.rows.insert_full(row)?;
@@ -134,6 +135,7 @@ impl Rows {
             ((more : List (List ℕ)) × (self.new.rows ≡ self.old.rows ++ more)) }
         ensures entry { IfOk result
             (λ number. KeyAt bytes_eq self.new.rows (row_of_entry self.old.ranked entry) number) }
+        ensures within { IfOk result (λ number. number ≤ length self.new.rows) }
     {
         let rule = rule_at(self.ranked.as_slice(), (entry / 4) as usize);
         let number = self.number(row_of_rule(rule))?;

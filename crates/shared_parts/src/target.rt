@@ -15,13 +15,16 @@ pub enum Target {
 }
 
 impl Target {
-    ghost use Rattle.std.specs.Prelude.{◌≤◌, OnOk, IfOk};
-    ghost use Rattle.shared_parts.specs.Target.{count, Grows, IsEntryIn, JoinsIn};
+    ghost use Rattle.std.specs.Prelude.{◌≡◌, ℕ, ◌≤◌, ◌⊎◌, OnOk, IfOk};
+    ghost use Rattle.shared_parts.specs.Target.{count, Grows, IsEntryIn, JoinsIn, HasEntry};
 
     /// The number of one entry. It takes memory where what is numbered is new.
     pub fn entry(&mut self, entry: u32) -> Result<u32, AllocError>
         ensures grows { OnOk result (Grows self.old self.new) }
         ensures entry { IfOk result (λ number. IsEntryIn self.new entry number) }
+        ensures within { IfOk result (λ number. number ≤ count self.new) }
+        ensures entries { OnOk result
+            ((other : ℕ) → HasEntry self.new other → HasEntry self.old other ⊎ (other ≡ entry)) }
     {
         match self {
             Target::Parts(parts) => parts.entry(entry),
@@ -37,6 +40,8 @@ impl Target {
         ensures grows { OnOk result (Grows self.old self.new) }
         ensures joins { IfOk result (λ number. JoinsIn self.new left right number) }
         ensures within { IfOk result (λ number. number ≤ count self.new) }
+        ensures entries { OnOk result
+            ((entry : ℕ) → HasEntry self.new entry → HasEntry self.old entry) }
     {
         match self {
             Target::Parts(parts) => parts.join(left, right),
