@@ -1,13 +1,12 @@
 -- The words of a state before the last place are told by its entries.
 use Rattle.std.proofs.Common.{◌≡◌, ℕ, zero, suc, ◌+◌, ◌-◌, ◌<◌, ◌≤◌, ◌==◌, List, [], ◌∷◌, ◌++◌, length, map, filter}
-use Rattle.std.proofs.Common.{take, get_or, fold, Bool, true, false, cond, not, ◌||◌, true≢false, Option, Some, None}
-use Rattle.std.proofs.Common.{refl, sym, ◌∙◌, ap, subst, inl, inr, arith, length-append}
+use Rattle.std.proofs.Common.{get_or, fold, Bool, true, false, cond, not, ◌||◌, true≢false, Option, Some, None}
+use Rattle.std.proofs.Common.{refl, sym, ◌∙◌, ap, subst, inl, inr, arith}
 use Rattle.std.specs.List.{list_any, cons_option, flat_map, AllByRecursion, position_or_len, range_with_len, sum_by}
 use Rattle.std.specs.Option.{option_map}
 use Rattle.std.specs.Str.{bytes_eq}
 use Rattle.std.proofs.lemmas.Bool.{cases_Bool, cases_eq, ne_eqb, eq-eqb, not-false}
-use Rattle.std.proofs.lemmas.List.{take_all, length-map}
-use Rattle.std.proofs.lemmas.List.Elements.{filter-append}
+use Rattle.std.proofs.lemmas.List.{length-map}
 use Rattle.std.proofs.lemmas.List.Sums.{sum_by-cons}
 use Rattle.node_expand.specs.declared.edge.Edge.{Edge}
 use Rattle.node_expand.specs.Edges.{edge_step}
@@ -26,7 +25,6 @@ use Rattle.trie_merge.proofs.Finds.{is_new, none_new_once_found}
 use Rattle.trie_merge.proofs.Numbers.{bytes_eq_refl, bytes_eq_sound}
 use Rattle.trie_merge.proofs.Uncut.{number_in-entry_of, entries_uncut}
 use Rattle.trie_merge.proofs.PackedState.{edge_in-entry_of}
-use Rattle.trie_merge.proofs.Successors.{length-all_bytes}
 
 -- ---- entries of rising numbers that become the same
 

@@ -1,19 +1,19 @@
 -- Cuts of a state tell its words.
-use Rattle.std.proofs.Common.{◌≡◌, ℕ, zero, suc, ◌+◌, ◌-◌, ◌<◌, ◌≤◌, ◌==◌, ◌||◌, ◌&&◌, List, [], ◌∷◌, ◌++◌, length, map}
-use Rattle.std.proofs.Common.{filter, take, set, get_or, Bool, true, false, cond, not, true≢false, Option, Some, None, refl}
-use Rattle.std.proofs.Common.{sym, ◌∙◌, ap, subst, inl, inr, ◌⊎◌, arith, length-append}
+use Rattle.std.proofs.Common.{◌≡◌, ℕ, zero, suc, ◌+◌, ◌-◌, ◌<◌, ◌≤◌, ◌==◌, ◌||◌, List, [], ◌∷◌, ◌++◌, length}
+use Rattle.std.proofs.Common.{filter, take, get_or, Bool, true, false, cond, not, true≢false, Option, Some, None, refl}
+use Rattle.std.proofs.Common.{sym, ◌∙◌, ap, subst, inl, inr, arith, length-append}
 use Rattle.std.specs.Prelude.{nat_le}
 use Rattle.std.specs.List.{list_any, AllByRecursion, range_with_len, filter_map, cons_option}
 use Rattle.std.specs.Str.{bytes_eq}
-use Rattle.std.proofs.lemmas.Bool.{cases_Bool, cases_eq, cases_lt, eq-eqb, ne_eqb, eqb-true, le-leb, lt-leb, not-false}
-use Rattle.std.proofs.lemmas.List.{get_or_append_left, append-nil, get_or-take}
+use Rattle.std.proofs.lemmas.Bool.{cases_eq, cases_lt, eq-eqb, ne_eqb, eqb-true, le-leb, lt-leb}
+use Rattle.std.proofs.lemmas.List.{get_or_append_left, get_or-take}
 use Rattle.std.proofs.Math.Seq.{get_or-append_seam}
 use Rattle.std.proofs.lemmas.List.Folds.{list_any-append}
 use Rattle.std.proofs.lemmas.List.Elements.{filter_map-append}
-use Rattle.shared_parts.specs.Keys.{KeyAt, same_pair}
-use Rattle.shared_parts.specs.Tree.{Tree, leaves, Joins, IsLeaf, Stands}
+use Rattle.shared_parts.specs.Keys.{same_pair}
+use Rattle.shared_parts.specs.Tree.{Tree, leaves, IsLeaf, Stands}
 use Rattle.shared_parts.specs.Tree.Tree.{Leaf, Node}
-use Rattle.shared_parts.proofs.Offered.{key_at, key_some, key_within, pair_sound, none_left}
+use Rattle.shared_parts.proofs.Offered.{key_at, pair_sound}
 use Rattle.trie_merge.specs.declared.cuts.Cuts.{Cuts}
 use Rattle.trie_merge.specs.Entry.{ColumnView, entries_step, is_entry_cut}
 use Rattle.trie_merge.specs.Found.{all_bytes}

@@ -1,7 +1,7 @@
 -- The entries that are numbered at a place are what bytes leave of rules of the group.
-use Rattle.std.proofs.Common.{◌≡◌, ℕ, zero, suc, ◌+◌, ◌-◌, ◌<◌, ◌≤◌, ◌==◌, ◌||◌, ◌&&◌, List, [], ◌∷◌, ◌++◌, length, map, get_or}
-use Rattle.std.proofs.Common.{replicate, Bool, true, false, true≢false, Option, Some, None, refl, sym, ◌∙◌, ap, subst, inl}
-use Rattle.std.proofs.Common.{inr, ◌⊎◌, arith}
+use Rattle.std.proofs.Common.{◌≡◌, ℕ, zero, suc, ◌+◌, ◌<◌, ◌≤◌, ◌==◌, ◌||◌, ◌&&◌, List, [], ◌∷◌, length, map, get_or}
+use Rattle.std.proofs.Common.{replicate, Bool, true, false, true≢false, Option, Some, refl, sym, ◌∙◌, ap, subst, inl}
+use Rattle.std.proofs.Common.{inr, arith}
 use Rattle.std.specs.Option.{option_map}
 use Rattle.std.specs.List.{AllByRecursion, list_any, list_all, filter_map, cons_option, Contains}
 use Rattle.std.proofs.lemmas.Bool.{cases_eq, eq-eqb, ne_eqb, and_parts}
@@ -9,20 +9,17 @@ use Rattle.std.proofs.lemmas.List.{length-replicate}
 use Rattle.node_expand.specs.declared.edge.Edge.TheVariants.{Free}
 use Rattle.field_defs.specs.Layout.{key_len_of}
 use Rattle.rule_set.specs.Rule.{RuleSetView}
-use Rattle.shared_parts.specs.declared.target.Target.{Target}
-use Rattle.shared_parts.specs.declared.target.Target.TheVariants.{Parts, Rows}
-use Rattle.shared_parts.specs.Keys.{has_entry}
+use Rattle.shared_parts.specs.declared.target.Target.TheVariants.{Parts}
 use Rattle.shared_parts.specs.Joined.{IsAll}
 use Rattle.shared_parts.specs.Rows.{rule_of}
-use Rattle.shared_parts.specs.Target.{HasEntry}
 use Rattle.shared_parts.specs.Tree.{Tree, leaves}
-use Rattle.trie_merge.specs.Entry.{ColumnView, CanStep, column_at, entry_of, entry_step, entries_step, number_in, field_at}
+use Rattle.trie_merge.specs.Entry.{CanStep, column_at, entry_of, entries_step, number_in, field_at}
 use Rattle.trie_merge.specs.Kept.{is_wild_at, is_wild_place}
-use Rattle.trie_merge.specs.Led.{IsAfter, ComesFrom}
+use Rattle.trie_merge.specs.Led.{IsAfter}
 use Rattle.trie_merge.specs.RuleRest.{values_of}
-use Rattle.trie_merge.specs.Shared.{IsState, AreIn}
+use Rattle.trie_merge.specs.Shared.{AreIn}
 use Rattle.trie_merge.proofs.Ahead.{step_number}
-use Rattle.trie_merge.proofs.Packed.{AreBytes, Stands, packed_stands}
+use Rattle.trie_merge.proofs.Packed.{Stands, packed_stands}
 use Rattle.trie_merge.proofs.PackedState.{IsHeld, IsEntryAt, packed_state, packed_state_start, packed_entries}
 use Rattle.trie_merge.proofs.PackedState.{entry_can_step}
 use Rattle.trie_merge.proofs.Reached.{IsGap, entries_next, zeros_on, zeros_small}

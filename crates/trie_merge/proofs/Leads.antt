@@ -1,17 +1,17 @@
 -- Where entries and parts lead.
-use Rattle.std.proofs.Common.{◌≡◌, ℕ, ◌+◌, ◌-◌, ◌<◌, ◌≤◌, List, [], ◌∷◌, ◌++◌, length, get_or, true, Option, Some, None}
+use Rattle.std.proofs.Common.{◌≡◌, ℕ, ◌+◌, ◌-◌, ◌<◌, ◌≤◌, List, [], ◌∷◌, ◌++◌, length, get_or, Option, Some}
 use Rattle.std.proofs.Common.{refl, sym, ◌∙◌, ap, subst, inl, inr, ◌⊎◌, arith, length-append}
 use Rattle.std.proofs.lemmas.Bool.{cases_lt, cases_eq}
 use Rattle.std.proofs.lemmas.List.{get_or_append_left}
 use Rattle.std.proofs.Math.Seq.{get_or-append_seam}
 use Rattle.shared_parts.specs.declared.pieces.Piece.{Piece}
 use Rattle.shared_parts.specs.declared.target.Target.{Target}
-use Rattle.shared_parts.specs.Keys.{KeyAt, same_pair, has_entry}
-use Rattle.shared_parts.specs.Target.{count, Grows, HasEntry, IsFoundIn, Leads}
+use Rattle.shared_parts.specs.Keys.{KeyAt, same_pair}
+use Rattle.shared_parts.specs.Target.{count, Grows, HasEntry, IsFoundIn}
 use Rattle.shared_parts.specs.Pieces.{number_at, Covers, Pushed, PiecesLead, Merges}
 use Rattle.shared_parts.proofs.Offered.{count_grows, grows_none, grows_on, found_grows, leads_grow, entry_is_led}
 use Rattle.trie_merge.specs.Entry.{ColumnView, entry_step}
-use Rattle.trie_merge.specs.Led.{step_of, IsAfter, EntryLed, ComesFrom, PartLed, StepsLed, AllLed}
+use Rattle.trie_merge.specs.Led.{step_of, IsAfter, EntryLed, PartLed, StepsLed, AllLed}
 
 -- The bytes before a first one have their pieces, and those from it to before another all make the same of the entry.
 pub record EntrySoFar (column : ColumnView) (entry : ℕ) (old now : Target) (pieces : List Piece) (known : Option ℕ)

@@ -1,5 +1,5 @@
 -- Merging the states of a place, one after the other.
-use Rattle.std.proofs.Common.{not, zero, suc, inl, inr}
+use Rattle.std.proofs.Common.{zero, suc, inl, inr}
 use Rattle.std.proofs.lemmas.List.Elements.{recursion_from_All}
 use Rattle.rule_set.specs.Laws.{RanksOrderRules, TheBestHasTheGreatestRank}
 use Rattle.shared_parts.specs.declared.pieces.Piece.{Piece}
@@ -32,12 +32,11 @@ use Rattle.trie_merge.proofs.Zipped.{finds_alike, succ_alike, are_grown, for_gro
 use Rattle.std.proofs.Common.{◌≡◌, ℕ, ◌+◌, ◌*◌, ◌<◌, ◌≤◌, ◌==◌, List, [], ◌∷◌, ◌++◌, length, map, filter, take, fold}
 use Rattle.std.proofs.Common.{Bool, true, false, cond, Option, Some, None, get_or, refl, sym, ◌∙◌, ap, subst, arith}
 use Rattle.std.proofs.Common.{length-append}
-use Rattle.std.specs.Prelude.{nat_le, IfSome}
+use Rattle.std.specs.Prelude.{nat_le}
 use Rattle.std.specs.List.{flat_map, sum_by, AllByRecursion}
 use Rattle.std.specs.Str.{bytes_eq}
-use Rattle.std.proofs.lemmas.List.{map-append, append_assoc, append-nil, length-map, map_push, take-map, take_more}
+use Rattle.std.proofs.lemmas.List.{map-append, append_assoc, append-nil, length-map, map_push, take_more}
 use Rattle.std.proofs.Math.Seq.{take-append_seam}
-use Rattle.std.proofs.lemmas.List.Elements.{All-from_recursion}
 use Rattle.std.proofs.lemmas.List.Concat.{flat_map-append}
 use Rattle.std.proofs.lemmas.List.Sums.{fold-append, sum_by-append, sum_by-cons}
 use Rattle.rule_set.specs.Rule.{RuleSetView}

@@ -1,12 +1,12 @@
 -- Numbering lists in the order in which they are found.
-use Rattle.std.proofs.Common.{◌≡◌, ℕ, ◌+◌, List, [], ◌∷◌, ◌++◌, length, position, Bool, true, false, cond, ltb, ◌⊎◌}
-use Rattle.std.proofs.Common.{not, ◌||◌, ◌&&◌, Some, None, refl, sym, ◌∙◌, ap, inl, inr, true≢false, arith}
+use Rattle.std.proofs.Common.{◌≡◌, ℕ, ◌+◌, List, [], ◌∷◌, ◌++◌, Bool, true, false, cond}
+use Rattle.std.proofs.Common.{not, ◌||◌, ◌&&◌, refl, sym, ap, true≢false}
 use Rattle.std.specs.List.{list_any, position_or_len}
 use Rattle.std.specs.Str.{bytes_eq}
 use Rattle.std.specs.Bool.{Decides}
 use Rattle.std.proofs.lemmas.Slice.Eq.{slice_eq-Decides}
 use Rattle.std.proofs.lemmas.Bool.Decides.{Decides-eqb}
-use Rattle.std.proofs.lemmas.Bool.{cases_Bool, not-false}
+use Rattle.std.proofs.lemmas.Bool.{not-false}
 use Rattle.trie_merge.specs.declared.run.Succ.TheVariants.{Dead, State, Row}
 use Rattle.std.specs.Prelude.{nat_eq}
 use Rattle.trie_merge.specs.Numbers.{is_some_number, succ_of}

@@ -1,6 +1,6 @@
 -- The rows of rules that numbered rows of ranks stand for.
-use Rattle.std.proofs.Common.{◌≡◌, ℕ, ◌+◌, ◌-◌, ◌<◌, ◌≤◌, List, [], ◌∷◌, length, map, get_or, Some, None, refl, sym, ◌∙◌}
-use Rattle.std.proofs.Common.{ap, subst, inl, inr, ◌⊎◌, arith}
+use Rattle.std.proofs.Common.{◌≡◌, ℕ, ◌+◌, ◌-◌, ◌<◌, List, [], ◌∷◌, length, map, get_or, Some, None, refl, sym, ◌∙◌}
+use Rattle.std.proofs.Common.{ap, inl, inr, ◌⊎◌, arith}
 use Rattle.std.specs.List.{AllByRecursion, filter_map}
 use Rattle.std.specs.Option.{option_map_or}
 use Rattle.std.specs.Str.{bytes_eq}
@@ -8,8 +8,7 @@ use Rattle.std.proofs.lemmas.List.{ext_get_or, length-map, get_or-map}
 use Rattle.rule_set.specs.Rule.{RuleSetView}
 use Rattle.rule_set.specs.Rank.{rank_of}
 use Rattle.rule_set.specs.Laws.{RanksOrderRules, TheBestHasTheGreatestRank}
-use Rattle.shared_parts.specs.declared.target.Target.{Target}
-use Rattle.shared_parts.specs.declared.target.Target.TheVariants.{Parts, Rows}
+use Rattle.shared_parts.specs.declared.target.Target.TheVariants.{Rows}
 use Rattle.shared_parts.specs.RowsView.{RowsView}
 use Rattle.shared_parts.specs.Rows.{best_row, IsRow}
 use Rattle.shared_parts.specs.Tree.{Tree, leaves}

@@ -1,26 +1,24 @@
 -- Rows of ranks, and the rows of rules that they stand for.
-use Rattle.std.proofs.Common.{◌≡◌, ◌≢◌, ℕ, zero, suc, ◌+◌, ◌-◌, ◌<◌, ◌≤◌, ◌/◌, ◌%◌, ◌^◌, ◌==◌, ◌||◌, List, [], ◌∷◌, ◌++◌}
+use Rattle.std.proofs.Common.{◌≡◌, ℕ, zero, suc, ◌+◌, ◌<◌, ◌≤◌, ◌/◌, ◌%◌, ◌^◌, ◌==◌, ◌||◌, List, [], ◌∷◌}
 use Rattle.std.proofs.Common.{length, map, filter, get_or, slice_get, max, Bool, true, false, cond, true≢false, Option}
 use Rattle.std.proofs.Common.{Some, None, refl, sym, ◌∙◌, ap, subst, inl, inr, ◌⊎◌, arith}
-use Rattle.std.specs.List.{filter_map, cons_option, list_any, AllByRecursion, range_with_len, Contains}
+use Rattle.std.specs.List.{list_any, AllByRecursion, range_with_len, Contains}
 use Rattle.std.specs.List.Sorted.{IsStrictlyIncreasing}
 use Rattle.std.specs.Option.{option_map_or}
-use Rattle.std.specs.Int.{bit_at}
 use Rattle.std.specs.Str.{bytes_eq}
-use Rattle.std.proofs.lemmas.Bool.{cases_Bool, cases_eq, cases_lt, eq-eqb, ne_eqb, eqb-true}
-use Rattle.std.proofs.lemmas.List.{get_or-map, length-map, ext_get_or}
-use Rattle.std.proofs.lemmas.List.FromFn.{get_or-map-range_with_len, length-range_with_len}
+use Rattle.std.proofs.lemmas.Bool.{cases_Bool, cases_eq, cases_lt, eq-eqb, ne_eqb}
+use Rattle.std.proofs.lemmas.List.{length-map, ext_get_or}
+use Rattle.std.proofs.lemmas.List.FromFn.{get_or-map-range_with_len}
 use Rattle.std.proofs.lemmas.Option.{slice_get-get_or}
 use Rattle.rule_set.specs.Rule.{RuleView, RuleSetView}
 use Rattle.rule_set.specs.Rank.{rank_of}
 use Rattle.rule_set.specs.Fault.{categories}
 use Rattle.rule_set.specs.Winner.{is_in_category}
 use Rattle.rule_set.specs.Among.{passes_at, best_among}
-use Rattle.rule_set.specs.Laws.{RanksOrderRules, HasGreatestRank, TheBestHasTheGreatestRank}
+use Rattle.rule_set.specs.Laws.{RanksOrderRules, TheBestHasTheGreatestRank}
 use Rattle.shared_parts.specs.declared.rows.Ranked.{Ranked}
-use Rattle.shared_parts.specs.RowsView.{RowsView}
 use Rattle.shared_parts.specs.Rows.{row_of_rule, row_of_entry, join_rows, best_row, IsRow}
-use Rattle.shared_parts.proofs.Offered.{row_alone, row_is, get-join-any, key_some}
+use Rattle.shared_parts.proofs.Offered.{get-join-any, key_some}
 use Rattle.trie_merge.proofs.Categories.{length-categories}
 use Rattle.trie_merge.specs.Entry.{number_in}
 use Rattle.trie_merge.specs.Lists.{row_list, RisesFrom}

@@ -1,30 +1,20 @@
 -- Numbers of shared parts and rows, and the states and rows that they stand for.
-use Rattle.std.proofs.Common.{◌≡◌, ℕ, zero, suc, ◌+◌, ◌-◌, ◌<◌, ◌≤◌, ◌==◌, ◌&&◌, ◌||◌, List, [], ◌∷◌, ◌++◌, length, map}
-use Rattle.std.proofs.Common.{fold, get_or, Bool, true, false, cond, not, true≢false, Option, Some, None, refl, sym, ◌∙◌}
+use Rattle.std.proofs.Common.{◌≡◌, ℕ, ◌==◌, ◌||◌, List, [], ◌∷◌}
+use Rattle.std.proofs.Common.{Bool, true, false, cond, Option, Some, None, refl, sym, ◌∙◌}
 use Rattle.std.proofs.Common.{ap, subst, inl, inr, ◌⊎◌, arith}
 use Rattle.std.specs.Prelude.{nat_eq}
-use Rattle.std.specs.List.{filter_map, cons_option, find, list_any, position_or_len, AllByRecursion}
+use Rattle.std.specs.List.{filter_map, cons_option, find, list_any}
 use Rattle.std.specs.Option.{option_and_then}
 use Rattle.std.specs.Str.{bytes_eq}
-use Rattle.std.proofs.lemmas.Bool.{cases_Bool, cases_eq, eq-eqb, ne_eqb, eqb-true, lt-ltb, le-ltb}
-use Rattle.std.proofs.lemmas.List.Elements.{filter_map-append}
+use Rattle.std.proofs.lemmas.Bool.{cases_eq, eq-eqb, ne_eqb, eqb-true, lt-ltb, le-ltb}
 use Rattle.std.proofs.lemmas.List.Folds.{list_any-append}
-use Rattle.rule_set.specs.Rule.{RuleSetView}
-use Rattle.shared_parts.specs.declared.target.Target.{Target}
-use Rattle.shared_parts.specs.declared.target.Target.TheVariants.{Parts, Rows}
-use Rattle.shared_parts.specs.RowsView.{RowsView}
 use Rattle.shared_parts.specs.Tree.{Tree, leaves, Stands, stepped}
 use Rattle.shared_parts.specs.Tree.Tree.{Leaf, Node}
-use Rattle.shared_parts.specs.Rows.{best_row, IsRow}
-use Rattle.shared_parts.specs.Target.{Grows}
 use Rattle.shared_parts.proofs.Offered.{SameOn, stands_alone, stands_for_one, none_left, nothing_stands}
 use Rattle.trie_merge.specs.Entry.{ColumnView, number_in, entry_step, entries_step}
-use Rattle.trie_merge.specs.Found.{found_with}
 use Rattle.trie_merge.specs.State.{is_live}
-use Rattle.trie_merge.specs.Numbers.{is_some_number, numbers_with, succ_of}
-use Rattle.trie_merge.specs.Lists.{lists_with, succ_in, row_list}
-use Rattle.trie_merge.specs.Names.{ranked_of}
-use Rattle.trie_merge.specs.Shared.{AreOwn, IsState, IsRowOf, IsIn, AreIn}
+use Rattle.trie_merge.specs.Numbers.{is_some_number}
+use Rattle.trie_merge.specs.Shared.{AreOwn, IsState}
 use Rattle.trie_merge.proofs.Numbers.{bytes_eq_refl, bytes_eq_sound}
 
 -- ---- lists of entries say the entry of each rule

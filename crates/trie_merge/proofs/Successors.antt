@@ -2,7 +2,7 @@
 use Rattle.std.proofs.Common.{◌≡◌, ℕ, zero, suc, ◌+◌, ◌-◌, ◌<◌, ◌≤◌, ◌==◌, List, [], ◌∷◌, ◌++◌, length, map, fold, take}
 use Rattle.std.proofs.Common.{filter, get_or, Bool, true, false, cond, not, ◌||◌, refl, sym, ◌∙◌, ap, subst, inl, inr, arith}
 use Rattle.std.specs.Prelude.{nat_eq}
-use Rattle.std.proofs.lemmas.List.{take_more, map_push, append_assoc, append-nil, length-map, map-append, take_all}
+use Rattle.std.proofs.lemmas.List.{take_more, map_push, append_assoc, append-nil, map-append, take_all}
 use Rattle.std.proofs.lemmas.List.{length-append}
 use Rattle.std.proofs.lemmas.List.FromFn.{length-range_with_len, get_or-range_with_len}
 use Rattle.std.proofs.lemmas.List.Sums.{fold-append}
@@ -13,7 +13,7 @@ use Rattle.trie_merge.specs.declared.run.Succ.{Succ}
 use Rattle.trie_merge.specs.declared.run.Succ.TheVariants.{Dead, State, Row}
 use Rattle.shared_parts.specs.declared.pieces.Piece.{Piece}
 use Rattle.shared_parts.specs.Pieces.{number_at}
-use Rattle.shared_parts.proofs.Offered.{RestIs, no_piece, piece_from, piece_small, piece_at, rest_on, rest_below, rest_end}
+use Rattle.shared_parts.proofs.Offered.{RestIs, no_piece, piece_from, piece_small, piece_at, rest_on, rest_below}
 use Rattle.trie_merge.specs.Found.{all_bytes}
 use Rattle.trie_merge.specs.Levels.{same_succ, is_end, runs_of}
 use Rattle.trie_merge.specs.Numbers.{is_some_number, numbers_with, succ_of}

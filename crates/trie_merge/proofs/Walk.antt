@@ -1,16 +1,13 @@
 -- Merging the kept places of a group, one after the other.
 use Rattle.std.proofs.Common.{◌≡◌, ℕ, zero, suc, ◌+◌, ◌-◌, ◌*◌, ◌<◌, ◌≤◌, ◌==◌, List, [], ◌∷◌, ◌++◌, length, map, drop}
-use Rattle.std.proofs.Common.{get_or, Bool, true, false, cond, Option, Some, None, true≢false, refl, sym, ◌∙◌, ap}
+use Rattle.std.proofs.Common.{get_or, Bool, true, false, cond, Some, None, true≢false, refl, sym, ◌∙◌, ap}
 use Rattle.std.proofs.Common.{subst, inl, inr, arith}
 use Rattle.std.specs.Prelude.{All, nat_le}
-use Rattle.std.specs.List.{AllByRecursion, cons_option}
-use Rattle.std.specs.List.Sorted.{IsStrictlyIncreasing}
-use Rattle.std.specs.Option.{option_map}
-use Rattle.node_expand.specs.declared.edge.Edge.{Edge}
+use Rattle.std.specs.List.{AllByRecursion}
 use Rattle.std.specs.Str.{bytes_eq}
-use Rattle.std.proofs.lemmas.Bool.{cases_eq, cases_lt, eq-eqb, ne_eqb, lt-ltb, le-ltb}
+use Rattle.std.proofs.lemmas.Bool.{cases_eq, eq-eqb, ne_eqb, lt-ltb, le-ltb}
 use Rattle.std.proofs.lemmas.List.{drop_more, drop_all, length-map, length-drop, append-nil, append_assoc, get_or-drop}
-use Rattle.std.proofs.lemmas.List.Elements.{recursion_from_All, All-from_recursion}
+use Rattle.std.proofs.lemmas.List.Elements.{recursion_from_All}
 use Rattle.std.proofs.lemmas.List.Sums.{sum_by-cons}
 use Rattle.field_defs.specs.Layout.{key_len_of}
 use Rattle.field_defs.specs.Lawful.{IsLayout}
@@ -32,8 +29,7 @@ use Rattle.trie_merge.specs.Lists.{level_found, state_runs, states_words, least_
 use Rattle.trie_merge.specs.Lists.{IsMergedWithin}
 use Rattle.trie_merge.proofs.Ahead.{words_are_ahead}
 use Rattle.trie_merge.proofs.Merging.{least_cost_flat, least_cost_known}
-use Rattle.trie_merge.proofs.Uncut.{number_in-entry_of}
-use Rattle.trie_merge.proofs.Packed.{packed_edge, Stands, packed_stands}
+use Rattle.trie_merge.proofs.Packed.{Stands, packed_stands}
 use Rattle.trie_merge.proofs.PackedState.{IsHeld, IsEntryAt, packed_state, packed_state_start, packed_entries, decoded}
 use Rattle.trie_merge.proofs.PackedState.{is_held, entry_can_step}
 use Rattle.trie_merge.proofs.Reached.{IsPrefix, packed_at, packed_next, packed_past_all, runs_next, runs_last, rows_are}

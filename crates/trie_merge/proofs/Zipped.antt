@@ -1,31 +1,26 @@
 -- Numbers that are found side by side with the lists that they stand for.
-use Rattle.std.proofs.Common.{◌≡◌, ℕ, zero, suc, ◌+◌, ◌<◌, ◌≤◌, ◌==◌, ◌&&◌, ◌||◌, List, [], ◌∷◌, ◌++◌, length, map, fold}
-use Rattle.std.proofs.Common.{Bool, true, false, cond, not, Option, Some, None, refl, sym, ◌∙◌, ap, subst, inl, inr, arith}
+use Rattle.std.proofs.Common.{◌≡◌, ℕ, ◌+◌, ◌<◌, ◌&&◌, ◌||◌, List, [], ◌∷◌, ◌++◌, length, map, fold}
+use Rattle.std.proofs.Common.{Bool, true, false, cond, not, Option, Some, None, refl, sym, ◌∙◌, ap, subst, arith}
 use Rattle.std.specs.Prelude.{nat_eq}
-use Rattle.std.specs.List.{filter_map, cons_option, list_any, position_or_len, AllByRecursion, range_with_len}
-use Rattle.std.specs.Option.{option_and_then}
-use Rattle.std.specs.List.Sorted.{IsStrictlyIncreasing}
+use Rattle.std.specs.List.{filter_map, cons_option, list_any, position_or_len, AllByRecursion}
 use Rattle.std.specs.Str.{bytes_eq}
-use Rattle.std.proofs.lemmas.Bool.{cases_eq, lt-ltb, le-ltb}
+use Rattle.std.proofs.lemmas.Bool.{lt-ltb, le-ltb}
 use Rattle.rule_set.specs.Rule.{RuleSetView}
 use Rattle.rule_set.specs.Fault.{categories}
 use Rattle.rule_set.specs.Laws.{RanksOrderRules, TheBestHasTheGreatestRank}
 use Rattle.shared_parts.specs.declared.target.Target.{Target}
 use Rattle.shared_parts.specs.declared.target.Target.TheVariants.{Parts, Rows}
 use Rattle.shared_parts.specs.RowsView.{RowsView}
-use Rattle.shared_parts.specs.Tree.{Tree, leaves, Stands, stepped}
+use Rattle.shared_parts.specs.Tree.{Tree, leaves, stepped}
 use Rattle.shared_parts.specs.Rows.{best_row, IsRow}
-use Rattle.shared_parts.specs.Target.{Grows, StandsIn, Leads}
-use Rattle.shared_parts.proofs.Offered.{still_stands, row_grows, row_alone, row_is}
-use Rattle.trie_merge.specs.Entry.{ColumnView, number_in, entry_step, entries_step}
-use Rattle.trie_merge.specs.Found.{found_with, all_bytes}
-use Rattle.trie_merge.specs.Laws.{IsGrouped}
+use Rattle.shared_parts.specs.Target.{Grows, Leads}
+use Rattle.shared_parts.proofs.Offered.{still_stands, row_alone, row_is}
+use Rattle.trie_merge.specs.Entry.{ColumnView, number_in, entries_step}
 use Rattle.trie_merge.specs.Led.{step_of}
 use Rattle.trie_merge.specs.declared.run.Succ.TheVariants.{Dead, State, Row}
 use Rattle.trie_merge.specs.State.{is_live}
 use Rattle.trie_merge.specs.Numbers.{is_some_number, numbers_with, succ_of}
 use Rattle.trie_merge.specs.Lists.{lists_with, succ_in, row_list, successor, RisesFrom}
-use Rattle.trie_merge.specs.Names.{ranked_of}
 use Rattle.trie_merge.specs.Shared.{AreOwn, IsState, IsRowOf, IsIn, AreIn, IsFor}
 use Rattle.trie_merge.proofs.Ahead.{rises_lower, step_number}
 use Rattle.trie_merge.proofs.StateNumbers.{tests_agree, step_own, steps_map, states_agree, state_live}

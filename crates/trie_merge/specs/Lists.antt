@@ -1,5 +1,5 @@
 -- The lists of entries and the rows that the bytes of a place lead to.
-use Rattle.std.specs.Prelude.{◌≡◌, ℕ, ◌+◌, ◌≤◌, ◌==◌, List, [], ◌∷◌, All, map, filter, length, ◌*◌}
+use Rattle.std.specs.Prelude.{◌≡◌, ℕ, ◌+◌, ◌≤◌, ◌==◌, List, [], ◌∷◌, map, filter, length, ◌*◌}
 use Rattle.std.specs.Prelude.{true, Bool, not, ◌||◌, Option, Some}
 use Rattle.std.specs.Prelude.{None, if◌then◌else◌}
 use Rattle.std.specs.List.{position_or_len, flat_map, sum_by}
@@ -8,7 +8,7 @@ use Rattle.rule_set.specs.Rule.{RuleSetView}
 use Rattle.trie_merge.specs.declared.run.Run.{Run}
 use Rattle.trie_merge.specs.declared.run.Succ.{Succ}
 use Rattle.trie_merge.specs.declared.run.Succ.TheVariants.{Dead, State, Row}
-use Rattle.trie_merge.specs.Entry.{ColumnView, entries_step, number_in, CanStep}
+use Rattle.trie_merge.specs.Entry.{ColumnView, entries_step, number_in}
 use Rattle.trie_merge.specs.State.{is_live}
 use Rattle.trie_merge.specs.Found.{found_with, found_in, all_bytes}
 use Rattle.trie_merge.specs.Row.{row_of}

@@ -1,7 +1,6 @@
 -- Ranks of rules, and the rows that they stand for.
 use Rattle.std.specs.Prelude.{◌≡◌, ℕ, ◌+◌, ◌-◌, ◌<◌, List, [], length, map, slice_index_or, pos}
 use Rattle.std.specs.List.{range_with_len}
-use Rattle.rule_set.specs.declared.rule.RuleTag.{RuleTag}
 use Rattle.rule_set.specs.Rule.{RuleView, RuleSetView}
 use Rattle.rule_set.specs.Rank.{rank_of}
 use Rattle.shared_parts.specs.declared.rows.Ranked.{Ranked}

@@ -1,5 +1,5 @@
 -- States as numbers of shared parts, and rows as numbers of rows.
-use Rattle.std.specs.Prelude.{◌≡◌, ℕ, ◌+◌, ◌*◌, ◌≤◌, List, [], ◌∷◌, length, Bool, true, false, Option, Some, None}
+use Rattle.std.specs.Prelude.{◌≡◌, ℕ, List, [], ◌∷◌, Bool, true, false, Option, Some}
 use Rattle.std.specs.List.{filter_map}
 use Rattle.rule_set.specs.Rule.{RuleSetView}
 use Rattle.shared_parts.specs.declared.target.Target.{Target}
@@ -7,8 +7,8 @@ use Rattle.shared_parts.specs.declared.target.Target.TheVariants.{Parts, Rows}
 use Rattle.shared_parts.specs.RowsView.{RowsView}
 use Rattle.shared_parts.specs.Tree.{Tree, leaves, Stands}
 use Rattle.shared_parts.specs.Rows.{best_row, IsRow}
-use Rattle.trie_merge.specs.Entry.{ColumnView, number_in}
-use Rattle.trie_merge.specs.Lists.{row_list, level_found}
+use Rattle.trie_merge.specs.Entry.{number_in}
+use Rattle.trie_merge.specs.Lists.{row_list}
 use Rattle.trie_merge.specs.Laws.{IsGrouped}
 use Rattle.trie_merge.specs.Names.{ranked_of}
 

@@ -1,9 +1,8 @@
-use Rattle.std.proofs.Common.{◌≡◌, ℕ, ◌<◌, ◌≤◌, List, length, map, sym, ◌∙◌, ap, subst}
+use Rattle.std.proofs.Common.{ℕ, ◌<◌, ◌≤◌, List, length, map, sym, ◌∙◌, subst}
 use Rattle.std.specs.Prelude.{All}
 use Rattle.std.specs.List.{AllByRecursion}
 use Rattle.std.proofs.lemmas.List.Elements.{recursion_from_All}
 use Rattle.shared_parts.specs.Target.{count}
-use Rattle.shared_parts.specs.Tree.{leaves}
 use Rattle.trie_merge.specs.Names.{row_named}
 use Rattle.trie_merge.specs.Row.{rows_of}
 use Rattle.trie_merge.specs.Shared.{AreIn}

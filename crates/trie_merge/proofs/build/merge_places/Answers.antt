@@ -1,4 +1,4 @@
-use Rattle.std.proofs.Common.{◌≡◌, ℕ, ◌+◌, ◌<◌, ◌==◌, List, length, get_or, Err, sym, ◌∙◌, ap, subst}
+use Rattle.std.proofs.Common.{◌≡◌, ◌<◌, length, Err, ap}
 use Rattle.field_defs.proofs.Offered.{short_keys}
 use Rattle.trie_merge.specs.declared.merge.MergeFault.TheVariants.{OverCap}
 use Rattle.trie_merge.specs.Kept.{kept_places}

@@ -1,4 +1,4 @@
-use Rattle.std.proofs.Common.{◌≡◌, ◌+◌, ◌∷◌, ◌++◌, [], take, sym, ◌∙◌, ap, arith}
+use Rattle.std.proofs.Common.{◌+◌, ◌∷◌, ◌++◌, [], take, sym, ◌∙◌, ap, arith}
 use Rattle.trie_merge.proofs.CutLaws.{one_more_known, many_known}
 use Rattle.trie_merge.proofs.cuts.add.Goals as goal
 

@@ -1,7 +1,6 @@
-use Rattle.std.proofs.Common.{◌≡◌, ℕ, ◌∷◌, [], ◌||◌, Bool, true, false, replicate, get_or, refl, sym, ◌∙◌, ap, true≢false, arith}
+use Rattle.std.proofs.Common.{◌≡◌, ℕ, ◌∷◌, [], ◌||◌, Bool, true, false, replicate, get_or, refl, sym, ◌∙◌, true≢false, arith}
 use Rattle.std.proofs.lemmas.List.{get_or-replicate}
 use Rattle.trie_merge.specs.Entry.{is_entry_cut}
-use Rattle.trie_merge.specs.Cuts.{IsCutAt}
 use Rattle.trie_merge.proofs.cuts.cuts_of_entry.Goals as goal
 use Rattle.trie_merge.proofs.cuts.cuts_of_entry.Goals.{then-marks-byte, else-marks-byte}
 

@@ -1,4 +1,4 @@
-use Rattle.std.proofs.Common.{ℕ, ◌≤◌, ◌∷◌, []}
+use Rattle.std.proofs.Common.{◌≤◌, ◌∷◌, []}
 use Rattle.trie_merge.specs.Cuts.{Knows}
 use Rattle.trie_merge.proofs.cuts.cuts_of_entry.Given as goal
 

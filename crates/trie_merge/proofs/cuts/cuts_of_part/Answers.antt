@@ -1,4 +1,4 @@
-use Rattle.std.proofs.Common.{◌≡◌, ℕ, subst}
+use Rattle.std.proofs.Common.{ℕ, subst}
 use Rattle.trie_merge.specs.Cuts.{IsBuilt}
 use Rattle.trie_merge.proofs.cuts.cuts_of_part.Goals as goal
 

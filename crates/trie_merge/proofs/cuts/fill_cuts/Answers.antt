@@ -1,4 +1,4 @@
-use Rattle.std.proofs.Common.{◌≡◌, ℕ, ◌+◌, List, [], ◌∷◌, ◌++◌, length, get_or, sym, ◌∙◌, ap, subst, arith, length-append}
+use Rattle.std.proofs.Common.{◌≡◌, List, [], ◌∷◌, ◌++◌, length, get_or, sym, ◌∙◌, ap, subst, arith, length-append}
 use Rattle.trie_merge.specs.declared.cuts.Cuts.{Cuts}
 use Rattle.trie_merge.specs.Cuts.{IsBuilt, AreBuilt}
 use Rattle.trie_merge.proofs.CutLaws.{built_push}

@@ -1,4 +1,4 @@
-use Rattle.std.proofs.Common.{◌≤◌, ◌++◌, get_or, arith}
+use Rattle.std.proofs.Common.{◌++◌, get_or, arith}
 use Rattle.trie_merge.proofs.CutLaws.{known_before, known_after, cut_after, kept_cut}
 use Rattle.trie_merge.proofs.cuts.unite.Goals as goal
 

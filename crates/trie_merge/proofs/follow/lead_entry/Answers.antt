@@ -1,4 +1,4 @@
-use Rattle.std.proofs.Common.{◌≡◌, ◌∙◌, arith}
+use Rattle.std.proofs.Common.{◌∙◌, arith}
 use Rattle.trie_merge.proofs.Leads.{byte_stays, byte_turns, all_bytes_led}
 use Rattle.trie_merge.proofs.follow.lead_entry.Goals as goal
 use Rattle.trie_merge.proofs.follow.lead_entry.Goals.{then-not-is_same+in_ok-push_piece+in_ok-to-2, else-not-is_same}

@@ -1,5 +1,4 @@
-use Rattle.std.proofs.Common.{◌≡◌, ℕ, ◌+◌, ◌-◌, ◌<◌, List, [], get_or, subst, arith}
-use Rattle.shared_parts.specs.declared.pieces.Piece.{Piece}
+use Rattle.std.proofs.Common.{ℕ, ◌+◌, ◌-◌, ◌<◌, [], get_or, subst, arith}
 use Rattle.shared_parts.specs.Keys.{KeyAt, same_pair}
 use Rattle.shared_parts.specs.Pieces.{Merges}
 use Rattle.trie_merge.proofs.Leads.{entry_part, pair_part}

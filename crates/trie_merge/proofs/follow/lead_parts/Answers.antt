@@ -1,4 +1,4 @@
-use Rattle.std.proofs.Common.{◌≡◌, ℕ, ◌+◌, List, [], ◌∷◌, ◌++◌, length, sym, ◌∙◌, ap, subst, arith, length-append}
+use Rattle.std.proofs.Common.{◌≡◌, ◌+◌, List, [], ◌∷◌, ◌++◌, length, sym, ◌∙◌, ap, subst, arith, length-append}
 use Rattle.shared_parts.specs.declared.pieces.Piece.{Piece}
 use Rattle.trie_merge.specs.Led.{PartLed, AllLed}
 use Rattle.trie_merge.proofs.Leads.{one_more_led}

@@ -1,5 +1,4 @@
 use Rattle.std.proofs.Common.{◌≡◌, length}
-use Rattle.std.proofs.Common.{◌≤◌, ◌⊎◌}
 use Rattle.trie_merge.specs.Led.{AllLed}
 use Rattle.trie_merge.proofs.follow.lead_parts.Given as goal
 

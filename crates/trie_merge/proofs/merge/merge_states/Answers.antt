@@ -1,21 +1,15 @@
-use Rattle.std.proofs.Common.{◌≡◌, ℕ, ◌+◌, ◌*◌, ◌<◌, ◌≤◌, List, [], ◌∷◌, ◌++◌, length, take, drop, get_or, true, refl, sym, ◌∙◌, ap}
+use Rattle.std.proofs.Common.{◌≡◌, ℕ, ◌+◌, ◌*◌, ◌<◌, ◌≤◌, List, [], ◌∷◌, ◌++◌, length, take, drop, get_or, refl, sym, ◌∙◌, ap}
 use Rattle.std.proofs.Common.{subst, arith}
 use Rattle.std.specs.Prelude.{All}
-use Rattle.std.specs.List.Sorted.{IsStrictlyIncreasing}
 use Rattle.std.proofs.lemmas.List.{take_more, take-append-drop, take_all}
 use Rattle.std.proofs.lemmas.List.Elements.{All-from_recursion}
-use Rattle.rule_set.specs.Rule.{RuleSetView}
-use Rattle.shared_parts.specs.declared.pieces.Piece.{Piece}
-use Rattle.shared_parts.specs.declared.target.Target.{Target}
 use Rattle.shared_parts.specs.Target.{count}
-use Rattle.shared_parts.specs.Tree.{Tree, leaves}
-use Rattle.trie_merge.specs.declared.cuts.Cuts.{Cuts}
 use Rattle.trie_merge.specs.declared.run.Run.{Run}
 use Rattle.trie_merge.specs.Cuts.{CutsFor}
 use Rattle.table_sizes.specs.Sizes.{row_len}
 use Rattle.trie_merge.specs.Lists.{least_cost}
-use Rattle.trie_merge.specs.Pieces.{pieces_of, IsPieces}
-use Rattle.trie_merge.specs.Shared.{AreIn, ArePlaced, IsFor}
+use Rattle.trie_merge.specs.Pieces.{pieces_of}
+use Rattle.trie_merge.specs.Shared.{AreIn, ArePlaced}
 use Rattle.trie_merge.proofs.Merging.{SoFar, none_so_far, found_inside, few_more, still_ask, cuts_stay, no_cuts_yet}
 use Rattle.trie_merge.proofs.Merging.{one_more_state, all_merged, past_cap}
 use Rattle.trie_merge.proofs.merge.merge_states.Goals as goal

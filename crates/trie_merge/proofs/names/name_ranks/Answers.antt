@@ -1,4 +1,4 @@
-use Rattle.std.proofs.Common.{◌≡◌, ℕ, ◌<◌, List, length, map, get_or, set, sym, ◌∙◌, ap, arith}
+use Rattle.std.proofs.Common.{ℕ, List, map, get_or, sym, ◌∙◌, arith}
 use Rattle.std.proofs.lemmas.List.{ext_get_or, length-map, get_or-map, length-set}
 use Rattle.shared_parts.proofs.Offered.{set_done}
 use Rattle.trie_merge.proofs.names.name_ranks.Goals as goal

@@ -1,4 +1,4 @@
-use Rattle.std.proofs.Common.{◌≡◌, ℕ, ◌<◌, ◌≤◌, length, get_or}
+use Rattle.std.proofs.Common.{◌≡◌, ℕ, ◌<◌, length, get_or}
 use Rattle.trie_merge.proofs.names.name_ranks.Given as goal
 
 abbrev pub invariant-loop-category : goal.invariant-loop-category

@@ -2,7 +2,6 @@ use Rattle.std.proofs.Common.{◌≡◌, ℕ, ◌+◌, ◌-◌, ◌<◌, ◌++�
 use Rattle.shared_parts.specs.declared.pieces.Piece.{Piece}
 use Rattle.shared_parts.specs.Pieces.{number_at}
 use Rattle.shared_parts.proofs.Offered.{RestIs, no_piece, rest_all, rest_some, rest_below, rest_end, piece_from, piece_at}
-use Rattle.trie_merge.specs.declared.run.Run.{Run}
 use Rattle.trie_merge.specs.Levels.{same_succ}
 use Rattle.trie_merge.specs.Numbers.{numbers_with, succ_of}
 use Rattle.trie_merge.proofs.Successors.{Joined, first_joined, next_joined, piece_joined, rest_next, all_joined}

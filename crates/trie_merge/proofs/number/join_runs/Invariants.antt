@@ -1,4 +1,4 @@
-use Rattle.std.proofs.Common.{ℕ, ◌+◌, ◌<◌, length}
+use Rattle.std.proofs.Common.{◌+◌}
 use Rattle.shared_parts.proofs.Offered.{RestIs}
 use Rattle.trie_merge.proofs.Successors.{Joined}
 use Rattle.trie_merge.proofs.number.join_runs.Given as goal

@@ -1,4 +1,4 @@
-use Rattle.std.proofs.Common.{◌≡◌, ℕ, ◌+◌, ◌*◌, List, ◌++◌, length, sym, ◌∙◌, ap, arith}
+use Rattle.std.proofs.Common.{◌≡◌, ◌+◌, ◌*◌, ◌++◌, length, ◌∙◌, ap, arith}
 use Rattle.table_sizes.specs.Sizes.{row_len}
 use Rattle.trie_merge.specs.Levels.{levels_of}
 use Rattle.trie_merge.specs.Row.{rows_of}
