@@ -1,13 +1,12 @@
 -- The words of a state before the last place are told by its entries.
 use Rattle.std.proofs.Common.{◌≡◌, ℕ, zero, suc, ◌+◌, ◌-◌, ◌<◌, ◌≤◌, ◌==◌, List, [], ◌∷◌, ◌++◌, length, map, filter}
-use Rattle.std.proofs.Common.{take, get_or, fold, Bool, true, false, cond, not, ◌||◌, true≢false, Option, Some, None}
-use Rattle.std.proofs.Common.{refl, sym, ◌∙◌, ap, subst, inl, inr, arith, length-append}
+use Rattle.std.proofs.Common.{get_or, fold, Bool, true, false, cond, not, ◌||◌, true≢false, Option, Some, None}
+use Rattle.std.proofs.Common.{refl, sym, ◌∙◌, ap, subst, inl, inr, arith}
 use Rattle.std.specs.List.{list_any, cons_option, flat_map, AllByRecursion, position_or_len, range_with_len, sum_by}
 use Rattle.std.specs.Option.{option_map}
 use Rattle.std.specs.Str.{bytes_eq}
 use Rattle.std.proofs.lemmas.Bool.{cases_Bool, cases_eq, ne_eqb, eq-eqb, not-false}
-use Rattle.std.proofs.lemmas.List.{take_all, length-map}
-use Rattle.std.proofs.lemmas.List.Elements.{filter-append}
+use Rattle.std.proofs.lemmas.List.{length-map}
 use Rattle.std.proofs.lemmas.List.Sums.{sum_by-cons}
 use Rattle.node_expand.specs.declared.edge.Edge.{Edge}
 use Rattle.node_expand.specs.Edges.{edge_step}
@@ -20,14 +19,12 @@ use Rattle.trie_merge.specs.Entry.{entries_step, is_entry_cut}
 use Rattle.trie_merge.specs.Found.{all_bytes, found_in}
 use Rattle.table_sizes.specs.Sizes.{cost_of}
 use Rattle.trie_merge.specs.Levels.{same_succ, is_end, runs_of}
-use Rattle.trie_merge.specs.Lists.{interval_at, is_change, cost_ahead, RisesFrom, succ_in, successor, level_found}
+use Rattle.trie_merge.specs.Lists.{is_change, cost_ahead, RisesFrom, succ_in, successor, level_found}
 use Rattle.trie_merge.specs.Lists.{state_runs, states_words}
 use Rattle.trie_merge.proofs.Finds.{is_new, none_new_once_found}
-use Rattle.trie_merge.proofs.Marks.{interval_first, interval_marked, interval_unmarked}
 use Rattle.trie_merge.proofs.Numbers.{bytes_eq_refl, bytes_eq_sound}
-use Rattle.trie_merge.proofs.Uncut.{AreCuts, number_in-entry_of, entries_uncut}
+use Rattle.trie_merge.proofs.Uncut.{number_in-entry_of, entries_uncut}
 use Rattle.trie_merge.proofs.PackedState.{edge_in-entry_of}
-use Rattle.trie_merge.proofs.Successors.{one_more_byte, length-all_bytes}
 
 -- ---- entries of rising numbers that become the same
 
@@ -37,7 +34,7 @@ rises_lower one other (entry ∷ entries) below rise = (omega (arith, rise.0), r
 
 module _ (column : ColumnView) where
   -- a step keeps the number
-  step_number : (entry byte after : ℕ) → entry_step column entry byte ≡ Some after → number_in after ≡ number_in entry
+  pub step_number : (entry byte after : ℕ) → entry_step column entry byte ≡ Some after → number_in after ≡ number_in entry
   unfolding entry_step
   step_number entry byte after is =
       by (edge_step (value_in column entry) column.size column.place (edge_before column entry) byte) is
@@ -144,63 +141,6 @@ module _ (column : ColumnView) where
             ]
       ]
 
-  -- so there is a mark for each change, and one interval more
-  module _ (entries : List ℕ) (marks : List Bool) (long : length marks ≡ 256) (cuts : AreCuts column entries marks)
-      (rise : RisesFrom 0 entries) where
-    change_at : (byte : ℕ) → byte < 255 → is_change column entries byte ≡ get_or marks (byte + 1) false
-    unfolding is_change
-    change_at byte below =
-        ap (λ b. b || not (bytes_eq (entries_step column entries byte) (entries_step column entries (byte + 1))))
-        (ne_eqb byte 255 (omega arith))
-        ∙ sym (cuts (byte + 1) (omega arith) ∙ marked_where_changed entries byte rise)
-
-    changes_of : List ℕ → List ℕ
-    changes_of bytes = filter (is_change column entries) bytes
-
-    changes_before : (byte : ℕ) → byte < 256
-        → length (filter (is_change column entries) (take byte all_bytes)) ≡ interval_at marks byte
-    changes_before zero below = sym (interval_first marks)
-    changes_before (suc byte) below =
-        let next : suc byte ≡ byte + 1 = omega arith in
-        let before = changes_before byte (omega arith) in
-        let split : length (filter (is_change column entries) (take (byte + 1) all_bytes))
-        ≡ length (filter (is_change column entries) (take byte all_bytes)) + length
-        (filter (is_change column entries) (byte ∷ [])) =
-        ap (λ bytes. length (filter (is_change column entries) bytes)) (one_more_byte byte (omega arith))
-        ∙ ap length (filter-append (is_change column entries) (take byte all_bytes) (byte ∷ []))
-        ∙ length-append (filter (is_change column entries) (take byte all_bytes))
-        (filter (is_change column entries) (byte ∷ [])) in
-        rw next (elim (cases_Bool (get_or marks (byte + 1) false)) [
-          | inl marked ↦
-              (let one : length (filter (is_change column entries) (byte ∷ [])) ≡ 1 =
-              ap (λ b. length (cond b (byte ∷ []) [])) (change_at byte (omega arith) ∙ marked) in
-              omega (arith, split, one, before, interval_marked marks byte (omega (arith, long)) marked))
-          | inr unmarked ↦
-              (let none : length (filter (is_change column entries) (byte ∷ [])) ≡ 0 =
-              ap (λ b. length (cond b (byte ∷ []) [])) (change_at byte (omega arith) ∙ unmarked) in
-              omega (arith, split, none, before, interval_unmarked marks byte (omega (arith, long)) unmarked))
-        ])
-
-    last_changes : is_change column entries 255 ≡ true
-    unfolding is_change
-    last_changes = refl
-
-    pub changes_are_intervals : length (filter (is_change column entries) all_bytes) ≡ interval_at marks 255 + 1
-    changes_are_intervals =
-        let whole : take (255 + 1) all_bytes ≡ all_bytes = take_all 256 all_bytes (omega (arith, length-all_bytes)) in
-        let last : List ℕ = 255 ∷ [] in
-        let one : length (filter (is_change column entries) (255 ∷ [])) ≡ 1 =
-        ap (λ b. length (cond b last [])) last_changes in
-        let split : length (filter (is_change column entries) (take (255 + 1) all_bytes))
-        ≡ length (filter (is_change column entries) (take 255 all_bytes)) + length
-        (filter (is_change column entries) (255 ∷ [])) =
-        ap (λ bytes. length (filter (is_change column entries) bytes)) (one_more_byte 255 (omega arith))
-        ∙ ap length (filter-append (is_change column entries) (take 255 all_bytes) (255 ∷ []))
-        ∙ length-append (filter (is_change column entries) (take 255 all_bytes))
-        (filter (is_change column entries) (255 ∷ [])) in
-        ap (λ bytes. length (filter (is_change column entries) bytes)) (sym whole)
-        ∙ omega (arith, split, one, changes_before 255 (omega arith))
-
 -- ---- lists that differ are reached as states that differ
 
 found_at : (list : List ℕ) (found : List (List ℕ)) → list_any (bytes_eq list) found ≡ true →
@@ -294,7 +234,7 @@ all_of_bytes P g first (suc count) all byte from until = elim (cases_eq byte fir
   | inr other ↦ all_of_bytes P g (first + 1) count all.1 byte (omega (arith, from, other)) (omega (arith, until))
 ]
 
-each_of_bytes : {Y : Type 0} (P : Y → Type 0) (g : ℕ → Y) → AllByRecursion P (map g all_bytes) → (byte : ℕ) → byte < 256
+pub each_of_bytes : {Y : Type 0} (P : Y → Type 0) (g : ℕ → Y) → AllByRecursion P (map g all_bytes) → (byte : ℕ) → byte < 256
     → P (g byte)
 unfolding all_bytes
 each_of_bytes P g all byte below = all_of_bytes P g 0 256 all byte (omega arith) (omega arith)

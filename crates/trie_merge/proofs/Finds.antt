@@ -203,7 +203,7 @@ module _ {X Y : Type 0} (same : X → X → Bool) (live : X → Bool) (same_y : 
 
 -- what holds of each element holds of each found, and each found is live
 module _ {X : Type 0} (same : X → X → Bool) (live : X → Bool) (P : X → Type 0) where
-  all_found : (acc xs : List X) → AllByRecursion P acc → AllByRecursion (λ x. live x ≡ true → P x) xs
+  pub all_found : (acc xs : List X) → AllByRecursion P acc → AllByRecursion (λ x. live x ≡ true → P x) xs
       → AllByRecursion P (fold (found_with same live) acc xs)
   all_found acc [] ps qs = ps
   all_found acc (x ∷ xs) ps qs =

@@ -1,42 +1,54 @@
 -- Merging the states of a place, one after the other.
+use Rattle.std.proofs.Common.{zero, suc, inl, inr}
+use Rattle.std.proofs.lemmas.List.Elements.{recursion_from_All}
+use Rattle.rule_set.specs.Laws.{RanksOrderRules, TheBestHasTheGreatestRank}
+use Rattle.shared_parts.specs.declared.pieces.Piece.{Piece}
+use Rattle.shared_parts.specs.declared.target.Target.{Target}
+use Rattle.shared_parts.specs.declared.target.Target.TheVariants.{Parts, Rows}
+use Rattle.shared_parts.specs.Tree.{Tree, leaves}
+use Rattle.shared_parts.specs.Pieces.{number_at}
+use Rattle.shared_parts.specs.Target.{count, Grows}
+use Rattle.trie_merge.specs.declared.cuts.Cuts.{Cuts}
+use Rattle.trie_merge.specs.Cuts.{CanAsk, CanGoOn, CutsFor, AreBuilt}
+use Rattle.trie_merge.proofs.CutLaws.{built_grow}
+use Rattle.std.specs.Prelude.{nat_eq}
+use Rattle.std.specs.List.Sorted.{IsStrictlyIncreasing}
+use Rattle.std.proofs.lemmas.Bool.{ltb-true}
+use Rattle.shared_parts.proofs.Offered.{count_grows, grows_on}
+use Rattle.trie_merge.specs.Laws.{IsGrouped}
+use Rattle.trie_merge.specs.Led.{AllLed}
+use Rattle.trie_merge.specs.Levels.{runs_of}
+use Rattle.trie_merge.specs.Merged.{StateMerged}
+use Rattle.trie_merge.specs.Numbers.{is_some_number, numbers_with, succ_of}
+use Rattle.trie_merge.specs.Shared.{IsState, IsIn, AreIn, IsFor, ArePlaced}
+use Rattle.trie_merge.proofs.Ahead.{each_of_bytes}
+use Rattle.trie_merge.proofs.Finds.{is_new, all_found, none_new_once_found}
+use Rattle.trie_merge.proofs.Leads.{none_led}
+use Rattle.trie_merge.proofs.Numbers.{bytes_eq_refl, succ_stays}
+use Rattle.trie_merge.proofs.Reached.{all_weaker, all-map, bytes_below}
+use Rattle.trie_merge.proofs.Rising.{NumbersRise, numbers_rise}
+use Rattle.trie_merge.proofs.Successors.{same_runs, with_number}
+use Rattle.trie_merge.proofs.Zipped.{finds_alike, succ_alike, are_grown, for_grows, state_leads}
 use Rattle.std.proofs.Common.{◌≡◌, ℕ, ◌+◌, ◌*◌, ◌<◌, ◌≤◌, ◌==◌, List, [], ◌∷◌, ◌++◌, length, map, filter, take, fold}
 use Rattle.std.proofs.Common.{Bool, true, false, cond, Option, Some, None, get_or, refl, sym, ◌∙◌, ap, subst, arith}
 use Rattle.std.proofs.Common.{length-append}
-use Rattle.std.specs.Prelude.{nat_le, IfSome}
+use Rattle.std.specs.Prelude.{nat_le}
 use Rattle.std.specs.List.{flat_map, sum_by, AllByRecursion}
 use Rattle.std.specs.Str.{bytes_eq}
-use Rattle.std.proofs.lemmas.List.{map-append, append_assoc, append-nil, length-map, map_push, take-map, take_more}
+use Rattle.std.proofs.lemmas.List.{map-append, append_assoc, append-nil, length-map, map_push, take_more}
 use Rattle.std.proofs.Math.Seq.{take-append_seam}
-use Rattle.std.proofs.lemmas.List.Elements.{recursion_from_All, All-from_recursion}
 use Rattle.std.proofs.lemmas.List.Concat.{flat_map-append}
 use Rattle.std.proofs.lemmas.List.Sums.{fold-append, sum_by-append, sum_by-cons}
-use Rattle.smallvec.specs.SmallVec.{SmallVec}
 use Rattle.rule_set.specs.Rule.{RuleSetView}
 use Rattle.trie_merge.specs.declared.run.Run.{Run}
 use Rattle.trie_merge.specs.State.{is_live}
 use Rattle.trie_merge.specs.Found.{found_in, all_bytes}
 use Rattle.trie_merge.specs.Entry.{ColumnView}
 use Rattle.table_sizes.specs.Sizes.{cost_of, few_runs, full_len, row_len}
-use Rattle.trie_merge.specs.Pieces.{pieces_of, IsPieces}
-use Rattle.trie_merge.specs.Lists.{lists_of, lists_with, successor, level_found, state_runs, states_words, is_change}
-use Rattle.trie_merge.specs.Lists.{cost_ahead, price, least_cost, least_words, CanCount, AllCanCount, IsMergedWithin}
+use Rattle.trie_merge.specs.Lists.{lists_with, successor, level_found, state_runs, states_words, is_change}
+use Rattle.trie_merge.specs.Lists.{cost_ahead, price, least_cost, least_words, IsMergedWithin}
 use Rattle.trie_merge.proofs.Finds.{found_grows}
-use Rattle.trie_merge.proofs.Handing.{list_at-read}
-use Rattle.trie_merge.proofs.Successors.{with_length, length-all_bytes}
-
--- The states so far: what they lead to is found, their runs stand whatever is found after, and the words are within
--- the cap.
-pub record MergedSoFar (set : RuleSetView) (column : ColumnView) (next : Option ColumnView) (is_last : Bool)
-    (cap before : ℕ)
-    (states : List (SmallVec ℕ)) (its_runs : List Run) (ends : List ℕ) (keys : List (SmallVec ℕ)) (words least : ℕ) :
-    Type 0 where
-  pub found : lists_of keys ≡ level_found set column is_last (lists_of states)
-  pub runs : (more : List (List ℕ))
-      → pieces_of its_runs 0 ends ≡ map (state_runs set column is_last (lists_of keys ++ more)) (lists_of states)
-  pub pieces : IsPieces 0 ends (length its_runs)
-  pub sum : words ≡ before + states_words (pieces_of its_runs 0 ends)
-  pub priced : least ≡ least_cost next is_last (lists_of keys)
-  pub within : words + least ≤ cap
+use Rattle.trie_merge.proofs.Successors.{length-all_bytes}
 
 -- a list takes a word at least, and no more than 256
 cost_some : (count : ℕ) → (0 < cost_of count) × (cost_of count ≤ 256)
@@ -47,7 +59,7 @@ cost_some count = by (count == 1) (nat_le count few_runs)
     by false true = (omega arith, omega arith)
     by false false = (omega arith, omega arith)
 
-price_some : (next : Option ColumnView) (is_last : Bool) (list : List ℕ) → 0 < price next is_last list
+pub price_some : (next : Option ColumnView) (is_last : Bool) (list : List ℕ) → 0 < price next is_last list
 unfolding cost_ahead
 price_some (Some column) is_last list = (cost_some (length (filter (is_change column list) all_bytes))).0
 price_some None true list = omega arith
@@ -106,7 +118,7 @@ least_cost_flat false (list ∷ lists) =
 
 module _ (set : RuleSetView) (column : ColumnView) (next : Option ColumnView) (is_last : Bool) where
   -- one more state's finds come after the others'
-  found_more : (states : List (List ℕ)) (state : List ℕ) → level_found set column is_last (states ++ state ∷ [])
+  pub found_more : (states : List (List ℕ)) (state : List ℕ) → level_found set column is_last (states ++ state ∷ [])
       ≡ fold lists_with (level_found set column is_last states) (map (successor set column is_last state) all_bytes)
   unfolding level_found found_in
   found_more states state =
@@ -116,7 +128,7 @@ module _ (set : RuleSetView) (column : ColumnView) (next : Option ColumnView) (i
       ∙ fold-append lists_with [] (flat_map after states) (after state)
 
   -- and further states' finds too
-  found_on : (states more : List (List ℕ))
+  pub found_on : (states more : List (List ℕ))
       → (extra : List (List ℕ))
       × (level_found set column is_last (states ++ more) ≡ level_found set column is_last states ++ extra)
   unfolding level_found found_in
@@ -128,211 +140,357 @@ module _ (set : RuleSetView) (column : ColumnView) (next : Option ColumnView) (i
             ∙ fold-append lists_with [] (flat_map after states) (flat_map after more) ∙ grown.1,
       )
 
-  none_found : [] ≡ level_found set column is_last []
-  unfolding level_found found_in
-  none_found = refl
+none_found : (set : RuleSetView) (column : ColumnView) (is_last : Bool) → [] ≡ level_found set column is_last []
+unfolding level_found found_in
+none_found set column is_last = refl
 
-  pub none_merged : (cap before : ℕ) → before ≤ cap
-      → MergedSoFar set column next is_last cap before [] [] [] [] before 0
-  none_merged cap before within = record {
-    found = none_found;
-    runs = λ more. refl;
-    pieces = refl;
-    sum = omega arith;
-    priced = sym (least_cost_none next is_last);
-    within = omega arith;
-  }
+-- ---- lists and numbers by their ends
 
-  module _ (cap before : ℕ) (states : List (SmallVec ℕ)) (its_runs : List Run) (ends : List ℕ)
-      (keys : List (SmallVec ℕ)) (words least : ℕ)
-      (so_far : MergedSoFar set column next is_last cap before states its_runs ends keys words least)
-      (state : SmallVec ℕ) (runs' : List Run) (ends' : List ℕ) (keys' : List (SmallVec ℕ)) (cost : ℕ)
-      (found' : lists_of keys' ≡ fold lists_with (lists_of keys)
-      (map (successor set column is_last state.items) all_bytes))
-      (pieces' : (more : List (List ℕ))
-      → pieces_of runs' 0 ends'
-      ≡ pieces_of its_runs 0 ends ++ state_runs set column is_last (lists_of keys' ++ more) state.items ∷ [])
-      (are_pieces : IsPieces 0 ends' (length runs'))
-      (cost' : (more : List (List ℕ))
-      → cost ≡ cost_of (length (state_runs set column is_last (lists_of keys' ++ more) state.items))) where
-    lists_push : lists_of (states ++ state ∷ []) ≡ lists_of states ++ state.items ∷ []
-    lists_push = map_push (λ (v : SmallVec ℕ). v.items) states state
+split_last : (set : RuleSetView) (target : Target) (tree : Tree) (lists : List (List ℕ)) (ns : List ℕ) (n : ℕ)
+    → AreIn set target tree lists (ns ++ n ∷ [])
+    → (ls : List (List ℕ)) × (l : List ℕ) × (lists ≡ ls ++ l ∷ []) × AreIn set target tree ls ns × IsIn set target tree l n
+split_last set target tree [] [] n all = absurd all
+split_last set target tree [] (k ∷ ks) n all = absurd all
+split_last set target tree (l ∷ []) [] n all = ([], l, refl, tt, all.0)
+split_last set target tree (l ∷ x ∷ xs) [] n all = absurd all.1
+split_last set target tree (l ∷ ls) (k ∷ ks) n all =
+    let rest = split_last set target tree ls ks n all.1 in
+    (l ∷ rest.0, rest.1, ap (λ r. l ∷ r) rest.2, (all.0, rest.3), rest.4)
 
-    found_is : lists_of keys' ≡ level_found set column is_last (lists_of (states ++ state ∷ []))
-    found_is =
-        found' ∙ ap (λ f. fold lists_with f (map (successor set column is_last state.items) all_bytes)) so_far.found
-        ∙ sym (ap (level_found set column is_last) lists_push ∙ found_more (lists_of states) state.items)
+split_first : (set : RuleSetView) (target : Target) (tree : Tree) (lists : List (List ℕ)) (ns more : List ℕ)
+    → AreIn set target tree lists (ns ++ more)
+    → (ls : List (List ℕ)) × (rest : List (List ℕ)) × (lists ≡ ls ++ rest) × AreIn set target tree ls ns
+split_first set target tree lists [] more all = ([], lists, refl, tt)
+split_first set target tree [] (k ∷ ks) more all = absurd all
+split_first set target tree (l ∷ ls) (k ∷ ks) more all =
+    let rest = split_first set target tree ls ks more all.1 in
+    (l ∷ rest.0, rest.1, ap (λ r. l ∷ r) rest.2, (all.0, rest.3))
 
-    runs_are : (more : List (List ℕ))
-        → pieces_of runs' 0 ends'
-        ≡ map (state_runs set column is_last (lists_of keys' ++ more)) (lists_of (states ++ state ∷ []))
-    runs_are more =
-        let grown = found_grows bytes_eq is_live (lists_of keys)
-        (map (successor set column is_last state.items) all_bytes) in
-        let same : lists_of keys ++ (grown.0 ++ more) ≡ lists_of keys' ++ more =
-        sym (append_assoc (lists_of keys) grown.0 more) ∙ ap (λ f. f ++ more) (sym grown.1 ∙ sym found') in
-        pieces' more
-        ∙ ap (λ p. p ++ state_runs set column is_last (lists_of keys' ++ more) state.items ∷ [])
-        (so_far.runs (grown.0 ++ more) ∙ ap (λ f. map (state_runs set column is_last f) (lists_of states)) same)
-        ∙ sym (ap (map (state_runs set column is_last (lists_of keys' ++ more))) lists_push
-        ∙ map_push (state_runs set column is_last (lists_of keys' ++ more)) (lists_of states) state.items)
+pub same_length : (set : RuleSetView) (target : Target) (tree : Tree) (lists : List (List ℕ)) (ns : List ℕ)
+    → AreIn set target tree lists ns → length lists ≡ length ns
+same_length set target tree [] [] all = refl
+same_length set target tree (l ∷ ls) (n ∷ ns) all = ap suc (same_length set target tree ls ns all.1)
+same_length set target tree [] (n ∷ ns) all = absurd all
+same_length set target tree (l ∷ ls) [] all = absurd all
 
-    sum_is : words + cost ≡ before + states_words (pieces_of runs' 0 ends')
-    sum_is =
-        let last : List Run = state_runs set column is_last (lists_of keys' ++ []) state.items in
-        let more : states_words (pieces_of runs' 0 ends')
-        ≡ states_words (pieces_of its_runs 0 ends) + cost_of (length last) =
-        ap states_words (pieces' [])
-        ∙ sum_by-append (λ (runs : List Run). cost_of (length runs)) (pieces_of its_runs 0 ends) (last ∷ [])
-        ∙ ap (λ n. states_words (pieces_of its_runs 0 ends) + n)
-        (sum_by-cons (λ (runs : List Run). cost_of (length runs)) last [] ∙ omega arith) in
-        omega (arith, so_far.sum, more, cost' [])
+none_listed : (set : RuleSetView) (target : Target) (tree : Tree) (lists : List (List ℕ))
+    → AreIn set target tree lists [] → lists ≡ []
+none_listed set target tree [] all = refl
+none_listed set target tree (l ∷ ls) all = absurd all
 
-    -- what was found before stands first among what is found now
-    pub still_first : lists_of (take (length keys) keys') ≡ lists_of keys
-    still_first =
-        let grown = found_grows bytes_eq is_live (lists_of keys)
-        (map (successor set column is_last state.items) all_bytes) in
-        let long : length (lists_of keys) ≡ length keys = length-map keys (λ (v : SmallVec ℕ). v.items) in
-        sym (take-map (λ (v : SmallVec ℕ). v.items) (length keys) keys')
-        ∙ ap (take (length keys)) (found' ∙ grown.1)
-        ∙ ap (λ n. take n (lists_of keys ++ grown.0)) (sym long)
-        ∙ take-append_seam (lists_of keys) grown.0
-
-    pub no_fewer : length keys ≤ length keys'
-    no_fewer =
-        let grown = found_grows bytes_eq is_live (lists_of keys)
-        (map (successor set column is_last state.items) all_bytes) in
-        omega (
-          arith,
-          ap length (found' ∙ grown.1),
-          length-append (lists_of keys) grown.0,
-          length-map keys (λ (v : SmallVec ℕ). v.items),
-          length-map keys' (λ (v : SmallVec ℕ). v.items),
-        )
-
-    -- the lists found are the first of all that will be found
-    pub first_of_all : (more : List (SmallVec ℕ)) → (extra : List (List ℕ))
-        × (level_found set column is_last (lists_of ((states ++ state ∷ []) ++ more)) ≡ lists_of keys' ++ extra)
-    first_of_all more =
-        let done : List (List ℕ) = lists_of (states ++ state ∷ []) in
-        let on = found_on done (lists_of more) in (
-          on.0,
-          ap (level_found set column is_last) (map-append (λ (v : SmallVec ℕ). v.items) (states ++ state ∷ []) more)
-              ∙ on.1 ∙ ap (λ f. f ++ on.0) (sym found_is),
-        )
-
-    module _ (least' : ℕ) (priced' : least' ≡ least_cost next is_last (lists_of keys')) where
-      -- one more state within the cap
-      pub one_merged : words + cost + least' ≤ cap →
-          MergedSoFar set column next is_last cap before (states ++ state ∷ []) runs' ends' keys' (words + cost) least'
-      one_merged within = record {
-        found = found_is;
-        runs = runs_are;
-        pieces = are_pieces;
-        sum = sum_is;
-        priced = priced';
-        within = within;
-      }
-
-      -- or past it
-      pub past_cap : (more : List (SmallVec ℕ)) → cap < words + cost + least' →
-          cap < least_words set column next is_last before (lists_of ((states ++ state ∷ []) ++ more))
-      past_cap more over =
-          let done : List (List ℕ) = lists_of (states ++ state ∷ []) in
-          let all : lists_of ((states ++ state ∷ []) ++ more) ≡ done ++ lists_of more =
-          map-append (λ (v : SmallVec ℕ). v.items) (states ++ state ∷ []) more in
-          let on = found_on done (lists_of more) in
-          let found_all : level_found set column is_last (done ++ lists_of more) ≡ lists_of keys' ++ on.0 = on.1
-          ∙ ap (λ f. f ++ on.0) (sym found_is) in
-          let f : List ℕ → List Run = state_runs set column is_last (lists_of keys' ++ on.0) in
-          let split : states_words (map f (done ++ lists_of more))
-          ≡ states_words (map f done) + states_words (map f (lists_of more)) =
-          ap states_words (map-append f done (lists_of more))
-          ∙ sum_by-append (λ (runs : List Run). cost_of (length runs)) (map f done) (map f (lists_of more)) in
-          let first : states_words (map f done) ≡ states_words (pieces_of runs' 0 ends') =
-          sym (ap states_words (runs_are on.0)) in
-          rw (all, found_all)
-          (omega (arith, over, sum_is, split, first, priced', least_cost_more next is_last (lists_of keys') on.0))
-
-  -- all states
-  pub all_merged : (cap before : ℕ) (states : List (SmallVec ℕ)) (its_runs : List Run) (ends : List ℕ)
-      (keys : List (SmallVec ℕ)) (words least : ℕ) →
-      MergedSoFar set column next is_last cap before states its_runs ends keys words least →
-      IsMergedWithin set column next is_last cap before (lists_of states) (pieces_of its_runs 0 ends) (lists_of keys)
-      words
-  all_merged cap before states its_runs ends keys words least so_far = record {
-    lists = so_far.found;
-    its_runs = so_far.runs []
-        ∙ ap (λ f. map (state_runs set column is_last f) (lists_of states)) (append-nil (lists_of keys));
-    sum = so_far.sum;
-    within = rw (← so_far.priced) so_far.within;
-  }
-
-  -- so the cap bounds how many lists there are
-  pub few_found : (cap before : ℕ) (states : List (SmallVec ℕ)) (its_runs : List Run) (ends : List ℕ)
-      (keys : List (SmallVec ℕ)) (words least : ℕ) →
-      MergedSoFar set column next is_last cap before states its_runs ends keys words least →
-      (length keys ≤ cap) × (words ≤ cap) × (least ≤ cap)
-  few_found cap before states its_runs ends keys words least so_far =
-      let some = least_cost_some next is_last (lists_of keys) in (
-        omega (arith, some, so_far.priced, so_far.within, length-map keys (λ (v : SmallVec ℕ). v.items)),
-        omega (arith, so_far.within),
-        omega (arith, so_far.within),
-      )
-
--- a state finds no more than one list for each byte
-finds_few : (found lists : List (List ℕ)) → length (fold lists_with found lists) ≤ length found + length lists
-finds_few found [] = omega arith
-finds_few found (list ∷ lists) =
-    let rest = finds_few (lists_with found list) lists in
-    omega (arith, rest, with_length found list)
-
-pub grown_by : (set : RuleSetView) (column : ColumnView) (is_last : Bool) (entries : List ℕ)
-    (keys keys' : List (SmallVec ℕ)) →
-    lists_of keys' ≡ fold lists_with (lists_of keys) (map (successor set column is_last entries) all_bytes)
-    → length keys' ≤ length keys + 256
-grown_by set column is_last entries keys keys' is =
-    let few : length (lists_of keys') ≤ length (lists_of keys) + length
-    (map (successor set column is_last entries) all_bytes) =
-    rw is (finds_few (lists_of keys) (map (successor set column is_last entries) all_bytes)) in
-    omega (
-      arith,
-      few,
-      length-map keys' (λ (v : SmallVec ℕ). v.items),
-      length-map keys (λ (v : SmallVec ℕ). v.items),
-      length-map all_bytes (successor set column is_last entries),
-      length-all_bytes,
-    )
-
--- the first of some lists can be counted where all can
-pub first_can_count : (next : Option ColumnView) (lists more : List (List ℕ)) → AllCanCount next (lists ++ more)
-    → AllCanCount next lists
-first_can_count None lists more all = tt
-first_can_count (Some column) lists more all =
-    All-from_recursion (CanCount column) lists (by lists (recursion_from_All (CanCount column) (lists ++ more) all))
-  where
-    by : (xs : List (List ℕ)) → AllByRecursion (CanCount column) (xs ++ more) → AllByRecursion (CanCount column) xs
-    by [] h = tt
-    by (x ∷ xs) h = (h.0, by xs h.1)
-
--- so each can
-pub one_can_count : (next : Option ColumnView) (keys : List (SmallVec ℕ)) (k : ℕ) (v : SmallVec ℕ)
-    → AllCanCount next (lists_of keys) →
-    k < length keys → v ≡ get_or keys k v → IfSome next (λ column. CanCount column v.items)
-one_can_count None keys k v all within read = tt
-one_can_count (Some column) keys k v all within read =
-    subst (CanCount column) (list_at-read keys k v within read)
-    (all k [] (rw (length-map keys (λ (u : SmallVec ℕ). u.items)) within))
+-- the list of a number by its place
+pub number_in_lists : (set : RuleSetView) (target : Target) (tree : Tree) (lists : List (List ℕ)) (ns : List ℕ) (k : ℕ)
+    → AreIn set target tree lists ns → k < length ns → IsIn set target tree (get_or lists k []) (get_or ns k 0)
+number_in_lists set target tree [] [] k all below = absurd (omega (arith, below))
+number_in_lists set target tree [] (n ∷ ns) k all below = absurd all
+number_in_lists set target tree (l ∷ ls) [] k all below = absurd all
+number_in_lists set target tree (l ∷ ls) (n ∷ ns) zero all below = all.0
+number_in_lists set target tree (l ∷ ls) (n ∷ ns) (suc k) all below =
+    number_in_lists set target tree ls ns k all.1 (omega (arith, below))
 
 -- one more list is counted
-pub one_more_price : (next : Option ColumnView) (is_last : Bool) (keys : List (SmallVec ℕ)) (k : ℕ) (v : SmallVec ℕ) →
-    k < length keys → v ≡ get_or keys k v →
-    least_cost next is_last (lists_of (take (k + 1) keys))
-    ≡ least_cost next is_last (lists_of (take k keys)) + price next is_last v.items
-one_more_price next is_last keys k v within read =
-    ap (λ ks. least_cost next is_last (lists_of ks))
-    (take_more keys k v within ∙ ap (λ u. take k keys ++ u ∷ []) (sym read))
-    ∙ ap (least_cost next is_last) (map_push (λ (u : SmallVec ℕ). u.items) (take k keys) v)
-    ∙ least_cost_more next is_last (lists_of (take k keys)) (v.items ∷ [])
-    ∙ ap (λ n. least_cost next is_last (lists_of (take k keys)) + n) (least_cost_one next is_last v.items)
+pub one_more_price : (next : Option ColumnView) (is_last : Bool) (set : RuleSetView) (target : Target) (tree : Tree)
+    (lists : List (List ℕ)) (ns : List ℕ) (k : ℕ) → AreIn set target tree lists ns → k < length ns →
+    least_cost next is_last (take (k + 1) lists)
+    ≡ least_cost next is_last (take k lists) + price next is_last (get_or lists k [])
+one_more_price next is_last set target tree lists ns k all below =
+    ap (least_cost next is_last) (take_more lists k [] (omega (arith, below, same_length set target tree lists ns all)))
+    ∙ least_cost_more next is_last (take k lists) (get_or lists k [] ∷ [])
+    ∙ ap (λ n. least_cost next is_last (take k lists) + n) (least_cost_one next is_last (get_or lists k []))
+
+-- ---- the states so far
+
+-- What the lists of the states so far lead to is found, their runs stand whatever is found after, and the words that
+-- are found ahead are no more than it takes.
+pub record ListsSoFar (set : RuleSetView) (column : ColumnView) (next : Option ColumnView) (is_last : Bool)
+    (tree : Tree) (now : Target) (found : List ℕ) (runs : List (List Run)) (least : ℕ) (lists : List (List ℕ)) :
+    Type 0 where
+  pub finds : AreIn set now tree (level_found set column is_last lists) found
+  pub its_runs : (more : List (List ℕ))
+      → runs ≡ map (state_runs set column is_last (level_found set column is_last lists ++ more)) lists
+  pub priced : least ≤ least_cost next is_last (level_found set column is_last lists)
+
+-- So it is for each set, group and tree that the states are those of.
+pub record SoFar (column : ColumnView) (next : Option ColumnView) (is_last : Bool) (before : ℕ)
+    (pairs : List (ℕ × ℕ)) (old now : Target) (done : List ℕ) (steps : List (List Piece)) (found : List ℕ)
+    (runs : List (List Run)) (words least : ℕ) : Type 0 where
+  pub led : AllLed column pairs old now steps
+  pub sum : words ≡ before + states_words runs
+  pub few : length found ≤ least
+  pub inside : AllByRecursion (λ n. (0 < n) × (n ≤ count now)) found
+  pub rows : is_last ≡ true → row_len * length found ≤ least
+  pub lists : (set : RuleSetView) (group : List ℕ) (tree : Tree) (lists : List (List ℕ)) → IsFor set is_last old
+      → ArePlaced set group tree pairs lists done
+      → ListsSoFar set column next is_last tree now found runs least lists
+
+-- the numbers that a state finds are there
+pub found_inside : (column : ColumnView) (is_last : Bool) (pairs : List (ℕ × ℕ)) (now new : Target)
+    (steps : List (List Piece)) (found found' : List ℕ) (runs runs' : List (List Run)) (state cost : ℕ)
+    → AllByRecursion (λ n. (0 < n) × (n ≤ count now)) found → AllLed column pairs now new steps
+    → StateMerged column is_last pairs new found found' runs runs' state cost
+    → AllByRecursion (λ n. (0 < n) × (n ≤ count new)) found'
+found_inside column is_last pairs now new steps found found' runs runs' state cost inside led merged =
+    subst (AllByRecursion (λ n. (0 < n) × (n ≤ count new))) (sym merged.finds)
+    (all_found nat_eq is_some_number (λ n. (0 < n) × (n ≤ count new)) found
+    (map (number_at merged.pieces) all_bytes)
+    (all_weaker (λ n. (0 < n) × (n ≤ count now)) (λ n. (0 < n) × (n ≤ count new)) found
+    (λ n is. (is.0, omega (arith, is.1, count_grows now new led.grows))) inside)
+    (all-map (λ n. is_some_number n ≡ true → (0 < n) × (n ≤ count new)) (number_at merged.pieces) all_bytes
+    (all_weaker (λ byte. byte < 256)
+    (λ byte. is_some_number (number_at merged.pieces byte) ≡ true
+    → (0 < number_at merged.pieces byte) × (number_at merged.pieces byte ≤ count new)) all_bytes
+    (λ byte below live. (ltb-true 0 (number_at merged.pieces byte) live, (merged.leads byte below).within))
+    bytes_below)))
+
+-- there are no more of them than one for each byte
+fold_long : (found numbers : List ℕ) → length (fold numbers_with found numbers) ≤ length found + length numbers
+fold_long found [] = omega arith
+fold_long found (n ∷ numbers) =
+    omega (arith, with_number found n, fold_long (numbers_with found n) numbers)
+
+pub few_more : (column : ColumnView) (is_last : Bool) (pairs : List (ℕ × ℕ)) (new : Target)
+    (found found' : List ℕ) (runs runs' : List (List Run)) (state cost : ℕ)
+    → StateMerged column is_last pairs new found found' runs runs' state cost
+    → (length found' ≤ length found + 256) × (length found ≤ length found')
+few_more column is_last pairs new found found' runs runs' state cost merged =
+    let numbers : List ℕ = map (number_at merged.pieces) all_bytes in
+    let long : length numbers ≡ 256 = length-map all_bytes (number_at merged.pieces) ∙ length-all_bytes in
+    let grown = found_grows nat_eq is_some_number found numbers in (
+      omega (arith, ap length merged.finds, fold_long found numbers, long),
+      omega (arith, ap length merged.finds, ap length grown.1, length-append found grown.0),
+    )
+
+-- what can be asked, and the cuts that are known, stay so
+pub still_ask : (next : Option ColumnView) (column : ColumnView) (pairs : List (ℕ × ℕ)) (old new : Target)
+    (steps : List (List Piece)) → AllLed column pairs old new steps → CanAsk next old → CanGoOn next column pairs
+    → CanAsk next new
+still_ask None column pairs old new steps led ask on = tt
+still_ask (Some next) column pairs old new steps led ask on = λ entry has. elim (led.entries entry has) [
+  | inl was ↦ ask entry was
+  | inr comes ↦ on entry comes
+]
+
+pub cuts_stay : (next : Option ColumnView) (old new : Target) (all : List Cuts) → Grows old new → CutsFor next old all
+    → CutsFor next new all
+cuts_stay None old new all grows known = tt
+cuts_stay (Some next) (Parts pairs) (Parts now) all (more, is) known =
+    subst (λ ps. AreBuilt next ps all) (sym is) (built_grow next pairs more all known)
+cuts_stay (Some next) (Parts pairs) (Rows rows) all grows known = absurd grows
+cuts_stay (Some next) (Rows rows) (Parts pairs) all grows known = absurd grows
+cuts_stay (Some next) (Rows rows) (Rows now) all grows known = tt
+
+pub no_cuts_yet : (next : Option ColumnView) (target : Target) → CutsFor next target []
+no_cuts_yet None target = tt
+no_cuts_yet (Some next) (Parts pairs) = record { few = omega arith; each = λ k below. absurd (omega (arith, below)) }
+no_cuts_yet (Some next) (Rows rows) = tt
+
+module _ (column : ColumnView) (next : Option ColumnView) (is_last : Bool) (before : ℕ) (pairs : List (ℕ × ℕ))
+    (old : Target) where
+  pub none_so_far : SoFar column next is_last before pairs old old [] [] [] [] before 0
+  none_so_far = record {
+    led = none_led column pairs old [] (record {
+      few = omega arith;
+      covers = λ k below. absurd (omega (arith, below));
+      leads = λ k below. absurd (omega (arith, below));
+    });
+    sum = omega arith;
+    few = omega arith;
+    inside = tt;
+    rows = λ last. omega arith;
+    lists = λ set group tree lists for placed.
+        (let none : lists ≡ [] = none_listed set (Parts pairs) tree lists placed.each in
+        subst (ListsSoFar set column next is_last tree old [] [] 0) (sym none)
+        (record {
+          finds = subst (λ ls. AreIn set old tree ls []) (nothing_found set column is_last) tt;
+          its_runs = λ more. refl;
+          priced = omega arith;
+        }));
+  }
+    where
+      nothing_found : (set : RuleSetView) (c : ColumnView) (l : Bool) → [] ≡ level_found set c l []
+      nothing_found set c l = none_found set c l
+
+  module _ (order : RanksOrderRules) (law : TheBestHasTheGreatestRank) (now new : Target) (done : List ℕ)
+      (steps steps' : List (List Piece)) (found found' : List ℕ) (runs runs' : List (List Run)) (words least : ℕ)
+      (so_far : SoFar column next is_last before pairs old now done steps found runs words least)
+      (state cost price : ℕ) (led : AllLed column pairs now new steps')
+      (merged : StateMerged column is_last pairs new found found' runs runs' state cost)
+      (priced : (set : RuleSetView) (tree : Tree) (lists : List (List ℕ)) → IsStrictlyIncreasing (leaves tree)
+      → AreIn set new tree lists found'
+      → least_cost next is_last (take (length found) lists) + price ≤ least_cost next is_last lists)
+      (some : length found' ≤ length found + price)
+      (its_rows : is_last ≡ true → row_len * length found' ≤ row_len * length found + price) where
+    all_led : AllLed column pairs old new steps'
+    all_led = record {
+      grows = grows_on old now new so_far.led.grows led.grows;
+      entries = λ other has. elim (led.entries other has) [
+        | inl was ↦ so_far.led.entries other was
+        | inr comes ↦ inr comes
+      ];
+      led = led.led;
+    }
+
+    module _ (set : RuleSetView) (group : List ℕ) (tree : Tree) (lists : List (List ℕ)) (list : List ℕ)
+        (for : IsFor set is_last old) (grouped : IsGrouped set group) (rules : leaves tree ≡ group)
+        (each : AreIn set (Parts pairs) tree lists done) (is : IsState pairs tree list state) where
+      was : ListsSoFar set column next is_last tree now found runs least lists
+      was = so_far.lists set group tree lists for (record { grouped = grouped; rules = rules; each = each })
+
+      rise : NumbersRise 0 (leaves tree)
+      rise = subst (NumbersRise 0) (sym rules) (numbers_rise group grouped.group.ascending)
+
+      ascending : IsStrictlyIncreasing (leaves tree)
+      ascending = subst IsStrictlyIncreasing (sym rules) grouped.group.ascending
+
+      inside : AllByRecursion (λ rule. rule < length set.rules) (leaves tree)
+      inside = subst (AllByRecursion (λ rule. rule < length set.rules)) (sym rules)
+          (recursion_from_All (λ rule. rule < length set.rules) group grouped.group.within)
+
+      abbrev before_lists : List (List ℕ)
+      before_lists = level_found set column is_last lists
+
+      abbrev after_lists : List (List ℕ)
+      after_lists = fold lists_with (level_found set column is_last lists)
+          (map (successor set column is_last list) all_bytes)
+
+      byte_leads : (byte : ℕ) → byte < 256
+          → IsIn set new tree (successor set column is_last list byte) (number_at merged.pieces byte)
+      byte_leads byte below =
+          state_leads set column is_last pairs new tree list state byte (number_at merged.pieces byte)
+          (for_grows set is_last old new all_led.grows for) is (merged.leads byte below)
+
+      found_after : AreIn set new tree after_lists found'
+      found_after =
+          subst (AreIn set new tree after_lists) (sym merged.finds)
+          (finds_alike set order law tree rise inside new (successor set column is_last list)
+          (number_at merged.pieces) all_bytes before_lists found
+          (all_weaker (λ byte. byte < 256) _ all_bytes byte_leads bytes_below)
+          (are_grown set now new tree before_lists found led.grows was.finds))
+
+      grown : (more : List (List ℕ)) × (after_lists ≡ before_lists ++ more)
+      grown = found_grows bytes_eq is_live before_lists (map (successor set column is_last list) all_bytes)
+
+      known : (byte : ℕ) → byte < 256
+          → is_new bytes_eq is_live after_lists (successor set column is_last list byte) ≡ false
+      known = each_of_bytes (λ l. is_new bytes_eq is_live after_lists l ≡ false) (successor set column is_last list)
+          (none_new_once_found bytes_eq is_live bytes_eq_refl before_lists
+          (map (successor set column is_last list) all_bytes))
+
+      runs_here : (more : List (List ℕ))
+          → runs_of (λ byte. succ_of is_last found' (number_at merged.pieces byte))
+          ≡ state_runs set column is_last (after_lists ++ more) list
+      runs_here more =
+          same_runs _ _ (λ byte below.
+          sym (succ_stays is_last (successor set column is_last list byte) after_lists more (known byte below)
+          ∙ succ_alike set order law tree rise inside new is_last (successor set column is_last list byte)
+          (number_at merged.pieces byte) after_lists found' (byte_leads byte below) found_after))
+
+      runs_before : (more : List (List ℕ)) → runs ≡ map (state_runs set column is_last (after_lists ++ more)) lists
+      runs_before more =
+          was.its_runs (grown.0 ++ more)
+          ∙ ap (λ f. map (state_runs set column is_last f) lists)
+          (sym (append_assoc before_lists grown.0 more) ∙ ap (λ f. f ++ more) (sym grown.1))
+
+      taken : take (length found) after_lists ≡ before_lists
+      taken =
+          let long = same_length set now tree before_lists found was.finds in
+          ap (take (length found)) grown.1 ∙ ap (λ n. take n (before_lists ++ grown.0)) (sym long)
+          ∙ take-append_seam before_lists grown.0
+
+      pub one_more_list : ListsSoFar set column next is_last tree new found' runs' (least + price) (lists ++ list ∷ [])
+      one_more_list =
+          let all : level_found set column is_last (lists ++ list ∷ []) ≡ after_lists =
+          found_more set column next is_last lists list in
+          record {
+            finds = subst (λ ls. AreIn set new tree ls found') (sym all) found_after;
+            its_runs = λ more.
+                merged.its_runs
+                ∙ (λ i. runs_before more i ++ runs_here more i ∷ [])
+                ∙ sym (map_push (state_runs set column is_last (after_lists ++ more)) lists list)
+                ∙ ap (λ f. map (state_runs set column is_last (f ++ more)) (lists ++ list ∷ [])) (sym all);
+            priced =
+                omega (
+                  arith,
+                  was.priced,
+                  priced set tree after_lists ascending found_after,
+                  ap (least_cost next is_last) taken,
+                  ap (least_cost next is_last) all,
+                );
+          }
+
+    -- one more state
+    pub one_more_state : SoFar column next is_last before pairs old new (done ++ state ∷ []) steps' found' runs'
+        (words + cost) (least + price)
+    one_more_state =
+        let its : List Run = runs_of (λ byte. succ_of is_last found' (number_at merged.pieces byte)) in
+        let more : states_words runs' ≡ states_words runs + cost =
+        ap states_words merged.its_runs
+        ∙ sum_by-append (λ (rs : List Run). cost_of (length rs)) runs (its ∷ [])
+        ∙ ap (λ n. states_words runs + n)
+        (sum_by-cons (λ (rs : List Run). cost_of (length rs)) its [] ∙ omega (arith, merged.its_cost)) in
+        record {
+          led = all_led;
+          sum = omega (arith, so_far.sum, more);
+          few = omega (arith, so_far.few, some);
+          inside = found_inside column is_last pairs now new steps' found found' runs runs' state cost so_far.inside led merged;
+          rows = λ last. omega (arith, so_far.rows last, its_rows last);
+          lists = λ set group tree lists for placed.
+              (let ends = split_last set (Parts pairs) tree lists done state placed.each in
+              subst (ListsSoFar set column next is_last tree new found' runs' (least + price)) (sym ends.2)
+              (one_more_list set group tree ends.0 ends.1 for placed.grouped placed.rules ends.3 ends.4));
+        }
+
+  -- all states
+  pub all_merged : (cap : ℕ) (now : Target) (states : List ℕ) (steps : List (List Piece)) (found : List ℕ)
+      (runs : List (List Run)) (words least : ℕ)
+      → SoFar column next is_last before pairs old now states steps found runs words least → words + least ≤ cap →
+      (set : RuleSetView) (group : List ℕ) (tree : Tree) (lists : List (List ℕ)) → IsFor set is_last old
+      → ArePlaced set group tree pairs lists states
+      → IsMergedWithin set column is_last cap before lists runs words
+      × AreIn set now tree (level_found set column is_last lists) found
+  all_merged cap now states steps found runs words least so_far within set group tree lists for placed =
+      let its = so_far.lists set group tree lists for placed in (
+        record {
+          its_runs = its.its_runs [] ∙ ap (λ f. map (state_runs set column is_last f) lists)
+              (append-nil (level_found set column is_last lists));
+          sum = so_far.sum;
+          within = omega (arith, within);
+          whole = λ end. omega (
+            arith,
+            within,
+            so_far.rows end,
+            same_length set now tree (level_found set column is_last lists) found its.finds,
+          );
+        },
+        its.finds,
+      )
+
+  -- the states so far exceed the cap
+  pub past_cap : (cap : ℕ) (now : Target) (done more : List ℕ) (steps : List (List Piece)) (found : List ℕ)
+      (runs : List (List Run)) (words least : ℕ)
+      → SoFar column next is_last before pairs old now done steps found runs words least → cap < words + least →
+      (set : RuleSetView) (group : List ℕ) (tree : Tree) (lists : List (List ℕ)) → IsFor set is_last old
+      → ArePlaced set group tree pairs lists (done ++ more)
+      → cap < least_words set column next is_last before lists
+  past_cap cap now done more steps found runs words least so_far over set group tree lists for placed =
+      let parts = split_first set (Parts pairs) tree lists done more placed.each in
+      let first : List (List ℕ) = parts.0 in
+      let its = so_far.lists set group tree first for
+      (record { grouped = placed.grouped; rules = placed.rules; each = parts.3 }) in
+      let here : List (List ℕ) = level_found set column is_last first in
+      let on = found_on set column next is_last first parts.1 in
+      let f : List ℕ → List Run = state_runs set column is_last (here ++ on.0) in
+      let split : states_words (map f (first ++ parts.1)) ≡ states_words (map f first) + states_words (map f parts.1) =
+      ap states_words (map-append f first parts.1)
+      ∙ sum_by-append (λ (rs : List Run). cost_of (length rs)) (map f first) (map f parts.1) in
+      let done_words : states_words (map f first) ≡ states_words runs = sym (ap states_words (its.its_runs on.0)) in
+      rw (parts.2, on.1)
+      (omega (
+        arith,
+        over,
+        so_far.sum,
+        split,
+        done_words,
+        its.priced,
+        least_cost_more next is_last here on.0,
+      ))

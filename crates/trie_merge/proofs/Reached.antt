@@ -264,7 +264,7 @@ module _ (set : RuleSetView) (group : List ℕ) (held : AllByRecursion (IsHeld s
 
 -- ---- successors
 
-zeros_small : (count : ℕ) → AreBytes (replicate count 0)
+pub zeros_small : (count : ℕ) → AreBytes (replicate count 0)
 zeros_small zero = tt
 zeros_small (suc count) = (omega arith, zeros_small count)
 
@@ -276,7 +276,7 @@ pub record IsGap (set : RuleSetView) (group : List ℕ) (place next : ℕ) : Typ
 
 module _ (set : RuleSetView) (group : List ℕ) (held : AllByRecursion (IsHeld set) group) where
   -- bytes 0 at places at which all rules are wild leave the entries as they are
-  zeros_on : (key : List ℕ) (count : ℕ) → AreBytes key → length key + count ≤ key_len_of set.layout →
+  pub zeros_on : (key : List ℕ) (count : ℕ) → AreBytes key → length key + count ≤ key_len_of set.layout →
       ((gap : ℕ) → gap < count → is_wild_place set group (length key + gap) ≡ true)
       → packed_state set group (key ++ replicate count 0) ≡ packed_state set group key
   zeros_on key zero small within wild = ap (packed_state set group) (append-nil key)

@@ -1,13 +1,10 @@
 -- Bytes of one interval make the same of a state.
-use Rattle.std.proofs.Common.{◌≡◌, ℕ, zero, suc, ◌+◌, ◌-◌, ◌<◌, ◌≤◌, List, [], ◌∷◌, length, get_or}
-use Rattle.std.proofs.Common.{replicate, Bool, true, false, ◌||◌, true≢false, Option, Some, None, refl, sym, ◌∙◌}
-use Rattle.std.proofs.Common.{ap, subst, inl, inr, ◌⊎◌, arith}
+use Rattle.std.proofs.Common.{◌≡◌, ℕ, ◌+◌, ◌-◌, List, [], ◌∷◌}
+use Rattle.std.proofs.Common.{Bool, true, false, ◌||◌, true≢false, Option, Some, None, refl, sym, ◌∙◌}
+use Rattle.std.proofs.Common.{ap, subst, arith}
 use Rattle.std.specs.Prelude.{All}
 use Rattle.std.specs.List.{list_any, cons_option, AllByRecursion}
 use Rattle.std.specs.Option.{option_map}
-use Rattle.std.proofs.Math.Bool.{or-false}
-use Rattle.std.proofs.lemmas.Bool.{cases_Bool, cases_lt}
-use Rattle.std.proofs.lemmas.List.{get_or-replicate}
 use Rattle.std.proofs.lemmas.List.Elements.{recursion_from_All, All-from_recursion}
 use Rattle.node_expand.specs.declared.edge.Edge.{Edge}
 use Rattle.node_expand.specs.declared.edge.Edge.TheVariants.{Free, Low, High, Both}
@@ -15,8 +12,6 @@ use Rattle.node_expand.specs.Edges.{edge_step}
 use Rattle.node_expand.proofs.Offered.{cuts_are_changes}
 use Rattle.trie_merge.specs.Entry.{ColumnView, number_in, entry_of, edge_before, value_in, entry_step, entries_step}
 use Rattle.trie_merge.specs.Entry.{is_entry_cut}
-use Rattle.trie_merge.specs.Lists.{interval_at}
-use Rattle.trie_merge.proofs.Marks.{interval_marked, interval_unmarked}
 
 -- an entry without a cut at a byte becomes what it becomes after the byte before
 entry_uncut : (column : ColumnView) (entry byte : ℕ) → is_entry_cut column entry (byte + 1) ≡ false
@@ -49,62 +44,6 @@ entries_uncut column (entry ∷ entries) byte uncut =
     right : (a b : Bool) → (a || b) ≡ false → b ≡ false
     right true b h = absurd (true≢false h)
     right false b h = h
-
--- the marks are the cuts of the entries
-abbrev pub AreCuts : ColumnView → List ℕ → List Bool → Type 0
-AreCuts column entries marks = (byte : ℕ) → byte < 256
-    → get_or marks byte false ≡ list_any (λ entry. is_entry_cut column entry byte) entries
-
--- which they are where there was no mark before those of the entries
-pub cuts_alone : (column : ColumnView) (entries : List ℕ) (marks : List Bool) →
-    ((byte : ℕ) → byte < 256 → get_or marks byte false
-    ≡ (list_any (λ entry. is_entry_cut column entry byte) entries || get_or (replicate 256 false) byte false)) →
-    AreCuts column entries marks
-cuts_alone column entries marks marked byte below =
-    let cut : Bool = list_any (λ entry. is_entry_cut column entry byte) entries in
-    marked byte below ∙ ap (λ old. cut || old) (get_or-replicate 256 byte false false below) ∙ or-false cut
-
-module _ (column : ColumnView) (entries : List ℕ) (marks : List Bool) (long : length marks ≡ 256)
-    (cuts : AreCuts column entries marks) where
-  one_step : (byte : ℕ) → byte + 1 < 256 →
-      ((interval_at marks (byte + 1) ≡ interval_at marks byte)
-      × (entries_step column entries (byte + 1) ≡ entries_step column entries byte))
-      ⊎ (interval_at marks (byte + 1) ≡ interval_at marks byte + 1)
-  one_step byte below = elim (cases_Bool (get_or marks (byte + 1) false)) [
-    | inl marked ↦ inr (interval_marked marks byte (omega (arith, long)) marked)
-    | inr unmarked ↦ inl (
-      interval_unmarked marks byte (omega (arith, long)) unmarked,
-      entries_uncut column entries byte (sym (cuts (byte + 1) below) ∙ unmarked),
-    )
-  ]
-
-  -- intervals rise, and as long as they stay the entries do
-  going_on : (first n : ℕ) → first + n < 256 →
-      (interval_at marks first ≤ interval_at marks (first + n))
-      × (interval_at marks (first + n) ≤ interval_at marks first
-      → entries_step column entries (first + n) ≡ entries_step column entries first)
-  going_on first zero below = let here : first + 0 ≡ first = omega arith in (rw here (omega arith), λ _. rw here refl)
-  going_on first (suc n) below =
-      let next : first + suc n ≡ first + n + 1 = omega arith in
-      let before = going_on first n (omega arith) in
-      rw next (elim (one_step (first + n) (omega arith)) [
-        | inl same ↦ (omega (arith, before.0, same.0), λ low. same.1 ∙ before.1 (omega (arith, low, same.0)))
-        | inr more ↦ (omega (arith, before.0, more), λ low. absurd (omega (arith, before.0, more, low)))
-      ])
-
-  -- two bytes of one interval
-  pub same_interval : (one other : ℕ) → one < 256 → other < 256 → interval_at marks one ≡ interval_at marks other
-      → entries_step column entries one ≡ entries_step column entries other
-  same_interval one other one_below other_below same = elim (cases_lt other one) [
-    | inl gt ↦
-        let there : other + (one - other) ≡ one = omega arith in
-        let on = going_on other (one - other) (omega arith) in
-        (rw there at on.1) (omega (arith, same))
-    | inr le ↦
-        let there : one + (other - one) ≡ other = omega arith in
-        let on = going_on one (other - one) (omega arith) in
-        sym ((rw there at on.1) (omega (arith, same)))
-  ]
 
 -- the number of an entry
 pub number_in-entry_of : (number : ℕ) (edge : Edge) → number_in (entry_of number edge) ≡ number

@@ -1,18 +1,14 @@
 -- Merging the kept places of a group, one after the other.
 use Rattle.std.proofs.Common.{◌≡◌, ℕ, zero, suc, ◌+◌, ◌-◌, ◌*◌, ◌<◌, ◌≤◌, ◌==◌, List, [], ◌∷◌, ◌++◌, length, map, drop}
-use Rattle.std.proofs.Common.{get_or, Bool, true, false, cond, Option, Some, None, true≢false, refl, sym, ◌∙◌, ap}
+use Rattle.std.proofs.Common.{get_or, Bool, true, false, cond, Some, None, true≢false, refl, sym, ◌∙◌, ap}
 use Rattle.std.proofs.Common.{subst, inl, inr, arith}
 use Rattle.std.specs.Prelude.{All, nat_le}
-use Rattle.std.specs.List.{AllByRecursion, cons_option}
-use Rattle.std.specs.List.Sorted.{IsStrictlyIncreasing}
-use Rattle.std.specs.Option.{option_map}
-use Rattle.node_expand.specs.declared.edge.Edge.{Edge}
+use Rattle.std.specs.List.{AllByRecursion}
 use Rattle.std.specs.Str.{bytes_eq}
-use Rattle.std.proofs.lemmas.Bool.{cases_eq, cases_lt, eq-eqb, ne_eqb, lt-ltb, le-ltb}
+use Rattle.std.proofs.lemmas.Bool.{cases_eq, eq-eqb, ne_eqb, lt-ltb, le-ltb}
 use Rattle.std.proofs.lemmas.List.{drop_more, drop_all, length-map, length-drop, append-nil, append_assoc, get_or-drop}
-use Rattle.std.proofs.lemmas.List.Elements.{recursion_from_All, All-from_recursion}
+use Rattle.std.proofs.lemmas.List.Elements.{recursion_from_All}
 use Rattle.std.proofs.lemmas.List.Sums.{sum_by-cons}
-use Rattle.smallvec.specs.SmallVec.{SmallVec}
 use Rattle.field_defs.specs.Layout.{key_len_of}
 use Rattle.field_defs.specs.Lawful.{IsLayout}
 use Rattle.rule_set.specs.Rule.{RuleSetView}
@@ -29,18 +25,18 @@ use Rattle.trie_merge.specs.Levels.{states_at, level_runs, words_of, levels_of}
 use Rattle.trie_merge.specs.Walk.{next_of, IsWalk}
 use Rattle.trie_merge.specs.RuleRest.{values_of}
 use Rattle.trie_merge.specs.Entry.{ColumnView, entry_of, field_at, column_at, CanStep}
-use Rattle.trie_merge.specs.Lists.{lists_of, level_found, state_runs, states_words, least_cost, least_words, RisesFrom}
-use Rattle.trie_merge.specs.Lists.{CanCount, AllCanCount, IsMergedWithin}
-use Rattle.trie_merge.proofs.Ahead.{rises_lower, words_are_ahead}
+use Rattle.trie_merge.specs.Lists.{level_found, state_runs, states_words, least_cost, least_words}
+use Rattle.trie_merge.specs.Lists.{IsMergedWithin}
+use Rattle.trie_merge.proofs.Ahead.{words_are_ahead}
 use Rattle.trie_merge.proofs.Merging.{least_cost_flat, least_cost_known}
-use Rattle.trie_merge.proofs.Uncut.{number_in-entry_of}
-use Rattle.trie_merge.proofs.Packed.{packed_edge, Stands, packed_stands}
+use Rattle.trie_merge.proofs.Packed.{Stands, packed_stands}
 use Rattle.trie_merge.proofs.PackedState.{IsHeld, IsEntryAt, packed_state, packed_state_start, packed_entries, decoded}
 use Rattle.trie_merge.proofs.PackedState.{is_held, entry_can_step}
 use Rattle.trie_merge.proofs.Reached.{IsPrefix, packed_at, packed_next, packed_past_all, runs_next, runs_last, rows_are}
 use Rattle.trie_merge.proofs.Reached.{states_are, all_packed, all_weaker, all-map, prefixes_are}
 use Rattle.trie_merge.proofs.Finds.{All-found_in}
 use Rattle.trie_merge.proofs.Categories.{length-categories}
+use Rattle.trie_merge.proofs.Reached.{IsGap}
 use Rattle.trie_merge.proofs.Gaps.{Gaps, kept_places_first}
 
 -- the rules of a group are held
@@ -49,47 +45,6 @@ pub group_held : (set : RuleSetView) (group : List ℕ) → IsRuleSet set → Is
 group_held set group held layout within =
     all_weaker (λ number. number < length set.rules) (IsHeld set) group (λ number h. is_held set number held layout h)
     (recursion_from_All (λ number. number < length set.rules) group within)
-
--- ---- a state's rules are in the order of their numbers
-
--- The numbers rise, the first of them from a number on.
-abbrev pub NumbersRise : ℕ → List ℕ → Type 0
-NumbersRise least [] = Unit {0}
-NumbersRise least (number ∷ numbers) = (least ≤ number) × NumbersRise (number + 1) numbers
-
-numbers_rise_from : (numbers : List ℕ) (least : ℕ) → (0 < length numbers → least ≤ get_or numbers 0 0) →
-    IsStrictlyIncreasing numbers → NumbersRise least numbers
-numbers_rise_from [] least first rise = tt
-numbers_rise_from (number ∷ numbers) least first rise = (
-  first (omega arith),
-  numbers_rise_from numbers (number + 1) (λ some. (let step = rise 0 (omega arith) in omega (arith, step)))
-      (λ k below. (let next : k + 1 + 1 < length (number ∷ numbers) = omega arith in shift k (rise (k + 1) next))),
-)
-  where
-    shift : (k : ℕ) → get_or (number ∷ numbers) (k + 1) 0 < get_or (number ∷ numbers) (k + 1 + 1) 0 →
-        get_or numbers k 0 < get_or numbers (k + 1) 0
-    shift k h =
-        let all : List ℕ = number ∷ numbers in
-        let one : get_or numbers k 0 ≡ get_or all (k + 1) 0 = get_or-drop 1 all k 0
-        ∙ ap (λ n. get_or all n 0) (omega arith) in
-        let two : get_or numbers (k + 1) 0 ≡ get_or all (k + 1 + 1) 0 = get_or-drop 1 all (k + 1) 0
-        ∙ ap (λ n. get_or all n 0) (omega arith) in
-        rw (one, two) h
-
-pub numbers_rise : (numbers : List ℕ) → IsStrictlyIncreasing numbers → NumbersRise 0 numbers
-numbers_rise numbers rise = numbers_rise_from numbers 0 (λ some. omega arith) rise
-
-packed_rise : (set : RuleSetView) (key : List ℕ) (least : ℕ) (group : List ℕ) → NumbersRise least group
-    → RisesFrom least (packed_state set group key)
-unfolding packed_state
-packed_rise set key least [] rise = tt
-packed_rise set key least (number ∷ group) rise =
-    by (packed_edge set.layout (values_of set number) key) (packed_rise set key (number + 1) group rise.1)
-  where
-    by : (found : Option Edge) → RisesFrom (number + 1) (packed_state set group key) →
-        RisesFrom least (cons_option (option_map (entry_of number) found) (packed_state set group key))
-    by None rest = rises_lower least (number + 1) (packed_state set group key) (omega (arith, rise.0)) rest
-    by (Some edge) rest = (rw (number_in-entry_of number edge) rise.0, rw (number_in-entry_of number edge) rest)
 
 module _ (set : RuleSetView) (group : List ℕ) (held : AllByRecursion (IsHeld set) group) where
   -- all entries after a prefix of a place can be asked about its bytes
@@ -113,32 +68,6 @@ module _ (set : RuleSetView) (group : List ℕ) (held : AllByRecursion (IsHeld s
       → AllByRecursion (AllByRecursion (CanStep (column_at set place))) (packed_at set group place)
   all_can_step place within =
       all_packed set group place (AllByRecursion (CanStep (column_at set place))) (key_can_step place within)
-
-  -- and they can be counted
-  pub all_can_count : NumbersRise 0 group → (place : ℕ) → place < key_len_of set.layout →
-      AllByRecursion (CanCount (column_at set place)) (packed_at set group place)
-  all_can_count rise place within =
-      all_packed set group place (CanCount (column_at set place))
-      (λ key is. record {
-        ask = All-from_recursion (CanStep (column_at set place)) (packed_state set group key)
-            (key_can_step place within key is);
-        rise = packed_rise set key 0 group rise;
-      })
-
-  -- so can those that are kept of the states
-  pub keys_can_step : (place : ℕ) (keys : List (SmallVec ℕ)) → place < key_len_of set.layout
-      → lists_of keys ≡ packed_at set group place
-      → All (λ (state : SmallVec ℕ). All (CanStep (column_at set place)) state.items) keys
-  keys_can_step place keys within is =
-      All-from_recursion (λ (state : SmallVec ℕ). All (CanStep (column_at set place)) state.items) keys
-      (of_lists keys (subst (AllByRecursion (AllByRecursion (CanStep (column_at set place)))) (sym is)
-      (all_can_step place within)))
-    where
-      of_lists : (ks : List (SmallVec ℕ))
-          → AllByRecursion (AllByRecursion (CanStep (column_at set place))) (lists_of ks)
-          → AllByRecursion (λ (state : SmallVec ℕ). All (CanStep (column_at set place)) state.items) ks
-      of_lists [] all = tt
-      of_lists (k ∷ ks) all = (All-from_recursion (CanStep (column_at set place)) k.items all.0, of_lists ks all.1)
 
   packed_at_zero : (entry : ℕ) (entries : List ℕ) → packed_state set group [] ≡ entry ∷ entries
       → packed_at set group 0 ≡ (entry ∷ entries) ∷ []
@@ -232,18 +161,18 @@ first_level set group place (next ∷ places) = (_, _, refl, length-map (states_
 -- The places before one are merged: their runs stand before those of the others, what is found is what the place begins
 -- with or the rows at the end, and the words are those so far.
 pub record Walked (set : RuleSetView) (group : List ℕ) (cap place : ℕ) (levels : List (List (List Run)))
-    (keys : List (SmallVec ℕ)) (words : ℕ) : Type 0 where
+    (lists : List (List ℕ)) (words : ℕ) : Type 0 where
   pub runs : levels ++ level_runs set (states_at set group) (rows_of set group) (drop place (kept_places set group))
       ≡ level_runs set (states_at set group) (rows_of set group) (kept_places set group)
   pub states : place < length (kept_places set group)
-      → lists_of keys ≡ packed_at set group (get_or (kept_places set group) place 0)
-  pub rows : length (kept_places set group) ≤ place → lists_of keys ≡ rows_of set group
+      → lists ≡ packed_at set group (get_or (kept_places set group) place 0)
+  pub rows : length (kept_places set group) ≤ place → lists ≡ rows_of set group
   pub sum : words + words_of
       (level_runs set (states_at set group) (rows_of set group) (drop place (kept_places set group)))
       (rows_of set group)
       ≡ words_of (level_runs set (states_at set group) (rows_of set group) (kept_places set group)) (rows_of set group)
   pub within : words ≤ cap
-  pub whole : length (kept_places set group) ≤ place → words + row_len * length keys ≤ cap
+  pub whole : length (kept_places set group) ≤ place → words + row_len * length lists ≤ cap
 
 module _ (set : RuleSetView) (group : List ℕ) (held : AllByRecursion (IsHeld set) group) (some : 0 < length group)
     (key : 0 < key_len_of set.layout) where
@@ -253,9 +182,9 @@ module _ (set : RuleSetView) (group : List ℕ) (held : AllByRecursion (IsHeld s
   abbrev runs_from : List ℕ → List (List (List Run))
   runs_from ps = level_runs set (states_at set group) (rows_of set group) ps
 
-  pub walk_start : (cap : ℕ) (keys : List (SmallVec ℕ))
-      → lists_of keys ≡ map (λ number. entry_of number Free) group ∷ [] → Walked set group cap 0 [] keys 0
-  walk_start cap keys is =
+  pub walk_start : (cap : ℕ) (lists : List (List ℕ))
+      → lists ≡ map (λ number. entry_of number Free) group ∷ [] → Walked set group cap 0 [] lists 0
+  walk_start cap lists is =
       let first = kept_places_first set group key in
       record {
         runs = refl;
@@ -289,6 +218,12 @@ module _ (set : RuleSetView) (group : List ℕ) (held : AllByRecursion (IsHeld s
 
     gaps_here : Gaps set group (get_or places place 0 ∷ drop (place + 1) places)
     gaps_here = subst (Gaps set group) rest_is (gaps_after places place (kept_places_first set group key).gaps)
+
+    pub gap_next : place + 1 < length places → IsGap set group (get_or places place 0) (get_or places (place + 1) 0)
+    gap_next more =
+        let next : drop (place + 1) places ≡ get_or places (place + 1) 0 ∷ drop (place + 1 + 1) places =
+        drop_more places (place + 1) 0 more in
+        (subst (λ ps. Gaps set group (get_or places place 0 ∷ ps)) next gaps_here).0
 
     pub place_inside : get_or places place 0 < key_len_of set.layout
     place_inside = gap_within (get_or places place 0) (drop (place + 1) places) gaps_here
@@ -347,16 +282,6 @@ module _ (set : RuleSetView) (group : List ℕ) (held : AllByRecursion (IsHeld s
     found_next more =
         (level_here place below).next (omega (arith, more, length-drop (place + 1) places))
         ∙ ap (packed_at set group) (get_or-drop (place + 1) places 0 0 ∙ ap (λ k. get_or places k 0) (omega arith))
-
-    -- which can be counted
-    pub found_can_count : NumbersRise 0 group → AllCanCount (next_of set places place) found_here
-    found_can_count rise = elim (cases_lt (place + 2) (length places)) [
-      | inl more ↦
-          rw (one_after more, found_next (omega arith))
-          (All-from_recursion (CanCount (column_at set next_place)) (packed_at set group next_place)
-          (all_can_count set group held rise next_place (place_inside (place + 1) (omega arith))))
-      | inr end ↦ subst (λ next. AllCanCount next found_here) (sym (none_after end)) tt
-    ]
 
     more_rest : (ps : List ℕ) → 0 < length ps
         → length (packed_at set group (get_or ps 0 0)) ≤ words_of (runs_from ps) (rows_of set group)
@@ -430,34 +355,31 @@ module _ (set : RuleSetView) (group : List ℕ) (held : AllByRecursion (IsHeld s
       ]
     ]
 
-  module _ (cap place : ℕ) (levels : List (List (List Run))) (keys : List (SmallVec ℕ)) (words : ℕ)
-      (so_far : Walked set group cap place levels keys words) (below : place < length places) where
+  module _ (cap place : ℕ) (levels : List (List (List Run))) (lists : List (List ℕ)) (words : ℕ)
+      (so_far : Walked set group cap place levels lists words) (below : place < length places) where
     pub place_within : get_or places place 0 < key_len_of set.layout
     place_within = place_inside place below
 
-    pub states_can_step : All
-        (λ (state : SmallVec ℕ). All (CanStep (column_at set (get_or places place 0))) state.items) keys
-    states_can_step = keys_can_step set group held (get_or places place 0) keys (place_inside place below)
-        (so_far.states below)
+    -- what is found at the place
+    abbrev pub found_lists : List (List ℕ)
+    found_lists = level_found set (column_at set (get_or places place 0)) (place + 1 == length places) lists
 
     -- the next place
-    pub walk_on : (its_runs : List (List Run)) (found : List (SmallVec ℕ)) (words' : ℕ) →
-        IsMergedWithin set (column_at set (get_or places place 0)) (next_of set places place)
-        (place + 1 == length places) cap words (lists_of keys) its_runs (lists_of found) words' →
-        Walked set group cap (place + 1) (levels ++ its_runs ∷ []) found words'
-    walk_on its_runs found words' merged =
+    pub walk_on : (its_runs : List (List Run)) (words' : ℕ) →
+        IsMergedWithin set (column_at set (get_or places place 0)) (place + 1 == length places) cap words lists its_runs
+        words' → Walked set group cap (place + 1) (levels ++ its_runs ∷ []) found_lists words'
+    walk_on its_runs words' merged =
         let states = so_far.states below in
-        let lists : lists_of found
+        let found : found_lists
         ≡ level_found set (column_at set (get_or places place 0)) (place + 1 == length places)
         (packed_at set group (get_or places place 0)) =
-        merged.lists ∙ ap (level_found set (column_at set (get_or places place 0)) (place + 1 == length places))
-        states in
+        ap (level_found set (column_at set (get_or places place 0)) (place + 1 == length places)) states in
         let runs_are : its_runs ≡ map
         (state_runs set (column_at set (get_or places place 0)) (place + 1 == length places)
         (level_found set (column_at set (get_or places place 0)) (place + 1 == length places)
         (packed_at set group (get_or places place 0)))) (packed_at set group (get_or places place 0)) =
         merged.its_runs ∙ (λ i. map
-        (state_runs set (column_at set (get_or places place 0)) (place + 1 == length places) (lists i))
+        (state_runs set (column_at set (get_or places place 0)) (place + 1 == length places) (found i))
         (states i)) in
         let long : length (drop (place + 1) places) ≡ length places - (place + 1) = length-drop (place + 1) places in
         record {
@@ -466,25 +388,18 @@ module _ (set : RuleSetView) (group : List ℕ) (held : AllByRecursion (IsHeld s
               ∙ ap (λ l. levels ++ l) (ap (λ r. r ∷ runs_from (drop (place + 1) places)) runs_are
               ∙ sym (level_here place below).runs ∙ ap runs_from (sym (rest_is place below)))
               ∙ so_far.runs;
-          states = λ h. lists ∙ (level_here place below).next (omega (arith, h, long))
+          states = λ h. found ∙ (level_here place below).next (omega (arith, h, long))
               ∙ ap (packed_at set group)
               (get_or-drop (place + 1) places 0 0 ∙ ap (λ k. get_or places k 0) (omega arith));
-          rows = λ h. lists ∙ (level_here place below).rows (omega (arith, h, long));
+          rows = λ h. found ∙ (level_here place below).rows (omega (arith, h, long));
           sum = omega (arith, so_far.sum, words_split place below, merged.sum, ap states_words runs_are);
-          within = omega (arith, merged.within);
-          whole = λ h. (
-              let last = eq-eqb (place + 1) (length places) (omega (arith, h, below)) in
-              let next = none_after place below (omega (arith, h)) in
-              let cost : least_cost (next_of set places place) (place + 1 == length places) (lists_of found)
-              ≡ row_len * length found =
-              (λ i. least_cost (next i) (last i) (lists_of found)) ∙ least_cost_flat true (lists_of found)
-              ∙ ap (λ n. row_len * n) (length-map found (λ (v : SmallVec ℕ). v.items)) in
-              omega (arith, merged.within, cost));
+          within = merged.within;
+          whole = λ h. merged.whole (eq-eqb (place + 1) (length places) (omega (arith, h, below)));
         }
 
     -- or too many words
     pub walk_over : cap < least_words set (column_at set (get_or places place 0)) (next_of set places place)
-        (place + 1 == length places) words (lists_of keys) → cap < words_of (runs_from places) (rows_of set group)
+        (place + 1 == length places) words lists → cap < words_of (runs_from places) (rows_of set group)
     walk_over over =
         let states = so_far.states below in
         let over_packed : cap < least_words set (column_at set (get_or places place 0)) (next_of set places place)
@@ -494,17 +409,15 @@ module _ (set : RuleSetView) (group : List ℕ) (held : AllByRecursion (IsHeld s
         omega (arith, over_packed, so_far.sum, words_split place below, least_rest place below)
 
   -- after the last place all is merged
-  pub walk_end : (cap place : ℕ) (levels : List (List (List Run))) (keys : List (SmallVec ℕ)) (words : ℕ)
-      → Walked set group cap place levels keys words → length places ≤ place →
-      IsWalk set group cap levels keys words
+  pub walk_end : (cap place : ℕ) (levels : List (List (List Run))) (lists : List (List ℕ)) (words : ℕ)
+      → Walked set group cap place levels lists words → length places ≤ place →
+      IsWalk set group cap levels words
   unfolding level_runs levels_of
-  walk_end cap place levels keys words so_far end =
+  walk_end cap place levels lists words so_far end =
       let none : drop place places ≡ [] = drop_all place places end in
-      let count : length keys ≡ length (rows_of set group) = sym (length-map keys (λ (v : SmallVec ℕ). v.items))
-      ∙ ap length (so_far.rows end) in
+      let count : length lists ≡ length (rows_of set group) = ap length (so_far.rows end) in
       record {
         runs = sym (append-nil levels) ∙ ap (λ ps. levels ++ runs_from ps) (sym none) ∙ so_far.runs;
-        rows = so_far.rows end;
         sum = ap (λ n. words + n) (sym (ap (λ ps. words_of (runs_from ps) (rows_of set group)) none ∙ nothing))
             ∙ so_far.sum;
         within = omega (arith, so_far.whole end, count);
@@ -531,14 +444,3 @@ rows_long set group =
     by : (b : Bool) (row : List ℕ) → length row ≡ 16 → is_live (cond b row []) ≡ true → length (cond b row []) ≡ 16
     by true row long live = long
     by false row long live = absurd (true≢false (sym live))
-
-pub found_rows_long : (set : RuleSetView) (group : List ℕ) (keys : List (SmallVec ℕ))
-    → lists_of keys ≡ rows_of set group → All (λ (row : SmallVec ℕ). length row.items ≡ 16) keys
-found_rows_long set group keys is =
-    All-from_recursion (λ (row : SmallVec ℕ). length row.items ≡ 16) keys
-    (of_lists keys (subst (AllByRecursion (λ row. length row ≡ 16)) (sym is) (rows_long set group)))
-  where
-    of_lists : (ks : List (SmallVec ℕ)) → AllByRecursion (λ row. length row ≡ 16) (lists_of ks)
-        → AllByRecursion (λ (row : SmallVec ℕ). length row.items ≡ 16) ks
-    of_lists [] all = tt
-    of_lists (k ∷ ks) all = (all.0, of_lists ks all.1)

@@ -3,7 +3,7 @@
 -- `acl_gen.c`: a node of one target takes one word, of a few ranges one for each of five, and any
 -- other one for each byte).
 use Rattle.std.specs.Prelude.{ℕ, ◌+◌, ◌-◌, ◌*◌, ◌<◌, ◌==◌, All, List, [], ◌∷◌, length, map, filter}
-use Rattle.std.specs.Prelude.{replicate, nat_le, Bool, true, false, not, ◌||◌, if◌then◌else◌}
+use Rattle.std.specs.Prelude.{replicate, Bool, true, false, not, ◌||◌, if◌then◌else◌}
 use Rattle.std.specs.List.{position_or_len, sum_by}
 use Rattle.std.specs.List.Sorted.{IsStrictlyIncreasing}
 use Rattle.std.specs.Str.{bytes_eq}

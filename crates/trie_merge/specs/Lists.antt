@@ -1,36 +1,19 @@
--- The lists of the intervals of one state's bytes, and the lists found.
-use Rattle.std.specs.Prelude.{◌≡◌, ℕ, ◌+◌, ◌≤◌, ◌==◌, List, [], ◌∷◌, All, map, filter, length}
-use Rattle.std.specs.Prelude.{slice_index_or, take, drop, count_by, Bool, not, ◌||◌, Option, Some}
+-- The lists of entries and the rows that the bytes of a place lead to.
+use Rattle.std.specs.Prelude.{◌≡◌, ℕ, ◌+◌, ◌≤◌, ◌==◌, List, [], ◌∷◌, map, filter, length, ◌*◌}
+use Rattle.std.specs.Prelude.{true, Bool, not, ◌||◌, Option, Some}
 use Rattle.std.specs.Prelude.{None, if◌then◌else◌}
 use Rattle.std.specs.List.{position_or_len, flat_map, sum_by}
 use Rattle.std.specs.Str.{bytes_eq}
-use Rattle.smallvec.specs.SmallVec.{SmallVec}
 use Rattle.rule_set.specs.Rule.{RuleSetView}
 use Rattle.trie_merge.specs.declared.run.Run.{Run}
 use Rattle.trie_merge.specs.declared.run.Succ.{Succ}
 use Rattle.trie_merge.specs.declared.run.Succ.TheVariants.{Dead, State, Row}
-use Rattle.trie_merge.specs.Entry.{ColumnView, entries_step, number_in, CanStep}
+use Rattle.trie_merge.specs.Entry.{ColumnView, entries_step, number_in}
 use Rattle.trie_merge.specs.State.{is_live}
 use Rattle.trie_merge.specs.Found.{found_with, found_in, all_bytes}
 use Rattle.trie_merge.specs.Row.{row_of}
 use Rattle.table_sizes.specs.Sizes.{cost_of, row_len}
 use Rattle.trie_merge.specs.Levels.{runs_of, last_byte}
-
--- the elements of each list
-abbrev pub lists_of : List (SmallVec ℕ) → List (List ℕ)
-lists_of lists = map (λ v. v.items) lists
-
--- the elements of the list at a place
-abbrev pub list_at : List (SmallVec ℕ) → ℕ → List ℕ
-list_at lists k = slice_index_or (lists_of lists) k []
-
--- which of the intervals has the byte, where each mark from byte 1 on begins a further one
-unfoldable pub interval_at : List Bool → ℕ → ℕ
-interval_at marks byte = count_by (λ mark. mark) (take byte (drop 1 marks))
-
--- the list of the interval that has the byte
-abbrev pub list_of_byte : List Bool → List (SmallVec ℕ) → ℕ → List ℕ
-list_of_byte marks lists byte = list_at lists (interval_at marks byte)
 
 -- the lists found after one more
 abbrev pub lists_with : List (List ℕ) → List ℕ → List (List ℕ)
@@ -101,23 +84,13 @@ RisesFrom least [] = Unit {0}
 RisesFrom least (entry ∷ entries) =
     (least ≤ number_in entry) × RisesFrom (number_in entry + 1) entries
 
--- The entries can be asked at the place, and the numbers of their rules rise.
-pub record CanCount (column : ColumnView) (entries : List ℕ) : Type 0 where
-  pub ask : All (CanStep column) entries
-  pub rise : RisesFrom 0 entries
-
--- The lists can be counted, where the place after them is given.
-abbrev pub AllCanCount : Option ColumnView → List (List ℕ) → Type 0
-AllCanCount None lists = Unit {0}
-AllCanCount (Some next) lists = All (CanCount next) lists
-
--- The runs, the lists found and the words are those of the states, and the words and the least that
--- the lists take are within the cap.
-pub record IsMergedWithin (set : RuleSetView) (column : ColumnView) (next : Option ColumnView)
-    (is_last : Bool) (cap before : ℕ)
-    (states : List (List ℕ)) (runs : List (List Run)) (found : List (List ℕ)) (words : ℕ) : Type 0
-  where
-    pub lists : found ≡ level_found set column is_last states
-    pub its_runs : runs ≡ map (state_runs set column is_last found) states
-    pub sum : words ≡ before + states_words runs
-    pub within : words + least_cost next is_last found ≤ cap
+-- The runs and the words are those of the states, and they are within the cap: at the last place
+-- with the words of the rows.
+pub record IsMergedWithin (set : RuleSetView) (column : ColumnView) (is_last : Bool)
+    (cap before : ℕ) (states : List (List ℕ)) (runs : List (List Run)) (words : ℕ) : Type 0 where
+  pub its_runs : runs
+      ≡ map (state_runs set column is_last (level_found set column is_last states)) states
+  pub sum : words ≡ before + states_words runs
+  pub within : words ≤ cap
+  pub whole : is_last ≡ true →
+      words + row_len * length (level_found set column is_last states) ≤ cap

@@ -1,7 +1,7 @@
 //! From the rules of a group to its merged states.
 
 ghost use Rattle.std.specs.Prelude.{◌≡◌, ℕ, ◌<◌, ◌≤◌, ◌^◌, ◌+◌, ◌*◌, ◌==◌, ◌∷◌, [], ◌++◌, ◌≢◌, min};
-ghost use Rattle.std.specs.Prelude.{map, length, slice_index_or, All, OnOk, IfOk};
+ghost use Rattle.std.specs.Prelude.{map, length, slice_index_or, true, None, All, OnOk, IfOk, List};
 ghost use Rattle.node_expand.specs.declared.edge.Edge.TheVariants.{Free};
 ghost use Rattle.field_defs.specs.Layout.{key_len_of};
 ghost use Rattle.trie_merge.specs.Entry.{entry_of, column_at};
@@ -10,33 +10,32 @@ ghost use Rattle.trie_merge.specs.Kept.{kept_places, kept_bits};
 ghost use Rattle.table_sizes.specs.Sizes.{max_words, row_len};
 ghost use Rattle.trie_merge.specs.Levels.{IsGroup, levels_of};
 ghost use Rattle.trie_merge.specs.Row.{rows_of};
-ghost use Rattle.trie_merge.specs.Lists.{lists_of};
 ghost use Rattle.trie_merge.specs.Walk.{next_of, IsWalk};
+ghost use Rattle.trie_merge.specs.Started.{IsStarted, AreRows};
+ghost use Rattle.trie_merge.specs.Shared.{IsFor};
+ghost use Rattle.shared_parts.specs.Target.{HasEntry};
 ghost use Rattle.trie_merge.specs.Pieces.{pieces_of, IsPieces};
 
 use crate::column::Column;
 use crate::entry::entry_of;
-use crate::expand::INLINE_ENTRIES;
 use crate::kept::Kept;
-use crate::levels::{Level, Levels};
-use crate::merge::{MergeFault, Pieces, Place, merge_states};
+use crate::levels::{CATEGORIES, Level, Levels};
+use crate::merge::{Budget, MergeFault, Pieces, Place, Reached, merge_states};
+use crate::names::{name_rows, names_of, rank_rules};
 use indexmap::IndexSet;
 use node_expand::Edge;
 use rule_set::RuleSet;
-use smallvec::SmallVec;
+use shared_parts::{Parts, Rows, Target};
 use std::alloc::{AllocError, Global};
 use table_sizes::ROW_LEN;
 
 /// The entries of all rules of the group before the first byte.
-fn start_entries(
-    alloc: Global,
-    group: &[u32],
-) -> Result<SmallVec<u32, INLINE_ENTRIES, Global>, AllocError>
+fn start_entries(alloc: Global, group: &[u32]) -> Result<Vec<u32>, AllocError>
     requires { All (λ number. number < 2 ^ 30) group.now }
     ensures { IfOk result (λ entries. entries.items
         ≡ map (λ number. entry_of number Free) group.now) }
 {
-    let mut entries = SmallVec::new(alloc);
+    let mut entries = Vec::with_capacity(alloc, group.len())?;
     for number in group {
         entries.push(entry_of(*number, Edge::Free))?;
     }
@@ -44,29 +43,20 @@ fn start_entries(
 }
 
 /// The one state before the first byte.
-fn start_states(
-    alloc: Global,
-    group: &[u32],
-) -> Result<IndexSet<SmallVec<u32, INLINE_ENTRIES, Global>>, AllocError>
-    requires { All (λ number. number < 2 ^ 30) group.now }
-    ensures { IfOk result (λ states. lists_of states.keys
-        ≡ map (λ number. entry_of number Free) group.now ∷ []) }
+fn start_states(alloc: Global, group: &[u32]) -> Result<Reached, AllocError>
+    requires some { 0 < length group.now }
+    requires few { All (λ number. number < 2 ^ 30) group.now }
+    ensures { IfOk result (λ reached. IsStarted group.now reached.target reached.found.keys) }
 {
     let entries = start_entries(alloc, group)?;
-    let mut states = IndexSet::new(alloc);
-    states.insert_full(entries)?;
-    Ok(states)
-}
-
-/// A list for each value of a byte.
-fn lists_of_bytes(alloc: Global) -> Result<Vec<SmallVec<u32, INLINE_ENTRIES, Global>>, AllocError>
-    ensures { IfOk result (λ lists. 256 ≤ length lists.items) }
-{
-    let mut lists = Vec::with_capacity(alloc, 256)?;
-    for _ in 0..256usize {
-        lists.push(SmallVec::new(alloc))?;
-    }
-    Ok(lists)
+    let mut parts = Parts::new(alloc);
+    let number = parts.join_all(entries.as_slice())?;
+    let mut found = IndexSet::new(alloc);
+    found.insert_full(number)?;
+    Ok(Reached {
+        target: Target::Parts(parts),
+        found,
+    })
 }
 
 /// What the kept places come to: the runs of their states, the rows at the end and the words of the
@@ -74,7 +64,7 @@ fn lists_of_bytes(alloc: Global) -> Result<Vec<SmallVec<u32, INLINE_ENTRIES, Glo
 #[derive(Drop)]
 struct Walked {
     levels: Vec<Level>,
-    found: IndexSet<SmallVec<u32, INLINE_ENTRIES, Global>>,
+    reached: Reached,
     words: u64,
 }
 
@@ -107,6 +97,7 @@ fn place_at(alloc: Global, rules: &RuleSet, places: &[usize], j: usize) -> Resul
         (λ place. place.column ≡ column_at rules.now (slice_index_or places.now j 0)) }
     ensures is_last { IfOk result (λ place. place.is_last ≡ (j + 1 == length places.now)) }
     ensures next { IfOk result (λ place. place.next ≡ next_of rules.now places.now j) }
+    ensures last { IfOk result (λ place. place.is_last ≡ true → place.next ≡ None) }
 {
     let column = Column::new(alloc, rules, places[j])?;
     let next = next_column(alloc, rules, places, j)?;
@@ -117,10 +108,22 @@ fn place_at(alloc: Global, rules: &RuleSet, places: &[usize], j: usize) -> Resul
     })
 }
 
+/// Nothing yet of what a place leads to.
+fn start_target(alloc: Global, rules: &RuleSet, is_last: bool) -> Result<Target, AllocError>
+    ensures kind { IfOk result (λ target. IsFor rules.now is_last target) }
+    ensures none { IfOk result (λ target. (entry : ℕ) → HasEntry target entry → ⊥) }
+{
+    if is_last {
+        let ranked = rank_rules(alloc, rules)?;
+        return Ok(Target::Rows(Rows::new(alloc, ranked)));
+    }
+    Ok(Target::Parts(Parts::new(alloc)))
+}
+
 /// Puts the level of the pieces after the others.
 fn push_level(levels: &mut Vec<Level>, pieces: Pieces) -> Result<(), AllocError>
     requires { IsPieces 0 pieces.ends.items (length pieces.runs.items) }
-    ensures level { OnOk result (levels.new.items
+    ensures { OnOk result (levels.new.items
         ≡ levels.old.items ++ pieces_of pieces.runs.items 0 pieces.ends.items ∷ []) }
 {
     levels.push(Level::new(pieces))?;
@@ -128,62 +131,60 @@ fn push_level(levels: &mut Vec<Level>, pieces: Pieces) -> Result<(), AllocError>
 }
 
 /// Merges the states of the places, one place after the other.
-fn walk(
+fn merge_places(
     alloc: Global,
     rules: &RuleSet,
     group: &[u32],
     cap: u64,
     places: &[usize],
-    start: IndexSet<SmallVec<u32, INLINE_ENTRIES, Global>>,
-    lists: &mut [SmallVec<u32, INLINE_ENTRIES, Global>],
+    start: Reached,
 ) -> Result<Walked, MergeFault>
     requires group { IsGrouped rules.now group.now }
     requires cap { cap ≤ max_words }
     requires places { places.now ≡ kept_places rules.now group.now }
-    requires start { lists_of start.keys ≡ map (λ number. entry_of number Free) group.now ∷ [] }
-    requires lists { 256 ≤ length lists.old }
+    requires start { IsStarted group.now start.target start.found.keys }
     ensures walked { IfOk result
-        (λ walk. IsWalk rules.now group.now cap walk.levels.items walk.found.keys walk.words) }
+        (λ walk. IsWalk rules.now group.now cap walk.levels.items walk.words) }
+    ensures rows { IfOk result
+        (λ walk. AreRows rules.now group.now walk.reached.target walk.reached.found.keys) }
     ensures over { (result ≡ Err MergeFault.OverCap) → cap < (levels_of rules.now group.now).words }
 {
     let mut levels = Vec::new(alloc);
-    let mut found = start;
+    let mut reached = start;
     let mut words = 0;
     for j in 0..places.len() {
-        let place = match place_at(alloc, rules, places, j) {
-            Ok(place) => place,
-            Err(AllocError) => return Err(MergeFault::OutOfMemory),
-        };
-        let states = found.as_slice();
-        let merged = match merge_states(alloc, rules, &place, cap, words, states, lists) {
+        let place = place_at(alloc, rules, places, j)?;
+        let target = start_target(alloc, rules, place.is_last)?;
+        let budget = Budget { cap, before: words };
+        let states = reached.found.as_slice();
+        let parts = reached.parts();
+        let merged = match merge_states(alloc, &place, budget, parts, states, target) {
             Ok(merged) => merged,
             Err(fault) => return Err(fault),
         };
         words = merged.words;
-        found = merged.found;
-        match push_level(&mut levels, merged.pieces) {
-            Ok(()) => {}
-            Err(AllocError) => return Err(MergeFault::OutOfMemory),
-        }
+        reached = merged.reached;
+        push_level(&mut levels, merged.pieces)?;
     }
     Ok(Walked {
         levels,
-        found,
+        reached,
         words,
     })
 }
 
 impl Levels {
     ghost use Rattle.std.specs.Prelude.{◌≡◌, ◌<◌, ◌≤◌, IfOk};
+    ghost use Rattle.table_sizes.specs.Sizes.{max_words};
     ghost use Rattle.trie_merge.specs.Levels.{IsGroup, levels_of};
 
     /// The merged states of the group.
     ///
     /// The group has numbers of rules of the set, ascending, and at least one; the cap is at most
-    /// [`table_sizes::MAX_WORDS`]. `OverCap` comes exactly where the words exceed the cap, unless memory ran out
-    /// before that was known. It takes memory for the states of two places, for the runs and for
-    /// the rows, and gives it back after a refusal. Source: DPDK Programmer's Guide, "Packet
-    /// Classification and Access Control", and `lib/acl`, `acl_bld.c`.
+    /// [`table_sizes::MAX_WORDS`]. `OverCap` comes exactly where the words exceed the cap, unless
+    /// memory ran out before that was known. It takes memory for the parts of two places, for the
+    /// runs and for the rows, and gives it back after a refusal. Source: DPDK Programmer's Guide,
+    /// "Packet Classification and Access Control", and `lib/acl`, `acl_bld.c`.
     pub fn build(
         alloc: Global,
         rules: &RuleSet,
@@ -197,28 +198,24 @@ impl Levels {
         ensures over { (result ≡ Err MergeFault.OverCap)
             → cap < (levels_of rules.now group.now).words }
     {
-        let prepared = match prepare(alloc, rules, group) {
-            Ok(prepared) => prepared,
-            Err(AllocError) => return Err(MergeFault::OutOfMemory),
-        };
+        let prepared = prepare(alloc, rules, group)?;
         let kept = prepared.kept;
-        let mut lists = prepared.lists;
-        let walked = match walk(
-            alloc,
-            rules,
-            group,
-            cap,
-            kept.places.as_slice(),
-            prepared.start,
-            lists.as_mut_slice(),
-        ) {
+        let places = kept.places.as_slice();
+        let walked = match merge_places(alloc, rules, group, cap, places, prepared.start) {
             Ok(walked) => walked,
             Err(fault) => return Err(fault),
         };
-        match finish(alloc, group, kept.bits, walked) {
-            Ok(levels) => Ok(levels),
-            Err(AllocError) => Err(MergeFault::OutOfMemory),
-        }
+        let rows = finish_rows(alloc, rules, group, &walked.reached)?;
+        let mut members = Vec::with_capacity(alloc, group.len())?;
+        members.extend_from_slice(group)?;
+        let words = walked.words + (ROW_LEN * rows.len()) as u64;
+        Ok(Levels {
+            kept: kept.bits,
+            group: members,
+            levels: walked.levels,
+            rows,
+            words,
+        })
     }
 }
 
@@ -226,11 +223,10 @@ impl Levels {
 #[derive(Drop)]
 struct Prepared {
     kept: Kept,
-    start: IndexSet<SmallVec<u32, INLINE_ENTRIES, Global>>,
-    lists: Vec<SmallVec<u32, INLINE_ENTRIES, Global>>,
+    start: Reached,
 }
 
-/// The kept places, the state before the first byte, and a list for each value of a byte.
+/// The kept places, and the state before the first byte.
 fn prepare(alloc: Global, rules: &RuleSet, group: &[u32]) -> Result<Prepared, AllocError>
     requires { IsGroup rules.now group.now }
     ensures group { IsGrouped rules.now group.now }
@@ -238,58 +234,32 @@ fn prepare(alloc: Global, rules: &RuleSet, group: &[u32]) -> Result<Prepared, Al
         (λ prepared. prepared.kept.places.items ≡ kept_places rules.now group.now) }
     ensures bits { IfOk result (λ prepared. prepared.kept.bits ≡ kept_bits rules.now group.now) }
     ensures start { IfOk result
-        (λ prepared. lists_of prepared.start.keys
-        ≡ map (λ number. entry_of number Free) group.now ∷ []) }
-    ensures lists { IfOk result (λ prepared. 256 ≤ length prepared.lists.items) }
+        (λ prepared. IsStarted group.now prepared.start.target prepared.start.found.keys) }
 {
     let _rules = rules.all();
     let _fields = rules.layout().fields();
     let kept = Kept::new(alloc, rules, group)?;
     let start = start_states(alloc, group)?;
-    let lists = lists_of_bytes(alloc)?;
-    Ok(Prepared { kept, start, lists })
+    Ok(Prepared { kept, start })
 }
 
-/// The rows as lists of fixed length.
-fn copy_rows(
+/// The rows that are found at the end.
+fn finish_rows(
     alloc: Global,
-    found: &[SmallVec<u32, INLINE_ENTRIES, Global>],
-) -> Result<Vec<[u32; ROW_LEN]>, AllocError>
-    requires { All (λ row. length row.items ≡ 16) found.now }
-    ensures { IfOk result (λ rows. rows.items ≡ lists_of found.now) }
+    rules: &RuleSet,
+    group: &[u32],
+    reached: &Reached,
+) -> Result<Vec<[u32; CATEGORIES]>, AllocError>
+    requires group { IsGrouped rules.now group.now }
+    requires rows { AreRows rules.now group.now reached.now.target reached.now.found.keys }
+    ensures { IfOk result (λ rows. rows.items ≡ rows_of rules.now group.now) }
 {
-    let mut rows = Vec::with_capacity(alloc, found.len())?;
-    for row in found {
-        let mut copy = [0; ROW_LEN];
-        copy.copy_from_slice(row.as_slice());
-        rows.push(copy)?;
-    }
-    Ok(rows)
-}
-
-/// The merged states of what was walked.
-fn finish(alloc: Global, group: &[u32], kept: u128, walked: Walked) -> Result<Levels, AllocError>
-    requires rows { All (λ row. length row.items ≡ 16) walked.found.keys }
-    requires words { walked.words + row_len * length walked.found.keys ≤ max_words }
-    ensures { IfOk result (λ levels. levels ≡ record {
-      kept = kept;
-      group = group.now;
-      levels = walked.levels.items;
-      rows = lists_of walked.found.keys;
-      words = walked.words + row_len * length walked.found.keys;
-    }) }
-{
-    let rows = copy_rows(alloc, walked.found.as_slice())?;
-    let mut members = Vec::with_capacity(alloc, group.len())?;
-    members.extend_from_slice(group)?;
-    let words = walked.words + (ROW_LEN * rows.len()) as u64;
-    Ok(Levels {
-        kept,
-        group: members,
-        levels: walked.levels,
-        rows,
-        words,
-    })
+    rule_set::laws::ranks_order_rules();
+    rule_set::laws::the_best_has_the_greatest_rank();
+    let names = names_of(alloc, rules)?;
+    let found = reached.found.as_slice();
+    let named = name_rows(alloc, reached.rows(), names.as_slice(), found)?;
+    Ok(named)
 }
 
 /// How many words the merged states of the group take, or the cap plus 1 where that is less.

@@ -11,15 +11,20 @@
 //! nothing and are left out. After the tries of DPDK's `lib/acl` (`acl_bld.c`), which merges the
 //! rules' tries one after the other.
 //!
+//! A state is kept as a number of `shared_parts`: the group is halved again and again, what a state
+//! has of each half is a part with a number of its own, and states with one part share it.
+//!
 //! The way of the data, from the bottom up:
 //!
 //! - `entry`: a rule of a state and the edge of its rest as one number.
 //! - `column`: what a place of the key has of each rule, and what a byte makes of an entry there.
-//! - `intervals`: the intervals of bytes that the cuts of a state's entries make.
-//! - `expand`: the list of entries after each interval. Entries that every byte leaves as they are
-//!   go to all lists together, and any other is handed out to the intervals in which it has a rest.
-//! - `row`: the row of the entries after a whole key.
-//! - `number`: lists numbered in the order in which they are found, and the runs of bytes.
+//! - `follow`: where a byte leads a part of a state, a rule or a pair of parts, worked out once for
+//!   all states that share the part.
+//! - `cuts`: how many words a state takes, told by at most four of its cut bytes before the state
+//!   itself is merged.
+//! - `number`: what the states lead to numbered in the order in which it is found, and the runs of
+//!   bytes.
+//! - `names`: the rows of ranks that are found at the end as rows of the rules' numbers.
 //! - `merge`: the states of one place, one after the other. Their words, and the least that the
 //!   states found take, are held against the cap.
 //! - `kept`: the places of the kept input groups.
@@ -29,15 +34,15 @@
 
 mod build;
 mod column;
+mod cuts;
 mod entry;
-mod expand;
-mod intervals;
+mod follow;
 mod kept;
 pub mod laws;
 mod levels;
 mod merge;
+mod names;
 mod number;
-mod row;
 mod run;
 #[cfg(test)]
 mod tests;

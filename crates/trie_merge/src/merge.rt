@@ -2,83 +2,40 @@
 //! rows that they lead to.
 
 ghost use Rattle.std.specs.Prelude.{◌≡◌, ℕ, ◌<◌, ◌+◌, ◌*◌, ◌^◌, ◌≤◌, ◌++◌, ◌∷◌, [], List, length};
-ghost use Rattle.std.specs.Prelude.{map, fold, slice_index_or, take, All, OnOk, IfOk, IfSome};
-ghost use Rattle.std.specs.Prelude.{if◌then◌else◌};
-ghost use Rattle.trie_merge.specs.Entry.{number_in, CanStep};
-ghost use Rattle.trie_merge.specs.Found.{all_bytes};
-ghost use Rattle.table_sizes.specs.Sizes.{cost_of, max_words};
-ghost use Rattle.trie_merge.specs.Lists.{lists_of, list_at, lists_with, row_list, successor};
-ghost use Rattle.trie_merge.specs.Lists.{state_runs, level_found, price, least_cost, least_words};
-ghost use Rattle.trie_merge.specs.Lists.{CanCount, AllCanCount, IsMergedWithin};
+ghost use Rattle.std.specs.List.Sorted.{IsStrictlyIncreasing};
+ghost use Rattle.std.specs.Prelude.{true, false, Some, None, take, All, OnOk, IfOk, if◌then◌else◌};
+ghost use Rattle.shared_parts.specs.Keys.{has_entry};
+ghost use Rattle.shared_parts.specs.Tree.{Tree, leaves};
+ghost use Rattle.shared_parts.specs.Target.{count};
+ghost use Rattle.trie_merge.specs.Cuts.{CanAsk, CanGoOn, CutsFor};
+ghost use Rattle.shared_parts.specs.declared.target.Target.{Target};
+ghost use Rattle.shared_parts.specs.declared.pieces.Piece.{Piece};
+ghost use Rattle.trie_merge.specs.Entry.{CanStep};
+ghost use Rattle.trie_merge.specs.Laws.{IsGrouped};
+ghost use Rattle.rule_set.specs.Rule.{RuleSetView};
+ghost use Rattle.trie_merge.specs.Led.{StepsLed, AllLed};
+ghost use Rattle.table_sizes.specs.Sizes.{cost_of, max_words, row_len};
+ghost use Rattle.trie_merge.specs.Lists.{level_found, price, least_cost, least_words, IsMergedWithin};
+ghost use Rattle.trie_merge.specs.Merged.{StateMerged};
 ghost use Rattle.trie_merge.specs.Pieces.{pieces_of, IsPieces};
+ghost use Rattle.trie_merge.specs.Shared.{IsIn, AreIn, ArePlaced, IsFor};
 
 use crate::column::Column;
-use crate::expand::{INLINE_ENTRIES, count_runs, fill_lists};
-use crate::intervals::Intervals;
+use crate::cuts::{Cuts, fill_cuts, words_of};
+use crate::follow::lead_parts;
 use crate::number::join_runs;
-use crate::row::make_rows;
 use crate::run::Run;
 use indexmap::IndexSet;
-use rule_set::RuleSet;
-use smallvec::SmallVec;
+use shared_parts::{Parts, Piece, Rows, Steps, Target};
 use std::alloc::{AllocError, Global};
 use table_sizes::{ROW_LEN, node_len};
 
 /// The words of a state with so many runs.
-pub(crate) fn cost_of(count: usize) -> u64
+fn cost_of(count: usize) -> u64
     ensures cost { result ≡ cost_of count }
     ensures bound { (0 < result) × (result ≤ 256) }
 {
     node_len(count) as u64
-}
-
-/// Makes the list of each interval what its bytes lead to: its row at the last place.
-fn make_successors(
-    rules: &RuleSet,
-    is_last: bool,
-    count: usize,
-    lists: &mut [SmallVec<u32, INLINE_ENTRIES, Global>],
-) -> Result<(), AllocError>
-    requires count { count ≤ length lists.old }
-    requires numbers { (k : ℕ) → k < count
-        → All (λ entry. number_in entry < length rules.now.rules) (list_at lists.old k) }
-    ensures { OnOk result ((k : ℕ) → k < count →
-        list_at lists.new k
-        ≡ (if is_last then row_list rules.now (list_at lists.old k) else list_at lists.old k)) }
-{
-    if is_last {
-        make_rows(rules, count, lists)?;
-    }
-    Ok(())
-}
-
-/// Numbers what one state leads to, and puts its runs after the others.
-fn expand_state(
-    alloc: Global,
-    rules: &RuleSet,
-    column: &Column,
-    is_last: bool,
-    entries: &[u32],
-    lists: &mut [SmallVec<u32, INLINE_ENTRIES, Global>],
-    found: &mut IndexSet<SmallVec<u32, INLINE_ENTRIES, Global>>,
-    runs: &mut Vec<Run>,
-) -> Result<(), AllocError>
-    requires entries { All (CanStep column.now) entries.now }
-    requires rules { length column.now.values ≡ length rules.now.rules }
-    requires lists { 256 ≤ length lists.old }
-    requires room { length found.old.keys + 256 < 2 ^ 32 }
-    ensures found { OnOk result (lists_of found.new.keys
-        ≡ fold lists_with (lists_of found.old.keys)
-        (map (successor rules.now column.now is_last entries.now) all_bytes)) }
-    ensures runs { OnOk result ((more : List (List ℕ)) → runs.new.items
-        ≡ runs.old.items ++ state_runs rules.now column.now is_last
-        (lists_of found.new.keys ++ more) entries.now) }
-{
-    let mut intervals = Intervals::new();
-    fill_lists(column, entries, &mut intervals, lists)?;
-    make_successors(rules, is_last, intervals.count, lists)?;
-    join_runs(alloc, is_last, &intervals, lists, found, runs)?;
-    Ok(())
 }
 
 /// The runs of the states of one place, and where those of each state end.
@@ -88,55 +45,6 @@ pub(crate) struct Pieces {
     pub(crate) ends: Vec<usize>,
 }
 
-/// Merges what one state leads to into the others, and gives the state's words.
-fn merge_state(
-    alloc: Global,
-    rules: &RuleSet,
-    column: &Column,
-    is_last: bool,
-    entries: &[u32],
-    lists: &mut [SmallVec<u32, INLINE_ENTRIES, Global>],
-    found: &mut IndexSet<SmallVec<u32, INLINE_ENTRIES, Global>>,
-    pieces: &mut Pieces,
-) -> Result<u64, AllocError>
-    requires entries { All (CanStep column.now) entries.now }
-    requires rules { length column.now.values ≡ length rules.now.rules }
-    requires lists { 256 ≤ length lists.old }
-    requires room { length found.old.keys + 256 < 2 ^ 32 }
-    requires pieces { IsPieces 0 pieces.old.ends.items (length pieces.old.runs.items) }
-    ensures found { OnOk result (lists_of found.new.keys
-        ≡ fold lists_with (lists_of found.old.keys)
-        (map (successor rules.now column.now is_last entries.now) all_bytes)) }
-    ensures runs { OnOk result ((more : List (List ℕ)) →
-        pieces_of pieces.new.runs.items 0 pieces.new.ends.items
-        ≡ pieces_of pieces.old.runs.items 0 pieces.old.ends.items
-        ++ state_runs rules.now column.now is_last (lists_of found.new.keys ++ more) entries.now
-        ∷ []) }
-    ensures pieces { OnOk result (IsPieces 0 pieces.new.ends.items (length pieces.new.runs.items)) }
-    ensures words { IfOk result (λ words. (more : List (List ℕ)) →
-        words ≡ cost_of (length (state_runs rules.now column.now is_last
-        (lists_of found.new.keys ++ more) entries.now))) }
-    ensures some { IfOk result (λ words. (0 < words) × (words ≤ 256)) }
-{
-    let start = pieces.runs.len();
-    let runs = &mut pieces.runs;
-    expand_state(alloc, rules, column, is_last, entries, lists, found, runs)?;
-    let end = pieces.runs.len();
-    pieces.ends.push(end)?;
-    Ok(cost_of(end - start))
-}
-
-/// What the states of one place come to.
-#[derive(Drop)]
-pub(crate) struct Merged {
-    /// Their runs.
-    pub(crate) pieces: Pieces,
-    /// The states that they lead to, or at the last place the rows.
-    pub(crate) found: IndexSet<SmallVec<u32, INLINE_ENTRIES, Global>>,
-    /// The words before them and their own.
-    pub(crate) words: u64,
-}
-
 /// Why there are no merged states.
 #[derive(Clone, Copy, Debug, PartialEq, Eq)]
 pub enum MergeFault {
@@ -144,6 +52,17 @@ pub enum MergeFault {
     OverCap,
     /// There is no memory for the states.
     OutOfMemory,
+}
+
+/// Where memory runs out there are no merged states.
+impl From<AllocError> for MergeFault {
+    ghost use Rattle.trie_merge.specs.declared.merge.MergeFault.TheVariants.{OutOfMemory};
+
+    ghost from_gives = { λ _ fault. fault ≡ OutOfMemory };
+
+    fn from(_: AllocError) -> MergeFault {
+        MergeFault::OutOfMemory
+    }
 }
 
 /// A kept place.
@@ -158,98 +77,271 @@ pub(crate) struct Place {
     pub(crate) next: Option<Column>,
 }
 
-/// How many words a list that was found takes at least.
-fn price(place: &Place, list: &[u32]) -> u64
-    requires { IfSome place.now.next (λ next. CanCount next list.now) }
-    ensures price { result ≡ price place.now.next place.now.is_last list.now }
-    ensures bound { (0 < result) × (result ≤ 256) }
+/// How many words there may be, and how many there are before the states of a place.
+#[derive(Clone, Copy)]
+pub(crate) struct Budget {
+    pub(crate) cap: u64,
+    pub(crate) before: u64,
+}
+
+/// What is known of a place: where its parts lead, what that is numbered in, the numbers that its
+/// states lead to in the order in which they are found, and what tells their words.
+#[derive(Drop)]
+struct Work {
+    steps: Steps,
+    target: Target,
+    found: IndexSet<u32>,
+    cuts: Vec<Cuts>,
+    buffer: Vec<Piece>,
+}
+
+/// Merges what one state leads to into the others, and gives the state's words.
+fn merge_state(
+    place: &Place,
+    parts: &Parts,
+    state: u32,
+    work: &mut Work,
+    pieces: &mut Pieces,
+) -> Result<u64, AllocError>
+    requires some { 0 < state }
+    requires state { state ≤ length parts.now }
+    requires can { (entry : ℕ) → has_entry parts.now entry ≡ true → CanStep place.now.column entry }
+    requires led { StepsLed place.now.column parts.now work.old.target work.old.steps }
+    requires room { length work.old.found.keys + 256 < 2 ^ 32 }
+    requires pieces { IsPieces 0 pieces.old.ends.items (length pieces.old.runs.items) }
+    ensures led { OnOk result
+        (AllLed place.now.column parts.now work.old.target work.new.target work.new.steps) }
+    ensures merged { IfOk result (λ cost.
+        StateMerged place.now.column place.now.is_last parts.now work.new.target work.old.found.keys
+        work.new.found.keys (pieces_of pieces.old.runs.items 0 pieces.old.ends.items)
+        (pieces_of pieces.new.runs.items 0 pieces.new.ends.items) state cost) }
+    ensures cuts { OnOk result (work.new.cuts.items ≡ work.old.cuts.items) }
+    ensures pieces { OnOk result (IsPieces 0 pieces.new.ends.items (length pieces.new.runs.items)) }
+    ensures bound { IfOk result (λ cost. (0 < cost) × (cost ≤ 256)) }
 {
-    match &place.next {
-        Some(next) => cost_of(count_runs(next, list)),
-        None => { if place.is_last { ROW_LEN as u64 } else { 1 } }
+    let until = state as usize;
+    let buffer = &mut work.buffer;
+    lead_parts(
+        &place.column,
+        parts,
+        &mut work.steps,
+        &mut work.target,
+        until,
+        buffer,
+    )?;
+    let start = pieces.runs.len();
+    let its = work.steps.pieces(until - 1);
+    join_runs(place.is_last, its, &mut work.found, &mut pieces.runs)?;
+    let end = pieces.runs.len();
+    pieces.ends.push(end)?;
+    Ok(cost_of(end - start))
+}
+
+/// What the bytes of a place lead to, and the numbers of what its states lead to.
+#[derive(Drop)]
+pub(crate) struct Reached {
+    pub(crate) target: Target,
+    pub(crate) found: IndexSet<u32>,
+}
+
+impl Reached {
+    ghost use Rattle.std.specs.Prelude.{◌≡◌, ℕ, List};
+    ghost use Rattle.shared_parts.specs.RowsView.{RowsView};
+
+    /// The parts of the next place, before which the last one is not.
+    pub(crate) fn parts(&self) -> &Parts
+        requires { (pairs : List (ℕ × ℕ)) × (self.now.target ≡ Target.Parts pairs) }
+        ensures { self.now.target ≡ Target.Parts result.now }
+    {
+        match &self.target {
+            Target::Parts(parts) => parts,
+            Target::Rows(_) => unreachable!(),
+        }
+    }
+
+    /// The rows after the last place.
+    pub(crate) fn rows(&self) -> &Rows
+        requires { (rows : RowsView) × (self.now.target ≡ Target.Rows rows) }
+        ensures { self.now.target ≡ Target.Rows result.now }
+    {
+        match &self.target {
+            Target::Rows(rows) => rows,
+            Target::Parts(_) => unreachable!(),
+        }
     }
 }
 
-/// How many words the lists from a place on take at least.
-fn price_all(place: &Place, found: &[SmallVec<u32, INLINE_ENTRIES, Global>], seen: usize) -> u64
-    requires lists { AllCanCount place.now.next (lists_of found.now) }
+/// What the states of one place come to.
+#[derive(Drop)]
+pub(crate) struct Merged {
+    /// Their runs.
+    pub(crate) pieces: Pieces,
+    /// The states that they lead to, or at the last place the rows.
+    pub(crate) reached: Reached,
+    /// The words before them and their own.
+    pub(crate) words: u64,
+}
+
+/// How many words a state that is found takes at least, by the bytes at which its part changes what
+/// it leads to.
+fn price_ahead(
+    next: &Column,
+    target: &Target,
+    cuts: &mut Vec<Cuts>,
+    number: u32,
+) -> Result<u64, AllocError>
+    requires ask { CanAsk (Some next.now) target.now }
+    requires cuts { CutsFor (Some next.now) target.now cuts.old.items }
+    requires some { 0 < number }
+    requires there { number ≤ count target.now }
+    ensures cuts { OnOk result (CutsFor (Some next.now) target.now cuts.new.items) }
+    ensures price { IfOk result (λ words. (set : RuleSetView) (tree : Tree) (list : List ℕ) →
+        IsStrictlyIncreasing (leaves tree) → IsIn set target.now tree list number →
+        words ≤ price (Some next.now) false list) }
+    ensures bound { IfOk result (λ words. (0 < words) × (words ≤ 256)) }
+{
+    match target {
+        Target::Parts(parts) => {
+            fill_cuts(next, parts, cuts, number as usize)?;
+            Ok(words_of(cuts[number as usize - 1]))
+        }
+        Target::Rows(_) => Ok(1),
+    }
+}
+
+/// How many words what is found takes at least.
+fn price(
+    place: &Place,
+    target: &Target,
+    cuts: &mut Vec<Cuts>,
+    number: u32,
+) -> Result<u64, AllocError>
+    requires last { place.now.is_last ≡ true → place.now.next ≡ None }
+    requires ask { CanAsk place.now.next target.now }
+    requires cuts { CutsFor place.now.next target.now cuts.old.items }
+    requires some { 0 < number }
+    requires there { number ≤ count target.now }
+    ensures cuts { OnOk result (CutsFor place.now.next target.now cuts.new.items) }
+    ensures price { IfOk result (λ words. (set : RuleSetView) (tree : Tree) (list : List ℕ) →
+        IsStrictlyIncreasing (leaves tree) → IsIn set target.now tree list number →
+        words ≤ price place.now.next place.now.is_last list) }
+    ensures bound { IfOk result (λ words. (0 < words) × (words ≤ 256)) }
+    ensures row { IfOk result (λ words. place.now.is_last ≡ true → words ≡ 16) }
+{
+    if place.is_last {
+        return Ok(ROW_LEN as u64);
+    }
+    match &place.next {
+        Some(next) => {
+            let words = price_ahead(next, target, cuts, number)?;
+            Ok(words)
+        }
+        None => Ok(1),
+    }
+}
+
+/// How many words what is found from a place on takes at least.
+fn price_all(
+    place: &Place,
+    target: &Target,
+    cuts: &mut Vec<Cuts>,
+    found: &[u32],
+    seen: usize,
+) -> Result<u64, AllocError>
+    requires last { place.now.is_last ≡ true → place.now.next ≡ None }
+    requires ask { CanAsk place.now.next target.now }
+    requires cuts { CutsFor place.now.next target.now cuts.old.items }
+    requires there { All (λ number. (0 < number) × (number ≤ count target.now)) found.now }
     requires seen { seen ≤ length found.now }
     requires few { length found.now ≤ seen + 256 }
-    ensures price { least_cost place.now.next place.now.is_last (lists_of (take seen found.now))
-        + result
-        ≡ least_cost place.now.next place.now.is_last (lists_of found.now) }
-    ensures bound { result ≤ 65536 }
+    ensures cuts { OnOk result (CutsFor place.now.next target.now cuts.new.items) }
+    ensures price { IfOk result (λ words. (set : RuleSetView) (tree : Tree) (lists : List (List ℕ)) →
+        IsStrictlyIncreasing (leaves tree) → AreIn set target.now tree lists found.now →
+        least_cost place.now.next place.now.is_last (take seen lists) + words
+        ≤ least_cost place.now.next place.now.is_last lists) }
+    ensures some { IfOk result (λ words. length found.now ≤ seen + words) }
+    ensures rows { IfOk result (λ words. place.now.is_last ≡ true →
+        row_len * length found.now ≤ row_len * seen + words) }
+    ensures bound { IfOk result (λ words. words ≤ 65536) }
 {
     let mut words = 0;
     for k in seen..found.len() {
-        words += price(place, found[k].as_slice());
+        let its = price(place, target, cuts, found[k])?;
+        words += its;
     }
-    words
+    Ok(words)
 }
 
-/// Merges the states of one place. There are as many words before them as `before` says.
+/// Merges the states of one place.
 ///
-/// It ends as soon as the words so far, and what the lists found take at least, exceed the cap.
+/// It ends as soon as the words so far, and what is found takes at least, exceed the cap.
 pub(crate) fn merge_states(
     alloc: Global,
-    rules: &RuleSet,
     place: &Place,
-    cap: u64,
-    before: u64,
-    states: &[SmallVec<u32, INLINE_ENTRIES, Global>],
-    lists: &mut [SmallVec<u32, INLINE_ENTRIES, Global>],
+    budget: Budget,
+    parts: &Parts,
+    states: &[u32],
+    target: Target,
 ) -> Result<Merged, MergeFault>
-    requires states { All (λ state. All (CanStep place.now.column) state.items) states.now }
-    requires next { AllCanCount place.now.next
-        (level_found rules.now place.now.column place.now.is_last (lists_of states.now)) }
-    requires rules { length place.now.column.values ≡ length rules.now.rules }
-    requires lists { 256 ≤ length lists.old }
-    requires cap { cap ≤ max_words }
-    requires before { before ≤ cap }
+    requires states { All (λ state. (0 < state) × (state ≤ length parts.now)) states.now }
+    requires can { (entry : ℕ) → has_entry parts.now entry ≡ true → CanStep place.now.column entry }
+    requires last { place.now.is_last ≡ true → place.now.next ≡ None }
+    requires go_on { CanGoOn place.now.next place.now.column parts.now }
+    requires ask { CanAsk place.now.next target }
+    requires cap { budget.cap ≤ max_words }
+    requires before { budget.before ≤ budget.cap }
+    ensures led { IfOk result (λ merged. (steps : List (List Piece)) ×
+        AllLed place.now.column parts.now target merged.reached.target steps) }
     ensures merged { IfOk result
-        (λ merged. IsMergedWithin rules.now place.now.column place.now.next place.now.is_last cap
-        before
-        (lists_of states.now) (pieces_of merged.pieces.runs.items 0 merged.pieces.ends.items)
-        (lists_of merged.found.keys) merged.words) }
+        (λ merged. (set : RuleSetView) (group : List ℕ) (tree : Tree) (lists : List (List ℕ)) →
+        IsFor set place.now.is_last target → ArePlaced set group tree parts.now lists states.now →
+        IsMergedWithin set place.now.column place.now.is_last budget.cap budget.before lists
+        (pieces_of merged.pieces.runs.items 0 merged.pieces.ends.items) merged.words
+        × AreIn set merged.reached.target tree
+        (level_found set place.now.column place.now.is_last lists) merged.reached.found.keys) }
+    ensures inside { IfOk result (λ merged. All
+        (λ number. (0 < number) × (number ≤ count merged.reached.target))
+        merged.reached.found.keys) }
     ensures pieces { IfOk result
         (λ merged. IsPieces 0 merged.pieces.ends.items (length merged.pieces.runs.items)) }
     ensures over { (result ≡ Err MergeFault.OverCap) →
-        cap < least_words rules.now place.now.column place.now.next place.now.is_last before
-        (lists_of states.now) }
+        (set : RuleSetView) (group : List ℕ) (tree : Tree) (lists : List (List ℕ)) →
+        IsFor set place.now.is_last target → ArePlaced set group tree parts.now lists states.now →
+        budget.cap < least_words set place.now.column place.now.next place.now.is_last budget.before
+        lists }
 {
+    rule_set::laws::ranks_order_rules();
+    rule_set::laws::the_best_has_the_greatest_rank();
+    let mut work = Work {
+        steps: Steps::new(alloc),
+        target,
+        found: IndexSet::new(alloc),
+        cuts: Vec::new(alloc),
+        buffer: Vec::new(alloc),
+    };
     let mut pieces = Pieces {
         runs: Vec::new(alloc),
         ends: Vec::new(alloc),
     };
-    let mut found = IndexSet::new(alloc);
-    let mut words = before;
+    let mut words = budget.before;
     let mut least = 0;
     for state in states {
-        let seen = found.len();
-        let entries = state.as_slice();
-        let cost = match merge_state(
-            alloc,
-            rules,
-            &place.column,
-            place.is_last,
-            entries,
-            lists,
-            &mut found,
-            &mut pieces,
-        ) {
-            Ok(cost) => cost,
-            Err(AllocError) => return Err(MergeFault::OutOfMemory),
-        };
+        let seen = work.found.len();
+        let cost = merge_state(place, parts, *state, &mut work, &mut pieces)?;
         words += cost;
-        let keys = found.as_slice();
-        least += price_all(place, keys, seen);
-        if words + least > cap {
+        let found = work.found.as_slice();
+        let more = price_all(place, &work.target, &mut work.cuts, found, seen)?;
+        least += more;
+        if words + least > budget.cap {
             return Err(MergeFault::OverCap);
         }
     }
     Ok(Merged {
         pieces,
-        found,
+        reached: Reached {
+            target: work.target,
+            found: work.found,
+        },
         words,
     })
 }

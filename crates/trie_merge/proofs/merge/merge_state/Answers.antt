@@ -1,55 +1,82 @@
-use Rattle.std.proofs.Common.{◌≡◌, ℕ, List, ◌+◌, ◌-◌, ◌++◌, ◌∷◌, [], length, ◌∙◌, ap, arith, length-append}
+use Rattle.std.proofs.Common.{◌≡◌, ℕ, Bool, List, ◌+◌, ◌-◌, ◌<◌, ◌++◌, ◌∷◌, [], length, get_or, sym, ◌∙◌, ap, subst, arith, length-append}
+use Rattle.std.proofs.lemmas.List.{append-nil}
+use Rattle.shared_parts.specs.declared.pieces.Piece.{Piece}
+use Rattle.shared_parts.specs.Pieces.{number_at, PiecesLead}
 use Rattle.trie_merge.specs.declared.run.Run.{Run}
+use Rattle.trie_merge.specs.Led.{step_of}
 use Rattle.table_sizes.specs.Sizes.{cost_of}
-use Rattle.trie_merge.specs.Pieces.{pieces_of}
-use Rattle.trie_merge.specs.Lists.{lists_of, state_runs}
+use Rattle.trie_merge.specs.Levels.{runs_of}
+use Rattle.trie_merge.specs.Numbers.{succ_of}
+use Rattle.trie_merge.specs.Pieces.{pieces_of, IsPieces}
 use Rattle.trie_merge.proofs.Pieces.{pieces-push, IsPieces-push}
 use Rattle.trie_merge.proofs.merge.merge_state.Goals as goal
+
+-- the runs of the pieces
+abbrev runs_by : Bool → List ℕ → List Piece → List Run
+runs_by is_last found pieces = runs_of (λ byte. succ_of is_last found (number_at pieces byte))
+
+-- they stand after the others
+runs_stand : (is_last : Bool) (found : List ℕ) (pieces : List Piece) (old new : List Run)
+    → ((more : List ℕ) → new ≡ old ++ runs_of (λ byte. succ_of is_last (found ++ more) (number_at pieces byte)))
+    → new ≡ old ++ runs_by is_last found pieces
+runs_stand is_last found pieces old new is =
+    is [] ∙ ap (λ f. old ++ runs_of (λ byte. succ_of is_last f (number_at pieces byte))) (append-nil found)
 
 pub overflow_sub-end : goal.overflow_sub-end
 overflow_sub-end c =
     let old : List Run = c.args.pieces.now.runs.items in
-    let its : List Run =
-    state_runs c.args.rules.now c.args.column.now c.args.is_last (lists_of c.expand_state.new.found.keys ++ [])
-    c.args.entries.now in
+    let its : List Run = runs_by c.args.place.now.is_last c.join_runs.new.found.keys c.pieces-its.result.now in
+    let are = runs_stand c.args.place.now.is_last c.join_runs.new.found.keys c.pieces-its.result.now old
+    c.join_runs.new.runs.items c.in_ok-join_runs.ensures.runs in
     omega (
       arith,
       c.len-start.ensures,
       c.len-end.ensures,
       c.args.pieces.now.runs.ok,
-      c.expand_state.new.runs.ok,
-      ap length (c.in_ok-expand_state.ensures.runs []),
+      c.join_runs.new.runs.ok,
+      ap length are,
       length-append old its,
     )
 
-pub returns : goal.returns
-returns c =
+pub returns-clause-merged : goal.returns-clause-merged
+returns-clause-merged c =
     let old : List Run = c.args.pieces.now.runs.items in
     let ends : List ℕ = c.args.pieces.now.ends.items in
-    let its : List (List ℕ) → List Run = λ more.
-    state_runs c.args.rules.now c.args.column.now c.args.is_last (lists_of c.expand_state.new.found.keys ++ more)
-    c.args.entries.now in
-    let runs_are : (more : List (List ℕ)) → c.expand_state.new.runs.items ≡ old ++ its more =
-    c.in_ok-expand_state.ensures.runs in
-    let end : (more : List (List ℕ)) → c.len-end.result ≡ length old + length (its more) = λ more.
-    omega (
-      arith,
-      c.len-end.ensures,
-      c.expand_state.new.runs.ok,
-      ap length (runs_are more),
-      length-append old
-          (its more),
-    ) in
-    let ends_are : (more : List (List ℕ)) → c.push.new.self.items ≡ ends ++ (length old + length (its more)) ∷ [] =
-    λ more.
-    c.in_ok-push.ensures.items ∙ ap (λ e. ends ++ e ∷ []) (end more) in
-    let count : (more : List (List ℕ)) → c.len-end.result - c.len-start.result ≡ length (its more) = λ more.
-    omega (arith, end more, c.len-start.ensures, c.args.pieces.now.runs.ok) in
+    let state : ℕ = c.args.state in
+    let its : List Run = runs_by c.args.place.now.is_last c.join_runs.new.found.keys c.pieces-its.result.now in
+    let are = runs_stand c.args.place.now.is_last c.join_runs.new.found.keys c.pieces-its.result.now old
+    c.join_runs.new.runs.items c.in_ok-join_runs.ensures.runs in
+    let end : c.len-end.result ≡ length old + length its =
+    omega (arith, c.len-end.ensures, c.join_runs.new.runs.ok, ap length are, length-append old its) in
+    let led = c.in_ok-lead_parts.ensures.led.led in
+    let within : state - 1 < length c.lead_parts.new.steps =
+    omega (arith, c.requires.some, c.in_ok-lead_parts.ensures.far) in
+    let back : state - 1 + 1 ≡ state = omega (arith, c.requires.some) in
+    let ended = c.in_ok-push.ensures.items ∙ ap (λ n. ends ++ n ∷ []) end in
     record {
-      found = c.in_ok-expand_state.ensures.found;
-      runs = λ more.
-          (λ i. pieces_of (runs_are more i) 0 (ends_are more i)) ∙ pieces-push old (its more) 0 ends c.requires.pieces;
-      pieces = rw (runs_are [], ends_are []) (IsPieces-push old (its []) 0 ends c.requires.pieces);
-      words = λ more. c.cost_of.ensures.cost ∙ ap cost_of (count more);
-      some = c.cost_of.ensures.bound;
+      pieces = c.pieces-its.result.now;
+      leads = subst (PiecesLead (step_of c.args.place.now.column) c.args.parts.now c.lead_parts.new.target state)
+          (sym c.pieces-its.ensures)
+          (subst (λ n. PiecesLead (step_of c.args.place.now.column) c.args.parts.now c.lead_parts.new.target n
+          (get_or c.lead_parts.new.steps (state - 1) [])) back (led.leads (state - 1) within));
+      finds = c.in_ok-join_runs.ensures.found;
+      its_runs = (λ i. pieces_of (are i) 0 (ended i)) ∙ pieces-push old its 0 ends c.requires.pieces;
+      its_cost =
+          c.cost_of.ensures.cost
+          ∙ ap cost_of
+          (let e : c.len-end.result - c.len-start.result ≡ length its =
+          omega (arith, end, c.len-start.ensures, c.args.pieces.now.runs.ok) in e);
     }
+
+pub returns-clause-pieces : goal.returns-clause-pieces
+returns-clause-pieces c =
+    let old : List Run = c.args.pieces.now.runs.items in
+    let ends : List ℕ = c.args.pieces.now.ends.items in
+    let its : List Run = runs_by c.args.place.now.is_last c.join_runs.new.found.keys c.pieces-its.result.now in
+    let are = runs_stand c.args.place.now.is_last c.join_runs.new.found.keys c.pieces-its.result.now old
+    c.join_runs.new.runs.items c.in_ok-join_runs.ensures.runs in
+    let end : c.len-end.result ≡ length old + length its =
+    omega (arith, c.len-end.ensures, c.join_runs.new.runs.ok, ap length are, length-append old its) in
+    let ended = c.in_ok-push.ensures.items ∙ ap (λ n. ends ++ n ∷ []) end in
+    subst (λ rs. IsPieces 0 c.push.new.self.items (length rs)) (sym are)
+    (subst (λ es. IsPieces 0 es (length (old ++ its))) (sym ended) (IsPieces-push old its 0 ends c.requires.pieces))

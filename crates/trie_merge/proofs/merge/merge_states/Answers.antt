@@ -1,151 +1,179 @@
-use Rattle.std.proofs.Common.{◌≡◌, ℕ, List, ◌+◌, ◌++◌, ◌∷◌, [], length, take, drop, sym, ◌∙◌, ap, subst, arith}
-use Rattle.std.proofs.lemmas.List.{take_more, take_all, take-append-drop}
-use Rattle.smallvec.specs.SmallVec.{SmallVec}
-use Rattle.trie_merge.specs.Lists.{lists_of, least_cost, level_found, AllCanCount}
-use Rattle.trie_merge.proofs.Merging.{none_merged, one_merged, past_cap, all_merged, grown_by, few_found, still_first}
-use Rattle.trie_merge.proofs.Merging.{no_fewer, first_of_all, first_can_count}
+use Rattle.std.proofs.Common.{◌≡◌, ℕ, ◌+◌, ◌*◌, ◌<◌, ◌≤◌, List, [], ◌∷◌, ◌++◌, length, take, drop, get_or, refl, sym, ◌∙◌, ap}
+use Rattle.std.proofs.Common.{subst, arith}
+use Rattle.std.specs.Prelude.{All}
+use Rattle.std.proofs.lemmas.List.{take_more, take-append-drop, take_all}
+use Rattle.std.proofs.lemmas.List.Elements.{All-from_recursion}
+use Rattle.shared_parts.specs.Target.{count}
+use Rattle.trie_merge.specs.declared.run.Run.{Run}
+use Rattle.trie_merge.specs.Cuts.{CutsFor}
+use Rattle.table_sizes.specs.Sizes.{row_len}
+use Rattle.trie_merge.specs.Lists.{least_cost}
+use Rattle.trie_merge.specs.Pieces.{pieces_of}
+use Rattle.trie_merge.specs.Shared.{AreIn, ArePlaced}
+use Rattle.trie_merge.proofs.Merging.{SoFar, none_so_far, found_inside, few_more, still_ask, cuts_stay, no_cuts_yet}
+use Rattle.trie_merge.proofs.Merging.{one_more_state, all_merged, past_cap}
 use Rattle.trie_merge.proofs.merge.merge_states.Goals as goal
+
+-- a new set has no keys
+no_keys : (keys : List ℕ) → length keys ≡ 0 → keys ≡ []
+no_keys [] none = refl
+no_keys (key ∷ keys) none = absurd (omega (arith, none))
 
 pub loop-state-init : goal.loop-state-init
 loop-state-init c =
-    let place = c.args.place.now in
-    rw (c.new.ensures.items, c.new-2.ensures.items, c.new-found.ensures.empty)
-    (none_merged c.args.rules.now place.column place.next place.is_last c.args.cap c.args.before c.requires.before)
+    rw (c.new.ensures, c.new-3.ensures.items, c.new-5.ensures.items, c.new-6.ensures.items) (
+      subst (λ (found : List ℕ). SoFar c.args.place.now.column c.args.place.now.next c.args.place.now.is_last
+          c.args.budget.before c.args.parts.now c.args.target c.args.target [] [] found [] c.args.budget.before 0)
+          (sym (no_keys c.new-2.result.keys c.new-2.ensures.len))
+          (none_so_far c.args.place.now.column c.args.place.now.next c.args.place.now.is_last c.args.budget.before
+          c.args.parts.now c.args.target),
+      omega (arith, c.requires.before),
+      refl,
+      no_cuts_yet c.args.place.now.next c.args.target,
+    )
 
-pub merge_state-requires-clause-entries : goal.merge_state-requires-clause-entries
-merge_state-requires-clause-entries c =
-    rw (c.as_slice-entries.ensures, c.state-item.is)
-    (c.requires.states c.loop-state.state-index c.state-item.result (omega arith))
+pub merge_state-requires-clause-led : goal.merge_state-requires-clause-led
+merge_state-requires-clause-led c = c.loop-state.invariant.0.led.led
 
 pub merge_state-requires-clause-room : goal.merge_state-requires-clause-room
 merge_state-requires-clause-room c =
-    let place = c.args.place.now in
-    let few = few_found c.args.rules.now place.column place.next place.is_last c.args.cap c.args.before
-    (take c.loop-state.state-index c.args.states.now) c.loop-state.pieces.runs.items c.loop-state.pieces.ends.items
-    c.loop-state.found.keys c.loop-state.words c.loop-state.least c.loop-state.invariant in
-    omega (arith, few.0, c.requires.cap)
+    omega (arith, c.loop-state.invariant.0.few, c.loop-state.invariant.1, c.requires.cap)
 
-pub price_all-least-requires-clause-lists : goal.price_all-least-requires-clause-lists
-price_all-least-requires-clause-lists c =
-    let place = c.args.place.now in
-    let done : List (SmallVec ℕ) = take c.loop-state.state-index c.args.states.now in
-    let state = c.state-item.result in
-    let more : take (c.loop-state.state-index + 1) c.args.states.now ≡ done ++ state ∷ [] =
-    take_more c.args.states.now c.loop-state.state-index state (omega arith)
-    ∙ ap (λ s. done ++ s ∷ []) (sym c.state-item.is) in
-    let all : (done ++ state ∷ []) ++ drop (c.loop-state.state-index + 1) c.args.states.now ≡ c.args.states.now =
-    ap (λ l. l ++ drop (c.loop-state.state-index + 1) c.args.states.now) (sym more)
-    ∙ take-append-drop (c.loop-state.state-index + 1) c.args.states.now in
-    let e = rw c.as_slice-entries.ensures at c.in-Ok.ensures.found in
-    let r = rw c.as_slice-entries.ensures at c.in-Ok.ensures.runs in
-    let w = rw c.as_slice-entries.ensures at c.in-Ok.ensures.words in
-    let found = first_of_all c.args.rules.now place.column place.next place.is_last c.args.cap c.args.before done
-    c.loop-state.pieces.runs.items
-    c.loop-state.pieces.ends.items c.loop-state.found.keys c.loop-state.words c.loop-state.least c.loop-state.invariant
-    state
-    c.merge_state.new.pieces.runs.items c.merge_state.new.pieces.ends.items c.merge_state.new.found.keys c.in-Ok.cost
-    e r c.in-Ok.ensures.pieces w
-    (drop (c.loop-state.state-index + 1) c.args.states.now) in
-    rw c.as_slice-keys.ensures.keys
-    (first_can_count place.next (lists_of c.merge_state.new.found.keys) found.0
-    (subst (AllCanCount place.next)
-    (ap (λ states. level_found c.args.rules.now place.column place.is_last (lists_of states)) (sym all) ∙ found.1)
-    c.requires.next))
+pub merge_state-requires-clause-pieces : goal.merge_state-requires-clause-pieces
+merge_state-requires-clause-pieces c = c.loop-state.invariant.2
 
-pub price_all-least-requires-clause-seen : goal.price_all-least-requires-clause-seen
-price_all-least-requires-clause-seen c =
-    let place = c.args.place.now in
-    let done : List (SmallVec ℕ) = take c.loop-state.state-index c.args.states.now in
-    let state = c.state-item.result in
-    let e = rw c.as_slice-entries.ensures at c.in-Ok.ensures.found in
-    let r = rw c.as_slice-entries.ensures at c.in-Ok.ensures.runs in
-    let w = rw c.as_slice-entries.ensures at c.in-Ok.ensures.words in
-    let fewer = no_fewer c.args.rules.now place.column place.next place.is_last c.args.cap c.args.before done
-    c.loop-state.pieces.runs.items
-    c.loop-state.pieces.ends.items c.loop-state.found.keys c.loop-state.words c.loop-state.least c.loop-state.invariant
-    state
-    c.merge_state.new.pieces.runs.items c.merge_state.new.pieces.ends.items c.merge_state.new.found.keys c.in-Ok.cost
-    e r c.in-Ok.ensures.pieces w in
-    omega (arith, fewer, ap length c.as_slice-keys.ensures.keys, c.len-seen.ensures.len)
+pub price_all-requires-clause-ask : goal.price_all-requires-clause-ask
+price_all-requires-clause-ask c =
+    let l = c.loop-state in
+    let next = c.args.place.now.next in
+    let column = c.args.place.now.column in
+    let pairs = c.args.parts.now in
+    still_ask next column pairs l.work.target c.merge_state.new.work.target c.merge_state.new.work.steps
+    c.in_ok-cost.ensures.led
+    (still_ask next column pairs c.args.target l.work.target l.work.steps l.invariant.0.led c.requires.ask
+    c.requires.go_on) c.requires.go_on
 
-pub price_all-least-requires-clause-few : goal.price_all-least-requires-clause-few
-price_all-least-requires-clause-few c =
-    let place = c.args.place.now in
-    let grown = grown_by c.args.rules.now place.column place.is_last c.as_slice-entries.result.now
-    c.loop-state.found.keys
-    c.merge_state.new.found.keys c.in-Ok.ensures.found in
-    omega (arith, grown, ap length c.as_slice-keys.ensures.keys, c.len-seen.ensures.len)
+pub price_all-requires-clause-cuts : goal.price_all-requires-clause-cuts
+price_all-requires-clause-cuts c =
+    let l = c.loop-state in
+    subst (CutsFor c.args.place.now.next c.merge_state.new.work.target) (sym c.in_ok-cost.ensures.cuts)
+    (cuts_stay c.args.place.now.next l.work.target c.merge_state.new.work.target l.work.cuts.items
+    c.in_ok-cost.ensures.led.grows l.invariant.3)
+
+pub price_all-requires-clause-there : goal.price_all-requires-clause-there
+price_all-requires-clause-there c =
+    let l = c.loop-state in
+    let new = c.merge_state.new.work.target in
+    let found : List ℕ = c.merge_state.new.work.found.keys in
+    subst (All (λ n. (0 < n) × (n ≤ count new))) (sym c.as_slice-found.ensures.keys)
+    (All-from_recursion (λ n. (0 < n) × (n ≤ count new)) found
+    (found_inside c.args.place.now.column c.args.place.now.is_last c.args.parts.now l.work.target new
+    c.merge_state.new.work.steps l.work.found.keys found
+    (pieces_of l.pieces.runs.items 0 l.pieces.ends.items)
+    (pieces_of c.merge_state.new.pieces.runs.items 0 c.merge_state.new.pieces.ends.items)
+    (get_or c.args.states.now l.state-index 0) c.in_ok-cost.cost l.invariant.0.inside c.in_ok-cost.ensures.led
+    c.in_ok-cost.ensures.merged))
+
+pub price_all-requires-clause-seen : goal.price_all-requires-clause-seen
+price_all-requires-clause-seen c =
+    let l = c.loop-state in
+    let few = few_more c.args.place.now.column c.args.place.now.is_last c.args.parts.now c.merge_state.new.work.target
+    l.work.found.keys c.merge_state.new.work.found.keys (pieces_of l.pieces.runs.items 0 l.pieces.ends.items)
+    (pieces_of c.merge_state.new.pieces.runs.items 0 c.merge_state.new.pieces.ends.items)
+    (get_or c.args.states.now l.state-index 0) c.in_ok-cost.cost c.in_ok-cost.ensures.merged in
+    omega (arith, few.1, c.len-seen.ensures.len, ap length c.as_slice-found.ensures.keys)
+
+pub price_all-requires-clause-few : goal.price_all-requires-clause-few
+price_all-requires-clause-few c =
+    let l = c.loop-state in
+    let few = few_more c.args.place.now.column c.args.place.now.is_last c.args.parts.now c.merge_state.new.work.target
+    l.work.found.keys c.merge_state.new.work.found.keys (pieces_of l.pieces.runs.items 0 l.pieces.ends.items)
+    (pieces_of c.merge_state.new.pieces.runs.items 0 c.merge_state.new.pieces.ends.items)
+    (get_or c.args.states.now l.state-index 0) c.in_ok-cost.cost c.in_ok-cost.ensures.merged in
+    omega (arith, few.0, c.len-seen.ensures.len, ap length c.as_slice-found.ensures.keys)
 
 pub loop-state-preserved : goal.loop-state-preserved
 loop-state-preserved c =
-    let place = c.args.place.now in
-    let done : List (SmallVec ℕ) = take c.loop-state.state-index c.args.states.now in
-    let state = c.state-item.result in
-    let more : take (c.loop-state.state-index + 1) c.args.states.now ≡ done ++ state ∷ [] =
-    take_more c.args.states.now c.loop-state.state-index state (omega arith)
-    ∙ ap (λ s. done ++ s ∷ []) (sym c.state-item.is) in
-    let e = rw c.as_slice-entries.ensures at c.in-Ok.ensures.found in
-    let r = rw c.as_slice-entries.ensures at c.in-Ok.ensures.runs in
-    let w = rw c.as_slice-entries.ensures at c.in-Ok.ensures.words in
-    let first = still_first c.args.rules.now place.column place.next place.is_last c.args.cap c.args.before done
-    c.loop-state.pieces.runs.items
-    c.loop-state.pieces.ends.items c.loop-state.found.keys c.loop-state.words c.loop-state.least c.loop-state.invariant
-    state
-    c.merge_state.new.pieces.runs.items c.merge_state.new.pieces.ends.items c.merge_state.new.found.keys c.in-Ok.cost
-    e r c.in-Ok.ensures.pieces w in
-    let priced : c.loop-state.least + c.price_all-least.result
-    ≡ least_cost place.next place.is_last (lists_of c.merge_state.new.found.keys) =
-    ap (λ n. n + c.price_all-least.result)
-    (c.loop-state.invariant.priced ∙ ap (least_cost place.next place.is_last)
-    (sym (ap (λ n. lists_of (take n c.merge_state.new.found.keys)) c.len-seen.ensures.len ∙ first)))
-    ∙ rw c.as_slice-keys.ensures.keys at c.price_all-least.ensures.price in
-    rw more (one_merged c.args.rules.now place.column place.next place.is_last c.args.cap c.args.before done
-    c.loop-state.pieces.runs.items
-    c.loop-state.pieces.ends.items c.loop-state.found.keys c.loop-state.words c.loop-state.least c.loop-state.invariant
-    state
-    c.merge_state.new.pieces.runs.items c.merge_state.new.pieces.ends.items c.merge_state.new.found.keys c.in-Ok.cost
-    e r c.in-Ok.ensures.pieces w
-    (c.loop-state.least + c.price_all-least.result) priced c.if-words-least.false)
+    let l = c.loop-state in
+    let next = c.args.place.now.next in
+    let last = c.args.place.now.is_last in
+    let new = c.merge_state.new.work.target in
+    let states : List ℕ = c.args.states.now in
+    let k : ℕ = l.state-index in
+    let found : List ℕ = c.merge_state.new.work.found.keys in
+    let runs : List (List Run) =
+    pieces_of c.merge_state.new.pieces.runs.items 0 c.merge_state.new.pieces.ends.items in
+    let seen : c.len-seen.result ≡ length l.work.found.keys = omega (arith, c.len-seen.ensures.len) in
+    let slice = c.as_slice-found.ensures.keys in
+    let more : ℕ = c.in_ok-more.more in (
+      subst (λ done. SoFar c.args.place.now.column next last c.args.budget.before c.args.parts.now c.args.target new done
+          c.merge_state.new.work.steps found runs (l.words + c.in_ok-cost.cost) (l.least + more))
+          (sym (take_more states k 0 c.loop-state-test.true))
+          (one_more_state c.args.place.now.column next last c.args.budget.before c.args.parts.now c.args.target
+          c.ranks_order_rules.ensures c.the_best_has_the_greatest_rank.ensures l.work.target new (take k states)
+          l.work.steps c.merge_state.new.work.steps l.work.found.keys found
+          (pieces_of l.pieces.runs.items 0 l.pieces.ends.items) runs l.words l.least l.invariant.0
+          (get_or states k 0) c.in_ok-cost.cost more c.in_ok-cost.ensures.led c.in_ok-cost.ensures.merged
+          (λ set tree lists rise all.
+          subst (λ n. least_cost next last (take n lists) + more ≤ least_cost next last lists) seen
+          (c.in_ok-more.ensures.price set tree lists rise (subst (AreIn set new tree lists) (sym slice) all)))
+          (omega (arith, c.in_ok-more.ensures.some, seen, ap length slice))
+          (λ is. omega (
+            arith,
+            c.in_ok-more.ensures.rows is,
+            ap (λ n. row_len * n) seen,
+            ap (λ (ns : List ℕ). row_len * length ns) slice,
+          ))),
+      c.if-words-least.false,
+      c.in_ok-cost.ensures.pieces,
+      c.in_ok-more.ensures.cuts,
+    )
 
 pub returns-then-words-least-clause-over : goal.returns-then-words-least-clause-over
-returns-then-words-least-clause-over c = λ over.
-    let place = c.args.place.now in
-    let done : List (SmallVec ℕ) = take c.loop-state.state-index c.args.states.now in
-    let state = c.state-item.result in
-    let more : take (c.loop-state.state-index + 1) c.args.states.now ≡ done ++ state ∷ [] =
-    take_more c.args.states.now c.loop-state.state-index state (omega arith)
-    ∙ ap (λ s. done ++ s ∷ []) (sym c.state-item.is) in
-    let all : (done ++ state ∷ []) ++ drop (c.loop-state.state-index + 1) c.args.states.now ≡ c.args.states.now =
-    ap (λ l. l ++ drop (c.loop-state.state-index + 1) c.args.states.now) (sym more)
-    ∙ take-append-drop (c.loop-state.state-index + 1) c.args.states.now in
-    let e = rw c.as_slice-entries.ensures at c.in-Ok.ensures.found in
-    let r = rw c.as_slice-entries.ensures at c.in-Ok.ensures.runs in
-    let w = rw c.as_slice-entries.ensures at c.in-Ok.ensures.words in
-    let first = still_first c.args.rules.now place.column place.next place.is_last c.args.cap c.args.before done
-    c.loop-state.pieces.runs.items
-    c.loop-state.pieces.ends.items c.loop-state.found.keys c.loop-state.words c.loop-state.least c.loop-state.invariant
-    state
-    c.merge_state.new.pieces.runs.items c.merge_state.new.pieces.ends.items c.merge_state.new.found.keys c.in-Ok.cost
-    e r c.in-Ok.ensures.pieces w in
-    let priced : c.loop-state.least + c.price_all-least.result
-    ≡ least_cost place.next place.is_last (lists_of c.merge_state.new.found.keys) =
-    ap (λ n. n + c.price_all-least.result)
-    (c.loop-state.invariant.priced ∙ ap (least_cost place.next place.is_last)
-    (sym (ap (λ n. lists_of (take n c.merge_state.new.found.keys)) c.len-seen.ensures.len ∙ first)))
-    ∙ rw c.as_slice-keys.ensures.keys at c.price_all-least.ensures.price in
-    rw all at (past_cap c.args.rules.now place.column place.next place.is_last c.args.cap c.args.before done
-    c.loop-state.pieces.runs.items
-    c.loop-state.pieces.ends.items c.loop-state.found.keys c.loop-state.words c.loop-state.least c.loop-state.invariant
-    state
-    c.merge_state.new.pieces.runs.items c.merge_state.new.pieces.ends.items c.merge_state.new.found.keys c.in-Ok.cost
-    e r c.in-Ok.ensures.pieces w
-    (c.loop-state.least + c.price_all-least.result) priced (drop (c.loop-state.state-index + 1) c.args.states.now)
-    c.if-words-least.true)
+returns-then-words-least-clause-over c = λ _ set group tree lists for placed.
+    let l = c.loop-state in
+    let next = c.args.place.now.next in
+    let last = c.args.place.now.is_last in
+    let new = c.merge_state.new.work.target in
+    let states : List ℕ = c.args.states.now in
+    let k : ℕ = l.state-index in
+    let found : List ℕ = c.merge_state.new.work.found.keys in
+    let runs : List (List Run) =
+    pieces_of c.merge_state.new.pieces.runs.items 0 c.merge_state.new.pieces.ends.items in
+    let seen : c.len-seen.result ≡ length l.work.found.keys = omega (arith, c.len-seen.ensures.len) in
+    let slice = c.as_slice-found.ensures.keys in
+    let more : ℕ = c.in_ok-more.more in
+    let done : List ℕ = take k states ++ get_or states k 0 ∷ [] in
+    let whole : done ++ drop (k + 1) states ≡ states =
+    ap (λ ns. ns ++ drop (k + 1) states) (sym (take_more states k 0 c.loop-state-test.true))
+    ∙ take-append-drop (k + 1) states in
+    past_cap c.args.place.now.column next last c.args.budget.before c.args.parts.now c.args.target c.args.budget.cap new
+    done (drop (k + 1) states) c.merge_state.new.work.steps found runs (l.words + c.in_ok-cost.cost) (l.least + more)
+    (one_more_state c.args.place.now.column next last c.args.budget.before c.args.parts.now c.args.target
+    c.ranks_order_rules.ensures c.the_best_has_the_greatest_rank.ensures l.work.target new (take k states)
+    l.work.steps c.merge_state.new.work.steps l.work.found.keys found
+    (pieces_of l.pieces.runs.items 0 l.pieces.ends.items) runs l.words l.least l.invariant.0
+    (get_or states k 0) c.in_ok-cost.cost more c.in_ok-cost.ensures.led c.in_ok-cost.ensures.merged
+    (λ s t ls rise all.
+    subst (λ n. least_cost next last (take n ls) + more ≤ least_cost next last ls) seen
+    (c.in_ok-more.ensures.price s t ls rise (subst (AreIn s new t ls) (sym slice) all)))
+    (omega (arith, c.in_ok-more.ensures.some, seen, ap length slice))
+    (λ is. omega (
+      arith,
+      c.in_ok-more.ensures.rows is,
+      ap (λ n. row_len * n) seen,
+      ap (λ (ns : List ℕ). row_len * length ns) slice,
+    )))
+    c.if-words-least.true set group tree lists for
+    (subst (ArePlaced set group tree c.args.parts.now lists) (sym whole) placed)
 
 pub returns-clause-merged : goal.returns-clause-merged
-returns-clause-merged c =
-    let place = c.args.place.now in
-    rw (take_all c.loop-state.state-index c.args.states.now (omega arith)) at
-    (all_merged c.args.rules.now place.column place.next place.is_last c.args.cap c.args.before
-    (take c.loop-state.state-index c.args.states.now) c.loop-state.pieces.runs.items c.loop-state.pieces.ends.items
-    c.loop-state.found.keys c.loop-state.words c.loop-state.least c.loop-state.invariant)
+returns-clause-merged c = λ set group tree lists for placed.
+    let l = c.loop-state in
+    let states : List ℕ = c.args.states.now in
+    all_merged c.args.place.now.column c.args.place.now.next c.args.place.now.is_last c.args.budget.before
+    c.args.parts.now c.args.target c.args.budget.cap l.work.target (take l.state-index states) l.work.steps
+    l.work.found.keys (pieces_of l.pieces.runs.items 0 l.pieces.ends.items) l.words l.least l.invariant.0
+    l.invariant.1 set group tree lists for
+    (subst (ArePlaced set group tree c.args.parts.now lists)
+    (sym (take_all l.state-index states c.loop-state-test.false)) placed)

@@ -1,39 +1,44 @@
-use Rattle.std.proofs.Common.{ap, ◌∙◌, arith}
+use Rattle.std.proofs.Common.{ℕ, ap, arith}
+use Rattle.trie_merge.specs.Lists.{least_cost}
+use Rattle.trie_merge.proofs.Merging.{one_more_price, same_length, number_in_lists}
 use Rattle.std.proofs.lemmas.List.{take_all}
-use Rattle.trie_merge.specs.Lists.{lists_of, least_cost, price}
-use Rattle.trie_merge.proofs.Merging.{one_can_count, one_more_price}
 use Rattle.trie_merge.proofs.merge.price_all.Goals as goal
-
-pub price-words-requires : goal.price-words-requires
-price-words-requires c =
-    rw c.as_slice.ensures
-    (one_can_count c.args.place.now.next c.args.found.now c.loop-k.k c.index-found-k.result c.requires.lists
-    c.loop-k-test.true c.index-found-k.is)
 
 pub loop-k-preserved : goal.loop-k-preserved
 loop-k-preserved c =
-    let place = c.args.place.now in
-    let more = one_more_price place.next place.is_last c.args.found.now c.loop-k.k c.index-found-k.result
-    c.loop-k-test.true c.index-found-k.is in
-    let here = c.price-words.ensures.price ∙ ap (price place.next place.is_last) c.as_slice.ensures in (
-      omega (arith, c.loop-k.invariant.0, more, here),
-      omega
-          (arith, c.loop-k.invariant.1, c.price-words.ensures.bound.1, c.loop-k.auto.k),
+    let inv = c.loop-k.invariant in
+    let k : ℕ = c.loop-k.k in (
+      c.in_ok-its.ensures.cuts,
+      λ set tree lists rise all.
+          omega (
+            arith,
+            inv.1 set tree lists rise all,
+            one_more_price c.args.place.now.next c.args.place.now.is_last set c.args.target.now tree lists
+                c.args.found.now k all c.loop-k-test.true,
+            c.in_ok-its.ensures.price set tree _ rise
+                (number_in_lists set c.args.target.now tree lists c.args.found.now k all c.loop-k-test.true),
+          ),
+      omega (arith, inv.2, c.in_ok-its.ensures.bound.0),
+      omega (arith, inv.3, c.in_ok-its.ensures.bound.1),
+      λ last. omega (arith, inv.4 last, c.in_ok-its.ensures.row last),
     )
 
 pub returns : goal.returns
 returns c =
-    let place = c.args.place.now in record {
-      price =
-          c.loop-k.invariant.0
-          ∙ ap (λ keys. least_cost place.next place.is_last (lists_of keys))
-          (take_all c.loop-k.k c.args.found.now (omega arith));
-      bound = omega (
+    let inv = c.loop-k.invariant in
+    record {
+      cuts = inv.0;
+      price = λ set tree lists rise all. omega (
         arith,
-        c.loop-k.invariant.1,
-        c.requires.few,
-        c.loop-k.auto.k-end,
-        c.requires.seen,
-        c.loop-k.auto.k,
+        inv.1 set tree lists rise all,
+        ap (least_cost c.args.place.now.next c.args.place.now.is_last)
+            (take_all c.loop-k.k lists (omega (
+              arith,
+              same_length set c.args.target.now tree lists c.args.found.now all,
+              c.loop-k-test.false,
+            ))),
       );
+      some = omega (arith, inv.2, c.loop-k-test.false);
+      rows = λ last. omega (arith, inv.4 last, c.loop-k-test.false);
+      bound = omega (arith, inv.3, c.requires.few, c.loop-k.auto.k, c.loop-k.auto.k-end);
     }

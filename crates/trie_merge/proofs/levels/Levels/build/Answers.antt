@@ -1,30 +1,32 @@
-use Rattle.std.proofs.Common.{◌≡◌, ℕ, ◌+◌, ◌*◌, length, sym, ◌∙◌, ap}
-use Rattle.std.proofs.lemmas.List.{length-map}
-use Rattle.smallvec.specs.SmallVec.{SmallVec}
+use Rattle.std.proofs.Common.{◌≡◌, ◌+◌, ◌*◌, ◌++◌, length, ◌∙◌, ap, arith}
 use Rattle.table_sizes.specs.Sizes.{row_len}
 use Rattle.trie_merge.specs.Levels.{levels_of}
 use Rattle.trie_merge.specs.Row.{rows_of}
-use Rattle.trie_merge.proofs.Walk.{found_rows_long}
 use Rattle.trie_merge.proofs.levels.Levels.build.Goals as goal
 
-pub finish-requires-clause-rows : goal.finish-requires-clause-rows
-finish-requires-clause-rows c =
-    found_rows_long c.args.rules.now c.args.group.now c.in-Ok-walk.walked.found.keys c.in-Ok-walk.ensures.walked.rows
-
-pub returns-in-Ok-finish-clause-levels : goal.returns-in-Ok-finish-clause-levels
+pub returns-clause-levels : goal.returns-clause-levels
 unfolding levels_of
-returns-in-Ok-finish-clause-levels c =
-    let walked = c.in-Ok-walk.ensures.walked in
-    let keys = c.in-Ok-walk.walked.found.keys in
-    let count : length keys ≡ length (rows_of c.args.rules.now c.args.group.now) =
-    sym (length-map keys (λ (v : SmallVec ℕ). v.items)) ∙ ap length walked.rows in
-    let words = ap (λ n. c.in-Ok-walk.walked.words + row_len * n) count ∙ walked.sum in
-    c.in-Ok-finish.ensures
-    ∙ (λ i. record {
-      kept = c.in-Ok.ensures.bits i;
-      group = c.args.group.now;
+returns-clause-levels c =
+    let walked = c.in-Ok.ensures.walked in
+    let rows = c.in_ok-rows.rows in
+    let count : c.len.result ≡ length (rows_of c.args.rules.now c.args.group.now) =
+    omega (arith, c.len.ensures, rows.ok, ap length c.in_ok-rows.ensures) in
+    let words = ap (λ n. c.in-Ok.walked.words + row_len * n) count ∙ walked.sum in
+    let members = c.in_ok-extend_from_slice.ensures.items ∙ ap (λ xs. xs ++ c.args.group.now) c.in_ok-members.ensures.items in
+    λ i. record {
+      kept = c.in_ok-prepared.ensures.bits i;
+      group = members i;
       levels = walked.runs i;
-      rows =
-          walked.rows i;
+      rows = c.in_ok-rows.ensures i;
       words = words i;
-    })
+    }
+
+pub returns-clause-within : goal.returns-clause-within
+returns-clause-within c =
+    omega (
+      arith,
+      c.in-Ok.ensures.walked.within,
+      c.len.ensures,
+      c.in_ok-rows.rows.ok,
+      ap length c.in_ok-rows.ensures,
+    )

@@ -1,0 +1,9 @@
+pub mod Keys
+pub mod RowLaws
+pub mod Standing
+pub mod Leading
+pub mod Slices
+pub mod Covering
+pub mod Pairs
+pub mod All
+pub mod Offered

@@ -1,0 +1,6 @@
+use Rattle.trie_merge.proofs.Placing.{Placed}
+use Rattle.trie_merge.proofs.build.merge_places.Given as goal
+
+abbrev pub invariant-loop-j : goal.invariant-loop-j
+invariant-loop-j l =
+    Placed l.rules l.group l.cap l.j l.levels.items l.reached.target l.reached.found.keys l.words

@@ -1,5 +1,0 @@
-use Rattle.trie_merge.proofs.Handing.{Handed}
-use Rattle.trie_merge.proofs.expand.hand_to_all.Given as goal
-
-abbrev pub invariant-loop-k : goal.invariant-loop-k
-invariant-loop-k l = Handed (λ _. l.after) 0 l.fn.lists l.lists l.k

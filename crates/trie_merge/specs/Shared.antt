@@ -1,0 +1,58 @@
+-- States as numbers of shared parts, and rows as numbers of rows.
+use Rattle.std.specs.Prelude.{◌≡◌, ℕ, List, [], ◌∷◌, Bool, true, false, Option, Some}
+use Rattle.std.specs.List.{filter_map}
+use Rattle.rule_set.specs.Rule.{RuleSetView}
+use Rattle.shared_parts.specs.declared.target.Target.{Target}
+use Rattle.shared_parts.specs.declared.target.Target.TheVariants.{Parts, Rows}
+use Rattle.shared_parts.specs.RowsView.{RowsView}
+use Rattle.shared_parts.specs.Tree.{Tree, leaves, Stands}
+use Rattle.shared_parts.specs.Rows.{best_row, IsRow}
+use Rattle.trie_merge.specs.Entry.{number_in}
+use Rattle.trie_merge.specs.Lists.{row_list}
+use Rattle.trie_merge.specs.Laws.{IsGrouped}
+use Rattle.trie_merge.specs.Names.{ranked_of}
+
+-- Each rule has an entry of its own number, or none.
+abbrev pub AreOwn : (ℕ → Option ℕ) → Type 0
+AreOwn entries = (rule entry : ℕ) → entries rule ≡ Some entry → number_in entry ≡ rule
+
+-- The number stands for the entries of a state.
+pub record IsState (pairs : List (ℕ × ℕ)) (tree : Tree) (list : List ℕ) (number : ℕ) : Type 0 where
+  pub entries : ℕ → Option ℕ
+  pub own : AreOwn entries
+  pub is : list ≡ filter_map entries (leaves tree)
+  pub stands : Stands pairs tree entries number
+
+-- The number stands for a row, which some entries give.
+pub record IsRowOf (set : RuleSetView) (rows : RowsView) (tree : Tree) (list : List ℕ) (number : ℕ) :
+    Type 0 where
+  pub entries : ℕ → Option ℕ
+  pub own : AreOwn entries
+  pub is : list ≡ row_list set (filter_map entries (leaves tree))
+  pub ranked : rows.ranked ≡ ranked_of set
+  pub stands : IsRow rows.rows (best_row rows.ranked (filter_map entries (leaves tree))) number
+
+-- The number stands for a state, or after the last place for a row.
+abbrev pub IsIn : RuleSetView → Target → Tree → List ℕ → ℕ → Type 0
+IsIn set (Parts pairs) tree list number = IsState pairs tree list number
+IsIn set (Rows rows) tree list number = IsRowOf set rows tree list number
+
+-- So do numbers, each for its list.
+abbrev pub AreIn : RuleSetView → Target → Tree → List (List ℕ) → List ℕ → Type 0
+AreIn set target tree [] [] = Unit {0}
+AreIn set target tree (list ∷ lists) (number ∷ numbers) =
+    IsIn set target tree list number × AreIn set target tree lists numbers
+AreIn set target tree [] (number ∷ numbers) = ⊥
+AreIn set target tree (list ∷ lists) [] = ⊥
+
+-- What bytes lead to is numbered as parts, or at the last place as rows of the set.
+abbrev pub IsFor : RuleSetView → Bool → Target → Type 0
+IsFor set is_last (Parts pairs) = is_last ≡ false
+IsFor set is_last (Rows rows) = (is_last ≡ true) × (rows.ranked ≡ ranked_of set)
+
+-- The states of a place: a group of rules, its tree, and the lists that the numbers stand for.
+pub record ArePlaced (set : RuleSetView) (group : List ℕ) (tree : Tree) (pairs : List (ℕ × ℕ))
+    (lists : List (List ℕ)) (numbers : List ℕ) : Type 0 where
+  pub grouped : IsGrouped set group
+  pub rules : leaves tree ≡ group
+  pub each : AreIn set (Parts pairs) tree lists numbers

@@ -1,0 +1,132 @@
+//! Where the parts of states lead from one place.
+
+ghost use Rattle.std.specs.Prelude.{◌≡◌, ℕ, ◌+◌, ◌<◌, ◌≤◌, ◌⊎◌, true, length, OnOk, IfOk, Some, None};
+ghost use Rattle.shared_parts.specs.Keys.{has_entry};
+ghost use Rattle.shared_parts.specs.Target.{count, Grows, HasEntry, IsFoundIn};
+ghost use Rattle.trie_merge.specs.Entry.{entry_step, CanStep};
+ghost use Rattle.trie_merge.specs.Led.{EntryLed, PartLed, StepsLed, AllLed};
+
+use crate::column::Column;
+use shared_parts::{Parts, Piece, Steps, Target, merge, push_piece};
+use std::alloc::AllocError;
+
+/// What a byte makes of an entry, of which no byte before the first or after the last leaves a rest.
+fn step_within(column: &Column, entry: u32, ends: (u8, u8), byte: u8) -> Option<u32>
+    requires entry { CanStep column.now entry }
+    requires below { (b : ℕ) → b < ends.0 → entry_step column.now entry b ≡ None }
+    requires above { (b : ℕ) → ends.1 < b → b < 256 → entry_step column.now entry b ≡ None }
+    ensures { result ≡ entry_step column.now entry byte }
+{
+    let (first, last) = ends;
+    if byte < first || last < byte {
+        return None;
+    }
+    column.step(entry, byte)
+}
+
+/// Whether the two are one.
+fn is_same(one: Option<u32>, other: Option<u32>) -> bool
+    ensures { result ≡ true → one ≡ other }
+{
+    match (one, other) {
+        (None, None) => true,
+        (Some(one), Some(other)) => one == other,
+        _ => false,
+    }
+}
+
+/// The number of what is left of one rule.
+fn number_of(target: &mut Target, found: Option<u32>) -> Result<u32, AllocError>
+    ensures grows { OnOk result (Grows target.old target.new) }
+    ensures number { IfOk result (λ number. IsFoundIn target.new found number) }
+    ensures within { IfOk result (λ number. number ≤ count target.new) }
+    ensures entries { OnOk result ((entry : ℕ) → HasEntry target.new entry →
+        HasEntry target.old entry ⊎ (found ≡ Some entry)) }
+{
+    match found {
+        None => Ok(0),
+        Some(entry) => {
+            let number = target.entry(entry)?;
+            Ok(number)
+        }
+    }
+}
+
+/// Makes the pieces those of one entry.
+fn lead_entry(
+    column: &Column,
+    entry: u32,
+    target: &mut Target,
+    pieces: &mut Vec<Piece>,
+) -> Result<(), AllocError>
+    requires { CanStep column.now entry }
+    ensures { OnOk result
+        (EntryLed column.now entry target.old target.new pieces.new.items) }
+{
+    pieces.clear();
+    let ends = column.ends(entry);
+    let mut known = step_within(column, entry, ends, 0);
+    let mut to = number_of(target, known)?;
+    for byte in 1..256usize {
+        let after = step_within(column, entry, ends, byte as u8);
+        if !is_same(known, after) {
+            push_piece(pieces, (byte - 1) as u8, to)?;
+            to = number_of(target, after)?;
+            known = after;
+        }
+    }
+    push_piece(pieces, 255, to)?;
+    Ok(())
+}
+
+/// Makes the pieces those of the part of the number `index + 1`: of an entry by its steps, and of a
+/// pair from those of its two parts.
+fn lead_part(
+    column: &Column,
+    parts: &Parts,
+    steps: &Steps,
+    target: &mut Target,
+    index: usize,
+    pieces: &mut Vec<Piece>,
+) -> Result<(), AllocError>
+    requires can { (entry : ℕ) → has_entry parts.now entry ≡ true → CanStep column.now entry }
+    requires steps { StepsLed column.now parts.now target.old steps.now }
+    requires next { index ≡ length steps.now }
+    requires within { index < length parts.now }
+    ensures { OnOk result
+        (PartLed column.now parts.now (index + 1) target.old target.new pieces.new.items) }
+{
+    let (left, right) = parts.pair(index);
+    if left == 0 {
+        lead_entry(column, right, target, pieces)?;
+        return Ok(());
+    }
+    let one = steps.pieces(left as usize - 1);
+    let other = steps.pieces(right as usize - 1);
+    merge(target, one, other, pieces)?;
+    Ok(())
+}
+
+/// Works out where further parts lead, up to that of the number `until`, in the order of their
+/// numbers: the two parts of a pair come before it.
+pub(crate) fn lead_parts(
+    column: &Column,
+    parts: &Parts,
+    steps: &mut Steps,
+    target: &mut Target,
+    until: usize,
+    pieces: &mut Vec<Piece>,
+) -> Result<(), AllocError>
+    requires can { (entry : ℕ) → has_entry parts.now entry ≡ true → CanStep column.now entry }
+    requires steps { StepsLed column.now parts.now target.old steps.old }
+    requires within { until ≤ length parts.now }
+    ensures led { OnOk result
+        (AllLed column.now parts.now target.old target.new steps.new) }
+    ensures far { OnOk result (until ≤ length steps.new) }
+{
+    for index in steps.len()..until {
+        lead_part(column, parts, steps, target, index, pieces)?;
+        steps.push(pieces.as_slice())?;
+    }
+    Ok(())
+}
