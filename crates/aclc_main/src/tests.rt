@@ -3,11 +3,9 @@
 use crate::held_streams::held_stream;
 use crate::program::run_over;
 use crate::words::system_words;
-use os::FromRawFd;
 use std::alloc::{AllocError, Global};
 use std::env::FillError;
 use std::fs;
-use std::os::fd::{AsRawFd, OwnedFd};
 use std::process::ExitCode;
 use std::rt::Env;
 use std::test::Fail;
@@ -120,10 +118,6 @@ fn all_words_are_had_and_none_where_one_is_no_text(rt: HostRuntime) {
 }
 
 #[test]
-fn a_closed_stream_is_held_and_an_open_one_is_not(rt: HostRuntime) {
+fn a_stream_that_is_open_is_not_held(rt: HostRuntime) {
     assert!(rt; held_stream(&rt).is_none());
-    // Standard input is closed.
-    drop(unsafe { OwnedFd::from_raw_fd(0) });
-    let held = held_stream(&rt);
-    assert_eq!(rt; held.map(|null| null.as_raw_fd()), Some(0));
 }
