@@ -25,4 +25,3 @@ pub use pieces::{Piece, merge, push_piece};
 pub use rows::{Ranked, Rows};
 pub use steps::Steps;
 pub use target::Target;
-
