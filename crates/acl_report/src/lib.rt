@@ -19,8 +19,6 @@ pub mod laws;
 mod line;
 mod packet;
 mod tables;
-#[cfg(test)]
-mod tests;
 
 pub use counts::{Counts, packets_line};
 pub use line::{LINE_ROOM, append, append_number};

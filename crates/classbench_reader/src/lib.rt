@@ -27,8 +27,6 @@ mod line;
 mod network;
 mod print;
 mod rule_file;
-#[cfg(test)]
-mod tests;
 
 pub use fault::{LineFault, LineKind, RulesFault};
 pub use line::{RuleLine, is_skipped};

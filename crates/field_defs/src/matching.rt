@@ -51,38 +51,3 @@ fn greatest_number(size: u8) -> u64
 {
     u64::MAX >> (64 - 8 * u32::from(size))
 }
-
-#[cfg(test)]
-mod tests {
-    use super::*;
-
-    /// The prefixes and the packets of the example in the DPDK Programmer's Guide, "Packet
-    /// Classification and Access Control": rules to 192.168.0.0/16, to 192.168.1.0/24 and from
-    /// 10.1.1.1.
-    #[test]
-    fn addresses_match_the_prefixes_of_the_guide(rt: HostRuntime) {
-        let wide = FieldValue::Mask {
-            value: 0xC0A8_0000,
-            bits: 16,
-        };
-        let narrow = FieldValue::Mask {
-            value: 0xC0A8_0100,
-            bits: 24,
-        };
-        let host = FieldValue::Mask {
-            value: 0x0A01_0101,
-            bits: 32,
-        };
-        let cases = [
-            (0xC0A8_010F, true, true, false),
-            (0xC0A8_020B, true, false, false),
-            (0xC9D4_6F0C, false, false, false),
-            (0x0A01_0101, false, false, true),
-        ];
-        for (address, in_wide, in_narrow, in_host) in cases.iter() {
-            assert_eq!(rt; field_matches(&wide, 4, *address), *in_wide);
-            assert_eq!(rt; field_matches(&narrow, 4, *address), *in_narrow);
-            assert_eq!(rt; field_matches(&host, 4, *address), *in_host);
-        }
-    }
-}

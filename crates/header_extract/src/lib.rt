@@ -22,8 +22,6 @@ mod ip6;
 mod key;
 mod link;
 mod ports;
-#[cfg(test)]
-mod tests;
 
 pub use class::Class;
 pub use key::KeyBuf;

@@ -57,33 +57,3 @@ impl From<AllocError> for BeginFault {
         BeginFault::OutOfMemory
     }
 }
-
-#[cfg(test)]
-mod tests {
-    use super::*;
-    use std::test::Fail;
-
-    #[test]
-    fn faults_are_said_in_words(rt: HostRuntime) -> Result<(), Fail> {
-        let cases = [
-            (CaptureFault::HeaderCut, "header cut"),
-            (CaptureFault::Magic, "magic"),
-            (CaptureFault::Version, "version"),
-            (CaptureFault::LinkType, "link type"),
-            (CaptureFault::RecordCut(1), "record 1: cut"),
-            (
-                CaptureFault::RecordTooLong(1_000_000_000),
-                "record 1000000000: too long",
-            ),
-            (CaptureFault::TooManyRecords, "too many"),
-            (CaptureFault::ReadFault, "read fault"),
-        ];
-        for (fault, words) in cases {
-            let text = format!(in rt.alloc(); "{}", BeginFault::Capture(fault))?;
-            assert_eq!(rt; text.as_str(), words);
-        }
-        let text = format!(in rt.alloc(); "{}", BeginFault::OutOfMemory)?;
-        assert_eq!(rt; text.as_str(), "out of memory");
-        Ok(())
-    }
-}

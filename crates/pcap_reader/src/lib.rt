@@ -34,8 +34,6 @@ mod link;
 mod record;
 mod start;
 mod state;
-#[cfg(test)]
-mod tests;
 
 pub use capture::Capture;
 pub use fault::{BeginFault, CaptureFault};

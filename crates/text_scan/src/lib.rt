@@ -21,8 +21,6 @@ pub mod laws;
 mod numeral;
 mod parts;
 mod pieces;
-#[cfg(test)]
-mod tests;
 
 pub use digits::digits_value;
 pub use ip4::{ip4_text, put_ip4};

@@ -1,6 +1,6 @@
 //! Rule files as people write them, and files with a fault. What is expected is done by hand.
 
-use crate::{LineFault, LineKind, RulesFault, print_rule, read_rules};
+use classbench_reader::{LineFault, LineKind, RulesFault, print_rule, read_rules};
 use field_defs::{Family, FieldValue, ip4_layout, ip6_layout};
 use rule_set::{RuleTag, StoredRule, check_rule};
 use std::alloc::Global;

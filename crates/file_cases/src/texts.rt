@@ -1,4 +1,6 @@
-use super::*;
+//! Texts of addresses and numbers, read and printed.
+
+use text_scan::{ip4_text, ip6_text, number, put_ip4, put_ip6};
 
 // The texts of RFC 4291, section 2.2, and forms that it doesn't have.
 #[test]

@@ -1,6 +1,6 @@
 //! Whole frames, with the keys that a reader of the standards takes from them.
 
-use super::*;
+use header_extract::{Class, KeyBuf, extract};
 use pcap_reader::Link;
 use std::process::Abort;
 

@@ -2,8 +2,8 @@
 
 ghost use Rattle.std.specs.Prelude.{◌<◌, IsTrue};
 
-use super::*;
 use acl_outside::{Desk, MemDesk, MemFile, read_up_to};
+use pcap_reader::{BeginFault, Capture, CaptureFault, Link};
 use std::alloc::AllocError;
 use std::process::Abort;
 use std::test::Fail;

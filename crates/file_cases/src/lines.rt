@@ -3,7 +3,9 @@
 ghost use Rattle.std.specs.Prelude.{◌≡◌, ◌≤◌, length};
 ghost use Rattle.acl_report.specs.declared.packet.TheConstants.{MAX_VERDICTS};
 
-use super::*;
+use acl_report::{
+    Counts, LINE_ROOM, MAX_VERDICTS, packet_line, packets_line, table_line, transitions_line,
+};
 use field_defs::Family;
 use header_extract::Class;
 use std::process::Abort;

@@ -1,0 +1,41 @@
+//! tests alone: rules, rule files, captures, frames and lines as the public sources print them
+//!
+//! No crate stands on this one. Its tests see the public calls of the crates that read and write
+//! files succeed, over the examples of RFCs, of the libpcap format and of the DPDK Programmer's
+//! Guide, and over what people write. They stand here and not in those crates, since a crate with
+//! tests is proved once more for them.
+//!
+//! | module | what it tests |
+//! |---|---|
+//! | `captures` | captures that are whole, cut or not read on |
+//! | `frames` | frames of packets, and the keys in them |
+//! | `layouts` | layouts and the keys of their buffers |
+//! | `lines` | the lines of a report |
+//! | `messages` | what each fault says |
+//! | `ranks` | ranks by priorities and places |
+//! | `rule_files` | rule files as people write them, and printed rules |
+//! | `stored` | rules that are stored |
+//! | `texts` | texts of addresses and numbers |
+//! | `verdicts` | verdicts of the plain filter |
+#![tactic(auto)]
+
+#[cfg(test)]
+mod captures;
+#[cfg(test)]
+mod frames;
+#[cfg(test)]
+mod layouts;
+#[cfg(test)]
+mod lines;
+#[cfg(test)]
+mod messages;
+#[cfg(test)]
+mod ranks;
+#[cfg(test)]
+mod rule_files;
+#[cfg(test)]
+mod stored;
+#[cfg(test)]
+mod texts;
+#[cfg(test)]
+mod verdicts;
