@@ -20,8 +20,6 @@
 mod add;
 mod build;
 mod context;
-#[cfg(test)]
-mod tests;
 
 pub use add::AddFault;
 pub use build::BuildFault;

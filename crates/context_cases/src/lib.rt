@@ -1,17 +1,29 @@
-//! tests alone: contexts as large as users have them → what their plain filter answers
+//! tests alone: rules → edges, states, splits, tables, images, walks and contexts
 //!
-//! No crate stands on this one. Its tests see each call that may run out of memory succeed at sizes
-//! of real lists, and what only shows where the crates of tables work together.
+//! No crate stands on this one. Its tests see each call that may run out of memory succeed, some at
+//! sizes of real lists, over tables that were worked out by hand, and what only shows where the
+//! crates of tables work together. They stand here and not in those crates, since a crate with tests
+//! is proved once more for them.
 //!
 //! | module | what it tests |
 //! |---|---|
-//! | `sizes` | a context of 1,024 rules, split into eight tries, in 1 to 16 categories |
-//! | `layouts` | contexts whose layouts have two and nine fields, and keys of 5 and 25 bytes |
 //! | `adding` | rules that are added to a context in two calls |
-//! | `seeds` | merged states, number by number, against those of `recount` |
-//! | `recount` | merged states worked out anew, byte by byte |
+//! | `asking` | a context's answers to a batch, for the tests of contexts |
+//! | `contexts` | contexts from their first rule to their reset |
+//! | `edges` | what bytes leave of a value, worked out by hand |
+//! | `filled` | tables whose words were worked out by hand |
+//! | `groups` | states whose words were worked out by hand |
+//! | `images` | images of one rule, in both versions, and changed ones |
+//! | `layouts` | contexts whose layouts have two and nine fields, and keys of 5 and 25 bytes |
 //! | `messages` | what each fault says |
-//! | `asking` | a context's answers to a batch, for the tests above |
+//! | `numbers` | the places of rules, for the tests above and below |
+//! | `parts` | a table made by hand, read back |
+//! | `recount` | merged states worked out anew, byte by byte |
+//! | `seeds` | merged states, number by number, against those of `recount` |
+//! | `sizes` | a context of 1,024 rules, split into eight tries, in 1 to 16 categories |
+//! | `splits` | lists that are split under budgets around their words |
+//! | `walks` | tables made by hand, walked and classified |
+//! | `workloads` | the first rules and keys of seed 42 |
 #![tactic(auto)]
 
 #[cfg(test)]
@@ -19,12 +31,32 @@ mod adding;
 #[cfg(test)]
 mod asking;
 #[cfg(test)]
+mod contexts;
+#[cfg(test)]
+mod edges;
+#[cfg(test)]
+mod filled;
+#[cfg(test)]
+mod groups;
+#[cfg(test)]
+mod images;
+#[cfg(test)]
 mod layouts;
 #[cfg(test)]
 mod messages;
+#[cfg(test)]
+mod numbers;
+#[cfg(test)]
+mod parts;
 #[cfg(test)]
 mod recount;
 #[cfg(test)]
 mod seeds;
 #[cfg(test)]
 mod sizes;
+#[cfg(test)]
+mod splits;
+#[cfg(test)]
+mod walks;
+#[cfg(test)]
+mod workloads;

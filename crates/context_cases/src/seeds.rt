@@ -1,9 +1,6 @@
 //! The merged states of small workloads, compared number by number with a plain recount.
 
-ghost use Rattle.std.specs.Prelude.{◌≡◌, ◌≤◌, ◌+◌, IfOk};
-ghost use Rattle.std.specs.List.{range_with_len};
-ghost use Rattle.rule_set.specs.Limits.{max_rules};
-
+use crate::numbers::numbers;
 use crate::recount::recount;
 use field_defs::{FieldValue, ip4_layout};
 use rule_set::{MAX_RULES, RuleSet, RuleTag, StoredRule};
@@ -16,18 +13,6 @@ use workload_gen::make_rules;
 
 /// How many rules each seed gives.
 const RULES: u32 = 24;
-
-/// So many numbers from the first one on.
-fn numbers(alloc: Global, first: usize, len: usize) -> Result<Vec<u32>, AllocError>
-    requires { first + len ≤ max_rules }
-    ensures { IfOk result (λ numbers. numbers.items ≡ range_with_len first len) }
-{
-    let mut numbers = Vec::with_capacity(alloc, len)?;
-    for place in 0..len {
-        numbers.push((first + place) as u32)?;
-    }
-    Ok(numbers)
-}
 
 /// Each state has the runs that were counted.
 fn assert_levels(rt: &impl Abort, levels: &Levels, counted: &[Vec<Vec<Run>>]) {

@@ -30,8 +30,6 @@ mod parts;
 mod sound;
 mod steps;
 mod table;
-#[cfg(test)]
-mod tests;
 mod word;
 
 pub use groups::{MAX_KEY_LEN, depth_of, is_kept_word};

@@ -17,8 +17,6 @@ mod allowed;
 mod edge;
 mod expand;
 pub mod laws;
-#[cfg(test)]
-mod tests;
 
 pub use edge::Edge;
 pub use expand::{as_range, cuts, first_and_last, start_edge, step_edge};

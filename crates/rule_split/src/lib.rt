@@ -17,8 +17,6 @@ mod counted;
 mod divide;
 pub mod laws;
 mod split;
-#[cfg(test)]
-mod tests;
 
 pub use answer::{Plan, PlanFault};
 pub use split::{MAX_GROUPS, plan};

@@ -20,8 +20,6 @@
 mod classify;
 mod in_step;
 mod kinds;
-#[cfg(test)]
-mod tests;
 mod walk;
 
 pub use classify::{classify_scalar, winners};

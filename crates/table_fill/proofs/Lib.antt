@@ -12,4 +12,3 @@ pub mod Deciding
 pub mod Written
 pub mod Room
 pub mod Given
-pub mod Partitions

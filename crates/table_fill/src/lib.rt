@@ -22,8 +22,6 @@ mod filling;
 pub mod laws;
 mod node;
 mod rows;
-#[cfg(test)]
-mod tests;
 mod trie;
 mod tries;
 

@@ -11,8 +11,6 @@ mod pair;
 mod rows;
 mod saving;
 mod table;
-#[cfg(test)]
-mod tests;
 mod tries;
 mod version;
 mod words;

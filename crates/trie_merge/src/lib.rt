@@ -44,8 +44,6 @@ mod merge;
 mod names;
 mod number;
 mod run;
-#[cfg(test)]
-mod tests;
 
 pub use build::count_capped;
 pub use levels::Levels;

@@ -17,8 +17,6 @@ mod draws;
 pub mod laws;
 mod packet;
 mod rule;
-#[cfg(test)]
-mod tests;
 mod workload;
 
 pub use packet::KEY_LEN;

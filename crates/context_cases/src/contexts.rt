@@ -1,0 +1,115 @@
+//! Contexts from their first rule to their reset.
+
+ghost use Rattle.std.specs.Prelude.{◌≡◌, ◌<◌};
+
+use acl_context::{AclContext, AddFault, BuildFault};
+use field_defs::{FieldValue, ip4_layout};
+use flat_table::Steps;
+use rule_set::{Categories, Rule, RuleFault, RuleSet, RuleTag};
+use std::marker::Brand;
+use std::process::Abort;
+use std::sync::ledger::{Blank, Ledger};
+use std::test::Fail;
+
+/// A rule of the IPv4 layout that matches every packet.
+fn wild(category_mask: u32, userdata: u32) -> Rule<5> {
+    let address = FieldValue::Mask { value: 0, bits: 0 };
+    let port = FieldValue::Range {
+        low: 0,
+        high: 65_535,
+    };
+    Rule {
+        tag: RuleTag {
+            category_mask,
+            priority: 1,
+            userdata,
+        },
+        fields: [
+            FieldValue::Bitmask { value: 0, mask: 0 },
+            address,
+            address,
+            port,
+            port,
+        ],
+    }
+}
+
+/// The verdicts of two packets in category 0, or nothing where there is no table.
+fn verdicts<L: Ledger>(blank: Blank, context: &AclContext) -> Option<[u32; 2]>
+    requires name { blank.name ≡ L.name }
+    requires parts { blank.parts ≡ L.parts }
+    requires some { 0 < blank.parts }
+{
+    let keys = [
+        17u8, 10, 0, 0, 1, 10, 0, 0, 2, 0, 53, 0, 53, 6, 192, 168, 0, 1, 192, 168, 0, 2, 31, 144,
+        0, 80,
+    ];
+    let mut steps = Steps::<L>::new(blank);
+    let mut out = [9u32; 2];
+    let cats = Categories::new(1)?;
+    if context.rules().layout().key_len() != 13 {
+        return None;
+    }
+    context.classify(&keys, cats, &mut out, &mut steps).ok()?;
+    Some(out)
+}
+
+/// Checks the verdicts of the two packets.
+fn expect(rt: &impl Abort, context: &AclContext, expected: Option<[u32; 2]>) {
+    assert_eq!(rt; verdicts::<Brand>(Blank::new(1), context), expected);
+}
+
+#[test]
+fn a_context_answers_by_its_last_build(rt: HostRuntime) -> Result<(), Fail> {
+    let mut context = AclContext::create(rt.alloc(), ip4_layout(), 1);
+    let two = context.add_rules(&[wild(1, 7), wild(1, 8)]);
+    assert_eq!(rt; two, Err(AddFault::Full));
+    let in_no_category = context.add_rules(&[wild(0x10000, 7)]);
+    assert_eq!(rt;
+        in_no_category,
+        Err(AddFault::RuleRefused(0, RuleFault::NoCategory))
+    );
+    context.add_rules(&[wild(1, 7)])?;
+    expect(&rt, &context, None);
+    context.build(33)?;
+    expect(&rt, &context, Some([7, 7]));
+    let too_large = Err(BuildFault::TooLarge {
+        words: 33,
+        budget: 32,
+    });
+    assert_eq!(rt; context.build(32), too_large);
+    expect(&rt, &context, Some([7, 7]));
+    context.reset_rules();
+    expect(&rt, &context, Some([7, 7]));
+    context.build(16)?;
+    expect(&rt, &context, Some([0, 0]));
+    context.reset();
+    expect(&rt, &context, None);
+    Ok(())
+}
+
+#[test]
+fn a_list_that_is_half_refused_leaves_nothing(rt: HostRuntime) -> Result<(), Fail> {
+    let mut context = AclContext::create(rt.alloc(), ip4_layout(), 8);
+    let half = context.add_rules(&[wild(1, 7), wild(0x10000, 8)]);
+    assert_eq!(rt; half, Err(AddFault::RuleRefused(1, RuleFault::NoCategory)));
+    assert!(rt; context.rules().is_empty());
+    context.add_stored(&[wild(1, 7).store(rt.alloc())?])?;
+    assert_eq!(rt; context.rules().len(), 1);
+    assert!(rt; context.table().is_none());
+    Ok(())
+}
+
+#[test]
+fn a_context_made_of_a_set_holds_its_rules(rt: HostRuntime) -> Result<(), Fail> {
+    let mut set = RuleSet::new(rt.alloc(), ip4_layout());
+    set.push(wild(1, 7).store(rt.alloc())?)?;
+    let mut context = AclContext::holding(rt.alloc(), set, 1);
+    assert_eq!(rt; context.add_rules(&[wild(1, 8)]), Err(AddFault::Full));
+    expect(&rt, &context, None);
+    context.build(33)?;
+    expect(&rt, &context, Some([7, 7]));
+    context.reset();
+    assert!(rt; context.rules().is_empty());
+    Ok(())
+}

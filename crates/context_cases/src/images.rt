@@ -1,0 +1,224 @@
+//! Images of one rule that every IPv4 key matches, in both versions, and what a changed byte makes
+//! of them.
+
+use std::alloc::Global;
+use std::test::Fail;
+use table_image::{ImageFault, ImageKind, LoadFault, load, save};
+
+/// The numbers that both versions begin with, but for the version, and those that they end with.
+const IP6_TABLE: [u32; 4] = [6, 0, 0, 0];
+
+/// The image of these numbers of four bytes, row 1 and the empty IPv6 table.
+fn image(alloc: Global, numbers: &[u32]) -> Result<Vec<u8>, Fail> {
+    let mut bytes = Vec::new(alloc);
+    for number in numbers {
+        bytes.extend_from_slice(&number.to_be_bytes())?;
+    }
+    for _word in 0..16 {
+        bytes.extend_from_slice(&0x1_0000_0001u64.to_be_bytes())?;
+    }
+    for number in &IP6_TABLE {
+        bytes.extend_from_slice(&number.to_be_bytes())?;
+    }
+    Ok(bytes)
+}
+
+/// Version 2: the trie keeps the protocol alone.
+fn version_2(alloc: Global) -> Result<Vec<u8>, Fail> {
+    image(
+        alloc,
+        &[
+            0x4143_4C54,
+            2,
+            4,
+            1,
+            1,
+            1,
+            1,
+            1,
+            0,
+            0x2000_0000,
+            0,
+            0x8000_0001,
+        ],
+    )
+}
+
+/// Version 1: a level for each of the thirteen key bytes.
+fn version_1(alloc: Global) -> Result<Vec<u8>, Fail> {
+    image(
+        alloc,
+        &[
+            0x4143_4C54,
+            1,
+            4,
+            1,
+            1,
+            1,
+            1,
+            1,
+            1,
+            1,
+            1,
+            1,
+            1,
+            1,
+            1,
+            1,
+            1,
+            1,
+            1,
+            0,
+            0x2000_0000,
+            0,
+            0x2000_0001,
+            0,
+            0x2000_0002,
+            0,
+            0x2000_0003,
+            0,
+            0x2000_0004,
+            0,
+            0x2000_0005,
+            0,
+            0x2000_0006,
+            0,
+            0x2000_0007,
+            0,
+            0x2000_0008,
+            0,
+            0x2000_0009,
+            0,
+            0x2000_000A,
+            0,
+            0x2000_000B,
+            0,
+            0x2000_000C,
+            0,
+            0x8000_0001,
+        ],
+    )
+}
+
+/// The first failing check, if any.
+fn fault_of(alloc: Global, bytes: &[u8]) -> Result<Option<ImageFault>, Fail> {
+    match load(alloc, bytes) {
+        Ok(_pair) => Ok(None),
+        Err(LoadFault::Image(fault)) => Ok(Some(fault)),
+        Err(LoadFault::OutOfMemory) => Err(Fail::new("no memory")),
+    }
+}
+
+/// That of the bytes with one of them changed.
+fn fault_with(
+    alloc: Global,
+    bytes: &[u8],
+    at: usize,
+    byte: u8,
+) -> Result<Option<ImageFault>, Fail> {
+    let mut changed = Vec::from_slice(alloc, bytes)?;
+    if at < changed.len() {
+        changed[at] = byte;
+    }
+    fault_of(alloc, &changed)
+}
+
+/// Whether each of these changes gives a fault of the kind at the place.
+fn all_refused(
+    alloc: Global,
+    bytes: &[u8],
+    changes: &[(usize, u8, u64, ImageKind)],
+) -> Result<bool, Fail> {
+    for change in changes {
+        let (at, byte, place, kind) = *change;
+        if fault_with(alloc, bytes, at, byte)? != Some(ImageFault { place, kind }) {
+            return Ok(false);
+        }
+    }
+    Ok(true)
+}
+
+/// Whether every prefix of the bytes is refused.
+fn all_prefixes_refused(alloc: Global, bytes: &[u8]) -> Result<bool, Fail> {
+    for len in 0..bytes.len() {
+        if fault_of(alloc, &bytes[..len])?.is_none() {
+            return Ok(false);
+        }
+    }
+    Ok(true)
+}
+
+#[test]
+fn an_image_of_either_version_is_loaded_and_saved_as_version_2(
+    rt: HostRuntime,
+) -> Result<(), Fail> {
+    let alloc = rt.alloc();
+    let two = version_2(alloc)?;
+    assert_eq!(rt; two.len(), 192);
+    let pair = load(alloc, &two)?;
+    assert_eq!(rt; pair.ip4.total_words(), 33);
+    assert_eq!(rt; save(alloc, &pair.ip4, &pair.ip6)?, two);
+    let one = version_1(alloc)?;
+    assert_eq!(rt; one.len(), 332);
+    let old = load(alloc, &one)?;
+    assert_eq!(rt; old.ip4.total_words(), 45);
+    assert_eq!(rt; save(alloc, &old.ip4, &old.ip6)?.len(), 336);
+    Ok(())
+}
+
+#[test]
+fn a_changed_byte_is_refused_where_its_field_stands(rt: HostRuntime) -> Result<(), Fail> {
+    let alloc = rt.alloc();
+    let one = version_1(alloc)?;
+    let two = version_2(alloc)?;
+    let of_one = [
+        (0, 0x42, 0, ImageKind::Magic),
+        (7, 3, 4, ImageKind::Version),
+        (11, 6, 8, ImageKind::Family),
+        (17, 0xFF, 16, ImageKind::TooMany),
+        (80, 0x60, 76, ImageKind::Unsound),
+        (99, 1, 92, ImageKind::Unsound),
+        (191, 0, 188, ImageKind::RowForm),
+        (319, 4, 316, ImageKind::Family),
+    ];
+    let of_two = [
+        (7, 3, 4, ImageKind::Version),
+        (27, 0, 24, ImageKind::KeptGroups),
+        (27, 0x11, 24, ImageKind::KeptGroups),
+        (47, 2, 40, ImageKind::Unsound),
+        (51, 0, 48, ImageKind::RowForm),
+        (51, 2, 48, ImageKind::RowForm),
+    ];
+    assert!(rt; all_refused(alloc, &one, &of_one)?);
+    assert!(rt; all_refused(alloc, &two, &of_two)?);
+    assert_eq!(rt; fault_with(alloc, &two, 55, 0)?, None);
+    Ok(())
+}
+
+#[test]
+fn bytes_that_lack_or_that_are_left_are_refused(rt: HostRuntime) -> Result<(), Fail> {
+    let alloc = rt.alloc();
+    let mut one = version_1(alloc)?;
+    let mut two = version_2(alloc)?;
+    assert!(rt; all_prefixes_refused(alloc, &one)?);
+    assert!(rt; all_prefixes_refused(alloc, &two)?);
+    let _last = one.pop();
+    let cut = fault_of(alloc, &one)?;
+    assert_eq!(rt;
+        cut,
+        Some(ImageFault {
+            place: 328,
+            kind: ImageKind::Length
+        })
+    );
+    two.push(0)?;
+    let more = fault_of(alloc, &two)?;
+    assert_eq!(rt;
+        more,
+        Some(ImageFault {
+            place: 192,
+            kind: ImageKind::Trailing
+        })
+    );
+    Ok(())
+}
