@@ -10,6 +10,8 @@
 //!     Parts ── check_sound ──► Table::from_parts ──► Table: words, rows, places, roots
 //!                   │
 //!                   └► the first fault: the shape, a root, a word
+//!
+//!     Parts that are known to be sound ──► Table::from_sound ──► Table, and no word is looked at
 //! ```
 //!
 //! - `parts`: what a table is made of.

@@ -14,7 +14,7 @@ use crate::rows::{ROW_BYTES, read_rows};
 use crate::tries::Tries;
 use crate::version::Version;
 use crate::words::read_words;
-use flat_table::{NotSound, Parts, Table};
+use flat_table::{Parts, Table};
 use std::alloc::Global;
 use table_sizes::ROW_LEN;
 
@@ -24,17 +24,6 @@ pub(crate) struct TableRead {
     pub table: Table,
     /// The place of the field after it.
     pub end: usize,
-}
-
-/// The table of parts that are known to be sound.
-fn table_of(parts: Parts) -> Table
-    requires { sound_fault (view_of parts) ≡ None }
-    ensures { result ≡ view_of parts }
-{
-    match Table::from_parts(parts) {
-        Ok(table) => table,
-        Err(NotSound { .. }) => unreachable!(),
-    }
 }
 
 /// The table at the place, of the family, whose keys have so many bytes.
@@ -61,7 +50,7 @@ pub(crate) fn read_table(
     let rows_at = tries.end + LONG * words.len();
     let rows = read_rows(alloc, counts.rules, bytes, rows_at, counts.rows as usize)?;
     let end = rows_at + ROW_BYTES * counts.rows as usize;
-    let table = table_of(Parts {
+    let table = Table::from_sound(Parts {
         key_len,
         rules: counts.rules,
         kept: tries.kept,

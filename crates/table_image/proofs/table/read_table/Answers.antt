@@ -57,8 +57,8 @@ with_rows counts tries key_len words rows = record {
   rows = rows;
 }
 
-pub table_of-table-requires : goal.table_of-table-requires
-table_of-table-requires c =
+pub from_sound-table-requires : goal.from_sound-table-requires
+from_sound-table-requires c =
     let from : c.in_ok-tries.tries.end + 8 * c.len.result ≡ c.in_ok-tries.tries.end + 8 * length c.in_ok-words.words.items =
     omega (arith, c.len.ensures, c.in_ok-words.words.ok.0) in
     let rows : rows_after c.in_ok-counts.counts.rules c.args.bytes.now (c.in_ok-tries.tries.end + 8 * length c.in_ok-words.words.items)
@@ -86,12 +86,12 @@ returns-clause-table c =
     let all : List (List ℕ) = c.in_ok-rows.rows.items in
     let end : tries.end + 8 * length words + row_bytes * length (drop 1 all) ≡ tries.end + 8 * c.len.result + 128 * counts.rows =
     omega (arith, from, length-drop 1 all, c.in_ok-rows.ensures.count) in
-    let table : with_rows counts tries c.args.key_len words (no_rule ∷ drop 1 all) ≡ c.table_of-table.result =
-    ap (with_rows counts tries c.args.key_len words) (sym c.in_ok-rows.ensures.first) ∙ sym c.table_of-table.ensures in
+    let table : with_rows counts tries c.args.key_len words (no_rule ∷ drop 1 all) ≡ c.from_sound-table.result =
+    ap (with_rows counts tries c.args.key_len words) (sym c.in_ok-rows.ensures.first) ∙ sym c.from_sound-table.ensures in
     all_read c.args.version c.args.family c.args.key_len c.args.bytes.now c.args.at counts c.in_ok-counts.ensures.ok tries
     c.in_ok-tries.ensures.tries words c.in_ok-words.ensures.words (drop 1 all) rows
     ∙ ap (λ (t : TableView). Ok (read_to t (tries.end + 8 * length words + row_bytes * length (drop 1 all)))) table
-    ∙ ap (λ (e : ℕ). Ok (read_to c.table_of-table.result e)) end
+    ∙ ap (λ (e : ℕ). Ok (read_to c.from_sound-table.result e)) end
   where
     read_to : TableView → ℕ → TableRead
     read_to table end = record { table = table; end = end }
