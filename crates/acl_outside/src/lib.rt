@@ -27,14 +27,13 @@ mod reading;
 mod sink;
 mod std_desk;
 mod std_sink;
-#[cfg(test)]
-mod tests;
 mod transcript;
 mod writing;
 
 pub use desk::{Desk, Failed};
 pub use mem_desk::{MemDesk, MemFile};
 pub use mem_sink::MemSink;
+pub use read_buffer::read_once;
 pub use reading::{ReadAll, read_up_to};
 pub use sink::Sink;
 pub use std_desk::StdDesk;

@@ -1,4 +1,4 @@
-//! tests alone: rules, rule files, captures, frames and lines as the public sources print them
+//! tests alone: files, rules, rule files, captures, frames and lines as the public sources have them
 //!
 //! No crate stands on this one. Its tests see the public calls of the crates that read and write
 //! files succeed, over the examples of RFCs, of the libpcap format and of the DPDK Programmer's
@@ -8,6 +8,7 @@
 //! | module | what it tests |
 //! |---|---|
 //! | `captures` | captures that are whole, cut or not read on |
+//! | `desks` | files and output, in memory and of the system |
 //! | `frames` | frames of packets, and the keys in them |
 //! | `layouts` | layouts and the keys of their buffers |
 //! | `lines` | the lines of a report |
@@ -21,6 +22,8 @@
 
 #[cfg(test)]
 mod captures;
+#[cfg(test)]
+mod desks;
 #[cfg(test)]
 mod frames;
 #[cfg(test)]

@@ -1,9 +1,10 @@
+//! Files and output in memory and of the system, up to their ends and their faults.
+
 ghost use Rattle.std.specs.Prelude.{◌≡◌, IsTrue};
 
-use crate::read_buffer::read_once;
-use crate::{
-    Desk, Failed, MemDesk, MemFile, MemSink, ReadAll, Sink, StdDesk, StdSink, put_all, read_up_to,
-    write_all,
+use acl_outside::{
+    Desk, Failed, MemDesk, MemFile, MemSink, ReadAll, Sink, StdDesk, StdSink, put_all, read_once,
+    read_up_to, write_all,
 };
 use std::alloc::{AllocError, Global};
 use std::io::{ErrorKind, Read, Write};
