@@ -21,4 +21,4 @@ pub mod laws;
 mod tests;
 
 pub use edge::Edge;
-pub use expand::{as_range, cuts, first_and_last, start_edge, step_edge};
+pub use expand::{as_range, cuts, first_and_last, last_alike, start_edge, step_edge};
