@@ -12,7 +12,7 @@ use Rattle.node_expand.specs.declared.edge.Edge.TheVariants.{Free, Low, High, Bo
 use Rattle.node_expand.specs.declared.allowed.Allowed.TheVariants.{Between, Agreeing}
 use Rattle.node_expand.specs.Allowed.{answer_of, between, IsBetween}
 use Rattle.node_expand.specs.Edges.{edge_with, same_edge, same_answer, is_change, is_cut, edge_step, AreEnds}
-use Rattle.node_expand.specs.Edges.{AnswersWithin}
+use Rattle.node_expand.specs.Edges.{AnswersWithin, AnswersAlike}
 use Rattle.node_expand.specs.Laws.{CutsAreChanges, UncutBytesAnswerAlike}
 use Rattle.list_lemmas.proofs.Tests.{marks_in_turn}
 
@@ -274,3 +274,86 @@ uncut_alike value size place edge first last ordered uncut =
     let end : first + (last - first) ≡ last = omega arith in
     rw end at (uncut_from value size place edge first (last - first)
     (λ byte above below. uncut byte above (omega arith)))
+
+-- bytes at which nothing changes have the answer of the byte before them
+module _ (answer : ℕ → Option Edge) where
+  unchanged_at : (byte : ℕ) → 0 < byte → is_change answer byte ≡ false → answer byte ≡ answer (byte - 1)
+  unchanged_at byte later same =
+      one_answer (answer byte) (answer (byte - 1)) (not-false _ (sym (is_change_after answer byte later) ∙ same))
+
+  unchanged_from : (first more : ℕ)
+      → ((byte : ℕ) → first < byte → byte ≤ first + more → is_change answer byte ≡ false)
+      → answer (first + more) ≡ answer first
+  unchanged_from first zero same = let here : first + 0 ≡ first = omega arith in ap answer here
+  unchanged_from first (suc more) same =
+      let before : first + suc more - 1 ≡ first + more = omega arith in
+      unchanged_at (first + suc more) (omega arith) (same (first + suc more) (omega arith) (omega arith))
+      ∙ ap answer before ∙ unchanged_from first more (λ byte above below. same byte above (omega arith))
+
+  pub alike_until : (first last : ℕ) → first ≤ last
+      → ((byte : ℕ) → first < byte → byte ≤ last → is_change answer byte ≡ false)
+      → (last < 255 → is_change answer (last + 1) ≡ true) → AnswersAlike answer first last
+  alike_until first last ordered same change = record {
+    ordered = ordered;
+    alike = λ byte above below. (
+        let e : first + (byte - first) ≡ byte = omega (arith, above) in
+        sym (ap answer e) ∙ unchanged_from first (byte - first) (λ other more less. same other more (omega arith)));
+    change = change;
+  }
+
+-- what answers alike stays so for the same bytes
+pub stays_alike : (answer other : ℕ → Option Edge) (first last : ℕ)
+    → ((byte : ℕ) → byte < 256 → answer byte ≡ other byte) → last < 256 → AnswersAlike answer first last
+    → AnswersAlike other first last
+stays_alike answer other first last same below alike = record {
+  ordered = alike.ordered;
+  alike = λ byte above at_most. sym (same byte (omega (arith, at_most, below)))
+      ∙ alike.alike byte above at_most ∙ same first (omega (arith, alike.ordered, below));
+  change = λ more. (
+      let back : last + 1 - 1 ≡ last = omega arith in
+      sym (change_alike answer other (last + 1) (same (last + 1) (omega (arith, more)))
+      (ap answer back ∙ same last below ∙ sym (ap other back))) ∙ alike.change more);
+}
+
+-- what the bytes from one on answer, by where it lies between two ends
+module _ (low high byte : ℕ) (low_inner high_inner : Bool) (filled : low ≤ high) (fits : high < 256) where
+  change_is : (other : ℕ) → other < 256
+      → is_change (answer_of (Between low high low_inner high_inner)) other ≡ is_marked low high low_inner high_inner other
+  change_is other below = between_changes low high other low_inner high_inner filled below
+
+  pub alike_before : byte < low → AnswersAlike (answer_of (Between low high low_inner high_inner)) byte (low - 1)
+  alike_before before = alike_until _ byte (low - 1) (omega (arith, before))
+      (λ other above below. change_is other (omega (arith, below, filled, fits)) ∙ grind (arith, nat_tests))
+      (λ more. change_is (low - 1 + 1) (omega (arith, filled, fits, before)) ∙ grind (arith, nat_tests))
+
+  pub alike_after : high < byte → byte < 256
+      → AnswersAlike (answer_of (Between low high low_inner high_inner)) byte 255
+  alike_after after small = alike_until _ byte 255 (omega (arith, small))
+      (λ other above below. change_is other (omega (arith, below)) ∙ grind (arith, nat_tests))
+      (λ more. absurd (omega (arith, more)))
+
+  pub alike_low : byte ≡ low → low < high → low_inner ≡ true
+      → AnswersAlike (answer_of (Between low high low_inner high_inner)) byte low
+  alike_low here below inner = alike_until _ byte low (omega (arith, here))
+      (λ other above at_most. absurd (omega (arith, here, above, at_most)))
+      (λ more. change_is (low + 1) (omega (arith, more)) ∙ grind (arith, nat_tests))
+
+  pub alike_inside : low ≤ byte → byte < high → high_inner ≡ true → (byte ≡ low → low_inner ≡ false)
+      → AnswersAlike (answer_of (Between low high low_inner high_inner)) byte (high - 1)
+  alike_inside above below inner free = alike_until _ byte (high - 1) (omega (arith, below))
+      (λ other more at_most. change_is other (omega (arith, at_most, fits)) ∙ elim (cases_eq byte low) [
+        | inl e ↦ rw (free e) (grind (arith, nat_tests))
+        | inr differ ↦ grind (arith, nat_tests)
+      ])
+      (λ more. change_is (high - 1 + 1) (omega (arith, below, fits)) ∙ grind (arith, nat_tests))
+
+  pub alike_high : low ≤ byte → byte ≤ high → (byte < high → high_inner ≡ false)
+      → (byte ≡ low → low < high → low_inner ≡ false)
+      → AnswersAlike (answer_of (Between low high low_inner high_inner)) byte high
+  alike_high above within closed free = alike_until _ byte high within
+      (λ other more at_most. change_is other (omega (arith, at_most, fits))
+      ∙ rw (closed (omega (arith, more, at_most))) (elim (cases_eq byte low) [
+        | inl e ↦ rw (free e (omega (arith, e, more, at_most))) (grind (arith, nat_tests))
+        | inr differ ↦ grind (arith, nat_tests)
+      ]))
+      (λ more. change_is (high + 1) (omega (arith, more)) ∙ grind (arith, nat_tests))

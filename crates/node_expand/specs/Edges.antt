@@ -106,6 +106,12 @@ pub record AreEnds (answer : ℕ → Option Edge) (first last : ℕ) : Type 0 wh
 abbrev pub AnswersWithin : (ℕ → Option Edge) → ℕ → ℕ → Type 0
 AnswersWithin answer first last = (byte : ℕ) → first ≤ byte → byte ≤ last → IsSome (answer byte)
 
+-- The bytes from the one to the other have one answer, and the byte after them another.
+pub record AnswersAlike (answer : ℕ → Option Edge) (first last : ℕ) : Type 0 where
+  pub ordered : first ≤ last
+  pub alike : (byte : ℕ) → first ≤ byte → byte ≤ last → answer byte ≡ answer first
+  pub change : last < 255 → is_change answer (last + 1) ≡ true
+
 -- the value is a bitmask, which leaves no interval
 abbrev pub is_bitmask : FieldValue → Bool
 is_bitmask (Mask value bits) = false

@@ -3,7 +3,7 @@
 ghost use Rattle.std.specs.Prelude.{◌≡◌, ℕ, ◌-◌, ◌*◌, ◌/◌, ◌%◌, ◌^◌, ◌<◌, ◌≤◌, ◌==◌, ◌&&◌, ◌||◌};
 ghost use Rattle.std.specs.Prelude.{true, false, slice_index_or};
 ghost use Rattle.node_expand.specs.Rest.{mask_low, mask_high};
-ghost use Rattle.node_expand.specs.Edges.{is_change, AreEnds, AnswersWithin};
+ghost use Rattle.node_expand.specs.Edges.{is_change, AreEnds, AnswersWithin, AnswersAlike};
 ghost use Rattle.node_expand.specs.Allowed.{answer_of};
 
 use crate::edge::Edge;
@@ -32,7 +32,7 @@ impl Allowed {
     ghost use Rattle.std.specs.Prelude.{if◌then◌else◌};
     ghost use Rattle.field_defs.specs.FieldMatch.{CanMatch};
     ghost use Rattle.node_expand.specs.Edges.{has_low, has_high, is_change, is_bitmask, edge_step};
-    ghost use Rattle.node_expand.specs.Edges.{StandsBefore, AreEnds, AnswersWithin};
+    ghost use Rattle.node_expand.specs.Edges.{StandsBefore, AreEnds, AnswersWithin, AnswersAlike};
     ghost use Rattle.node_expand.specs.Allowed.{answer_of, between, IsFilled, IsBetween};
 
     /// The bytes that the value allows at the place, which counts from 0 at the most significant
@@ -122,6 +122,25 @@ impl Allowed {
             Allowed::Agreeing { value, mask } => {
                 let (first, last) = self.ends();
                 mark_agreeing(marks, value.into(), mask.into(), first.into(), last.into());
+            }
+        }
+    }
+
+    /// The last byte up to which the answer stays that at the byte.
+    #[inline]
+    pub(crate) fn last_alike(self, byte: u8) -> u8
+        requires { IsFilled self }
+        ensures { AnswersAlike (answer_of self) byte result }
+    {
+        match self {
+            Allowed::Between {
+                low,
+                high,
+                low_inner,
+                high_inner,
+            } => last_between(low, high, low_inner, high_inner, byte),
+            Allowed::Agreeing { value, mask } => {
+                last_agreeing(value.into(), mask.into(), byte.into())
             }
         }
     }
@@ -216,7 +235,49 @@ fn mark_agreeing(marks: &mut [bool; 256], value: usize, mask: usize, first: usiz
 {
     // No byte before the first or after the last agrees.
     for byte in first.max(1)..(last + 2).min(256) {
-        let turns = (byte & mask == value) != ((byte - 1) & mask == value);
-        mark_where(marks, byte, turns);
+        mark_where(marks, byte, turns(value, mask, byte));
     }
+}
+
+/// The last byte up to which the answer between two ends stays that at the byte.
+#[inline]
+fn last_between(low: u8, high: u8, low_inner: bool, high_inner: bool, byte: u8) -> u8
+    requires { low ≤ high }
+    ensures { AnswersAlike (answer_of (Allowed.Between low high low_inner high_inner)) byte result }
+{
+    if byte < low {
+        return low - 1;
+    }
+    if high < byte {
+        return u8::MAX;
+    }
+    if byte == low && low < high && low_inner {
+        return low;
+    }
+    if byte < high && high_inner {
+        return high - 1;
+    }
+    high
+}
+
+/// Whether the one of the byte and the byte before it agrees and the other doesn't.
+#[inline]
+fn turns(value: usize, mask: usize, byte: usize) -> bool
+    requires { 0 < byte }
+    ensures { result ≡ is_change (answer_of (Allowed.Agreeing value mask)) byte }
+{
+    (byte & mask == value) != ((byte - 1) & mask == value)
+}
+
+/// The last byte up to which all bytes from the first on agree, or none does.
+fn last_agreeing(value: usize, mask: usize, first: usize) -> u8
+    requires { first < 256 }
+    ensures { AnswersAlike (answer_of (Allowed.Agreeing value mask)) first result }
+{
+    for byte in first + 1..256 {
+        if turns(value, mask, byte) {
+            return (byte - 1) as u8;
+        }
+    }
+    u8::MAX
 }

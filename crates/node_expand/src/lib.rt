@@ -19,4 +19,4 @@ mod expand;
 pub mod laws;
 
 pub use edge::Edge;
-pub use expand::{as_range, cuts, first_and_last, start_edge, step_edge};
+pub use expand::{as_range, cuts, first_and_last, last_alike, start_edge, step_edge};

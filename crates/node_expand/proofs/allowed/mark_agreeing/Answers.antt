@@ -2,7 +2,7 @@ use Rattle.std.proofs.Common.{false, arith, get_or, ◌∙◌}
 use Rattle.node_expand.specs.declared.allowed.Allowed.TheVariants.{Agreeing}
 use Rattle.node_expand.specs.Edges.{is_change}
 use Rattle.node_expand.specs.Allowed.{answer_of}
-use Rattle.node_expand.proofs.Changes.{turns, unchanged_before, unchanged_after}
+use Rattle.node_expand.proofs.Changes.{unchanged_before, unchanged_after}
 use Rattle.node_expand.proofs.allowed.mark_agreeing.Goals as goal
 use Rattle.list_lemmas.proofs.Tests.{marked_more, marked_none, marked_all}
 
@@ -17,7 +17,7 @@ loop-byte-preserved c = λ place within.
     let byte = c.loop-byte.byte in
     let changes = is_change (answer_of (Agreeing c.args.value c.args.mask)) in
     c.mark_where.ensures place within
-    ∙ rw (turns c.args.value c.args.mask byte (omega arith), c.loop-byte.invariant place within)
+    ∙ rw (c.turns.ensures, c.loop-byte.invariant place within)
     (marked_more changes byte place (get_or c.args.marks.now place false))
 
 pub returns : goal.returns
