@@ -1,9 +1,9 @@
 -- All entries of a list as one part.
-use Rattle.std.proofs.Common.{◌≡◌, ℕ, List, [], ◌∷◌, ◌++◌, map, Option, Some, refl, sym, ◌∙◌, ap, subst}
+use Rattle.std.proofs.Common.{◌≡◌, ℕ, List, [], ◌∷◌, ◌++◌, Option, Some, refl, sym, ◌∙◌, subst}
 use Rattle.std.specs.List.{AllByRecursion}
 use Rattle.std.proofs.lemmas.List.{map-append}
 use Rattle.shared_parts.specs.Keys.{KeyAt, same_pair}
-use Rattle.shared_parts.specs.Tree.{Tree, leaves, Joins, IsLeaf, Stands}
+use Rattle.shared_parts.specs.Tree.{Tree, Joins, IsLeaf, Stands}
 use Rattle.shared_parts.specs.Tree.Tree.{Leaf, Node}
 use Rattle.shared_parts.specs.Rows.{rule_of}
 use Rattle.shared_parts.specs.Joined.{IsAll}

@@ -1,6 +1,6 @@
 -- Where parts lead.
-use Rattle.std.proofs.Common.{◌≡◌, ℕ, ◌+◌, ◌<◌, ◌≤◌, List, [], ◌∷◌, ◌++◌, length, Option, Some, None, refl, sym, ◌∙◌}
-use Rattle.std.proofs.Common.{ap, subst, inl, inr, ◌⊎◌, arith, length-append}
+use Rattle.std.proofs.Common.{◌≡◌, ℕ, ◌<◌, ◌≤◌, List, [], ◌++◌, length, Option, Some, None, refl, sym, ◌∙◌}
+use Rattle.std.proofs.Common.{ap, subst, inl, inr, arith, length-append}
 use Rattle.std.specs.List.{filter_map, cons_option}
 use Rattle.std.specs.Str.{bytes_eq}
 use Rattle.std.specs.Option.{option_and_then}
@@ -9,12 +9,12 @@ use Rattle.std.proofs.lemmas.List.Elements.{filter_map-append}
 use Rattle.shared_parts.specs.declared.target.Target.{Target}
 use Rattle.shared_parts.specs.declared.target.Target.TheVariants.{Parts, Rows}
 use Rattle.shared_parts.specs.Keys.{KeyAt, same_pair}
-use Rattle.shared_parts.specs.Tree.{Tree, leaves, Joins, IsLeaf, Stands, stepped}
+use Rattle.shared_parts.specs.Tree.{Tree, leaves, IsLeaf, Stands, stepped}
 use Rattle.shared_parts.specs.Tree.Tree.{Leaf, Node}
-use Rattle.shared_parts.specs.Rows.{row_of_entry, join_rows, best_row, IsRow}
+use Rattle.shared_parts.specs.Rows.{row_of_entry, best_row, IsRow}
 use Rattle.shared_parts.specs.Target.{count, StandsIn, Grows, JoinsIn, IsEntryIn, IsFoundIn, Leads}
 use Rattle.shared_parts.proofs.Keys.{key_grows, key_some, key_is}
-use Rattle.shared_parts.proofs.RowLaws.{join-none, best_append, entry_has_rank, row_grows, no_row, some_row}
+use Rattle.shared_parts.proofs.RowLaws.{join-none, best_append, entry_has_rank, row_grows, some_row}
 use Rattle.shared_parts.proofs.Standing.{pair_sound, stands_grow, none_joined}
 
 -- ---- numbers that come later

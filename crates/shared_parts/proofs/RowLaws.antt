@@ -1,6 +1,6 @@
 -- Rows of entries.
 use Rattle.std.proofs.Common.{◌≡◌, ℕ, zero, suc, ◌+◌, ◌-◌, ◌<◌, ◌≤◌, List, [], ◌∷◌, ◌++◌, length, get_or, max, map}
-use Rattle.std.proofs.Common.{Bool, true, cond, set, refl, sym, ◌∙◌, ap, arith, inl, inr, ◌==◌, ◌/◌, ◌%◌, ◌^◌}
+use Rattle.std.proofs.Common.{true, cond, set, refl, sym, ◌∙◌, ap, arith, inl, inr, ◌==◌, ◌/◌, ◌%◌, ◌^◌}
 use Rattle.std.proofs.lemmas.Bool.{cases_eq}
 use Rattle.std.proofs.lemmas.List.{get_or-set_same, get_or-set_other, ext_get_or, get_or_append_left}
 use Rattle.std.proofs.lemmas.List.FromFn.{get_or-map-range_with_len, length-map-range_with_len}

@@ -1,6 +1,6 @@
 -- What the number of a part stands for.
-use Rattle.std.proofs.Common.{◌≡◌, ℕ, ◌+◌, ◌<◌, ◌≤◌, ◌==◌, ◌&&◌, List, [], ◌∷◌, ◌++◌, length, Bool, true, false}
-use Rattle.std.proofs.Common.{Option, Some, None, refl, sym, ◌∙◌, ap, subst, inl, inr, ◌⊎◌, true≢false, arith}
+use Rattle.std.proofs.Common.{◌≡◌, ℕ, ◌<◌, ◌==◌, List, [], ◌∷◌, ◌++◌, true}
+use Rattle.std.proofs.Common.{Option, Some, None, refl, sym, ◌∙◌, ap, subst, inl, inr, arith}
 use Rattle.std.specs.List.{filter_map, cons_option}
 use Rattle.std.proofs.lemmas.List.{append-nil}
 use Rattle.std.proofs.lemmas.List.Elements.{filter_map-append}
@@ -8,7 +8,7 @@ use Rattle.std.proofs.lemmas.Bool.{and_parts, eqb-true}
 use Rattle.shared_parts.specs.Keys.{KeyAt, same_pair}
 use Rattle.shared_parts.specs.Tree.{Tree, leaves, Joins, IsLeaf, Stands}
 use Rattle.shared_parts.specs.Tree.Tree.{Leaf, Node}
-use Rattle.shared_parts.proofs.Keys.{key_grows, key_alone, key_some, key_within, key_is}
+use Rattle.shared_parts.proofs.Keys.{key_grows, key_alone, key_some, key_is}
 
 pub pair_sound : (one other : ℕ × ℕ) → same_pair one other ≡ true → one ≡ other
 pair_sound one other same =

@@ -1,7 +1,6 @@
 -- All entries of a list as one part.
-use Rattle.std.specs.Prelude.{◌≡◌, ℕ, ◌≤◌, List, length, map, true, Option, Some}
-use Rattle.std.specs.List.{AllByRecursion, list_any}
-use Rattle.shared_parts.specs.Keys.{has_entry}
+use Rattle.std.specs.Prelude.{◌≡◌, ℕ, List, map, Option, Some}
+use Rattle.std.specs.List.{AllByRecursion}
 use Rattle.shared_parts.specs.Tree.{Tree, leaves, Stands}
 use Rattle.shared_parts.specs.Rows.{rule_of}
 

@@ -1,10 +1,10 @@
 -- What a part leads to byte by byte, as pieces of neighbouring bytes.
-use Rattle.std.specs.Prelude.{◌≡◌, ℕ, ◌+◌, ◌<◌, ◌≤◌, List, [], ◌∷◌, length, nat_le, Option}
-use Rattle.std.specs.Prelude.{slice_index_or, if◌then◌else◌}
+use Rattle.std.specs.Prelude.{◌≡◌, ℕ, ◌+◌, ◌<◌, ◌≤◌, List, [], ◌∷◌, nat_le, Option}
+use Rattle.std.specs.Prelude.{if◌then◌else◌}
 use Rattle.shared_parts.specs.declared.pieces.Piece.{Piece}
 use Rattle.shared_parts.specs.declared.target.Target.{Target}
 use Rattle.shared_parts.specs.Keys.{KeyAt, same_pair}
-use Rattle.shared_parts.specs.Target.{Leads, Grows, HasEntry, count}
+use Rattle.shared_parts.specs.Target.{Leads, Grows, HasEntry}
 
 -- what a byte leads to: the first piece that ends with it or after it
 abbrev pub number_at : List Piece → ℕ → ℕ

@@ -1,11 +1,10 @@
 -- What the bytes of a place lead to: numbered parts of the next place, or after the last place
 -- numbered rows.
-use Rattle.std.specs.Prelude.{◌≡◌, ℕ, ◌<◌, ◌≤◌, List, [], ◌++◌, length, true, Option, Some, None, ◌⊎◌}
+use Rattle.std.specs.Prelude.{◌≡◌, ℕ, ◌≤◌, List, ◌++◌, length, true, Option, Some, None}
 use Rattle.std.specs.List.{filter_map}
 use Rattle.std.specs.Str.{bytes_eq}
 use Rattle.shared_parts.specs.declared.target.Target.{Target}
 use Rattle.shared_parts.specs.declared.target.Target.TheVariants.{Parts, Rows}
-use Rattle.shared_parts.specs.RowsView.{RowsView}
 use Rattle.shared_parts.specs.Keys.{KeyAt, same_pair, has_entry}
 use Rattle.shared_parts.specs.Tree.{Tree, leaves, Joins, Stands, stepped}
 use Rattle.shared_parts.specs.Rows.{row_of_entry, join_rows, best_row, IsRow}

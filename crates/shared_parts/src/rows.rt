@@ -7,9 +7,7 @@ use crate::room::check_room;
 use indexmap::IndexSet;
 use std::alloc::{AllocError, Global};
 use std::marker::Model;
-
-/// How many categories there are.
-const CATEGORIES: usize = 16;
+use table_sizes::ROW_LEN;
 
 /// What decides whether a rule wins: the categories that it takes part in, bit c for category c, and
 /// its rank, which is greater than that of each rule that it wins over.
@@ -38,11 +36,11 @@ fn is_in(mask: u32, category: u32) -> bool
 }
 
 /// The row of one rule.
-fn row_of_rule(rule: Ranked) -> [u32; CATEGORIES]
+fn row_of_rule(rule: Ranked) -> [u32; ROW_LEN]
     ensures { result ≡ row_of_rule rule }
 {
-    let mut row = [0; CATEGORIES];
-    for category in 0..CATEGORIES {
+    let mut row = [0; ROW_LEN];
+    for category in 0..ROW_LEN {
         if is_in(rule.mask, category as u32) {
             row[category] = rule.rank;
         }
@@ -51,11 +49,11 @@ fn row_of_rule(rule: Ranked) -> [u32; CATEGORIES]
 }
 
 /// Two rows as one: the greater rank of each category.
-fn join_rows(one: &[u32; CATEGORIES], other: &[u32; CATEGORIES]) -> [u32; CATEGORIES]
+fn join_rows(one: &[u32; ROW_LEN], other: &[u32; ROW_LEN]) -> [u32; ROW_LEN]
     ensures { result ≡ join_rows one.now other.now }
 {
     let mut row = *one;
-    for category in 0..CATEGORIES {
+    for category in 0..ROW_LEN {
         row[category] = row[category].max(other[category]);
     }
     row
@@ -67,7 +65,7 @@ fn join_rows(one: &[u32; CATEGORIES], other: &[u32; CATEGORIES]) -> [u32; CATEGO
 pub struct Rows {
     alloc: Global,
     ranked: Vec<Ranked>,
-    rows: IndexSet<[u32; CATEGORIES]>,
+    rows: IndexSet<[u32; ROW_LEN]>,
 }
 
 impl Model for Rows {
@@ -104,7 +102,7 @@ impl Rows {
     }
 
     /// The row of the number `index + 1`.
-    pub fn row(&self, index: usize) -> &[u32; CATEGORIES]
+    pub fn row(&self, index: usize) -> &[u32; ROW_LEN]
         requires { index < length self.now.rows }
         ensures { result.now ≡ slice_index_or self.now.rows index [] }
     {
@@ -115,7 +113,7 @@ impl Rows {
     }
 
     /// The number of the row. It takes memory where the row is new.
-    fn number(&mut self, row: [u32; CATEGORIES]) -> Result<u32, AllocError>
+    fn number(&mut self, row: [u32; ROW_LEN]) -> Result<u32, AllocError>
         ensures ranked { OnOk result (self.new.ranked ≡ self.old.ranked) }
         ensures grows { OnOk result
             ((more : List (List ℕ)) × (self.new.rows ≡ self.old.rows ++ more)) }

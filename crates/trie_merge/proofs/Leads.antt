@@ -1,7 +1,7 @@
 -- Where entries and parts lead.
-use Rattle.std.proofs.Common.{◌≡◌, ℕ, ◌+◌, ◌-◌, ◌<◌, ◌≤◌, List, [], ◌∷◌, ◌++◌, length, get_or, Option, Some}
-use Rattle.std.proofs.Common.{refl, sym, ◌∙◌, ap, subst, inl, inr, ◌⊎◌, arith, length-append}
-use Rattle.std.proofs.lemmas.Bool.{cases_lt, cases_eq}
+use Rattle.std.proofs.Common.{◌≡◌, ℕ, ◌+◌, ◌-◌, ◌<◌, ◌≤◌, List, [], ◌∷◌, ◌++◌, length, get_or, Some}
+use Rattle.std.proofs.Common.{refl, sym, subst, inl, inr, ◌⊎◌, arith, length-append}
+use Rattle.std.proofs.lemmas.Bool.{cases_lt}
 use Rattle.std.proofs.lemmas.List.{get_or_append_left}
 use Rattle.std.proofs.Math.Seq.{get_or-append_seam}
 use Rattle.shared_parts.specs.declared.pieces.Piece.{Piece}
@@ -10,121 +10,78 @@ use Rattle.shared_parts.specs.Keys.{KeyAt, same_pair}
 use Rattle.shared_parts.specs.Target.{count, Grows, HasEntry, IsFoundIn}
 use Rattle.shared_parts.specs.Pieces.{number_at, Covers, Pushed, PiecesLead, Merges}
 use Rattle.shared_parts.proofs.Offered.{count_grows, grows_none, grows_on, found_grows, leads_grow, entry_is_led}
-use Rattle.trie_merge.specs.Entry.{ColumnView, entry_step}
+use Rattle.trie_merge.specs.Entry.{ColumnView, entry_step, StepsAlike}
 use Rattle.trie_merge.specs.Led.{step_of, IsAfter, EntryLed, PartLed, StepsLed, AllLed}
 
--- The bytes before a first one have their pieces, and those from it to before another all make the same of the entry.
-pub record EntrySoFar (column : ColumnView) (entry : ℕ) (old now : Target) (pieces : List Piece) (known : Option ℕ)
-    (to byte : ℕ) : Type 0 where
+-- The pieces say what each byte before a first one makes of the entry.
+pub record EntrySoFar (column : ColumnView) (entry : ℕ) (old now : Target) (pieces : List Piece) (first : ℕ) :
+    Type 0 where
   pub grows : Grows old now
   pub entries : (other : ℕ) → HasEntry now other → HasEntry old other ⊎ IsAfter column entry other
-  pub first : ℕ
   pub covers : Covers 0 pieces first
-  pub before : first < byte
-  pub found : (b : ℕ) → b < first → IsFoundIn now (entry_step column entry b) (number_at pieces b)
-  pub within : (b : ℕ) → b < first → number_at pieces b ≤ count now
-  pub same : (b : ℕ) → first ≤ b → b < byte → entry_step column entry b ≡ known
-  pub number : IsFoundIn now known to
-  pub fits : to ≤ count now
+  pub below : first ≤ 256
+  pub found : (byte : ℕ) → byte < first → IsFoundIn now (entry_step column entry byte) (number_at pieces byte)
+  pub within : (byte : ℕ) → byte < first → number_at pieces byte ≤ count now
 
 module _ (column : ColumnView) (entry : ℕ) where
-  found_entries : (old now : Target) (byte : ℕ) → byte < 256
-      → ((other : ℕ) → HasEntry now other → HasEntry old other ⊎ (entry_step column entry byte ≡ Some other))
-      → (other : ℕ) → HasEntry now other → HasEntry old other ⊎ IsAfter column entry other
-  found_entries old now byte below only other has = elim (only other has) [
-    | inl before ↦ inl before
-    | inr is ↦ inr (byte, below, is)
-  ]
-
-  pub first_byte : (old now : Target) (known : Option ℕ) (to : ℕ) → known ≡ entry_step column entry 0 → Grows old now
-      → ((other : ℕ) → HasEntry now other → HasEntry old other ⊎ (known ≡ Some other))
-      → IsFoundIn now known to → to ≤ count now → EntrySoFar column entry old now [] known to 1
-  first_byte old now known to is grows only number fits = record {
-    grows = grows;
-    entries = found_entries old now 0 (omega arith)
-        (λ other has. elim (only other has) [ inl before ↦ inl before | inr e ↦ inr (sym is ∙ e) ]);
-    first = 0;
+  pub no_bytes : (target : Target) → EntrySoFar column entry target target [] 0
+  no_bytes target = record {
+    grows = grows_none target;
+    entries = λ other has. inl has;
     covers = refl;
-    before = omega arith;
-    found = λ b below. absurd (omega (arith, below));
-    within = λ b below. absurd (omega (arith, below));
-    same = λ b from below. (let e : b ≡ 0 = omega (arith, below) in ap (entry_step column entry) e ∙ sym is);
-    number = number;
-    fits = fits;
+    below = omega arith;
+    found = λ byte less. absurd (omega (arith, less));
+    within = λ byte less. absurd (omega (arith, less));
   }
 
-  module _ (old now : Target) (pieces : List Piece) (known : Option ℕ) (to byte : ℕ)
-      (so_far : EntrySoFar column entry old now pieces known to byte) where
-    -- a byte that makes the same
-    pub byte_stays : known ≡ entry_step column entry byte → EntrySoFar column entry old now pieces known to (byte + 1)
-    byte_stays is = record {
-      grows = so_far.grows;
-      entries = so_far.entries;
-      first = so_far.first;
-      covers = so_far.covers;
-      before = omega (arith, so_far.before);
-      found = so_far.found;
-      within = so_far.within;
-      same = λ b from below. elim (cases_eq b byte) [
-        | inl e ↦ ap (entry_step column entry) e ∙ sym is
-        | inr other ↦ so_far.same b from (omega (arith, below, other))
-      ];
-      number = so_far.number;
-      fits = so_far.fits;
-    }
-
-    -- the pieces of all bytes so far
-    pushed_found : (pieces' : List Piece) → Pushed pieces pieces' (byte - 1) to → (b : ℕ) → b < byte
-        → IsFoundIn now (entry_step column entry b) (number_at pieces' b) × (number_at pieces' b ≤ count now)
-    pushed_found pieces' pushed b below = elim (cases_lt b so_far.first) [
-      | inl early ↦
-          let is = pushed.before so_far.first b so_far.covers (omega (arith, so_far.before)) early in (
-            subst (IsFoundIn now (entry_step column entry b)) (sym is) (so_far.found b early),
-            omega (arith, is, so_far.within b early),
-          )
-      | inr late ↦
-          let is = pushed.here so_far.first b so_far.covers late (omega (arith, below)) in (
-            subst (IsFoundIn now (entry_step column entry b)) (sym is)
-                (subst (λ found. IsFoundIn now found to) (sym (so_far.same b late below)) so_far.number),
-            omega (arith, is, so_far.fits),
-          )
-    ]
-
-    -- a byte that makes something else
-    pub byte_turns : (new : Target) (pieces' : List Piece) (after : Option ℕ) (to' : ℕ) → byte < 256
-        → after ≡ entry_step column entry byte → Pushed pieces pieces' (byte - 1) to → Grows now new
-        → ((other : ℕ) → HasEntry new other → HasEntry now other ⊎ (after ≡ Some other)) → IsFoundIn new after to'
-        → to' ≤ count new → EntrySoFar column entry old new pieces' after to' (byte + 1)
-    byte_turns new pieces' after to' below is pushed grows only number fits = record {
+  module _ (old now : Target) (pieces : List Piece) (first : ℕ) (so_far : EntrySoFar column entry old now pieces first)
+      where
+    -- the bytes up to the one before the next cut
+    pub more_bytes : (new : Target) (pieces' : List Piece) (last to : ℕ) → first < 256 → last < 256
+        → StepsAlike column entry first last → Grows now new
+        → ((other : ℕ) → HasEntry new other
+        → HasEntry now other ⊎ (entry_step column entry first ≡ Some other))
+        → IsFoundIn new (entry_step column entry first) to → to ≤ count new → Pushed pieces pieces' last to
+        → EntrySoFar column entry old new pieces' (last + 1)
+    more_bytes new pieces' last to small below alike grows only number fits pushed = record {
       grows = grows_on old now new so_far.grows grows;
       entries = λ other has. elim (only other has) [
         | inl before ↦ so_far.entries other before
-        | inr e ↦ inr (byte, below, sym is ∙ e)
+        | inr is ↦ inr (first, small, is)
       ];
-      first = byte;
-      covers = (let e : byte - 1 + 1 ≡ byte = omega (arith, so_far.before) in
-          subst (Covers 0 pieces') e (pushed.covers so_far.first so_far.covers (omega (arith, so_far.before))));
-      before = omega arith;
-      found = λ b early. found_grows now new (entry_step column entry b) (number_at pieces' b) grows
-          (pushed_found pieces' pushed b early).0;
-      within = λ b early. omega (arith, (pushed_found pieces' pushed b early).1, count_grows now new grows);
-      same = λ b from until. (let e : b ≡ byte = omega (arith, from, until) in ap (entry_step column entry) e ∙ sym is);
-      number = number;
-      fits = fits;
+      covers = pushed.covers first so_far.covers alike.ordered;
+      below = omega (arith, below);
+      found = λ byte less. elim (cases_lt byte first) [
+        | inl early ↦
+            let is = pushed.before first byte so_far.covers alike.ordered early in
+            subst (IsFoundIn new (entry_step column entry byte)) (sym is)
+            (found_grows now new (entry_step column entry byte) (number_at pieces byte) grows (so_far.found byte early))
+        | inr late ↦
+            let is = pushed.here first byte so_far.covers late (omega (arith, less)) in
+            subst (IsFoundIn new (entry_step column entry byte)) (sym is)
+            (subst (λ found. IsFoundIn new found to) (sym (alike.alike byte late (omega (arith, less)))) number)
+      ];
+      within = λ byte less. elim (cases_lt byte first) [
+        | inl early ↦
+            omega (
+              arith,
+              pushed.before first byte so_far.covers alike.ordered early,
+              so_far.within byte early,
+              count_grows now new grows,
+            )
+        | inr late ↦
+            omega (arith, pushed.here first byte so_far.covers late (omega (arith, less)), fits)
+      ];
     }
 
-    -- all bytes
-    pub all_bytes_led : (pieces' : List Piece) → byte ≡ 256 → Pushed pieces pieces' 255 to
-        → EntryLed column entry old now pieces'
-    all_bytes_led pieces' end pushed =
-        let e : byte - 1 ≡ 255 = omega (arith, end) in
-        let last : Pushed pieces pieces' (byte - 1) to = subst (λ n. Pushed pieces pieces' n to) (sym e) pushed in
-        record {
+    pub all_bytes_led : 256 ≤ first → EntryLed column entry old now pieces
+    all_bytes_led end =
+        let e : first ≡ 256 = omega (arith, end, so_far.below) in record {
           grows = so_far.grows;
           entries = so_far.entries;
-          covers = pushed.covers so_far.first so_far.covers (omega (arith, so_far.before, end));
-          found = λ b below. (pushed_found pieces' last b (omega (arith, below, end))).0;
-          within = λ b below. (pushed_found pieces' last b (omega (arith, below, end))).1;
+          covers = subst (Covers 0 pieces) e so_far.covers;
+          found = λ byte less. so_far.found byte (omega (arith, less, e));
+          within = λ byte less. so_far.within byte (omega (arith, less, e));
         }
 
 -- ---- parts

@@ -1,5 +1,4 @@
 pub mod Ahead
-pub mod Ends
 pub mod Finds
 pub mod Numbers
 pub mod Successors

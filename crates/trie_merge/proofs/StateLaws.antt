@@ -1,6 +1,6 @@
 -- The laws of states.
 use Rattle.std.proofs.Common.{◌≡◌, ℕ, ◌+◌, ◌<◌, ◌==◌, List, [], ◌∷◌, ◌++◌, length, map, take, drop, get_or, Bool, true}
-use Rattle.std.proofs.Common.{false, cond, not, ◌&&◌, ◌||◌, Some, None, refl, sym, ◌∙◌, ap, subst, arith, length-append}
+use Rattle.std.proofs.Common.{false, cond, not, replicate, ◌-◌, ◌&&◌, ◌||◌, Some, None, refl, sym, ◌∙◌, ap, subst, arith, length-append}
 use Rattle.std.specs.List.{AllByRecursion, flat_map}
 use Rattle.std.specs.Str.{bytes_eq}
 use Rattle.std.proofs.lemmas.Bool.{cond-false, le-ltb, eq-eqb}
@@ -17,14 +17,14 @@ use Rattle.rule_set.specs.Rule.{RuleSetView}
 use Rattle.rule_set.specs.Winner.{rule_match}
 use Rattle.node_expand.specs.Rest.{Live}
 use Rattle.trie_merge.specs.RuleRest.{values_rest}
-use Rattle.trie_merge.specs.State.{Held, state, state_step, same_state, is_live}
+use Rattle.trie_merge.specs.State.{Held, state, state_step, state_through, same_state, is_live}
 use Rattle.trie_merge.specs.Found.{found_in, all_bytes}
 use Rattle.trie_merge.specs.Kept.{group_of, is_wild_place, is_idle, kept_places}
 use Rattle.trie_merge.specs.Levels.{states_at, reached}
 use Rattle.trie_merge.specs.Entry.{column_at, entries_step}
 use Rattle.trie_merge.specs.Lists.{level_found, successor}
 use Rattle.trie_merge.specs.Laws.{IsGrouped, WholeKeysAreLiveWhereTheyMatch, StatesGoByteByByte, NextStatesAreReached}
-use Rattle.trie_merge.specs.Laws.{IdleBytesLeadToOneState}
+use Rattle.trie_merge.specs.Laws.{IdleBytesLeadToOneState, StatesOfEachPlaceLeadOn}
 use Rattle.trie_merge.proofs.Finds.{found_in-map}
 use Rattle.trie_merge.proofs.PackedState.{IsHeld, IsEntryAt, packed_state, packed_state_wild, decoded, state_is}
 use Rattle.trie_merge.proofs.PackedState.{compared_alike, alive_alike}
@@ -109,6 +109,21 @@ next_states_are_reached set group k is below =
     let gaps = subst (Gaps set group) rest
     (gaps_after set group held is.group.some (short_keys set.layout is.layout).0 places k first.gaps) in
     states_next set group held (get_or places k 0) (get_or places (k + 1) 0) gaps.0
+
+-- between a place and the next there is none
+pub states_of_each_place_lead_on : StatesOfEachPlaceLeadOn
+unfolding reached state_through
+states_of_each_place_lead_on set group place is within =
+    let gap : IsGap set group place (place + 1) = record {
+      rises = omega arith;
+      within = omega (arith, within);
+      wild = λ between above below. absurd (omega (arith, above, below));
+    } in
+    let none : place + 1 - place - 1 ≡ 0 = omega arith in
+    states_next set group (held_of set group is) place (place + 1) gap
+    ∙ ap (λ count. found_in same_state is_live
+    (flat_map (λ before. map (λ byte. state_through set place before (byte ∷ replicate count 0)) all_bytes)
+    (states_at set group place))) none
 
 -- a place of an idle group is wild
 idle_is_wild : (set : RuleSetView) (group : List ℕ) (place : ℕ) → place < key_len_of set.layout

@@ -8,10 +8,10 @@ use Rattle.std.specs.Option.{option_map}
 use Rattle.std.proofs.lemmas.List.Elements.{recursion_from_All, All-from_recursion}
 use Rattle.node_expand.specs.declared.edge.Edge.{Edge}
 use Rattle.node_expand.specs.declared.edge.Edge.TheVariants.{Free, Low, High, Both}
-use Rattle.node_expand.specs.Edges.{edge_step}
+use Rattle.node_expand.specs.Edges.{edge_step, is_cut, AnswersAlike}
 use Rattle.node_expand.proofs.Offered.{cuts_are_changes}
 use Rattle.trie_merge.specs.Entry.{ColumnView, number_in, entry_of, edge_before, value_in, entry_step, entries_step}
-use Rattle.trie_merge.specs.Entry.{is_entry_cut}
+use Rattle.trie_merge.specs.Entry.{is_entry_cut, StepsAlike}
 
 -- an entry without a cut at a byte becomes what it becomes after the byte before
 entry_uncut : (column : ColumnView) (entry byte : ℕ) → is_entry_cut column entry (byte + 1) ≡ false
@@ -23,6 +23,17 @@ entry_uncut column entry byte uncut =
     (omega arith)).0 uncut in
     ap (option_map (entry_of (number_in entry)))
     (same ∙ ap (edge_step (value_in column entry) column.size column.place (edge_before column entry)) back)
+
+-- bytes with one edge make one entry
+pub steps_alike : (column : ColumnView) (entry first last : ℕ)
+    → AnswersAlike (edge_step (value_in column entry) column.size column.place (edge_before column entry)) first last
+    → StepsAlike column entry first last
+unfolding entry_step is_entry_cut is_cut
+steps_alike column entry first last alike = record {
+  ordered = alike.ordered;
+  alike = λ byte above at_most. ap (option_map (entry_of (number_in entry))) (alike.alike byte above at_most);
+  cut = alike.change;
+}
 
 -- and so does a list of them
 pub entries_uncut : (column : ColumnView) (entries : List ℕ) (byte : ℕ)

@@ -1,7 +1,7 @@
 -- How a state is kept: for each of its rules one number, which holds the rule's number and the edge
 -- of its rest. Before the first byte of a field the rule's value says the rest, so the edge kept
 -- there is the one after a whole field.
-use Rattle.std.specs.Prelude.{ℕ, ◌+◌, ◌-◌, ◌*◌, ◌/◌, ◌%◌, ◌<◌, ◌==◌, List, [], ◌∷◌, length, map}
+use Rattle.std.specs.Prelude.{◌≡◌, ℕ, ◌+◌, ◌-◌, ◌*◌, ◌/◌, ◌%◌, ◌<◌, ◌≤◌, ◌==◌, List, [], ◌∷◌, length, map, true}
 use Rattle.std.specs.Prelude.{slice_index_or, nat_lt, Bool, not, ◌||◌, ◌&&◌, IsTrue, Option}
 use Rattle.std.specs.Prelude.{if◌then◌else◌}
 use Rattle.std.specs.List.{filter_map}
@@ -89,6 +89,13 @@ pub record CanStep (column : ColumnView) (entry : ℕ) : Type 0 where
   pub filled : IsTrue (is_range_filled (value_in column entry))
   pub stands : StandsBefore (value_in column entry) column.size column.place
       (edge_before column entry)
+
+-- The bytes from the one to the other make the same of the entry, and the byte after them is a cut.
+pub record StepsAlike (column : ColumnView) (entry first last : ℕ) : Type 0 where
+  pub ordered : first ≤ last
+  pub alike : (byte : ℕ) → first ≤ byte → byte ≤ last →
+      entry_step column entry byte ≡ entry_step column entry first
+  pub cut : last < 255 → is_entry_cut column entry (last + 1) ≡ true
 
 -- Where the place of a key lies: the number of its field, the size of the field, and the place in
 -- the field.

@@ -54,6 +54,15 @@ NextStatesAreReached =
     (flat_map (λ before. map (reached set place next before) all_bytes)
     (states_at set group place)))
 
+-- At every place, also at one that isn't kept, the states of the next place are what the steps of
+-- the states find, state by state and byte by byte, without dead ones and later repeats.
+abbrev pub StatesOfEachPlaceLeadOn : Type 0
+StatesOfEachPlaceLeadOn =
+    (set : RuleSetView) (group : List ℕ) (place : ℕ) → IsGrouped set group
+    → place < key_len_of set.layout →
+    states_at set group (place + 1) ≡ found_in same_state is_live
+    (flat_map (λ before. map (state_step set place before) all_bytes) (states_at set group place))
+
 -- Inside an idle group of a key every byte leads a state to one and the same next state.
 abbrev pub IdleBytesLeadToOneState : Type 0
 IdleBytesLeadToOneState =

@@ -19,7 +19,7 @@ ghost use Rattle.trie_merge.specs.Pieces.{pieces_of, IsPieces};
 use crate::column::Column;
 use crate::entry::entry_of;
 use crate::kept::Kept;
-use crate::levels::{CATEGORIES, Level, Levels};
+use crate::levels::{Level, Levels};
 use crate::merge::{Budget, MergeFault, Pieces, Place, Reached, merge_states};
 use crate::names::{name_rows, names_of, rank_rules};
 use indexmap::IndexSet;
@@ -249,7 +249,7 @@ fn finish_rows(
     rules: &RuleSet,
     group: &[u32],
     reached: &Reached,
-) -> Result<Vec<[u32; CATEGORIES]>, AllocError>
+) -> Result<Vec<[u32; ROW_LEN]>, AllocError>
     requires group { IsGrouped rules.now group.now }
     requires rows { AreRows rules.now group.now reached.now.target reached.now.found.keys }
     ensures { IfOk result (λ rows. rows.items ≡ rows_of rules.now group.now) }

@@ -7,7 +7,7 @@ ghost use Rattle.trie_merge.specs.Entry.{field_at, stays_free};
 
 use crate::entry::{edge_in, entry_of, is_free, number_in};
 use field_defs::{FieldDef, FieldKind, FieldValue, is_wild};
-use node_expand::{Edge, cuts, first_and_last, start_edge, step_edge};
+use node_expand::{Edge, last_alike, start_edge, step_edge};
 use rule_set::RuleSet;
 use std::alloc::{AllocError, Global};
 use std::marker::Model;
@@ -79,7 +79,7 @@ impl Column {
     ghost use Rattle.std.specs.Prelude.{slice_index_or, IfOk};
     ghost use Rattle.field_defs.specs.Layout.{key_len_of};
     ghost use Rattle.trie_merge.specs.Entry.{column_at, number_in, value_in, edge_before};
-    ghost use Rattle.trie_merge.specs.Entry.{entry_step, is_entry_cut, CanStep};
+    ghost use Rattle.trie_merge.specs.Entry.{entry_step, is_entry_cut, CanStep, StepsAlike};
 
     /// What the place of the key has of each rule.
     ///
@@ -148,28 +148,13 @@ impl Column {
         is_free(entry) && self.stay_free[number_in(entry) as usize]
     }
 
-    /// The first and the last byte after which the entry's rule has a rest.
-    pub(crate) fn ends(&self, entry: u32) -> (u8, u8)
+    /// The last byte up to which the entry becomes what it becomes after the byte: the one before
+    /// the next cut, or 255.
+    pub(crate) fn last_alike(&self, entry: u32, byte: u8) -> u8
         requires { CanStep self.now entry }
-        ensures ordered { result.0 ≤ result.1 }
-        ensures last { result.1 < 256 }
-        ensures below { (byte : ℕ) → byte < result.0 → entry_step self.now entry byte ≡ None }
-        ensures above { (byte : ℕ) → result.1 < byte → byte < 256
-            → entry_step self.now entry byte ≡ None }
+        ensures { StepsAlike self.now entry byte result }
     {
         let edge = self.edge_before(entry);
-        first_and_last(self.value(entry), self.size, self.place, edge)
-    }
-
-    /// Sets the marks of the bytes at which the entry after them changes.
-    #[tactic(auto, unfolding(crate::specs::Entry::is_entry_cut))]
-    pub(crate) fn mark(&self, entry: u32, marks: &mut [bool; 256])
-        requires { CanStep self.now entry }
-        ensures { (byte : ℕ) → byte < 256 →
-            slice_index_or marks.new byte false
-            ≡ (is_entry_cut self.now entry byte || slice_index_or marks.old byte false) }
-    {
-        let edge = self.edge_before(entry);
-        cuts(self.value(entry), self.size, self.place, edge, marks);
+        last_alike(self.value(entry), self.size, self.place, edge, byte)
     }
 }

@@ -97,6 +97,19 @@ fn unite(one: Cuts, other: Cuts) -> Cuts
     all
 }
 
+/// The bytes and the one after the byte, where there is one.
+fn add_after(cuts: Cuts, last: u8) -> Cuts
+    requires { cuts.count ≤ 5 }
+    ensures count { result.count ≤ 5 }
+    ensures knows { (column : ColumnView) (entries : List ℕ) → Knows column entries cuts →
+        (last < 255 → IsCutAt column entries (last + 1)) → Knows column entries result }
+{
+    if last < u8::MAX {
+        return add(cuts, last + 1);
+    }
+    cuts
+}
+
 /// The bytes of one entry.
 fn cuts_of_entry(column: &Column, entry: u32) -> Cuts
     requires { CanStep column.now entry }
@@ -107,12 +120,11 @@ fn cuts_of_entry(column: &Column, entry: u32) -> Cuts
     if column.keeps(entry) {
         return cuts;
     }
-    let mut marks = [false; 256];
-    column.mark(entry, &mut marks);
-    for byte in 1..256usize {
-        if marks[byte] {
-            cuts = add(cuts, byte as u8);
-        }
+    let mut first = 0usize;
+    while first < 256 {
+        let last = column.last_alike(entry, first as u8);
+        cuts = add_after(cuts, last);
+        first = usize::from(last) + 1;
     }
     cuts
 }

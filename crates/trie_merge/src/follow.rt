@@ -10,31 +10,6 @@ use crate::column::Column;
 use shared_parts::{Parts, Piece, Steps, Target, merge, push_piece};
 use std::alloc::AllocError;
 
-/// What a byte makes of an entry, of which no byte before the first or after the last leaves a rest.
-fn step_within(column: &Column, entry: u32, ends: (u8, u8), byte: u8) -> Option<u32>
-    requires entry { CanStep column.now entry }
-    requires below { (b : ℕ) → b < ends.0 → entry_step column.now entry b ≡ None }
-    requires above { (b : ℕ) → ends.1 < b → b < 256 → entry_step column.now entry b ≡ None }
-    ensures { result ≡ entry_step column.now entry byte }
-{
-    let (first, last) = ends;
-    if byte < first || last < byte {
-        return None;
-    }
-    column.step(entry, byte)
-}
-
-/// Whether the two are one.
-fn is_same(one: Option<u32>, other: Option<u32>) -> bool
-    ensures { result ≡ true → one ≡ other }
-{
-    match (one, other) {
-        (None, None) => true,
-        (Some(one), Some(other)) => one == other,
-        _ => false,
-    }
-}
-
 /// The number of what is left of one rule.
 fn number_of(target: &mut Target, found: Option<u32>) -> Result<u32, AllocError>
     ensures grows { OnOk result (Grows target.old target.new) }
@@ -64,18 +39,14 @@ fn lead_entry(
         (EntryLed column.now entry target.old target.new pieces.new.items) }
 {
     pieces.clear();
-    let ends = column.ends(entry);
-    let mut known = step_within(column, entry, ends, 0);
-    let mut to = number_of(target, known)?;
-    for byte in 1..256usize {
-        let after = step_within(column, entry, ends, byte as u8);
-        if !is_same(known, after) {
-            push_piece(pieces, (byte - 1) as u8, to)?;
-            to = number_of(target, after)?;
-            known = after;
-        }
+    let mut first = 0usize;
+    while first < 256 {
+        let byte = first as u8;
+        let last = column.last_alike(entry, byte);
+        let to = number_of(target, column.step(entry, byte))?;
+        push_piece(pieces, last, to)?;
+        first = usize::from(last) + 1;
     }
-    push_piece(pieces, 255, to)?;
     Ok(())
 }
 

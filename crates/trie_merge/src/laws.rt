@@ -2,6 +2,7 @@
 
 ghost use Rattle.trie_merge.specs.Laws.{WholeKeysAreLiveWhereTheyMatch, StatesGoByteByByte};
 ghost use Rattle.trie_merge.specs.Laws.{NextStatesAreReached, IdleBytesLeadToOneState};
+ghost use Rattle.trie_merge.specs.Laws.{StatesOfEachPlaceLeadOn};
 ghost use Rattle.trie_merge.specs.Laws.{RunsLeadToTheRowOfTheMatchingRules};
 
 /// After a whole key a rule's rest is live exactly where the rule matches the key.
@@ -18,6 +19,12 @@ pub fn states_go_byte_by_byte()
 /// repeats.
 pub fn next_states_are_reached()
     ensures { NextStatesAreReached }
+{}
+
+/// The states of each next place are what those of the place before it lead to by all bytes, in
+/// order and without repeats, also where the places aren't kept.
+pub fn states_of_each_place_lead_on()
+    ensures { StatesOfEachPlaceLeadOn }
 {}
 
 /// Inside an idle group every byte leads a state to one next state.

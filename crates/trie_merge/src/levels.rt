@@ -8,9 +8,6 @@ use crate::run::Run;
 use std::marker::Model;
 use table_sizes::ROW_LEN;
 
-/// How many categories there are.
-pub(crate) const CATEGORIES: usize = 16;
-
 /// The runs of the states of one kept place. Contracts see the list of the runs of each state.
 #[derive(Drop)]
 pub(crate) struct Level {

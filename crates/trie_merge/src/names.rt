@@ -3,10 +3,10 @@
 ghost use Rattle.std.specs.Prelude.{◌≡◌, ◌<◌, ◌≤◌, length, map, All, IfOk, slice_index_or};
 ghost use Rattle.trie_merge.specs.Names.{ranked_of, row_named, IsNames};
 
-use crate::levels::CATEGORIES;
 use rule_set::{RuleSet, ranks};
 use shared_parts::{Ranked, Rows};
 use std::alloc::{AllocError, Global};
+use table_sizes::ROW_LEN;
 
 /// What decides about each rule of the set: its categories and its rank.
 pub(crate) fn rank_rules(alloc: Global, rules: &RuleSet) -> Result<Vec<Ranked>, AllocError>
@@ -39,11 +39,11 @@ pub(crate) fn names_of(alloc: Global, rules: &RuleSet) -> Result<Vec<u32>, Alloc
 }
 
 /// The names of ranks.
-fn name_ranks(ranks: &[u32; CATEGORIES], names: &[u32]) -> [u32; CATEGORIES]
+fn name_ranks(ranks: &[u32; ROW_LEN], names: &[u32]) -> [u32; ROW_LEN]
     ensures { result ≡ map (λ rank. slice_index_or names.now rank 0) ranks.now }
 {
-    let mut row = [0; CATEGORIES];
-    for category in 0..CATEGORIES {
+    let mut row = [0; ROW_LEN];
+    for category in 0..ROW_LEN {
         row[category] = name_of(names, ranks[category]);
     }
     row
@@ -51,7 +51,7 @@ fn name_ranks(ranks: &[u32; CATEGORIES], names: &[u32]) -> [u32; CATEGORIES]
 
 /// The row of a number, with the numbers of rules in the place of their ranks.
 #[tactic(auto, unfolding(crate::specs::Names::row_named))]
-fn name_row(rows: &Rows, names: &[u32], number: u32) -> [u32; CATEGORIES]
+fn name_row(rows: &Rows, names: &[u32], number: u32) -> [u32; ROW_LEN]
     requires some { 0 < number }
     requires there { number ≤ length rows.now.rows }
     ensures { result ≡ row_named rows.now names.now number }
@@ -75,7 +75,7 @@ pub(crate) fn name_rows(
     rows: &Rows,
     names: &[u32],
     found: &[u32],
-) -> Result<Vec<[u32; CATEGORIES]>, AllocError>
+) -> Result<Vec<[u32; ROW_LEN]>, AllocError>
     requires { All (λ number. (0 < number) × (number ≤ length rows.now.rows)) found.now }
     ensures { IfOk result (λ named. named.items ≡ map (row_named rows.now names.now) found.now) }
 {

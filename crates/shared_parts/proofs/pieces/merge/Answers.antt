@@ -1,4 +1,4 @@
-use Rattle.std.proofs.Common.{◌≡◌, ℕ, ◌+◌, ◌<◌, ◌≤◌, get_or, refl, arith}
+use Rattle.std.proofs.Common.{get_or, refl, arith}
 use Rattle.shared_parts.specs.declared.pieces.Piece.{Piece}
 use Rattle.shared_parts.proofs.Covering.{no_piece, left_from, right_from, left_within, right_within, one_merged, all_merged}
 use Rattle.shared_parts.proofs.pieces.merge.Goals as goal

@@ -1,4 +1,4 @@
-use Rattle.std.proofs.Common.{ℕ, ◌-◌}
+use Rattle.std.proofs.Common.{◌-◌}
 use Rattle.shared_parts.proofs.Covering.{Merged}
 use Rattle.shared_parts.proofs.pieces.merge.Given as goal
 

@@ -1,8 +1,8 @@
-use Rattle.std.proofs.Common.{◌≡◌, ℕ, ◌+◌, ◌-◌, ◌<◌, List, [], ◌∷◌, ◌++◌, length, get_or, sym, ◌∙◌, ap, subst, arith, Some}
+use Rattle.std.proofs.Common.{◌≡◌, ◌-◌, List, [], ◌∷◌, ◌++◌, length, get_or, sym, ◌∙◌, ap, subst, arith, Some}
 use Rattle.std.proofs.Common.{option_to_list, vec_len}
 use Rattle.shared_parts.specs.declared.pieces.Piece.{Piece}
 use Rattle.shared_parts.specs.Pieces.{Pushed}
-use Rattle.shared_parts.proofs.Covering.{no_piece, pushed_after, pushed_within}
+use Rattle.shared_parts.proofs.Covering.{pushed_after, pushed_within}
 use Rattle.shared_parts.proofs.pieces.push_piece.Goals as goal
 
 pub returns-then-ends_in : goal.returns-then-ends_in

@@ -1,4 +1,4 @@
-use Rattle.std.proofs.Common.{◌≡◌, ℕ, ◌<◌, ◌≤◌, List, length, get_or, set, cond, ◌/◌, ◌%◌, ◌^◌, ◌==◌, sym, ◌∙◌, ap, subst, arith}
+use Rattle.std.proofs.Common.{◌≡◌, ℕ, ◌<◌, List, length, cond, ◌/◌, ◌%◌, ◌^◌, ◌==◌, sym, ◌∙◌, ap, arith}
 use Rattle.std.proofs.lemmas.List.{length-set}
 use Rattle.shared_parts.proofs.RowLaws.{set_done, set_left, stay_done, rule_done}
 use Rattle.shared_parts.proofs.rows.row_of_rule.Goals as goal

@@ -1,6 +1,9 @@
-use Rattle.std.proofs.Common.{◌≤◌, ◌∷◌, []}
+use Rattle.std.proofs.Common.{◌-◌, ◌≤◌, ◌∷◌, []}
 use Rattle.trie_merge.specs.Cuts.{Knows}
 use Rattle.trie_merge.proofs.cuts.cuts_of_entry.Given as goal
 
-abbrev pub invariant-loop-byte : goal.invariant-loop-byte
-invariant-loop-byte l = (l.cuts.count ≤ 5) × Knows l.column (l.entry ∷ []) l.cuts
+abbrev pub invariant-loop-first : goal.invariant-loop-first
+invariant-loop-first l = (l.cuts.count ≤ 5) × Knows l.column (l.entry ∷ []) l.cuts
+
+abbrev pub decreases-loop-first : goal.decreases-loop-first
+decreases-loop-first l = 256 - l.first

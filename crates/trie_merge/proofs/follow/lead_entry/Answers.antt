@@ -1,28 +1,32 @@
-use Rattle.std.proofs.Common.{◌∙◌, arith}
-use Rattle.trie_merge.proofs.Leads.{byte_stays, byte_turns, all_bytes_led}
+use Rattle.std.proofs.Common.{◌+◌, ◌∙◌, inl, inr, sym, subst}
+use Rattle.shared_parts.specs.Target.{IsFoundIn}
+use Rattle.trie_merge.proofs.Leads.{EntrySoFar, no_bytes, more_bytes, all_bytes_led}
 use Rattle.trie_merge.proofs.follow.lead_entry.Goals as goal
-use Rattle.trie_merge.proofs.follow.lead_entry.Goals.{then-not-is_same+in_ok-push_piece+in_ok-to-2, else-not-is_same}
 
-pub loop-byte-preserved : goal.loop-byte-preserved
-loop-byte-preserved c =
-    let l = c.loop-byte in
-    elim c.if-not-is_same.branch [
-      | then-not-is_same+in_ok-push_piece+in_ok-to-2 w ↦
-          rw (w.target-is, w.pieces-is, w.known-is, w.to-is)
-          (byte_turns c.args.column.now c.args.entry c.args.target.now l.target l.pieces.items l.known l.to l.byte
-          l.invariant w.number_of-then-not-is_same.new.target w.push_piece.new.pieces.items c.step_within-after.result
-          w.in_ok-to-2.to c.loop-byte-test.true c.step_within-after.ensures w.in_ok-push_piece.ensures
-          w.in_ok-to-2.ensures.grows w.in_ok-to-2.ensures.entries w.in_ok-to-2.ensures.number
-          w.in_ok-to-2.ensures.within)
-      | else-not-is_same w ↦
-          rw (w.target-is, w.pieces-is, w.known-is, w.to-is)
-          (byte_stays c.args.column.now c.args.entry c.args.target.now l.target l.pieces.items l.known l.to l.byte
-          l.invariant (c.is_same.ensures w.if-not-is_same.false ∙ c.step_within-after.ensures))
-    ]
+pub loop-first-init : goal.loop-first-init
+loop-first-init c =
+    subst (λ ps. EntrySoFar c.args.column.now c.args.entry c.args.target.now c.args.target.now ps 0)
+    (sym c.clear.ensures.items) (no_bytes c.args.column.now c.args.entry c.args.target.now)
+
+pub loop-first-preserved : goal.loop-first-preserved
+loop-first-preserved c =
+    let l = c.loop-first in
+    let column = c.args.column.now in
+    let entry = c.args.entry in
+    let new = c.number_of.new.target in
+    let pieces = c.push_piece.new.pieces.items in
+    subst (λ n. EntrySoFar column entry c.args.target.now new pieces (n + 1)) (sym c.from-first.ensures)
+    (more_bytes column entry c.args.target.now l.target l.pieces.items l.first l.invariant new pieces
+    c.last_alike-last.result c.in_ok-to.to c.loop-first-test.true c.last_alike-last.type_inv c.last_alike-last.ensures
+    c.in_ok-to.ensures.grows
+    (λ other has. elim (c.in_ok-to.ensures.entries other has) [
+      | inl before ↦ inl before
+      | inr is ↦ inr (sym c.step.ensures ∙ is)
+    ])
+    (subst (λ found. IsFoundIn new found c.in_ok-to.to) c.step.ensures c.in_ok-to.ensures.number)
+    c.in_ok-to.ensures.within c.in_ok-push_piece.ensures)
 
 pub returns : goal.returns
 returns c =
-    let l = c.loop-byte in
-    all_bytes_led c.args.column.now c.args.entry c.args.target.now l.target l.pieces.items l.known l.to l.byte
-    l.invariant c.push_piece-2.new.pieces.items (omega (arith, l.auto.byte-end, c.loop-byte-test.false))
-    c.in_ok-push_piece-2.ensures
+    all_bytes_led c.args.column.now c.args.entry c.args.target.now c.loop-first.target c.loop-first.pieces.items
+    c.loop-first.first c.loop-first.invariant c.loop-first-test.false

@@ -1,5 +1,9 @@
+use Rattle.std.proofs.Common.{◌-◌}
 use Rattle.trie_merge.proofs.Leads.{EntrySoFar}
 use Rattle.trie_merge.proofs.follow.lead_entry.Given as goal
 
-abbrev pub invariant-loop-byte : goal.invariant-loop-byte
-invariant-loop-byte l = EntrySoFar l.column l.entry l.fn.target l.target l.pieces.items l.known l.to l.byte
+abbrev pub invariant-loop-first : goal.invariant-loop-first
+invariant-loop-first l = EntrySoFar l.column l.entry l.fn.target l.target l.pieces.items l.first
+
+abbrev pub decreases-loop-first : goal.decreases-loop-first
+decreases-loop-first l = 256 - l.first

@@ -1,4 +1,4 @@
-use Rattle.std.proofs.Common.{◌≡◌, ℕ, List, sym, subst, arith}
+use Rattle.std.proofs.Common.{ℕ, List, sym, subst, arith}
 use Rattle.shared_parts.specs.Keys.{AreLower, AreDistinct}
 use Rattle.shared_parts.proofs.Pairs.{well_made}
 use Rattle.shared_parts.proofs.parts.Parts.entry.Goals as goal

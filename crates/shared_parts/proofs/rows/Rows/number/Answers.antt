@@ -1,4 +1,4 @@
-use Rattle.std.proofs.Common.{◌≡◌, ◌∙◌, rules}
+use Rattle.std.proofs.Common.{rules}
 use Rattle.std.specs.Str.{bytes_eq}
 use Rattle.shared_parts.proofs.Keys.{insert_grows}
 use Rattle.shared_parts.proofs.rows.Rows.number.Goals as goal
