@@ -4,7 +4,6 @@ pub mod Numbers
 pub mod Successors
 pub mod Categories
 pub mod Uncut
-pub mod Pieces
 pub mod Packed
 pub mod PackedState
 pub mod RestSteps

@@ -65,10 +65,6 @@ price_some (Some column) is_last list = (cost_some (length (filter (is_change co
 price_some None true list = omega arith
 price_some None false list = omega arith
 
-pub least_cost_none : (next : Option ColumnView) (is_last : Bool) → least_cost next is_last [] ≡ 0
-unfolding least_cost
-least_cost_none next is_last = refl
-
 pub least_cost_more : (next : Option ColumnView) (is_last : Bool) (lists more : List (List ℕ)) →
     least_cost next is_last (lists ++ more) ≡ least_cost next is_last lists + least_cost next is_last more
 unfolding least_cost

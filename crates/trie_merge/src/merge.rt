@@ -17,7 +17,7 @@ ghost use Rattle.trie_merge.specs.Led.{StepsLed, AllLed};
 ghost use Rattle.table_sizes.specs.Sizes.{cost_of, max_words, row_len};
 ghost use Rattle.trie_merge.specs.Lists.{level_found, price, least_cost, least_words, IsMergedWithin};
 ghost use Rattle.trie_merge.specs.Merged.{StateMerged};
-ghost use Rattle.trie_merge.specs.Pieces.{pieces_of, IsPieces};
+ghost use Rattle.shared_parts.specs.Slices.{pieces_of, IsPieces};
 ghost use Rattle.trie_merge.specs.Shared.{IsIn, AreIn, ArePlaced, IsFor};
 
 use crate::column::Column;
