@@ -19,6 +19,7 @@ pub mod Keeping
 pub mod Offered
 pub mod Leads
 pub mod StateNumbers
+pub mod Arranged
 pub mod RowNumbers
 pub mod Zipped
 pub mod Rising
