@@ -8,7 +8,7 @@ use Rattle.shared_parts.specs.declared.target.Target.{Target}
 use Rattle.shared_parts.specs.Keys.{KeyAt, same_pair}
 use Rattle.shared_parts.specs.Target.{count, Grows, JoinsIn, HasEntry, Leads}
 use Rattle.shared_parts.specs.Pieces.{number_at, Covers, PiecesLead, Pushed, Merges}
-use Rattle.shared_parts.proofs.Leading.{count_grows, grows_none, grows_on, leads_grow, pair_is_led}
+use Rattle.shared_parts.proofs.Leading.{count_grows, grows_on, leads_grow, pair_is_led}
 
 pub covers_rise : (first end : ℕ) (pieces : List Piece) → Covers first pieces end → first ≤ end
 covers_rise first end [] is = omega (arith, is)
@@ -179,17 +179,6 @@ pub record Merged (old now : Target) (one other pieces : List Piece) (i j first 
   pub leads : (step : ℕ → ℕ → Option ℕ) (pairs : List (ℕ × ℕ)) (a b part : ℕ) → KeyAt same_pair pairs (a, b) part →
       0 < a → 0 < b → PiecesLead step pairs old a one → PiecesLead step pairs old b other →
       (byte : ℕ) → byte < first → Leads (step byte) pairs now part (number_at pieces byte)
-
-pub none_merged : (old : Target) (one other : List Piece) → Covers 0 one 256 → Covers 0 other 256
-    → Merged old old one other [] 0 0 0
-none_merged old one other left right = record {
-  grows = grows_none old;
-  entries = λ entry has. has;
-  left = rest_all one left;
-  right = rest_all other right;
-  covers = refl;
-  leads = λ step pairs a b part at some more mine its byte below. absurd (omega (arith, below));
-}
 
 module _ (old now new : Target) (one other pieces pieces' : List Piece) (i j first : ℕ) (below : first < 256)
     (so_far : Merged old now one other pieces i j first) (mine its : Piece) (mine_is : mine ≡ get_or one i no_piece)

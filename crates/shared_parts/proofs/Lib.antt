@@ -2,7 +2,7 @@ pub mod Keys
 pub mod RowLaws
 pub mod Standing
 pub mod Leading
-pub mod Slices
+pub mod SliceLaws
 pub mod Covering
 pub mod Pairs
 pub mod All

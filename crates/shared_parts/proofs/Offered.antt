@@ -32,3 +32,6 @@ pub use Rattle.shared_parts.proofs.Covering.{rest_some, rest_end, no_piece}
 pub use Rattle.shared_parts.proofs.RowLaws.{row_grows, row_alone, row_is, get-join-any, bytes_eq_sound}
 -- set_done, set_left: a list that is written element by element
 pub use Rattle.shared_parts.proofs.RowLaws.{set_done, set_left}
+-- pieces-push, IsPieces-push: one more slice after the others
+-- length-pieces: how many slices there are
+pub use Rattle.shared_parts.proofs.SliceLaws.{pieces-push, IsPieces-push, length-pieces}

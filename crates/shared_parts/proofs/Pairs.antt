@@ -1,13 +1,13 @@
 -- Pairs that are inserted.
 use Rattle.std.proofs.Common.{◌≡◌, ℕ, ◌+◌, ◌<◌, ◌≤◌, ◌==◌, ◌||◌, List, [], ◌∷◌, ◌++◌, length, get_or, Bool, true}
-use Rattle.std.proofs.Common.{false, cond, not, refl, sym, ◌∙◌, ap, subst, inl, inr, ◌⊎◌, true≢false, arith}
+use Rattle.std.proofs.Common.{false, cond, not, refl, sym, ◌∙◌, ap, subst, inl, inr, true≢false, arith}
 use Rattle.std.specs.List.{list_any, position_or_len}
-use Rattle.std.proofs.lemmas.Bool.{cases_lt, and_parts, and_from, eq-eqb, eqb-true}
+use Rattle.std.proofs.lemmas.Bool.{cases_lt, and_from, eq-eqb}
 use Rattle.std.proofs.lemmas.List.{get_or_append_left, length-append}
 use Rattle.std.proofs.Math.Seq.{get_or-append_seam}
 use Rattle.std.proofs.lemmas.List.Folds.{list_any-append}
 use Rattle.indexmap.specs.IndexSet.{insert_key}
-use Rattle.shared_parts.specs.Keys.{KeyAt, same_pair, AreLower, AreDistinct, has_entry}
+use Rattle.shared_parts.specs.Keys.{KeyAt, same_pair, AreLower, AreDistinct}
 use Rattle.shared_parts.proofs.Keys.{key_grows}
 
 same_itself : (pair : ℕ × ℕ) → same_pair pair pair ≡ true
@@ -73,35 +73,3 @@ well_made pairs pair low made = by (list_any (same_pair pair) pairs) refl
         → AreLower (cond b pairs (pairs ++ pair ∷ [])) × AreDistinct (cond b pairs (pairs ++ pair ∷ []))
     by true is = made
     by false is = (lower_push pairs pair low made.0, distinct_push pairs pair is made.1)
-
--- the entries after an insertion
-other_entry : (pairs : List (ℕ × ℕ)) (pair : ℕ × ℕ) (entry : ℕ)
-    → has_entry (insert_key same_pair pairs pair) entry ≡ true
-    → (has_entry pairs entry ≡ true) ⊎ (same_pair (0, entry) pair ≡ true)
-other_entry pairs pair entry has = by (list_any (same_pair pair) pairs) has
-  where
-    or : (a b : Bool) → (a || (b || false)) ≡ true → (a ≡ true) ⊎ (b ≡ true)
-    or true b is = inl refl
-    or false true is = inr refl
-    or false false is = absurd (true≢false (sym is))
-
-    by : (b : Bool) → has_entry (cond b pairs (pairs ++ pair ∷ [])) entry ≡ true
-        → (has_entry pairs entry ≡ true) ⊎ (same_pair (0, entry) pair ≡ true)
-    by true has = inl has
-    by false has = or (has_entry pairs entry) (same_pair (0, entry) pair)
-        (sym (list_any-append (same_pair (0, entry)) pairs (pair ∷ [])) ∙ has)
-
-pub entry_inserted : (pairs : List (ℕ × ℕ)) (entry other : ℕ)
-    → has_entry (insert_key same_pair pairs (0, entry)) other ≡ true
-    → (has_entry pairs other ≡ true) ⊎ (other ≡ entry)
-entry_inserted pairs entry other has = elim (other_entry pairs (0, entry) other has) [
-  | inl old ↦ inl old
-  | inr same ↦ inr (eqb-true other entry ((and_parts (0 == 0) (other == entry) same).1))
-]
-
-pub pair_inserted : (pairs : List (ℕ × ℕ)) (left right entry : ℕ) → 0 < left
-    → has_entry (insert_key same_pair pairs (left, right)) entry ≡ true → has_entry pairs entry ≡ true
-pair_inserted pairs left right entry some has = elim (other_entry pairs (left, right) entry has) [
-  | inl old ↦ old
-  | inr same ↦ absurd (omega (arith, some, eqb-true 0 left ((and_parts (0 == left) (entry == right) same).0)))
-]

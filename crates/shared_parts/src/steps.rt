@@ -1,9 +1,7 @@
 //! The pieces of many parts.
 
-ghost use Rattle.std.specs.Prelude.{◌≡◌, ◌<◌, ◌∷◌, [], length, slice_index_or};
-ghost use Rattle.shared_parts.specs.Slices.{pieces_of, IsPieces};
-
 use crate::pieces::Piece;
+use crate::slices::slice;
 use std::alloc::{AllocError, Global};
 use std::marker::Model;
 
@@ -64,23 +62,4 @@ impl Steps {
         self.ends.push(self.pieces.len())?;
         Ok(())
     }
-}
-
-/// Where a slice begins: where the one before ends.
-fn start_of(ends: &[usize], k: usize) -> usize
-    requires { k < length ends.now }
-    ensures { result ≡ slice_index_or (0 ∷ ends.now) k 0 }
-{
-    if k == 0 { 0 } else { ends[k - 1] }
-}
-
-/// One of the slices that end at the given places.
-fn slice<'a>(runs: &'a [Piece], ends: &[usize], k: usize) -> &'a [Piece]
-    requires pieces { IsPieces 0 ends.now (length runs.now) }
-    requires k { k < length ends.now }
-    ensures { result.now ≡ slice_index_or (pieces_of runs.now 0 ends.now) k [] }
-{
-    let (until, _) = runs.split_at(ends[k]);
-    let (_, piece) = until.split_at(start_of(ends, k));
-    piece
 }

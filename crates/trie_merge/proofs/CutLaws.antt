@@ -24,9 +24,6 @@ use Rattle.trie_merge.proofs.Ahead.{marked_where_changed}
 
 -- ---- bytes that are known
 
-pub none_known : (column : ColumnView) (entries : List ℕ) → Knows column entries no_cuts
-none_known column entries = record { bytes = []; long = refl; listed = λ few. refl; apart = tt; cut = tt }
-
 push_apart : (bytes : List ℕ) (byte : ℕ) → AreApart bytes → list_any (λ other. other == byte) bytes ≡ false
     → AreApart (bytes ++ byte ∷ [])
 push_apart [] byte apart new = (refl, tt)

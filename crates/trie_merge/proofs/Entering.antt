@@ -12,17 +12,18 @@ use Rattle.rule_set.specs.Rule.{RuleSetView}
 use Rattle.shared_parts.specs.declared.target.Target.TheVariants.{Parts}
 use Rattle.shared_parts.specs.Joined.{IsAll}
 use Rattle.shared_parts.specs.Rows.{rule_of}
-use Rattle.shared_parts.specs.Tree.{Tree, leaves}
+use Rattle.shared_parts.specs.Tree.{leaves}
 use Rattle.trie_merge.specs.Entry.{CanStep, column_at, entry_of, entries_step, number_in, field_at}
 use Rattle.trie_merge.specs.Kept.{is_wild_at, is_wild_place}
 use Rattle.trie_merge.specs.Led.{IsAfter}
 use Rattle.trie_merge.specs.RuleRest.{values_of}
-use Rattle.trie_merge.specs.Shared.{AreIn}
+use Rattle.trie_merge.specs.Shared.{RuleTree, AreIn}
 use Rattle.trie_merge.proofs.Ahead.{step_number}
 use Rattle.trie_merge.proofs.Packed.{Stands, packed_stands}
 use Rattle.trie_merge.proofs.PackedState.{IsHeld, IsEntryAt, packed_state, packed_state_start, packed_entries}
 use Rattle.trie_merge.proofs.PackedState.{entry_can_step}
 use Rattle.trie_merge.proofs.Reached.{IsGap, entries_next, zeros_on, zeros_small}
+use Rattle.trie_merge.proofs.RowNumbers.{at_entry}
 use Rattle.trie_merge.proofs.Uncut.{number_in-entry_of}
 
 -- The entry is what some bytes before the place leave of a rule of the group.
@@ -109,25 +110,27 @@ module _ (set : RuleSetView) (group : List ℕ) (held : AllByRecursion (IsHeld s
         member = ap (λ n. list_any (λ r. r == n) group) (number_in-entry_of rule Free) ∙ member;
       }
 
-  start_entries_of : (rules : List ℕ) → AllByRecursion (IsHeld set) rules
+  start_entries_of : (rules : List ℕ)
       → ((rule : ℕ) → list_any (λ r. r == rule) rules ≡ true → list_any (λ r. r == rule) group ≡ true)
       → AllByRecursion (EntryOf set group place) (map (λ rule. entry_of rule Free) rules)
-  start_entries_of [] all inside = tt
-  start_entries_of (rule ∷ rules) all inside = (
-    start_entry rule all.0 (inside rule (ap (λ b. b || list_any (λ r. r == rule) rules) (eq-eqb rule rule refl))),
-    start_entries_of rules all.1 (λ r there. inside r (later (rule == r) there)),
-  )
+  start_entries_of [] inside = tt
+  start_entries_of (rule ∷ rules) inside =
+      let member = inside rule (ap (λ b. b || list_any (λ r. r == rule) rules) (eq-eqb rule rule refl)) in (
+        start_entry rule (at_entry (IsHeld set) group rule member held) member,
+        start_entries_of rules (λ r there. inside r (later (rule == r) there)),
+      )
     where
       later : (a : Bool) {b : Bool} → b ≡ true → (a || b) ≡ true
       later true is = refl
       later false is = is
 
   -- the entries of all rules are such
-  pub start_entries_are : (entry : ℕ) → Contains (map (λ rule. entry_of rule Free) group) entry
-      → EntryOf set group place entry
-  start_entries_are entry (k, below, is) =
+  pub start_entries_are : (rules : List ℕ)
+      → ((rule : ℕ) → list_any (λ r. r == rule) rules ≡ true → list_any (λ r. r == rule) group ≡ true)
+      → (entry : ℕ) → Contains (map (λ rule. entry_of rule Free) rules) entry → EntryOf set group place entry
+  start_entries_are rules inside entry (k, below, is) =
       subst (EntryOf set group place) is
-      (at_place (map (λ rule. entry_of rule Free) group) k below (start_entries_of group held (λ rule there. there)))
+      (at_place (map (λ rule. entry_of rule Free) rules) k below (start_entries_of rules inside))
     where
       at_place : (es : List ℕ) (j : ℕ) → j < length es → AllByRecursion (EntryOf set group place) es
           → EntryOf set group place (get_or es j entry)
@@ -153,21 +156,26 @@ start_all [] = tt
 start_all (rule ∷ rules) =
     (ap (λ n. Some (entry_of n Free)) (number_in-entry_of rule Free), start_all rules)
 
-pub started : (set : RuleSetView) (group : List ℕ) (pairs : List (ℕ × ℕ)) (number : ℕ)
-    → IsAll pairs (map (λ rule. entry_of rule Free) group) number
-    → (tree : Tree) × (leaves tree ≡ group)
+pub started : (set : RuleSetView) (group order : List ℕ)
+    → ((rule : ℕ) → list_any (λ r. r == rule) order ≡ list_any (λ r. r == rule) group)
+    → (pairs : List (ℕ × ℕ)) (number : ℕ) → IsAll pairs (map (λ rule. entry_of rule Free) order) number
+    → (tree : RuleTree) × (tree.rules ≡ group)
     × AreIn set (Parts pairs) tree (map (λ rule. entry_of rule Free) group ∷ []) (number ∷ [])
-started set group pairs number all =
-    let rules : leaves all.tree ≡ group = all.rules ∙ rules_of_start group in (
-      all.tree,
-      rules,
+started set group order same pairs number all =
+    let rules : leaves all.tree ≡ order = all.rules ∙ rules_of_start order in (
+      record {
+        rules = group;
+        tree = all.tree;
+        same = λ rule. ap (list_any (λ r. r == rule)) rules ∙ same rule;
+      },
+      refl,
       (
         record {
           entries = start_of;
           own = λ rule entry is. (let e : entry_of rule Free ≡ entry = cc in
               ap number_in (sym e) ∙ number_in-entry_of rule Free);
-          is = start_listed group ∙ ap (filter_map start_of) (sym rules);
-          stands = all.stands start_of (start_all group);
+          is = start_listed group;
+          stands = all.stands start_of (start_all order);
         },
         tt,
       ),

@@ -35,54 +35,54 @@ module _ (column : ColumnView) (entry : ℕ) where
   }
 
   module _ (old now : Target) (pieces : List Piece) (first : ℕ) (so_far : EntrySoFar column entry old now pieces first)
-      where
-    -- the bytes up to the one before the next cut
-    pub more_bytes : (new : Target) (pieces' : List Piece) (last to : ℕ) → first < 256 → last < 256
-        → StepsAlike column entry first last → Grows now new
-        → ((other : ℕ) → HasEntry new other
-        → HasEntry now other ⊎ (entry_step column entry first ≡ Some other))
-        → IsFoundIn new (entry_step column entry first) to → to ≤ count new → Pushed pieces pieces' last to
-        → EntrySoFar column entry old new pieces' (last + 1)
-    more_bytes new pieces' last to small below alike grows only number fits pushed = record {
-      grows = grows_on old now new so_far.grows grows;
-      entries = λ other has. elim (only other has) [
-        | inl before ↦ so_far.entries other before
-        | inr is ↦ inr (first, small, is)
-      ];
-      covers = pushed.covers first so_far.covers alike.ordered;
-      below = omega (arith, below);
-      found = λ byte less. elim (cases_lt byte first) [
-        | inl early ↦
-            let is = pushed.before first byte so_far.covers alike.ordered early in
-            subst (IsFoundIn new (entry_step column entry byte)) (sym is)
-            (found_grows now new (entry_step column entry byte) (number_at pieces byte) grows (so_far.found byte early))
-        | inr late ↦
-            let is = pushed.here first byte so_far.covers late (omega (arith, less)) in
-            subst (IsFoundIn new (entry_step column entry byte)) (sym is)
-            (subst (λ found. IsFoundIn new found to) (sym (alike.alike byte late (omega (arith, less)))) number)
-      ];
-      within = λ byte less. elim (cases_lt byte first) [
-        | inl early ↦
-            omega (
-              arith,
-              pushed.before first byte so_far.covers alike.ordered early,
-              so_far.within byte early,
-              count_grows now new grows,
-            )
-        | inr late ↦
-            omega (arith, pushed.here first byte so_far.covers late (omega (arith, less)), fits)
-      ];
-    }
+    where
+      -- the bytes up to the one before the next cut
+      pub more_bytes : (new : Target) (pieces' : List Piece) (last to : ℕ) → first < 256 → last < 256
+          → StepsAlike column entry first last → Grows now new
+          → ((other : ℕ) → HasEntry new other
+          → HasEntry now other ⊎ (entry_step column entry first ≡ Some other))
+          → IsFoundIn new (entry_step column entry first) to → to ≤ count new → Pushed pieces pieces' last to
+          → EntrySoFar column entry old new pieces' (last + 1)
+      more_bytes new pieces' last to small below alike grows only number fits pushed = record {
+        grows = grows_on old now new so_far.grows grows;
+        entries = λ other has. elim (only other has) [
+          | inl before ↦ so_far.entries other before
+          | inr is ↦ inr (first, small, is)
+        ];
+        covers = pushed.covers first so_far.covers alike.ordered;
+        below = omega (arith, below);
+        found = λ byte less. elim (cases_lt byte first) [
+          | inl early ↦
+              let is = pushed.before first byte so_far.covers alike.ordered early in
+              subst (IsFoundIn new (entry_step column entry byte)) (sym is)
+              (found_grows now new (entry_step column entry byte) (number_at pieces byte) grows (so_far.found byte early))
+          | inr late ↦
+              let is = pushed.here first byte so_far.covers late (omega (arith, less)) in
+              subst (IsFoundIn new (entry_step column entry byte)) (sym is)
+              (subst (λ found. IsFoundIn new found to) (sym (alike.alike byte late (omega (arith, less)))) number)
+        ];
+        within = λ byte less. elim (cases_lt byte first) [
+          | inl early ↦
+              omega (
+                arith,
+                pushed.before first byte so_far.covers alike.ordered early,
+                so_far.within byte early,
+                count_grows now new grows,
+              )
+          | inr late ↦
+              omega (arith, pushed.here first byte so_far.covers late (omega (arith, less)), fits)
+        ];
+      }
 
-    pub all_bytes_led : 256 ≤ first → EntryLed column entry old now pieces
-    all_bytes_led end =
-        let e : first ≡ 256 = omega (arith, end, so_far.below) in record {
-          grows = so_far.grows;
-          entries = so_far.entries;
-          covers = subst (Covers 0 pieces) e so_far.covers;
-          found = λ byte less. so_far.found byte (omega (arith, less, e));
-          within = λ byte less. so_far.within byte (omega (arith, less, e));
-        }
+      pub all_bytes_led : 256 ≤ first → EntryLed column entry old now pieces
+      all_bytes_led end =
+          let e : first ≡ 256 = omega (arith, end, so_far.below) in record {
+            grows = so_far.grows;
+            entries = so_far.entries;
+            covers = subst (Covers 0 pieces) e so_far.covers;
+            found = λ byte less. so_far.found byte (omega (arith, less, e));
+            within = λ byte less. so_far.within byte (omega (arith, less, e));
+          }
 
 -- ---- parts
 

@@ -4,7 +4,6 @@ pub mod Numbers
 pub mod Successors
 pub mod Categories
 pub mod Uncut
-pub mod Pieces
 pub mod Packed
 pub mod PackedState
 pub mod RestSteps
@@ -20,6 +19,7 @@ pub mod Keeping
 pub mod Offered
 pub mod Leads
 pub mod StateNumbers
+pub mod Arranged
 pub mod RowNumbers
 pub mod Zipped
 pub mod Rising

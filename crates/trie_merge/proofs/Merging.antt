@@ -5,7 +5,6 @@ use Rattle.rule_set.specs.Laws.{RanksOrderRules, TheBestHasTheGreatestRank}
 use Rattle.shared_parts.specs.declared.pieces.Piece.{Piece}
 use Rattle.shared_parts.specs.declared.target.Target.{Target}
 use Rattle.shared_parts.specs.declared.target.Target.TheVariants.{Parts, Rows}
-use Rattle.shared_parts.specs.Tree.{Tree, leaves}
 use Rattle.shared_parts.specs.Pieces.{number_at}
 use Rattle.shared_parts.specs.Target.{count, Grows}
 use Rattle.trie_merge.specs.declared.cuts.Cuts.{Cuts}
@@ -20,7 +19,7 @@ use Rattle.trie_merge.specs.Led.{AllLed}
 use Rattle.trie_merge.specs.Levels.{runs_of}
 use Rattle.trie_merge.specs.Merged.{StateMerged}
 use Rattle.trie_merge.specs.Numbers.{is_some_number, numbers_with, succ_of}
-use Rattle.trie_merge.specs.Shared.{IsState, IsIn, AreIn, IsFor, ArePlaced}
+use Rattle.trie_merge.specs.Shared.{RuleTree, IsState, IsIn, AreIn, IsFor, ArePlaced}
 use Rattle.trie_merge.proofs.Ahead.{each_of_bytes}
 use Rattle.trie_merge.proofs.Finds.{is_new, all_found, none_new_once_found}
 use Rattle.trie_merge.proofs.Leads.{none_led}
@@ -64,10 +63,6 @@ unfolding cost_ahead
 price_some (Some column) is_last list = (cost_some (length (filter (is_change column list) all_bytes))).0
 price_some None true list = omega arith
 price_some None false list = omega arith
-
-pub least_cost_none : (next : Option ColumnView) (is_last : Bool) → least_cost next is_last [] ≡ 0
-unfolding least_cost
-least_cost_none next is_last = refl
 
 pub least_cost_more : (next : Option ColumnView) (is_last : Bool) (lists more : List (List ℕ)) →
     least_cost next is_last (lists ++ more) ≡ least_cost next is_last lists + least_cost next is_last more
@@ -146,7 +141,7 @@ none_found set column is_last = refl
 
 -- ---- lists and numbers by their ends
 
-split_last : (set : RuleSetView) (target : Target) (tree : Tree) (lists : List (List ℕ)) (ns : List ℕ) (n : ℕ)
+split_last : (set : RuleSetView) (target : Target) (tree : RuleTree) (lists : List (List ℕ)) (ns : List ℕ) (n : ℕ)
     → AreIn set target tree lists (ns ++ n ∷ [])
     → (ls : List (List ℕ)) × (l : List ℕ) × (lists ≡ ls ++ l ∷ []) × AreIn set target tree ls ns × IsIn set target tree l n
 split_last set target tree [] [] n all = absurd all
@@ -157,7 +152,7 @@ split_last set target tree (l ∷ ls) (k ∷ ks) n all =
     let rest = split_last set target tree ls ks n all.1 in
     (l ∷ rest.0, rest.1, ap (λ r. l ∷ r) rest.2, (all.0, rest.3), rest.4)
 
-split_first : (set : RuleSetView) (target : Target) (tree : Tree) (lists : List (List ℕ)) (ns more : List ℕ)
+split_first : (set : RuleSetView) (target : Target) (tree : RuleTree) (lists : List (List ℕ)) (ns more : List ℕ)
     → AreIn set target tree lists (ns ++ more)
     → (ls : List (List ℕ)) × (rest : List (List ℕ)) × (lists ≡ ls ++ rest) × AreIn set target tree ls ns
 split_first set target tree lists [] more all = ([], lists, refl, tt)
@@ -166,20 +161,20 @@ split_first set target tree (l ∷ ls) (k ∷ ks) more all =
     let rest = split_first set target tree ls ks more all.1 in
     (l ∷ rest.0, rest.1, ap (λ r. l ∷ r) rest.2, (all.0, rest.3))
 
-pub same_length : (set : RuleSetView) (target : Target) (tree : Tree) (lists : List (List ℕ)) (ns : List ℕ)
+pub same_length : (set : RuleSetView) (target : Target) (tree : RuleTree) (lists : List (List ℕ)) (ns : List ℕ)
     → AreIn set target tree lists ns → length lists ≡ length ns
 same_length set target tree [] [] all = refl
 same_length set target tree (l ∷ ls) (n ∷ ns) all = ap suc (same_length set target tree ls ns all.1)
 same_length set target tree [] (n ∷ ns) all = absurd all
 same_length set target tree (l ∷ ls) [] all = absurd all
 
-none_listed : (set : RuleSetView) (target : Target) (tree : Tree) (lists : List (List ℕ))
+none_listed : (set : RuleSetView) (target : Target) (tree : RuleTree) (lists : List (List ℕ))
     → AreIn set target tree lists [] → lists ≡ []
 none_listed set target tree [] all = refl
 none_listed set target tree (l ∷ ls) all = absurd all
 
 -- the list of a number by its place
-pub number_in_lists : (set : RuleSetView) (target : Target) (tree : Tree) (lists : List (List ℕ)) (ns : List ℕ) (k : ℕ)
+pub number_in_lists : (set : RuleSetView) (target : Target) (tree : RuleTree) (lists : List (List ℕ)) (ns : List ℕ) (k : ℕ)
     → AreIn set target tree lists ns → k < length ns → IsIn set target tree (get_or lists k []) (get_or ns k 0)
 number_in_lists set target tree [] [] k all below = absurd (omega (arith, below))
 number_in_lists set target tree [] (n ∷ ns) k all below = absurd all
@@ -189,7 +184,7 @@ number_in_lists set target tree (l ∷ ls) (n ∷ ns) (suc k) all below =
     number_in_lists set target tree ls ns k all.1 (omega (arith, below))
 
 -- one more list is counted
-pub one_more_price : (next : Option ColumnView) (is_last : Bool) (set : RuleSetView) (target : Target) (tree : Tree)
+pub one_more_price : (next : Option ColumnView) (is_last : Bool) (set : RuleSetView) (target : Target) (tree : RuleTree)
     (lists : List (List ℕ)) (ns : List ℕ) (k : ℕ) → AreIn set target tree lists ns → k < length ns →
     least_cost next is_last (take (k + 1) lists)
     ≡ least_cost next is_last (take k lists) + price next is_last (get_or lists k [])
@@ -203,7 +198,7 @@ one_more_price next is_last set target tree lists ns k all below =
 -- What the lists of the states so far lead to is found, their runs stand whatever is found after, and the words that
 -- are found ahead are no more than it takes.
 pub record ListsSoFar (set : RuleSetView) (column : ColumnView) (next : Option ColumnView) (is_last : Bool)
-    (tree : Tree) (now : Target) (found : List ℕ) (runs : List (List Run)) (least : ℕ) (lists : List (List ℕ)) :
+    (tree : RuleTree) (now : Target) (found : List ℕ) (runs : List (List Run)) (least : ℕ) (lists : List (List ℕ)) :
     Type 0 where
   pub finds : AreIn set now tree (level_found set column is_last lists) found
   pub its_runs : (more : List (List ℕ))
@@ -219,7 +214,7 @@ pub record SoFar (column : ColumnView) (next : Option ColumnView) (is_last : Boo
   pub few : length found ≤ least
   pub inside : AllByRecursion (λ n. (0 < n) × (n ≤ count now)) found
   pub rows : is_last ≡ true → row_len * length found ≤ least
-  pub lists : (set : RuleSetView) (group : List ℕ) (tree : Tree) (lists : List (List ℕ)) → IsFor set is_last old
+  pub lists : (set : RuleSetView) (group : List ℕ) (tree : RuleTree) (lists : List (List ℕ)) → IsFor set is_last old
       → ArePlaced set group tree pairs lists done
       → ListsSoFar set column next is_last tree now found runs least lists
 
@@ -315,7 +310,7 @@ module _ (column : ColumnView) (next : Option ColumnView) (is_last : Bool) (befo
       (so_far : SoFar column next is_last before pairs old now done steps found runs words least)
       (state cost price : ℕ) (led : AllLed column pairs now new steps')
       (merged : StateMerged column is_last pairs new found found' runs runs' state cost)
-      (priced : (set : RuleSetView) (tree : Tree) (lists : List (List ℕ)) → IsStrictlyIncreasing (leaves tree)
+      (priced : (set : RuleSetView) (tree : RuleTree) (lists : List (List ℕ)) → IsStrictlyIncreasing tree.rules
       → AreIn set new tree lists found'
       → least_cost next is_last (take (length found) lists) + price ≤ least_cost next is_last lists)
       (some : length found' ≤ length found + price)
@@ -330,19 +325,19 @@ module _ (column : ColumnView) (next : Option ColumnView) (is_last : Bool) (befo
       led = led.led;
     }
 
-    module _ (set : RuleSetView) (group : List ℕ) (tree : Tree) (lists : List (List ℕ)) (list : List ℕ)
-        (for : IsFor set is_last old) (grouped : IsGrouped set group) (rules : leaves tree ≡ group)
+    module _ (set : RuleSetView) (group : List ℕ) (tree : RuleTree) (lists : List (List ℕ)) (list : List ℕ)
+        (for : IsFor set is_last old) (grouped : IsGrouped set group) (rules : tree.rules ≡ group)
         (each : AreIn set (Parts pairs) tree lists done) (is : IsState pairs tree list state) where
       was : ListsSoFar set column next is_last tree now found runs least lists
       was = so_far.lists set group tree lists for (record { grouped = grouped; rules = rules; each = each })
 
-      rise : NumbersRise 0 (leaves tree)
+      rise : NumbersRise 0 tree.rules
       rise = subst (NumbersRise 0) (sym rules) (numbers_rise group grouped.group.ascending)
 
-      ascending : IsStrictlyIncreasing (leaves tree)
+      ascending : IsStrictlyIncreasing tree.rules
       ascending = subst IsStrictlyIncreasing (sym rules) grouped.group.ascending
 
-      inside : AllByRecursion (λ rule. rule < length set.rules) (leaves tree)
+      inside : AllByRecursion (λ rule. rule < length set.rules) tree.rules
       inside = subst (AllByRecursion (λ rule. rule < length set.rules)) (sym rules)
           (recursion_from_All (λ rule. rule < length set.rules) group grouped.group.within)
 
@@ -444,7 +439,7 @@ module _ (column : ColumnView) (next : Option ColumnView) (is_last : Bool) (befo
   pub all_merged : (cap : ℕ) (now : Target) (states : List ℕ) (steps : List (List Piece)) (found : List ℕ)
       (runs : List (List Run)) (words least : ℕ)
       → SoFar column next is_last before pairs old now states steps found runs words least → words + least ≤ cap →
-      (set : RuleSetView) (group : List ℕ) (tree : Tree) (lists : List (List ℕ)) → IsFor set is_last old
+      (set : RuleSetView) (group : List ℕ) (tree : RuleTree) (lists : List (List ℕ)) → IsFor set is_last old
       → ArePlaced set group tree pairs lists states
       → IsMergedWithin set column is_last cap before lists runs words
       × AreIn set now tree (level_found set column is_last lists) found
@@ -469,7 +464,7 @@ module _ (column : ColumnView) (next : Option ColumnView) (is_last : Bool) (befo
   pub past_cap : (cap : ℕ) (now : Target) (done more : List ℕ) (steps : List (List Piece)) (found : List ℕ)
       (runs : List (List Run)) (words least : ℕ)
       → SoFar column next is_last before pairs old now done steps found runs words least → cap < words + least →
-      (set : RuleSetView) (group : List ℕ) (tree : Tree) (lists : List (List ℕ)) → IsFor set is_last old
+      (set : RuleSetView) (group : List ℕ) (tree : RuleTree) (lists : List (List ℕ)) → IsFor set is_last old
       → ArePlaced set group tree pairs lists (done ++ more)
       → cap < least_words set column next is_last before lists
   past_cap cap now done more steps found runs words least so_far over set group tree lists for placed =

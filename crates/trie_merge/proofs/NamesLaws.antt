@@ -1,14 +1,14 @@
 -- Ranks of rules and their names.
-use Rattle.std.proofs.Common.{◌≡◌, ℕ, ◌+◌, ◌<◌, ◌≤◌, List, length, set, get_or, slice_get, Some, replicate}
+use Rattle.std.proofs.Common.{◌≡◌, ℕ, ◌+◌, ◌<◌, List, length, set, get_or, slice_get, Some}
 use Rattle.std.proofs.Common.{sym, ◌∙◌, ap, arith, inl, inr}
 use Rattle.std.proofs.lemmas.Bool.{cases_eq}
-use Rattle.std.proofs.lemmas.List.{get_or-set_same, get_or-set_other, length-set, get_or-replicate, length-replicate}
+use Rattle.std.proofs.lemmas.List.{get_or-set_same, get_or-set_other, length-set}
 use Rattle.std.proofs.lemmas.List.FromFn.{get_or-map-range_with_len, length-map-range_with_len}
 use Rattle.std.proofs.lemmas.Option.{get_or_from_slice_get}
 use Rattle.rule_set.specs.Rule.{RuleView, RuleSetView}
 use Rattle.rule_set.specs.Rank.{rank_of, ranks_of}
 use Rattle.rule_set.specs.Laws.{RanksOrderRules}
-use Rattle.trie_merge.specs.Names.{no_rule, ranked_at, IsNames}
+use Rattle.trie_merge.specs.Names.{no_rule, ranked_at}
 
 pub length-ranks : (rules : List RuleView) → length (ranks_of rules) ≡ length rules
 unfolding ranks_of
@@ -38,13 +38,6 @@ pub record NamedSoFar (rules : List RuleView) (names : List ℕ) (count : ℕ) :
   pub none : get_or names 0 0 ≡ 0
   pub each : (number : ℕ) → number < count → get_or names (rank_of rules number) 0 ≡ number + 1
 
-pub none_named : (rules : List RuleView) → NamedSoFar rules (replicate (length rules + 1) 0) 0
-none_named rules = record {
-  long = length-replicate (length rules + 1) 0;
-  none = get_or-replicate (length rules + 1) 0 0 0 (omega arith);
-  each = λ number below. absurd (omega (arith, below));
-}
-
 module _ (order : RanksOrderRules) (rules : List RuleView) (names : List ℕ) (count : ℕ) (within : count < length rules)
     (so_far : NamedSoFar rules names count) where
   pub rank_inside : rank_of rules count < length names
@@ -66,10 +59,3 @@ module _ (order : RanksOrderRules) (rules : List RuleView) (names : List ℕ) (c
           ∙ so_far.each number (omega (arith, below, other))
     ];
   }
-
-pub all_named : (its : RuleSetView) (names : List ℕ) (count : ℕ) → length its.rules ≤ count
-    → NamedSoFar its.rules names count → IsNames its names
-all_named its names count all so_far = record {
-  none = so_far.none;
-  each = λ number below. so_far.each number (omega (arith, all, below));
-}

@@ -13,7 +13,6 @@ use Rattle.shared_parts.specs.declared.target.Target.TheVariants.{Parts, Rows}
 use Rattle.shared_parts.specs.RowsView.{RowsView}
 use Rattle.shared_parts.specs.Keys.{has_entry}
 use Rattle.shared_parts.specs.Target.{count, HasEntry}
-use Rattle.shared_parts.specs.Tree.{Tree, leaves}
 use Rattle.trie_merge.specs.declared.run.Run.{Run}
 use Rattle.trie_merge.specs.Cuts.{CanAsk, CanGoOn}
 use Rattle.trie_merge.specs.Entry.{ColumnView, CanStep, column_at, entry_of}
@@ -22,7 +21,7 @@ use Rattle.trie_merge.specs.Laws.{IsGrouped}
 use Rattle.trie_merge.specs.Led.{AllLed, ComesFrom}
 use Rattle.trie_merge.specs.Levels.{levels_of}
 use Rattle.trie_merge.specs.Lists.{level_found, least_words, IsMergedWithin}
-use Rattle.trie_merge.specs.Shared.{AreIn, ArePlaced, IsFor}
+use Rattle.trie_merge.specs.Shared.{RuleTree, AreIn, ArePlaced, IsFor}
 use Rattle.trie_merge.specs.State.{is_live}
 use Rattle.trie_merge.specs.Started.{IsStarted, AreRows}
 use Rattle.trie_merge.specs.Walk.{next_of, IsWalk}
@@ -37,8 +36,8 @@ use Rattle.trie_merge.proofs.Zipped.{for_grows}
 pub record Placed (set : RuleSetView) (group : List ℕ) (cap place : ℕ) (levels : List (List (List Run)))
     (target : Target) (numbers : List ℕ) (words : ℕ) : Type 0 where
   pub lists : List (List ℕ)
-  pub tree : Tree
-  pub rules : leaves tree ≡ group
+  pub tree : RuleTree
+  pub rules : tree.rules ≡ group
   pub walked : Walked set group cap place levels lists words
   pub each : AreIn set target tree lists numbers
   pub inside : All (λ n. (0 < n) × (n ≤ count target)) numbers
@@ -67,7 +66,7 @@ module _ (set : RuleSetView) (group : List ℕ) (held : AllByRecursion (IsHeld s
   placed_start cap target numbers start =
       let first = kept_places_first set group key in
       let entries : List ℕ = map (λ number. entry_of number Free) group in
-      let its = started set group start.pairs start.number start.all in
+      let its = started set group start.order start.same start.pairs start.number start.all in
       let live = state_live start.pairs its.0 entries start.number its.2.0 in
       let above : 0 < start.number = ltb-true 0 start.number (sym live ∙ live_of group some) in
       subst (λ t. Placed set group cap 0 [] t numbers 0) (sym start.parts)
@@ -81,8 +80,8 @@ module _ (set : RuleSetView) (group : List ℕ) (held : AllByRecursion (IsHeld s
         inside = one_inside start.number (length start.pairs) above start.within;
         parts = λ below. (start.pairs, refl);
         entries = λ below entry has.
-            start_entries_are set group held (get_or places 0 0) first.within first.before entry
-            (start.entries entry has);
+            start_entries_are set group held (get_or places 0 0) first.within first.before start.order
+            (λ rule there. sym (start.same rule) ∙ there) entry (start.entries entry has);
         rows = λ end. absurd (omega (arith, end, first.some));
       }))
     where
@@ -141,7 +140,7 @@ module _ (set : RuleSetView) (group : List ℕ) (held : AllByRecursion (IsHeld s
     pub placed_on : (old new : Target) (steps : List (List Piece)) (its_runs : List (List Run)) (found : List ℕ)
         (words' : ℕ) → IsFor set (place + 1 == length places) old → ((entry : ℕ) → HasEntry old entry → ⊥)
         → AllLed (column_at set (get_or places place 0)) pairs old new steps
-        → ((s : RuleSetView) (g : List ℕ) (tree : Tree) (lists : List (List ℕ))
+        → ((s : RuleSetView) (g : List ℕ) (tree : RuleTree) (lists : List (List ℕ))
         → IsFor s (place + 1 == length places) old → ArePlaced s g tree pairs lists numbers
         → IsMergedWithin s (column_at set (get_or places place 0)) (place + 1 == length places) cap words lists its_runs
         words'
@@ -180,7 +179,7 @@ module _ (set : RuleSetView) (group : List ℕ) (held : AllByRecursion (IsHeld s
 
     -- or too many words
     pub placed_over : (old : Target) → IsFor set (place + 1 == length places) old
-        → ((s : RuleSetView) (g : List ℕ) (tree : Tree) (lists : List (List ℕ))
+        → ((s : RuleSetView) (g : List ℕ) (tree : RuleTree) (lists : List (List ℕ))
         → IsFor s (place + 1 == length places) old → ArePlaced s g tree pairs lists numbers
         → cap < least_words s (column_at set (get_or places place 0)) (next_of set places place)
         (place + 1 == length places) words lists)

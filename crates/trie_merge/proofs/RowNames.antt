@@ -11,13 +11,12 @@ use Rattle.rule_set.specs.Laws.{RanksOrderRules, TheBestHasTheGreatestRank}
 use Rattle.shared_parts.specs.declared.target.Target.TheVariants.{Rows}
 use Rattle.shared_parts.specs.RowsView.{RowsView}
 use Rattle.shared_parts.specs.Rows.{best_row, IsRow}
-use Rattle.shared_parts.specs.Tree.{Tree, leaves}
 use Rattle.shared_parts.proofs.Offered.{key_at, bytes_eq_sound}
 use Rattle.trie_merge.specs.Entry.{number_in}
 use Rattle.trie_merge.specs.Row.{winner_of}
 use Rattle.trie_merge.specs.Lists.{row_list, RisesFrom}
 use Rattle.trie_merge.specs.Names.{ranked_of, row_named, IsNames}
-use Rattle.trie_merge.specs.Shared.{IsRowOf, AreIn}
+use Rattle.trie_merge.specs.Shared.{RuleTree, IsRowOf, AreIn}
 use Rattle.trie_merge.proofs.Rising.{NumbersRise}
 use Rattle.trie_merge.proofs.RowNumbers.{Within, WinsAt, wins_at, said_at, said, row_said, said_get, length_said}
 use Rattle.trie_merge.proofs.RowNumbers.{length_best, no_row_list}
@@ -57,14 +56,14 @@ module _ (set : RuleSetView) (order : RanksOrderRules) (law : TheBestHasTheGreat
       ∙ sym (said_get set order law i (entry ∷ entries) small)))
       ∙ sym (row_said set order law entry entries)
 
-  module _ (tree : Tree) (rise : NumbersRise 0 (leaves tree))
-      (inside : AllByRecursion (λ rule. rule < length set.rules) (leaves tree)) (rows : RowsView) where
+  module _ (tree : RuleTree) (rise : NumbersRise 0 tree.rules)
+      (inside : AllByRecursion (λ rule. rule < length set.rules) tree.rules) (rows : RowsView) where
     named_is : (row : List ℕ) (number : ℕ) → length row ≡ 16 → IsRowOf set rows tree row number
         → row_named rows names number ≡ row
     unfolding row_named
     named_is row number long of =
-        by (filter_map of.entries (leaves tree)) of.is of.stands
-        (within_of set of.entries of.own (leaves tree) inside) (rises_of set of.entries of.own 0 (leaves tree) rise)
+        by (filter_map of.entries tree.rules) of.is of.stands
+        (within_of set of.entries of.own tree.rules inside) (rises_of set of.entries of.own 0 tree.rules rise)
       where
         with_key : (ranks : List ℕ) → length ranks ≡ 16 → IsRow rows.rows ranks number
             → get_or rows.rows (number - 1) [] ≡ ranks

@@ -136,7 +136,7 @@ by_number P (e ∷ es) zero d below all = (e, all.0, refl)
 by_number P (e ∷ es) (suc k) d below all = by_number P es k d (omega (arith, below)) all.1
 
 -- an entry that is there has what all have
-at_entry : (P : ℕ → Type 0) (entries : List ℕ) (entry : ℕ) → list_any (λ e. e == entry) entries ≡ true
+pub at_entry : (P : ℕ → Type 0) (entries : List ℕ) (entry : ℕ) → list_any (λ e. e == entry) entries ≡ true
     → AllByRecursion P entries → P entry
 at_entry P [] entry there all = absurd (true≢false (sym there))
 at_entry P (e ∷ es) entry there all = elim (cases_eq e entry) [

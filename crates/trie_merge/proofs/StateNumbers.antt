@@ -14,7 +14,7 @@ use Rattle.shared_parts.proofs.Offered.{SameOn, stands_alone, stands_for_one, no
 use Rattle.trie_merge.specs.Entry.{ColumnView, number_in, entry_step, entries_step}
 use Rattle.trie_merge.specs.State.{is_live}
 use Rattle.trie_merge.specs.Numbers.{is_some_number}
-use Rattle.trie_merge.specs.Shared.{AreOwn, IsState}
+use Rattle.trie_merge.specs.Shared.{RuleTree, AreOwn, IsState}
 use Rattle.trie_merge.proofs.Numbers.{bytes_eq_refl, bytes_eq_sound}
 
 -- ---- lists of entries say the entry of each rule
@@ -68,14 +68,52 @@ same_on (Node left right) f g same = (
     after true is = refl
     after false is = is
 
--- equal lists are of equal entries
-pub entries_same : (tree : Tree) (f g : ℕ → Option ℕ) → AreOwn f → AreOwn g
-    → filter_map f (leaves tree) ≡ filter_map g (leaves tree) → SameOn tree f g
-entries_same tree f g own_f own_g same =
-    same_on tree f g (λ rule there.
-    sym (entry_again f own_f rule (leaves tree) ∙ ap (λ b. cond b (f rule) None) there)
-    ∙ ap (entry_in rule) same
-    ∙ entry_again g own_g rule (leaves tree) ∙ ap (λ b. cond b (g rule) None) there)
+-- equal entries of the rules make equal lists
+same_listed : (f g : ℕ → Option ℕ) (rules : List ℕ)
+    → ((rule : ℕ) → list_any (λ r. r == rule) rules ≡ true → f rule ≡ g rule) → filter_map f rules ≡ filter_map g rules
+same_listed f g [] same = refl
+same_listed f g (rule ∷ rules) same = λ i.
+    cons_option (same rule (ap (λ b. b || list_any (λ r. r == rule) rules) (eq-eqb rule rule refl)) i)
+    (same_listed f g rules (λ other there. same other (later (rule == other) there)) i)
+  where
+    later : (a : Bool) {b : Bool} → b ≡ true → (a || b) ≡ true
+    later true is = refl
+    later false is = is
+
+module _ (f g : ℕ → Option ℕ) (own_f : AreOwn f) (own_g : AreOwn g) where
+  -- and equal lists are of equal entries
+  entries_agree : (rules : List ℕ) → filter_map f rules ≡ filter_map g rules → (rule : ℕ)
+      → list_any (λ r. r == rule) rules ≡ true → f rule ≡ g rule
+  entries_agree rules same rule there =
+      sym (entry_again f own_f rule rules ∙ ap (λ b. cond b (f rule) None) there)
+      ∙ ap (entry_in rule) same
+      ∙ entry_again g own_g rule rules ∙ ap (λ b. cond b (g rule) None) there
+
+  pub entries_same : (its : RuleTree) → filter_map f its.rules ≡ filter_map g its.rules → SameOn its.tree f g
+  entries_same its same =
+      same_on its.tree f g (λ rule there. entries_agree its.rules same rule (sym (its.same rule) ∙ there))
+
+  -- equal lists of the leaves are equal lists of the rules, and the other way round
+  pub rules_same : (its : RuleTree) → filter_map f (leaves its.tree) ≡ filter_map g (leaves its.tree)
+      → filter_map f its.rules ≡ filter_map g its.rules
+  rules_same its same =
+      same_listed f g its.rules (λ rule there. entries_agree (leaves its.tree) same rule (its.same rule ∙ there))
+
+  pub leaves_same : (its : RuleTree) → filter_map f its.rules ≡ filter_map g its.rules
+      → filter_map f (leaves its.tree) ≡ filter_map g (leaves its.tree)
+  leaves_same its same =
+      same_listed f g (leaves its.tree) (λ rule there. entries_agree its.rules same rule (sym (its.same rule) ∙ there))
+
+-- no entries
+abbrev nothing : ℕ → Option ℕ
+nothing rule = None
+
+nothing_own : AreOwn nothing
+nothing_own rule entry is = absurd cc
+
+nothing_listed : (rules : List ℕ) → filter_map nothing rules ≡ []
+nothing_listed [] = refl
+nothing_listed (rule ∷ rules) = nothing_listed rules
 
 -- ---- tests on numbers and lists
 
@@ -119,15 +157,16 @@ steps_map column byte f (rule ∷ rules) = by (f rule) (steps_map column byte f 
     by None rest = rest
     by (Some entry) rest = ap (cons_option (entry_step column entry byte)) rest
 
-module _ (pairs : List (ℕ × ℕ)) (tree : Tree) where
+module _ (pairs : List (ℕ × ℕ)) (tree : RuleTree) where
   pub states_agree : (list other : List ℕ) (n m : ℕ) → IsState pairs tree list n → IsState pairs tree other m
       → bytes_eq list other ≡ nat_eq n m
   states_agree list other n m a b =
       tests_agree list other n m
-      (λ e. a.is ∙ stands_for_one pairs a.entries b.entries tree tree n a.stands
-      (subst (Stands pairs tree b.entries) (sym e) b.stands) ∙ sym b.is)
-      (λ e. stands_alone pairs tree a.entries b.entries n m
-      (entries_same tree a.entries b.entries a.own b.own (sym a.is ∙ e ∙ b.is)) a.stands b.stands)
+      (λ e. a.is ∙ rules_same a.entries b.entries a.own b.own tree
+      (stands_for_one pairs a.entries b.entries tree.tree tree.tree n a.stands
+      (subst (Stands pairs tree.tree b.entries) (sym e) b.stands)) ∙ sym b.is)
+      (λ e. stands_alone pairs tree.tree a.entries b.entries n m
+      (entries_same a.entries b.entries a.own b.own tree (sym a.is ∙ e ∙ b.is)) a.stands b.stands)
 
   pub state_live : (list : List ℕ) (n : ℕ) → IsState pairs tree list n → is_live list ≡ is_some_number n
   state_live [] n a = elim (cases_eq n 0) [
@@ -138,12 +177,18 @@ module _ (pairs : List (ℕ × ℕ)) (tree : Tree) where
       all_none : (m : ℕ) → IsState pairs tree [] m → m ≡ 0
       all_none m a = elim (cases_eq m 0) [
         | inl e ↦ e
-        | inr other ↦ absurd (other (nothing_stands pairs tree a.entries m (sym a.is) a.stands))
+        | inr other ↦
+            absurd (other (nothing_stands pairs tree.tree a.entries m
+            (leaves_same a.entries nothing a.own nothing_own tree (sym a.is ∙ sym (nothing_listed tree.rules))
+            ∙ nothing_listed (leaves tree.tree)) a.stands))
       ]
   state_live (x ∷ xs) n a = elim (cases_eq n 0) [
     | inl e ↦
-        let none : filter_map a.entries (leaves tree) ≡ [] =
-        none_left pairs tree a.entries (subst (Stands pairs tree a.entries) e a.stands) in
+        let left : filter_map a.entries (leaves tree.tree) ≡ [] =
+        none_left pairs tree.tree a.entries (subst (Stands pairs tree.tree a.entries) e a.stands) in
+        let none : filter_map a.entries tree.rules ≡ [] =
+        rules_same a.entries nothing a.own nothing_own tree (left ∙ sym (nothing_listed (leaves tree.tree)))
+        ∙ nothing_listed tree.rules in
         let same : x ∷ xs ≡ [] = a.is ∙ none in
         absurd cc
     | inr some ↦ sym (lt-ltb 0 n (omega (arith, some)))

@@ -1,11 +1,9 @@
 -- Bytes of one interval make the same of a state.
 use Rattle.std.proofs.Common.{◌≡◌, ℕ, ◌+◌, ◌-◌, List, [], ◌∷◌}
-use Rattle.std.proofs.Common.{Bool, true, false, ◌||◌, true≢false, Option, Some, None, refl, sym, ◌∙◌}
-use Rattle.std.proofs.Common.{ap, subst, arith}
-use Rattle.std.specs.Prelude.{All}
-use Rattle.std.specs.List.{list_any, cons_option, AllByRecursion}
+use Rattle.std.proofs.Common.{Bool, true, false, ◌||◌, true≢false, refl, ◌∙◌}
+use Rattle.std.proofs.Common.{ap, arith}
+use Rattle.std.specs.List.{list_any, cons_option}
 use Rattle.std.specs.Option.{option_map}
-use Rattle.std.proofs.lemmas.List.Elements.{recursion_from_All, All-from_recursion}
 use Rattle.node_expand.specs.declared.edge.Edge.{Edge}
 use Rattle.node_expand.specs.declared.edge.Edge.TheVariants.{Free, Low, High, Both}
 use Rattle.node_expand.specs.Edges.{edge_step, is_cut, AnswersAlike}
@@ -62,26 +60,3 @@ number_in-entry_of number Free = omega arith
 number_in-entry_of number Low = omega arith
 number_in-entry_of number High = omega arith
 number_in-entry_of number Both = omega arith
-
--- a step keeps the number
-made_by : (number : ℕ) (found : Option Edge) (P : ℕ → Type 0) → P number → (entries : List ℕ)
-    → AllByRecursion (λ entry. P (number_in entry)) entries →
-    AllByRecursion (λ entry. P (number_in entry)) (cons_option (option_map (entry_of number) found) entries)
-made_by number None P p entries all = all
-made_by number (Some edge) P p entries all = (subst P (sym (number_in-entry_of number edge)) p, all)
-
-keep : (column : ColumnView) (entries : List ℕ) (byte : ℕ) (P : ℕ → Type 0)
-    → AllByRecursion (λ entry. P (number_in entry)) entries
-    → AllByRecursion (λ entry. P (number_in entry)) (entries_step column entries byte)
-unfolding entries_step entry_step
-keep column [] byte P all = tt
-keep column (entry ∷ entries) byte P all =
-    made_by (number_in entry)
-    (edge_step (value_in column entry) column.size column.place (edge_before column entry) byte) P all.0
-    (entries_step column entries byte) (keep column entries byte P all.1)
-
-pub steps_keep_numbers : (column : ColumnView) (entries : List ℕ) (byte : ℕ) (P : ℕ → Type 0)
-    → All (λ entry. P (number_in entry)) entries → All (λ entry. P (number_in entry)) (entries_step column entries byte)
-steps_keep_numbers column entries byte P all =
-    All-from_recursion (λ entry. P (number_in entry)) (entries_step column entries byte)
-    (keep column entries byte P (recursion_from_All (λ entry. P (number_in entry)) entries all))

@@ -11,18 +11,19 @@ use Rattle.rule_set.specs.Laws.{RanksOrderRules, TheBestHasTheGreatestRank}
 use Rattle.shared_parts.specs.declared.target.Target.{Target}
 use Rattle.shared_parts.specs.declared.target.Target.TheVariants.{Parts, Rows}
 use Rattle.shared_parts.specs.RowsView.{RowsView}
-use Rattle.shared_parts.specs.Tree.{Tree, leaves, stepped}
+use Rattle.shared_parts.specs.Tree.{stepped}
 use Rattle.shared_parts.specs.Rows.{best_row, IsRow}
 use Rattle.shared_parts.specs.Target.{Grows, Leads}
-use Rattle.shared_parts.proofs.Offered.{still_stands, row_alone, row_is}
+use Rattle.shared_parts.proofs.Offered.{still_stands, row_grows, row_alone, row_is}
 use Rattle.trie_merge.specs.Entry.{ColumnView, number_in, entries_step}
 use Rattle.trie_merge.specs.Led.{step_of}
 use Rattle.trie_merge.specs.declared.run.Succ.TheVariants.{Dead, State, Row}
 use Rattle.trie_merge.specs.State.{is_live}
 use Rattle.trie_merge.specs.Numbers.{is_some_number, numbers_with, succ_of}
 use Rattle.trie_merge.specs.Lists.{lists_with, succ_in, row_list, successor, RisesFrom}
-use Rattle.trie_merge.specs.Shared.{AreOwn, IsState, IsRowOf, IsIn, AreIn, IsFor}
+use Rattle.trie_merge.specs.Shared.{RuleTree, AreOwn, IsState, IsRowOf, IsIn, AreIn, IsFor}
 use Rattle.trie_merge.proofs.Ahead.{rises_lower, step_number}
+use Rattle.trie_merge.proofs.Arranged.{row_arranged}
 use Rattle.trie_merge.proofs.StateNumbers.{tests_agree, step_own, steps_map, states_agree, state_live}
 use Rattle.trie_merge.specs.Row.{row_of}
 use Rattle.trie_merge.proofs.RowNumbers.{Within, rows_agree, row_some}
@@ -54,16 +55,16 @@ module _ (set : RuleSetView) (f : ℕ → Option ℕ) (own : AreOwn f) where
 
 -- ---- tests on numbers say what tests on lists say
 
-module _ (set : RuleSetView) (order : RanksOrderRules) (law : TheBestHasTheGreatestRank) (tree : Tree)
-    (rise : NumbersRise 0 (leaves tree)) (inside : AllByRecursion (λ rule. rule < length set.rules) (leaves tree)) where
+module _ (set : RuleSetView) (order : RanksOrderRules) (law : TheBestHasTheGreatestRank) (tree : RuleTree)
+    (rise : NumbersRise 0 tree.rules) (inside : AllByRecursion (λ rule. rule < length set.rules) tree.rules) where
   rows_numbers_agree : (rows : RowsView) (list other : List ℕ) (n m : ℕ) → IsRowOf set rows tree list n
       → IsRowOf set rows tree other m → bytes_eq list other ≡ nat_eq n m
   rows_numbers_agree rows list other n m a b =
-      let xs : List ℕ = filter_map a.entries (leaves tree) in
-      let ys : List ℕ = filter_map b.entries (leaves tree) in
-      let agree = rows_agree set order law xs ys (within_of set a.entries a.own (leaves tree) inside)
-      (rises_of set a.entries a.own 0 (leaves tree) rise)
-      (within_of set b.entries b.own (leaves tree) inside) (rises_of set b.entries b.own 0 (leaves tree) rise) in
+      let xs : List ℕ = filter_map a.entries tree.rules in
+      let ys : List ℕ = filter_map b.entries tree.rules in
+      let agree = rows_agree set order law xs ys (within_of set a.entries a.own tree.rules inside)
+      (rises_of set a.entries a.own 0 tree.rules rise)
+      (within_of set b.entries b.own tree.rules inside) (rises_of set b.entries b.own 0 tree.rules rise) in
       tests_agree list other n m
       (λ e. a.is ∙ agree.0 (ap (λ r. best_row r xs) (sym a.ranked)
       ∙ row_is rows.rows (best_row rows.ranked xs) (best_row rows.ranked ys) n a.stands
@@ -89,7 +90,7 @@ module _ (set : RuleSetView) (order : RanksOrderRules) (law : TheBestHasTheGreat
   live e es ls m is some = ap is_live is ∙ sym (lt-ltb 0 m some)
 
   row_live : (rows : RowsView) (list : List ℕ) (n : ℕ) → IsRowOf set rows tree list n → is_live list ≡ is_some_number n
-  row_live rows list n a = by (filter_map a.entries (leaves tree)) list n a.is a.stands
+  row_live rows list n a = by (filter_map a.entries tree.rules) list n a.is a.stands
     where
       by : (es ls : List ℕ) (m : ℕ) → ls ≡ row_list set es → IsRow rows.rows (best_row rows.ranked es) m
           → is_live ls ≡ is_some_number m
@@ -161,13 +162,13 @@ module _ (set : RuleSetView) (order : RanksOrderRules) (law : TheBestHasTheGreat
 
 -- ---- numbers when more come
 
-state_grows : (set : RuleSetView) (old new : Target) (tree : Tree) (list : List ℕ) (n : ℕ) → Grows old new
+state_grows : (set : RuleSetView) (old new : Target) (tree : RuleTree) (list : List ℕ) (n : ℕ) → Grows old new
     → IsIn set old tree list n → IsIn set new tree list n
 state_grows set (Parts pairs) (Parts now) tree list n grows a = record {
   entries = a.entries;
   own = a.own;
   is = a.is;
-  stands = still_stands (Parts pairs) (Parts now) tree a.entries n grows a.stands;
+  stands = still_stands (Parts pairs) (Parts now) tree.tree a.entries n grows a.stands;
 }
 state_grows set (Parts pairs) (Rows rows) tree list n grows a = absurd grows
 state_grows set (Rows rows) (Parts pairs) tree list n grows a = absurd grows
@@ -176,10 +177,14 @@ state_grows set (Rows rows) (Rows now) tree list n grows a = record {
   own = a.own;
   is = a.is;
   ranked = grows.0 ∙ a.ranked;
-  stands = still_stands (Rows rows) (Rows now) tree a.entries n grows a.stands;
+  stands = (
+      let entries : List ℕ = filter_map a.entries tree.rules in
+      subst (λ ranked. IsRow now.rows (best_row ranked entries) n) (sym grows.0)
+      (subst (λ rs. IsRow rs (best_row rows.ranked entries) n) (sym grows.1.1)
+      (row_grows rows.rows grows.1.0 (best_row rows.ranked entries) n a.stands)));
 }
 
-pub are_grown : (set : RuleSetView) (old new : Target) (tree : Tree) (lists : List (List ℕ)) (numbers : List ℕ)
+pub are_grown : (set : RuleSetView) (old new : Target) (tree : RuleTree) (lists : List (List ℕ)) (numbers : List ℕ)
     → Grows old new → AreIn set old tree lists numbers → AreIn set new tree lists numbers
 are_grown set old new tree [] [] grows all = tt
 are_grown set old new tree (l ∷ ls) (n ∷ ns) grows all =
@@ -198,29 +203,33 @@ for_grows set is_last (Rows rows) (Parts pairs) grows is = absurd grows
 for_grows set is_last (Rows rows) (Rows now) grows is = (is.0, grows.0 ∙ is.1)
 
 pub state_leads : (set : RuleSetView) (column : ColumnView) (is_last : Bool) (pairs : List (ℕ × ℕ)) (target : Target)
-    (tree : Tree) (list : List ℕ) (part byte number : ℕ) → IsFor set is_last target → IsState pairs tree list part
+    (tree : RuleTree) (list : List ℕ) (part byte number : ℕ) → IsFor set is_last target → IsState pairs tree list part
     → Leads (step_of column byte) pairs target part number
     → IsIn set target tree (successor set column is_last list byte) number
 unfolding successor
 state_leads set column is_last pairs (Parts now) tree list part byte number last a leads =
-    let is : list ≡ filter_map a.entries (leaves tree) = a.is in
+    let is : list ≡ filter_map a.entries tree.rules = a.is in
     subst (λ b. IsState now tree (cond b (row_list set (entries_step column list byte)) (entries_step column list byte))
     number) (sym last)
     (record {
       entries = stepped (step_of column byte) a.entries;
       own = step_own column byte a.entries (λ e after s. step_number column e byte after s) a.own;
-      is = ap (λ l. entries_step column l byte) is ∙ sym (steps_map column byte a.entries (leaves tree));
-      stands = leads.stands tree a.entries a.stands;
+      is = ap (λ l. entries_step column l byte) is ∙ sym (steps_map column byte a.entries tree.rules);
+      stands = leads.stands tree.tree a.entries a.stands;
     })
 state_leads set column is_last pairs (Rows rows) tree list part byte number last a leads =
-    let is : list ≡ filter_map a.entries (leaves tree) = a.is in
+    let is : list ≡ filter_map a.entries tree.rules = a.is in
     subst (λ b. IsRowOf set rows tree
     (cond b (row_list set (entries_step column list byte)) (entries_step column list byte)) number) (sym last.0)
     (record {
       entries = stepped (step_of column byte) a.entries;
       own = step_own column byte a.entries (λ e after s. step_number column e byte after s) a.own;
       is = ap (row_list set) (ap (λ l. entries_step column l byte) is
-          ∙ sym (steps_map column byte a.entries (leaves tree)));
+          ∙ sym (steps_map column byte a.entries tree.rules));
       ranked = last.1;
-      stands = leads.stands tree a.entries a.stands;
+      stands = (
+          let own = step_own column byte a.entries (λ e after s. step_number column e byte after s) a.own in
+          subst (λ row. IsRow rows.rows row number)
+          (row_arranged tree rows.ranked (stepped (step_of column byte) a.entries) own)
+          (leads.stands tree.tree a.entries a.stands));
     })

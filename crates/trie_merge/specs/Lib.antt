@@ -5,7 +5,6 @@ pub mod Found
 pub mod Kept
 pub mod Laws
 pub mod Levels
-pub mod Pieces
 pub mod Row
 pub mod Led
 pub mod Lists

@@ -1,6 +1,6 @@
 -- States as numbers of shared parts, and rows as numbers of rows.
-use Rattle.std.specs.Prelude.{◌≡◌, ℕ, List, [], ◌∷◌, Bool, true, false, Option, Some}
-use Rattle.std.specs.List.{filter_map}
+use Rattle.std.specs.Prelude.{◌≡◌, ℕ, ◌==◌, List, [], ◌∷◌, Bool, true, false, Option, Some}
+use Rattle.std.specs.List.{filter_map, list_any}
 use Rattle.rule_set.specs.Rule.{RuleSetView}
 use Rattle.shared_parts.specs.declared.target.Target.{Target}
 use Rattle.shared_parts.specs.declared.target.Target.TheVariants.{Parts, Rows}
@@ -12,33 +12,39 @@ use Rattle.trie_merge.specs.Lists.{row_list}
 use Rattle.trie_merge.specs.Laws.{IsGrouped}
 use Rattle.trie_merge.specs.Names.{ranked_of}
 
+-- The rules of a group, ascending, and a tree whose leaves they are, in whatever order.
+pub record RuleTree : Type 0 where
+  pub rules : List ℕ
+  pub tree : Tree
+  pub same : (rule : ℕ) → list_any (λ r. r == rule) (leaves tree) ≡ list_any (λ r. r == rule) rules
+
 -- Each rule has an entry of its own number, or none.
 abbrev pub AreOwn : (ℕ → Option ℕ) → Type 0
 AreOwn entries = (rule entry : ℕ) → entries rule ≡ Some entry → number_in entry ≡ rule
 
 -- The number stands for the entries of a state.
-pub record IsState (pairs : List (ℕ × ℕ)) (tree : Tree) (list : List ℕ) (number : ℕ) : Type 0 where
+pub record IsState (pairs : List (ℕ × ℕ)) (tree : RuleTree) (list : List ℕ) (number : ℕ) : Type 0 where
   pub entries : ℕ → Option ℕ
   pub own : AreOwn entries
-  pub is : list ≡ filter_map entries (leaves tree)
-  pub stands : Stands pairs tree entries number
+  pub is : list ≡ filter_map entries tree.rules
+  pub stands : Stands pairs tree.tree entries number
 
 -- The number stands for a row, which some entries give.
-pub record IsRowOf (set : RuleSetView) (rows : RowsView) (tree : Tree) (list : List ℕ) (number : ℕ) :
+pub record IsRowOf (set : RuleSetView) (rows : RowsView) (tree : RuleTree) (list : List ℕ) (number : ℕ) :
     Type 0 where
   pub entries : ℕ → Option ℕ
   pub own : AreOwn entries
-  pub is : list ≡ row_list set (filter_map entries (leaves tree))
+  pub is : list ≡ row_list set (filter_map entries tree.rules)
   pub ranked : rows.ranked ≡ ranked_of set
-  pub stands : IsRow rows.rows (best_row rows.ranked (filter_map entries (leaves tree))) number
+  pub stands : IsRow rows.rows (best_row rows.ranked (filter_map entries tree.rules)) number
 
 -- The number stands for a state, or after the last place for a row.
-abbrev pub IsIn : RuleSetView → Target → Tree → List ℕ → ℕ → Type 0
+abbrev pub IsIn : RuleSetView → Target → RuleTree → List ℕ → ℕ → Type 0
 IsIn set (Parts pairs) tree list number = IsState pairs tree list number
 IsIn set (Rows rows) tree list number = IsRowOf set rows tree list number
 
 -- So do numbers, each for its list.
-abbrev pub AreIn : RuleSetView → Target → Tree → List (List ℕ) → List ℕ → Type 0
+abbrev pub AreIn : RuleSetView → Target → RuleTree → List (List ℕ) → List ℕ → Type 0
 AreIn set target tree [] [] = Unit {0}
 AreIn set target tree (list ∷ lists) (number ∷ numbers) =
     IsIn set target tree list number × AreIn set target tree lists numbers
@@ -51,8 +57,8 @@ IsFor set is_last (Parts pairs) = is_last ≡ false
 IsFor set is_last (Rows rows) = (is_last ≡ true) × (rows.ranked ≡ ranked_of set)
 
 -- The states of a place: a group of rules, its tree, and the lists that the numbers stand for.
-pub record ArePlaced (set : RuleSetView) (group : List ℕ) (tree : Tree) (pairs : List (ℕ × ℕ))
+pub record ArePlaced (set : RuleSetView) (group : List ℕ) (tree : RuleTree) (pairs : List (ℕ × ℕ))
     (lists : List (List ℕ)) (numbers : List ℕ) : Type 0 where
   pub grouped : IsGrouped set group
-  pub rules : leaves tree ≡ group
+  pub rules : tree.rules ≡ group
   pub each : AreIn set (Parts pairs) tree lists numbers

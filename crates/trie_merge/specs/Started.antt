@@ -1,5 +1,6 @@
 -- The state before the first byte, and the rows after a whole key, as numbers.
-use Rattle.std.specs.Prelude.{◌≡◌, ℕ, ◌<◌, ◌≤◌, List, [], ◌∷◌, length, map, true, All, Contains}
+use Rattle.std.specs.List.{list_any}
+use Rattle.std.specs.Prelude.{◌≡◌, ℕ, ◌==◌, ◌<◌, ◌≤◌, List, [], ◌∷◌, length, map, true, All, Contains}
 use Rattle.node_expand.specs.declared.edge.Edge.TheVariants.{Free}
 use Rattle.rule_set.specs.Rule.{RuleSetView}
 use Rattle.shared_parts.specs.declared.target.Target.{Target}
@@ -8,27 +9,28 @@ use Rattle.shared_parts.specs.RowsView.{RowsView}
 use Rattle.shared_parts.specs.Keys.{has_entry}
 use Rattle.shared_parts.specs.Joined.{IsAll}
 use Rattle.shared_parts.specs.Target.{count}
-use Rattle.shared_parts.specs.Tree.{Tree, leaves}
 use Rattle.trie_merge.specs.Entry.{entry_of}
 use Rattle.trie_merge.specs.Row.{rows_of}
-use Rattle.trie_merge.specs.Shared.{AreIn}
+use Rattle.trie_merge.specs.Shared.{RuleTree, AreIn}
 
--- There is one number, and it stands for the entries of all rules of the group.
+-- There is one number, and it stands for the entries of all rules of the group, in some order.
 pub record IsStarted (group : List ℕ) (target : Target) (numbers : List ℕ) : Type 0 where
   pub pairs : List (ℕ × ℕ)
   pub number : ℕ
   pub parts : target ≡ Parts pairs
   pub one : numbers ≡ number ∷ []
   pub within : number ≤ length pairs
-  pub all : IsAll pairs (map (λ rule. entry_of rule Free) group) number
+  pub order : List ℕ
+  pub same : (rule : ℕ) → list_any (λ r. r == rule) order ≡ list_any (λ r. r == rule) group
+  pub all : IsAll pairs (map (λ rule. entry_of rule Free) order) number
   pub entries : (entry : ℕ) → has_entry pairs entry ≡ true →
-      Contains (map (λ rule. entry_of rule Free) group) entry
+      Contains (map (λ rule. entry_of rule Free) order) entry
 
 -- The numbers stand for the rows of the group.
 pub record AreRows (set : RuleSetView) (group : List ℕ) (target : Target) (numbers : List ℕ) : Type 0
   where
-    pub tree : Tree
-    pub rules : leaves tree ≡ group
+    pub tree : RuleTree
+    pub rules : tree.rules ≡ group
     pub rows : (rows : RowsView) × (target ≡ Rows rows)
     pub each : AreIn set target tree (rows_of set group) numbers
     pub inside : All (λ number. (0 < number) × (number ≤ count target)) numbers

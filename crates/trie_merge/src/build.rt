@@ -14,7 +14,7 @@ ghost use Rattle.trie_merge.specs.Walk.{next_of, IsWalk};
 ghost use Rattle.trie_merge.specs.Started.{IsStarted, AreRows};
 ghost use Rattle.trie_merge.specs.Shared.{IsFor};
 ghost use Rattle.shared_parts.specs.Target.{HasEntry};
-ghost use Rattle.trie_merge.specs.Pieces.{pieces_of, IsPieces};
+ghost use Rattle.shared_parts.specs.Slices.{pieces_of, IsPieces};
 
 use crate::column::Column;
 use crate::entry::entry_of;
@@ -143,10 +143,9 @@ fn merge_places(
     requires cap { cap ≤ max_words }
     requires places { places.now ≡ kept_places rules.now group.now }
     requires start { IsStarted group.now start.target start.found.keys }
-    ensures walked { IfOk result
-        (λ walk. IsWalk rules.now group.now cap walk.levels.items walk.words) }
+    ensures walk { IfOk result (λ its. IsWalk rules.now group.now cap its.levels.items its.words) }
     ensures rows { IfOk result
-        (λ walk. AreRows rules.now group.now walk.reached.target walk.reached.found.keys) }
+        (λ its. AreRows rules.now group.now its.reached.target its.reached.found.keys) }
     ensures over { (result ≡ Err MergeFault.OverCap) → cap < (levels_of rules.now group.now).words }
 {
     let mut levels = Vec::new(alloc);

@@ -1,10 +1,8 @@
 //! The merged states of a group of rules.
 
-ghost use Rattle.std.specs.Prelude.{◌≡◌, ◌<◌, ◌∷◌, [], length, slice_index_or};
-ghost use Rattle.trie_merge.specs.Pieces.{pieces_of, IsPieces};
-
 use crate::merge::Pieces;
 use crate::run::Run;
+use shared_parts::slice;
 use std::marker::Model;
 use table_sizes::ROW_LEN;
 
@@ -17,7 +15,7 @@ pub(crate) struct Level {
 impl Model for Level {
     ghost use Rattle.std.specs.Prelude.{List, length};
     ghost use Rattle.trie_merge.specs.declared.run.Run.{Run};
-    ghost use Rattle.trie_merge.specs.Pieces.{pieces_of, IsPieces};
+    ghost use Rattle.shared_parts.specs.Slices.{pieces_of, IsPieces};
 
     ghost Value = { List (List Run) };
 
@@ -28,7 +26,7 @@ impl Model for Level {
 
 impl Level {
     ghost use Rattle.std.specs.Prelude.{◌≡◌, ◌<◌, [], length, slice_index_or};
-    ghost use Rattle.trie_merge.specs.Pieces.{pieces_of, IsPieces};
+    ghost use Rattle.shared_parts.specs.Slices.{pieces_of, IsPieces};
 
     /// The level of the pieces.
     pub(crate) fn new(pieces: Pieces) -> Self
@@ -50,31 +48,12 @@ impl Level {
         requires { state < length self.now }
         ensures { result.now ≡ slice_index_or self.now state [] }
     {
-        piece(
+        slice(
             self.pieces.runs.as_slice(),
             self.pieces.ends.as_slice(),
             state,
         )
     }
-}
-
-/// Where a piece begins: where the one before ends.
-fn start_of(ends: &[usize], k: usize) -> usize
-    requires { k < length ends.now }
-    ensures { result ≡ slice_index_or (0 ∷ ends.now) k 0 }
-{
-    if k == 0 { 0 } else { ends[k - 1] }
-}
-
-/// One of the pieces that end at the given places.
-fn piece<'a>(runs: &'a [Run], ends: &[usize], k: usize) -> &'a [Run]
-    requires pieces { IsPieces 0 ends.now (length runs.now) }
-    requires k { k < length ends.now }
-    ensures { result.now ≡ slice_index_or (pieces_of runs.now 0 ends.now) k [] }
-{
-    let (until, _) = runs.split_at(ends[k]);
-    let (_, piece) = until.split_at(start_of(ends, k));
-    piece
 }
 
 /// The merged states of a group of rules, kept place by kept place. Contracts see the kept groups,

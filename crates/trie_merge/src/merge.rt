@@ -5,7 +5,6 @@ ghost use Rattle.std.specs.Prelude.{◌≡◌, ℕ, ◌<◌, ◌+◌, ◌*◌, �
 ghost use Rattle.std.specs.List.Sorted.{IsStrictlyIncreasing};
 ghost use Rattle.std.specs.Prelude.{true, false, Some, None, take, All, OnOk, IfOk, if◌then◌else◌};
 ghost use Rattle.shared_parts.specs.Keys.{has_entry};
-ghost use Rattle.shared_parts.specs.Tree.{Tree, leaves};
 ghost use Rattle.shared_parts.specs.Target.{count};
 ghost use Rattle.trie_merge.specs.Cuts.{CanAsk, CanGoOn, CutsFor};
 ghost use Rattle.shared_parts.specs.declared.target.Target.{Target};
@@ -17,8 +16,8 @@ ghost use Rattle.trie_merge.specs.Led.{StepsLed, AllLed};
 ghost use Rattle.table_sizes.specs.Sizes.{cost_of, max_words, row_len};
 ghost use Rattle.trie_merge.specs.Lists.{level_found, price, least_cost, least_words, IsMergedWithin};
 ghost use Rattle.trie_merge.specs.Merged.{StateMerged};
-ghost use Rattle.trie_merge.specs.Pieces.{pieces_of, IsPieces};
-ghost use Rattle.trie_merge.specs.Shared.{IsIn, AreIn, ArePlaced, IsFor};
+ghost use Rattle.shared_parts.specs.Slices.{pieces_of, IsPieces};
+ghost use Rattle.trie_merge.specs.Shared.{RuleTree, IsIn, AreIn, ArePlaced, IsFor};
 
 use crate::column::Column;
 use crate::cuts::{Cuts, fill_cuts, words_of};
@@ -195,8 +194,8 @@ fn price_ahead(
     requires some { 0 < number }
     requires there { number ≤ count target.now }
     ensures cuts { OnOk result (CutsFor (Some next.now) target.now cuts.new.items) }
-    ensures price { IfOk result (λ words. (set : RuleSetView) (tree : Tree) (list : List ℕ) →
-        IsStrictlyIncreasing (leaves tree) → IsIn set target.now tree list number →
+    ensures price { IfOk result (λ words. (set : RuleSetView) (tree : RuleTree) (list : List ℕ) →
+        IsStrictlyIncreasing tree.rules → IsIn set target.now tree list number →
         words ≤ price (Some next.now) false list) }
     ensures bound { IfOk result (λ words. (0 < words) × (words ≤ 256)) }
 {
@@ -222,8 +221,8 @@ fn price(
     requires some { 0 < number }
     requires there { number ≤ count target.now }
     ensures cuts { OnOk result (CutsFor place.now.next target.now cuts.new.items) }
-    ensures price { IfOk result (λ words. (set : RuleSetView) (tree : Tree) (list : List ℕ) →
-        IsStrictlyIncreasing (leaves tree) → IsIn set target.now tree list number →
+    ensures price { IfOk result (λ words. (set : RuleSetView) (tree : RuleTree) (list : List ℕ) →
+        IsStrictlyIncreasing tree.rules → IsIn set target.now tree list number →
         words ≤ price place.now.next place.now.is_last list) }
     ensures bound { IfOk result (λ words. (0 < words) × (words ≤ 256)) }
     ensures row { IfOk result (λ words. place.now.is_last ≡ true → words ≡ 16) }
@@ -255,8 +254,8 @@ fn price_all(
     requires seen { seen ≤ length found.now }
     requires few { length found.now ≤ seen + 256 }
     ensures cuts { OnOk result (CutsFor place.now.next target.now cuts.new.items) }
-    ensures price { IfOk result (λ words. (set : RuleSetView) (tree : Tree) (lists : List (List ℕ)) →
-        IsStrictlyIncreasing (leaves tree) → AreIn set target.now tree lists found.now →
+    ensures price { IfOk result (λ words. (set : RuleSetView) (tree : RuleTree) (lists : List (List ℕ)) →
+        IsStrictlyIncreasing tree.rules → AreIn set target.now tree lists found.now →
         least_cost place.now.next place.now.is_last (take seen lists) + words
         ≤ least_cost place.now.next place.now.is_last lists) }
     ensures some { IfOk result (λ words. length found.now ≤ seen + words) }
@@ -293,7 +292,7 @@ pub(crate) fn merge_states(
     ensures led { IfOk result (λ merged. (steps : List (List Piece)) ×
         AllLed place.now.column parts.now target merged.reached.target steps) }
     ensures merged { IfOk result
-        (λ merged. (set : RuleSetView) (group : List ℕ) (tree : Tree) (lists : List (List ℕ)) →
+        (λ merged. (set : RuleSetView) (group : List ℕ) (tree : RuleTree) (lists : List (List ℕ)) →
         IsFor set place.now.is_last target → ArePlaced set group tree parts.now lists states.now →
         IsMergedWithin set place.now.column place.now.is_last budget.cap budget.before lists
         (pieces_of merged.pieces.runs.items 0 merged.pieces.ends.items) merged.words
@@ -305,7 +304,7 @@ pub(crate) fn merge_states(
     ensures pieces { IfOk result
         (λ merged. IsPieces 0 merged.pieces.ends.items (length merged.pieces.runs.items)) }
     ensures over { (result ≡ Err MergeFault.OverCap) →
-        (set : RuleSetView) (group : List ℕ) (tree : Tree) (lists : List (List ℕ)) →
+        (set : RuleSetView) (group : List ℕ) (tree : RuleTree) (lists : List (List ℕ)) →
         IsFor set place.now.is_last target → ArePlaced set group tree parts.now lists states.now →
         budget.cap < least_words set place.now.column place.now.next place.now.is_last budget.before
         lists }

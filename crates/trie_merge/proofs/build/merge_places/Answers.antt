@@ -97,8 +97,8 @@ loop-j-preserved c =
     c.in-Ok.merged.reached.target led.0 _ c.in-Ok.merged.reached.found.keys c.in-Ok.merged.words
     kind c.in_ok-target.ensures.none led.1 merged c.in-Ok.ensures.inside)
 
-pub returns-clause-walked : goal.returns-clause-walked
-returns-clause-walked c =
+pub returns-clause-walk : goal.returns-clause-walk
+returns-clause-walk c =
     let set = c.args.rules.now in
     let group = c.args.group.now in
     let its = c.requires.group in

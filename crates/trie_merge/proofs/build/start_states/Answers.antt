@@ -26,6 +26,8 @@ returns c =
       one = c.in_ok-insert_full.ensures.keys
           ∙ ap (λ keys. insert_key nat_eq keys number) (no_keys c.new-found.result.keys c.new-found.ensures.len);
       within = c.in_ok-number.ensures.within;
+      order = c.args.group.now;
+      same = λ rule. refl;
       all = subst (λ es. IsAll pairs es number) its c.in_ok-number.ensures.all;
       entries = λ entry has. elim (c.in_ok-number.ensures.entries entry has) [
         | inl was ↦ absurd (true≢false (sym was ∙ ap (λ ps. has_entry ps entry) c.new-parts.ensures))

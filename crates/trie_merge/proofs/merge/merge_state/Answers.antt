@@ -7,8 +7,8 @@ use Rattle.trie_merge.specs.Led.{step_of}
 use Rattle.table_sizes.specs.Sizes.{cost_of}
 use Rattle.trie_merge.specs.Levels.{runs_of}
 use Rattle.trie_merge.specs.Numbers.{succ_of}
-use Rattle.trie_merge.specs.Pieces.{pieces_of, IsPieces}
-use Rattle.trie_merge.proofs.Pieces.{pieces-push, IsPieces-push}
+use Rattle.shared_parts.specs.Slices.{pieces_of, IsPieces}
+use Rattle.shared_parts.proofs.Offered.{pieces-push, IsPieces-push}
 use Rattle.trie_merge.proofs.merge.merge_state.Goals as goal
 
 -- the runs of the pieces

@@ -8,7 +8,7 @@ use Rattle.trie_merge.specs.declared.run.Run.{Run}
 use Rattle.trie_merge.specs.Cuts.{CutsFor}
 use Rattle.table_sizes.specs.Sizes.{row_len}
 use Rattle.trie_merge.specs.Lists.{least_cost}
-use Rattle.trie_merge.specs.Pieces.{pieces_of}
+use Rattle.shared_parts.specs.Slices.{pieces_of}
 use Rattle.trie_merge.specs.Shared.{AreIn, ArePlaced}
 use Rattle.trie_merge.proofs.Merging.{SoFar, none_so_far, found_inside, few_more, still_ask, cuts_stay, no_cuts_yet}
 use Rattle.trie_merge.proofs.Merging.{one_more_state, all_merged, past_cap}

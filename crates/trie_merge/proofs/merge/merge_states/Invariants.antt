@@ -1,6 +1,6 @@
 use Rattle.std.proofs.Common.{◌+◌, ◌≤◌, take, length}
 use Rattle.trie_merge.specs.Cuts.{CutsFor}
-use Rattle.trie_merge.specs.Pieces.{pieces_of, IsPieces}
+use Rattle.shared_parts.specs.Slices.{pieces_of, IsPieces}
 use Rattle.trie_merge.proofs.Merging.{SoFar}
 use Rattle.trie_merge.proofs.merge.merge_states.Given as goal
 

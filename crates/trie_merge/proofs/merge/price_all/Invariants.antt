@@ -1,17 +1,16 @@
 use Rattle.std.proofs.Common.{◌≡◌, ℕ, ◌+◌, ◌*◌, ◌≤◌, List, take, true}
 use Rattle.std.specs.List.Sorted.{IsStrictlyIncreasing}
 use Rattle.rule_set.specs.Rule.{RuleSetView}
-use Rattle.shared_parts.specs.Tree.{Tree, leaves}
 use Rattle.trie_merge.specs.Cuts.{CutsFor}
 use Rattle.table_sizes.specs.Sizes.{row_len}
 use Rattle.trie_merge.specs.Lists.{least_cost}
-use Rattle.trie_merge.specs.Shared.{AreIn}
+use Rattle.trie_merge.specs.Shared.{RuleTree, AreIn}
 use Rattle.trie_merge.proofs.merge.price_all.Given as goal
 
 abbrev pub invariant-loop-k : goal.invariant-loop-k
 invariant-loop-k l =
     CutsFor l.place.next l.target l.cuts.items
-    × ((set : RuleSetView) (tree : Tree) (lists : List (List ℕ)) → IsStrictlyIncreasing (leaves tree)
+    × ((set : RuleSetView) (tree : RuleTree) (lists : List (List ℕ)) → IsStrictlyIncreasing tree.rules
     → AreIn set l.target tree lists l.found
     → least_cost l.place.next l.place.is_last (take l.seen lists) + l.words
     ≤ least_cost l.place.next l.place.is_last (take l.k lists))

@@ -1,5 +1,5 @@
 use Rattle.std.proofs.Common.{◌≡◌, length, sym, ◌∙◌, ap, arith}
-use Rattle.shared_parts.proofs.Slices.{length-pieces}
+use Rattle.shared_parts.proofs.SliceLaws.{length-pieces}
 use Rattle.shared_parts.proofs.steps.Steps.pieces.Goals as goal
 
 pub slice-requires-clause-k : goal.slice-requires-clause-k

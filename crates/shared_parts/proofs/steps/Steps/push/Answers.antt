@@ -1,7 +1,7 @@
 use Rattle.std.proofs.Common.{◌≡◌, ℕ, ◌+◌, List, [], ◌∷◌, ◌++◌, length, sym, ◌∙◌, ap, subst, arith, length-append}
 use Rattle.shared_parts.specs.declared.pieces.Piece.{Piece}
 use Rattle.shared_parts.specs.Slices.{pieces_of, IsPieces}
-use Rattle.shared_parts.proofs.Slices.{pieces-push, IsPieces-push}
+use Rattle.shared_parts.proofs.SliceLaws.{pieces-push, IsPieces-push}
 use Rattle.shared_parts.proofs.steps.Steps.push.Goals as goal
 
 pub invariant_of-self-2 : goal.invariant_of-self-2

@@ -1,9 +1,9 @@
 use Rattle.std.proofs.Common.{◌≡◌, length, sym, ◌∙◌, ap, arith}
-use Rattle.trie_merge.proofs.Pieces.{length-pieces}
+use Rattle.shared_parts.proofs.Offered.{length-pieces}
 use Rattle.trie_merge.proofs.levels.Level.runs.Goals as goal
 
-pub piece-requires-clause-k : goal.piece-requires-clause-k
-piece-requires-clause-k c =
+pub slice-requires-clause-k : goal.slice-requires-clause-k
+slice-requires-clause-k c =
     let inside = c.self.inside.pieces in
     let long : length c.args.self.now ≡ length inside.ends.items = sym (ap length c.self.view_is)
     ∙ length-pieces inside.runs.items 0 inside.ends.items in

@@ -7,7 +7,7 @@ use Rattle.trie_merge.proofs.levels.Levels.build.Goals as goal
 pub returns-clause-levels : goal.returns-clause-levels
 unfolding levels_of
 returns-clause-levels c =
-    let walked = c.in-Ok.ensures.walked in
+    let walked = c.in-Ok.ensures.walk in
     let rows = c.in_ok-rows.rows in
     let count : c.len.result ≡ length (rows_of c.args.rules.now c.args.group.now) =
     omega (arith, c.len.ensures, rows.ok, ap length c.in_ok-rows.ensures) in
@@ -25,7 +25,7 @@ pub returns-clause-within : goal.returns-clause-within
 returns-clause-within c =
     omega (
       arith,
-      c.in-Ok.ensures.walked.within,
+      c.in-Ok.ensures.walk.within,
       c.len.ensures,
       c.in_ok-rows.rows.ok,
       ap length c.in_ok-rows.ensures,
