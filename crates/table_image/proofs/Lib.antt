@@ -11,6 +11,7 @@ pub mod TablesRead
 pub mod TablesSpelled
 pub mod Images
 pub mod Loops
+pub mod Portions
 pub mod TableSteps
 pub mod ImageSteps
 pub mod Written

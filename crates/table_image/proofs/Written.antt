@@ -2,7 +2,8 @@
 use Rattle.std.proofs.Common.{◌≡◌, ℕ, zero, suc, ◌+◌, ◌*◌, ◌^◌, ◌<◌, ◌≤◌, List, [], ◌∷◌, ◌++◌, length, take, drop, map, sum, refl, sym, ap, ◌∙◌, arith, append_assoc, get_or, Bool, true, None}
 use Rattle.std.specs.Prelude.{nat_lt, ◌&&◌, ◌==◌, Result, Ok, Err, OnOk}
 use Rattle.std.specs.List.{flat_map, list_all, range_with_len}
-use Rattle.std.proofs.lemmas.List.{take_more, take_all, flat_map_more, drop_more, get_or_default}
+use Rattle.std.proofs.lemmas.List.{append-nil, take-append-drop, take_more, take_all, flat_map_more, drop_more, get_or_default}
+use Rattle.std.proofs.lemmas.Grind.{flat_map-append}
 use Rattle.std.proofs.lemmas.List.Folds.{list_all_more}
 use Rattle.std.proofs.lemmas.List.Sums.{sum_by-cons}
 use Rattle.std.proofs.lemmas.Bool.{and_parts, and_from, lt-ltb, ltb-true}
@@ -31,6 +32,21 @@ one_more f old now next xs i x within is e n =
 pub all_of : {A : Type 0} (f : A → List ℕ) (old now : List ℕ) (xs : List A) (n : ℕ) → length xs ≤ n →
     now ≡ old ++ flat_map f (take n xs) → now ≡ old ++ flat_map f xs
 all_of f old now xs n all e = e ∙ ap (λ ys. old ++ flat_map f ys) (take_all n xs all)
+
+-- some of the numbers are written, and the others after them
+pub some_written : (size n : ℕ) (xs some others out now all : List ℕ) → some ≡ take n xs → others ≡ drop n xs →
+    now ≡ out ++ all_spelled size some → out ++ all_spelled size xs ≡ all → now ++ all_spelled size others ≡ all
+some_written size n xs some others out now all front back e f =
+    let parts : all_spelled size some ++ all_spelled size others ≡ all_spelled size xs =
+    sym (flat_map-append (spelled size) some others)
+    ∙ ap (all_spelled size) (ap (λ ys. ys ++ others) front ∙ ap (λ ys. take n xs ++ ys) back ∙ take-append-drop n xs) in
+    ap (λ ys. ys ++ all_spelled size others) e ∙ append_assoc out (all_spelled size some) (all_spelled size others)
+    ∙ ap (λ ys. out ++ ys) parts ∙ f
+
+-- and no others
+pub none_left : (size : ℕ) (left out all : List ℕ) → length left ≡ 0 → out ++ all_spelled size left ≡ all → out ≡ all
+none_left size [] out all e f = sym (append-nil out) ∙ f
+none_left size (x ∷ left) out all e f = absurd (omega arith)
 
 -- what each element passes, all pass
 pub all_from : (p : ℕ → Bool) (xs : List ℕ) → ((k : ℕ) → k < length xs → p (get_or xs k 0) ≡ true) → list_all p xs ≡ true

@@ -12,6 +12,9 @@ pub(crate) const SHORT: usize = 4;
 /// How many bytes a number of 64 bits has.
 pub(crate) const LONG: usize = 8;
 
+/// How many words are read or written at a time: 1 KiB, which stays in the nearest cache.
+pub(crate) const PORTION: usize = 128;
+
 /// The value, if it passes the check at the place.
 pub(crate) fn checked<T: Copy>(
     value: T,

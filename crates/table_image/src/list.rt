@@ -1,6 +1,6 @@
-//! Lists that grow while an image is read.
+//! Lists that grow while an image is read or written.
 
-ghost use Rattle.std.specs.Prelude.{◌≡◌, ◌++◌, ◌∷◌, [], OnOk};
+ghost use Rattle.std.specs.Prelude.{◌≡◌, ◌+◌, ◌^◌, ◌<◌, ◌++◌, ◌∷◌, [], length, replicate, OnOk};
 
 use std::alloc::AllocError;
 
@@ -11,4 +11,17 @@ pub(crate) fn push<T: Drop>(list: &mut Vec<T>, value: T) -> Result<(), AllocErro
 {
     list.push(value)?;
     Ok(())
+}
+
+/// Puts so many copies of the value after the others.
+#[inline]
+pub(crate) fn push_copies<T: Copy + Drop>(
+    list: &mut Vec<T>,
+    count: usize,
+    value: T,
+) -> Result<(), AllocError>
+    requires { length list.old.items + count < 2 ^ 64 }
+    ensures { OnOk result (list.new.items ≡ list.old.items ++ replicate count value) }
+{
+    list.resize(list.len() + count, value)
 }

@@ -50,7 +50,7 @@ fn read_version(bytes: &[u8]) -> Result<Version, ImageFault>
 /// memory lasts.
 ///
 /// Memory is taken for the tables alone, and never for words or rows that aren't there: so bytes
-/// that are no image make it take no more than their own length and some kilobytes.
+/// that are no image make it take no more than their own length and 8 KiB.
 pub fn load(alloc: Global, bytes: &[u8]) -> Result<TablePair, LoadFault>
     ensures pair { IfOk result (λ pair. image_of bytes.now ≡ Ok (pair_of pair)) }
     ensures image { IfOk result (λ pair. IsImage One bytes.now (pair_of pair)

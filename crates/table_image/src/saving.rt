@@ -1,6 +1,6 @@
 //! A pair of tables in, its image of version 2 out.
 
-ghost use Rattle.std.specs.Prelude.{◌≡◌, ◌+◌, ◌-◌, ◌*◌, ◌≤◌, ◌<◌, ◌^◌, ◌++◌, length, OnOk, IfOk, true, None};
+ghost use Rattle.std.specs.Prelude.{◌≡◌, ◌+◌, ◌-◌, ◌*◌, ◌≤◌, ◌<◌, ◌^◌, ◌++◌, length, take, OnOk, IfOk, true, None};
 ghost use Rattle.std.specs.List.{flat_map, list_all};
 ghost use Rattle.flat_table.specs.Sound.{begins_with_zeros, sound_fault};
 ghost use Rattle.table_image.specs.declared.version.Version.TheVariants.{Two};
@@ -8,6 +8,9 @@ ghost use Rattle.table_image.specs.Spelling.{spelled, all_spelled, spelled_tries
 ghost use Rattle.table_image.specs.Spelling.{is_word, is_row, HasWords, CanBeSaved, IsImage};
 ghost use Rattle.table_image.specs.Loading.{pair_of_tables};
 
+use crate::field::{LONG, PORTION};
+use crate::list::push_copies;
+use byteorder::{BigEndian, ByteOrder};
 use flat_table::Table;
 use std::alloc::{AllocError, Global};
 use table_sizes::ROW_LEN;
@@ -44,13 +47,37 @@ fn put_lens(out: &mut Vec<u8>, lens: &[u32]) -> Result<(), AllocError>
     Ok(())
 }
 
+/// Writes the bytes of the words from the place on, which are the last ones.
+#[tactic(auto, unfolding(crate::specs::Spelling::spelled))]
+fn write_words(out: &mut [u8], at: usize, words: &[u64])
+    requires { length out.old ≡ at + 8 * length words.now }
+    ensures { out.new ≡ take at out.old ++ all_spelled 8 words.now }
+{
+    BigEndian::write_u64_into(words, &mut out[at..]);
+}
+
+/// Puts the bytes of a portion of the words after the others.
+fn put_portion(out: &mut Vec<u8>, words: &[u64]) -> Result<(), AllocError>
+    requires { length words.now ≤ 128 }
+    ensures text { OnOk result (out.new.items ≡ out.old.items ++ all_spelled 8 words.now) }
+    ensures typed { OnOk result (list_all is_word words.now ≡ true) }
+{
+    let at = out.len();
+    push_copies(out, LONG * words.len(), 0)?;
+    write_words(out, at, words);
+    Ok(())
+}
+
 /// Puts the bytes of the words after the others.
 fn put_words(out: &mut Vec<u8>, words: &[u64]) -> Result<(), AllocError>
     ensures text { OnOk result (out.new.items ≡ out.old.items ++ all_spelled 8 words.now) }
     ensures typed { OnOk result (list_all is_word words.now ≡ true) }
 {
-    for word in words {
-        put_long(out, *word)?;
+    let mut left = words;
+    for portion in 0..words.len() / PORTION + 1 {
+        let (some, others) = left.split_at(left.len().min(PORTION));
+        put_portion(out, some)?;
+        left = others;
     }
     Ok(())
 }
@@ -62,7 +89,7 @@ fn put_rows(out: &mut Vec<u8>, rows: &[[u64; ROW_LEN]]) -> Result<(), AllocError
     ensures typed { OnOk result (list_all is_row rows.now ≡ true) }
 {
     for row in rows {
-        put_words(out, row)?;
+        put_portion(out, row)?;
     }
     Ok(())
 }

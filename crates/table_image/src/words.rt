@@ -1,20 +1,106 @@
 //! The words of a table, read field by field.
 
-ghost use Rattle.std.specs.Prelude.{◌≡◌, ◌+◌, ◌*◌, ◌-◌, ◌≤◌, ◌<◌, ◌^◌, ◌/◌, [], ◌∷◌, ◌++◌, length, sum, map, IfOk, IfErr, OnOk, Ok, Err, IsTrue};
+ghost use Rattle.std.specs.Prelude.{◌≡◌, ◌+◌, ◌*◌, ◌-◌, ◌≤◌, ◌<◌, ◌^◌, ◌/◌, [], ◌∷◌, ◌++◌, length, sum, take, map, IfOk, IfErr, OnOk, Ok, Err, IsTrue, nat_lt, ◌&&◌};
 ghost use Rattle.flat_table.specs.Table.{levels_from};
 ghost use Rattle.flat_table.specs.Sound.{first_level, is_sound_word};
+ghost use Rattle.flat_table.specs.Word.{index_of, is_match, is_unbounded};
 ghost use Rattle.table_sizes.specs.Sizes.{max_words};
 ghost use Rattle.flat_table.specs.Groups.{depth_of, longest_key};
 ghost use Rattle.table_image.specs.declared.fault.ImageKind.TheVariants.{Unsound};
-ghost use Rattle.table_image.specs.Reading.{numbers_after, words_of_levels, words_of_tries};
+ghost use Rattle.table_image.specs.Reading.{checked, numbers_after, words_of_levels, words_of_tries};
 ghost use Rattle.table_image.specs.Loading.{IsFaultOf, levels_of_tries};
 
-use crate::fault::{ImageKind, LoadFault};
-use crate::field::{LONG, checked, long};
-use crate::list::push;
+use crate::fault::{ImageFault, ImageKind, LoadFault};
+use crate::field::{LONG, PORTION, checked};
+use crate::list::push_copies;
 use crate::tries::Tries;
-use flat_table::{Level, depth_of, is_sound_word};
+use byte_numbers::network_u64_at;
+use flat_table::{Level, MATCH, depth_of, is_sound_word};
 use std::alloc::Global;
+
+/// Whether the word is the match of one of so many rows. Its other bits are told by one test.
+fn is_match_of(rows: usize, word: u64) -> bool
+    ensures { result ≡ (is_match word && (is_unbounded word && nat_lt (index_of word) rows)) }
+{
+    word.wrapping_sub(MATCH << 29) < rows.min(1 << 29) as u64
+}
+
+/// The word, if it names one of so many rows or leads into the next level. Most words of a table
+/// are matches, so those are told first.
+fn sound_word(rows: usize, next: Level, word: u64, at: usize) -> Result<u64, ImageFault>
+    requires { next.from + next.len < 2 ^ 64 }
+    ensures { result ≡ checked (is_sound_word rows next word) Unsound at word }
+{
+    if is_match_of(rows, word) {
+        return Ok(word);
+    }
+    checked(
+        word,
+        is_sound_word(rows, next, word),
+        ImageKind::Unsound,
+        at,
+    )
+}
+
+/// Reads the words of a list from one on, in their places. The list stands from a place on, and all
+/// of it is there; each word names one of so many rows, or leads into the next level.
+fn read_whole(
+    words: &mut [u64],
+    start: usize,
+    rows: usize,
+    next: Level,
+    bytes: &[u8],
+    from: usize,
+) -> Result<(), ImageFault>
+    requires next { next.from + next.len < 2 ^ 64 }
+    requires start { start ≤ length words.old }
+    requires inside { from + 8 * length words.old ≤ length bytes.now }
+    ensures words { OnOk result (numbers_after Unsound 8 (λ _. is_sound_word rows next) bytes.now
+        from (length words.old - start) (take start words.old) ≡ Ok words.new) }
+    ensures fault { IfErr result (λ fault. numbers_after Unsound 8 (λ _. is_sound_word rows next)
+        bytes.now from (length words.old - start) (take start words.old) ≡ Err fault) }
+    ensures len { OnOk result (length words.new ≡ length words.old) }
+{
+    let (_before, list) = bytes.split_at(from);
+    for i in start..words.len() {
+        let word = network_u64_at(list, LONG * i);
+        let word = sound_word(rows, next, word, from + LONG * i)?;
+        words[i] = word;
+    }
+    Ok(())
+}
+
+/// Reads so many words of a level after those before them. The list of all words stands from a
+/// place on; each word names one of so many rows, or leads into the next level.
+fn read_portion(
+    words: &mut Vec<u64>,
+    rows: usize,
+    next: Level,
+    bytes: &[u8],
+    from: usize,
+    count: usize,
+) -> Result<(), LoadFault>
+    requires next { next.from + next.len < 2 ^ 64 }
+    requires inside { from + 8 * length words.old.items ≤ length bytes.now }
+    requires few { count < 2 ^ 32 }
+    ensures words { OnOk result
+        (numbers_after Unsound 8 (λ _. is_sound_word rows next) bytes.now from count words.old.items
+        ≡ Ok words.new.items) }
+    ensures fault { IfErr result (IsFaultOf
+        (numbers_after Unsound 8 (λ _. is_sound_word rows next) bytes.now from count
+        words.old.items)) }
+    ensures inside { OnOk result (from + 8 * length words.new.items ≤ length bytes.now) }
+    ensures len { OnOk result (length words.new.items ≡ length words.old.items + count) }
+{
+    let start = words.len();
+    let at = from + LONG * start;
+    let whole = count.min((bytes.len() - at) / LONG);
+    push_copies(words, whole, 0)?;
+    read_whole(words, start, rows, next, bytes, from)?;
+    let end = at + LONG * whole;
+    checked((), whole == count, ImageKind::Length, end)?;
+    Ok(())
+}
 
 /// Reads the words of a level, so many, after those of the levels before it. The list of all words
 /// stands from a place on; each word names one of so many rows, or leads into the next level.
@@ -28,6 +114,7 @@ fn read_level(
 ) -> Result<(), LoadFault>
     requires next { next.from + next.len < 2 ^ 64 }
     requires inside { from + 8 * length words.old.items ≤ length bytes.now }
+    requires few { count < 2 ^ 32 }
     ensures words { OnOk result
         (numbers_after Unsound 8 (λ _. is_sound_word rows next) bytes.now from count words.old.items
         ≡ Ok words.new.items) }
@@ -37,17 +124,11 @@ fn read_level(
     ensures inside { OnOk result (from + 8 * length words.new.items ≤ length bytes.now) }
     ensures len { OnOk result (length words.new.items ≡ length words.old.items + count) }
 {
-    let mut at = from + LONG * words.len();
-    for word in 0..count {
-        let number = long(bytes, at)?;
-        let number = checked(
-            number,
-            is_sound_word(rows, next, number),
-            ImageKind::Unsound,
-            at,
-        )?;
-        push(words, number)?;
-        at += LONG;
+    let mut left = count;
+    for portion in 0..count / PORTION + 1 {
+        let some = left.min(PORTION);
+        read_portion(words, rows, next, bytes, from, some)?;
+        left -= some;
     }
     Ok(())
 }
