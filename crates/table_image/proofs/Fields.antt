@@ -1,12 +1,12 @@
 -- A number in network order is read as it is spelled, and spelled as it is read.
-use Rattle.std.proofs.Common.{◌≡◌, ℕ, zero, suc, ◌+◌, ◌-◌, ◌*◌, ◌/◌, ◌%◌, ◌^◌, ◌<◌, ◌≤◌, List, [], ◌∷◌, ◌++◌, length, take, drop, fold}
-use Rattle.std.proofs.Common.{refl, sym, ap, ◌∙◌, arith, Bool, true, false, All, length-append, get_or}
+use Rattle.std.proofs.Common.{◌≡◌, ℕ, zero, suc, ◌+◌, ◌*◌, ◌/◌, ◌%◌, ◌^◌, ◌<◌, ◌≤◌, List, [], ◌∷◌, ◌++◌, length, take, fold}
+use Rattle.std.proofs.Common.{refl, sym, ap, ◌∙◌, arith, All, get_or}
 use Rattle.std.proofs.Math.Nat.{pow-succ', add-mul, mul_assoc, mul-le-mul_right, mod-eq_of_lt, div-one, one-le-pow, mod-one}
-use Rattle.std.proofs.lemmas.List.{get_or_default, take_all, take_at, drop_at, drop-drop, take-append-drop, length-take-le}
-use Rattle.std.proofs.lemmas.List.Elements.{All-head, All-tail, All-take, All-drop}
+use Rattle.std.proofs.lemmas.List.{get_or_default, take_at}
+use Rattle.std.proofs.lemmas.List.Elements.{All-head, All-tail}
 use Rattle.std.proofs.lemmas.Nat.{div-mul-add, div-add-mod'}
 use Rattle.std.specs.Int.{byte_at, bytes_high_first}
-use Rattle.byte_numbers.specs.Number.{number_of, number_at}
+use Rattle.byte_numbers.specs.Number.{number_of}
 use Rattle.list_lemmas.proofs.Numbers.{byte_of_end, end_of_end}
 use Rattle.table_image.specs.Spelling.{spelled}
 

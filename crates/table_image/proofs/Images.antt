@@ -1,23 +1,22 @@
 -- Bytes are read exactly where they are the image of a pair of tables.
-use Rattle.std.proofs.Common.{◌≡◌, ℕ, zero, suc, ◌+◌, ◌-◌, ◌*◌, ◌^◌, ◌<◌, ◌≤◌, List, [], ◌∷◌, ◌++◌, length, take, drop}
-use Rattle.std.proofs.Common.{refl, sym, ap, ◌∙◌, arith, Bool, true, false, append_assoc, Ok, Err, ◌⊎◌, inl, inr, length-drop}
+use Rattle.std.proofs.Common.{◌≡◌, ℕ, List, [], ◌++◌, length, drop}
+use Rattle.std.proofs.Common.{refl, sym, ap, ◌∙◌, arith, Bool, true, Ok, ◌⊎◌, inl, inr, length-drop}
 use Rattle.std.specs.Prelude.{◌||◌, ◌==◌}
 use Rattle.std.proofs.lemmas.List.{append-nil, drop_all}
-use Rattle.std.proofs.lemmas.Bool.{cases_Bool, lt-ltb, eq-eqb, eqb-true}
+use Rattle.std.proofs.lemmas.Bool.{cases_Bool, eq-eqb, eqb-true}
 use Rattle.std.proofs.Math.Path.{subst}
-use Rattle.flat_table.specs.Groups.{groups_of}
 use Rattle.flat_table.specs.Table.{TableView}
 use Rattle.table_image.specs.declared.version.Version.{Version}
 use Rattle.table_image.specs.declared.version.Version.TheVariants.{One, Two}
 use Rattle.table_image.specs.declared.fault.ImageKind.TheVariants.{Magic, Trailing}
 use Rattle.table_image.specs.declared.fault.ImageKind.TheVariants as kind
 use Rattle.table_image.specs.Spelling.{PairView, magic, short, spelled, spelled_table, spelled_pair, number_of_version, IsSaved, IsImage}
-use Rattle.table_image.specs.Reading.{Reading, ◌>>=◌, checked, tested, TableRead, table_read, version_of, version_read, pair_read, image_of}
+use Rattle.table_image.specs.Reading.{◌>>=◌, checked, tested, TableRead, table_read, version_of, version_read, pair_read, image_of}
 use Rattle.table_image.proofs.Fields.{AreBytes}
-use Rattle.table_image.proofs.Lists.{joined, of_both, both, of_check, check_passed}
-use Rattle.table_image.proofs.NumbersRead.{fits, FieldAt, tested_read, tested_spelled, after_field}
+use Rattle.table_image.proofs.Lists.{of_both, both, of_check, check_passed}
+use Rattle.table_image.proofs.NumbersRead.{fits, tested_read, tested_spelled, after_field}
 use Rattle.table_image.proofs.TablesRead.{table_at}
-use Rattle.table_image.proofs.TablesSpelled.{TableOf, table_spelled}
+use Rattle.table_image.proofs.TablesSpelled.{table_spelled}
 
 -- the version of an image, and where its tables begin
 record VersionAt (bytes : List ℕ) (version : Version) : Type 0 where

@@ -1,7 +1,7 @@
 -- Parts of bytes that stand one after the other, and readings one after the other.
-use Rattle.std.proofs.Common.{◌≡◌, ℕ, zero, suc, ◌+◌, ◌-◌, ◌*◌, ◌<◌, ◌≤◌, List, [], ◌∷◌, ◌++◌, length, take, drop}
-use Rattle.std.proofs.Common.{refl, sym, ap, ◌∙◌, arith, Bool, true, false, not, length-append, length-drop, append_assoc, Ok, Err, Result, Option, Some, None}
-use Rattle.std.proofs.lemmas.List.{drop_at, drop-drop, append-nil}
+use Rattle.std.proofs.Common.{◌≡◌, ℕ, ◌+◌, ◌<◌, ◌≤◌, List, ◌++◌, length, drop}
+use Rattle.std.proofs.Common.{refl, sym, ap, ◌∙◌, arith, Bool, true, false, length-append, length-drop, append_assoc, Ok, Err}
+use Rattle.std.proofs.lemmas.List.{drop_at, drop-drop}
 use Rattle.table_image.specs.declared.fault.ImageKind.{ImageKind}
 use Rattle.table_image.specs.Reading.{Reading, ◌>>=◌, checked}
 

@@ -1,5 +1,5 @@
 -- One more number, trie, level or row is read after those so far.
-use Rattle.std.proofs.Common.{◌≡◌, ℕ, zero, suc, ◌+◌, ◌-◌, ◌*◌, List, [], ◌∷◌, ◌++◌, length, refl, sym, ap, ◌∙◌, arith, Bool, Ok, Err, add-one, take, drop, sum, map, get_or, ◌<◌, ◌≤◌}
+use Rattle.std.proofs.Common.{◌≡◌, ℕ, ◌+◌, ◌*◌, List, [], ◌∷◌, ◌++◌, length, refl, sym, ap, ◌∙◌, arith, Bool, Ok, Err, add-one, take, drop, sum, map, get_or, ◌<◌, ◌≤◌}
 use Rattle.table_image.specs.declared.fault.ImageKind.{ImageKind}
 use Rattle.table_image.specs.declared.fault.ImageFault.{ImageFault}
 use Rattle.table_image.specs.declared.fault.LoadFault.{LoadFault}

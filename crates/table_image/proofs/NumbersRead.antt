@@ -1,11 +1,11 @@
 -- A list of numbers is read exactly where it is spelled and each of them passes its test.
-use Rattle.std.proofs.Common.{◌≡◌, ℕ, zero, suc, ◌+◌, ◌-◌, ◌*◌, ◌^◌, ◌<◌, ◌≤◌, List, [], ◌∷◌, ◌++◌, length, take, drop, sum}
-use Rattle.std.proofs.Common.{refl, sym, ap, ◌∙◌, arith, Bool, true, false, length-append, length-drop, append_assoc, Ok, Err, All}
-use Rattle.std.specs.Prelude.{◌&&◌, nat_lt, nat_le}
-use Rattle.std.specs.List.{list_all, flat_map}
+use Rattle.std.proofs.Common.{◌≡◌, ℕ, zero, suc, ◌+◌, ◌*◌, ◌^◌, ◌<◌, ◌≤◌, List, [], ◌∷◌, ◌++◌, length, take, drop, sum}
+use Rattle.std.proofs.Common.{refl, sym, ap, ◌∙◌, arith, Bool, true, length-append, length-drop, append_assoc, Ok}
+use Rattle.std.specs.Prelude.{nat_lt, nat_le}
+use Rattle.std.specs.List.{list_all}
 use Rattle.std.proofs.lemmas.List.{append-nil, take-append-drop, length-take-le, length_push, drop-drop}
 use Rattle.std.proofs.lemmas.List.Elements.{All-take, All-drop}
-use Rattle.std.proofs.lemmas.List.Sums.{sum_by-append, sum_by-cons}
+use Rattle.std.proofs.lemmas.List.Sums.{sum_by-append}
 use Rattle.std.proofs.lemmas.Bool.Decides.{nat_tests}
 use Rattle.std.proofs.lemmas.Bool.{lt-ltb, le-leb, ltb-true, leb-true, and_parts, and_from}
 use Rattle.byte_numbers.specs.Number.{number_of, number_at}
@@ -13,7 +13,7 @@ use Rattle.table_sizes.specs.Sizes.{max_words}
 use Rattle.table_image.specs.declared.fault.ImageKind.{ImageKind}
 use Rattle.table_image.specs.declared.fault.ImageKind.TheVariants.{Length}
 use Rattle.table_image.specs.Spelling.{spelled, all_spelled}
-use Rattle.table_image.specs.Reading.{Reading, ◌>>=◌, checked, field, tested, numbers_after, level_fits}
+use Rattle.table_image.specs.Reading.{checked, field, tested, numbers_after, level_fits}
 use Rattle.table_image.proofs.Fields.{AreBytes, spelled_again, length_spelled, read_again, fold_below}
 use Rattle.table_image.proofs.Lists.{after, within, joined, of_both, both, of_check, check_passed}
 

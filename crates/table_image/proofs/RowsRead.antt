@@ -1,14 +1,14 @@
 -- The rows of a table are read exactly where they are spelled and their words name rules.
-use Rattle.std.proofs.Common.{◌≡◌, ℕ, zero, suc, ◌+◌, ◌-◌, ◌*◌, ◌^◌, ◌<◌, ◌≤◌, List, [], ◌∷◌, ◌++◌, length, take, drop}
-use Rattle.std.proofs.Common.{refl, sym, ap, ◌∙◌, arith, Bool, true, false, length-append, append_assoc, Ok, Err}
-use Rattle.std.specs.Prelude.{◌&&◌, ◌==◌, nat_lt}
+use Rattle.std.proofs.Common.{◌≡◌, ℕ, zero, suc, ◌+◌, ◌*◌, ◌^◌, List, [], ◌∷◌, ◌++◌, length, drop}
+use Rattle.std.proofs.Common.{refl, sym, ap, ◌∙◌, arith, true, length-append, append_assoc, Ok}
+use Rattle.std.specs.Prelude.{◌==◌, nat_lt}
 use Rattle.std.specs.List.{list_all, flat_map}
 use Rattle.std.proofs.lemmas.List.{append-nil, length_push}
 use Rattle.std.proofs.lemmas.Bool.{and_parts, and_from, eq-eqb, eqb-true}
 use Rattle.table_sizes.specs.Sizes.{row_len}
 use Rattle.table_image.specs.declared.fault.ImageKind.TheVariants.{RowForm}
-use Rattle.table_image.specs.Spelling.{long, spelled, all_spelled, is_row_word, is_row}
-use Rattle.table_image.specs.Reading.{Reading, ◌>>=◌, numbers, numbers_after, rows_after, row_bytes}
+use Rattle.table_image.specs.Spelling.{long, all_spelled, is_row_word, is_row}
+use Rattle.table_image.specs.Reading.{numbers, rows_after, row_bytes}
 use Rattle.table_image.proofs.Fields.{AreBytes}
 use Rattle.table_image.proofs.Lists.{after, joined, of_both, both}
 use Rattle.table_image.proofs.NumbersRead.{fits, numbers_read, numbers_spelled, length-all_spelled, tested_all, all_tested}

@@ -1,27 +1,26 @@
 -- A table that was read stands in the bytes as it is spelled, and can be saved.
-use Rattle.std.proofs.Common.{◌≡◌, ℕ, zero, suc, ◌+◌, ◌-◌, ◌*◌, ◌^◌, ◌<◌, ◌≤◌, List, [], ◌∷◌, ◌++◌, length, take, drop, sum, map}
-use Rattle.std.proofs.Common.{refl, sym, ap, ◌∙◌, arith, Bool, true, false, IsTrue, append_assoc, Ok, Err, Option, Some, None}
-use Rattle.std.specs.Prelude.{◌&&◌, ◌==◌, nat_le}
+use Rattle.std.proofs.Common.{◌≡◌, ℕ, ◌+◌, ◌-◌, ◌*◌, ◌≤◌, List, [], ◌∷◌, ◌++◌, length, drop, sum, map}
+use Rattle.std.proofs.Common.{refl, sym, ap, ◌∙◌, arith, Bool, true, append_assoc, Ok, None}
+use Rattle.std.specs.Prelude.{◌==◌, nat_le}
 use Rattle.std.specs.List.{list_all, flat_map, zip}
 use Rattle.std.proofs.lemmas.List.{append-nil}
 use Rattle.std.proofs.lemmas.Bool.{and_from, le-leb, leb-true, eq-eqb, eqb-true}
-use Rattle.std.proofs.lemmas.Bool.Decides.{nat_tests}
-use Rattle.flat_table.specs.Groups.{is_key_len, is_kept_word, depth_of}
-use Rattle.flat_table.specs.Table.{TableView, levels_from, portions, depths_of, trie_levels}
+use Rattle.flat_table.specs.Groups.{is_key_len, depth_of}
+use Rattle.flat_table.specs.Table.{TableView, depths_of, trie_levels}
 use Rattle.flat_table.specs.Sound.{most_tries, begins_with_zeros, is_shaped, first_unsound_root, first_unsound_word, sound_fault}
 use Rattle.table_sizes.specs.Sizes.{max_words, row_len}
 use Rattle.table_image.specs.declared.version.Version.{Version}
 use Rattle.table_image.specs.declared.version.Version.TheVariants.{One, Two}
 use Rattle.table_image.specs.declared.fault.ImageKind.TheVariants.{Family, TooMany}
-use Rattle.table_image.specs.Spelling.{most_rules, short, long, spelled, all_spelled, spelled_tries, spelled_rows, spelled_table, is_of_version, is_row_word, is_row, CanBeSaved, HasWords, IsSaved}
-use Rattle.table_image.specs.Reading.{Reading, ◌>>=◌, tested, Counts, counts, TriesView, no_tries, tries_after, words_of_tries, rows_after, row_bytes, no_rule, table_of, TableRead, words_and_rows, table_read}
+use Rattle.table_image.specs.Spelling.{most_rules, short, long, spelled, all_spelled, spelled_tries, spelled_table, is_of_version, is_row_word, is_row, IsSaved}
+use Rattle.table_image.specs.Reading.{◌>>=◌, tested, Counts, counts, TriesView, no_tries, tries_after, words_of_tries, rows_after, row_bytes, no_rule, table_of, TableRead, words_and_rows, table_read}
 use Rattle.table_image.proofs.Fields.{AreBytes}
 use Rattle.table_image.proofs.Lists.{joined, of_both}
 use Rattle.table_image.proofs.NumbersRead.{fits, tested_read}
-use Rattle.table_image.proofs.WordsRead.{WordsAt, tries_fault, tries_words_read, none_found}
-use Rattle.table_image.proofs.TriesRead.{TriesAt, tries_read}
+use Rattle.table_image.proofs.WordsRead.{tries_fault, tries_words_read, none_found}
+use Rattle.table_image.proofs.TriesRead.{tries_read}
 use Rattle.table_image.proofs.TriesSound.{root_leads, AreSound, are_sound}
-use Rattle.table_image.proofs.RowsRead.{RowsAt, rows_read}
+use Rattle.table_image.proofs.RowsRead.{rows_read}
 
 -- what was read of the numbers before the tries
 pub record CountsAt (family : ℕ) (bytes : List ℕ) (at : ℕ) (c : Counts) : Type 0 where

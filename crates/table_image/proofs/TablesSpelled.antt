@@ -1,26 +1,26 @@
 -- A table that is spelled and can be saved is read.
-use Rattle.std.proofs.Common.{◌≡◌, ℕ, zero, suc, ◌+◌, ◌-◌, ◌*◌, ◌^◌, ◌<◌, ◌≤◌, List, [], ◌∷◌, ◌++◌, length, take, drop, sum, map, replicate}
-use Rattle.std.proofs.Common.{refl, sym, ap, ◌∙◌, arith, Bool, true, false, IsTrue, append_assoc, Ok, Err, Option, Some, None}
-use Rattle.std.specs.Prelude.{◌&&◌, ◌==◌, nat_le}
+use Rattle.std.proofs.Common.{◌≡◌, ℕ, zero, suc, ◌+◌, ◌-◌, ◌*◌, ◌^◌, ◌≤◌, List, [], ◌∷◌, ◌++◌, length, drop, map, replicate}
+use Rattle.std.proofs.Common.{refl, sym, ap, ◌∙◌, arith, Bool, true, append_assoc, Ok, None}
+use Rattle.std.specs.Prelude.{◌==◌, nat_le}
 use Rattle.std.specs.List.{list_all, flat_map, zip}
 use Rattle.std.proofs.lemmas.List.{append-nil}
-use Rattle.std.proofs.lemmas.Bool.{and_parts, and_from, lt-ltb, le-leb, eq-eqb, eqb-true}
-use Rattle.flat_table.specs.Groups.{groups_of, is_key_len, is_kept_word, depth_of}
-use Rattle.flat_table.specs.Table.{TableView, levels_from, portions, depths_of, trie_levels}
-use Rattle.flat_table.specs.Sound.{most_tries, begins_with_zeros, sound_fault}
+use Rattle.std.proofs.lemmas.Bool.{and_parts, lt-ltb, le-leb, eq-eqb, eqb-true}
+use Rattle.flat_table.specs.Groups.{groups_of, depth_of}
+use Rattle.flat_table.specs.Table.{TableView, trie_levels}
+use Rattle.flat_table.specs.Sound.{most_tries, begins_with_zeros}
 use Rattle.table_sizes.specs.Sizes.{max_words, row_len}
 use Rattle.flat_table.proofs.Offered.{IsSound, sound_parts}
 use Rattle.table_image.specs.declared.version.Version.{Version}
 use Rattle.table_image.specs.declared.version.Version.TheVariants.{One, Two}
 use Rattle.table_image.specs.declared.fault.ImageKind.TheVariants.{Family, TooMany}
-use Rattle.table_image.specs.Spelling.{most_rules, short, long, spelled, all_spelled, spelled_tries, spelled_rows, spelled_table, is_of_version, all_groups, is_row_word, is_row, IsSaved}
-use Rattle.table_image.specs.Reading.{Reading, ◌>>=◌, tested, Counts, counts, TriesView, no_tries, tries_after, words_of_tries, rows_after, row_bytes, no_rule, table_of, TableRead, words_and_rows, table_read}
+use Rattle.table_image.specs.Spelling.{most_rules, short, long, spelled, all_spelled, spelled_tries, spelled_table, is_of_version, all_groups, is_row, IsSaved}
+use Rattle.table_image.specs.Reading.{◌>>=◌, tested, Counts, counts, TriesView, no_tries, tries_after, words_of_tries, rows_after, row_bytes, no_rule, table_of, TableRead, words_and_rows, table_read}
 use Rattle.table_image.proofs.Fields.{length_spelled}
 use Rattle.table_image.proofs.Lists.{after, within, inside, both}
 use Rattle.table_image.proofs.NumbersRead.{fits, tested_spelled, after_field, length-all_spelled}
 use Rattle.table_image.proofs.WordsRead.{tries_fault, none_fails}
 use Rattle.table_image.proofs.WordsSpelled.{Spelled, tries_words_spelled}
-use Rattle.table_image.proofs.TriesSpelled.{with_tries, TriesOf, tries_spelled}
+use Rattle.table_image.proofs.TriesSpelled.{with_tries, tries_spelled}
 use Rattle.table_image.proofs.TriesSound.{root_leads, AreSound, sound_are}
 use Rattle.table_image.proofs.RowsRead.{rows_spelled, length-rows}
 

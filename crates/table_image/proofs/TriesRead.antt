@@ -1,15 +1,14 @@
 -- The tries of a table are read exactly where they are spelled and lawful.
-use Rattle.std.proofs.Common.{◌≡◌, ℕ, zero, suc, ◌+◌, ◌-◌, ◌*◌, ◌/◌, ◌^◌, ◌<◌, ◌≤◌, List, [], ◌∷◌, ◌++◌, length, take, drop, sum, map}
-use Rattle.std.proofs.Common.{refl, sym, ap, ◌∙◌, arith, Bool, true, false, not, length-append, length-drop, append_assoc, Ok, Err, Option, Some, None}
-use Rattle.std.specs.Prelude.{◌&&◌, nat_lt, ◌==◌}
+use Rattle.std.proofs.Common.{◌≡◌, ℕ, zero, suc, ◌+◌, ◌-◌, ◌*◌, ◌/◌, ◌^◌, ◌≤◌, List, [], ◌∷◌, ◌++◌, length, take, drop, sum}
+use Rattle.std.proofs.Common.{refl, sym, ap, ◌∙◌, arith, true, append_assoc, Ok}
+use Rattle.std.specs.Prelude.{nat_lt, ◌==◌}
 use Rattle.std.specs.List.{list_all}
-use Rattle.std.proofs.lemmas.List.{append-nil, take-append-drop, take_at, drop_at, length-take-le}
+use Rattle.std.proofs.lemmas.List.{append-nil, take_at, drop_at}
 use Rattle.std.proofs.lemmas.List.Sums.{sum_by-cons, sum_by-append}
-use Rattle.std.proofs.lemmas.Bool.{and_parts, and_from, lt-ltb, eq-eqb}
+use Rattle.std.proofs.lemmas.Bool.{and_from, lt-ltb, eq-eqb}
 use Rattle.std.proofs.Math.Nat.{div-eq_of_lt, one-le-pow}
 use Rattle.std.proofs.lemmas.Nat.{pow-add}
 use Rattle.std.proofs.Math.Path.{subst}
-use Rattle.std.proofs.lemmas.Bool.Decides.{nat_tests}
 use Rattle.flat_table.specs.Groups.{groups_of, is_kept_word, depth_of}
 use Rattle.flat_table.specs.Table.{levels_from}
 use Rattle.flat_table.specs.Sound.{leads_into, first_level}
@@ -18,10 +17,10 @@ use Rattle.table_image.specs.declared.version.Version.{Version}
 use Rattle.table_image.specs.declared.version.Version.TheVariants.{One, Two}
 use Rattle.table_image.specs.declared.fault.ImageKind.TheVariants.{TooMany, Unsound, KeptGroups}
 use Rattle.table_image.specs.Spelling.{short, long, kept_len, spelled, all_spelled, spelled_kept, spelled_trie, spelled_tries, all_groups}
-use Rattle.table_image.specs.Reading.{Reading, ◌>>=◌, TriesView, tested, numbers, numbers_after, level_fits, kept_groups, trie_of, one_trie, tries_after}
+use Rattle.table_image.specs.Reading.{Reading, ◌>>=◌, TriesView, tested, numbers, level_fits, kept_groups, trie_of, one_trie, tries_after}
 use Rattle.table_image.proofs.Fields.{AreBytes}
-use Rattle.table_image.proofs.Lists.{after, joined, of_both, both}
-use Rattle.table_image.proofs.NumbersRead.{fits, FieldAt, tested_read, tested_spelled, after_field, AllTested, numbers_read, numbers_spelled, length-all_spelled, levels_fit}
+use Rattle.table_image.proofs.Lists.{joined, of_both}
+use Rattle.table_image.proofs.NumbersRead.{fits, tested_read, numbers_read, levels_fit}
 
 -- a trie of these kept groups, this root and these level lengths is lawful, where the rows take some of the words of its
 -- table, and the tries before it others

@@ -1,7 +1,7 @@
 -- Lawful tries are those of which a sound table is made.
-use Rattle.std.proofs.Common.{◌≡◌, ℕ, zero, suc, ◌+◌, ◌-◌, ◌<◌, ◌≤◌, List, [], ◌∷◌, length, take, drop, sum, map, min}
-use Rattle.std.proofs.Common.{refl, sym, ap, ◌∙◌, arith, Bool, true, false, not, Option, Some, None, length-take, length-drop}
-use Rattle.std.specs.Prelude.{◌&&◌, ◌==◌}
+use Rattle.std.proofs.Common.{◌≡◌, ℕ, suc, ◌+◌, ◌≤◌, List, [], ◌∷◌, length, take, drop, sum, map}
+use Rattle.std.proofs.Common.{refl, sym, ap, ◌∙◌, arith, Bool, true, length-take, length-drop}
+use Rattle.std.specs.Prelude.{◌==◌}
 use Rattle.std.specs.List.{list_all, zip}
 use Rattle.std.proofs.lemmas.List.Sums.{sum_by-cons, sum_by-take-drop}
 use Rattle.std.proofs.lemmas.Bool.{and_parts, and_from, eq-eqb, eqb-true}
@@ -12,10 +12,10 @@ use Rattle.flat_table.specs.Sound.{leads_into, first_level}
 use Rattle.table_sizes.specs.Sizes.{max_words}
 use Rattle.flat_table.proofs.Offered.{levels-take, levels-drop}
 use Rattle.table_image.specs.declared.version.Version.{Version}
-use Rattle.table_image.specs.declared.version.Version.TheVariants.{One, Two}
+use Rattle.table_image.specs.declared.version.Version.TheVariants.{One}
 use Rattle.table_image.specs.Spelling.{long, all_groups}
 use Rattle.table_image.proofs.NumbersRead.{fits}
-use Rattle.table_image.proofs.TriesRead.{IsTrie, AreTries}
+use Rattle.table_image.proofs.TriesRead.{AreTries}
 
 -- the root leads into the first level of its trie
 abbrev pub root_leads : ℕ × List Level → Bool

@@ -1,11 +1,10 @@
 -- Tries that are spelled and lawful are read.
-use Rattle.std.proofs.Common.{◌≡◌, ℕ, zero, suc, ◌+◌, ◌-◌, ◌*◌, ◌/◌, ◌^◌, ◌<◌, ◌≤◌, List, [], ◌∷◌, ◌++◌, length, take, drop, sum, map}
-use Rattle.std.proofs.Common.{refl, sym, ap, ◌∙◌, arith, Bool, true, false, not, length-append, append_assoc, Ok, Err, Option, Some, None}
-use Rattle.std.specs.Prelude.{◌&&◌, nat_lt, ◌==◌}
-use Rattle.std.specs.List.{list_all}
+use Rattle.std.proofs.Common.{◌≡◌, ℕ, ◌+◌, ◌*◌, ◌/◌, ◌^◌, ◌<◌, ◌≤◌, List, [], ◌∷◌, ◌++◌, length, take, drop, sum}
+use Rattle.std.proofs.Common.{refl, sym, ap, ◌∙◌, arith, Bool, true, append_assoc, Ok}
+use Rattle.std.specs.Prelude.{nat_lt, ◌==◌}
 use Rattle.std.proofs.lemmas.List.{append-nil, take-append-drop}
 use Rattle.std.proofs.lemmas.List.Sums.{sum_by-cons, sum_by-append}
-use Rattle.std.proofs.lemmas.Bool.{and_parts, and_from, lt-ltb, le-leb, eqb-true}
+use Rattle.std.proofs.lemmas.Bool.{and_parts, lt-ltb, le-leb, eqb-true}
 use Rattle.std.proofs.Math.Path.{subst}
 use Rattle.std.proofs.Math.Nat.{one-le-pow}
 use Rattle.std.proofs.lemmas.Nat.{div-add-mod', mod_below}
@@ -17,7 +16,7 @@ use Rattle.table_image.specs.declared.version.Version.{Version}
 use Rattle.table_image.specs.declared.version.Version.TheVariants.{One, Two}
 use Rattle.table_image.specs.declared.fault.ImageKind.TheVariants.{TooMany, Unsound, KeptGroups}
 use Rattle.table_image.specs.Spelling.{short, long, kept_len, spelled, all_spelled, spelled_kept, spelled_trie, spelled_tries, all_groups}
-use Rattle.table_image.specs.Reading.{Reading, ◌>>=◌, TriesView, tested, numbers, numbers_after, level_fits, kept_groups, trie_of, one_trie, tries_after}
+use Rattle.table_image.specs.Reading.{◌>>=◌, TriesView, tested, numbers, level_fits, kept_groups, trie_of, one_trie, tries_after}
 use Rattle.table_image.proofs.Fields.{length_spelled}
 use Rattle.table_image.proofs.Lists.{after, within, both}
 use Rattle.table_image.proofs.NumbersRead.{fits, tested_spelled, after_field, AllTested, numbers_spelled, length-all_spelled}

@@ -1,11 +1,10 @@
 -- The words of a table are read exactly where they are spelled and sound.
-use Rattle.std.proofs.Common.{◌≡◌, ℕ, zero, suc, ◌+◌, ◌-◌, ◌*◌, ◌^◌, ◌<◌, ◌≤◌, List, [], ◌∷◌, ◌++◌, length, take, drop, sum, map}
-use Rattle.std.proofs.Common.{refl, sym, ap, ◌∙◌, arith, Bool, true, false, not, cond, length-append, length-drop, append_assoc, Ok, Err, Option, Some, None, inl, inr}
-use Rattle.std.specs.Prelude.{◌&&◌}
-use Rattle.std.specs.List.{list_all, flat_map, position_from}
+use Rattle.std.proofs.Common.{◌≡◌, ℕ, ◌+◌, ◌*◌, List, [], ◌∷◌, ◌++◌, length, take, drop, sum, map}
+use Rattle.std.proofs.Common.{refl, sym, ap, ◌∙◌, arith, Bool, true, not, length-append, length-drop, append_assoc, Ok, Option, Some, None, inl, inr}
+use Rattle.std.specs.List.{list_all, position_from}
 use Rattle.std.specs.Option.{option_or}
-use Rattle.std.proofs.lemmas.List.{append-nil, take-append-drop, length-take-le, take_at, drop_at, drop-drop}
-use Rattle.std.proofs.lemmas.List.Sums.{sum_by-append, sum_by-cons, sum_by-take-drop}
+use Rattle.std.proofs.lemmas.List.{append-nil, take_at, drop_at}
+use Rattle.std.proofs.lemmas.List.Sums.{sum_by-cons, sum_by-take-drop}
 use Rattle.std.proofs.lemmas.Bool.{and_parts, and_from, cases_Bool}
 use Rattle.std.proofs.lemmas.List.Folds.{list_all-append}
 use Rattle.std.proofs.lemmas.Grind.{flat_map-append}
@@ -15,10 +14,10 @@ use Rattle.flat_table.specs.Sound.{is_sound_word, first_level, words_in, unsound
 use Rattle.flat_table.proofs.Offered.{levels-take, levels-drop}
 use Rattle.table_image.specs.declared.fault.ImageKind.TheVariants.{Unsound}
 use Rattle.table_image.specs.Spelling.{long, spelled, all_spelled}
-use Rattle.table_image.specs.Reading.{Reading, ◌>>=◌, numbers_after, words_of_levels, words_of_tries}
+use Rattle.table_image.specs.Reading.{numbers_after, words_of_levels, words_of_tries}
 use Rattle.table_image.proofs.Fields.{AreBytes}
-use Rattle.table_image.proofs.Lists.{after, joined, of_both, both}
-use Rattle.table_image.proofs.NumbersRead.{fits, numbers_read, numbers_spelled, length-all_spelled, tested_all, all_tested}
+use Rattle.table_image.proofs.Lists.{joined, of_both, both}
+use Rattle.table_image.proofs.NumbersRead.{fits, numbers_read, tested_all}
 
 -- where each number passes a test, none is found that fails it
 pub none_found : {A : Type 0} (test : A → Bool) (place : ℕ) (ns : List A) → list_all test ns ≡ true →

@@ -1,20 +1,19 @@
 -- Words that are spelled and sound are read.
-use Rattle.std.proofs.Common.{◌≡◌, ℕ, zero, suc, ◌+◌, ◌-◌, ◌*◌, ◌^◌, ◌<◌, ◌≤◌, List, [], ◌∷◌, ◌++◌, length, take, drop, sum, map}
-use Rattle.std.proofs.Common.{refl, sym, ap, ◌∙◌, arith, Bool, true, false, not, length-append, length-drop, append_assoc, Ok, Err, Option, Some, None}
-use Rattle.std.specs.Prelude.{◌&&◌}
-use Rattle.std.specs.List.{list_all, flat_map, position_from}
-use Rattle.std.proofs.lemmas.List.{append-nil, take-append-drop, length-take-le, take_at, drop_at, drop-drop}
+use Rattle.std.proofs.Common.{◌≡◌, ℕ, ◌+◌, ◌*◌, ◌≤◌, List, [], ◌∷◌, ◌++◌, length, take, drop, sum}
+use Rattle.std.proofs.Common.{sym, ap, ◌∙◌, arith, Bool, true, not, length-append, length-drop, append_assoc, Ok, None}
+use Rattle.std.specs.List.{list_all, position_from}
+use Rattle.std.proofs.lemmas.List.{append-nil, take-append-drop, length-take-le}
 use Rattle.std.proofs.lemmas.List.Sums.{sum_by-cons, sum_by-take-drop}
 use Rattle.std.proofs.lemmas.Bool.{and_parts}
 use Rattle.std.proofs.lemmas.List.Folds.{list_all-append}
 use Rattle.std.proofs.lemmas.Grind.{flat_map-append}
 use Rattle.flat_table.specs.declared.level.Level.{Level}
 use Rattle.flat_table.specs.Table.{levels_from, portions}
-use Rattle.flat_table.specs.Sound.{is_sound_word, first_level, words_in, unsound_word, first_some}
+use Rattle.flat_table.specs.Sound.{is_sound_word, first_level, words_in, unsound_word}
 use Rattle.flat_table.proofs.Offered.{levels-take, levels-drop}
 use Rattle.table_image.specs.declared.fault.ImageKind.TheVariants.{Unsound}
 use Rattle.table_image.specs.Spelling.{long, spelled, all_spelled}
-use Rattle.table_image.specs.Reading.{Reading, ◌>>=◌, numbers_after, words_of_levels, words_of_tries}
+use Rattle.table_image.specs.Reading.{numbers_after, words_of_levels, words_of_tries}
 use Rattle.table_image.proofs.Lists.{after, both}
 use Rattle.table_image.proofs.NumbersRead.{fits, numbers_spelled, length-all_spelled, all_tested}
 use Rattle.table_image.proofs.WordsRead.{part_of, both_none, none_fails, tries_fault}

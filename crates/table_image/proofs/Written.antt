@@ -1,10 +1,9 @@
 -- Bytes that are written one part after the other.
 use Rattle.std.proofs.Common.{◌≡◌, ℕ, zero, suc, ◌+◌, ◌*◌, ◌^◌, ◌<◌, ◌≤◌, List, [], ◌∷◌, ◌++◌, length, take, drop, map, sum, refl, sym, ap, ◌∙◌, arith, append_assoc, get_or, Bool, true, None}
-use Rattle.std.specs.Prelude.{nat_lt, ◌&&◌, ◌==◌, Result, Ok, Err, OnOk}
+use Rattle.std.specs.Prelude.{Result, Ok, Err, OnOk}
 use Rattle.std.specs.List.{flat_map, list_all, range_with_len}
-use Rattle.std.proofs.lemmas.List.{append-nil, take-append-drop, take_more, take_all, flat_map_more, drop_more, get_or_default}
+use Rattle.std.proofs.lemmas.List.{append-nil, take-append-drop, take_more, take_all, flat_map_more, drop_more}
 use Rattle.std.proofs.lemmas.Grind.{flat_map-append}
-use Rattle.std.proofs.lemmas.List.Folds.{list_all_more}
 use Rattle.std.proofs.lemmas.List.Sums.{sum_by-cons}
 use Rattle.std.proofs.lemmas.Bool.{and_parts, and_from, lt-ltb, ltb-true}
 use Rattle.std.proofs.lemmas.List.FromFn.{length-range_with_len}
@@ -14,7 +13,7 @@ use Rattle.flat_table.specs.Groups.{groups_of, is_kept, is_kept_word, depth_of}
 use Rattle.flat_table.specs.Sound.{begins_with_zeros}
 use Rattle.flat_table.specs.Table.{TableView}
 use Rattle.flat_table.specs.Sound.{sound_fault}
-use Rattle.flat_table.proofs.Offered.{IsSound, sound_parts}
+use Rattle.flat_table.proofs.Offered.{sound_parts}
 use Rattle.table_image.specs.declared.version.Version.TheVariants.{Two}
 use Rattle.table_image.specs.Spelling.{PairView, magic, spelled_table, spelled_pair, short, long, spelled, all_spelled, spelled_trie, spelled_tries, is_word, is_row}
 use Rattle.table_image.proofs.TablesSpelled.{zeros_are}

@@ -1,15 +1,13 @@
 -- Examples of images, each checked by evaluation.
-use Rattle.std.specs.Prelude.{◌≡◌, ℕ, List, [], ◌∷◌, ◌++◌, ◌+◌, length, replicate, map, refl, Ok, Err, take, drop}
+use Rattle.std.specs.Prelude.{◌≡◌, ℕ, List, [], ◌∷◌, ◌++◌, ◌+◌, length, replicate, map, refl, Ok, take, drop}
 use Rattle.std.specs.Result.{result_err}
 use Rattle.std.specs.List.{range_with_len}
 use Rattle.std.specs.Prelude.{Option, Some, None}
 use Rattle.flat_table.specs.Table.{TableView}
 use Rattle.flat_table.specs.HandmadeTables.{match_of, single_at, table_of, wild_table, empty_table}
 use Rattle.table_image.specs.declared.fault.ImageFault.{ImageFault}
-use Rattle.table_image.specs.declared.fault.ImageKind.{ImageKind}
 use Rattle.table_image.specs.declared.fault.ImageKind.TheVariants.{Magic, Family, Length, TooMany, Unsound, RowForm, Trailing, KeptGroups}
 use Rattle.table_image.specs.declared.fault.ImageKind.TheVariants as kind
-use Rattle.table_image.specs.declared.version.Version.{Version}
 use Rattle.table_image.specs.declared.version.Version.TheVariants.{One, Two}
 use Rattle.table_image.specs.Spelling.{PairView, spelled, spelled_table, spelled_pair}
 use Rattle.table_image.specs.Reading.{image_of, table_read, numbers_after, tries_after, words_of_levels, words_of_tries, rows_after, no_rule, fault_at}

@@ -1,5 +1,5 @@
 -- What the readers of an image have and answer, over what is read of it.
-use Rattle.std.specs.Prelude.{◌≡◌, ℕ, ⊤, List, map, Result, Ok, Err}
+use Rattle.std.specs.Prelude.{◌≡◌, ℕ, ⊤, List, map, Err}
 use Rattle.table_image.specs.declared.fault.LoadFault.{LoadFault}
 use Rattle.table_image.specs.declared.fault.LoadFault.TheVariants.{Image, OutOfMemory}
 use Rattle.table_image.specs.declared.tries.Tries.{Tries}

@@ -1,7 +1,7 @@
 -- The first failing check of an image. Its bytes are read field by field, and each check is made at
 -- the field that it speaks of.
-use Rattle.std.specs.Prelude.{◌≡◌, ℕ, zero, suc, ◌+◌, ◌*◌, ◌==◌, nat_le, List, [], ◌∷◌, ◌++◌, drop, length, sum, replicate}
-use Rattle.std.specs.Prelude.{Bool, ◌||◌, ⊤, Result, Ok, Err, if◌then◌else◌}
+use Rattle.std.specs.Prelude.{ℕ, zero, suc, ◌+◌, ◌*◌, ◌==◌, nat_le, List, [], ◌∷◌, ◌++◌, length, sum, replicate}
+use Rattle.std.specs.Prelude.{Bool, ◌||◌, Result, Ok, Err, if◌then◌else◌}
 use Rattle.byte_numbers.specs.Number.{number_at}
 use Rattle.flat_table.specs.declared.level.Level.{Level}
 use Rattle.flat_table.specs.Groups.{is_kept_word, depth_of}

@@ -8,8 +8,8 @@
 --         kept groups, in version 2: 4          the tries
 --         level lengths: 4 each                 the words: 8 each
 --         root: 8                               the rows from row 1 on: 16 words of 8 each
-use Rattle.std.specs.Prelude.{◌≡◌, ℕ, ◌+◌, ◌-◌, ◌*◌, ◌/◌, ◌^◌, ◌==◌, ◌<◌, ◌≤◌, nat_lt, nat_le, List, [], ◌∷◌, ◌++◌, map, take, drop, length, flat_map}
-use Rattle.std.specs.Prelude.{Bool, ◌&&◌, ◌||◌, All, None, true}
+use Rattle.std.specs.Prelude.{◌≡◌, ℕ, ◌-◌, ◌/◌, ◌^◌, ◌==◌, ◌≤◌, nat_lt, nat_le, List, [], ◌∷◌, ◌++◌, take, drop, length, flat_map}
+use Rattle.std.specs.Prelude.{Bool, ◌&&◌, ◌||◌, None, true}
 use Rattle.std.specs.List.{list_all}
 use Rattle.std.specs.Int.{bytes_high_first}
 use Rattle.flat_table.specs.Groups.{groups_of, depth_of}

@@ -1,4 +1,4 @@
-use Rattle.std.proofs.Common.{◌≡◌, ◌∙◌, sym, Ok}
+use Rattle.std.proofs.Common.{◌∙◌, sym}
 use Rattle.table_image.proofs.Images.{image_spelled}
 use Rattle.table_image.proofs.laws.a_pair_has_one_spelling.Goals as goal
 

@@ -1,8 +1,7 @@
-use Rattle.std.proofs.Common.{◌≡◌, ℕ, ◌∙◌, sym, ap, arith, Ok, inl, inr}
+use Rattle.std.proofs.Common.{sym, arith}
 use Rattle.std.proofs.lemmas.Result.{err_from_is_err_and}
-use Rattle.table_image.specs.Loading.{table_of_read, pair_of}
-use Rattle.table_image.specs.declared.version.Version.TheVariants.{One, Two}
-use Rattle.table_image.specs.Spelling.{PairView, IsImage}
+use Rattle.table_image.specs.Loading.{table_of_read}
+use Rattle.table_image.specs.Spelling.{PairView}
 use Rattle.table_image.proofs.Fields.{are_bytes}
 use Rattle.table_image.proofs.ImageSteps.{version_fault, ip4_fault, ip6_fault, end_fault, pair_is}
 use Rattle.table_image.proofs.Images.{either, image_read}

@@ -1,4 +1,4 @@
-use Rattle.std.proofs.Common.{◌≡◌, ◌+◌, ◌*◌, ◌-◌, ◌≤◌, length, take, []}
+use Rattle.std.proofs.Common.{◌≡◌, ◌+◌, ◌*◌, ◌-◌, ◌≤◌, length, take}
 use Rattle.table_sizes.specs.Sizes.{row_len}
 use Rattle.table_image.specs.Spelling.{is_row_word}
 use Rattle.table_image.specs.declared.fault.ImageKind.TheVariants.{RowForm}

@@ -1,4 +1,4 @@
-use Rattle.std.proofs.Common.{◌≡◌, ℕ, List, [], ◌∷◌, ◌∙◌, sym, ap, arith, length, true, get_or}
+use Rattle.std.proofs.Common.{◌≡◌, ℕ, List, [], ◌∷◌, ◌∙◌, sym, ap, arith, length, get_or}
 use Rattle.std.specs.List.{list_all}
 use Rattle.flat_table.specs.Sound.{begins_with_zeros}
 use Rattle.table_image.specs.Spelling.{is_row}

@@ -1,4 +1,4 @@
-use Rattle.std.proofs.Common.{◌≡◌, ◌∙◌, sym, ap, arith, length, true, append_assoc}
+use Rattle.std.proofs.Common.{◌∙◌, sym, ap, append_assoc}
 use Rattle.flat_table.specs.Sound.{begins_with_zeros}
 use Rattle.table_image.specs.Spelling.{spelled_table, is_word, is_row}
 use Rattle.std.specs.List.{list_all}

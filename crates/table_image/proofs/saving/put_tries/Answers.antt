@@ -1,4 +1,4 @@
-use Rattle.std.proofs.Common.{◌≡◌, ℕ, List, [], ◌+◌, ◌-◌, ◌^◌, ◌∙◌, ◌++◌, ◌<◌, sym, ap, arith, Ok, length, refl, get_or, drop, take, true, length-drop}
+use Rattle.std.proofs.Common.{◌≡◌, ℕ, List, [], ◌+◌, ◌^◌, ◌∙◌, ◌++◌, ◌<◌, sym, ap, arith, length, refl, get_or, drop, take, length-drop}
 use Rattle.std.specs.List.{list_all}
 use Rattle.std.proofs.lemmas.List.{append-nil, drop_all, take_all}
 use Rattle.std.proofs.lemmas.List.Folds.{list_all_more}

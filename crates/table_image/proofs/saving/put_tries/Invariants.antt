@@ -1,4 +1,4 @@
-use Rattle.std.proofs.Common.{◌≡◌, ◌++◌, ◌∷◌, take, drop, length, sum, map, true, None}
+use Rattle.std.proofs.Common.{◌≡◌, ◌++◌, take, drop, length, sum, map, true, None}
 use Rattle.std.specs.List.{list_all}
 use Rattle.flat_table.specs.Groups.{depth_of}
 use Rattle.flat_table.specs.Sound.{sound_fault}

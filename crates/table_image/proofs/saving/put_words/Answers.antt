@@ -1,5 +1,4 @@
-use Rattle.std.proofs.Common.{◌++◌, arith}
-use Rattle.table_image.specs.Spelling.{all_spelled}
+use Rattle.std.proofs.Common.{arith}
 use Rattle.table_image.proofs.Written.{words_typed, some_written, none_left}
 use Rattle.table_image.proofs.saving.put_words.Goals as goal
 

@@ -1,6 +1,4 @@
-use Rattle.std.proofs.Common.{◌≡◌, ◌∙◌, ◌++◌, sym, ap, arith, length, true, append_assoc, refl}
-use Rattle.table_image.specs.declared.version.Version.TheVariants.{Two}
-use Rattle.table_image.specs.Spelling.{spelled, spelled_pair, IsImage}
+use Rattle.std.proofs.Common.{refl}
 use Rattle.table_image.specs.Loading.{pair_of_tables}
 use Rattle.table_image.proofs.Written.{pair_written}
 use Rattle.table_image.proofs.saving.save.Goals as goal

@@ -1,4 +1,4 @@
-use Rattle.std.proofs.Common.{◌≡◌, ap, arith, length}
+use Rattle.std.proofs.Common.{ap, arith, length}
 use Rattle.table_image.proofs.Written.{bounded}
 use Rattle.table_image.proofs.saving.table_bytes.Goals as goal
 

@@ -1,4 +1,4 @@
-use Rattle.std.proofs.Common.{◌≡◌, ℕ, List, ◌+◌, ◌*◌, ◌-◌, ◌∙◌, sym, ap, arith, Ok, length, refl}
+use Rattle.std.proofs.Common.{ℕ, List, ◌-◌, ◌∙◌, arith}
 use Rattle.std.proofs.lemmas.Result.{err_from_is_err_and}
 use Rattle.flat_table.specs.Sound.{is_sound_word}
 use Rattle.table_image.specs.declared.fault.ImageKind.TheVariants.{Unsound}

@@ -1,4 +1,4 @@
-use Rattle.std.proofs.Common.{◌≡◌, ◌+◌, ◌*◌, ◌-◌, ◌/◌, ◌≤◌, length}
+use Rattle.std.proofs.Common.{◌≡◌, ◌+◌, ◌*◌, ◌/◌, ◌≤◌, length}
 use Rattle.flat_table.specs.Sound.{is_sound_word}
 use Rattle.table_image.specs.declared.fault.ImageKind.TheVariants.{Unsound}
 use Rattle.table_image.specs.Reading.{numbers_after}
