@@ -22,6 +22,7 @@ use crate::kept::Kept;
 use crate::levels::{Level, Levels};
 use crate::merge::{Budget, MergeFault, Pieces, Place, Reached, merge_states};
 use crate::names::{name_rows, names_of, rank_rules};
+use crate::order::order_rules;
 use indexmap::IndexSet;
 use node_expand::Edge;
 use rule_set::RuleSet;
@@ -238,7 +239,8 @@ fn prepare(alloc: Global, rules: &RuleSet, group: &[u32]) -> Result<Prepared, Al
     let _rules = rules.all();
     let _fields = rules.layout().fields();
     let kept = Kept::new(alloc, rules, group)?;
-    let start = start_states(alloc, group)?;
+    let order = order_rules(alloc, rules, group)?;
+    let start = start_states(alloc, order.as_slice())?;
     Ok(Prepared { kept, start })
 }
 

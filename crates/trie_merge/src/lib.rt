@@ -28,6 +28,7 @@
 //! - `merge`: the states of one place, one after the other. Their words, and the least that the
 //!   states found take, are held against the cap.
 //! - `kept`: the places of the kept input groups.
+//! - `order`: the order of the rules in the tree.
 //! - `build`: all kept places, one after the other; [`Levels::build`] and [`count_capped`].
 //! - `levels`, `run`: what comes out.
 #![tactic(auto)]
@@ -43,6 +44,7 @@ mod levels;
 mod merge;
 mod names;
 mod number;
+mod order;
 mod run;
 
 pub use build::count_capped;
