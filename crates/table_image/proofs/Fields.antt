@@ -80,7 +80,8 @@ fold-high_first acc (suc size) n =
     let high : n % (256 * m) / m ≡ byte_at size n = byte_of_end n m some ∙ sym (byte_at-power size n) in
     let low : n % (256 * m) % m ≡ n % m = end_of_end n m some in
     let joined : byte_at size n * m + n % m ≡ n % (256 * m) = rw (high, low) at split in
-    let parts : (acc * 256 + byte_at size n) * m ≡ acc * 256 * m + byte_at size n * m = add-mul (acc * 256) (byte_at size n) m in
+    let parts : (acc * 256 + byte_at size n) * m ≡ acc * 256 * m + byte_at size n * m = add-mul (acc * 256)
+    (byte_at size n) m in
     let whole : acc * 256 * m ≡ acc * (256 * m) = mul_assoc acc 256 m in
     rw power (omega (arith, rest, parts, whole, joined))
 

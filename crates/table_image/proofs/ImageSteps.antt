@@ -27,7 +27,8 @@ module _ (bytes : List ℕ) where
     unfolding image_of
     after_version = rw v refl
 
-    pub ip4_fault : (fault : LoadFault) → IsFaultOf (table_read version 4 13 bytes 8) fault → IsFaultOf (image_of bytes) fault
+    pub ip4_fault : (fault : LoadFault) → IsFaultOf (table_read version 4 13 bytes 8) fault →
+        IsFaultOf (image_of bytes) fault
     ip4_fault fault f = fault_of_same _ _ fault after_version (fault_of_both (table_read version 4 13 bytes 8)
         (λ ip4. table_read version 6 37 bytes ip4.end >>= λ ip6.
         checked (length bytes == ip6.end) Trailing ip6.end (record { ip4 = ip4.table; ip6 = ip6.table })) fault f)
@@ -37,9 +38,11 @@ module _ (bytes : List ℕ) where
           checked (length bytes == ip6.end) Trailing ip6.end (record { ip4 = ip4.table; ip6 = ip6.table }))
       after_ip4 = after_version ∙ (rw a refl)
 
-      pub ip6_fault : (fault : LoadFault) → IsFaultOf (table_read version 6 37 bytes ip4.end) fault → IsFaultOf (image_of bytes) fault
+      pub ip6_fault : (fault : LoadFault) → IsFaultOf (table_read version 6 37 bytes ip4.end) fault →
+          IsFaultOf (image_of bytes) fault
       ip6_fault fault f = fault_of_same _ _ fault after_ip4 (fault_of_both (table_read version 6 37 bytes ip4.end)
-          (λ ip6. checked (length bytes == ip6.end) Trailing ip6.end (record { ip4 = ip4.table; ip6 = ip6.table })) fault f)
+          (λ ip6. checked (length bytes == ip6.end) Trailing ip6.end (record { ip4 = ip4.table; ip6 = ip6.table }))
+          fault f)
 
       module _ (ip6 : TableRead) (b : table_read version 6 37 bytes ip4.end ≡ Ok ip6) where
         after_ip6 : image_of bytes

@@ -29,7 +29,8 @@ named number known = elim (cases_Bool (number == 1)) [
   | inr other ↦ rw other (sym (eqb-true number 2 (rw other at known)))
 ]
 
-version_at : (bytes : List ℕ) (version : Version) → AreBytes bytes → version_read bytes ≡ Ok version → VersionAt bytes version
+version_at : (bytes : List ℕ) (version : Version) → AreBytes bytes → version_read bytes ≡ Ok version →
+    VersionAt bytes version
 version_at bytes version are e =
     let magical : ℕ → Bool = λ number. number == magic in
     let known : ℕ → Bool = λ number. number == 1 || number == 2 in
@@ -59,7 +60,8 @@ image_read bytes pair are e =
     let v = version_at bytes version are one.1 in
     let made : TableRead → TableRead → PairView = λ ip4 ip6. record { ip4 = ip4.table; ip6 = ip6.table } in
     let two = of_both (table_read version 4 13 bytes 8)
-    (λ ip4. table_read version 6 37 bytes ip4.end >>= λ ip6. checked (length bytes == ip6.end) Trailing ip6.end (made ip4 ip6)) pair one.2 in
+    (λ ip4. table_read version 6 37 bytes ip4.end >>= λ ip6. checked (length bytes == ip6.end) Trailing ip6.end
+    (made ip4 ip6)) pair one.2 in
     let ip4 : TableRead = two.0 in
     let three = of_both (table_read version 6 37 bytes ip4.end)
     (λ ip6. checked (length bytes == ip6.end) Trailing ip6.end (made ip4 ip6)) pair two.2 in
@@ -67,12 +69,14 @@ image_read bytes pair are e =
     let last = of_check (length bytes == ip6.end) Trailing ip6.end (made ip4 ip6) pair three.2 in
     let first = table_at version 4 13 bytes 8 ip4 are refl two.1 in
     let second = table_at version 6 37 bytes ip4.end ip6 are refl three.1 in
-    let ends : drop ip6.end bytes ≡ [] = drop_all ip6.end bytes (omega (arith, eqb-true (length bytes) ip6.end last.0)) in
+    let ends : drop ip6.end bytes ≡ [] = drop_all ip6.end bytes (omega (arith, eqb-true (length bytes) ip6.end last.0))
+    in
     let ip4_is : ip4.table ≡ pair.ip4 = ap (λ (p : PairView). p.ip4) last.1 in
     let ip6_is : ip6.table ≡ pair.ip6 = ap (λ (p : PairView). p.ip6) last.1 in
     let tables : drop 8 bytes ≡ spelled_table version 4 pair.ip4 ++ spelled_table version 6 pair.ip6 =
     first.text ∙ ap (λ xs. spelled_table version 4 ip4.table ++ xs)
-    (second.text ∙ ap (λ xs. spelled_table version 6 ip6.table ++ xs) ends ∙ append-nil (spelled_table version 6 ip6.table))
+    (second.text ∙ ap (λ xs. spelled_table version 6 ip6.table ++ xs) ends
+    ∙ append-nil (spelled_table version 6 ip6.table))
     ∙ ap (λ t. spelled_table version 4 t ++ spelled_table version 6 ip6.table) ip4_is
     ∙ ap (λ t. spelled_table version 4 pair.ip4 ++ spelled_table version 6 t) ip6_is in
     record {
@@ -107,7 +111,8 @@ version_again : (version : Version) → version_of (number_of_version version) �
 version_again One = refl
 version_again Two = refl
 
-pub image_spelled : (version : Version) (bytes : List ℕ) (pair : PairView) → IsImage version bytes pair → image_of bytes ≡ Ok pair
+pub image_spelled : (version : Version) (bytes : List ℕ) (pair : PairView) → IsImage version bytes pair →
+    image_of bytes ≡ Ok pair
 unfolding image_of spelled_pair
 image_spelled version bytes pair is =
     let first_rest : List ℕ = spelled_table version 6 pair.ip6 in
@@ -116,22 +121,28 @@ image_spelled version bytes pair is =
     let magical : ℕ → Bool = λ n. n == magic in
     let known : ℕ → Bool = λ n. n == 1 || n == 2 in
     let text : drop 0 bytes ≡ spelled short magic ++ (spelled short number ++ tables) = is.spelling in
-    let version_text : drop 4 bytes ≡ spelled short number ++ tables = after_field short bytes 0 magic (spelled short number ++ tables) text in
+    let version_text : drop 4 bytes ≡ spelled short number ++ tables = after_field short bytes 0 magic
+    (spelled short number ++ tables) text in
     let ip4_text : drop 8 bytes ≡ tables = after_field short bytes 4 number tables version_text in
-    let m = tested_spelled Magic short magical bytes 0 magic (spelled short number ++ tables) (omega arith) text refl refl in
-    let v = tested_spelled kind.Version short known bytes 4 number tables (omega arith) version_text (version_small version)
+    let m = tested_spelled Magic short magical bytes 0 magic (spelled short number ++ tables) (omega arith) text refl
+    refl in
+    let v = tested_spelled kind.Version short known bytes 4 number tables (omega arith) version_text
+    (version_small version)
     (version_known version) in
     let keys4 : pair.ip4.key_len ≡ 13 = is.ip4.saved.keys in
     let keys6 : pair.ip6.key_len ≡ 37 = is.ip6.saved.keys in
-    let ip4 = table_spelled version 4 bytes 8 pair.ip4 first_rest refl (rw keys4 (omega arith)) (own_keys version 13 pair.ip4 is.ip4) ip4_text in
-    let ip6 = table_spelled version 6 bytes ip4.end pair.ip6 [] refl (rw keys6 (omega arith)) (own_keys version 37 pair.ip6 is.ip6)
+    let ip4 = table_spelled version 4 bytes 8 pair.ip4 first_rest refl (rw keys4 (omega arith))
+    (own_keys version 13 pair.ip4 is.ip4) ip4_text in
+    let ip6 = table_spelled version 6 bytes ip4.end pair.ip6 [] refl (rw keys6 (omega arith))
+    (own_keys version 37 pair.ip6 is.ip6)
     (ip4.next ∙ sym (append-nil first_rest)) in
     let made : TableRead → TableRead → PairView = λ a b. record { ip4 = a.table; ip6 = b.table } in
     let ends : length bytes ≡ ip6.end = omega (arith, ap length ip6.next, length-drop ip6.end bytes, ip6.within) in
     both (version_read bytes) (λ version. pair_read version bytes) version _
     (both (tested Magic short magical bytes 0)
     (λ _. tested kind.Version short known bytes 4 >>= λ n. Ok (version_of n)) magic _ m
-    (both (tested kind.Version short known bytes 4) (λ n. Ok (version_of n)) number _ v (ap Ok (version_again version))))
+    (both (tested kind.Version short known bytes 4) (λ n. Ok (version_of n)) number _ v
+    (ap Ok (version_again version))))
     (both (table_read version 4 13 bytes 8)
     (λ a. table_read version 6 37 bytes a.end >>= λ b. checked (length bytes == b.end) Trailing b.end (made a b)) _ _
     (ap (λ k. table_read version 4 k bytes 8) (sym keys4) ∙ ip4.read)

@@ -18,18 +18,21 @@ use Rattle.std.proofs.lemmas.List.Sums.{sum_by-cons, sum_by-take-drop}
 use Rattle.table_image.specs.Loading.{IsFaultOf}
 
 -- the fault of a reading is that of a reading that begins with it
-pub fault_of_both : {A B : Type 0} (first : Reading A) (second : A → Reading B) (fault : LoadFault) → IsFaultOf first fault →
+pub fault_of_both : {A B : Type 0} (first : Reading A) (second : A → Reading B) (fault : LoadFault) →
+    IsFaultOf first fault →
     IsFaultOf (first >>= second) fault
 fault_of_both first second (Image fault) e = rw e refl
 fault_of_both first second OutOfMemory e = tt
 
 -- and of an equal one
-pub fault_of_same : {A : Type 0} (one other : Reading A) (fault : LoadFault) → one ≡ other → IsFaultOf other fault → IsFaultOf one fault
+pub fault_of_same : {A : Type 0} (one other : Reading A) (fault : LoadFault) → one ≡ other → IsFaultOf other fault →
+    IsFaultOf one fault
 fault_of_same one other (Image fault) same e = same ∙ e
 fault_of_same one other OutOfMemory same e = tt
 
 -- numbers after others, of which one more is read at the place
-module _ (kind : ImageKind) (size : ℕ) (test : List ℕ → ℕ → Bool) (bytes : List ℕ) (from count left at : ℕ) (first : List ℕ)
+module _ (kind : ImageKind) (size : ℕ) (test : List ℕ → ℕ → Bool) (bytes : List ℕ) (from count left at : ℕ)
+    (first : List ℕ)
     (some : count ≡ left + 1) (here : at ≡ from + size * length first) where
   one_more : numbers_after kind size test bytes from count first
       ≡ (tested kind size (test first) bytes at >>= λ number.
@@ -46,12 +49,14 @@ module _ (kind : ImageKind) (size : ℕ) (test : List ℕ → ℕ → Bool) (byt
       numbers_after kind size test bytes from count first ≡ Err fault
   number_cut fault e = one_more ∙ (rw e refl)
 
-  pub number_refused : (n : ℕ) (fault : ImageFault) → field size bytes at ≡ Ok n → checked (test first n) kind at n ≡ Err fault →
+  pub number_refused : (n : ℕ) (fault : ImageFault) → field size bytes at ≡ Ok n →
+      checked (test first n) kind at n ≡ Err fault →
       numbers_after kind size test bytes from count first ≡ Err fault
   number_refused n fault e f = one_more ∙ (rw (e, f) refl)
 
 -- no numbers more
-pub numbers_end : (kind : ImageKind) (size : ℕ) (test : List ℕ → ℕ → Bool) (bytes : List ℕ) (from count : ℕ) (first : List ℕ) →
+pub numbers_end : (kind : ImageKind) (size : ℕ) (test : List ℕ → ℕ → Bool) (bytes : List ℕ) (from count : ℕ)
+    (first : List ℕ) →
     count ≡ 0 → numbers_after kind size test bytes from count first ≡ Ok first
 unfolding numbers_after
 numbers_end kind size test bytes from count first none = rw none refl
@@ -59,7 +64,8 @@ numbers_end kind size test bytes from count first none = rw none refl
 -- the words of one level more, and of no levels more
 pub level_more : (rows : ℕ) (bytes : List ℕ) (from p i : ℕ) (lens first : List ℕ) → i < length lens →
     words_of_levels rows bytes from (levels_from p (drop i lens)) first
-    ≡ (numbers_after Unsound long (λ _. is_sound_word rows (first_level (levels_from (p + get_or lens i 0) (drop (i + 1) lens))))
+    ≡ (numbers_after Unsound long
+    (λ _. is_sound_word rows (first_level (levels_from (p + get_or lens i 0) (drop (i + 1) lens))))
     bytes from (get_or lens i 0) first
     >>= words_of_levels rows bytes from (levels_from (p + get_or lens i 0) (drop (i + 1) lens)))
 unfolding words_of_levels
@@ -73,7 +79,8 @@ levels_end rows bytes from p n lens first all =
     ap (λ ls. words_of_levels rows bytes from (levels_from p ls) first) (drop_all n lens all)
 
 -- the words of one trie more, and of no tries more
-pub trie_words_more : (rows : ℕ) (bytes : List ℕ) (from : ℕ) (depth : ℕ → ℕ) (i p : ℕ) (kept lens first : List ℕ) → i < length kept →
+pub trie_words_more : (rows : ℕ) (bytes : List ℕ) (from : ℕ) (depth : ℕ → ℕ) (i p : ℕ) (kept lens first : List ℕ) →
+    i < length kept →
     words_of_tries rows bytes from (portions (map depth (drop i kept)) (levels_from p lens)) first
     ≡ (words_of_levels rows bytes from (levels_from p (take (depth (get_or kept i 0)) lens)) first
     >>= words_of_tries rows bytes from (portions (map depth (drop (i + 1) kept))
@@ -81,13 +88,16 @@ pub trie_words_more : (rows : ℕ) (bytes : List ℕ) (from : ℕ) (depth : ℕ 
 unfolding words_of_tries
 trie_words_more rows bytes from depth i p kept lens first within =
     let d : ℕ = depth (get_or kept i 0) in
-    ap (λ ks. words_of_tries rows bytes from (portions (map depth ks) (levels_from p lens)) first) (drop_more kept i 0 within)
+    ap (λ ks. words_of_tries rows bytes from (portions (map depth ks) (levels_from p lens)) first)
+    (drop_more kept i 0 within)
     ∙ ap (λ levels. words_of_levels rows bytes from levels first >>= words_of_tries rows bytes from
     (portions (map depth (drop (i + 1) kept)) (drop d (levels_from p lens)))) (levels-take d p lens)
-    ∙ ap (λ levels. words_of_levels rows bytes from (levels_from p (take d lens)) first >>= words_of_tries rows bytes from
+    ∙ ap (λ levels. words_of_levels rows bytes from (levels_from p (take d lens)) first
+    >>= words_of_tries rows bytes from
     (portions (map depth (drop (i + 1) kept)) levels)) (levels-drop d p lens)
 
-pub tries_words_end : (rows : ℕ) (bytes : List ℕ) (from : ℕ) (depth : ℕ → ℕ) (n p : ℕ) (kept lens first : List ℕ) → length kept ≤ n →
+pub tries_words_end : (rows : ℕ) (bytes : List ℕ) (from : ℕ) (depth : ℕ → ℕ) (n p : ℕ) (kept lens first : List ℕ) →
+    length kept ≤ n →
     words_of_tries rows bytes from (portions (map depth (drop n kept)) (levels_from p lens)) first ≡ Ok first
 unfolding words_of_tries
 tries_words_end rows bytes from depth n p kept lens first all =
@@ -106,12 +116,14 @@ pub trie_turn : (depth : ℕ → ℕ) (i first : ℕ) (kept lens : List ℕ) →
 trie_turn depth i first kept lens within at =
     let d : ℕ = depth (get_or kept i 0) in
     let total : sum (map depth (drop i kept)) ≡ d + sum (map depth (drop (i + 1) kept)) =
-    ap (λ ks. sum (map depth ks)) (drop_more kept i 0 within) ∙ sum_by-cons (λ n. n) d (map depth (drop (i + 1) kept)) in
+    ap (λ ks. sum (map depth ks)) (drop_more kept i 0 within) ∙ sum_by-cons (λ n. n) d (map depth (drop (i + 1) kept))
+    in
     let back : drop d (drop first lens) ≡ drop (first + d) lens = drop-drop d first lens in
     record {
       bound = omega (arith, total, at);
       levels = omega (arith, total, at);
-      words = ap (λ xs. sum (take d (drop first lens)) + sum xs) (sym back) ∙ sum_by-take-drop (λ (x : ℕ). x) (drop first lens) d;
+      words = ap (λ xs. sum (take d (drop first lens)) + sum xs) (sym back) ∙ sum_by-take-drop (λ (x : ℕ). x)
+          (drop first lens) d;
       back = back;
     }
 
@@ -129,7 +141,8 @@ unfolding rows_after
 rows_end rules bytes from count first none = rw none refl
 
 -- one trie more, and no tries more
-pub trie_more : (version : Version) (key_len taken : ℕ) (bytes : List ℕ) (count left : ℕ) (tries : TriesView) → count ≡ left + 1 →
+pub trie_more : (version : Version) (key_len taken : ℕ) (bytes : List ℕ) (count left : ℕ) (tries : TriesView) →
+    count ≡ left + 1 →
     tries_after version key_len taken bytes count tries
     ≡ (one_trie version key_len taken bytes tries >>= tries_after version key_len taken bytes left)
 unfolding tries_after

@@ -34,7 +34,8 @@ field_read size bytes at n are e =
     let inside : at + size ≤ length bytes = grind (arith, nat_tests) in
     let part : List ℕ = take size (drop at bytes) in
     let len : length part ≡ size = length-take-le size (drop at bytes) (omega (arith, length-drop at bytes)) in
-    let bytes_of : AreBytes part = All-take (λ byte. byte < 256) size (drop at bytes) (All-drop (λ byte. byte < 256) at bytes are) in
+    let bytes_of : AreBytes part = All-take (λ byte. byte < 256) size (drop at bytes)
+    (All-drop (λ byte. byte < 256) at bytes are) in
     let again : spelled size n ≡ part = ap (spelled size) (sym parts.1) ∙ spelled_again size part len bytes_of in
     let below = fold_below part bytes_of in
     let whole : spelled size n ++ drop size (drop at bytes) ≡ drop at bytes =
@@ -50,13 +51,16 @@ pub field_spelled : (size : ℕ) (bytes : List ℕ) (at n : ℕ) (rest : List �
 field_spelled size bytes at n rest some e small =
     let len = length_spelled size n in
     let inside = within at bytes (spelled size n) rest e (omega arith) in
-    let number : number_at bytes at size ≡ n = ap (λ xs. number_of (take size xs)) e ∙ read_again size n rest (ltb-true n (256 ^ size) small) in
-    check_passed (nat_le (at + size) (length bytes)) Length at (number_at bytes at size) (le-leb (at + size) (length bytes) (omega arith)) ∙ ap Ok number
+    let number : number_at bytes at size ≡ n = ap (λ xs. number_of (take size xs)) e
+    ∙ read_again size n rest (ltb-true n (256 ^ size) small) in
+    check_passed (nat_le (at + size) (length bytes)) Length at (number_at bytes at size)
+    (le-leb (at + size) (length bytes) (omega arith)) ∙ ap Ok number
 
 -- what stands after the field
 pub after_field : (size : ℕ) (bytes : List ℕ) (at n : ℕ) (rest : List ℕ) → drop at bytes ≡ spelled size n ++ rest →
     drop (at + size) bytes ≡ rest
-after_field size bytes at n rest e = ap (λ k. drop (at + k) bytes) (sym (length_spelled size n)) ∙ after at bytes (spelled size n) rest e
+after_field size bytes at n rest e = ap (λ k. drop (at + k) bytes) (sym (length_spelled size n))
+    ∙ after at bytes (spelled size n) rest e
 
 -- a field with a test
 pub tested_read : (kind : ImageKind) (size : ℕ) (test : ℕ → Bool) (bytes : List ℕ) (at n : ℕ) → AreBytes bytes →
@@ -66,7 +70,8 @@ tested_read kind size test bytes at n are e =
     let passed = of_check (test parts.0) kind at parts.0 n parts.2 in
     (field_read size bytes at n are (parts.1 ∙ ap Ok passed.1), rw passed.1 at passed.0)
 
-pub tested_spelled : (kind : ImageKind) (size : ℕ) (test : ℕ → Bool) (bytes : List ℕ) (at n : ℕ) (rest : List ℕ) → 0 < size →
+pub tested_spelled : (kind : ImageKind) (size : ℕ) (test : ℕ → Bool) (bytes : List ℕ) (at n : ℕ) (rest : List ℕ) →
+    0 < size →
     drop at bytes ≡ spelled size n ++ rest → fits size n ≡ true → test n ≡ true → tested kind size test bytes at ≡ Ok n
 tested_spelled kind size test bytes at n rest some e small passes =
     both (field size bytes at) (λ number. checked (test number) kind at number) n (Ok n)
@@ -110,7 +115,8 @@ numbers_read kind size test bytes from (suc count) first all are e =
     let rest = numbers_read kind size test bytes from count (first ++ n ∷ []) all are parts.2 in
     let len : length (first ++ n ∷ []) ≡ length first + 1 = length_push first n in
     let next : size * (length first + 1) ≡ size * length first + size = omega arith in
-    let place : from + size * length (first ++ n ∷ []) ≡ from + size * length first + size = rw len (omega (arith, next)) in
+    let place : from + size * length (first ++ n ∷ []) ≡ from + size * length first + size =
+    rw len (omega (arith, next)) in
     let end : from + size * (length (first ++ n ∷ []) + count) ≡ from + size * (length first + suc count) =
     ap (λ k. from + size * k) (omega arith) in
     let back : drop (from + size * length first + size) bytes
@@ -120,7 +126,8 @@ numbers_read kind size test bytes from (suc count) first all are e =
       more = n ∷ rest.more;
       are = rest.are ∙ append_assoc first (n ∷ []) rest.more;
       count_is = ap suc rest.count_is;
-      text = joined (drop (from + size * length first) bytes) (spelled size n) (all_spelled size rest.more) _ _ here.0.text back;
+      text = joined (drop (from + size * length first) bytes) (spelled size n) (all_spelled size rest.more) _ _
+          here.0.text back;
       small = and_from (fits size n) (list_all (fits size) rest.more) here.0.small rest.small;
       pass = (here.1, rest.pass);
     }
@@ -135,12 +142,15 @@ numbers_spelled kind size test bytes from first (n ∷ more) rest some e small p
     let fit = and_parts (fits size n) (list_all (fits size) more) small in
     let text : drop (from + size * length first) bytes ≡ spelled size n ++ (all_spelled size more ++ rest) =
     e ∙ append_assoc (spelled size n) (all_spelled size more) rest in
-    let here = tested_spelled kind size (test first) bytes (from + size * length first) n (all_spelled size more ++ rest) some text fit.0 pass.0 in
+    let here = tested_spelled kind size (test first) bytes (from + size * length first) n
+    (all_spelled size more ++ rest) some text fit.0 pass.0 in
     let len : length (first ++ n ∷ []) ≡ length first + 1 = length_push first n in
     let next : size * (length first + 1) ≡ size * length first + size = omega arith in
-    let place : from + size * length (first ++ n ∷ []) ≡ from + size * length first + size = rw len (omega (arith, next)) in
+    let place : from + size * length (first ++ n ∷ []) ≡ from + size * length first + size =
+    rw len (omega (arith, next)) in
     let back : drop (from + size * length (first ++ n ∷ [])) bytes ≡ all_spelled size more ++ rest =
-    ap (λ k. drop k bytes) place ∙ after_field size bytes (from + size * length first) n (all_spelled size more ++ rest) text in
+    ap (λ k. drop k bytes) place ∙ after_field size bytes (from + size * length first) n (all_spelled size more ++ rest)
+    text in
     let others = numbers_spelled kind size test bytes from (first ++ n ∷ []) more rest some back fit.1 pass.1 in
     both (tested kind size (test first) bytes (from + size * length first))
     (λ number. numbers_after kind size test bytes from (length more) (first ++ number ∷ [])) n _ here
@@ -157,7 +167,8 @@ length-all_spelled size (n ∷ ns) =
 -- one test for all numbers
 pub tested_all : (test : ℕ → Bool) (first ns : List ℕ) → AllTested (λ _. test) first ns → list_all test ns ≡ true
 tested_all test first [] all = refl
-tested_all test first (n ∷ ns) all = and_from (test n) (list_all test ns) all.0 (tested_all test (first ++ n ∷ []) ns all.1)
+tested_all test first (n ∷ ns) all = and_from (test n) (list_all test ns) all.0
+    (tested_all test (first ++ n ∷ []) ns all.1)
 
 pub all_tested : (test : ℕ → Bool) (first ns : List ℕ) → list_all test ns ≡ true → AllTested (λ _. test) first ns
 all_tested test first [] all = tt
@@ -166,10 +177,12 @@ all_tested test first (n ∷ ns) all =
     (parts.0, all_tested test (first ++ n ∷ []) ns parts.1)
 
 -- levels that fit one after the other fit together
-pub levels_fit : (taken : ℕ) (first lens : List ℕ) → taken + sum first ≤ max_words → AllTested (level_fits taken) first lens →
+pub levels_fit : (taken : ℕ) (first lens : List ℕ) → taken + sum first ≤ max_words →
+    AllTested (level_fits taken) first lens →
     taken + sum (first ++ lens) ≤ max_words
 levels_fit taken first [] fit all = rw (append-nil first) fit
 levels_fit taken first (len ∷ lens) fit all =
     let total : sum (first ++ len ∷ []) ≡ sum first + len = sum_by-append (λ n. n) first (len ∷ []) ∙ omega arith in
     rw (← append_assoc first (len ∷ []) lens)
-    (levels_fit taken (first ++ len ∷ []) lens (omega (arith, leb-true (taken + sum first + len) max_words all.0)) all.1)
+    (levels_fit taken (first ++ len ∷ []) lens (omega (arith, leb-true (taken + sum first + len) max_words all.0))
+    all.1)

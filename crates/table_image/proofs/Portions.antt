@@ -19,7 +19,8 @@ after_same (Ok x) f g h each = each x
 after_same (Err fault) f g h each = refl
 
 -- numbers are read in two portions
-numbers_split : (kind : ImageKind) (size : ℕ) (test : List ℕ → ℕ → Bool) (bytes : List ℕ) (from count other : ℕ) (first : List ℕ) →
+numbers_split : (kind : ImageKind) (size : ℕ) (test : List ℕ → ℕ → Bool) (bytes : List ℕ) (from count other : ℕ)
+    (first : List ℕ) →
     numbers_after kind size test bytes from (count + other) first
     ≡ (numbers_after kind size test bytes from count first >>= numbers_after kind size test bytes from other)
 unfolding numbers_after
@@ -36,10 +37,12 @@ numbers_split kind size test bytes from (suc count) other first =
     (λ number. numbers_split kind size test bytes from count other (first ++ number ∷ []))
 
 -- a portion of the numbers after others
-module _ (kind : ImageKind) (size : ℕ) (test : List ℕ → ℕ → Bool) (bytes : List ℕ) (from count whole : ℕ) (before : List ℕ)
+module _ (kind : ImageKind) (size : ℕ) (test : List ℕ → ℕ → Bool) (bytes : List ℕ) (from count whole : ℕ)
+    (before : List ℕ)
     (few : whole ≤ count) where
   pub two_portions : numbers_after kind size test bytes from count before
-      ≡ (numbers_after kind size test bytes from whole before >>= numbers_after kind size test bytes from (count - whole))
+      ≡ (numbers_after kind size test bytes from whole before >>= numbers_after kind size test bytes from
+      (count - whole))
   two_portions =
       let total : count ≡ whole + (count - whole) = omega arith in
       ap (λ n. numbers_after kind size test bytes from n before) total
@@ -69,16 +72,19 @@ number_after bytes list from at size e =
 pub field_whole : (size : ℕ) (bytes : List ℕ) (at n : ℕ) → at + size ≤ length bytes → n ≡ number_at bytes at size →
     field size bytes at ≡ Ok n
 field_whole size bytes at n inside e =
-    check_passed (nat_le (at + size) (length bytes)) Length at (number_at bytes at size) (grind (arith, nat_tests)) ∙ ap Ok (sym e)
+    check_passed (nat_le (at + size) (length bytes)) Length at (number_at bytes at size) (grind (arith, nat_tests))
+    ∙ ap Ok (sym e)
 
 -- or it isn't
-pub field_cut : (size : ℕ) (bytes : List ℕ) (at : ℕ) → length bytes < at + size → field size bytes at ≡ Err (fault_at Length at)
+pub field_cut : (size : ℕ) (bytes : List ℕ) (at : ℕ) → length bytes < at + size →
+    field size bytes at ≡ Err (fault_at Length at)
 field_cut size bytes at outside =
     let fails : nat_le (at + size) (length bytes) ≡ false = grind (arith, nat_tests) in
     rw fails refl
 
 -- numbers of which the next one isn't whole
-pub numbers_cut : (kind : ImageKind) (size : ℕ) (test : List ℕ → ℕ → Bool) (bytes : List ℕ) (from count at : ℕ) (first : List ℕ) →
+pub numbers_cut : (kind : ImageKind) (size : ℕ) (test : List ℕ → ℕ → Bool) (bytes : List ℕ) (from count at : ℕ)
+    (first : List ℕ) →
     0 < count → at ≡ from + size * length first → length bytes < at + size →
     numbers_after kind size test bytes from count first ≡ Err (fault_at Length at)
 numbers_cut kind size test bytes from count at first some here outside =
@@ -99,7 +105,8 @@ slots_of old filled start whole e f =
     record {
       total = omega arith;
       count = omega arith;
-      before = sym (ap (take start) e ∙ ap (λ n. take n (old ++ replicate whole 0)) f ∙ take-append_seam old (replicate whole 0));
+      before = sym (ap (take start) e ∙ ap (λ n. take n (old ++ replicate whole 0)) f
+          ∙ take-append_seam old (replicate whole 0));
     }
 
 -- fewer, and as many

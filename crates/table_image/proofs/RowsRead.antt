@@ -50,17 +50,20 @@ rows_read rules bytes from (suc count) first all are e =
     ∙ ap (λ k. all_spelled long row ++ drop k bytes) (omega (arith, len)) in
     let back : drop (from + row_bytes * length (first ++ row ∷ [])) bytes
     ≡ flat_map (all_spelled long) rest.more ++ drop (from + row_bytes * (length first + suc count)) bytes =
-    rest.text ∙ ap (λ k. flat_map (all_spelled long) rest.more ++ drop (from + row_bytes * k) bytes) (omega (arith, len)) in
+    rest.text ∙ ap (λ k. flat_map (all_spelled long) rest.more ++ drop (from + row_bytes * k) bytes)
+    (omega (arith, len)) in
     let wide : is_row row ≡ true =
     and_from (length row == row_len) (list_all (λ word. nat_lt word (2 ^ 64)) row)
-    (eq-eqb (length row) row_len (ap length here.are ∙ here.count_is)) (ap (list_all (fits long)) here.are ∙ here.small) in
+    (eq-eqb (length row) row_len (ap length here.are ∙ here.count_is)) (ap (list_all (fits long)) here.are
+    ∙ here.small) in
     record {
       more = row ∷ rest.more;
       are = rest.are ∙ append_assoc first (row ∷ []) rest.more;
       count_is = ap suc rest.count_is;
       text = joined (drop at bytes) (all_spelled long row) (flat_map (all_spelled long) rest.more) _ _ text back;
       ranked = and_from (list_all (is_row_word rules) row) _
-          (ap (list_all (is_row_word rules)) here.are ∙ tested_all (is_row_word rules) [] here.more here.pass) rest.ranked;
+          (ap (list_all (is_row_word rules)) here.are ∙ tested_all (is_row_word rules) [] here.more here.pass)
+          rest.ranked;
       typed = and_from (is_row row) (list_all is_row rest.more) wide rest.typed;
     }
 
@@ -98,7 +101,8 @@ rows_spelled rules bytes from first (row ∷ more) rest e ranked typed =
     (all_tested (is_row_word rules) [] row ranks.0) in
     let len : length (first ++ row ∷ []) ≡ length first + 1 = length_push first row in
     let back : drop (from + row_bytes * length (first ++ row ∷ [])) bytes ≡ others =
-    ap (λ k. drop k bytes) (omega (arith, len, length-all_spelled long row, count)) ∙ after at bytes (all_spelled long row) others text in
+    ap (λ k. drop k bytes) (omega (arith, len, length-all_spelled long row, count))
+    ∙ after at bytes (all_spelled long row) others text in
     both (numbers RowForm long (λ _. is_row_word rules) bytes at row_len)
     (λ r. rows_after rules bytes from (length more) (first ++ r ∷ [])) row _ here
     (rows_spelled rules bytes from (first ++ row ∷ []) more rest back ranks.1 parts.1

@@ -24,7 +24,8 @@ module _ (version : Version) (family key_len : ℕ) (bytes : List ℕ) (at : ℕ
 
   module _ (c : Counts) (e : counts family bytes at ≡ Ok c) where
     after_counts : table_read version family key_len bytes at
-        ≡ (tries_after version key_len (row_len * (c.rows + 1)) bytes c.tries (no_tries (at + 16)) >>= words_and_rows key_len bytes c)
+        ≡ (tries_after version key_len (row_len * (c.rows + 1)) bytes c.tries (no_tries (at + 16))
+        >>= words_and_rows key_len bytes c)
     unfolding table_read
     after_counts = rw e refl
 
@@ -52,10 +53,12 @@ module _ (version : Version) (family key_len : ℕ) (bytes : List ℕ) (at : ℕ
 
       -- the words have a fault
       pub words_fault : (fault : LoadFault) →
-          IsFaultOf (words_of_tries (c.rows + 1) bytes tries.end (levels_of_tries key_len tries.kept tries.level_lens) []) fault →
+          IsFaultOf (words_of_tries (c.rows + 1) bytes tries.end (levels_of_tries key_len tries.kept tries.level_lens)
+          []) fault →
           IsFaultOf (table_read version family key_len bytes at) fault
       words_fault fault f = fault_of_same _ _ fault after_tries
-          (fault_of_both (words_of_tries (c.rows + 1) bytes tries.end (levels_of_tries key_len tries.kept tries.level_lens) [])
+          (fault_of_both (words_of_tries (c.rows + 1) bytes tries.end
+          (levels_of_tries key_len tries.kept tries.level_lens) [])
           (λ words. rows_after c.rules bytes (tries.end + long * length words) c.rows [] >>= λ rows.
           Ok (record {
             table = table_of key_len c.rules tries words rows;
@@ -63,7 +66,8 @@ module _ (version : Version) (family key_len : ℕ) (bytes : List ℕ) (at : ℕ
           })) fault f)
 
       module _ (words : List ℕ)
-          (w : words_of_tries (c.rows + 1) bytes tries.end (levels_of_tries key_len tries.kept tries.level_lens) [] ≡ Ok words) where
+          (w : words_of_tries (c.rows + 1) bytes tries.end (levels_of_tries key_len tries.kept tries.level_lens) []
+          ≡ Ok words) where
         after_words : table_read version family key_len bytes at
             ≡ (rows_after c.rules bytes (tries.end + long * length words) c.rows [] >>= λ rows.
             Ok (record {

@@ -38,14 +38,16 @@ counts_read family bytes at c are e =
     let few_rows : ℕ → Bool = λ number. nat_le (row_len * (number + 1)) max_words in
     let made : ℕ → ℕ → ℕ → Counts = λ rules tries rows. record { rules = rules; tries = tries; rows = rows } in
     let one = of_both (tested Family short (λ number. number == family) bytes at)
-    (λ _. tested TooMany short few_rules bytes (at + 4) >>= λ rules. tested TooMany short few_tries bytes (at + 8) >>= λ tries.
+    (λ _. tested TooMany short few_rules bytes (at + 4) >>= λ rules. tested TooMany short few_tries bytes (at + 8)
+    >>= λ tries.
     tested TooMany short few_rows bytes (at + 12) >>= λ rows. Ok (made rules tries rows)) c e in
     let two = of_both (tested TooMany short few_rules bytes (at + 4))
     (λ rules. tested TooMany short few_tries bytes (at + 8) >>= λ tries.
     tested TooMany short few_rows bytes (at + 12) >>= λ rows. Ok (made rules tries rows)) c one.2 in
     let three = of_both (tested TooMany short few_tries bytes (at + 8))
     (λ tries. tested TooMany short few_rows bytes (at + 12) >>= λ rows. Ok (made two.0 tries rows)) c two.2 in
-    let four = of_both (tested TooMany short few_rows bytes (at + 12)) (λ rows. Ok (made two.0 three.0 rows)) c three.2 in
+    let four = of_both (tested TooMany short few_rows bytes (at + 12)) (λ rows. Ok (made two.0 three.0 rows)) c three.2
+    in
     let f = tested_read Family short (λ number. number == family) bytes at one.0 are one.1 in
     let r = tested_read TooMany short few_rules bytes (at + 4) two.0 are two.1 in
     let t = tested_read TooMany short few_tries bytes (at + 8) three.0 are three.1 in
@@ -84,7 +86,8 @@ unfolding no_rule
 zeros_are_row = refl
 
 -- the parts of a sound table
-pub sound_of : (table : TableView) → is_shaped table ≡ true → first_unsound_root table ≡ None → first_unsound_word table ≡ None →
+pub sound_of : (table : TableView) → is_shaped table ≡ true → first_unsound_root table ≡ None →
+    first_unsound_word table ≡ None →
     sound_fault table ≡ None
 unfolding sound_fault
 sound_of table shape root word = rw (shape, root, word) refl
@@ -112,12 +115,14 @@ tail_read key_len bytes c tries read are levels e =
       end = tries.end + long * length words + row_bytes * length rows;
     } in
     let one = of_both (words_of_tries (c.rows + 1) bytes tries.end all_levels [])
-    (λ words. rows_after c.rules bytes (tries.end + long * length words) c.rows [] >>= λ rows. Ok (made words rows)) read e in
+    (λ words. rows_after c.rules bytes (tries.end + long * length words) c.rows [] >>= λ rows. Ok (made words rows))
+    read e in
     let words : List ℕ = one.0 in
     let rows_from : ℕ = tries.end + long * length words in
     let two = of_both (rows_after c.rules bytes rows_from c.rows []) (λ rows. Ok (made words rows)) read one.2 in
     let rows : List (List ℕ) = two.0 in
-    let w = tries_words_read (c.rows + 1) bytes tries.end (map (depth_of key_len) tries.kept) tries.level_lens 0 [] words are refl
+    let w = tries_words_read (c.rows + 1) bytes tries.end (map (depth_of key_len) tries.kept) tries.level_lens 0 []
+    words are refl
     levels one.1 in
     let r = rows_read c.rules bytes rows_from c.rows [] rows are two.1 in
     let is : made words rows ≡ read = cc in
@@ -142,7 +147,8 @@ tail_read key_len bytes c tries read are levels e =
       small = ap (list_all (fits long)) w.are ∙ w.small;
       ranked = ap (list_all (list_all (is_row_word c.rules))) r.are ∙ r.ranked;
       typed = ap (list_all is_row) r.are ∙ r.typed;
-      text = joined (drop tries.end bytes) (all_spelled long words) (flat_map (all_spelled long) rows) _ _ words_text rows_text;
+      text = joined (drop tries.end bytes) (all_spelled long words) (flat_map (all_spelled long) rows) _ _ words_text
+          rows_text;
     }
 
 -- a table that was read
@@ -163,9 +169,11 @@ saved : (version : Version) (key_len : ℕ) (c : Counts) (tries : TriesView) (wo
     AreSound version key_len (row_len * (c.rows + 1)) 0 tries.kept tries.roots tries.level_lens →
     length words ≡ sum tries.level_lens → length rows ≡ c.rows →
     tries_fault (c.rows + 1) (trie_levels (table_of key_len c.rules tries [] [])) words ≡ None →
-    list_all (fits long) words ≡ true → list_all (list_all (is_row_word c.rules)) rows ≡ true → list_all is_row rows ≡ true →
+    list_all (fits long) words ≡ true → list_all (list_all (is_row_word c.rules)) rows ≡ true →
+    list_all is_row rows ≡ true →
     IsSaved version key_len (table_of key_len c.rules tries words rows)
-saved version key_len c tries words rows keyed few_rules few_tries few_rows count s words_count rows_count sound small ranked typed =
+saved version key_len c tries words rows keyed few_rules few_tries few_rows count s words_count rows_count sound small
+    ranked typed =
     let table : TableView = table_of key_len c.rules tries words rows in
     let rows_len : length table.rows ≡ c.rows + 1 = omega (arith, rows_count) in
     let shape : is_shaped table ≡ true =
@@ -174,12 +182,18 @@ saved version key_len c tries words rows keyed few_rules few_tries few_rows coun
     (le-leb (length table.roots) most_tries (omega (arith, s.same, count)))) keyed) s.keeps)
     (eq-eqb (length table.level_lens) (sum (depths_of table)) s.levels))
     (eq-eqb (length table.words) (sum table.level_lens) words_count)) (zeros_begin rows))
-    (le-leb (length table.words + row_len * length table.rows) max_words (omega (arith, s.fit, words_count, rows_len))) in
+    (le-leb (length table.words + row_len * length table.rows) max_words (omega (arith, s.fit, words_count, rows_len)))
+    in
     record {
       sound = sound_of table shape (none_found root_leads 0 (zip table.roots (trie_levels table)) s.leads)
           (ap (λ n. tries_fault n (trie_levels table) words) rows_len ∙ sound);
       saved = record { keys = refl; few = few_rules; ranked = ranked };
-      typed = record { roots = s.small; words = small; rows = and_from (is_row no_rule) (list_all is_row rows) zeros_are_row typed };
+      typed = record {
+        roots = s.small;
+        words = small;
+        rows = and_from (is_row no_rule) (list_all is_row rows)
+            zeros_are_row typed;
+      };
       groups = of_version version key_len _ _ _ _ _ table s refl refl;
     }
 
@@ -198,15 +212,18 @@ table_at version family key_len bytes at read are keyed e =
     let tries : TriesView = two.0 in
     let t = tries_read version key_len (row_len * (c.rows + 1)) bytes c.tries (no_tries (at + 16)) tries are
     (omega (arith, front.few_rows)) two.1 in
-    let s' = are_sound version key_len (row_len * (c.rows + 1)) 0 t.kept t.roots t.lens (omega (arith, front.few_rows)) t.are in
+    let s' = are_sound version key_len (row_len * (c.rows + 1)) 0 t.kept t.roots t.lens (omega (arith, front.few_rows))
+    t.are in
     let s : AreSound version key_len (row_len * (c.rows + 1)) 0 tries.kept tries.roots tries.level_lens =
     rw (t.kept_are, t.roots_are, t.lens_are) s' in
     let back = tail_read key_len bytes c tries read are s.levels two.2 in
     let count : length tries.kept ≡ c.tries = ap length t.kept_are ∙ t.count_is in
     let table : TableView = table_of key_len c.rules tries back.words back.rows in
-    let is : IsSaved version key_len table = saved version key_len c tries back.words back.rows keyed front.few_rules front.few_tries
+    let is : IsSaved version key_len table = saved version key_len c tries back.words back.rows keyed front.few_rules
+    front.few_tries
     front.few_rows count s back.words_count back.rows_count back.sound back.small back.ranked back.typed in
-    let tries_text : drop (at + 16) bytes ≡ spelled_tries version key_len tries.kept tries.roots tries.level_lens ++ drop tries.end bytes =
+    let tries_text : drop (at + 16) bytes ≡ spelled_tries version key_len tries.kept tries.roots tries.level_lens
+    ++ drop tries.end bytes =
     t.text ∙ ap (λ xs. spelled_tries version key_len xs t.roots t.lens ++ drop tries.end bytes) (sym t.kept_are)
     ∙ ap (λ xs. spelled_tries version key_len tries.kept xs t.lens ++ drop tries.end bytes) (sym t.roots_are)
     ∙ ap (λ xs. spelled_tries version key_len tries.kept tries.roots xs ++ drop tries.end bytes) (sym t.lens_are) in
@@ -219,7 +236,8 @@ table_at version family key_len bytes at read are keyed e =
     let tries_is : length tries.roots ≡ c.tries = omega (arith, s.same, count) in
     let whole : drop at bytes ≡ spelled short family ++ (spelled short c.rules ++ (spelled short c.tries
     ++ (spelled short c.rows ++ (parts ++ drop read.end bytes)))) =
-    front.text ∙ ap (λ xs. spelled short family ++ (spelled short c.rules ++ (spelled short c.tries ++ (spelled short c.rows ++ xs))))
+    front.text ∙ ap (λ xs. spelled short family
+    ++ (spelled short c.rules ++ (spelled short c.tries ++ (spelled short c.rows ++ xs))))
     parts_text in
     let spelling : spelled_table version family table ++ drop read.end bytes
     ≡ spelled short family ++ (spelled short c.rules ++ (spelled short c.tries ++ (spelled short c.rows

@@ -36,7 +36,8 @@ record CountsOf (family : ℕ) (bytes : List ℕ) (at : ℕ) (c : Counts) (rest 
 
 counts_spelled : (family : ℕ) (bytes : List ℕ) (at : ℕ) (c : Counts) (rest : List ℕ) → fits short family ≡ true →
     c.rules ≤ most_rules → c.tries ≤ most_tries → row_len * (c.rows + 1) ≤ max_words →
-    drop at bytes ≡ spelled short family ++ (spelled short c.rules ++ (spelled short c.tries ++ (spelled short c.rows ++ rest))) →
+    drop at bytes ≡ spelled short family
+    ++ (spelled short c.rules ++ (spelled short c.tries ++ (spelled short c.rows ++ rest))) →
     CountsOf family bytes at c rest
 counts_spelled family bytes at c rest small few_rules few_tries few_rows e =
     let rules_test : ℕ → Bool = λ number. nat_le number most_rules in
@@ -61,14 +62,17 @@ counts_spelled family bytes at c rest small few_rules few_tries few_rows e =
     (lt-ltb c.rows (256 ^ short) (omega arith)) (le-leb (row_len * (c.rows + 1)) max_words few_rows) in
     record {
       read = both (tested Family short (λ number. number == family) bytes at)
-          (λ _. tested TooMany short rules_test bytes (at + 4) >>= λ rules. tested TooMany short tries_test bytes (at + 8) >>= λ tries.
+          (λ _. tested TooMany short rules_test bytes (at + 4) >>= λ rules. tested TooMany short tries_test bytes
+          (at + 8) >>= λ tries.
           tested TooMany short rows_test bytes (at + 12) >>= λ rows. Ok (made rules tries rows)) family _ family_read
           (both (tested TooMany short rules_test bytes (at + 4))
           (λ rules. tested TooMany short tries_test bytes (at + 8) >>= λ tries.
           tested TooMany short rows_test bytes (at + 12) >>= λ rows. Ok (made rules tries rows)) c.rules _ rules_read
           (both (tested TooMany short tries_test bytes (at + 8))
-          (λ tries. tested TooMany short rows_test bytes (at + 12) >>= λ rows. Ok (made c.rules tries rows)) c.tries _ tries_read
-          (both (tested TooMany short rows_test bytes (at + 12)) (λ rows. Ok (made c.rules c.tries rows)) c.rows _ rows_read refl)));
+          (λ tries. tested TooMany short rows_test bytes (at + 12) >>= λ rows. Ok (made c.rules tries rows)) c.tries _
+          tries_read
+          (both (tested TooMany short rows_test bytes (at + 12)) (λ rows. Ok (made c.rules c.tries rows)) c.rows _
+          rows_read refl)));
       next = ap (λ k. drop k bytes) (omega arith) ∙ after_field short bytes (at + 12) c.rows rest rows_text;
       within = omega (
         arith,
@@ -116,7 +120,8 @@ version_groups One table of one = of
 version_groups Two table of one = absurd cc
 
 -- a table was read, and this stands after it
-pub record TableOf (version : Version) (family : ℕ) (bytes : List ℕ) (at : ℕ) (table : TableView) (rest : List ℕ) : Type 0 where
+pub record TableOf (version : Version) (family : ℕ) (bytes : List ℕ) (at : ℕ) (table : TableView) (rest : List ℕ) : Type
+    0 where
   pub end : ℕ
   pub read : table_read version family table.key_len bytes at ≡ Ok (record { table = table; end = end })
   pub next : drop end bytes ≡ rest
@@ -138,9 +143,11 @@ table_spelled version family bytes at table rest small few is e =
     let rows_rest : List ℕ = rows_bytes ++ rest in
     let words_rest : List ℕ = all_spelled long table.words ++ rows_rest in
     let tries_rest : List ℕ = spelled_tries version key_len table.kept table.roots table.level_lens ++ words_rest in
-    let text : drop at bytes ≡ spelled short family ++ (spelled short c.rules ++ (spelled short c.tries ++ (spelled short c.rows
+    let text : drop at bytes ≡ spelled short family
+    ++ (spelled short c.rules ++ (spelled short c.tries ++ (spelled short c.rows
     ++ tries_rest))) = e ∙ simp append_assoc in
-    let front = counts_spelled family bytes at c tries_rest small is.saved.few shape.few (omega (arith, shape.small, b.some)) text in
+    let front = counts_spelled family bytes at c tries_rest small is.saved.few shape.few
+    (omega (arith, shape.small, b.some)) text in
     let s : AreSound version key_len taken 0 table.kept table.roots table.level_lens = record {
       same = shape.same;
       keeps = shape.kept;
@@ -150,7 +157,8 @@ table_spelled version family bytes at table rest small few is e =
       leads = none_fails root_leads 0 (zip table.roots (trie_levels table)) sound.roots;
       small = is.typed.roots;
     } in
-    let t = tries_spelled version key_len taken bytes (no_tries (at + 16)) table.kept table.roots table.level_lens words_rest few
+    let t = tries_spelled version key_len taken bytes (no_tries (at + 16)) table.kept table.roots table.level_lens
+    words_rest few
     front.within (sound_are version key_len taken 0 table.kept table.roots table.level_lens s) front.next in
     let tries : TriesView = with_tries (no_tries (at + 16)) table.kept table.roots table.level_lens t.end in
     let tries_count : length table.kept ≡ c.tries = shape.same in
@@ -161,14 +169,16 @@ table_spelled version family bytes at table rest small few is e =
     let words_sound : tries_fault (c.rows + 1) (trie_levels table) ([] ++ (table.words ++ [])) ≡ None =
     ap (tries_fault (c.rows + 1) (trie_levels table)) (append-nil table.words)
     ∙ ap (λ n. tries_fault n (trie_levels table) table.words) b.some ∙ sound.words in
-    let words = tries_words_spelled (c.rows + 1) bytes t.end (map (depth_of key_len) table.kept) table.level_lens 0 [] table.words []
+    let words = tries_words_spelled (c.rows + 1) bytes t.end (map (depth_of key_len) table.kept) table.level_lens 0 []
+    table.words []
     rows_rest refl shape.levels shape.words words_text words_sound in
     let rows_from : ℕ = t.end + long * length table.words in
     let rows_text : drop rows_from bytes ≡ rows_rest =
     ap (λ k. drop k bytes) (omega (arith, length-all_spelled long table.words))
     ∙ after t.end bytes (all_spelled long table.words) rows_rest t.next in
     let none : List (List ℕ) = [] in
-    let rows_at : drop (rows_from + row_bytes * length none) bytes ≡ rows_rest = ap (λ k. drop k bytes) (omega arith) ∙ rows_text in
+    let rows_at : drop (rows_from + row_bytes * length none) bytes ≡ rows_rest = ap (λ k. drop k bytes) (omega arith)
+    ∙ rows_text in
     let rows_read : rows_after c.rules bytes rows_from c.rows [] ≡ Ok rows =
     ap (λ n. rows_after c.rules bytes rows_from n []) (sym b.count)
     ∙ rows_spelled c.rules bytes rows_from [] rows rest rows_at is.saved.ranked b.typed in
@@ -179,17 +189,26 @@ table_spelled version family bytes at table rest small few is e =
     record {
       end = end;
       read = both (counts family bytes at)
-          (λ counts. tries_after version key_len (row_len * (counts.rows + 1)) bytes counts.tries (no_tries (at + 16)) >>= λ tries.
+          (λ counts. tries_after version key_len (row_len * (counts.rows + 1)) bytes counts.tries (no_tries (at + 16))
+          >>= λ tries.
           words_and_rows key_len bytes counts tries) c _ front.read
           (both (tries_after version key_len taken bytes c.tries (no_tries (at + 16)))
           (λ tries. words_and_rows key_len bytes c tries) tries _
           (ap (λ n. tries_after version key_len taken bytes n (no_tries (at + 16))) (sym tries_count) ∙ t.read)
           (both (words_of_tries (c.rows + 1) bytes t.end (trie_levels table) [])
           (λ ws. rows_after c.rules bytes (t.end + long * length ws) c.rows [] >>= λ rs.
-          Ok (record { table = table_of key_len c.rules tries ws rs; end = t.end + long * length ws + row_bytes * length rs }))
+          Ok (record {
+            table = table_of key_len c.rules tries ws rs;
+            end = t.end + long * length ws + row_bytes * length
+                rs;
+          }))
           table.words _ words
           (both (rows_after c.rules bytes rows_from c.rows [])
-          (λ rs. Ok (record { table = table_of key_len c.rules tries table.words rs; end = rows_from + row_bytes * length rs }))
+          (λ rs. Ok (record {
+            table = table_of key_len c.rules tries table.words rs;
+            end =
+                rows_from + row_bytes * length rs;
+          }))
           rows _ rows_read (ap Ok same))));
       next = ap (λ k. drop k bytes) (omega (arith, length-rows rows b.typed))
           ∙ after rows_from bytes rows_bytes rest rows_text;

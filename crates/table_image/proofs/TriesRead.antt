@@ -22,7 +22,8 @@ use Rattle.table_image.proofs.Fields.{AreBytes}
 use Rattle.table_image.proofs.Lists.{joined, of_both}
 use Rattle.table_image.proofs.NumbersRead.{fits, tested_read, numbers_read, levels_fit}
 
--- a trie of these kept groups, this root and these level lengths is lawful, where the rows take some of the words of its
+-- a trie of these kept groups, this root and these level lengths is lawful, where the rows take some of the words of
+-- its
 -- table, and the tries before it others
 pub record IsTrie (version : Version) (key_len taken from kept root : ℕ) (own : List ℕ) : Type 0 where
   pub keeps : is_kept_word key_len kept ≡ true
@@ -112,14 +113,16 @@ one_read version key_len taken bytes tries more are fit e =
     let lens = of_both (numbers TooMany short (level_fits (taken + sum tries.level_lens)) bytes lens_at depth)
     (λ lens. root_of lens >>= λ root. Ok (made lens root)) more parts.2 in
     let own : List ℕ = lens.0 in
-    let levels = numbers_read TooMany short (level_fits (taken + sum tries.level_lens)) bytes lens_at depth [] own are lens.1 in
+    let levels = numbers_read TooMany short (level_fits (taken + sum tries.level_lens)) bytes lens_at depth [] own are
+    lens.1 in
     let root = of_both (root_of own) (λ root. Ok (made own root)) more lens.2 in
     let leads = tested_read Unsound long (leads_into (first_level (levels_from (sum tries.level_lens) own))) bytes
     (lens_at + short * depth) root.0 are root.1 in
     let is : made own root.0 ≡ more = cc in
     let total = levels_fit (taken + sum tries.level_lens) [] levels.more (omega arith) levels.pass in
     let lens_text : drop lens_at bytes ≡ all_spelled short own ++ drop (lens_at + short * depth) bytes =
-    ap (λ k. drop k bytes) (omega arith) ∙ levels.text ∙ ap (λ xs. all_spelled short xs ++ drop (lens_at + short * (0 + depth)) bytes) (sym levels.are)
+    ap (λ k. drop k bytes) (omega arith) ∙ levels.text
+    ∙ ap (λ xs. all_spelled short xs ++ drop (lens_at + short * (0 + depth)) bytes) (sym levels.are)
     ∙ ap (λ k. all_spelled short own ++ drop (lens_at + short * k) bytes) (omega arith) in
     record {
       kept = kept;
@@ -136,23 +139,25 @@ one_read version key_len taken bytes tries more are fit e =
       kept_are = ap (λ (t : TriesView). t.kept) (sym is);
       roots_are = ap (λ (t : TriesView). t.roots) (sym is);
       lens_are = ap (λ (t : TriesView). t.level_lens) (sym is);
-      text = joined (drop tries.end bytes) (spelled_kept version kept) (all_spelled short own ++ spelled long root.0) _ _
+      text = joined (drop tries.end bytes) (spelled_kept version kept) (all_spelled short own ++ spelled long root.0) _
+          _
           keeps.text
           (joined (drop lens_at bytes) (all_spelled short own) (spelled long root.0) _ _ lens_text leads.0.text)
           ∙ ap (λ (t : TriesView). spelled_trie version kept own root.0 ++ drop t.end bytes) is;
     }
 
 -- what was read of tries after others
-pub record TriesAt (version : Version) (key_len taken : ℕ) (bytes : List ℕ) (count : ℕ) (tries all : TriesView) : Type 0 where
-  pub kept : List ℕ
-  pub roots : List ℕ
-  pub lens : List ℕ
-  pub count_is : length kept ≡ count
-  pub are : AreTries version key_len taken (sum tries.level_lens) kept roots lens
-  pub kept_are : all.kept ≡ tries.kept ++ kept
-  pub roots_are : all.roots ≡ tries.roots ++ roots
-  pub lens_are : all.level_lens ≡ tries.level_lens ++ lens
-  pub text : drop tries.end bytes ≡ spelled_tries version key_len kept roots lens ++ drop all.end bytes
+pub record TriesAt (version : Version) (key_len taken : ℕ) (bytes : List ℕ) (count : ℕ) (tries all : TriesView) : Type 0
+  where
+    pub kept : List ℕ
+    pub roots : List ℕ
+    pub lens : List ℕ
+    pub count_is : length kept ≡ count
+    pub are : AreTries version key_len taken (sum tries.level_lens) kept roots lens
+    pub kept_are : all.kept ≡ tries.kept ++ kept
+    pub roots_are : all.roots ≡ tries.roots ++ roots
+    pub lens_are : all.level_lens ≡ tries.level_lens ++ lens
+    pub text : drop tries.end bytes ≡ spelled_tries version key_len kept roots lens ++ drop all.end bytes
 
 -- a trie in front of others
 abbrev in_front : Version → ℕ → ℕ → ℕ → ℕ → ℕ → List ℕ → List ℕ → List ℕ → List ℕ → Type 0
@@ -163,12 +168,15 @@ front_lawful : (version : Version) (key_len taken from kept root : ℕ) (own oth
     in_front version key_len taken from kept root own others roots lens →
     AreTries version key_len taken from (kept ∷ others) (root ∷ roots) (own ++ lens)
 front_lawful version key_len taken from kept root own others roots lens h =
-    let front : own ≡ take (depth_of key_len kept) (own ++ lens) = sym (take_at own lens (depth_of key_len kept) h.0.levels) in
-    let back : lens ≡ drop (depth_of key_len kept) (own ++ lens) = sym (drop_at own lens (depth_of key_len kept) h.0.levels) in
+    let front : own ≡ take (depth_of key_len kept) (own ++ lens) =
+    sym (take_at own lens (depth_of key_len kept) h.0.levels) in
+    let back : lens ≡ drop (depth_of key_len kept) (own ++ lens) =
+    sym (drop_at own lens (depth_of key_len kept) h.0.levels) in
     subst (λ (p : List ℕ × List ℕ). in_front version key_len taken from kept root p.0 others roots p.1)
     (λ i. (front i, back i)) h
 
-pub tries_read : (version : Version) (key_len taken : ℕ) (bytes : List ℕ) (count : ℕ) (tries all : TriesView) → AreBytes bytes →
+pub tries_read : (version : Version) (key_len taken : ℕ) (bytes : List ℕ) (count : ℕ) (tries all : TriesView) →
+    AreBytes bytes →
     taken + sum tries.level_lens ≤ max_words → tries_after version key_len taken bytes count tries ≡ Ok all →
     TriesAt version key_len taken bytes count tries all
 unfolding tries_after
@@ -186,7 +194,8 @@ tries_read version key_len taken bytes zero tries all are fit e =
       text = ap (λ (t : TriesView). drop t.end bytes) same;
     }
 tries_read version key_len taken bytes (suc count) tries all are fit e =
-    let parts = of_both (one_trie version key_len taken bytes tries) (tries_after version key_len taken bytes count) all e in
+    let parts = of_both (one_trie version key_len taken bytes tries) (tries_after version key_len taken bytes count) all
+    e in
     let more : TriesView = parts.0 in
     let here = one_read version key_len taken bytes tries more are fit parts.1 in
     let from : sum more.level_lens ≡ sum tries.level_lens + sum here.own =
@@ -200,14 +209,19 @@ tries_read version key_len taken bytes (suc count) tries all are fit e =
       roots = here.root ∷ rest.roots;
       lens = here.own ++ rest.lens;
       count_is = ap suc rest.count_is;
-      are = front_lawful version key_len taken (sum tries.level_lens) here.kept here.root here.own rest.kept rest.roots rest.lens
+      are = front_lawful version key_len taken (sum tries.level_lens) here.kept here.root here.own rest.kept rest.roots
+          rest.lens
           (here.is, subst (λ k. AreTries version key_len taken k rest.kept rest.roots rest.lens) from rest.are);
-      kept_are = rest.kept_are ∙ ap (λ xs. xs ++ rest.kept) here.kept_are ∙ append_assoc tries.kept (here.kept ∷ []) rest.kept;
-      roots_are = rest.roots_are ∙ ap (λ xs. xs ++ rest.roots) here.roots_are ∙ append_assoc tries.roots (here.root ∷ []) rest.roots;
-      lens_are = rest.lens_are ∙ ap (λ xs. xs ++ rest.lens) here.lens_are ∙ append_assoc tries.level_lens here.own rest.lens;
+      kept_are = rest.kept_are ∙ ap (λ xs. xs ++ rest.kept) here.kept_are
+          ∙ append_assoc tries.kept (here.kept ∷ []) rest.kept;
+      roots_are = rest.roots_are ∙ ap (λ xs. xs ++ rest.roots) here.roots_are
+          ∙ append_assoc tries.roots (here.root ∷ []) rest.roots;
+      lens_are = rest.lens_are ∙ ap (λ xs. xs ++ rest.lens) here.lens_are
+          ∙ append_assoc tries.level_lens here.own rest.lens;
       text = joined (drop tries.end bytes) (spelled_trie version here.kept here.own here.root)
           (spelled_tries version key_len rest.kept rest.roots rest.lens) _ _ here.text rest.text
-          ∙ ap (λ xs. (spelled_trie version here.kept xs here.root ++ spelled_tries version key_len rest.kept rest.roots rest.lens)
+          ∙ ap (λ xs. (spelled_trie version here.kept xs here.root ++ spelled_tries version key_len rest.kept rest.roots
+          rest.lens)
           ++ drop all.end bytes) (sym front)
           ∙ ap (λ xs. (spelled_trie version here.kept (take d (here.own ++ rest.lens)) here.root
           ++ spelled_tries version key_len rest.kept rest.roots xs) ++ drop all.end bytes) (sym back);

@@ -47,19 +47,22 @@ are_sound version key_len taken from (kept ∷ others) [] lens bound are = absur
 are_sound version key_len taken from (kept ∷ others) (root ∷ roots) lens bound are =
     let d : ℕ = depth_of key_len kept in
     let here = are.0 in
-    let rest = are_sound version key_len taken (from + sum (take d lens)) others roots (drop d lens) (omega (arith, here.fit)) are.1 in
+    let rest = are_sound version key_len taken (from + sum (take d lens)) others roots (drop d lens)
+    (omega (arith, here.fit)) are.1 in
     let deep : sum (map (depth_of key_len) (kept ∷ others)) ≡ d + sum (map (depth_of key_len) others) =
     sum_by-cons (λ n. n) d (map (depth_of key_len) others) in
     let sums : sum (take d lens) + sum (drop d lens) ≡ sum lens = sum_by-take-drop (λ (x : ℕ). x) lens d in
     record {
       same = ap suc rest.same;
       keeps = and_from (is_kept_word key_len kept) _ here.keeps rest.keeps;
-      groups = λ one. and_from (kept == all_groups key_len) _ (eq-eqb kept (all_groups key_len) (here.groups one)) (rest.groups one);
+      groups = λ one. and_from (kept == all_groups key_len) _ (eq-eqb kept (all_groups key_len) (here.groups one))
+          (rest.groups one);
       levels = omega (arith, here.levels, rest.levels, length-take d lens, length-drop d lens, deep);
       fit = omega (arith, rest.fit, sums);
       leads = and_from (root_leads (root, take d (levels_from from lens))) _
           (ap (λ levels. leads_into (first_level levels) root) (levels-take d from lens) ∙ here.leads)
-          (ap (λ levels. list_all root_leads (zip roots (portions (map (depth_of key_len) others) levels))) (levels-drop d from lens)
+          (ap (λ levels. list_all root_leads (zip roots (portions (map (depth_of key_len) others) levels)))
+          (levels-drop d from lens)
           ∙ rest.leads);
       small = and_from (fits long root) _ here.small rest.small;
     }
@@ -78,9 +81,12 @@ sound_are version key_len taken from (kept ∷ others) (root ∷ roots) lens s =
     let keeps = and_parts (is_kept_word key_len kept) (list_all (is_kept_word key_len) others) s.keeps in
     let small = and_parts (fits long root) (list_all (fits long) roots) s.small in
     let leads = and_parts (root_leads (root, take d (levels_from from lens)))
-    (list_all root_leads (zip roots (portions (map (depth_of key_len) others) (drop d (levels_from from lens))))) s.leads in
-    let groups : version ≡ One → (kept ≡ all_groups key_len) × (list_all (λ word. word == all_groups key_len) others ≡ true) =
-    λ one. (let both = and_parts (kept == all_groups key_len) (list_all (λ word. word == all_groups key_len) others) (s.groups one) in
+    (list_all root_leads (zip roots (portions (map (depth_of key_len) others) (drop d (levels_from from lens)))))
+    s.leads in
+    let groups : version ≡ One →
+    (kept ≡ all_groups key_len) × (list_all (λ word. word == all_groups key_len) others ≡ true) =
+    λ one. (let both = and_parts (kept == all_groups key_len) (list_all (λ word. word == all_groups key_len) others)
+    (s.groups one) in
     (eqb-true kept (all_groups key_len) both.0, both.1)) in (
       record {
         keeps = keeps.0;

@@ -28,11 +28,13 @@ record KeptOf (version : Version) (key_len : ℕ) (bytes : List ℕ) (at kept : 
   pub next : drop (at + kept_len version) bytes ≡ rest
 
 -- a word of kept groups is below the power of two that a key of so many groups has
-pub kept_small : (key_len kept : ℕ) → 2 ^ groups_of key_len ≤ 256 ^ short → is_kept_word key_len kept ≡ true → fits short kept ≡ true
+pub kept_small : (key_len kept : ℕ) → 2 ^ groups_of key_len ≤ 256 ^ short → is_kept_word key_len kept ≡ true →
+    fits short kept ≡ true
 kept_small key_len kept few keeps =
     let parts = and_parts (nat_lt 0 kept) (kept / 2 ^ groups_of key_len == 0) keeps in
     let none : kept / 2 ^ groups_of key_len ≡ 0 = eqb-true _ _ parts.1 in
-    lt-ltb kept (256 ^ short) (omega (arith, below_of kept (2 ^ groups_of key_len) none (one-le-pow (groups_of key_len) 2 (omega arith))))
+    lt-ltb kept (256 ^ short)
+    (omega (arith, below_of kept (2 ^ groups_of key_len) none (one-le-pow (groups_of key_len) 2 (omega arith))))
   where
     below_of : (a b : ℕ) → a / b ≡ 0 → 1 ≤ b → a < b
     below_of a b none some =
@@ -42,7 +44,8 @@ kept_small key_len kept few keeps =
         omega arith
 
 kept_spelled : (version : Version) (key_len : ℕ) (bytes : List ℕ) (at kept : ℕ) (rest : List ℕ) →
-    2 ^ groups_of key_len ≤ 256 ^ short → is_kept_word key_len kept ≡ true → (version ≡ One → kept ≡ all_groups key_len) →
+    2 ^ groups_of key_len ≤ 256 ^ short → is_kept_word key_len kept ≡ true →
+    (version ≡ One → kept ≡ all_groups key_len) →
     drop at bytes ≡ spelled_kept version kept ++ rest → KeptOf version key_len bytes at kept rest
 kept_spelled One key_len bytes at kept rest few keeps groups e = record {
   read = ap Ok (sym (groups refl));
@@ -55,7 +58,8 @@ kept_spelled Two key_len bytes at kept rest few keeps groups e = record {
 }
 
 -- levels that fit together fit one after the other
-fit_levels : (taken : ℕ) (first lens : List ℕ) → taken + sum (first ++ lens) ≤ max_words → AllTested (level_fits taken) first lens
+fit_levels : (taken : ℕ) (first lens : List ℕ) → taken + sum (first ++ lens) ≤ max_words →
+    AllTested (level_fits taken) first lens
 fit_levels taken first [] fit = tt
 fit_levels taken first (len ∷ lens) fit =
     let total : sum (first ++ len ∷ lens) ≡ sum first + (len + sum lens) =
@@ -74,14 +78,16 @@ with_trie tries kept root own end = record {
 }
 
 -- a trie was read, and this stands after it
-record TrieOf (version : Version) (key_len taken : ℕ) (bytes : List ℕ) (tries : TriesView) (kept root : ℕ) (own rest : List ℕ)
+record TrieOf (version : Version) (key_len taken : ℕ) (bytes : List ℕ) (tries : TriesView) (kept root : ℕ)
+    (own rest : List ℕ)
     : Type 0 where
   pub end : ℕ
   pub read : one_trie version key_len taken bytes tries ≡ Ok (with_trie tries kept root own end)
   pub next : drop end bytes ≡ rest
   pub within : end ≤ length bytes
 
-one_spelled : (version : Version) (key_len taken : ℕ) (bytes : List ℕ) (tries : TriesView) (kept root : ℕ) (own rest : List ℕ) →
+one_spelled : (version : Version) (key_len taken : ℕ) (bytes : List ℕ) (tries : TriesView) (kept root : ℕ)
+    (own rest : List ℕ) →
     2 ^ groups_of key_len ≤ 256 ^ short → IsTrie version key_len taken (sum tries.level_lens) kept root own →
     drop tries.end bytes ≡ spelled_trie version kept own root ++ rest →
     TrieOf version key_len taken bytes tries kept root own rest
@@ -91,10 +97,12 @@ one_spelled version key_len taken bytes tries kept root own rest few is e =
     let root_at : ℕ = lens_at + short * depth in
     let end : ℕ = root_at + long in
     let test : List ℕ → ℕ → Bool = level_fits (taken + sum tries.level_lens) in
-    let first_text : drop tries.end bytes ≡ spelled_kept version kept ++ (all_spelled short own ++ (spelled long root ++ rest)) =
+    let first_text : drop tries.end bytes ≡ spelled_kept version kept
+    ++ (all_spelled short own ++ (spelled long root ++ rest)) =
     e ∙ append_assoc (spelled_kept version kept) (all_spelled short own ++ spelled long root) rest
     ∙ ap (λ xs. spelled_kept version kept ++ xs) (append_assoc (all_spelled short own) (spelled long root) rest) in
-    let keeps = kept_spelled version key_len bytes tries.end kept (all_spelled short own ++ (spelled long root ++ rest)) few
+    let keeps = kept_spelled version key_len bytes tries.end kept (all_spelled short own ++ (spelled long root ++ rest))
+    few
     is.keeps is.groups first_text in
     let none : List ℕ = [] in
     let lens_text : drop (lens_at + short * length none) bytes ≡ all_spelled short own ++ (spelled long root ++ rest) =
@@ -102,12 +110,15 @@ one_spelled version key_len taken bytes tries kept root own rest few is e =
     let lens : numbers TooMany short test bytes lens_at depth ≡ Ok own =
     ap (λ n. numbers TooMany short test bytes lens_at n) (sym is.levels)
     ∙ numbers_spelled TooMany short test bytes lens_at [] own (spelled long root ++ rest) (omega arith) lens_text
-    (small_lens own (omega (arith, is.fit))) (fit_levels (taken + sum tries.level_lens) [] own (omega (arith, is.fit))) in
+    (small_lens own (omega (arith, is.fit))) (fit_levels (taken + sum tries.level_lens) [] own (omega (arith, is.fit)))
+    in
     let root_text : drop root_at bytes ≡ spelled long root ++ rest =
     ap (λ k. drop k bytes) (omega (arith, length-all_spelled short own, is.levels))
     ∙ after lens_at bytes (all_spelled short own) (spelled long root ++ rest) keeps.next in
-    let root_read : tested Unsound long (leads_into (first_level (levels_from (sum tries.level_lens) own))) bytes root_at ≡ Ok root =
-    tested_spelled Unsound long (leads_into (first_level (levels_from (sum tries.level_lens) own))) bytes root_at root rest
+    let root_read : tested Unsound long (leads_into (first_level (levels_from (sum tries.level_lens) own))) bytes
+    root_at ≡ Ok root =
+    tested_spelled Unsound long (leads_into (first_level (levels_from (sum tries.level_lens) own))) bytes root_at root
+    rest
     (omega arith) root_text is.small is.leads in
     record {
       end = end;
@@ -136,14 +147,16 @@ with_tries tries kept roots lens end = record {
 }
 
 -- tries were read, and this stands after them
-pub record TriesOf (version : Version) (key_len taken : ℕ) (bytes : List ℕ) (tries : TriesView) (kept roots lens rest : List ℕ)
+pub record TriesOf (version : Version) (key_len taken : ℕ) (bytes : List ℕ) (tries : TriesView)
+    (kept roots lens rest : List ℕ)
     : Type 0 where
   pub end : ℕ
   pub read : tries_after version key_len taken bytes (length kept) tries ≡ Ok (with_tries tries kept roots lens end)
   pub next : drop end bytes ≡ rest
   pub within : end ≤ length bytes
 
-pub tries_spelled : (version : Version) (key_len taken : ℕ) (bytes : List ℕ) (tries : TriesView) (kept roots lens rest : List ℕ) →
+pub tries_spelled : (version : Version) (key_len taken : ℕ) (bytes : List ℕ) (tries : TriesView)
+    (kept roots lens rest : List ℕ) →
     2 ^ groups_of key_len ≤ 256 ^ short → tries.end ≤ length bytes →
     AreTries version key_len taken (sum tries.level_lens) kept roots lens →
     drop tries.end bytes ≡ spelled_tries version key_len kept roots lens ++ rest →
@@ -169,15 +182,18 @@ tries_spelled version key_len taken bytes tries (kept ∷ others) (root ∷ root
     let here = one_spelled version key_len taken bytes tries kept root own after_it few are.0
     (e ∙ append_assoc (spelled_trie version kept own root) (spelled_tries version key_len others roots back) rest) in
     let more : TriesView = with_trie tries kept root own here.end in
-    let from : sum tries.level_lens + sum own ≡ sum (tries.level_lens ++ own) = sym (sum_by-append (λ n. n) tries.level_lens own) in
+    let from : sum tries.level_lens + sum own ≡ sum (tries.level_lens ++ own) =
+    sym (sum_by-append (λ n. n) tries.level_lens own) in
     let left = tries_spelled version key_len taken bytes more others roots back rest few here.within
     (subst (λ k. AreTries version key_len taken k others roots back) from are.1) here.next in
     let kept_is = append_assoc tries.kept (kept ∷ []) others in
     let roots_is = append_assoc tries.roots (root ∷ []) roots in
-    let lens_is = append_assoc tries.level_lens own back ∙ ap (λ xs. tries.level_lens ++ xs) (take-append-drop d lens) in
+    let lens_is = append_assoc tries.level_lens own back ∙ ap (λ xs. tries.level_lens ++ xs) (take-append-drop d lens)
+    in
     record {
       end = left.end;
-      read = both (one_trie version key_len taken bytes tries) (tries_after version key_len taken bytes (length others)) more _
+      read = both (one_trie version key_len taken bytes tries) (tries_after version key_len taken bytes (length others))
+          more _
           here.read (left.read ∙ ap Ok (λ i. tries_at left.end (kept_is i) (roots_is i) (lens_is i)));
       next = left.next;
       within = left.within;

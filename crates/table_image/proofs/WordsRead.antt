@@ -28,7 +28,8 @@ none_found test place (n ∷ ns) all =
     rw parts.0 (none_found test (place + 1) ns parts.1)
 
 -- and the other way round
-pub none_fails : {A : Type 0} (test : A → Bool) (place : ℕ) (ns : List A) → position_from (λ n. not (test n)) place ns ≡ None →
+pub none_fails : {A : Type 0} (test : A → Bool) (place : ℕ) (ns : List A) →
+    position_from (λ n. not (test n)) place ns ≡ None →
     list_all test ns ≡ true
 none_fails test place [] none = refl
 none_fails test place (n ∷ ns) none = elim (cases_Bool (test n)) [
@@ -65,7 +66,8 @@ words_joined : (bytes : List ℕ) (from n m : ℕ) (first mid all : List ℕ) (o
     ((words : List ℕ) → one words ≡ None → other words ≡ None → both words ≡ None) →
     WordsAt bytes from n first mid one → WordsAt bytes from m mid all other → WordsAt bytes from (n + m) first all both
 words_joined bytes from n m first mid all one other both and here rest =
-    let len : length mid ≡ length first + n = ap length here.are ∙ length-append first here.more ∙ omega (arith, here.count_is) in
+    let len : length mid ≡ length first + n = ap length here.are ∙ length-append first here.more
+    ∙ omega (arith, here.count_is) in
     let text : drop (from + long * (length first + n)) bytes
     ≡ all_spelled long rest.more ++ drop (from + long * (length first + (n + m))) bytes =
     ap (λ k. drop (from + long * k) bytes) (sym len) ∙ rest.text
@@ -74,7 +76,8 @@ words_joined bytes from n m first mid all one other both and here rest =
       more = here.more ++ rest.more;
       are = rest.are ∙ ap (λ xs. xs ++ rest.more) here.are ∙ append_assoc first here.more rest.more;
       count_is = length-append here.more rest.more ∙ omega (arith, here.count_is, rest.count_is);
-      text = joined (drop (from + long * length first) bytes) (all_spelled long here.more) (all_spelled long rest.more) _ _
+      text = joined (drop (from + long * length first) bytes) (all_spelled long here.more) (all_spelled long rest.more)
+          _ _
           here.text text
           ∙ ap (λ xs. xs ++ drop (from + long * (length first + (n + m))) bytes)
           (sym (flat_map-append (spelled long) here.more rest.more));
@@ -83,7 +86,8 @@ words_joined bytes from n m first mid all one other both and here rest =
           let whole : first ++ ((here.more ++ rest.more) ++ later) ≡ first ++ (here.more ++ (rest.more ++ later)) =
           ap (λ xs. first ++ xs) (append_assoc here.more rest.more later) in
           let moved : mid ++ (rest.more ++ later) ≡ first ++ ((here.more ++ rest.more) ++ later) =
-          ap (λ xs. xs ++ (rest.more ++ later)) here.are ∙ append_assoc first here.more (rest.more ++ later) ∙ sym whole in
+          ap (λ xs. xs ++ (rest.more ++ later)) here.are ∙ append_assoc first here.more (rest.more ++ later)
+          ∙ sym whole in
           and (first ++ ((here.more ++ rest.more) ++ later))
           (ap one whole ∙ here.sound (rest.more ++ later)) (ap other (sym moved) ∙ rest.sound later);
     }
@@ -114,7 +118,12 @@ words_read rows bytes from (len ∷ lens) p first all are place e =
     let parts = of_both (numbers_after Unsound long (λ _. test) bytes from len first)
     (λ more. words_of_levels rows bytes from levels more) all e in
     let here = numbers_read Unsound long (λ _. test) bytes from len first parts.0 are parts.1 in
-    let next : p + len ≡ length parts.0 = omega (arith, ap length here.are, length-append first here.more, here.count_is) in
+    let next : p + len ≡ length parts.0 = omega (
+      arith,
+      ap length here.are,
+      length-append first here.more,
+      here.count_is,
+    ) in
     let rest = words_read rows bytes from lens (p + len) parts.0 all are next parts.2 in
     let read : WordsAt bytes from len first parts.0 (level_fault rows level levels) = record {
       more = here.more;
@@ -129,7 +138,8 @@ words_read rows bytes from (len ∷ lens) p first all are place e =
     rw (sum_by-cons (λ n. n) len lens)
     (words_joined bytes from len (sum lens) first parts.0 all (level_fault rows level levels)
     (λ words. unsound_word rows words levels) (λ words. unsound_word rows words (level ∷ levels))
-    (λ words one other. none_both (level_fault rows level levels words) (unsound_word rows words levels) one other) read rest)
+    (λ words one other. none_both (level_fault rows level levels words) (unsound_word rows words levels) one other) read
+    rest)
 
 -- the fault of the words of tries
 abbrev pub tries_fault : ℕ → List (List Level) → List ℕ → Option ℕ
@@ -160,10 +170,16 @@ tries_words_read rows bytes from (depth ∷ depths) lens p first all are place c
     (λ more. words_of_tries rows bytes from (portions depths (drop depth (levels_from p lens))) more) all e in
     let here = words_read rows bytes from own p first parts.0 are place
     (ap (λ levels. words_of_levels rows bytes from levels first) (sym (levels-take depth p lens)) ∙ parts.1) in
-    let next : p + sum own ≡ length parts.0 = omega (arith, ap length here.are, length-append first here.more, here.count_is) in
+    let next : p + sum own ≡ length parts.0 = omega (
+      arith,
+      ap length here.are,
+      length-append first here.more,
+      here.count_is,
+    ) in
     let rest = tries_words_read rows bytes from depths others (p + sum own) parts.0 all are next
     (omega (arith, length-drop depth lens, count, deep))
-    (ap (λ levels. words_of_tries rows bytes from (portions depths levels) parts.0) (sym (levels-drop depth p lens)) ∙ parts.2) in
+    (ap (λ levels. words_of_tries rows bytes from (portions depths levels) parts.0) (sym (levels-drop depth p lens))
+    ∙ parts.2) in
     rw (← sums)
     (words_joined bytes from (sum own) (sum others) first parts.0 all
     (λ words. unsound_word rows words (levels_from p own))

@@ -96,7 +96,8 @@ words_spelled rows bytes from (len ∷ lens) p first words later rest place coun
     none_fails test p one (ap (position_from (λ word. not (test word)) p) (sym part) ∙ sounds.0) in
     let read : numbers_after Unsound long (λ _. test) bytes from len first ≡ Ok (first ++ one) =
     ap (λ n. numbers_after Unsound long (λ _. test) bytes from n first) (sym h.count_is)
-    ∙ numbers_spelled Unsound long (λ _. test) bytes from first one (all_spelled long other ++ rest) (omega arith) h.here.text h.here.small
+    ∙ numbers_spelled Unsound long (λ _. test) bytes from first one (all_spelled long other ++ rest)
+    (omega arith) h.here.text h.here.small
     (all_tested test first one passes) in
     let next : p + len ≡ length (first ++ one) = omega (arith, length-append first one, h.count_is) in
     let moved : first ++ (words ++ later) ≡ (first ++ one) ++ (other ++ later) =
@@ -114,9 +115,12 @@ pub tries_words_spelled : (rows : ℕ) (bytes : List ℕ) (from : ℕ) (depths l
     tries_fault rows (portions depths (levels_from p lens)) (first ++ (words ++ later)) ≡ None →
     words_of_tries rows bytes from (portions depths (levels_from p lens)) first ≡ Ok (first ++ words)
 unfolding words_of_tries
-tries_words_spelled rows bytes from [] [] p first [] later rest place count total s sound = ap Ok (sym (append-nil first))
-tries_words_spelled rows bytes from [] [] p first (w ∷ words) later rest place count total s sound = absurd (omega arith)
-tries_words_spelled rows bytes from [] (len ∷ lens) p first words later rest place count total s sound = absurd (omega arith)
+tries_words_spelled rows bytes from [] [] p first [] later rest place count total s sound =
+    ap Ok (sym (append-nil first))
+tries_words_spelled rows bytes from [] [] p first (w ∷ words) later rest place count total s sound =
+    absurd (omega arith)
+tries_words_spelled rows bytes from [] (len ∷ lens) p first words later rest place count total s sound =
+    absurd (omega arith)
 tries_words_spelled rows bytes from (depth ∷ depths) lens p first words later rest place count total s sound =
     let own : List ℕ = take depth lens in
     let others : List ℕ = drop depth lens in
@@ -130,18 +134,22 @@ tries_words_spelled rows bytes from (depth ∷ depths) lens p first words later 
     (tries_fault rows (portions depths (drop depth (levels_from p lens))) (first ++ (words ++ later))) sound in
     let here : words_of_levels rows bytes from (take depth (levels_from p lens)) first ≡ Ok (first ++ one) =
     ap (λ levels. words_of_levels rows bytes from levels first) (levels-take depth p lens)
-    ∙ words_spelled rows bytes from own p first one (other ++ later) (all_spelled long other ++ rest) place h.count_is h.here
+    ∙ words_spelled rows bytes from own p first one (other ++ later) (all_spelled long other ++ rest) place h.count_is
+    h.here
     (ap (λ xs. unsound_word rows xs (levels_from p own)) (sym order)
     ∙ ap (unsound_word rows (first ++ (words ++ later))) (sym (levels-take depth p lens)) ∙ sounds.0) in
     let next : p + sum own ≡ length (first ++ one) = omega (arith, length-append first one, h.count_is) in
     let moved : first ++ (words ++ later) ≡ (first ++ one) ++ (other ++ later) =
     order ∙ sym (append_assoc first one (other ++ later)) in
     let rest_read = tries_words_spelled rows bytes from depths others (p + sum own) (first ++ one) other later rest next
-    (omega (arith, length-drop depth lens, count, deep)) (omega (arith, length-drop (sum own) words, total, sums)) h.next
+    (omega (arith, length-drop depth lens, count, deep)) (omega (arith, length-drop (sum own) words, total, sums))
+    h.next
     (ap (tries_fault rows (portions depths (levels_from (p + sum own) others))) (sym moved)
-    ∙ ap (λ levels. tries_fault rows (portions depths levels) (first ++ (words ++ later))) (sym (levels-drop depth p lens))
+    ∙ ap (λ levels. tries_fault rows (portions depths levels) (first ++ (words ++ later)))
+    (sym (levels-drop depth p lens))
     ∙ sounds.1) in
     both (words_of_levels rows bytes from (take depth (levels_from p lens)) first)
-    (λ more. words_of_tries rows bytes from (portions depths (drop depth (levels_from p lens))) more) (first ++ one) _ here
+    (λ more. words_of_tries rows bytes from (portions depths (drop depth (levels_from p lens))) more) (first ++ one) _
+    here
     (ap (λ levels. words_of_tries rows bytes from (portions depths levels) (first ++ one)) (levels-drop depth p lens)
     ∙ rest_read ∙ ap Ok (append_assoc first one other ∙ ap (λ xs. first ++ xs) (take-append-drop (sum own) words)))

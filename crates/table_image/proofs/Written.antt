@@ -22,7 +22,8 @@ use Rattle.std.proofs.Math.Pow.{pow_mono}
 
 -- the bytes of one element more
 pub one_more : {A : Type 0} (f : A → List ℕ) (old now next : List ℕ) (xs : List A) (i : ℕ) (x : A) → i < length xs →
-    x ≡ get_or xs i x → now ≡ old ++ flat_map f (take i xs) → next ≡ now ++ f x → next ≡ old ++ flat_map f (take (i + 1) xs)
+    x ≡ get_or xs i x → now ≡ old ++ flat_map f (take i xs) → next ≡ now ++ f x →
+    next ≡ old ++ flat_map f (take (i + 1) xs)
 one_more f old now next xs i x within is e n =
     n ∙ ap (λ ys. ys ++ f x) e ∙ flat_map_more f old (take i xs) x
     ∙ ap (λ ys. old ++ flat_map f ys) (ap (λ y. take i xs ++ y ∷ []) is ∙ sym (take_more xs i x within))
@@ -48,9 +49,11 @@ none_left size [] out all e f = sym (append-nil out) ∙ f
 none_left size (x ∷ left) out all e f = absurd (omega arith)
 
 -- what each element passes, all pass
-pub all_from : (p : ℕ → Bool) (xs : List ℕ) → ((k : ℕ) → k < length xs → p (get_or xs k 0) ≡ true) → list_all p xs ≡ true
+pub all_from : (p : ℕ → Bool) (xs : List ℕ) → ((k : ℕ) → k < length xs → p (get_or xs k 0) ≡ true) →
+    list_all p xs ≡ true
 all_from p [] each = refl
-all_from p (x ∷ xs) each = and_from (p x) (list_all p xs) (each 0 (omega arith)) (all_from p xs (λ k h. each (suc k) (omega arith)))
+all_from p (x ∷ xs) each = and_from (p x) (list_all p xs) (each 0 (omega arith))
+    (all_from p xs (λ k h. each (suc k) (omega arith)))
 
 -- the numbers of a type of 64 bits
 pub words_typed : (xs : List ℕ) → ((k : ℕ) → get_or xs k 0 < 2 ^ 64) → list_all is_word xs ≡ true
@@ -64,16 +67,20 @@ each_of p (x ∷ xs) (suc k) all h = each_of p xs k (and_parts (p x) (list_all p
 
 -- one trie more is written
 pub trie_written : (key_len i : ℕ) (kept roots lens out next : List ℕ) → i < length kept → i < length roots →
-    next ≡ ((out ++ spelled short (get_or kept i 0)) ++ all_spelled short (take (depth_of key_len (get_or kept i 0)) lens))
+    next ≡ ((out ++ spelled short (get_or kept i 0)) ++ all_spelled short
+    (take (depth_of key_len (get_or kept i 0)) lens))
     ++ spelled long (get_or roots i 0) →
-    next ++ spelled_tries Two key_len (drop (i + 1) kept) (drop (i + 1) roots) (drop (depth_of key_len (get_or kept i 0)) lens)
+    next ++ spelled_tries Two key_len (drop (i + 1) kept) (drop (i + 1) roots)
+    (drop (depth_of key_len (get_or kept i 0)) lens)
     ≡ out ++ spelled_tries Two key_len (drop i kept) (drop i roots) lens
 trie_written key_len i kept roots lens out next within within' e =
     let unfolded : spelled_tries Two key_len (drop i kept) (drop i roots) lens
     ≡ spelled_trie Two (get_or kept i 0) (take (depth_of key_len (get_or kept i 0)) lens) (get_or roots i 0)
-    ++ spelled_tries Two key_len (drop (i + 1) kept) (drop (i + 1) roots) (drop (depth_of key_len (get_or kept i 0)) lens) =
+    ++ spelled_tries Two key_len (drop (i + 1) kept) (drop (i + 1) roots)
+    (drop (depth_of key_len (get_or kept i 0)) lens) =
     ap (λ ks. spelled_tries Two key_len ks (drop i roots) lens) (drop_more kept i 0 within)
-    ∙ ap (λ rs. spelled_tries Two key_len (get_or kept i 0 ∷ drop (i + 1) kept) rs lens) (drop_more roots i 0 within') in
+    ∙ ap (λ rs. spelled_tries Two key_len (get_or kept i 0 ∷ drop (i + 1) kept) rs lens) (drop_more roots i 0 within')
+    in
     rw (e, unfolded) (simp append_assoc)
 
 -- the levels left after those of one trie
@@ -121,10 +128,17 @@ depth_le key_len kept = omega (
 depths_bound : (key_len : ℕ) (kept : List ℕ) → key_len ≤ 505 → sum (map (depth_of key_len) kept) ≤ 505 * length kept
 depths_bound key_len [] few = omega arith
 depths_bound key_len (k ∷ kept) few =
-    omega (arith, sum_by-cons (λ n. n) (depth_of key_len k) (map (depth_of key_len) kept), depths_bound key_len kept few, depth_le key_len k)
+    omega (
+      arith,
+      sum_by-cons (λ n. n) (depth_of key_len k) (map (depth_of key_len) kept),
+      depths_bound key_len kept
+          few,
+      depth_le key_len k,
+    )
 
 -- row 0 is a row, and is there
-pub zeros_typed : (zeros : List ℕ) (later : List (List ℕ)) → length zeros ≡ 16 → begins_with_zeros (zeros ∷ later) ≡ true →
+pub zeros_typed : (zeros : List ℕ) (later : List (List ℕ)) → length zeros ≡ 16 →
+    begins_with_zeros (zeros ∷ later) ≡ true →
     list_all is_row later ≡ true → list_all is_row (zeros ∷ later) ≡ true
 zeros_typed zeros later len begins typed =
     and_from (is_row zeros) (list_all is_row later)
@@ -151,7 +165,8 @@ zeros_of table sound = (sound_parts table sound).shape.zeros
 
 -- a pair is written: its magic, its version and its two tables
 pub pair_written : (pair : PairView) (none one two three all : List ℕ) → none ≡ [] → one ≡ none ++ spelled 4 magic →
-    two ≡ one ++ spelled 4 2 → three ≡ two ++ spelled_table Two 4 pair.ip4 → all ≡ three ++ spelled_table Two 6 pair.ip6 →
+    two ≡ one ++ spelled 4 2 → three ≡ two ++ spelled_table Two 4 pair.ip4 →
+    all ≡ three ++ spelled_table Two 6 pair.ip6 →
     all ≡ spelled_pair Two pair
 unfolding spelled_pair
 pair_written pair none one two three all a b c d e = rw (e, d, c, b, a) (simp append_assoc)

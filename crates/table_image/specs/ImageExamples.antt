@@ -24,11 +24,13 @@ wild_pair = record { ip4 = wild_table; ip6 = empty_ip6 }
 abbrev small : ℕ → List ℕ
 small n = 0 ∷ 0 ∷ 0 ∷ n ∷ []
 
--- its image of version 2: magic, version, family, rules, tries, rows, kept groups, one level of one word, the
+-- its image of version 2: magic, version, family, rules, tries, rows, kept groups, one level of one
+-- word, the
 -- root, the word, row 1, and the empty table
 abbrev wild_image : List ℕ
 wild_image =
-    0x41 ∷ 0x43 ∷ 0x4C ∷ 0x54 ∷ (small 2 ++ small 4 ++ small 1 ++ small 1 ++ small 1 ++ small 1 ++ small 1
+    0x41 ∷ 0x43 ∷ 0x4C ∷ 0x54 ∷ (small 2 ++ small 4 ++ small 1 ++ small 1 ++ small 1 ++ small 1
+    ++ small 1
     ++ (0 ∷ 0 ∷ 0 ∷ 0 ∷ 0x20 ∷ 0 ∷ 0 ∷ 0 ∷ [])
     ++ (0 ∷ 0 ∷ 0 ∷ 0 ∷ 0x80 ∷ 0 ∷ 0 ∷ 1 ∷ [])
     ++ (small 1 ++ small 1 ++ small 1 ++ small 1 ++ small 1 ++ small 1 ++ small 1 ++ small 1)
@@ -42,7 +44,8 @@ unfolding spelled_pair spelled_table spelled
 wild_is_spelled = refl
 
 wild_is_read : image_of wild_image ≡ Ok wild_pair
-unfolding image_of table_read numbers_after tries_after words_of_levels words_of_tries rows_after no_rule
+unfolding image_of table_read numbers_after tries_after words_of_levels words_of_tries rows_after
+    no_rule
 wild_is_read = refl
 
 -- a byte at a place is another one
@@ -67,35 +70,46 @@ changed_one at byte = result_err (image_of (with_byte at byte (spelled_pair One 
 
 -- an image of version 1 has no field for kept groups
 all_kept_is_read : image_of (spelled_pair One all_kept) ≡ Ok all_kept
-unfolding image_of table_read numbers_after tries_after words_of_levels words_of_tries rows_after no_rule spelled_pair spelled_table spelled
+unfolding image_of table_read numbers_after tries_after words_of_levels words_of_tries rows_after
+    no_rule spelled_pair spelled_table spelled
 all_kept_is_read = refl
 
-lengths : (length (spelled_pair One all_kept) ∷ length (spelled_pair Two wild_pair) ∷ []) ≡ 332 ∷ 192 ∷ []
+lengths : (length (spelled_pair One all_kept) ∷ length (spelled_pair Two wild_pair) ∷ [])
+    ≡ 332 ∷ 192 ∷ []
 unfolding spelled_pair spelled_table spelled
 lengths = refl
 
 -- magic, version, kept groups that are none or too many, a word, a rank of 0 and one too high
-faults_of_two : (changed 0 0x42 ∷ changed 7 3 ∷ changed 27 0 ∷ changed 27 0x11 ∷ changed 47 2 ∷ changed 51 0 ∷ changed 51 2 ∷ [])
-    ≡ Some (fault_at Magic 0) ∷ Some (fault_at kind.Version 4) ∷ Some (fault_at KeptGroups 24) ∷ Some (fault_at KeptGroups 24)
+faults_of_two : (changed 0 0x42 ∷ changed 7 3 ∷ changed 27 0 ∷ changed 27 0x11 ∷ changed 47 2
+    ∷ changed 51 0 ∷ changed 51 2 ∷ [])
+    ≡ Some (fault_at Magic 0) ∷ Some (fault_at kind.Version 4) ∷ Some (fault_at KeptGroups 24)
+    ∷ Some (fault_at KeptGroups 24)
     ∷ Some (fault_at Unsound 40) ∷ Some (fault_at RowForm 48) ∷ Some (fault_at RowForm 48) ∷ []
-unfolding image_of table_read numbers_after tries_after words_of_levels words_of_tries rows_after no_rule
+unfolding image_of table_read numbers_after tries_after words_of_levels words_of_tries rows_after
+    no_rule
 faults_of_two = refl
 
 -- userdata 0 is lawful
 userdata_0 : changed 55 0 ≡ None
-unfolding image_of table_read numbers_after tries_after words_of_levels words_of_tries rows_after no_rule
+unfolding image_of table_read numbers_after tries_after words_of_levels words_of_tries rows_after
+    no_rule
 userdata_0 = refl
 
 -- families, the number of tries, a root, a word, a row
-faults_of_one : (changed_one 11 6 ∷ changed_one 17 0xFF ∷ changed_one 80 0x60 ∷ changed_one 99 1 ∷ changed_one 191 0
+faults_of_one : (changed_one 11 6 ∷ changed_one 17 0xFF ∷ changed_one 80 0x60 ∷ changed_one 99 1
+    ∷ changed_one 191 0
     ∷ changed_one 319 4 ∷ [])
-    ≡ Some (fault_at Family 8) ∷ Some (fault_at TooMany 16) ∷ Some (fault_at Unsound 76) ∷ Some (fault_at Unsound 92)
+    ≡ Some (fault_at Family 8) ∷ Some (fault_at TooMany 16) ∷ Some (fault_at Unsound 76) ∷ Some
+    (fault_at Unsound 92)
     ∷ Some (fault_at RowForm 188) ∷ Some (fault_at Family 316) ∷ []
-unfolding image_of table_read numbers_after tries_after words_of_levels words_of_tries rows_after no_rule spelled_pair spelled_table spelled
+unfolding image_of table_read numbers_after tries_after words_of_levels words_of_tries rows_after
+    no_rule spelled_pair spelled_table spelled
 faults_of_one = refl
 
 -- no bytes, one byte less, one byte more
-ends : (result_err (image_of []) ∷ result_err (image_of (take 191 wild_image)) ∷ result_err (image_of (wild_image ++ 0 ∷ [])) ∷ [])
+ends : (result_err (image_of []) ∷ result_err (image_of (take 191 wild_image)) ∷ result_err
+    (image_of (wild_image ++ 0 ∷ [])) ∷ [])
     ≡ Some (fault_at Length 0) ∷ Some (fault_at Length 188) ∷ Some (fault_at Trailing 192) ∷ []
-unfolding image_of table_read numbers_after tries_after words_of_levels words_of_tries rows_after no_rule
+unfolding image_of table_read numbers_after tries_after words_of_levels words_of_tries rows_after
+    no_rule
 ends = refl

@@ -186,7 +186,8 @@ words_and_rows key_len bytes counts tries =
 unfoldable pub table_read : Version → ℕ → ℕ → List ℕ → ℕ → Reading TableRead
 table_read version family key_len bytes at =
     counts family bytes at >>= λ counts.
-    tries_after version key_len (row_len * (counts.rows + 1)) bytes counts.tries (no_tries (at + 16))
+    tries_after version key_len (row_len * (counts.rows + 1)) bytes counts.tries
+    (no_tries (at + 16))
     >>= λ tries.
     words_and_rows key_len bytes counts tries
 

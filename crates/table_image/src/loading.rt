@@ -43,11 +43,11 @@ fn read_version(bytes: &[u8]) -> Result<Version, ImageFault>
 /// check.
 ///
 /// All numbers are in network order. `ACLT` and the version stand first, then the IPv4 table, then
-/// the IPv6 table: family, rules, tries and rows, four bytes each; for each trie its kept groups (in
-/// version 2), the length of each of its levels, and its root; then the words; then the rows after
-/// row 0. Each field is checked where it stands, and `Image` tells the first check that fails, by
-/// the place of its field. It comes exactly where the bytes are the image of no pair, as long as
-/// memory lasts.
+/// the IPv6 table: family, rules, tries and rows, four bytes each; for each trie its kept groups
+/// (four bytes, in version 2), the length of each of its levels (four bytes each), and its root
+/// (eight); then the words (eight each); then the rows after row 0, sixteen words each. Each field
+/// is checked where it stands, and `Image` tells the first check that fails, by the place of its
+/// field. It comes exactly where the bytes are the image of no pair, as long as memory lasts.
 ///
 /// Memory is taken for the tables alone, and never for words or rows that aren't there: so bytes
 /// that are no image make it take no more than their own length and 8 KiB.

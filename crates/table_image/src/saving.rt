@@ -118,8 +118,8 @@ fn rows_after_first(table: &Table) -> u32
 /// Puts the bytes of the tries after the others: of each its kept groups, level lengths and root.
 fn put_tries(out: &mut Vec<u8>, table: &Table) -> Result<(), AllocError>
     requires keys { table.now.key_len ≤ 37 }
-    ensures text { OnOk result (out.new.items ≡ out.old.items
-        ++ spelled_tries Two table.now.key_len table.now.kept table.now.roots table.now.level_lens) }
+    ensures text { OnOk result (out.new.items ≡ out.old.items ++ spelled_tries Two
+        table.now.key_len table.now.kept table.now.roots table.now.level_lens) }
     ensures typed { OnOk result (list_all is_word table.now.roots ≡ true) }
     ensures sound { OnOk result (sound_fault table.now ≡ None) }
 {

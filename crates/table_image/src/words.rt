@@ -176,7 +176,8 @@ pub(crate) fn read_words(
     requires room { tries.now.words ≤ max_words }
     requires inside { tries.now.end ≤ length bytes.now }
     ensures words { IfOk result (λ words. words_of_tries rows bytes.now tries.now.end
-        (levels_of_tries key_len tries.now.kept.items tries.now.level_lens.items) [] ≡ Ok words.items) }
+        (levels_of_tries key_len tries.now.kept.items tries.now.level_lens.items) []
+        ≡ Ok words.items) }
     ensures fault { IfErr result (IsFaultOf (words_of_tries rows bytes.now tries.now.end
         (levels_of_tries key_len tries.now.kept.items tries.now.level_lens.items) [])) }
     ensures inside { IfOk result

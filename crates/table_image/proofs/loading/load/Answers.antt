@@ -10,7 +10,8 @@ use Rattle.table_image.proofs.loading.load.Goals as goal
 pub returns-in_err-version-clause-fault : goal.returns-in_err-version-clause-fault
 returns-in_err-version-clause-fault c =
     let failed = err_from_is_err_and c.from_residual.result c.from_residual.ensures.1 in
-    rw (failed.1, failed.2) (version_fault c.args.bytes.now c.in_err-version.field-0.0 (sym c.in_err-version.ensures.version))
+    rw (failed.1, failed.2) (version_fault c.args.bytes.now c.in_err-version.field-0.0
+    (sym c.in_err-version.ensures.version))
 
 pub returns-in_err-ip4-clause-fault : goal.returns-in_err-ip4-clause-fault
 returns-in_err-ip4-clause-fault c =
@@ -43,4 +44,5 @@ returns-clause-image c =
     (table_of_read c.in_ok-ip4.ip4) c.in_ok-ip4.ensures.table (table_of_read c.in_ok-ip6.ip6) c.in_ok-ip6.ensures.table
     tt (sym c.in_ok-checked.ensures) in
     let pair : PairView = record { ip4 = c.in_ok-ip4.ip4.table; ip6 = c.in_ok-ip6.ip6.table } in
-    either c.args.bytes.now pair (image_read c.args.bytes.now pair (are_bytes c.args.bytes.now (λ k. omega (arith, c.type_inv.bytes k))) is)
+    either c.args.bytes.now pair (image_read c.args.bytes.now pair
+    (are_bytes c.args.bytes.now (λ k. omega (arith, c.type_inv.bytes k))) is)

@@ -37,7 +37,8 @@ loop-category-preserved c =
     record {
       rest = l.invariant.rest
           ∙ number_read RowForm 8 (λ _. is_row_word c.args.rules) c.args.bytes.now c.args.from (row_len - l.category)
-          (row_len - (l.category + 1)) l.at (take l.category l.row) (omega arith) (omega (arith, len, l.invariant.place))
+          (row_len - (l.category + 1)) l.at (take l.category l.row) (omega arith)
+          (omega (arith, len, l.invariant.place))
           c.in_ok-word.word c.in_ok-word-2.word (sym c.in_ok-word.ensures.number)
           (ap (λ b. checked b RowForm l.at c.in_ok-word.word) (sym c.is_row_word.ensures) ∙ sym c.in_ok-word-2.ensures)
           ∙ ap (numbers_after RowForm 8 (λ _. is_row_word c.args.rules) c.args.bytes.now c.args.from

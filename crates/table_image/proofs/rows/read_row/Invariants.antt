@@ -9,7 +9,8 @@ use Rattle.table_image.proofs.rows.read_row.Given as goal
 abbrev pub invariant-loop-category : goal.invariant-loop-category
 invariant-loop-category l = record {
   rest : numbers RowForm 8 (λ _. is_row_word l.rules) l.bytes l.from row_len
-      ≡ numbers_after RowForm 8 (λ _. is_row_word l.rules) l.bytes l.from (row_len - l.category) (take l.category l.row);
+      ≡ numbers_after RowForm 8 (λ _. is_row_word l.rules) l.bytes l.from (row_len - l.category)
+      (take l.category l.row);
   len : length l.row ≡ row_len;
   place : l.at ≡ l.from + 8 * l.category;
   inside : l.at ≤ length l.bytes;

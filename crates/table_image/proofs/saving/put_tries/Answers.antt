@@ -11,7 +11,8 @@ use Rattle.table_image.proofs.saving.put_tries.Goals as goal
 
 pub split_at-requires : goal.split_at-requires
 split_at-requires c =
-    let left = levels_left (depth_of c.args.table.now.key_len) c.loop-trie.trie c.args.table.now.kept c.loop-trie.lens.now
+    let left = levels_left (depth_of c.args.table.now.key_len) c.loop-trie.trie c.args.table.now.kept
+    c.loop-trie.lens.now
     (omega (arith, kept_count c.args.table.now c.loop-trie.invariant.sound)) c.loop-trie.invariant.levels in
     omega (arith, left, c.depths.ensures.value)
 
@@ -26,7 +27,8 @@ overflow_cast-kept c =
 
 pub loop-trie-init : goal.loop-trie-init
 loop-trie-init c = record {
-  rest = ap (λ lens. c.args.out.now.items ++ spelled_tries Two c.args.table.now.key_len c.args.table.now.kept c.args.table.now.roots
+  rest = ap (λ lens. c.args.out.now.items ++ spelled_tries Two c.args.table.now.key_len c.args.table.now.kept
+      c.args.table.now.roots
       lens) c.level_lens-lens.ensures;
   levels = ap length c.level_lens-lens.ensures ∙ all_levels c.args.table.now c.tries-trie-end.ensures.sound;
   typed = refl;
@@ -55,7 +57,8 @@ loop-trie-preserved c =
     record {
       rest = ap (λ xs. c.put_long.new.out.items ++ spelled_tries Two table.key_len (drop (i + 1) table.kept)
           (drop (i + 1) table.roots) xs) back
-          ∙ trie_written table.key_len i table.kept table.roots c.loop-trie.lens.now c.loop-trie.out.items c.put_long.new.out.items
+          ∙ trie_written table.key_len i table.kept table.roots c.loop-trie.lens.now c.loop-trie.out.items
+          c.put_long.new.out.items
           within within' next
           ∙ c.loop-trie.invariant.rest;
       levels = ap length back ∙ omega (
@@ -64,7 +67,8 @@ loop-trie-preserved c =
         levels_left (depth_of table.key_len) i table.kept c.loop-trie.lens.now within c.loop-trie.invariant.levels,
       );
       typed = list_all_more is_word table.roots i 0 within'
-          ∙ and_from (list_all is_word (take i table.roots)) (is_word (get_or table.roots i 0)) c.loop-trie.invariant.typed
+          ∙ and_from (list_all is_word (take i table.roots)) (is_word (get_or table.roots i 0))
+          c.loop-trie.invariant.typed
           (lt-ltb (get_or table.roots i 0) (2 ^ 64) (omega (arith, c.root.ensures.value, c.root.type_inv)));
       sound = c.loop-trie.invariant.sound;
     }
@@ -77,8 +81,10 @@ returns c =
     let out : List ℕ = c.loop-trie.out.items in
     record {
       text = sym (append-nil out)
-          ∙ ap (λ ks. out ++ spelled_tries Two table.key_len ks (drop c.loop-trie.trie table.roots) c.loop-trie.lens.now) (sym all)
+          ∙ ap (λ ks. out ++ spelled_tries Two table.key_len ks (drop c.loop-trie.trie table.roots)
+          c.loop-trie.lens.now) (sym all)
           ∙ c.loop-trie.invariant.rest;
-      typed = ap (list_all is_word) (sym (take_all c.loop-trie.trie table.roots (omega arith))) ∙ c.loop-trie.invariant.typed;
+      typed = ap (list_all is_word) (sym (take_all c.loop-trie.trie table.roots (omega arith)))
+          ∙ c.loop-trie.invariant.typed;
       sound = c.loop-trie.invariant.sound;
     }

@@ -7,7 +7,8 @@ loop-portion-preserved c =
     let l = c.loop-portion in
     record {
       text = some_written 8 c.min.result l.left.now c.split_at.result.0.now c.split_at.result.1.now l.out.items
-          c.put_portion.new.out.items _ c.split_at.ensures.front c.split_at.ensures.back c.in_ok-put_portion.ensures.text
+          c.put_portion.new.out.items _ c.split_at.ensures.front c.split_at.ensures.back
+          c.in_ok-put_portion.ensures.text
           l.invariant.text;
       turns = omega (arith, c.split_at.ensures.back_len, c.min.ensures, l.invariant.turns);
     }

@@ -7,13 +7,15 @@ pub returns-clause-spelling : goal.returns-clause-spelling
 returns-clause-spelling c =
     pair_written (pair_of_tables c.args.ip4.now c.args.ip6.now) c.in_ok-out.out.items c.put_short.new.out.items
     c.put_short-2.new.out.items c.put_table.new.out.items c.put_table-2.new.out.items c.in_ok-out.ensures.items
-    c.in_ok-put_short.ensures c.in_ok-put_short-2.ensures c.in_ok-put_table.ensures.text c.in_ok-put_table-2.ensures.text
+    c.in_ok-put_short.ensures c.in_ok-put_short-2.ensures c.in_ok-put_table.ensures.text
+    c.in_ok-put_table-2.ensures.text
 
 pub returns-clause-image : goal.returns-clause-image
 returns-clause-image c = record {
   spelling = pair_written (pair_of_tables c.args.ip4.now c.args.ip6.now) c.in_ok-out.out.items c.put_short.new.out.items
       c.put_short-2.new.out.items c.put_table.new.out.items c.put_table-2.new.out.items c.in_ok-out.ensures.items
-      c.in_ok-put_short.ensures c.in_ok-put_short-2.ensures c.in_ok-put_table.ensures.text c.in_ok-put_table-2.ensures.text;
+      c.in_ok-put_short.ensures c.in_ok-put_short-2.ensures c.in_ok-put_table.ensures.text
+      c.in_ok-put_table-2.ensures.text;
   ip4 = record {
     sound = c.in_ok-put_table.ensures.sound;
     saved = c.requires.ip4;

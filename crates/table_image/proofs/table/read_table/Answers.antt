@@ -23,7 +23,8 @@ returns-in_err-tries-clause-fault c =
 
 pub read_words-requires-clause-levels : goal.read_words-requires-clause-levels
 read_words-requires-clause-levels c =
-    tries_levels c.args.version c.args.family c.args.key_len c.args.bytes.now c.args.at (counts_of c.in_ok-counts.counts)
+    tries_levels c.args.version c.args.family c.args.key_len c.args.bytes.now c.args.at
+    (counts_of c.in_ok-counts.counts)
     c.in_ok-counts.ensures.ok (tries_of c.in_ok-tries.tries) c.in_ok-tries.ensures.tries
     (are_bytes c.args.bytes.now (λ k. omega (arith, c.type_inv.bytes k))) c.in_ok-counts.ensures.rows
 
@@ -31,18 +32,22 @@ pub returns-in_err-words-clause-fault : goal.returns-in_err-words-clause-fault
 returns-in_err-words-clause-fault c =
     let failed = err_from_is_err_and c.from_residual-in_err-words.result c.from_residual-in_err-words.ensures.1 in
     rw (failed.1, failed.2) (words_fault c.args.version c.args.family c.args.key_len c.args.bytes.now c.args.at
-    (counts_of c.in_ok-counts.counts) c.in_ok-counts.ensures.ok (tries_of c.in_ok-tries.tries) c.in_ok-tries.ensures.tries
+    (counts_of c.in_ok-counts.counts) c.in_ok-counts.ensures.ok (tries_of c.in_ok-tries.tries)
+    c.in_ok-tries.ensures.tries
     c.in_err-words.field-0.0 c.in_err-words.ensures.fault)
 
 pub returns-in_err-rows-clause-fault : goal.returns-in_err-rows-clause-fault
 returns-in_err-rows-clause-fault c =
-    let from : c.in_ok-tries.tries.end + 8 * c.len.result ≡ c.in_ok-tries.tries.end + 8 * length c.in_ok-words.words.items =
+    let from : c.in_ok-tries.tries.end + 8 * c.len.result ≡ c.in_ok-tries.tries.end + 8 * length
+    c.in_ok-words.words.items =
     omega (arith, c.len.ensures, c.in_ok-words.words.ok.0) in
-    let fault = subst (λ n. IsFaultOf (rows_after c.in_ok-counts.counts.rules c.args.bytes.now n c.in_ok-counts.counts.rows [])
+    let fault = subst (λ n. IsFaultOf (rows_after c.in_ok-counts.counts.rules c.args.bytes.now n
+    c.in_ok-counts.counts.rows [])
     c.in_err-rows.field-0.0) from c.in_err-rows.ensures.fault in
     let failed = err_from_is_err_and c.from_residual-in_err-rows.result c.from_residual-in_err-rows.ensures.1 in
     rw (failed.1, failed.2) (rows_fault c.args.version c.args.family c.args.key_len c.args.bytes.now c.args.at
-    (counts_of c.in_ok-counts.counts) c.in_ok-counts.ensures.ok (tries_of c.in_ok-tries.tries) c.in_ok-tries.ensures.tries
+    (counts_of c.in_ok-counts.counts) c.in_ok-counts.ensures.ok (tries_of c.in_ok-tries.tries)
+    c.in_ok-tries.ensures.tries
     c.in_ok-words.words.items c.in_ok-words.ensures.words c.in_err-rows.field-0.0 fault)
 
 -- the table of these rows
@@ -59,24 +64,29 @@ with_rows counts tries key_len words rows = record {
 
 pub from_sound-table-requires : goal.from_sound-table-requires
 from_sound-table-requires c =
-    let from : c.in_ok-tries.tries.end + 8 * c.len.result ≡ c.in_ok-tries.tries.end + 8 * length c.in_ok-words.words.items =
+    let from : c.in_ok-tries.tries.end + 8 * c.len.result ≡ c.in_ok-tries.tries.end + 8 * length
+    c.in_ok-words.words.items =
     omega (arith, c.len.ensures, c.in_ok-words.words.ok.0) in
-    let rows : rows_after c.in_ok-counts.counts.rules c.args.bytes.now (c.in_ok-tries.tries.end + 8 * length c.in_ok-words.words.items)
+    let rows : rows_after c.in_ok-counts.counts.rules c.args.bytes.now
+    (c.in_ok-tries.tries.end + 8 * length c.in_ok-words.words.items)
     c.in_ok-counts.counts.rows [] ≡ Ok (drop 1 c.in_ok-rows.rows.items) =
     ap (λ n. rows_after c.in_ok-counts.counts.rules c.args.bytes.now n c.in_ok-counts.counts.rows []) (sym from)
     ∙ c.in_ok-rows.ensures.rows in
     ap (λ rs. sound_fault (with_rows (counts_of c.in_ok-counts.counts) (tries_of c.in_ok-tries.tries) c.args.key_len
     c.in_ok-words.words.items rs)) c.in_ok-rows.ensures.first
     ∙ read_sound c.args.version c.args.family c.args.key_len c.args.bytes.now c.args.at
-    (counts_of c.in_ok-counts.counts) c.in_ok-counts.ensures.ok (tries_of c.in_ok-tries.tries) c.in_ok-tries.ensures.tries
+    (counts_of c.in_ok-counts.counts) c.in_ok-counts.ensures.ok (tries_of c.in_ok-tries.tries)
+    c.in_ok-tries.ensures.tries
     c.in_ok-words.words.items c.in_ok-words.ensures.words (drop 1 c.in_ok-rows.rows.items) rows
     (are_bytes c.args.bytes.now (λ k. omega (arith, c.type_inv.bytes k))) c.requires.key
 
 pub returns-clause-table : goal.returns-clause-table
 returns-clause-table c =
-    let from : c.in_ok-tries.tries.end + 8 * c.len.result ≡ c.in_ok-tries.tries.end + 8 * length c.in_ok-words.words.items =
+    let from : c.in_ok-tries.tries.end + 8 * c.len.result ≡ c.in_ok-tries.tries.end + 8 * length
+    c.in_ok-words.words.items =
     omega (arith, c.len.ensures, c.in_ok-words.words.ok.0) in
-    let rows : rows_after c.in_ok-counts.counts.rules c.args.bytes.now (c.in_ok-tries.tries.end + 8 * length c.in_ok-words.words.items)
+    let rows : rows_after c.in_ok-counts.counts.rules c.args.bytes.now
+    (c.in_ok-tries.tries.end + 8 * length c.in_ok-words.words.items)
     c.in_ok-counts.counts.rows [] ≡ Ok (drop 1 c.in_ok-rows.rows.items) =
     ap (λ n. rows_after c.in_ok-counts.counts.rules c.args.bytes.now n c.in_ok-counts.counts.rows []) (sym from)
     ∙ c.in_ok-rows.ensures.rows in
@@ -84,11 +94,14 @@ returns-clause-table c =
     let tries : TriesView = tries_of c.in_ok-tries.tries in
     let words : List ℕ = c.in_ok-words.words.items in
     let all : List (List ℕ) = c.in_ok-rows.rows.items in
-    let end : tries.end + 8 * length words + row_bytes * length (drop 1 all) ≡ tries.end + 8 * c.len.result + 128 * counts.rows =
+    let end : tries.end + 8 * length words + row_bytes * length (drop 1 all) ≡ tries.end + 8 * c.len.result + 128
+    * counts.rows =
     omega (arith, from, length-drop 1 all, c.in_ok-rows.ensures.count) in
     let table : with_rows counts tries c.args.key_len words (no_rule ∷ drop 1 all) ≡ c.from_sound-table.result =
-    ap (with_rows counts tries c.args.key_len words) (sym c.in_ok-rows.ensures.first) ∙ sym c.from_sound-table.ensures in
-    all_read c.args.version c.args.family c.args.key_len c.args.bytes.now c.args.at counts c.in_ok-counts.ensures.ok tries
+    ap (with_rows counts tries c.args.key_len words) (sym c.in_ok-rows.ensures.first)
+    ∙ sym c.from_sound-table.ensures in
+    all_read c.args.version c.args.family c.args.key_len c.args.bytes.now c.args.at counts c.in_ok-counts.ensures.ok
+    tries
     c.in_ok-tries.ensures.tries words c.in_ok-words.ensures.words (drop 1 all) rows
     ∙ ap (λ (t : TableView). Ok (read_to t (tries.end + 8 * length words + row_bytes * length (drop 1 all)))) table
     ∙ ap (λ (e : ℕ). Ok (read_to c.from_sound-table.result e)) end

@@ -25,7 +25,8 @@ returns-in_err-len-2-clause-fault c =
     let passes : c.level_fits.result ≡ level_fits c.args.taken c.loop-level.lens.items c.in_ok-len.len =
     c.level_fits.ensures ∙ ap (λ words. nat_le (words + c.in_ok-len.len) max_words) c.loop-level.invariant.words in
     rw (failed.1, failed.2) (c.loop-level.invariant.rest
-    ∙ number_refused TooMany 4 (level_fits c.args.taken) c.args.bytes.now c.args.from (c.args.depth - c.loop-level.level)
+    ∙ number_refused TooMany 4 (level_fits c.args.taken) c.args.bytes.now c.args.from
+    (c.args.depth - c.loop-level.level)
     (c.args.depth - (c.loop-level.level + 1)) c.loop-level.at c.loop-level.lens.items (omega arith) (omega arith)
     c.in_ok-len.len c.in_err-len-2.field-0.0 (sym c.in_ok-len.ensures.number)
     (ap (λ b. checked b TooMany c.loop-level.at c.in_ok-len.len) (sym passes) ∙ sym c.in_err-len-2.ensures))
@@ -34,13 +35,15 @@ pub loop-level-preserved : goal.loop-level-preserved
 loop-level-preserved c =
     let passes : c.level_fits.result ≡ level_fits c.args.taken c.loop-level.lens.items c.in_ok-len.len =
     c.level_fits.ensures ∙ ap (λ words. nat_le (words + c.in_ok-len.len) max_words) c.loop-level.invariant.words in
-    let passed = of_check c.level_fits.result TooMany c.loop-level.at c.in_ok-len.len c.in_ok-len-2.len (sym c.in_ok-len-2.ensures) in
+    let passed = of_check c.level_fits.result TooMany c.loop-level.at c.in_ok-len.len c.in_ok-len-2.len
+    (sym c.in_ok-len-2.ensures) in
     let few = leb-true (c.loop-level.words + c.in_ok-len.len) max_words (sym c.level_fits.ensures ∙ passed.0) in
     let items = c.in_ok-push.ensures in
     let total = ap sum items ∙ sum_by-append (λ n. n) c.loop-level.lens.items (c.in_ok-len-2.len ∷ []) in
     record {
       rest = c.loop-level.invariant.rest
-          ∙ number_read TooMany 4 (level_fits c.args.taken) c.args.bytes.now c.args.from (c.args.depth - c.loop-level.level)
+          ∙ number_read TooMany 4 (level_fits c.args.taken) c.args.bytes.now c.args.from
+          (c.args.depth - c.loop-level.level)
           (c.args.depth - (c.loop-level.level + 1)) c.loop-level.at c.loop-level.lens.items (omega arith) (omega arith)
           c.in_ok-len.len c.in_ok-len-2.len (sym c.in_ok-len.ensures.number)
           (ap (λ b. checked b TooMany c.loop-level.at c.in_ok-len.len) (sym passes) ∙ sym c.in_ok-len-2.ensures)

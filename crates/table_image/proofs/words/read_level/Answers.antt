@@ -27,7 +27,8 @@ loop-portion-preserved c =
     record {
       rest = l.invariant.rest
           ∙ portion_read Unsound 8 (λ _. is_sound_word c.args.rows c.args.next) c.args.bytes.now c.args.from l.left some
-          l.words.items (omega (arith, c.min-some.ensures)) c.read_portion.new.words.items c.in_ok-read_portion.ensures.words;
+          l.words.items (omega (arith, c.min-some.ensures)) c.read_portion.new.words.items
+          c.in_ok-read_portion.ensures.words;
       len = omega (arith, c.in_ok-read_portion.ensures.len, l.invariant.len, c.min-some.ensures);
       few = omega (arith, l.invariant.few);
       turns = omega (arith, l.invariant.turns, c.min-some.ensures);
@@ -38,5 +39,6 @@ pub returns-clause-words : goal.returns-clause-words
 returns-clause-words c =
     let l = c.loop-portion in
     l.invariant.rest
-    ∙ numbers_end Unsound 8 (λ _. is_sound_word c.args.rows c.args.next) c.args.bytes.now c.args.from l.left l.words.items
+    ∙ numbers_end Unsound 8 (λ _. is_sound_word c.args.rows c.args.next) c.args.bytes.now c.args.from l.left
+    l.words.items
     (omega (arith, l.invariant.turns))

@@ -20,17 +20,21 @@ returns-in_err-read_level-clause-fault c =
     let len : ℕ = get_or c.args.lens.now i 0 in
     let rest : List ℕ = drop (i + 1) c.args.lens.now in
     let p : ℕ = length items in
-    let read : Level → Reading (List ℕ) = λ next. numbers_after Unsound 8 (λ _. is_sound_word c.args.rows next) c.args.bytes.now
+    let read : Level → Reading (List ℕ) = λ next. numbers_after Unsound 8 (λ _. is_sound_word c.args.rows next)
+    c.args.bytes.now
     c.args.from len items in
     let next : c.first-next.result ≡ first_level (levels_from (p + len) rest) =
-    c.first-next.ensures.level ∙ ap (λ xs. first_level (levels_from (c.len.result + len) xs)) (take_rest c.args.lens.now (i + 1))
+    c.first-next.ensures.level ∙ ap (λ xs. first_level (levels_from (c.len.result + len) xs))
+    (take_rest c.args.lens.now (i + 1))
     ∙ ap (λ k. first_level (levels_from k rest)) (omega (arith, c.len.ensures, c.loop-depth.words.ok.0)) in
     let fault = subst (λ n. IsFaultOf (read n) c.in_err-read_level.field-0.0) next c.in_err-read_level.ensures.fault in
     let failed = err_from_is_err_and c.from_residual.result c.from_residual.ensures.1 in
     rw (failed.1, failed.2) (fault_of_same _ _ _
-    (c.loop-depth.invariant.rest ∙ level_more c.args.rows c.args.bytes.now c.args.from p i c.args.lens.now items (omega arith))
+    (c.loop-depth.invariant.rest ∙ level_more c.args.rows c.args.bytes.now c.args.from p i c.args.lens.now items
+    (omega arith))
     (fault_of_both (read (first_level (levels_from (p + len) rest)))
-    (words_of_levels c.args.rows c.args.bytes.now c.args.from (levels_from (p + len) rest)) c.in_err-read_level.field-0.0 fault))
+    (words_of_levels c.args.rows c.args.bytes.now c.args.from (levels_from (p + len) rest))
+    c.in_err-read_level.field-0.0 fault))
 
 pub loop-depth-preserved : goal.loop-depth-preserved
 loop-depth-preserved c =
@@ -40,10 +44,12 @@ loop-depth-preserved c =
     let len : ℕ = get_or c.args.lens.now i 0 in
     let rest : List ℕ = drop (i + 1) c.args.lens.now in
     let p : ℕ = length items in
-    let read : Level → Reading (List ℕ) = λ next. numbers_after Unsound 8 (λ _. is_sound_word c.args.rows next) c.args.bytes.now
+    let read : Level → Reading (List ℕ) = λ next. numbers_after Unsound 8 (λ _. is_sound_word c.args.rows next)
+    c.args.bytes.now
     c.args.from len items in
     let next : c.first-next.result ≡ first_level (levels_from (p + len) rest) =
-    c.first-next.ensures.level ∙ ap (λ xs. first_level (levels_from (c.len.result + len) xs)) (take_rest c.args.lens.now (i + 1))
+    c.first-next.ensures.level ∙ ap (λ xs. first_level (levels_from (c.len.result + len) xs))
+    (take_rest c.args.lens.now (i + 1))
     ∙ ap (λ k. first_level (levels_from k rest)) (omega (arith, c.len.ensures, c.loop-depth.words.ok.0)) in
     let long : length now ≡ p + len = c.in_ok-read_level.ensures.len in
     let total : sum (drop i c.args.lens.now) ≡ len + sum rest =
@@ -62,5 +68,6 @@ loop-depth-preserved c =
 pub returns-clause-words : goal.returns-clause-words
 returns-clause-words c =
     c.loop-depth.invariant.rest
-    ∙ levels_end c.args.rows c.args.bytes.now c.args.from (length c.loop-depth.words.items) c.loop-depth.depth c.args.lens.now
+    ∙ levels_end c.args.rows c.args.bytes.now c.args.from (length c.loop-depth.words.items) c.loop-depth.depth
+    c.args.lens.now
     c.loop-depth.words.items (omega arith)

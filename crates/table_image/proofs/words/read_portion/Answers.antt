@@ -19,8 +19,10 @@ returns-in_err-read_whole-clause-fault c =
     (omega (arith, c.len-start.ensures, c.args.words.now.ok.0)) in
     let same : read whole old ≡ read (length filled - c.len-start.result) (take c.len-start.result filled) =
     ap (λ n. read n old) slots.count ∙ ap (read (length filled - c.len-start.result)) slots.before in
-    let failed = err_from_is_err_and c.from_residual-in_err-read_whole.result c.from_residual-in_err-read_whole.ensures.1 in
-    rw (failed.1, failed.2) (portion_fault Unsound 8 (λ _. is_sound_word c.args.rows c.args.next) c.args.bytes.now c.args.from
+    let failed = err_from_is_err_and c.from_residual-in_err-read_whole.result
+    c.from_residual-in_err-read_whole.ensures.1 in
+    rw (failed.1, failed.2) (portion_fault Unsound 8 (λ _. is_sound_word c.args.rows c.args.next) c.args.bytes.now
+    c.args.from
     c.args.count whole old (omega arith) c.in_err-read_whole.field-0.0 (same ∙ c.in_err-read_whole.ensures.fault))
 
 pub returns-in_err-checked-clause-fault : goal.returns-in_err-checked-clause-fault
@@ -33,15 +35,19 @@ returns-in_err-checked-clause-fault c =
     let start : c.len-start.result ≡ length old = omega (arith, c.len-start.ensures, c.args.words.now.ok.0) in
     let read : ℕ → List ℕ → Reading (List ℕ) =
     numbers_after Unsound 8 (λ _. is_sound_word c.args.rows c.args.next) c.args.bytes.now c.args.from in
-    let slots = slots_of old filled c.len-start.result whole (c.deref_mut.ensures.value ∙ c.in_ok-push_copies.ensures) start in
+    let slots = slots_of old filled c.len-start.result whole (c.deref_mut.ensures.value ∙ c.in_ok-push_copies.ensures)
+    start in
     let same : read whole old ≡ read (length filled - c.len-start.result) (take c.len-start.result filled) =
     ap (λ n. read n old) slots.count ∙ ap (read (length filled - c.len-start.result)) slots.before in
-    let cut = of_failed (whole == c.args.count) Length end _ c.in_err-checked.field-0.0 (sym c.checked.ensures ∙ c.in_err-checked.was) in
+    let cut = of_failed (whole == c.args.count) Length end _ c.in_err-checked.field-0.0 (sym c.checked.ensures
+    ∙ c.in_err-checked.was) in
     let fewer = are_fewer whole c.args.count (omega arith) cut.0 in
     let failed = err_from_is_err_and c.from_residual-in_err-checked.result c.from_residual-in_err-checked.ensures.1 in
-    rw (failed.1, failed.2, sym cut.1) (portion_read Unsound 8 (λ _. is_sound_word c.args.rows c.args.next) c.args.bytes.now
+    rw (failed.1, failed.2, sym cut.1) (portion_read Unsound 8 (λ _. is_sound_word c.args.rows c.args.next)
+    c.args.bytes.now
     c.args.from c.args.count whole old (omega arith) all (same ∙ c.in_ok-read_whole.ensures.words)
-    ∙ numbers_cut Unsound 8 (λ _. is_sound_word c.args.rows c.args.next) c.args.bytes.now c.args.from (c.args.count - whole) end all
+    ∙ numbers_cut Unsound 8 (λ _. is_sound_word c.args.rows c.args.next) c.args.bytes.now c.args.from
+    (c.args.count - whole) end all
     (omega (arith, fewer)) (omega (arith, c.in_ok-read_whole.ensures.len, slots.total))
     (omega (arith, fewer, c.min-whole.ensures, c.requires.inside, start)))
 
@@ -63,6 +69,7 @@ returns-clause-words c =
     omega (arith, c.in_ok-read_whole.ensures.len, ap length c.deref_mut.ensures.value, c.push_copies.new.list.ok.0) in
     portion_read Unsound 8 (λ _. is_sound_word c.args.rows c.args.next) c.args.bytes.now
     c.args.from c.args.count whole old (omega arith) all (same ∙ c.in_ok-read_whole.ensures.words)
-    ∙ numbers_end Unsound 8 (λ _. is_sound_word c.args.rows c.args.next) c.args.bytes.now c.args.from (c.args.count - whole) all
+    ∙ numbers_end Unsound 8 (λ _. is_sound_word c.args.rows c.args.next) c.args.bytes.now c.args.from
+    (c.args.count - whole) all
     (are_all whole c.args.count passed.0)
     ∙ ap Ok (sym (written_back c.push_copies.new.list.len all c.push_copies.new.list.items len))

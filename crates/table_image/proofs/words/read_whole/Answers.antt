@@ -13,13 +13,15 @@ returns-in_err-word-clause-fault c =
     let l = c.loop-i in
     let len = length-take-le l.i l.words (omega (arith, l.invariant.len)) in
     let at : ℕ = c.args.from + 8 * l.i in
-    let here = c.network_u64_at-word.ensures ∙ number_after c.args.bytes.now c.split_at.result.1.now c.args.from (8 * l.i) 8
+    let here = c.network_u64_at-word.ensures ∙ number_after c.args.bytes.now c.split_at.result.1.now c.args.from
+    (8 * l.i) 8
     c.split_at.ensures.back in
     let whole = field_whole 8 c.args.bytes.now at c.network_u64_at-word.result (omega (arith, l.invariant.len)) here in
     let failed = err_from_is_err_and c.from_residual.result c.from_residual.ensures.1 in
     rw (failed.1, failed.2) (l.invariant.rest
     ∙ number_refused Unsound 8 (λ _. is_sound_word c.args.rows c.args.next) c.args.bytes.now c.args.from
-    (length c.args.words.now - l.i) (length c.args.words.now - (l.i + 1)) at (take l.i l.words) (omega (arith, l.invariant.len))
+    (length c.args.words.now - l.i) (length c.args.words.now - (l.i + 1)) at (take l.i l.words)
+    (omega (arith, l.invariant.len))
     (omega (arith, len)) c.network_u64_at-word.result c.in_err-word.field-0.0 whole (sym c.in_err-word.ensures))
 
 pub loop-i-preserved : goal.loop-i-preserved
@@ -27,14 +29,16 @@ loop-i-preserved c =
     let l = c.loop-i in
     let len = length-take-le l.i l.words (omega (arith, l.invariant.len)) in
     let at : ℕ = c.args.from + 8 * l.i in
-    let here = c.network_u64_at-word.ensures ∙ number_after c.args.bytes.now c.split_at.result.1.now c.args.from (8 * l.i) 8
+    let here = c.network_u64_at-word.ensures ∙ number_after c.args.bytes.now c.split_at.result.1.now c.args.from
+    (8 * l.i) 8
     c.split_at.ensures.back in
     let whole = field_whole 8 c.args.bytes.now at c.network_u64_at-word.result (omega (arith, l.invariant.len)) here in
     let more = take_more_set l.words l.i c.in_ok-word.word (omega (arith, l.invariant.len)) in
     record {
       rest = l.invariant.rest
           ∙ number_read Unsound 8 (λ _. is_sound_word c.args.rows c.args.next) c.args.bytes.now c.args.from
-          (length c.args.words.now - l.i) (length c.args.words.now - (l.i + 1)) at (take l.i l.words) (omega (arith, l.invariant.len))
+          (length c.args.words.now - l.i) (length c.args.words.now - (l.i + 1)) at (take l.i l.words)
+          (omega (arith, l.invariant.len))
           (omega (arith, len)) c.network_u64_at-word.result c.in_ok-word.word whole (sym c.in_ok-word.ensures)
           ∙ ap (numbers_after Unsound 8 (λ _. is_sound_word c.args.rows c.args.next) c.args.bytes.now c.args.from
           (length c.args.words.now - (l.i + 1))) (sym more);
@@ -46,6 +50,7 @@ pub returns-clause-words : goal.returns-clause-words
 returns-clause-words c =
     let l = c.loop-i in
     l.invariant.rest
-    ∙ numbers_end Unsound 8 (λ _. is_sound_word c.args.rows c.args.next) c.args.bytes.now c.args.from (length c.args.words.now - l.i)
+    ∙ numbers_end Unsound 8 (λ _. is_sound_word c.args.rows c.args.next) c.args.bytes.now c.args.from
+    (length c.args.words.now - l.i)
     (take l.i l.words) (omega (arith, l.invariant.len))
     ∙ ap Ok (take_all l.i l.words (omega (arith, l.invariant.len)))

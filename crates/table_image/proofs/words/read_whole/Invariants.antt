@@ -9,7 +9,8 @@ abbrev pub invariant-loop-i : goal.invariant-loop-i
 invariant-loop-i l = record {
   rest : numbers_after Unsound 8 (λ _. is_sound_word l.rows l.next) l.bytes l.from (length l.initial.words - l.start)
       (take l.start l.initial.words)
-      ≡ numbers_after Unsound 8 (λ _. is_sound_word l.rows l.next) l.bytes l.from (length l.initial.words - l.i) (take l.i l.words);
+      ≡ numbers_after Unsound 8 (λ _. is_sound_word l.rows l.next) l.bytes l.from (length l.initial.words - l.i)
+      (take l.i l.words);
   len : length l.words ≡ length l.initial.words;
   begun : l.start ≤ l.i;
 }

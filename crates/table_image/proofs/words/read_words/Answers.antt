@@ -22,16 +22,20 @@ returns-in_err-read_levels-clause-fault c =
     let read : ℕ → Reading (List ℕ) = λ n. words_of_levels c.args.rows c.args.bytes.now c.args.tries.now.end
     (levels_from p (take n (drop first lens))) items in
     let count : first + c.depth_of.result - first ≡ d = omega (arith, c.depth_of.ensures.value) in
-    let fault = subst (λ n. IsFaultOf (read n) c.in_err-read_levels.field-0.0) count c.in_err-read_levels.ensures.fault in
+    let fault = subst (λ n. IsFaultOf (read n) c.in_err-read_levels.field-0.0) count c.in_err-read_levels.ensures.fault
+    in
     let whole : words_of_tries c.args.rows c.args.bytes.now c.args.tries.now.end
     (levels_of_tries c.args.key_len c.args.tries.now.kept.items c.args.tries.now.level_lens.items) []
     ≡ words_of_tries c.args.rows c.args.bytes.now c.args.tries.now.end (levels_of_tries c.args.key_len groups lens) [] =
     rw (c.as_slice-groups.ensures.value, c.as_slice-lens.ensures.value) refl in
-    let failed = err_from_is_err_and c.from_residual-in_err-read_levels.result c.from_residual-in_err-read_levels.ensures.1 in
+    let failed = err_from_is_err_and c.from_residual-in_err-read_levels.result
+    c.from_residual-in_err-read_levels.ensures.1 in
     rw (failed.1, failed.2) (fault_of_same _ _ _ (whole ∙ c.loop-kept.invariant.rest
-    ∙ trie_words_more c.args.rows c.args.bytes.now c.args.tries.now.end depth i p groups (drop first lens) items (omega arith))
+    ∙ trie_words_more c.args.rows c.args.bytes.now c.args.tries.now.end depth i p groups (drop first lens) items
+    (omega arith))
     (fault_of_both (read d) (words_of_tries c.args.rows c.args.bytes.now c.args.tries.now.end
-    (portions (map depth (drop (i + 1) groups)) (levels_from (p + sum (take d (drop first lens))) (drop d (drop first lens)))))
+    (portions (map depth (drop (i + 1) groups)) (levels_from (p + sum (take d (drop first lens)))
+    (drop d (drop first lens)))))
     c.in_err-read_levels.field-0.0 fault))
 
 pub loop-kept-preserved : goal.loop-kept-preserved
@@ -52,12 +56,15 @@ loop-kept-preserved c =
     let turn = trie_turn depth i first groups lens (omega arith) c.loop-kept.invariant.levels in
     let sums : sum (take (first + c.depth_of.result - first) (drop first lens)) ≡ sum (take d (drop first lens)) =
     ap (λ n. sum (take n (drop first lens))) count in
-    let long : length now ≡ p + sum (take d (drop first lens)) = c.in_ok-read_levels.ensures.len ∙ ap (λ n. p + n) sums in
+    let long : length now ≡ p + sum (take d (drop first lens)) = c.in_ok-read_levels.ensures.len
+    ∙ ap (λ n. p + n) sums in
     record {
       rest = c.loop-kept.invariant.rest
-          ∙ trie_words_more c.args.rows c.args.bytes.now c.args.tries.now.end depth i p groups (drop first lens) items (omega arith)
+          ∙ trie_words_more c.args.rows c.args.bytes.now c.args.tries.now.end depth i p groups (drop first lens) items
+          (omega arith)
           ∙ both (read d) (words_of_tries c.args.rows c.args.bytes.now c.args.tries.now.end
-          (portions (map depth (drop (i + 1) groups)) (levels_from (p + sum (take d (drop first lens))) (drop d (drop first lens))))) now _
+          (portions (map depth (drop (i + 1) groups)) (levels_from (p + sum (take d (drop first lens)))
+          (drop d (drop first lens))))) now _
           (ap read (sym count) ∙ c.in_ok-read_levels.ensures.words) refl
           ∙ ap (λ n. words_of_tries c.args.rows c.args.bytes.now c.args.tries.now.end
           (portions (map depth (drop (i + 1) groups)) (levels_from n (drop d (drop first lens)))) now) (sym long)

@@ -10,7 +10,8 @@ abbrev pub invariant-loop-kept : goal.invariant-loop-kept
 invariant-loop-kept l = record {
   rest : words_of_tries l.rows l.bytes l.tries.end (levels_of_tries l.key_len l.groups l.lens) []
       ≡ words_of_tries l.rows l.bytes l.tries.end
-      (portions (map (depth_of l.key_len) (drop l.kept-index l.groups)) (levels_from (length l.words.items) (drop l.first l.lens)))
+      (portions (map (depth_of l.key_len) (drop l.kept-index l.groups)) (levels_from (length l.words.items)
+      (drop l.first l.lens)))
       l.words.items;
   levels : l.first + sum (map (depth_of l.key_len) (drop l.kept-index l.groups)) ≡ length l.lens;
   len : length l.words.items + sum (drop l.first l.lens) ≡ sum l.lens;

@@ -11,7 +11,8 @@ returns-in_err-read_one-clause-fault c =
     let more = c.loop-trie.invariant.rest
     ∙ trie_more c.args.version c.args.key_len c.args.taken c.args.bytes.now (c.args.count - c.loop-trie.trie)
     (c.args.count - (c.loop-trie.trie + 1)) (tries_of c.loop-trie.tries) (omega arith) in
-    let one = fault_of_both (one_trie c.args.version c.args.key_len c.args.taken c.args.bytes.now (tries_of c.loop-trie.tries))
+    let one = fault_of_both (one_trie c.args.version c.args.key_len c.args.taken c.args.bytes.now
+    (tries_of c.loop-trie.tries))
     (tries_after c.args.version c.args.key_len c.args.taken c.args.bytes.now (c.args.count - (c.loop-trie.trie + 1)))
     c.in_err-read_one.field-0.0 c.in_err-read_one.ensures.fault in
     let failed = err_from_is_err_and c.from_residual.result c.from_residual.ensures.1 in
