@@ -83,6 +83,7 @@ WORDS = [
     ("word 4: bad value", "`max-words=16M`", ["classify", R, C, "max-words=16M"]),
     ("word 5: repeated option", "an option twice", ["classify", R, C, "stats=on", "stats=on"]),
     ("word 3: bad value", "more than 1,024 rules for `bench`", ["bench", "42", "2000", "10"]),
+    ("word 4: unknown option", "`max-words=` for `replay`", ["replay", "r.image", C, "max-words=15"]),
 ]
 FILES = [
     ("read fault", "a file that isn't there", ["classify", R, "none.pcap"]),

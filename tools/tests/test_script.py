@@ -58,6 +58,11 @@ class Script(unittest.TestCase):
         self.assertIn("unproved", said)
         self.assertTrue(said.endswith("told\n"))
 
+    def test_a_trial_run_makes_no_image(self):
+        code, lines, said = self.run_script("build", "examples/office.rules", "office.image")
+        self.assertEqual((code, lines, self.calls_of_rt()), (101, "", 0))
+        self.assertIn("./aclc prove", said)
+
     def test_it_is_proved_once_and_again_after_an_edit_alone(self):
         code, _, said = self.run_script("prove")
         self.assertEqual(code, 0, said)

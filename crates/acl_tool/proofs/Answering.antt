@@ -4,13 +4,13 @@ use Rattle.acl_outside.specs.Desk.{File}
 use Rattle.command_words.specs.declared.fault.UsageFault.{UsageFault}
 use Rattle.command_words.specs.Command.{Request, capture_name, made_name}
 use Rattle.command_plan.specs.declared.status.Status.{Status}
-use Rattle.command_plan.specs.declared.status.Status.TheVariants.{Usage, WriteFault}
+use Rattle.command_plan.specs.declared.status.Status.TheVariants.{Done, Usage, WriteFault}
 use Rattle.command_plan.specs.Endings.{is_reported, is_usage}
 use Rattle.command_plan.specs.Effects.{Outside, EndsMaking, files_of, heard_of, opened_of}
 use Rattle.command_plan.proofs.Offered.{IsFaithful, Ends-stopped, Ends-told}
 use Rattle.capture_report.specs.PrintsCapture.{KeepsUp}
 use Rattle.acl_tool.specs.Outcome.{plan_of, plan_of_request}
-use Rattle.acl_tool.specs.Effects.{Answers, HasTotals}
+use Rattle.acl_tool.specs.Effects.{Answers, HasImage, HasTotals}
 
 -- What each command shows of its request: how it ended, and what it says of the capture that it reports, if it does.
 pub record IsAnswered (request : Request) (old new : Outside) (status : Status) : Type 0 where
@@ -20,6 +20,7 @@ pub record IsAnswered (request : Request) (old new : Outside) (status : Status) 
   pub opened : (files : List File) → files_of old.desk ≡ Some files → is_reported status ≡ true →
       IfSome (capture_name request) (λ name. opened_of new.desk ≡ Some (Some name))
   pub totals : is_reported status ≡ true → HasTotals request (heard_of old.desk) (heard_of new.desk)
+  pub image : status ≡ Done → HasImage request (heard_of old.desk) (heard_of new.desk)
   pub keeps_up : status ≡ WriteFault → IfSome (capture_name request) (λ name. KeepsUp name old new)
 
 -- A request was answered, as it ended.
@@ -33,6 +34,7 @@ Answers-request request old new status is = record {
   told = Ends-told (plan_of_request request) old new status is.faithful is.ends;
   opened = is.opened;
   totals = is.totals;
+  image = is.image;
   keeps_up = is.keeps_up;
 }
 
@@ -52,5 +54,6 @@ Answers-usage request fault view is =
       told = Ends-told (plan_of (Err fault)) view view (Usage fault) (λ files. tt) ends;
       opened = λ files told reported. tt;
       totals = λ reported. tt;
+      image = λ done. tt;
       keeps_up = λ e. tt;
     }

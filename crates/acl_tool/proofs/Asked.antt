@@ -5,7 +5,8 @@ use Rattle.std.specs.Prelude.{codes}
 use Rattle.std.proofs.lemmas.Bool.{false≢true}
 use Rattle.command_words.specs.declared.fault.UsageFault.{UsageFault}
 use Rattle.command_words.specs.Options.{Options, for_classify, none_given}
-use Rattle.command_words.specs.Command.{Classify, classify_of, classify_with, command, options_from}
+use Rattle.command_words.specs.Command.{Classify, asked_by, classify_by, command, named_of, named_with}
+use Rattle.command_words.specs.Command.{options_from}
 use Rattle.command_plan.specs.declared.status.Status.{Status}
 use Rattle.command_plan.specs.declared.status.Status.TheVariants.{Usage}
 use Rattle.command_plan.specs.Endings.{is_reported, is_usage}
@@ -26,18 +27,19 @@ pub record Asked (words : List (List ℕ)) (old new : Outside) (status : Status)
   pub totals : is_reported status ≡ true →
       HasTotals (Classify rules capture read) (heard_of old.desk) (heard_of new.desk)
 
-no_usage : {A : Type 0} (status : Status) (usage : UsageFault) → is_usage status ≡ false → status ≡ Usage usage → A
+pub no_usage : {A : Type 0} (status : Status) (usage : UsageFault) → is_usage status ≡ false → status ≡ Usage usage → A
 no_usage status usage lawful is = absurd (false≢true (sym lawful ∙ ap is_usage is))
 
 asked_after : (after : List (List ℕ)) (old new : Outside) (status : Status) → is_usage status ≡ false →
-    Answers (classify_of after) old new status → Asked (codes "classify" ∷ after) old new status
+    Answers (asked_by classify_by (named_of for_classify after)) old new status →
+    Asked (codes "classify" ∷ after) old new status
 asked_after [] old new status lawful answers = no_usage status _ lawful answers.usage
 asked_after (rules ∷ []) old new status lawful answers = no_usage status _ lawful answers.usage
 asked_after (rules ∷ capture ∷ words) old new status lawful answers =
     go (options_from for_classify 4 none_given words) refl answers
   where
     go : (options : Result Options UsageFault) → options_from for_classify 4 none_given words ≡ options →
-        Answers (classify_with rules capture options) old new status →
+        Answers (asked_by classify_by (named_with rules capture options)) old new status →
         Asked (codes "classify" ∷ rules ∷ capture ∷ words) old new status
     go (Ok options) at all = record {
       rules = rules;

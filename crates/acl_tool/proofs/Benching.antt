@@ -50,6 +50,7 @@ answered numbers old new status ends lawful =
       lawful = lawful;
       opened = λ files told reported. tt;
       totals = λ reported. tt;
+      image = λ done. tt;
       keeps_up = λ e. tt;
     }
 

@@ -57,6 +57,7 @@ answered_early rules capture options old new status ends lawful unreported =
       lawful = lawful;
       opened = λ files told reported. absurd (false≢true (sym unreported ∙ reported));
       totals = λ reported. absurd (false≢true (sym unreported ∙ reported));
+      image = λ done. tt;
       keeps_up = λ w. absurd (unwritten status unreported w);
     }
 
@@ -104,7 +105,7 @@ Answers-no_tables rules capture options seen old status has (inl (family, large,
     (ap is_usage large.says) unreported
 
 -- the desk heard of the rules before the capture
-keeps_up_later : (capture : List ℕ) (old new : Outside) (mid : DeskView) →
+pub keeps_up_later : (capture : List ℕ) (old new : Outside) (mid : DeskView) →
     KeepsUp capture (record old { desk = mid }) new → KeepsUp capture old new
 keeps_up_later capture old new mid k = record {
   file = k.file;
@@ -116,7 +117,7 @@ keeps_up_later capture old new mid k = record {
 }
 
 -- the rule file was heard of which the rules are
-rules_heard : (name : List ℕ) (told : Option (List File)) (old new : List Heard) (reached : Reached RuleLists)
+pub rules_heard : (name : List ℕ) (told : Option (List File)) (old new : List Heard) (reached : Reached RuleLists)
     (lists : RuleLists) → Follows told (rules_in RulesRefused name) old new reached → reached ≡ Given lists →
     (file : Heard) × (new ≡ file ∷ old) × (rule_file_of file.bytes ≡ Ok lists)
 rules_heard name told old new reached lists (inl before) is = absurd (let e = sym (before.1) ∙ is in cc)
@@ -183,6 +184,7 @@ Answers-reported rules capture options seen old new status has tables within tot
           (files_of old.desk) (files_of has.desk) (heard_of old.desk) (heard_of has.desk) (heard_of new.desk)
           has.step.reached reports.ends.reached (seen has.set) has.step.follows has.step.answer reports.ends.follows
           totals;
+      image = λ done. tt;
       opened = λ files told reported. reports.opened files (has.step.kept.files ∙ told) reported;
       keeps_up = λ w. keeps_up_later capture old new has.desk (reports.keeps_up w);
     }

@@ -2,9 +2,15 @@ mod Answering
 mod RuleFiles
 mod Making
 mod Classifying
+mod Building
+mod Replaying
+mod Longest
+mod PacketBytes
+mod Agreeing
 mod Benching
 mod GivenOptions
 mod Asked
 mod ReadOn
 mod Printing
 mod Sizing
+mod Imaging

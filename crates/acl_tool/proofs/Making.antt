@@ -19,9 +19,10 @@ use Rattle.classbench_reader.specs.RuleFile.{RuleLists}
 use Rattle.capture_report.specs.Shown.{answer_of_rules}
 use Rattle.capture_report.specs.Classifier.{Tables, ByRules, AnswersAs, answer_of_table}
 use Rattle.acl_report.specs.declared.packet.TheConstants.{MAX_VERDICTS}
+use Rattle.command_plan.specs.Plan.{Give}
 use Rattle.acl_tool.specs.FamilySet.{set_of}
-use Rattle.acl_tool.specs.RuleTables.{table_within}
-use Rattle.acl_tool.specs.Built.{BuildsTable, IsBuilt, WordsAreTotals}
+use Rattle.acl_tool.specs.RuleTables.{table_within, tables_within}
+use Rattle.acl_tool.specs.Built.{BuildsTable, IsBuilt, TablesServe, WordsAreTotals, tables_built}
 
 -- what the joined word says, by the rule that wins
 by_winner : (rules : List RuleView) (table : TableView) (key : List ℕ) (category : ℕ) (won : Option ℕ) →
@@ -46,33 +47,45 @@ within_is : (family : Family) (budget : ℕ) (lists : RuleLists) → total_of (s
     table_within budget family lists ≡ Ok (built_of (set_of family lists) budget)
 within_is family budget lists fits = rw (le-leb (total_of (set_of family lists) budget) budget fits) refl
 
+-- the tables that fit are made
+pub within_both : (lists : RuleLists) (budget : ℕ) → total_of (set_of Ip4 lists) budget ≤ budget →
+    total_of (set_of Ip6 lists) budget ≤ budget → tables_within budget lists ≡ Give (tables_built lists budget)
+within_both lists budget ip4 ip6 = rw (within_is Ip4 budget lists ip4, within_is Ip6 budget lists ip6) refl
+
+-- tables that serve the rules answer as they do
+pub serving_tables : (lists : RuleLists) (budget : ℕ) → TablesServe lists budget →
+    AnswersAs (ByRules lists) (tables_built lists budget)
+serving_tables lists budget serve Ip4 key category is below =
+    serves_answers (set_of Ip4 lists) (built_of (set_of Ip4 lists) budget) key category (serve Ip4) is.bytes is.len
+    below
+serving_tables lists budget serve Ip6 key category is below =
+    serves_answers (set_of Ip6 lists) (built_of (set_of Ip6 lists) budget) key category (serve Ip6) is.bytes is.len
+    below
+
 -- both tables were made
 pub IsBuilt-both : (budget : ℕ) (lists : RuleLists) (ip4 ip6 : Option TableView) →
     BuildsTable (set_of Ip4 lists) budget ip4 → BuildsTable (set_of Ip6 lists) budget ip6 →
     IsBuilt budget lists ip4 ip6
 IsBuilt-both budget lists ip4 ip6 one two = record {
-  tables = record { ip4 = built_of (set_of Ip4 lists) budget; ip6 = built_of (set_of Ip6 lists) budget };
+  tables = tables_built lists budget;
+  are = refl;
   ip4_is = one.built;
   ip6_is = two.built;
-  within = rw (within_is Ip4 budget lists one.fits, within_is Ip6 budget lists two.fits) refl;
+  within = within_both lists budget one.fits two.fits;
   ip4_keys = one.serves.key_len;
   ip6_keys = two.serves.key_len;
-  answers = λ family key category is below. answers family key category is below;
+  answers = serving_tables lists budget serve;
   totals = λ family. totals family;
+  serve = serve;
 }
   where
     totals : WordsAreTotals lists budget
     totals Ip4 = one.words
     totals Ip6 = two.words
 
-    answers : AnswersAs (ByRules lists)
-        (record { ip4 = built_of (set_of Ip4 lists) budget; ip6 = built_of (set_of Ip6 lists) budget })
-    answers Ip4 key category is below =
-        serves_answers (set_of Ip4 lists) (built_of (set_of Ip4 lists) budget) key category one.serves is.bytes is.len
-        below
-    answers Ip6 key category is below =
-        serves_answers (set_of Ip6 lists) (built_of (set_of Ip6 lists) budget) key category two.serves is.bytes is.len
-        below
+    serve : TablesServe lists budget
+    serve Ip4 = one.serves
+    serve Ip6 = two.serves
 
 -- a set of this layout
 pub set-is : (set : RuleSetView) (layout : List FieldDef) → set.layout ≡ layout →

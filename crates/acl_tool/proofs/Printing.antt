@@ -47,13 +47,13 @@ use Rattle.acl_tool.proofs.GivenOptions.{SaidBy}
 use Rattle.acl_tool.proofs.ReadOn.{Classified, classify_heard, is_told}
 
 -- the faults of two captures that end alike
-same_fault : (one two : Option CaptureFault) → status_of_fault one ≡ status_of_fault two → one ≡ two
+pub same_fault : (one two : Option CaptureFault) → status_of_fault one ≡ status_of_fault two → one ≡ two
 same_fault None None is = refl
 same_fault None (Some two) is = absurd (cc)
 same_fault (Some one) None is = absurd (cc)
 same_fault (Some one) (Some two) is = cc
 
-told_fault : (fault : Option CaptureFault) → is_told (status_of_fault fault) ≡ true
+pub told_fault : (fault : Option CaptureFault) → is_told (status_of_fault fault) ≡ true
 told_fault None = refl
 told_fault (Some fault) = refl
 
@@ -69,7 +69,7 @@ pub report_status : (form : ReportForm) (capture : Result Recorded CaptureFault)
 report_status form (Ok capture) = refl
 report_status form (Err fault) = refl
 
-report_text : (form : ReportForm) (capture : Result Recorded CaptureFault) →
+pub report_text : (form : ReportForm) (capture : Result Recorded CaptureFault) →
     (report_of_capture form capture).text
     ≡ lines_of_records form (records_in capture) ++ last_lines form (records_in capture) (fault_of_capture capture)
 report_text form (Ok capture) = refl
@@ -190,20 +190,20 @@ whole_capture form file (inr on) is =
 unasked : (form : ReportForm) (transitions : ℕ) → form.stats ≡ false → stats_of form transitions ≡ []
 unasked form transitions off = rw off refl
 
-unwritten_fault : (fault : Option CaptureFault) → status_of_fault fault ≢ WriteFault
+pub unwritten_fault : (fault : Option CaptureFault) → status_of_fault fault ≢ WriteFault
 unwritten_fault None is = absurd (cc)
 unwritten_fault (Some fault) is = absurd (cc)
 
-unfull_fault : (fault : Option CaptureFault) → status_of_fault fault ≢ OutOfMemory
+pub unfull_fault : (fault : Option CaptureFault) → status_of_fault fault ≢ OutOfMemory
 unfull_fault None is = absurd (cc)
 unfull_fault (Some fault) is = absurd (cc)
 
-decided_fault : (fault : Option CaptureFault) → is_decided (status_of_fault fault) ≡ true
+pub decided_fault : (fault : Option CaptureFault) → is_decided (status_of_fault fault) ≡ true
 decided_fault None = refl
 decided_fault (Some fault) = refl
 
 -- a report's status is that of the outcome
-reported_status : (fault : Option CaptureFault) (status : Status) →
+pub reported_status : (fault : Option CaptureFault) (status : Status) →
     (status_of_fault fault ≡ status)
     ⊎ ((status_of_fault fault ≡ WriteFault) ⊎ (status_of_fault fault ≡ OutOfMemory)) →
     status_of_fault fault ≡ status
@@ -285,7 +285,7 @@ prints_so words old new fault asked by =
     }
 
 -- a report takes the transitions of its capture's whole records
-report_transitions : (form : ReportForm) (capture : Result Recorded CaptureFault) →
+pub report_transitions : (form : ReportForm) (capture : Result Recorded CaptureFault) →
     (report_of_capture form capture).transitions ≡ transitions_of_records form.tables (records_in capture)
 report_transitions form (Ok capture) = refl
 report_transitions form (Err fault) = refl
@@ -307,7 +307,7 @@ walks_so words old new fault asked by =
       bound = omega (arith, by.steps, report_bound form c.file.bytes);
     }
 
-lawful_fault : (fault : Option CaptureFault) → is_usage (status_of_fault fault) ≡ false
+pub lawful_fault : (fault : Option CaptureFault) → is_usage (status_of_fault fault) ≡ false
 lawful_fault None = refl
 lawful_fault (Some fault) = refl
 

@@ -40,7 +40,7 @@ pub record IsTest (test : Status → Bool) : Type 0 where
   pub unread : test ReadFault ≡ false
   pub full : test OutOfMemory ≡ false
 
-told_test : IsTest is_told
+pub told_test : IsTest is_told
 told_test = record { unread = refl; full = refl }
 
 untold_within : (test : Status → Bool) → IsTest test → (ending : Ending) → test (status_within ending) ≡ false
@@ -85,7 +85,7 @@ pub accepted_rules : (result : Result RuleLists LineFault) (lists : RuleLists) �
 accepted_rules (Ok all) lists is = let same : all ≡ lists = cc in ap Ok same
 accepted_rules (Err fault) lists is = absurd (cc)
 
-untold_rules : (result : Result RuleLists LineFault) (status : Status) →
+pub untold_rules : (result : Result RuleLists LineFault) (status : Status) →
     refused_rules RulesRefused result ≡ Err status → is_told status ≡ false
 untold_rules (Ok all) status is = absurd (cc)
 untold_rules (Err fault) status is = let same : RulesRefused fault ≡ status = cc in rw (← same) refl
@@ -127,7 +127,7 @@ pub record MakesBoth (told : Option (List File)) (budget : ℕ) (lists : RuleLis
   pub rest : Follows told (f tables) old new reached
 
 -- the tables of both families were made
-both_on : (told : Option (List File)) (budget : ℕ) (lists : RuleLists) (f : Tables → Plan Outcome)
+pub both_on : (told : Option (List File)) (budget : ℕ) (lists : RuleLists) (f : Tables → Plan Outcome)
     (old new : List Heard) (reached : Reached Outcome) →
     Follows told (tables_within budget lists >>= f) old new reached → is_told (outcome_of reached).status ≡ true →
     MakesBoth told budget lists f old new reached
@@ -157,7 +157,7 @@ both_on told budget lists f old new reached follows is =
         absurd (false≢true (sym (untold_total budget Ip4 lists status at_ip4) ∙ (rw (rest.1) at is)))
 
 -- some list is longer than a number
-longer : (n : ℕ) → (long : List ℕ) × (n < length long)
+pub longer : (n : ℕ) → (long : List ℕ) × (n < length long)
 longer n = (replicate (n + 1) 0, omega (arith, length-replicate {A = ℕ} (n + 1) 0))
 
 -- a plan asks for a file

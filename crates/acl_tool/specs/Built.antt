@@ -1,6 +1,7 @@
 -- What building the tables of a rule file comes to.
 use Rattle.std.specs.Prelude.{◌≡◌, ℕ, ◌<◌, ◌≤◌, ◌⊎◌, Option, Some}
 use Rattle.field_defs.specs.declared.field.Family.{Family}
+use Rattle.field_defs.specs.declared.field.Family.TheVariants.{Ip4, Ip6}
 use Rattle.rule_set.specs.Rule.{RuleSetView}
 use Rattle.rule_split.specs.Split.{total_of}
 use Rattle.flat_table.specs.Table.{TableView, words_of}
@@ -33,9 +34,20 @@ WordsAreTotals lists budget =
     (family : Family) →
     words_of (built_of (set_of family lists) budget) ≡ total_of (set_of family lists) budget
 
+-- The table of each family answers as its rules do.
+abbrev pub TablesServe : RuleLists → ℕ → Type 0
+TablesServe lists budget =
+    (family : Family) → Serves (set_of family lists) (built_of (set_of family lists) budget)
+
+-- the tables of the rules of both families under the budget
+abbrev pub tables_built : RuleLists → ℕ → Tables
+tables_built lists budget =
+    record { ip4 = built_of (set_of Ip4 lists) budget; ip6 = built_of (set_of Ip6 lists) budget }
+
 -- The tables of both families were made. They answer as the rules do.
 pub record IsBuilt (budget : ℕ) (lists : RuleLists) (ip4 ip6 : Option TableView) : Type 0 where
   pub tables : Tables
+  pub are : tables ≡ tables_built lists budget
   pub ip4_is : ip4 ≡ Some tables.ip4
   pub ip6_is : ip6 ≡ Some tables.ip6
   pub within : tables_within budget lists ≡ Give tables
@@ -43,6 +55,7 @@ pub record IsBuilt (budget : ℕ) (lists : RuleLists) (ip4 ip6 : Option TableVie
   pub ip6_keys : tables.ip6.key_len ≡ 37
   pub answers : AnswersAs (ByRules lists) tables
   pub totals : WordsAreTotals lists budget
+  pub serve : TablesServe lists budget
 
 -- The tables weren't made: a family needs more words than the budget, or memory ran out.
 abbrev pub Refuses : ℕ → RuleLists → Status → Type 0

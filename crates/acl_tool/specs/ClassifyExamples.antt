@@ -30,7 +30,7 @@ abbrev usual : Options
 usual = settled_options none_given
 
 -- a table of no rules, with keys of so many bytes
-abbrev empty_table : ℕ → TableView
+abbrev pub empty_table : ℕ → TableView
 empty_table key_len = record {
   key_len = key_len;
   rules = 0;
@@ -42,7 +42,7 @@ empty_table key_len = record {
 }
 
 -- a table of one rule of userdata 7 that matches each IPv4 key: its trie reads one byte
-abbrev wild_table : TableView
+abbrev pub wild_table : TableView
 wild_table = record {
   key_len = 13;
   rules = 1;
@@ -53,10 +53,10 @@ wild_table = record {
   rows = replicate 16 0 ∷ replicate 16 0x100000007 ∷ [];
 }
 
-abbrev no_tables : Tables
+abbrev pub no_tables : Tables
 no_tables = record { ip4 = empty_table 13; ip6 = empty_table 37 }
 
-abbrev wild_tables : Tables
+abbrev pub wild_tables : Tables
 wild_tables = record { ip4 = wild_table; ip6 = empty_table 37 }
 
 -- the IPv4 rule of the DPDK Programmer's Guide
@@ -65,7 +65,7 @@ guide_line = codes "@192.168.1.0/24 192.168.2.31/32 0:65535 1234:1234 0x11/0xFF\
 
 -- a record of a frame of 38 bytes: UDP from 192.168.1.5, port 5000, to 192.168.2.31, whose port
 -- ends in the byte
-abbrev udp_record : ℕ → List ℕ
+abbrev pub udp_record : ℕ → List ℕ
 udp_record port =
     replicate 8 0 ++ 38 ∷ 0 ∷ 0 ∷ 0 ∷ 38 ∷ 0 ∷ 0 ∷ 0
     ∷ replicate 12 0 ++ 8 ∷ 0 ∷ 0x45 ∷ 0 ∷ 0 ∷ 24 ∷ 0 ∷ 0 ∷ 0 ∷ 0 ∷ 64 ∷ 17 ∷ 0 ∷ 0

@@ -5,18 +5,21 @@ use Rattle.acl_outside.specs.Desk.{File}
 use Rattle.acl_outside.specs.Heard.{Heard}
 use Rattle.acl_outside.specs.Sink.{SinkView}
 use Rattle.command_plan.specs.declared.status.Status.{Status}
-use Rattle.command_plan.specs.declared.status.Status.TheVariants.{Usage, WriteFault, OutOfMemory}
+use Rattle.command_plan.specs.declared.status.Status.TheVariants.{Done, Usage, WriteFault, OutOfMemory}
 use Rattle.command_words.specs.declared.fault.UsageFault.{UsageFault}
 use Rattle.classbench_reader.specs.RuleFile.{RuleLists, rule_file_of}
-use Rattle.command_words.specs.Command.{Request, Bench, Classify, capture_name, made_name, command}
+use Rattle.command_words.specs.Command.{Request, Bench, Build, Classify, Replay, capture_name}
+use Rattle.command_words.specs.Command.{made_name, command}
 use Rattle.command_plan.specs.Message.{message}
 use Rattle.command_plan.specs.Plan.{found, settled}
 use Rattle.command_plan.specs.Endings.{is_reported, is_usage}
 use Rattle.acl_tool.specs.Built.{WordsAreTotals}
+use Rattle.acl_tool.specs.Saved.{IsImageOfRules}
 use Rattle.acl_tool.specs.Outcome.{outcome, plan_of}
 use Rattle.acl_tool.specs.Headline.{ClassifyPrints}
 use Rattle.acl_tool.specs.Transitions.{BenchWalks, ClassifyWalks}
 use Rattle.acl_tool.specs.Sizes.{ClassifySizes}
+use Rattle.acl_tool.specs.Images.{BuildMakes, ReplayPrints}
 use Rattle.command_plan.specs.Effects.{Outside, EndsMaking, EndsAsTold, HasNoFaultMaking, PutsLine}
 use Rattle.command_plan.specs.Effects.{files_of, heard_of, opened_of}
 use Rattle.capture_report.specs.PrintsCapture.{KeepsUp}
@@ -31,7 +34,15 @@ abbrev pub HasTotals : Request → List Heard → List Heard → Type 0
 HasTotals (Classify rules capture options) old new =
     (rule_file file : Heard) (lists : RuleLists) → new ≡ file ∷ rule_file ∷ old →
     rule_file_of rule_file.bytes ≡ Ok lists → WordsAreTotals lists options.max_words
-HasTotals (Bench numbers) old new = ⊤
+HasTotals request old new = ⊤
+
+-- The image that a `build` makes is that of the tables of the rules that were heard, which answer
+-- as the rules do.
+abbrev pub HasImage : Request → List Heard → List Heard → Type 0
+HasImage (Build rules image max_words) old new =
+    (rule_file : Heard) (lists : RuleLists) → new ≡ rule_file ∷ old →
+    rule_file_of rule_file.bytes ≡ Ok lists → IsImageOfRules lists max_words
+HasImage request old new = ⊤
 
 -- A request or a usage fault was answered: all that is promised of a command but its message.
 pub record Answers (request : Result Request UsageFault) (old new : Outside)
@@ -51,6 +62,8 @@ pub record Answers (request : Result Request UsageFault) (old new : Outside)
   -- the tables that a report tells have the words of their splits
   pub totals : is_reported status ≡ true →
       IfOk request (λ r. HasTotals r (heard_of old.desk) (heard_of new.desk))
+  -- the image that is made is one
+  pub image : status ≡ Done → IfOk request (λ r. HasImage r (heard_of old.desk) (heard_of new.desk))
   -- lines are put soon after their records were read
   pub keeps_up : status ≡ WriteFault →
       IfOk request (λ r. IfSome (capture_name r) (λ name. KeepsUp name old new))
@@ -67,6 +80,9 @@ pub record Runs (words : List (List ℕ)) (old new : Outside) (err_old err_new :
   -- how large the tables are that are told, and when rules are too large
   pub sizes : ClassifySizes words status (heard_of old.desk) (heard_of new.desk) old.out.taken
       new.out.taken
+  -- the image that is made, and what is printed by an image
+  pub builds : BuildMakes words status old new
+  pub replays : ReplayPrints words status old new
   pub answers : Answers (command words) old new status
   -- where the outside has no fault, only memory keeps the command from its outcome
   pub complete : HasNoFaultMaking (makes_of (command words)) old new → (files : List File) →

@@ -7,6 +7,9 @@
 //! |---|---|
 //! | `tool` | the way in: it conducts the commands |
 //! | `classify` | the command that prints the report of a capture |
+//! | `build` | the command that saves the tables of a rule file as an image |
+//! | `replay` | the command that prints the report of a capture by the tables of an image |
+//! | `laws` | an image prints what the rules print of which it was made |
 //! | `bench` | the command that compares rules and table over a workload |
 //! | `rule_file` | the rules of a file |
 //! | `tables` | the rules in the contexts of both families, and their tables |
@@ -15,7 +18,10 @@
 mod bench;
 #[cfg(test)]
 mod bench_tests;
+mod build;
 mod classify;
+pub mod laws;
+mod replay;
 mod rule_file;
 mod tables;
 #[cfg(test)]
@@ -28,4 +34,5 @@ pub use command_plan::Status;
 pub use command_words::{UsageFault, UsageKind};
 pub use field_defs::Family;
 pub use pcap_reader::CaptureFault;
+pub use table_image::{ImageFault, ImageKind};
 pub use tool::run;

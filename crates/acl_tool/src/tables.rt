@@ -1,8 +1,9 @@
 //! The rules of both families in their contexts, and the tables that are made of them.
 
 ghost use Rattle.std.specs.Prelude.{◌≡◌, ◌<◌, ◌≤◌, ◌⊎◌, Ok, None, Some, IsSome, IfOk, IfErr, OnOk};
-ghost use Rattle.std.specs.Prelude.{OnErr};
+ghost use Rattle.std.specs.Prelude.{OnErr, length};
 ghost use Rattle.field_defs.specs.Layout.{ip4_fields, ip6_fields};
+ghost use Rattle.rule_set.specs.Limits.{max_rules};
 ghost use Rattle.table_sizes.specs.Sizes.{max_words};
 ghost use Rattle.table_fill.specs.Serves.{Serves};
 ghost use Rattle.acl_context.specs.Context.{built_of};
@@ -37,6 +38,8 @@ pub fn build_tables(alloc: Global, rules: RuleFile, budget: u64) -> Result<Conte
     ensures built { IfOk result
         (λ contexts. IsBuilt budget (lists_of rules) contexts.ip4.table contexts.ip6.table) }
     ensures refused { IfErr result (λ status. Refuses budget (lists_of rules) status) }
+    ensures few { OnOk result
+        ((length rules.ip4.rules ≤ max_rules) × (length rules.ip6.rules ≤ max_rules)) }
 {
     let RuleFile { ip4, ip6 } = rules;
     let mut ip4 = hold(alloc, ip4);
@@ -48,7 +51,8 @@ pub fn build_tables(alloc: Global, rules: RuleFile, budget: u64) -> Result<Conte
 
 /// A context that holds the rules themselves, and has no table. It takes no memory.
 fn hold(alloc: Global, rules: RuleSet) -> AclContext
-    ensures { result.set ≡ rules }
+    ensures set { result.set ≡ rules }
+    ensures few { length rules.rules ≤ max_rules }
 {
     let count = rules.all().len() as u32;
     AclContext::holding(alloc, rules, count)

@@ -2,6 +2,7 @@
 
 ghost use Rattle.std.specs.Prelude.{◌≡◌, ◌<◌};
 
+mod images;
 mod tables;
 
 use crate::{CaptureFault, LineFault, LineKind, Status, UsageFault, UsageKind, run};
@@ -350,9 +351,9 @@ fn words_are_refused_from_left_to_right(rt: HostRuntime) -> Result<(), Fail> {
             "aclc: usage: word 4: bad value\n",
         ),
         (
-            &["classify", "r", "c", "marks=ON"],
-            usage(4, UsageKind::BadValue),
-            "aclc: usage: word 4: bad value\n",
+            &["build", "r", "i", "stats=on"],
+            usage(4, UsageKind::UnknownOption),
+            "aclc: usage: word 4: unknown option\n",
         ),
         (
             &["classify", "r", "c", "stats=on", "stats=off"],

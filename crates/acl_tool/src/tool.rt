@@ -8,7 +8,9 @@ ghost use Rattle.acl_tool.specs.Effects.{Answers, Runs};
 ghost use Rattle.command_plan.specs.Effects.{PutsLine, outside};
 
 use crate::bench::bench;
+use crate::build::build;
 use crate::classify::classify;
+use crate::replay::replay;
 use acl_outside::{Desk, Sink, put_all};
 use acl_report::LINE_ROOM;
 use command_plan::{Status, message_line};
@@ -25,6 +27,11 @@ use std::sync::ledger::Ledger;
 /// their lines. `steps` rises by the transitions that the tables take. Where the status isn't
 /// `Done` a line that names its cause goes to `err`, whose failure changes nothing. All memory is
 /// taken before the first byte is put.
+///
+/// `build RULES IMAGE` and its option read the rule file, make a table of the rules of each family,
+/// and save both in the image, which is created once it is whole in memory. It puts nothing to
+/// `out`. `replay IMAGE CAPTURE` and its options print by the tables of an image what `classify`
+/// prints by those of the rules.
 ///
 /// `bench SEED RULES PACKETS` asks for no file: it draws rules and packets from a seed, classifies
 /// the packets by the plain filter and by a table, and puts four lines of numbers.
@@ -82,6 +89,16 @@ fn answer_request<D: Desk, O: Sink, L: Ledger>(
             capture,
             options,
         } => classify(alloc, rules, capture, &options, desk, out, steps),
+        Request::Build {
+            rules,
+            image,
+            max_words,
+        } => build(alloc, rules, image, max_words, desk),
+        Request::Replay {
+            image,
+            capture,
+            options,
+        } => replay(alloc, image, capture, &options, desk, out, steps),
         Request::Bench(numbers) => bench(alloc, numbers, out, steps),
     }
 }

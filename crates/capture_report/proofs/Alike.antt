@@ -1,5 +1,5 @@
 -- What answers as the tables do prints the same.
-use Rattle.std.proofs.Common.{◌≡◌, ℕ, zero, suc, ◌+◌, ◌<◌, ◌≤◌, List, [], ◌∷◌, ◌++◌, map, All, Option, Some, None}
+use Rattle.std.proofs.Common.{◌≡◌, ℕ, zero, suc, ◌+◌, ◌<◌, ◌≤◌, List, [], ◌∷◌, ◌++◌, map, All, Option, Some, None, Result, Ok, Err}
 use Rattle.std.proofs.Common.{refl, sym, ap, ◌∙◌, arith}
 use Rattle.std.specs.Bool.{IsTrue}
 use Rattle.std.specs.List.{range_with_len}
@@ -18,16 +18,18 @@ use Rattle.acl_outside.specs.Desk.{File}
 use Rattle.pcap_reader.specs.declared.fault.CaptureFault.{CaptureFault}
 use Rattle.pcap_reader.specs.declared.state.CaptureState.{CaptureState}
 use Rattle.pcap_reader.specs.State.{CaptureRecord}
+use Rattle.pcap_reader.specs.Capture.{Recorded, capture_of, records_in, whole_records}
 use Rattle.capture_report.specs.declared.form.PrintOptions.{PrintOptions}
 use Rattle.command_plan.specs.declared.status.Status.{Status}
 use Rattle.capture_report.specs.Packet.{IsPacket}
-use Rattle.capture_report.specs.Shown.{packet_of, shown}
+use Rattle.capture_report.specs.Shown.{packet_of, shown, status_of_fault}
 use Rattle.capture_report.specs.Classifier.{Classifier, ByTables, Tables, AnswersAs, IsKey, answer_of}
 use Rattle.capture_report.specs.ReportForm.{ReportForm, form_by}
 use Rattle.capture_report.specs.Report.{answers_of, answers_on, line_of_packet, lines_of_packets}
-use Rattle.capture_report.specs.Report.{lines_of_records}
-use Rattle.capture_report.specs.CaptureOutcome.{last_lines, reported}
+use Rattle.capture_report.specs.Report.{lines_of_records, transitions_of_records}
+use Rattle.capture_report.specs.CaptureOutcome.{last_lines, report, report_of_capture, reported}
 use Rattle.command_plan.specs.declared.status.Status.TheVariants.{OutOfMemory}
+use Rattle.command_plan.specs.Plan.{printed}
 use Rattle.command_plan.specs.Effects.{Outside}
 use Rattle.capture_report.specs.PrintsCapture.{Reports, PrintsCapture}
 use Rattle.command_plan.proofs.Offered.{Ends-full, Ends-told, Ends-complete, IsFaithful}
@@ -96,6 +98,20 @@ module _ (classifier : Classifier) (tables : Tables) (options : PrintOptions) (a
       ∙ ap (λ l. lines_of_records (form_by (ByTables tables) tables options) records ++ l)
       (last_same records fault))
   text_same (Part records) all = sym (lines_same 1 (map packet_of records) all)
+
+  -- what is reported of any bytes whose packets are of bytes
+  pub report_alike : (bytes : List ℕ) → All IsPacket (map packet_of (whole_records bytes)) →
+      report (form_by classifier tables options) bytes ≡ report (form_by (ByTables tables) tables options) bytes
+  report_alike bytes packets = go (capture_of bytes) packets
+    where
+      go : (capture : Result Recorded CaptureFault) → All IsPacket (map packet_of (records_in capture)) →
+          report_of_capture (form_by classifier tables options) capture
+          ≡ report_of_capture (form_by (ByTables tables) tables options) capture
+      go (Ok capture) all =
+          ap (λ (text : List ℕ).
+          printed (status_of_fault capture.fault) text (transitions_of_records tables capture.records))
+          (sym (text_same (Whole capture.records capture.fault) all))
+      go (Err fault) all = refl
 
   -- what was streamed by the tables
   pub Streams-alike : (state : CaptureState) (old new : Outside) (status : Status) →

@@ -127,6 +127,8 @@ Ends-part form name given ending old new status h opened p = record {
   out_of_memory = p.full;
   steps = λ decided. absurd (part_undecided status ending p.ended decided);
   made = λ decided. absurd (part_undecided status ending p.ended decided);
+  broken = λ written. h.kept;
+  unmade = λ fault. h.kept;
   read_fault = λ e. inl (p.read_fault e);
   write_fault = p.write_fault;
   absent = λ files told isnt. h.absent files told;
@@ -200,7 +202,9 @@ Ends-whole form name given ending old new status h unbroken long p steps =
       ];
       out_of_memory = λ e. absurd (never (ap is_decided e) (λ w. absurd (cc)));
       steps = λ decided. steps;
-      made = λ decided. rw (report_unmade form given) h.kept.made.made;
+      made = λ decided. rw (report_unmade form given) h.kept;
+      broken = λ written. rw (report_unmade form given) h.kept;
+      unmade = λ fault. h.kept;
       read_fault = λ e. absurd (never (ap is_decided e) (λ w. absurd (cc)));
       write_fault = λ e. elim p.puts [
         | inl done ↦ absurd (false≢true (ap is_decided (sym e ∙ done.0) ∙ p.decided))
@@ -232,6 +236,8 @@ Reports-unopened form name old new out steps e opens = record {
     out_of_memory = λ full. absurd (cc);
     steps = λ decided. absurd (false≢true decided);
     made = λ decided. absurd (false≢true decided);
+    broken = λ w. absurd (cc);
+    unmade = λ fault. unopened_kept name old new e opens;
     read_fault = λ r.
         CannotRead-because _ _ old new
         (λ files told none.

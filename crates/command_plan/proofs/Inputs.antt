@@ -53,7 +53,7 @@ cannot_open name old new (inr rose) known =
     elim (known_or_absent old.content name old new known) [ inl fault ↦ inl fault | inr absent ↦ inr (rose, absent) ]
 
 -- the files of what is told stay
-told_files : (P : Content → Content → Type 0) → ((a b : Content) → P a b → b.files ≡ a.files) →
+pub told_files : (P : Content → Content → Type 0) → ((a b : Content) → P a b → b.files ≡ a.files) →
     (old new : Option Content) → Steps P old new →
     option_map (λ c. c.files) new ≡ option_map (λ c. c.files) old
 told_files P keeps None None step = refl
@@ -80,6 +80,7 @@ ReadsFile-unopened name cap old new e opens = record {
   heard = ap heard opens.answer;
   told = λ files told opened. absurd opened;
   bytes = tt;
+  within = tt;
   ending = tt;
   fault = inr (refl, refl);
   read_fault = λ same. cannot_open name old new opens.cause opens.there;
@@ -183,6 +184,7 @@ ReadsFile-read name cap old mid new x bytes opens reads = go reads.heard
           part_told name bytes.items Ended old.content mid.content new.content opens.opened on.told
           (λ e. ended_told cap bytes.items mid.content new.content reads.bytes few) files told;
       bytes = refl;
+      within = omega (arith, few);
       ending = inl refl;
       fault = tt;
       read_fault = λ e. absurd (cc);
@@ -200,6 +202,7 @@ ReadsFile-read name cap old mid new x bytes opens reads = go reads.heard
           part_told name bytes.items GoesOn old.content mid.content new.content opens.opened on.told
           (λ e. absurd (cc)) files told;
       bytes = refl;
+      within = omega (arith, full);
       ending = inr (refl, full);
       fault = tt;
       read_fault = λ e. absurd (cc);
@@ -224,6 +227,7 @@ ReadsFile-broken name cap old mid new x opens reads =
           part_told name bytes BrokenOff old.content mid.content new.content opens.opened on.told
           (λ e. absurd (cc)) files told;
       bytes = tt;
+      within = tt;
       ending = tt;
       fault = inr (refl, refl);
       read_fault = λ e. inl (omega (arith, opens.counts.read_faults, reads.read_fault refl));
@@ -246,6 +250,7 @@ ReadsFile-full name cap old mid new x opens reads =
           part_told name bytes GoesOn old.content mid.content new.content opens.opened on.told
           (λ e. absurd (cc)) files told;
       bytes = tt;
+      within = tt;
       ending = tt;
       fault = inl refl;
       read_fault = λ e. absurd (cc);

@@ -5,3 +5,4 @@ mod Gained
 mod Stops
 mod Told
 mod Inputs
+mod Outputs

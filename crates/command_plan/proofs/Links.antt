@@ -17,7 +17,7 @@ use Rattle.command_plan.specs.Plan.{Outcome, Plan, ◌>>=◌, nothing, reading, 
 use Rattle.command_plan.specs.Follow.{Reached, Given, Stopped, Before, Within, IsEnough, Follows, IsCutOff, said}
 use Rattle.command_plan.specs.Follow.{said_in, outcome_of}
 use Rattle.command_plan.specs.Endings.{is_reported, is_usage}
-use Rattle.command_plan.specs.Effects.{Outside, files_of, heard_of, KeepsFiles, Keeps, Makes, CannotRead}
+use Rattle.command_plan.specs.Effects.{Outside, files_of, heard_of, KeepsFiles, Keeps, Makes, MakesPart, CannotRead}
 use Rattle.command_plan.specs.Effects.{CannotWrite, ReadsFile, Parses, Takes, EndsMaking}
 use Rattle.command_plan.proofs.Gained.{Gains-none, GainsPrefix-none}
 use Rattle.command_plan.proofs.Stops.{unwritten, Keeps-any}
@@ -46,13 +46,32 @@ CannotWrite-later None old new mid kept rose = rose
 CannotWrite-later (Some name) old new mid kept rose =
     subst (λ count. Rose count new.desk.write_faults) kept.write_faults rose
 
--- a file was made after a step that made none
-Makes-later : (made : Option File) (old mid new : DeskView) → KeepsMade old mid → Makes made mid new →
+-- a file was made after a step that kept all files
+Makes-later : (made : Option File) (old mid new : DeskView) → KeepsFiles old mid → Makes made mid new →
     Makes made old new
-Makes-later None old mid new kept makes = makes ∙ kept.made
-Makes-later (Some file) old mid new kept makes =
-    makes ∙ ap (λ (files : List Made). record { name = file.name; bytes = file.bytes; standing = Finished } ∷ files)
-    kept.made
+Makes-later None old mid new kept makes = KeepsFiles-then old mid new kept makes
+Makes-later (Some file) old mid new kept makes = record {
+  made =
+      makes.made
+      ∙ ap (λ (files : List Made). record { name = file.name; bytes = file.bytes; standing = Finished } ∷ files)
+      kept.made.made;
+  finished = makes.finished;
+  holds = makes.holds;
+}
+
+-- and so where it couldn't be written
+MakesPart-later : (made : Option File) (old mid new : DeskView) → KeepsFiles old mid → MakesPart made mid new →
+    MakesPart made old new
+MakesPart-later None old mid new kept makes = KeepsFiles-then old mid new kept makes
+MakesPart-later (Some file) old mid new kept makes = record {
+  part = makes.part;
+  rest = makes.rest;
+  made = makes.made ∙ ap (λ (files : List Made). makes.part ∷ files) kept.made.made;
+  named = makes.named;
+  parts = makes.parts;
+  unfinished = makes.unfinished;
+  holds = λ before after told now. makes.holds before after (kept.files ∙ told) now;
+}
 
 -- a fault of the desk, for a reason that follows from another
 pub CannotRead-because : (P Q : List File → Type 0) (old new : DeskView) →
@@ -252,7 +271,9 @@ Ends-cut makes plan seen f old desk status step = record {
   prefix = λ e. GainsPrefix-none (outcome_of (carried step.reached)).text old.out;
   out_of_memory = λ e. Gains-none old.out;
   steps = λ decided. omega (arith, cut_transitions step.reached status step.answer);
-  made = λ decided. rw (cut_unmade step.reached status step.answer) step.kept.made.made;
+  made = λ decided. rw (cut_unmade step.reached status step.answer) step.kept;
+  broken = λ written. rw (cut_unmade step.reached status step.answer) step.kept;
+  unmade = λ fault. step.kept;
   read_fault = λ e.
       CannotRead-because _ _ old.desk desk
       (λ files told fault. ap (λ r. (settled r).status) (found-then plan f files ∙ ap (then_found f files) fault))
@@ -289,7 +310,10 @@ Ends-then makes plan seen f old new mid x status step rest =
       out_of_memory = rest.out_of_memory;
       steps = rest.steps;
       made = λ decided.
-          Makes-later (outcome_of rest.reached).made old.desk mid new.desk step.kept.made (rest.made decided);
+          Makes-later (outcome_of rest.reached).made old.desk mid new.desk step.kept (rest.made decided);
+      broken = λ written.
+          MakesPart-later (outcome_of rest.reached).made old.desk mid new.desk step.kept (rest.broken written);
+      unmade = λ fault. KeepsFiles-then old.desk mid new.desk step.kept (rest.unmade fault);
       read_fault = λ e.
           CannotRead-because _ _ old.desk new.desk
           (λ files told fault. ap (λ r. (settled r).status) (same files told) ∙ fault)

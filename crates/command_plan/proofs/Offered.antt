@@ -21,6 +21,8 @@ pub use Rattle.command_plan.proofs.Stops.{Ends-stopped}
 pub use Rattle.command_plan.proofs.Stops.{Ends-full}
 -- the lines of an outcome were put, and the transitions counted
 pub use Rattle.command_plan.proofs.Stops.{Ends-put}
+-- the file of an outcome was made, or it couldn't be made whole
+pub use Rattle.command_plan.proofs.Stops.{Ends-made, Ends-broken}
 -- a file was read and its bytes give a value or are refused, or it wasn't read to its end
 pub use Rattle.command_plan.proofs.Links.{Takes-read, Takes-unread}
 -- a step ended the command, or gave its value to the rest

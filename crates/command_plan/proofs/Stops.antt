@@ -1,5 +1,6 @@
 -- Commands that ask for no file any more: they stop, put their last lines, or have no memory.
-use Rattle.std.proofs.Common.{◌≡◌, ℕ, ◌+◌, List, Option, Some, None, true, false, inl, inr, refl, sym, ap}
+use Rattle.std.proofs.Common.{◌≡◌, ℕ, ◌+◌, List, [], Option, Some, None, Ok, Err, true, false, inl, inr, refl, sym}
+use Rattle.std.proofs.Common.{ap}
 use Rattle.std.proofs.Common.{◌∙◌, arith}
 use Rattle.std.proofs.lemmas.Bool.{false≢true}
 use Rattle.acl_outside.specs.Desk.{DeskView}
@@ -7,12 +8,12 @@ use Rattle.acl_outside.specs.Sink.{SinkView}
 use Rattle.acl_outside.proofs.Offered.{KeepsMade-same, KeepsCounts-same}
 use Rattle.command_plan.specs.declared.status.Status.{Status}
 use Rattle.command_plan.specs.declared.status.Status.TheVariants.{Done, WriteFault, OutOfMemory}
-use Rattle.command_plan.specs.Plan.{Outcome, Plan, Give, Stop, Read}
+use Rattle.command_plan.specs.Plan.{Outcome, Plan, Give, Stop, Read, making}
 use Rattle.command_plan.specs.Follow.{Reached, Given, Stopped, Before, Follows}
 use Rattle.command_plan.specs.Endings.{is_decided, is_reported}
 use Rattle.command_plan.specs.Effects.{Outside, outside, files_of, heard_of, KeepsFiles, Keeps, PutsLast}
-use Rattle.command_plan.specs.Effects.{EndsMaking, Ends}
-use Rattle.command_plan.proofs.Gained.{Gains-none}
+use Rattle.command_plan.specs.Effects.{EndsMaking, Ends, MakesAll}
+use Rattle.command_plan.proofs.Gained.{Gains-none, GainsPrefix-none}
 
 -- a desk that was left alone
 pub KeepsFiles-same : (desk : DeskView) → KeepsFiles desk desk
@@ -41,7 +42,9 @@ Ends-stopped makes refusal view unreported decided = record {
   prefix = λ w. absurd (unwritten refusal unreported w);
   out_of_memory = λ e. Gains-none view.out;
   steps = λ d. omega arith;
-  made = λ d. refl;
+  made = λ d. KeepsFiles-same view.desk;
+  broken = λ w. KeepsFiles-same view.desk;
+  unmade = λ e. KeepsFiles-same view.desk;
   read_fault = λ e. absurd (false≢true (sym (ap is_decided e) ∙ decided));
   write_fault = λ w. absurd (unwritten refusal unreported w);
   absent = λ files told isnt. refl;
@@ -61,6 +64,8 @@ full_at makes plan view reached follows = record {
   out_of_memory = λ e. Gains-none view.out;
   steps = λ d. absurd (false≢true d);
   made = λ d. absurd (false≢true d);
+  broken = λ w. absurd (cc);
+  unmade = λ e. KeepsFiles-same view.desk;
   read_fault = λ e. absurd (cc);
   write_fault = λ w. absurd (cc);
   absent = λ files told isnt. refl;
@@ -91,7 +96,9 @@ Ends-put outcome desk out_old out_new steps status done unmade puts = record {
     | inr part ↦ absurd (let both = sym e ∙ part.0 in cc)
   ];
   steps = λ decided. refl;
-  made = λ decided. rw unmade refl;
+  made = λ decided. rw unmade (KeepsFiles-same desk);
+  broken = λ written. rw unmade (KeepsFiles-same desk);
+  unmade = λ fault. KeepsFiles-same desk;
   read_fault = λ e. elim puts.puts [
     | inl all ↦ absurd (let both = sym e ∙ all.0 in cc)
     | inr part ↦ absurd (let both = sym e ∙ part.0 in cc)
@@ -100,4 +107,48 @@ Ends-put outcome desk out_old out_new steps status done unmade puts = record {
   absent = λ files told isnt. refl;
   kept = KeepsFiles-same desk;
   count = puts.count;
+}
+
+-- The file of an outcome was made.
+pub Ends-made : {T E : Type 0} (name bytes : List ℕ) (old new : DeskView) (out : SinkView) (steps : ℕ) (x : T) →
+    MakesAll {E = E} name bytes old new (Ok x) →
+    EndsMaking (Some name) (Give (making name bytes)) (outside old out steps) (outside new out steps) Done
+Ends-made name bytes old new out steps x makes = record {
+  reached = Given (making name bytes);
+  follows = (makes.heard.heard, refl);
+  ended = inl refl;
+  text = λ other full. Gains-none out;
+  prefix = λ w. absurd (cc);
+  out_of_memory = λ e. absurd (cc);
+  steps = λ decided. omega arith;
+  made = λ decided. makes.whole;
+  broken = λ w. absurd (cc);
+  unmade = λ e. elim e [ inl read ↦ absurd (cc) | inr full ↦ absurd (cc) ];
+  read_fault = λ e. absurd (cc);
+  write_fault = λ w. absurd (cc);
+  absent = λ files told isnt. makes.heard.absent;
+  kept = makes.others;
+  count = omega arith;
+}
+
+-- It couldn't be made, or not whole.
+pub Ends-broken : {T E : Type 0} (name bytes : List ℕ) (old new : DeskView) (out : SinkView) (steps : ℕ) (e : E) →
+    MakesAll {T = T} name bytes old new (Err e) →
+    EndsMaking (Some name) (Give (making name bytes)) (outside old out steps) (outside new out steps) WriteFault
+Ends-broken name bytes old new out steps e makes = record {
+  reached = Given (making name bytes);
+  follows = (makes.heard.heard, refl);
+  ended = inr (inl refl);
+  text = λ other full. absurd (other refl);
+  prefix = λ w. GainsPrefix-none [] out;
+  out_of_memory = λ full. absurd (cc);
+  steps = λ decided. absurd (false≢true decided);
+  made = λ decided. absurd (false≢true decided);
+  broken = λ w. makes.part;
+  unmade = λ fault. elim fault [ inl read ↦ absurd (cc) | inr full ↦ absurd (cc) ];
+  read_fault = λ read. absurd (cc);
+  write_fault = λ w. makes.cause;
+  absent = λ files told isnt. makes.heard.absent;
+  kept = makes.others;
+  count = omega arith;
 }

@@ -3,7 +3,7 @@ use Rattle.std.proofs.Common.{◌≡◌, ◌⊎◌, ℕ, ◌+◌, List, [], ◌�
 use Rattle.std.proofs.Common.{inr, sym, ap, subst, ◌∙◌, refl, append-nil}
 use Rattle.std.proofs.lemmas.Bool.{false≢true}
 use Rattle.std.specs.Prelude.{⊤}
-use Rattle.acl_outside.specs.Desk.{File, bytes_of}
+use Rattle.acl_outside.specs.Desk.{File, DeskView, bytes_of}
 use Rattle.acl_outside.specs.Heard.{Heard, Ending, NotOpened, GoesOn, Ended, BrokenOff}
 use Rattle.acl_outside.specs.Sink.{SinkView, Gains, GainsPrefix}
 use Rattle.acl_outside.proofs.Offered.{GainsPrefix-more}
@@ -13,8 +13,8 @@ use Rattle.command_plan.specs.Plan.{Outcome, Plan, Give, Stop, Read, ◌>>=◌, 
 use Rattle.command_plan.specs.Follow.{Reached, Given, Stopped, Before, Within, IsOpened, IsPartOf, Follows, said_in}
 use Rattle.command_plan.specs.Follow.{outcome_of, status_within}
 use Rattle.command_plan.specs.Endings.{is_decided}
-use Rattle.command_plan.specs.Effects.{Outside, files_of, heard_of, CannotRead, Makes, EndsMaking, EndsAsTold}
-use Rattle.command_plan.specs.Effects.{HasNoFaultMaking}
+use Rattle.command_plan.specs.Effects.{Outside, files_of, heard_of, CannotRead, KeepsFiles, Makes, MakesPart}
+use Rattle.command_plan.specs.Effects.{EndsMaking, EndsAsTold, HasNoFaultMaking}
 use Rattle.command_plan.proofs.Plans.{IsFound, Follows-found, found_next}
 
 -- a text begins with another
@@ -101,6 +101,16 @@ decided_outcome files (Before name) result is decided = absurd (false≢true dec
 decided_outcome files (Within file text) result is decided =
     absurd (false≢true (sym (undecided_within file.ending) ∙ decided))
 
+-- a part of the file of what was heard is one of the file that the files give, or no file was made
+broken_told : (files : List File) (reached : Reached Outcome) (result : Result Outcome Status) (old new : DeskView) →
+    IsFound files reached result → MakesPart (outcome_of reached).made old new →
+    KeepsFiles old new ⊎ MakesPart (settled result).made old new
+broken_told files (Given outcome) result old new is part =
+    inr (subst (λ (r : Result Outcome Status). MakesPart (settled r).made old new) (sym is) part)
+broken_told files (Stopped status) result old new is part = inl part
+broken_told files (Before name) result old new is part = inl part
+broken_told files (Within file text) result old new is part = inl part
+
 -- a prefix of a first part
 prefix_of : (front text : List ℕ) (old new : SinkView) → BeginsWith front text → GainsPrefix front old new →
     GainsPrefix text old new
@@ -138,6 +148,8 @@ Ends-told plan old new status faithful ends files told =
           (ends.prefix write);
       steps = λ decided. ends.steps decided ∙ ap (λ (o : Outcome). old.steps + o.transitions) (same decided);
       made = λ decided. subst (λ (o : Outcome). Makes o.made old.desk new.desk) (same decided) (ends.made decided);
+      broken = λ write.
+          broken_told files ends.reached (found plan files) old.desk new.desk is (ends.broken write);
     }
 
 no_read_fault : {makes : Option (List ℕ)} (P : List File → Type 0) (old new : Outside) →

@@ -1,13 +1,14 @@
 -- What a part of a command says of the outside, before and after it.
 use Rattle.std.specs.Prelude.{◌≡◌, ◌≢◌, ℕ, ◌+◌, ◌≤◌, ◌⊎◌, List, [], ◌∷◌, length, false, true}
-use Rattle.std.specs.Prelude.{Option, Some, None, Result, Ok, Err, IfOk, IfErr}
+use Rattle.std.specs.Prelude.{Option, Some, None, Result, Ok, Err, IfOk, IfErr, OnOk, OnErr}
+use Rattle.std.specs.Prelude.{◌++◌}
 use Rattle.std.specs.Option.{option_map}
 use Rattle.std.specs.declared.vec.Vec.{Vec}
 use Rattle.std.specs.declared.alloc.Global.{Global}
 use Rattle.acl_outside.specs.Fault.{Rose}
-use Rattle.acl_outside.specs.Desk.{File, DeskView, KeepsCounts, bytes_of}
-use Rattle.acl_outside.specs.Heard.{Heard, GoesOn, Ended, heard}
-use Rattle.acl_outside.specs.Made.{Made, Finished, KeepsMade, made}
+use Rattle.acl_outside.specs.Desk.{File, DeskView, KeepsCounts, bytes_of, finished}
+use Rattle.acl_outside.specs.Heard.{Heard, GoesOn, Ended, KeepsHeard, heard}
+use Rattle.acl_outside.specs.Made.{Made, NotCreated, Finished, Broken, KeepsMade, made}
 use Rattle.acl_outside.specs.Sink.{SinkView, Gains, GainsPrefix}
 use Rattle.command_plan.specs.declared.status.Status.{Status}
 use Rattle.command_plan.specs.declared.status.Status.TheVariants.{ReadFault, WriteFault}
@@ -67,11 +68,49 @@ abbrev pub Keeps : Option (List ℕ) → DeskView → DeskView → Type 0
 Keeps None old new = KeepsFiles old new
 Keeps (Some name) old new = KeepsOthers name old new
 
--- The file of an outcome was made, whole, and nothing else; where it has none, nothing was made.
+-- The file was made, whole, and nothing else. It is finished, and it holds its bytes where the files
+-- are told.
+pub record MakesFile (file : File) (old new : DeskView) : Type 0 where
+  pub made : made_of new
+      ≡ record { name = file.name; bytes = file.bytes; standing = Finished } ∷ made_of old
+  pub finished : finished new ≡ true
+  pub holds : (files : List File) → files_of new ≡ Some files →
+      bytes_of files file.name ≡ Some file.bytes
+
+-- The file couldn't be made: it couldn't be created, and is as before, or a prefix of its bytes was
+-- written, which it holds where the files are told. Nothing else was made.
+pub record MakesPrefix (file : File) (old new : DeskView) : Type 0 where
+  pub part : Made
+  pub rest : List ℕ
+  pub made : made_of new ≡ part ∷ made_of old
+  pub named : part.name ≡ file.name
+  pub parts : file.bytes ≡ part.bytes ++ rest
+  pub unfinished : (part.standing ≡ NotCreated) ⊎ (part.standing ≡ Broken)
+  pub holds : (before after : List File) → files_of old ≡ Some before →
+      files_of new ≡ Some after →
+      ((part.standing ≡ NotCreated) × (after ≡ before))
+      ⊎ ((part.standing ≡ Broken) × (bytes_of after file.name ≡ Some part.bytes))
+
+-- The file of an outcome was made, whole, and nothing else; where it has none, all files are as
+-- before.
 abbrev pub Makes : Option File → DeskView → DeskView → Type 0
-Makes None old new = made_of new ≡ made_of old
-Makes (Some file) old new =
-    made_of new ≡ record { name = file.name; bytes = file.bytes; standing = Finished } ∷ made_of old
+Makes None old new = KeepsFiles old new
+Makes (Some file) old new = MakesFile file old new
+
+-- The same where the desk couldn't write.
+abbrev pub MakesPart : Option File → DeskView → DeskView → Type 0
+MakesPart None old new = KeepsFiles old new
+MakesPart (Some file) old new = MakesPrefix file old new
+
+-- The named file was made of these bytes, or a prefix of it where the desk couldn't write. All other
+-- files are as before, and no file was opened or read.
+pub record MakesAll {T E : Type 0} (name bytes : List ℕ) (old new : DeskView)
+    (result : Result T E) : Type 0 where
+  pub whole : OnOk result (MakesFile (record { name = name; bytes = bytes }) old new)
+  pub part : OnErr result (MakesPrefix (record { name = name; bytes = bytes }) old new)
+  pub cause : OnErr result (Rose old.write_faults new.write_faults)
+  pub heard : KeepsHeard old new
+  pub others : KeepsOthers name old new
 
 -- What a command writes to failed: the file that it makes, and the sink where it makes none.
 abbrev pub CannotWrite : Option (List ℕ) → Outside → Outside → Type 0
@@ -98,6 +137,7 @@ pub record ReadsFile (name : List ℕ) (cap : ℕ) (old new : DeskView)
   pub heard : heard_of new ≡ file ∷ heard_of old
   pub told : IsOneOf (files_of old) file
   pub bytes : IfOk result (λ bytes. file.bytes ≡ bytes.items)
+  pub within : IfOk result (λ bytes. length bytes.items ≤ cap)
   pub ending : IfOk result
       (λ bytes. (file.ending ≡ Ended) ⊎ ((file.ending ≡ GoesOn) × (length bytes.items ≡ cap)))
   pub fault : IfErr result
@@ -151,7 +191,11 @@ pub record EndsMaking (makes : Option (List ℕ)) (plan : Plan Outcome) (old new
   pub prefix : status ≡ WriteFault → GainsPrefix (outcome_of reached).text old.out new.out
   pub out_of_memory : status ≡ OutOfMemory → Gains [] old.out new.out
   pub steps : is_decided status ≡ true → new.steps ≡ old.steps + (outcome_of reached).transitions
+  -- the file of the outcome was made whole, or a prefix of it where it couldn't be written, and
+  -- after every other end all files are as before
   pub made : is_decided status ≡ true → Makes (outcome_of reached).made old.desk new.desk
+  pub broken : status ≡ WriteFault → MakesPart (outcome_of reached).made old.desk new.desk
+  pub unmade : (status ≡ ReadFault) ⊎ (status ≡ OutOfMemory) → KeepsFiles old.desk new.desk
   -- each fault has its cause
   pub read_fault : status ≡ ReadFault →
       CannotRead old.desk new.desk (λ files. (settled (found plan files)).status ≡ ReadFault)
@@ -173,6 +217,8 @@ pub record EndsAsTold (expected : Outcome) (old new : Outside) (status : Status)
   pub prefix : status ≡ WriteFault → GainsPrefix expected.text old.out new.out
   pub steps : is_decided status ≡ true → new.steps ≡ old.steps + expected.transitions
   pub made : is_decided status ≡ true → Makes expected.made old.desk new.desk
+  pub broken : status ≡ WriteFault →
+      KeepsFiles old.desk new.desk ⊎ MakesPart expected.made old.desk new.desk
 
 -- A line was put to a sink, or a prefix of it where the sink failed.
 pub record PutsLine (line : List ℕ) (old new : SinkView) : Type 0 where

@@ -4,6 +4,7 @@ use Rattle.acl_report.specs.Tables.{family_word}
 use Rattle.command_plan.specs.declared.status.Status.{Status}
 use Rattle.command_plan.specs.declared.status.Status.TheVariants.{Done, Usage, RulesRefused}
 use Rattle.command_plan.specs.declared.status.Status.TheVariants.{TooLarge, CaptureRefused}
+use Rattle.command_plan.specs.declared.status.Status.TheVariants.{ImageRefused}
 use Rattle.command_plan.specs.declared.status.Status.TheVariants.{ReadFault, WriteFault}
 use Rattle.command_plan.specs.declared.status.Status.TheVariants.{OutOfMemory}
 use Rattle.command_words.specs.declared.fault.UsageKind.{UsageKind}
@@ -24,6 +25,8 @@ use Rattle.pcap_reader.specs.declared.fault.CaptureFault.TheVariants.{LinkType, 
 use Rattle.pcap_reader.specs.declared.fault.CaptureFault.TheVariants.{RecordTooLong, TooManyRecords}
 use Rattle.pcap_reader.specs.declared.fault.CaptureFault.TheVariants.{ReadFault as CannotRead}
 use Rattle.pcap_reader.specs.Capture.{max_records}
+use Rattle.table_image.specs.declared.fault.ImageKind.{ImageKind}
+use Rattle.table_image.specs.declared.fault.ImageKind.TheVariants as kind
 
 -- what is told of a usage fault
 abbrev pub usage_text : UsageKind → List ℕ
@@ -74,6 +77,18 @@ record_of_fault (RecordTooLong number) = number
 record_of_fault TooManyRecords = max_records + 1
 record_of_fault CannotRead = 0
 
+-- what is told of a saved image of tables
+abbrev pub image_text : ImageKind → List ℕ
+image_text kind.Magic = codes "magic"
+image_text kind.Version = codes "version"
+image_text kind.Family = codes "family"
+image_text kind.Length = codes "length"
+image_text kind.TooMany = codes "too many"
+image_text kind.Unsound = codes "unsound"
+image_text kind.RowForm = codes "row form"
+image_text kind.Trailing = codes "trailing"
+image_text kind.KeptGroups = codes "kept groups"
+
 -- what stands after the program's name: a subject, a number and a kind
 abbrev pub numbered : List ℕ → ℕ → List ℕ → List ℕ
 numbered subject number kind =
@@ -93,6 +108,8 @@ message (RulesRefused fault) = numbered (codes "rules: line ") fault.line (line_
 message (TooLarge family words budget) = too_large_text (family_word family) words budget
 message (CaptureRefused fault) =
     numbered (codes "capture: record ") (record_of_fault fault) (capture_text fault)
+message (ImageRefused fault) =
+    numbered (codes "image: byte ") fault.place (image_text fault.kind)
 message ReadFault = codes "aclc: read fault" ++ 10 ∷ []
 message WriteFault = codes "aclc: write fault" ++ 10 ∷ []
 message OutOfMemory = codes "aclc: out of memory" ++ 10 ∷ []
@@ -104,6 +121,7 @@ code_of (Usage fault) = 2
 code_of (RulesRefused fault) = 3
 code_of (TooLarge family words budget) = 4
 code_of (CaptureRefused fault) = 5
+code_of (ImageRefused fault) = 6
 code_of ReadFault = 7
 code_of WriteFault = 8
 code_of OutOfMemory = 9

@@ -3,10 +3,11 @@
 use Rattle.std.specs.Prelude.{◌≡◌, [], ◌∷◌, codes, refl, map}
 use Rattle.std.specs.Fmt.{digits}
 use Rattle.field_defs.specs.declared.field.Family.TheVariants.{Ip4, Ip6}
+use Rattle.table_image.specs.declared.fault.ImageKind.TheVariants as kind
 use Rattle.command_plan.specs.declared.status.Status.TheVariants.{Done, Usage, RulesRefused}
 use Rattle.command_plan.specs.declared.status.Status.TheVariants.{TooLarge, CaptureRefused}
 use Rattle.command_plan.specs.declared.status.Status.TheVariants.{ReadFault, WriteFault}
-use Rattle.command_plan.specs.declared.status.Status.TheVariants.{OutOfMemory}
+use Rattle.command_plan.specs.declared.status.Status.TheVariants.{OutOfMemory, ImageRefused}
 use Rattle.command_words.specs.declared.fault.UsageKind.TheVariants.{MissingCommand, UnknownCommand}
 use Rattle.command_words.specs.declared.fault.UsageKind.TheVariants.{MissingName, UnknownOption}
 use Rattle.command_words.specs.declared.fault.UsageKind.TheVariants.{RepeatedOption, BadValue}
@@ -22,6 +23,7 @@ use Rattle.pcap_reader.specs.declared.fault.CaptureFault.TheVariants.{LinkType, 
 use Rattle.pcap_reader.specs.declared.fault.CaptureFault.TheVariants.{RecordTooLong, TooManyRecords}
 use Rattle.command_words.specs.Command.{fault_at}
 use Rattle.command_plan.specs.Message.{message, usage_text, line_text, capture_text, code_of}
+use Rattle.command_plan.specs.Message.{image_text}
 
 done : message Done ≡ []
 done = refl
@@ -95,6 +97,18 @@ capture_kinds : map capture_text (
     ∷ codes "too long" ∷ codes "too many" ∷ []
 capture_kinds = refl
 
+image_kinds : map image_text (
+    kind.Magic ∷ kind.Version ∷ kind.Family ∷ kind.Length ∷ kind.TooMany ∷ kind.Unsound
+    ∷ kind.RowForm ∷ kind.Trailing ∷ kind.KeptGroups ∷ [])
+    ≡ codes "magic" ∷ codes "version" ∷ codes "family" ∷ codes "length" ∷ codes "too many"
+    ∷ codes "unsound" ∷ codes "row form" ∷ codes "trailing" ∷ codes "kept groups" ∷ []
+image_kinds = refl
+
+trailing_byte : message (ImageRefused (record { place = 192; kind = kind.Trailing }))
+    ≡ codes "aclc: image: byte 192: trailing\n"
+unfolding digits
+trailing_byte = refl
+
 long_record : message (CaptureRefused (RecordTooLong 7))
     ≡ codes "aclc: capture: record 7: too long\n"
 unfolding digits
@@ -104,5 +118,6 @@ long_record = refl
 all_codes : map code_of (
     Done ∷ Usage (fault_at 1 UnknownCommand) ∷ RulesRefused (record { line = 1; kind = BadStart })
     ∷ TooLarge Ip4 16 15 ∷ CaptureRefused Magic
-    ∷ ReadFault ∷ WriteFault ∷ OutOfMemory ∷ []) ≡ 0 ∷ 2 ∷ 3 ∷ 4 ∷ 5 ∷ 7 ∷ 8 ∷ 9 ∷ []
+    ∷ ImageRefused (record { place = 0; kind = kind.Length }) ∷ ReadFault ∷ WriteFault ∷ OutOfMemory
+    ∷ []) ≡ 0 ∷ 2 ∷ 3 ∷ 4 ∷ 5 ∷ 6 ∷ 7 ∷ 8 ∷ 9 ∷ []
 all_codes = refl

@@ -1,9 +1,9 @@
 -- A command as a plan: what it asks for, and what it does with what it is given.
-use Rattle.std.specs.Prelude.{ℕ, List, [], Option, None, Result, Ok, Err}
+use Rattle.std.specs.Prelude.{ℕ, List, [], Option, Some, None, Result, Ok, Err}
 use Rattle.std.specs.Option.{option_map_or}
 use Rattle.acl_outside.specs.Desk.{File, bytes_of}
 use Rattle.command_plan.specs.declared.status.Status.{Status}
-use Rattle.command_plan.specs.declared.status.Status.TheVariants.{ReadFault}
+use Rattle.command_plan.specs.declared.status.Status.TheVariants.{Done, ReadFault}
 
 -- a status, the text that is printed, how many transitions the tables take, and the file that is
 -- made, if one is
@@ -17,6 +17,15 @@ pub record Outcome : Type 0 where
 abbrev pub printed : Status → List ℕ → ℕ → Outcome
 printed status text transitions =
     record { status = status; text = text; transitions = transitions; made = None }
+
+-- the named file is made of the bytes, and nothing printed
+abbrev pub making : List ℕ → List ℕ → Outcome
+making name bytes = record {
+  status = Done;
+  text = [];
+  transitions = 0;
+  made = Some (record { name = name; bytes = bytes });
+}
 
 -- a status with nothing printed, no transition and no file made
 abbrev pub silent : Status → Outcome

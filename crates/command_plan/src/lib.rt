@@ -9,12 +9,15 @@
 //! | `status` | how a command ended |
 //! | `message` | the line that tells it |
 //! | `input` | the bytes of a file that a command reads |
+//! | `output` | the file that a command makes |
 #![tactic(auto)]
 
 mod input;
 mod message;
+mod output;
 mod status;
 
 pub use input::read_file;
 pub use message::message_line;
+pub use output::make_file;
 pub use status::Status;

@@ -4,7 +4,8 @@ ghost use Rattle.std.specs.Prelude.{◌≡◌, ◌≤◌, ◌+◌, ◌++◌, [],
 ghost use Rattle.acl_report.specs.declared.line.TheConstants.{LINE_ROOM};
 ghost use Rattle.acl_report.specs.Tables.{family_word};
 ghost use Rattle.command_plan.specs.Message.{message, numbered, too_large_text, usage_text};
-ghost use Rattle.command_plan.specs.Message.{line_text, capture_text, record_of_fault};
+ghost use Rattle.command_plan.specs.Message.{line_text, capture_text, image_text};
+ghost use Rattle.command_plan.specs.Message.{record_of_fault};
 
 use crate::status::Status;
 use acl_report::{LINE_ROOM, append, append_number};
@@ -12,6 +13,7 @@ use classbench_reader::LineKind;
 use command_words::UsageKind;
 use field_defs::Family;
 use pcap_reader::CaptureFault;
+use table_image::ImageKind;
 
 /// Writes the line of a status to the front of `into`, and gives its length with the LF that ends
 /// it. `Done` has no line.
@@ -49,6 +51,9 @@ pub fn message_line(status: &Status, into: &mut [u8; LINE_ROOM]) -> usize
                 capture_kind(*fault),
                 into,
             )
+        }
+        Status::ImageRefused(fault) => {
+            numbered_line(b"image: byte ", fault.place, image_kind(fault.kind), into)
         }
         Status::ReadFault => append(into, 0, b"aclc: read fault\n"),
         Status::WriteFault => append(into, 0, b"aclc: write fault\n"),
@@ -144,6 +149,23 @@ fn capture_kind(fault: CaptureFault) -> &'static [u8]
         CaptureFault::RecordTooLong(_) => b"too long",
         CaptureFault::TooManyRecords => b"too many",
         CaptureFault::ReadFault => b"read fault",
+    }
+}
+
+fn image_kind(kind: ImageKind) -> &'static [u8]
+    ensures text { result.now ≡ image_text kind }
+    ensures short { length result.now ≤ 40 }
+{
+    match kind {
+        ImageKind::Magic => b"magic",
+        ImageKind::Version => b"version",
+        ImageKind::Family => b"family",
+        ImageKind::Length => b"length",
+        ImageKind::TooMany => b"too many",
+        ImageKind::Unsound => b"unsound",
+        ImageKind::RowForm => b"row form",
+        ImageKind::Trailing => b"trailing",
+        ImageKind::KeptGroups => b"kept groups",
     }
 }
 

@@ -8,11 +8,12 @@ use command_words::UsageFault;
 use field_defs::Family;
 use pcap_reader::CaptureFault;
 use std::alloc::AllocError;
+use table_image::ImageFault;
 
 /// How a command ended. Each status has an exit code of its own.
 #[derive(Clone, Copy, Debug, PartialEq, Eq)]
 pub enum Status {
-    /// All was printed.
+    /// All was printed, or the file was made.
     Done,
     /// The words of the command line aren't a command.
     Usage(UsageFault),
@@ -26,11 +27,13 @@ pub enum Status {
     },
     /// The capture isn't one. The lines of the records before the fault were printed.
     CaptureRefused(CaptureFault),
+    /// The image isn't one. Nothing was printed.
+    ImageRefused(ImageFault),
     /// A file can't be read, or isn't there. The lines of the records that were read were printed.
     ReadFault,
-    /// The output can't be written. A first part of it was.
+    /// The output can't be written, or the file can't be made. A first part of it was.
     WriteFault,
-    /// There isn't enough memory. Nothing was printed.
+    /// There isn't enough memory. Nothing was printed, and no file made.
     OutOfMemory,
 }
 
@@ -56,6 +59,7 @@ impl Status {
             Status::RulesRefused(_) => 3,
             Status::TooLarge { .. } => 4,
             Status::CaptureRefused(_) => 5,
+            Status::ImageRefused(_) => 6,
             Status::ReadFault => 7,
             Status::WriteFault => 8,
             Status::OutOfMemory => 9,

@@ -9,21 +9,28 @@ use Rattle.command_words.specs.declared.fault.UsageKind.TheVariants.{MissingComm
 use Rattle.command_words.specs.declared.fault.UsageKind.TheVariants.{MissingName}
 use Rattle.command_words.specs.BenchWords.{BenchNumbers, numbers_of}
 use Rattle.command_words.specs.Options.{Options, Given, none_given, settled_options, with_option}
-use Rattle.command_words.specs.Options.{for_classify}
+use Rattle.command_words.specs.Options.{for_classify, for_build, for_replay}
 use Rattle.command_words.specs.declared.allowed.Allowed.{Allowed}
 
--- a command: `classify` has the names of a rule file and of a capture, and `bench` has numbers
+-- a command: `classify` has the names of a rule file and of a capture, `build` those of a rule file
+-- and of the image that it makes, `replay` those of an image and of a capture, and `bench` has
+-- numbers
 pub data Request : Type 0 where
   Classify : (rules : List ℕ) → (capture : List ℕ) → (options : Options) → Request
+  Build : (rules : List ℕ) → (image : List ℕ) → (max_words : ℕ) → Request
+  Replay : (image : List ℕ) → (capture : List ℕ) → (options : Options) → Request
   Bench : (numbers : BenchNumbers) → Request
 
 -- the name of the capture that a command prints a report of, if it prints one
 abbrev pub capture_name : Request → Option (List ℕ)
 capture_name (Classify rules capture options) = Some capture
+capture_name (Build rules image max_words) = None
+capture_name (Replay image capture options) = Some capture
 capture_name (Bench numbers) = None
 
 -- the name of the file that a command makes, if it makes one
 abbrev pub made_name : Request → Option (List ℕ)
+made_name (Build rules image max_words) = Some image
 made_name request = None
 
 -- a fault of the word with this number
@@ -43,27 +50,46 @@ options_from allowed number given (word ∷ words) =
     option_then number (with_option allowed given word)
     (λ next. options_from allowed (number + 1) next words)
 
--- a command of these names, with its options
-abbrev pub classify_with : List ℕ → List ℕ → Result Options UsageFault → Result Request UsageFault
-classify_with rules capture (Ok options) = Ok (Classify rules capture options)
-classify_with rules capture (Err fault) = Err fault
+-- the names of two files, and the options after them
+pub record Named : Type 0 where
+  pub first : List ℕ
+  pub second : List ℕ
+  pub options : Options
 
--- the words after `classify`: the names of a rule file and of a capture, and then options
-abbrev pub classify_of : List (List ℕ) → Result Request UsageFault
-classify_of [] = Err (fault_at 2 MissingName)
-classify_of (rules ∷ []) = Err (fault_at 3 MissingName)
-classify_of (rules ∷ capture ∷ words) =
-    classify_with rules capture (options_from for_classify 4 none_given words)
+-- two names with options
+abbrev pub named_with : List ℕ → List ℕ → Result Options UsageFault → Result Named UsageFault
+named_with first second (Ok options) =
+    Ok (record { first = first; second = second; options = options })
+named_with first second (Err fault) = Err fault
 
--- a command of these numbers
-abbrev pub bench_with : Result BenchNumbers UsageFault → Result Request UsageFault
-bench_with (Ok numbers) = Ok (Bench numbers)
-bench_with (Err fault) = Err fault
+-- the words after a command of two files: their names, and then options, of which it allows these
+abbrev pub named_of : Allowed → List (List ℕ) → Result Named UsageFault
+named_of allowed [] = Err (fault_at 2 MissingName)
+named_of allowed (first ∷ []) = Err (fault_at 3 MissingName)
+named_of allowed (first ∷ second ∷ words) =
+    named_with first second (options_from allowed 4 none_given words)
+
+-- what each command of two files asks for
+abbrev pub classify_by : Named → Request
+classify_by named = Classify named.first named.second named.options
+
+abbrev pub build_by : Named → Request
+build_by named = Build named.first named.second named.options.max_words
+
+abbrev pub replay_by : Named → Request
+replay_by named = Replay named.first named.second named.options
+
+-- what is asked for by what was read of the words after a command
+abbrev pub asked_by : {A : Type 0} → (A → Request) → Result A UsageFault → Result Request UsageFault
+asked_by ask (Ok read) = Ok (ask read)
+asked_by ask (Err fault) = Err fault
 
 -- the command of the words, or their first fault: the table of the commands, one after the other
 abbrev pub command : List (List ℕ) → Result Request UsageFault
 command [] = Err (fault_at 1 MissingCommand)
 command (verb ∷ words) =
-    if bytes_eq verb (codes "classify") then classify_of words
-    else if bytes_eq verb (codes "bench") then bench_with (numbers_of words)
+    if bytes_eq verb (codes "classify") then asked_by classify_by (named_of for_classify words)
+    else if bytes_eq verb (codes "build") then asked_by build_by (named_of for_build words)
+    else if bytes_eq verb (codes "replay") then asked_by replay_by (named_of for_replay words)
+    else if bytes_eq verb (codes "bench") then asked_by Bench (numbers_of words)
     else Err (fault_at 1 UnknownCommand)

@@ -4,10 +4,10 @@ use Rattle.std.specs.Prelude.{replicate, codes, refl}
 use Rattle.command_words.specs.declared.fault.UsageKind.TheVariants.{MissingCommand, UnknownCommand}
 use Rattle.command_words.specs.declared.fault.UsageKind.TheVariants.{MissingName, UnknownOption}
 use Rattle.command_words.specs.declared.fault.UsageKind.TheVariants.{RepeatedOption, BadValue}
-use Rattle.command_words.specs.declared.allowed.Allowed.{Allowed}
 use Rattle.command_words.specs.Options.{Options, none_given, settled_options, number_in, budget_in}
 use Rattle.command_words.specs.Options.{with_option}
-use Rattle.command_words.specs.Command.{Classify, command, fault_at, options_from}
+use Rattle.command_words.specs.Options.{for_build}
+use Rattle.command_words.specs.Command.{Build, Classify, Replay, command, fault_at, options_from}
 
 -- `classify r c` with these words after it
 abbrev classify_with : List (List ℕ) → List (List ℕ)
@@ -94,27 +94,44 @@ two_faults : command (classify_with (codes "categories=x" ∷ codes "categories=
     ≡ Err (fault_at 4 BadValue)
 two_faults = refl
 
--- a command that allows `max-words=` alone
-abbrev budget_only : Allowed
-budget_only = record { categories = false; max_words = true; stats = false; marks = false }
+-- `build r i` and `replay i c` with these words after them
+abbrev build_with : List (List ℕ) → List (List ℕ)
+build_with options = codes "build" ∷ codes "r" ∷ codes "i" ∷ options
 
-the_allowed_option : options_from budget_only 4 none_given (codes "max-words=15" ∷ [])
-    ≡ Ok (record usual { max_words = 15 })
-the_allowed_option = refl
+abbrev replay_with : List (List ℕ) → List (List ℕ)
+replay_with options = codes "replay" ∷ codes "i" ∷ codes "c" ∷ options
 
--- to such a command every other option is unknown, whatever its value
-the_others : map (with_option budget_only none_given)
+an_image : map command (build_with [] ∷ build_with (codes "max-words=15" ∷ []) ∷ [])
+    ≡ Ok (Build (codes "r") (codes "i") 2097152) ∷ Ok (Build (codes "r") (codes "i") 15) ∷ []
+an_image = refl
+
+no_image : map command
+    ((codes "build" ∷ []) ∷ (codes "build" ∷ codes "r" ∷ []) ∷ (codes "replay" ∷ []) ∷ [])
+    ≡ Err (fault_at 2 MissingName) ∷ Err (fault_at 3 MissingName) ∷ Err (fault_at 2 MissingName)
+    ∷ []
+no_image = refl
+
+a_replay : command (replay_with (codes "marks=on" ∷ codes "categories=8" ∷ codes "stats=on" ∷ []))
+    ≡ Ok (Replay (codes "i") (codes "c")
+    (record usual { categories = 8; stats = true; marks = true }))
+a_replay = refl
+
+-- to `build` every option but `max-words=` is unknown, whatever its value, and to `replay` that one
+the_others : map (with_option for_build none_given)
     (codes "categories=4" ∷ codes "stats=on" ∷ codes "marks=x" ∷ codes "depth=1" ∷ [])
     ≡ Err UnknownOption ∷ Err UnknownOption ∷ Err UnknownOption ∷ Err UnknownOption ∷ []
 the_others = refl
 
+a_budget : command (replay_with (codes "max-words=15" ∷ [])) ≡ Err (fault_at 4 UnknownOption)
+a_budget = refl
+
 -- unknown comes before repeated, and repeated before a bad value
-another_after_it : options_from budget_only 4 none_given
+another_after_it : options_from for_build 4 none_given
     (codes "max-words=15" ∷ codes "stats=on" ∷ codes "max-words=0" ∷ [])
     ≡ Err (fault_at 5 UnknownOption)
 another_after_it = refl
 
-it_again : options_from budget_only 4 none_given (codes "max-words=15" ∷ codes "max-words=0" ∷ [])
+it_again : command (build_with (codes "max-words=15" ∷ codes "max-words=0" ∷ []))
     ≡ Err (fault_at 5 RepeatedOption)
 it_again = refl
 

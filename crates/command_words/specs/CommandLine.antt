@@ -9,7 +9,8 @@ use Rattle.command_words.specs.declared.bench_numbers.BenchNumbers as numbers
 use Rattle.command_words.specs.declared.budget.Budget.{Budget}
 use Rattle.command_words.specs.Options.{Options, Given}
 use Rattle.command_words.specs.BenchWords.{BenchNumbers}
-use Rattle.command_words.specs.Command.{Request, Bench, Classify}
+use Rattle.command_words.specs.declared.command_line.TwoNames.{TwoNames}
+use Rattle.command_words.specs.Command.{Request, Bench, Build, Classify, Named, Replay}
 
 -- the options of a command
 abbrev pub options_of : chosen.Options → Options
@@ -28,7 +29,18 @@ numbers_in asked = record { seed = asked.seed; rules = asked.rules; packets = as
 abbrev pub request_of : asked.Request → Request
 request_of (variants.Classify rules capture options) =
     Classify rules.now capture.now (options_of options)
+request_of (variants.Build rules image max_words) = Build rules.now image.now max_words.words
+request_of (variants.Replay image capture options) =
+    Replay image.now capture.now (options_of options)
 request_of (variants.Bench numbers) = Bench (numbers_in numbers)
+
+-- the names of two files, and the options after them
+abbrev pub named_in : TwoNames → Named
+named_in names = record {
+  first = names.first.now;
+  second = names.second.now;
+  options = options_of names.options;
+}
 
 -- the number of categories, if it was given
 abbrev pub count_of : Option Categories → Option ℕ

@@ -119,6 +119,14 @@ marks_option = codes "marks="
 abbrev pub for_classify : Allowed
 for_classify = record { categories = true; max_words = true; stats = true; marks = true }
 
+-- the option of `build`
+abbrev pub for_build : Allowed
+for_build = record { categories = false; max_words = true; stats = false; marks = false }
+
+-- the options of `replay`, whose tables are made already
+abbrev pub for_replay : Allowed
+for_replay = record { categories = true; max_words = false; stats = true; marks = true }
+
 -- the options with one word more: the table of the options, one after the other, of which a command
 -- allows some; any other is unknown to it
 abbrev pub with_option : Allowed → Given → List ℕ → Result Given UsageKind

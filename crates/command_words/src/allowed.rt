@@ -1,7 +1,7 @@
 //! Which options a command allows.
 
 ghost use Rattle.std.specs.Prelude.{◌≡◌};
-ghost use Rattle.command_words.specs.Options.{for_classify};
+ghost use Rattle.command_words.specs.Options.{for_build, for_classify, for_replay};
 
 /// The options that a command allows. Any other is unknown to it.
 #[derive(Clone, Copy, Debug)]
@@ -20,6 +20,30 @@ impl Allowed {
         Allowed {
             categories: true,
             max_words: true,
+            stats: true,
+            marks: true,
+        }
+    }
+
+    /// The option of `build`: how many words a table may have.
+    pub fn for_build() -> Allowed
+        ensures { result ≡ for_build }
+    {
+        Allowed {
+            categories: false,
+            max_words: true,
+            stats: false,
+            marks: false,
+        }
+    }
+
+    /// The options of `replay`: what is printed, of tables that are made already.
+    pub fn for_replay() -> Allowed
+        ensures { result ≡ for_replay }
+    {
+        Allowed {
+            categories: true,
+            max_words: false,
             stats: true,
             marks: true,
         }

@@ -2,7 +2,7 @@
 //!
 //! | module | what it reads |
 //! |---|---|
-//! | `command_line` | a command and its names |
+//! | `command_line` | a command, and the names of its files |
 //! | `allowed` | which options a command allows |
 //! | `options`, `budget` | the options that are given, and how many words a table may have |
 //! | `bench_words`, `bench_numbers` | the words after `bench`: a seed, and how much it gives |

@@ -33,7 +33,7 @@ use Rattle.flat_table.specs.Table.{TableView}
 use Rattle.flat_table.specs.Walk.{moved, walk_row, bytes_of, joined, userdatas}
 use Rattle.table_fill.specs.Filled.{match_of, matches_of, succ_word, nodes_len, rule_word, table_of_tries}
 use Rattle.table_fill.specs.Filled.{rows_of_tries, roots_of, words_of_tries, filled}
-use Rattle.table_fill.specs.Tries.{IsTrie, AreLevels, HasNodes, row_count}
+use Rattle.table_fill.specs.Tries.{IsTrie, AreLevels, HasNodes, HasWinners, row_count}
 use Rattle.list_lemmas.proofs.Folds.{greatest_attained, greatest_above, greatest_least}
 use Rattle.list_lemmas.proofs.Maps.{map_by_place}
 use Rattle.list_lemmas.proofs.Sums.{sum_by-map}
@@ -43,6 +43,7 @@ use Rattle.table_fill.specs.Laws.{CanBeFilled, FilledTablesDecide}
 use Rattle.table_fill.proofs.Kept.{places_are}
 use Rattle.table_fill.proofs.KeyLen.{whole_keys}
 use Rattle.table_fill.proofs.Merged.{trie_is}
+use Rattle.table_fill.proofs.Ranked.{small_userdata, ranked_rows}
 use Rattle.table_fill.proofs.Sounds.{CanStand, length-roots}
 use Rattle.table_fill.proofs.Walks.{StandsIn, no_trie, trie_stands, from_root, walk_to, word_or_none, answered}
 use Rattle.flat_table.specs.Groups as table
@@ -73,14 +74,6 @@ module _ (set : RuleSetView) (key : List ℕ) (some : 0 < key_len_of set.layout)
       set.rules group)
 
 -- ---- the winner's word is the greatest
-
--- userdata is below its bound
-small_userdata : (rules : List RuleView) (place : ℕ) →
-    AllByRecursion (λ (rule : RuleView). rule.tag.userdata < userdatas) rules →
-    userdata_at rules (Some place) < userdatas
-small_userdata [] place all = omega arith
-small_userdata (rule ∷ rules) zero all = all.0
-small_userdata (rule ∷ rules) (suc place) all = small_userdata rules place all.1
 
 some_is : (o : Option ℕ) (rules : List RuleView) (m : ℕ) → 0 < m → rank_or_none rules o ≡ m → (place : ℕ)
     × (o ≡ Some place) × (rank_of rules place ≡ m)
@@ -304,7 +297,7 @@ module _ (set : RuleSetView) (groups : List (List ℕ)) (can : CanBeFilled set g
   none_of (Some place) = (λ zero_word. absurd (omega (arith, zero_word)), λ none. absurd (cc))
 
   pub decide : Serves set (filled set groups)
-  unfolding filled table_of_tries
+  unfolding filled table_of_tries rows_of_tries
   decide = record {
     key_len = refl;
     verdicts = λ key category bytes long within.
@@ -313,6 +306,12 @@ module _ (set : RuleSetView) (groups : List (List ℕ)) (can : CanBeFilled set g
     none = λ key category bytes long within.
         subst (λ word. (word ≡ 0 ↔ winner set.layout set.rules key category ≡ None))
         (sym (joined_is key category bytes long within)) (none_of (winner set.layout set.rules key category));
+    rules = refl;
+    ranked = ranked_rows set.rules
+        (recursion_from_All (λ (rule : RuleView). rule.tag.userdata < userdatas) set.rules can.userdata)
+        (map (levels_of set) groups)
+        (all_weaker (IsTrie set) (HasWinners (length set.rules)) (map (levels_of set) groups)
+        (λ trie is. is.winners) tries_are);
   }
 
 pub filled_tables_decide : FilledTablesDecide

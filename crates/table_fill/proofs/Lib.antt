@@ -8,6 +8,7 @@ pub mod Kept
 pub mod KeyLen
 pub mod Merged
 pub mod Walks
+pub mod Ranked
 pub mod Deciding
 pub mod Written
 pub mod Room

@@ -1,3 +1,4 @@
+pub mod Offered
 pub mod Fields
 pub mod Lists
 pub mod NumbersRead

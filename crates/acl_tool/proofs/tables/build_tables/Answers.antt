@@ -8,8 +8,8 @@ use Rattle.acl_tool.proofs.tables.build_tables.Goals as goal
 
 pub returns-clause-built : goal.returns-clause-built
 returns-clause-built c =
-    let ip4 = c.hold-ip4.ensures ∙ set-is c.args.rules.ip4 ip4_fields c.requires.ip4 in
-    let ip6 = c.hold-ip6.ensures ∙ set-is c.args.rules.ip6 ip6_fields c.requires.ip6 in
+    let ip4 = c.hold-ip4.ensures.set ∙ set-is c.args.rules.ip4 ip4_fields c.requires.ip4 in
+    let ip6 = c.hold-ip6.ensures.set ∙ set-is c.args.rules.ip6 ip6_fields c.requires.ip6 in
     IsBuilt-both c.args.budget (lists_of c.args.rules) c.build.new.context.table c.build-2.new.context.table
     (subst (λ (set : RuleSetView). BuildsTable set c.args.budget c.build.new.context.table) ip4
     c.in_ok-build.ensures.ok)

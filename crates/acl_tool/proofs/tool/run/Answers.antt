@@ -4,6 +4,7 @@ use Rattle.command_plan.proofs.Offered.{Ends-complete}
 use Rattle.acl_tool.proofs.Benching.{bench_walks}
 use Rattle.acl_tool.proofs.Printing.{classify_prints, classify_walks}
 use Rattle.acl_tool.proofs.Sizing.{classify_sizes}
+use Rattle.acl_tool.proofs.Imaging.{build_makes, replay_prints}
 use Rattle.acl_tool.proofs.tool.run.Goals as goal
 
 pub returns : goal.returns
@@ -15,6 +16,8 @@ returns g c =
       walks = classify_walks words _ _ c.answer-status.result answers;
       bench_walks = bench_walks words _ _ c.answer-status.result answers;
       sizes = classify_sizes words _ _ c.answer-status.result answers;
+      builds = build_makes words _ _ c.answer-status.result answers;
+      replays = replay_prints words _ _ c.answer-status.result answers;
       answers = answers;
       complete = Ends-complete _ _ _ c.answer-status.result answers.ends;
       message = c.put_message.ensures;

@@ -1,0 +1,33 @@
+use Rattle.std.proofs.Common.{List, ℕ, ◌≤◌, length, subst, sym}
+use Rattle.command_plan.specs.Effects.{Parses}
+use Rattle.command_plan.proofs.Offered.{Takes-read, Takes-unread}
+use Rattle.acl_tool.specs.ReplayPlan.{image_cap, tables_of_bytes}
+use Rattle.acl_tool.specs.Loaded.{tables_of}
+use Rattle.acl_tool.proofs.Replaying.{tables_of_bytes-more}
+use Rattle.acl_tool.proofs.replay.read_image.Goals as goal
+
+pub load_image-requires : goal.load_image-requires
+load_image-requires g c =
+    subst (λ (bytes : List ℕ). length bytes ≤ image_cap) (sym c.deref.ensures.value) c.in-Ok.ensures.within
+
+pub returns-in-Ok-clause-taken : goal.returns-in-Ok-clause-taken
+returns-in-Ok-clause-taken g c =
+    let view = g.D.Desk.view in
+    let loads = c.load_image.ensures in
+    let parses : Parses tables_of_bytes tables_of c.deref.result.now c.load_image.result = record {
+      value = loads.tables;
+      fault = loads.fault;
+      unread = loads.unread;
+      unreported = loads.unreported;
+      lawful = loads.lawful;
+    } in
+    Takes-read c.args.name.now _ tables_of_bytes tables_of (view c.args.desk.now) (view c.read_file.new.desk)
+    c.in-Ok.bytes c.load_image.result c.in-Ok.ensures tables_of_bytes-more
+    (subst (λ (bytes : List ℕ). Parses tables_of_bytes tables_of bytes c.load_image.result) c.deref.ensures.value
+    parses)
+
+pub returns-in-Err-clause-taken : goal.returns-in-Err-clause-taken
+returns-in-Err-clause-taken g c =
+    let view = g.D.Desk.view in
+    Takes-unread c.args.name.now _ _ tables_of (view c.args.desk.now) (view c.read_file.new.desk) c.in-Err.status
+    c.in-Err.ensures

@@ -1,0 +1,14 @@
+-- Images of the tables of rules.
+use Rattle.std.specs.Prelude.{ℕ}
+use Rattle.table_image.specs.declared.version.Version.TheVariants.{Two}
+use Rattle.table_image.specs.Spelling.{IsImage}
+use Rattle.classbench_reader.specs.RuleFile.{RuleLists}
+use Rattle.acl_tool.specs.Built.{TablesServe, tables_built}
+use Rattle.acl_tool.specs.BuildPlan.{image_bytes, pair_of}
+
+-- The bytes that spell the tables of the rules are their image, and the tables answer as the rules
+-- do.
+pub record IsImageOfRules (lists : RuleLists) (budget : ℕ) : Type 0 where
+  pub image : IsImage Two (image_bytes (tables_built lists budget))
+      (pair_of (tables_built lists budget))
+  pub serve : TablesServe lists budget
