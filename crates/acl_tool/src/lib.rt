@@ -16,16 +16,12 @@
 #![tactic(auto)]
 
 mod bench;
-#[cfg(test)]
-mod bench_tests;
 mod build;
 mod classify;
 pub mod laws;
 mod replay;
 mod rule_file;
 mod tables;
-#[cfg(test)]
-mod tests;
 mod tool;
 
 pub use capture_report::{PrintOptions, print_packets};

@@ -1,7 +1,7 @@
 //! Whole commands over files in memory: sizes of tables, transitions, budgets and marks.
 
-use crate::tests::{ANY, FAULTLESS, GUIDE, HEADER, IP4_FRAME, add_record, expect};
-use crate::{Family, Status};
+use crate::commands::{ANY, FAULTLESS, GUIDE, HEADER, IP4_FRAME, add_record, expect};
+use acl_tool::{Family, Status};
 use std::alloc::{AllocError, Global};
 use std::test::Fail;
 

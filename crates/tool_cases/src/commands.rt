@@ -5,8 +5,8 @@ ghost use Rattle.std.specs.Prelude.{◌≡◌, ◌<◌};
 mod images;
 mod tables;
 
-use crate::{CaptureFault, LineFault, LineKind, Status, UsageFault, UsageKind, run};
 use acl_outside::{MemDesk, MemFile, MemSink};
+use acl_tool::{CaptureFault, LineFault, LineKind, Status, UsageFault, UsageKind, run};
 use flat_table::Steps;
 use std::alloc::{AllocError, Global};
 use std::marker::Brand;

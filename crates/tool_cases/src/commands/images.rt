@@ -1,8 +1,8 @@
 //! Whole commands over files in memory: images that are made, replayed and refused.
 
-use crate::tests::{ANY, GUIDE, HEADER, add_udp, file, guide_capture, run_counted, to_port};
-use crate::{ImageFault, ImageKind, Status};
+use crate::commands::{ANY, GUIDE, HEADER, add_udp, file, guide_capture, run_counted, to_port};
 use acl_outside::{MemDesk, MemSink};
+use acl_tool::{Family, ImageFault, ImageKind, Status};
 use std::alloc::{AllocError, Global};
 use std::marker::Brand;
 use std::process::Abort;
@@ -111,7 +111,7 @@ fn an_image_is_made_whole_or_a_prefix_of_it(rt: HostRuntime) -> Result<(), Fail>
     }
     // No file is created for rules that are too large.
     let large = Status::TooLarge {
-        family: crate::Family::Ip4,
+        family: Family::Ip4,
         words: 33,
         budget: 32,
     };

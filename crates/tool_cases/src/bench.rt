@@ -1,9 +1,9 @@
 //! `bench` as a whole command. The hits and the sum of 64 rules were counted by a program of their
 //! own, which reads a workload's words as PCG's C library prints them.
 
-use crate::tests::{FAULTLESS, expect, run_counted};
-use crate::{Status, UsageFault, UsageKind};
+use crate::commands::{FAULTLESS, expect, run_counted};
 use acl_outside::{MemDesk, MemSink};
+use acl_tool::{Status, UsageFault, UsageKind};
 use std::alloc::AllocError;
 use std::marker::Brand;
 use std::process::Abort;
