@@ -32,6 +32,7 @@ fn any_image(alloc: Global) -> Result<Vec<u8>, AllocError> {
 
 /// What came of a command: its status, what it printed, the bytes of the file `i` afterwards, and
 /// the count of write faults.
+#[derive(Drop)]
 struct Ran {
     status: Status,
     out: Vec<u8>,
