@@ -1,14 +1,15 @@
 -- The bytes that agree with a bitmask lie between the value and the value with all other bits set.
 use Rattle.std.proofs.Common.{◌≡◌, ℕ, ◌-◌, ◌<◌, ◌≤◌, Bool, true, false, cond, Some, None, IsSome, refl, sym, ◌∙◌, ap}
-use Rattle.std.proofs.Common.{arith}
+use Rattle.std.proofs.Common.{◌&&◌, ◌%◌, eqb, inl, inr, arith}
 use Rattle.std.specs.Prelude.{bit_and, bit_or}
 use Rattle.std.specs.Int.Bits.{and_self, and_zero_r, or_add_and}
-use Rattle.std.proofs.lemmas.Nat.{and_le_l, and_comm, and_assoc, and-not, and_or_apart, le_or_l}
-use Rattle.std.proofs.lemmas.Bool.{eq-eqb, eqb-true}
+use Rattle.std.proofs.lemmas.Nat.{and_mask, and_le_l, and_comm, and_assoc, and-not, and_or_apart, le_or_l}
+use Rattle.std.proofs.lemmas.Bool.{eq-eqb, ne_eqb, eqb-true, cases_order}
 use Rattle.node_expand.specs.declared.edge.Edge.TheVariants.{Free}
-use Rattle.node_expand.specs.declared.allowed.Allowed.TheVariants.{Agreeing}
+use Rattle.node_expand.specs.declared.allowed.Allowed.TheVariants.{Between, Agreeing}
 use Rattle.node_expand.specs.Allowed.{answer_of}
-use Rattle.node_expand.specs.Edges.{AreEnds}
+use Rattle.node_expand.specs.Edges.{AreEnds, AnswersAlike, edge_with}
+use Rattle.node_expand.proofs.Changes.{answer_below, answer_above, answer_within}
 
 -- where an answer is, its test holds
 test_of : (test : Bool) → IsSome (cond test (Some Free) None) → test ≡ true
@@ -55,3 +56,36 @@ module _ (value mask : ℕ) (value_fits : value < 256) (mask_fits : mask < 256)
     ordered = le_or_l value (255 - mask);
     none_outside = λ byte below some. between_ends byte below (eqb-true (bit_and byte mask) value (test_of _ some));
   }
+
+-- where the mask has all bits a byte agrees where it is the value
+pub whole_mask : (value byte : ℕ) → byte < 256
+    → answer_of (Between value value false false) byte ≡ answer_of (Agreeing value 255) byte
+unfolding answer_of
+whole_mask value byte below =
+    let small : byte % 256 ≡ byte = omega (arith, below) in
+    let same : bit_and byte 255 ≡ byte = and_mask byte 8 ∙ small in
+    elim (cases_order byte value) [
+      | inl is ↦
+          answer_within value value false false byte (omega (arith, is)) (omega (arith, is))
+          ∙ sym (ap (λ t. cond t (Some Free) None) (ap (λ n. eqb n value) same ∙ eq-eqb byte value is)
+          ∙ ap (λ t. Some (edge_with (t && false) (t && false))) (sym (eq-eqb byte value is)))
+      | inr other ↦ elim other [
+        | inl before ↦
+            answer_below value value false false byte before
+            ∙ sym (ap (λ t. cond t (Some Free) None)
+            (ap (λ n. eqb n value) same ∙ ne_eqb byte value (λ e. omega (arith, e, before))))
+        | inr after ↦
+            answer_above value value false false byte after
+            ∙ sym (ap (λ t. cond t (Some Free) None)
+            (ap (λ n. eqb n value) same ∙ ne_eqb byte value (λ e. omega (arith, e, after))))
+      ]
+    ]
+
+-- and where it has none all bytes agree, or none does
+pub no_mask : (value byte : ℕ) → byte < 256 → AnswersAlike (answer_of (Agreeing value 0)) byte 255
+unfolding answer_of
+no_mask value byte below = record {
+  ordered = omega (arith, below);
+  alike = λ other above at_most. ap (λ n. cond (eqb n value) (Some Free) None) (and_zero_r other ∙ sym (and_zero_r byte));
+  change = λ more. absurd (omega (arith, more));
+}

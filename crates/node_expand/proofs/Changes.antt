@@ -102,15 +102,15 @@ unchanged_after answer first last byte ends below later = no_change answer byte
 
 -- what the bytes between two ends answer
 module _ (low high : ℕ) (low_inner high_inner : Bool) where
-  answer_below : (byte : ℕ) → byte < low → answer_of (Between low high low_inner high_inner) byte ≡ None
+  pub answer_below : (byte : ℕ) → byte < low → answer_of (Between low high low_inner high_inner) byte ≡ None
   unfolding answer_of
   answer_below byte below = rw (lt-leb low byte below) refl
 
-  answer_above : (byte : ℕ) → high < byte → answer_of (Between low high low_inner high_inner) byte ≡ None
+  pub answer_above : (byte : ℕ) → high < byte → answer_of (Between low high low_inner high_inner) byte ≡ None
   unfolding answer_of
   answer_above byte above = cond-false _ _ _ (and_right _ _ (lt-leb byte high above))
 
-  answer_within : (byte : ℕ) → low ≤ byte → byte ≤ high →
+  pub answer_within : (byte : ℕ) → low ≤ byte → byte ≤ high →
       answer_of (Between low high low_inner high_inner) byte
       ≡ Some (edge_with (eqb byte low && low_inner) (eqb byte high && high_inner))
   unfolding answer_of

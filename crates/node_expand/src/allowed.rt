@@ -139,9 +139,7 @@ impl Allowed {
                 low_inner,
                 high_inner,
             } => last_between(low, high, low_inner, high_inner, byte),
-            Allowed::Agreeing { value, mask } => {
-                last_agreeing(value.into(), mask.into(), byte.into())
-            }
+            Allowed::Agreeing { value, mask } => last_masked(value, mask, byte),
         }
     }
 
@@ -267,6 +265,21 @@ fn turns(value: usize, mask: usize, byte: usize) -> bool
     ensures { result ≡ is_change (answer_of (Allowed.Agreeing value mask)) byte }
 {
     (byte & mask == value) != ((byte - 1) & mask == value)
+}
+
+/// The last byte up to which the bytes agree with the masked value as the byte does. Where the mask
+/// has all bits or none, that is told without going through the bytes.
+#[inline]
+fn last_masked(value: u8, mask: u8, byte: u8) -> u8
+    ensures { AnswersAlike (answer_of (Allowed.Agreeing value mask)) byte result }
+{
+    if mask == u8::MAX {
+        return last_between(value, value, false, false, byte);
+    }
+    if mask == 0 {
+        return u8::MAX;
+    }
+    last_agreeing(value.into(), mask.into(), byte.into())
 }
 
 /// The last byte up to which all bytes from the first on agree, or none does.

@@ -106,6 +106,7 @@ impl Column {
     }
 
     /// The value of the entry's rule.
+    #[inline]
     fn value(&self, entry: u32) -> &FieldValue
         requires { number_in entry < length self.now.values }
         ensures { result.now ≡ value_in self.now entry }
@@ -114,6 +115,7 @@ impl Column {
     }
 
     /// The edge of the entry before the place.
+    #[inline]
     fn edge_before(&self, entry: u32) -> Edge
         requires { CanStep self.now entry }
         ensures { result ≡ edge_before self.now entry }
@@ -127,6 +129,7 @@ impl Column {
 
     /// The entry after the byte, or none where its rule has no rest.
     #[tactic(auto, unfolding(crate::specs::Entry::entry_step))]
+    #[inline]
     pub(crate) fn step(&self, entry: u32, byte: u8) -> Option<u32>
         requires { CanStep self.now entry }
         ensures { result ≡ entry_step self.now entry byte }
@@ -150,6 +153,7 @@ impl Column {
 
     /// The last byte up to which the entry becomes what it becomes after the byte: the one before
     /// the next cut, or 255.
+    #[inline]
     pub(crate) fn last_alike(&self, entry: u32, byte: u8) -> u8
         requires { CanStep self.now entry }
         ensures { StepsAlike self.now entry byte result }

@@ -4,6 +4,4 @@ pub returns-in-Between : goal.returns-in-Between
 returns-in-Between c = rw c.in-Between.is c.last_between.ensures
 
 pub returns-in-Agreeing : goal.returns-in-Agreeing
-returns-in-Agreeing c =
-    rw (c.in-Agreeing.is, ← c.into.ensures, ← c.into-in-Agreeing.ensures, ← c.into-in-Agreeing-2.ensures)
-    c.last_agreeing.ensures
+returns-in-Agreeing c = rw c.in-Agreeing.is c.last_masked.ensures
