@@ -1,5 +1,5 @@
 -- The words of nodes, by the numbers of their runs.
-use Rattle.std.specs.Prelude.{ℕ, ◌*◌, List, [], ◌∷◌, map, ◌≡◌, refl}
+use Rattle.std.specs.Prelude.{◌*◌, [], ◌∷◌, map, ◌≡◌, refl}
 use Rattle.table_sizes.specs.Sizes.{cost_of, max_words, row_len}
 
 -- one run, the fewest and the most runs of a quad-range node, and those of a full one
