@@ -1,0 +1,16 @@
+pub mod Clear
+pub mod Ends
+pub mod Enough
+pub mod Flying
+pub mod Given
+pub mod Join
+pub mod Kept
+pub mod Lent
+pub mod Load
+pub mod Offered
+pub mod OnWay
+pub mod RanBy
+pub mod Runs
+pub mod Slots
+pub mod Stepped
+pub mod Verdicts

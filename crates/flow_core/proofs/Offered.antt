@@ -1,0 +1,39 @@
+-- What proofs of other crates may cite.
+
+-- ---- the jobs of a batch
+
+-- there are as many as pairs of a key and a trie
+pub use Rattle.flow_core.proofs.Given.{jobs_len}
+-- the job of a number
+pub use Rattle.flow_core.proofs.Given.{job_got}
+-- ---- a flight that may go on
+
+-- its key and its trie are there
+pub use Rattle.flow_core.proofs.OnWay.{key_of_flight, trie_of_flight}
+-- the place and the byte that it reads, and the word that it takes
+pub use Rattle.flow_core.proofs.OnWay.{place_in_key, byte_there, byte_is, product_fits, word_onward, leads_onward}
+-- what leads into a level of a trie leads into one that it has
+pub use Rattle.flow_core.proofs.Flying.{level_there}
+-- ---- a step of a machine that is lent
+
+pub use Rattle.flow_core.proofs.Lent.{IsLent, word_step, word_others, word_stands, job_taken, job_stands, none_left}
+-- a flight that a slot holds may go on
+pub use Rattle.flow_core.proofs.Stepped.{flight_on_way}
+-- ---- a run
+
+-- one slot more
+pub use Rattle.flow_core.proofs.RanBy.{run_more}
+-- what holds of every state holds of the first one, and is kept by a step and by a run
+pub use Rattle.flow_core.proofs.Runs.{first_flown, flown_step, flown_run}
+-- a step leaves as many slots as there were
+pub use Rattle.flow_core.proofs.Runs.{same_width}
+-- what the next word is of a flight in its walk
+pub use Rattle.flow_core.proofs.Flying.{Takes, takes}
+-- ---- rows and verdicts
+
+-- rows that are made zero are as many as before
+pub use Rattle.flow_core.proofs.Clear.{cleared_len}
+-- the verdicts of joined rows are those of the table
+pub use Rattle.flow_core.proofs.Verdicts.{verdicts_of_rows}
+-- the verdicts of one row more
+pub use Rattle.flow_core.proofs.Verdicts.{row_written}

@@ -1,0 +1,79 @@
+-- What slots hold when one of them changes, and which jobs are ended then.
+use Rattle.std.proofs.Common.{◌≡◌, ℕ, zero, suc, ◌<◌, ◌≤◌, List, [], ◌∷◌, refl, ap, ◌∙◌}
+use Rattle.std.proofs.Common.{arith, length, map, get_or, set, fold, true, false, Bool, ◌||◌, inl, inr}
+use Rattle.std.proofs.Common.{filter, cond}
+use Rattle.std.specs.Prelude.{Contains, max, All}
+use Rattle.std.specs.List.{list_any}
+use Rattle.std.proofs.lemmas.Bool.{cases_Bool}
+use Rattle.std.proofs.lemmas.List.Elements.{All-head, All-tail}
+use Rattle.flat_table.specs.Walk.{greatest}
+
+-- where an element is changed to one that passes alike, as many pass
+pub any-set_alike : {X : Type 0} (p : X → Bool) (xs : List X) (i : ℕ) (x d : X) → i < length xs →
+    p x ≡ p (get_or xs i d) → list_any p (set xs i x) ≡ list_any p xs
+any-set_alike p [] i x d within same = refl
+any-set_alike p (y ∷ xs) zero x d within same = ap (λ (b : Bool). b || list_any p xs) same
+any-set_alike p (y ∷ xs) (suc i) x d within same =
+    ap (λ (b : Bool). p y || b) (any-set_alike p xs i x d (omega arith) same)
+
+-- two tests that agree at each element of a list keep the same elements of it
+pub filter_where : {X : Type 0} (p q : X → Bool) (xs : List X) → All (λ x. p x ≡ q x) xs → filter p xs ≡ filter q xs
+filter_where p q [] all = refl
+filter_where p q (x ∷ xs) all =
+    let rest = filter_where p q xs (All-tail (λ y. p y ≡ q y) x xs all) in
+    λ i. cond (All-head (λ y. p y ≡ q y) x xs all i) (x ∷ rest i) (rest i)
+
+-- ---- the greatest
+
+from_start : (a : ℕ) (xs : List ℕ) → fold max a xs ≡ max a (fold max 0 xs)
+from_start a [] = omega arith
+from_start a (x ∷ xs) = omega (arith, from_start (max a x) xs, from_start (max 0 x) xs)
+
+pub greatest_cons : (x : ℕ) (xs : List ℕ) → greatest (x ∷ xs) ≡ max x (greatest xs)
+greatest_cons x xs = omega (arith, from_start (max 0 x) xs)
+
+module _ {X : Type 0} (same : X → Bool) (w : X → ℕ) (p q : X → Bool) (x : X) where
+  -- where two tests agree but at one element, the greatest that pass are the same beside it
+  beside : ((y : X) → same y ≡ true → y ≡ x) → ((y : X) → same y ≡ false → q y ≡ p y) → (xs : List X) →
+      max (w x) (greatest (map w (filter q xs))) ≡ max (w x) (greatest (map w (filter p xs)))
+  beside is agree [] = refl
+  beside is agree (y ∷ xs) =
+      let rest = beside is agree xs in
+      let first_q = greatest_cons (w y) (map w (filter q xs)) in
+      let first_p = greatest_cons (w y) (map w (filter p xs)) in
+      elim (cases_Bool (same y)) [
+        | inl one ↦
+            let word : w y ≡ w x = ap w (is y one) in
+            elim (cases_Bool (q y)) [
+              | inl a ↦ elim (cases_Bool (p y)) [
+                | inl b ↦ rw (a, b) (omega (arith, rest, first_q, first_p, word))
+                | inr b ↦ rw (a, b) (omega (arith, rest, first_q, word))
+              ]
+              | inr a ↦ elim (cases_Bool (p y)) [
+                | inl b ↦ rw (a, b) (omega (arith, rest, first_p, word))
+                | inr b ↦ rw (a, b) rest
+              ]
+            ]
+        | inr other ↦ elim (cases_Bool (p y)) [
+          | inl b ↦ rw (agree y other ∙ b, b) (omega (arith, rest, first_q, first_p))
+          | inr b ↦ rw (agree y other ∙ b, b) rest
+        ]
+      ]
+
+  reaches : (xs : List X) (k : ℕ) → k < length xs → get_or xs k x ≡ x → q x ≡ true →
+      w x ≤ greatest (map w (filter q xs))
+  reaches [] k within is passes = absurd (omega arith)
+  reaches (y ∷ xs) zero within is passes =
+      rw (ap q is ∙ passes) (omega (arith, greatest_cons (w y) (map w (filter q xs)), ap w is))
+  reaches (y ∷ xs) (suc k) within is passes = elim (cases_Bool (q y)) [
+    | inl a ↦ rw a
+        (omega (arith, greatest_cons (w y) (map w (filter q xs)), reaches xs k (omega arith) is passes))
+    | inr a ↦ rw a (reaches xs k (omega arith) is passes)
+  ]
+
+  -- one element more passes
+  pub one_more_passes : ((y : X) → same y ≡ true → y ≡ x) → ((y : X) → same y ≡ false → q y ≡ p y) → q x ≡ true →
+      (xs : List X) → Contains xs x →
+      greatest (map w (filter q xs)) ≡ max (greatest (map w (filter p xs))) (w x)
+  one_more_passes is agree passes xs (k, within, at) =
+      omega (arith, beside is agree xs, reaches xs k within at passes)
