@@ -75,7 +75,7 @@ pub record IsNextLine (bytes : List ℕ) (file : RuleFile) (number ordinal : ℕ
   pub shorter : length rest < length left
 
 -- there are no more rules than there may be
-within_limit : (ordinal : ℕ) (line : List ℕ) (says : RuleLine) → counted_line_of ordinal line ≡ Ok says
+pub within_limit : (ordinal : ℕ) (line : List ℕ) (says : RuleLine) → counted_line_of ordinal line ≡ Ok says
     → ordinal ≤ max_rules
 within_limit ordinal line says read =
     elim (cases_Bool (nat_lt max_rules ordinal)) [
@@ -201,7 +201,8 @@ rule_file-all bytes file number ordinal left short read none =
       rules = rw (le-ltb max_rule_file (length bytes) short, said, read.ip4, read.ip6) refl;
     }
 
-length-rules_of_family : (kept : Family) (lines : List RuleLine) → length (rules_of_family kept lines) ≤ length lines
+pub length-rules_of_family : (kept : Family) (lines : List RuleLine)
+    → length (rules_of_family kept lines) ≤ length lines
 length-rules_of_family kept [] = omega arith
 length-rules_of_family kept (line ∷ lines) =
     elim (cases_Bool (same_family (family_of_line line) kept)) [

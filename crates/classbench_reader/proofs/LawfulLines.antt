@@ -62,7 +62,7 @@ ip6_of_family (Ip4 number) same = absurd (cc)
 ip6_of_family (Ip6 number) same = record { number = number; is = refl }
 
 -- two families that are one
-one_family : (one other : Family) → same_family one other ≡ true → one ≡ other
+pub one_family : (one other : Family) → same_family one other ≡ true → one ≡ other
 one_family family.Ip4 family.Ip4 same = refl
 one_family family.Ip4 family.Ip6 same = absurd (cc)
 one_family family.Ip6 family.Ip4 same = absurd (cc)

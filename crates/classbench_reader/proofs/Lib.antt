@@ -1,3 +1,4 @@
+pub mod Offered
 pub mod AttributeWords
 pub mod LawfulLines
 pub mod FileLines
@@ -7,3 +8,6 @@ pub mod PrintedFiles
 pub mod PrintedRules
 pub mod JoinedParts
 mod SplitParts
+mod NetworkBounds
+mod LineBounds
+mod AcceptedFiles

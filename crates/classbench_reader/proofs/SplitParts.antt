@@ -34,7 +34,7 @@ use Rattle.classbench_reader.proofs.PrintedLines.{made, with_attributes, with_wo
 use Rattle.classbench_reader.proofs.PrintedLines.{with_ports, with_destination, with_another, with_source, with_text}
 
 -- what was read first, and what was read of it
-bound : {A B K : Type 0} (read : Result A K) (next : A → Result B K) (b : B) → (read >>= next) ≡ Ok b →
+pub bound : {A B K : Type 0} (read : Result A K) (next : A → Result B K) (b : B) → (read >>= next) ≡ Ok b →
     (a : A) × (read ≡ Ok a) × (next a ≡ Ok b)
 bound (Ok a) next b is = (a, refl, is)
 bound (Err kind) next b is = absurd (cc)

@@ -12,3 +12,4 @@ pub mod Files
 pub mod Print
 pub mod PrintExamples
 pub mod Joined
+pub mod Accepted

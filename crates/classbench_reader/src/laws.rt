@@ -3,6 +3,7 @@
 
 ghost use Rattle.std.specs.Prelude.{◌≡◌, [], ◌∷◌, ◌++◌, Ok};
 ghost use Rattle.text_scan.specs.Parts.{line_feed};
+ghost use Rattle.classbench_reader.specs.Accepted.{AcceptedRulesAreLawful};
 ghost use Rattle.classbench_reader.specs.Joined.{JoinedPartsAreRead, ReadLinesAreJoinedParts};
 ghost use Rattle.classbench_reader.specs.Lawful.{IsLawfulLine};
 ghost use Rattle.classbench_reader.specs.Line.{family_of_line, rule_line_of, rule_of};
@@ -35,4 +36,10 @@ pub fn joined_parts_are_read()
 /// nothing else is read, and nothing in a line is passed over.
 pub fn read_lines_are_joined_parts()
     ensures { ReadLinesAreJoinedParts }
+{}
+
+/// The rules of an accepted file are lawful: those of each family are a rule set of its layout, and
+/// each userdata is a number of 32 bits.
+pub fn accepted_rules_are_lawful()
+    ensures { AcceptedRulesAreLawful }
 {}
