@@ -2,7 +2,6 @@
 
 ghost use Rattle.std.specs.Prelude.{◌≡◌, ℕ, ◌+◌, ◌*◌, ◌<◌, ◌≤◌, length, drop, None};
 ghost use Rattle.std.specs.List.{list_all};
-ghost use Rattle.flat_table.specs.Groups.{longest_key};
 ghost use Rattle.flat_table.specs.Word.{index_of, is_match};
 ghost use Rattle.flat_table.specs.Batch.{keys_in, most_keys};
 ghost use Rattle.flow_core.specs.Rows.{cleared};
@@ -54,12 +53,36 @@ fn word_after(table: &Table, keys: &[u8], flight: Flight) -> u64
     requires on_way { (given : ℕ) × IsOnWay table.now keys.now given flight }
     ensures value { result ≡ word_of table.now keys.now flight }
     ensures onward { LeadsOnward table.now flight result }
-    ensures short { flight.depth < longest_key }
 {
     stay_in(table);
     let place = usize::from(table.places(flight.trie)[flight.depth]);
     let byte = keys[flight.key * table.key_len() + place];
     table.words()[next_place(flight.word, byte)]
+}
+
+/// What the slot of the flight holds after the flight took this word: the flight at the word, or
+/// nothing after a match. After a match the row that it names is joined into that of the flight's
+/// key.
+///
+/// The scratch has a row for the key. It refuses nothing and takes no memory.
+#[inline]
+pub fn arrive(table: &Table, scratch: &mut Scratch, flight: Flight, word: u64) -> Option<Flight>
+    requires onward { LeadsOnward table.now flight word }
+    requires key { flight.key < length scratch.old }
+    ensures held { result ≡ held_after flight word }
+    ensures rows { scratch.new ≡ rows_after table.now flight word scratch.old }
+{
+    stay_in(table);
+    if is_match(word) {
+        scratch.join(flight.key, table.row(index_of(word)));
+        return None;
+    }
+    Some(Flight {
+        key: flight.key,
+        trie: flight.trie,
+        depth: flight.depth + 1,
+        word,
+    })
 }
 
 /// What the slot of the flight holds after the flight's next word. A row is joined after a match.
@@ -73,16 +96,7 @@ fn take_word(table: &Table, keys: &[u8], scratch: &mut Scratch, flight: Flight) 
     ensures onward { LeadsOnward table.now flight (word_of table.now keys.now flight) }
 {
     let word = word_after(table, keys, flight);
-    if is_match(word) {
-        scratch.join(flight.key, table.row(index_of(word)));
-        return None;
-    }
-    Some(Flight {
-        key: flight.key,
-        trie: flight.trie,
-        depth: flight.depth + 1,
-        word,
-    })
+    arrive(table, scratch, flight, word)
 }
 
 /// Whether the slot holds no flight.
@@ -93,7 +107,7 @@ fn is_empty(slot: &Option<Flight>) -> bool
 }
 
 /// Whether every slot is empty.
-fn are_empty(slots: &[Option<Flight>]) -> bool
+pub fn are_empty(slots: &[Option<Flight>]) -> bool
     ensures { result ≡ list_all is_empty slots.now }
 {
     slots.iter().all(|slot| is_empty(slot))

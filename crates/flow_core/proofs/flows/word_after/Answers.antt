@@ -52,11 +52,3 @@ returns-clause-onward c =
     (λ i. slice_index (sym c.words.ensures i) (sym c.next_place.ensures i))
     (leads_onward c.requires.on_way.1 c.stay_in.ensures.stay c.stay_in.ensures.sound
     (next_place c.args.flight.word byte) l)
-
-pub returns-clause-short : goal.returns-clause-short
-returns-clause-short c = omega (
-  arith,
-  c.requires.on_way.1.depth,
-  ap (λ (xs : List ℕ). length xs) c.places.ensures.places,
-  c.places.ensures.bound,
-)
