@@ -1,34 +1,35 @@
 -- An image prints what the rules print of which it was made.
-use Rattle.std.proofs.Common.{◌≡◌, ℕ, ◌≤◌, List, Bool, Option, Some, Result, Ok, Err, All, refl, sym, ap, ◌∙◌, map}
+use Rattle.std.proofs.Common.{◌≡◌, ℕ, ◌≤◌, List, Bool, Option, Some, Result, Ok, Err, sym, ap, ◌∙◌}
 use Rattle.std.specs.Option.{option_map_or}
 use Rattle.field_defs.specs.declared.field.Family.TheVariants.{Ip4, Ip6}
 use Rattle.rule_set.specs.declared.categories.Categories.{Categories}
-use Rattle.rule_split.specs.Split.{total_of}
+use Rattle.table_sizes.specs.Sizes.{max_words}
+use Rattle.table_fill.specs.Laws.{FilledTablesDecide}
 use Rattle.acl_outside.specs.Desk.{File, bytes_of}
+use Rattle.classbench_reader.specs.Accepted.{AcceptedRulesAreLawful}
 use Rattle.classbench_reader.specs.declared.fault.LineFault.{LineFault}
 use Rattle.classbench_reader.specs.RuleFile.{RuleLists, rule_file_of}
-use Rattle.table_image.specs.Spelling.{PairView}
 use Rattle.table_image.proofs.Offered.{image_spelled}
 use Rattle.command_words.specs.Options.{Options}
 use Rattle.command_plan.specs.declared.status.Status.{Status}
 use Rattle.command_plan.specs.declared.status.Status.TheVariants.{ReadFault, RulesRefused}
 use Rattle.command_plan.specs.Plan.{◌>>=◌, Plan, Give, found, settled, unless_refused}
 use Rattle.capture_report.specs.declared.form.PrintOptions.{PrintOptions}
-use Rattle.capture_report.specs.Classifier.{AnswersAs, ByRules, ByTables, Tables}
+use Rattle.capture_report.specs.Classifier.{ByRules, ByTables, Tables}
 use Rattle.capture_report.specs.ReportForm.{ReportForm}
 use Rattle.capture_report.specs.CaptureOutcome.{report, reported}
 use Rattle.capture_report.proofs.Offered.{categories_few, report_alike}
-use Rattle.acl_tool.specs.FamilySet.{set_of}
 use Rattle.acl_tool.specs.RuleTables.{refused_rules, tables_within}
-use Rattle.acl_tool.specs.Built.{TablesServe, tables_built}
+use Rattle.acl_tool.specs.Built.{tables_built}
 use Rattle.acl_tool.specs.BuildPlan.{pair_of}
 use Rattle.acl_tool.specs.ClassifyPlan.{classify_plan, form_of}
 use Rattle.acl_tool.specs.ReplayPlan.{refused_image, replay_plan, tables_of_bytes}
-use Rattle.acl_tool.specs.Laws.{IsSavedOf, ReplayAgrees}
+use Rattle.acl_tool.specs.Laws.{ReplayAgrees}
 use Rattle.acl_tool.proofs.Longest.{image_within}
 use Rattle.acl_tool.proofs.Making.{serving_tables, within_both}
 use Rattle.acl_tool.proofs.PacketBytes.{packets_of_bytes}
 use Rattle.acl_tool.proofs.ReadOn.{after_bytes, after_rules}
+use Rattle.acl_tool.proofs.Served.{tables_serve}
 use Rattle.acl_tool.proofs.Replaying.{report_by, tables_of_whole}
 
 -- the report of a capture that is there
@@ -63,10 +64,12 @@ replay_found files i c image capture options tables at_i at_c loaded =
     ∙ ap (λ (result : Result Tables Status). found (unless_refused result >>= report_by options c) files) loaded
     ∙ report_found (form_of (ByTables tables) tables options) files c capture at_c
 
-pub agrees : (rules image capture : List ℕ) (budget : ℕ) (cats : Categories) (stats marks : Bool) →
+pub agrees : FilledTablesDecide → AcceptedRulesAreLawful → (rules image capture : List ℕ) (budget : ℕ)
+    (cats : Categories) (stats marks : Bool) → budget ≤ max_words →
     ReplayAgrees rules image capture
     (record { categories = cats.count; max_words = budget; stats = stats; marks = marks })
-agrees rules image capture budget cats stats marks saved bytes files r i c at_r at_i at_c =
+agrees decide lawful rules image capture budget cats stats marks within saved bytes files r i c at_r at_i at_c =
+    let serve = tables_serve decide lawful rules saved.lists budget saved.accepted saved.fits within in
     let options : Options =
     record { categories = cats.count; max_words = budget; stats = stats; marks = marks } in
     let printed : PrintOptions = record { cats = cats; stats = stats; marks = marks } in
@@ -74,7 +77,7 @@ agrees rules image capture budget cats stats marks saved bytes files r i c at_r 
     let loaded : tables_of_bytes image ≡ Ok tables =
     tables_of_whole image (image_within saved.version image (pair_of tables) saved.image)
     ∙ ap refused_image (image_spelled saved.version image (pair_of tables) saved.image) in
-    let same = report_alike (ByRules saved.lists) tables printed (serving_tables saved.lists budget saved.serve)
+    let same = report_alike (ByRules saved.lists) tables printed (serving_tables saved.lists budget serve)
     (categories_few cats.count cats.lawful) capture (packets_of_bytes capture bytes) in
     ap settled (replay_found files i c image capture options tables at_i at_c loaded)
     ∙ sym same

@@ -6,6 +6,7 @@ mod Building
 mod Replaying
 mod Longest
 mod PacketBytes
+mod Served
 mod Agreeing
 mod Benching
 mod GivenOptions

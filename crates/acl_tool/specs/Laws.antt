@@ -9,19 +9,17 @@ use Rattle.classbench_reader.specs.RuleFile.{RuleLists, rule_file_of}
 use Rattle.command_words.specs.Options.{Options}
 use Rattle.command_plan.specs.Plan.{found, settled}
 use Rattle.acl_tool.specs.FamilySet.{set_of}
-use Rattle.acl_tool.specs.Built.{TablesServe, tables_built}
+use Rattle.acl_tool.specs.Built.{tables_built}
 use Rattle.acl_tool.specs.BuildPlan.{pair_of}
 use Rattle.acl_tool.specs.ClassifyPlan.{classify_plan}
 use Rattle.acl_tool.specs.ReplayPlan.{replay_plan}
 
--- The rule file is accepted, the tables of both families fit the budget and answer as the rules do,
--- and the other bytes are the image of these tables. Of every `build` that ends with Done this is
--- promised.
+-- The rule file is accepted, the tables of both families fit the budget, and the other bytes are the
+-- image of these tables. Of every `build` that ends with Done this is promised.
 pub record IsSavedOf (rules bytes : List ℕ) (budget : ℕ) : Type 0 where
   pub lists : RuleLists
   pub accepted : rule_file_of rules ≡ Ok lists
   pub fits : (family : Family) → total_of (set_of family lists) budget ≤ budget
-  pub serve : TablesServe lists budget
   pub version : Version
   pub image : IsImage version bytes (pair_of (tables_built lists budget))
 

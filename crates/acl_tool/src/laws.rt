@@ -1,4 +1,5 @@
-//! The law of saved tables, over the definitions alone. It runs no code, and takes no memory.
+//! The law of saved tables, over the definitions alone. Its function does nothing when it is
+//! run, and takes no memory.
 
 ghost use Rattle.std.specs.Prelude.{◌<◌, ◌≤◌};
 ghost use Rattle.table_sizes.specs.Sizes.{max_words};
@@ -26,4 +27,7 @@ pub fn replay_agrees(
       stats = stats;
       marks = marks;
     }) }
-{}
+{
+    classbench_reader::laws::accepted_rules_are_lawful();
+    table_fill::laws::filled_tables_decide();
+}
