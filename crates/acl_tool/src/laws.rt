@@ -1,10 +1,5 @@
-<<<<<<< HEAD
-//! The law of saved tables, over the definitions alone. It does nothing when it is run, and takes no
-//! memory.
-=======
 //! The law of saved tables, over the definitions alone. Its function does nothing when it is
 //! run, and takes no memory.
->>>>>>> a2dbbc734a769fc9a4431e907c36e12cacbc2134
 
 ghost use Rattle.std.specs.Prelude.{◌<◌, ◌≤◌};
 ghost use Rattle.table_sizes.specs.Sizes.{max_words};
