@@ -1,12 +1,12 @@
 -- A boundary below the byte, as the lanes find it: the word is moved up until the boundary is its highest byte.
-use Rattle.std.proofs.Common.{◌≡◌, ℕ, ◌+◌, ◌*◌, ◌/◌, ◌%◌, ◌<◌, ◌≤◌, ◌^◌, ltb, Bool, true, false, arith, inl, inr, ap, ◌∙◌, sym}
+use Rattle.std.proofs.Common.{◌≡◌, ℕ, ◌+◌, ◌*◌, ◌/◌, ◌%◌, ◌<◌, ◌≤◌, ◌^◌, ltb, Bool, true, false, arith, ◌∙◌}
 use Rattle.std.proofs.Math.Nat.{mod-eq_of_lt}
 use Rattle.std.proofs.lemmas.Nat.{and_mask}
 use Rattle.std.proofs.lemmas.List.Sums.{count_by-le-length}
 use Rattle.std.proofs.lemmas.Bool.Decides.{nat_tests}
 use Rattle.std.specs.Prelude.{nat_lt, count_by, bit_and}
 use Rattle.std.proofs.Common.{eqb, cond}
-use Rattle.flat_table.specs.Word.{boundaries_of, next_place, index_of, kind_of, offset_of}
+use Rattle.flat_table.specs.Word.{boundaries_of, next_place}
 
 pub above_first : (w b : ℕ) → w < 2 ^ 64 → b < 256 →
     ltb (w * 2 ^ 24 % 2 ^ 64) (b * 2 ^ 56 % 2 ^ 64) ≡ nat_lt (w / 2 ^ 32 % 256) b

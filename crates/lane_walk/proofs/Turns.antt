@@ -1,7 +1,7 @@
 -- The lanes of a turn, one after the other.
-use Rattle.std.proofs.Common.{◌≡◌, ◌≢◌, ℕ, ◌+◌, ◌<◌, ◌≤◌, List, [], ◌∷◌, ◌++◌, sym, ap, ◌∙◌, refl, arith, length, take, drop}
-use Rattle.std.proofs.Common.{get_or, subst, true, false, Bool, inl, inr}
-use Rattle.std.specs.Prelude.{None, Some, Option, IfSome, count_by, slice_index}
+use Rattle.std.proofs.Common.{◌≡◌, ◌≢◌, ℕ, ◌+◌, ◌<◌, ◌≤◌, List, [], ◌∷◌, sym, ap, ◌∙◌, refl, arith, length, take, drop}
+use Rattle.std.proofs.Common.{get_or, true, false, inl, inr}
+use Rattle.std.specs.Prelude.{None, Some, Option, count_by, slice_index}
 use Rattle.std.specs.List.{range_with_len}
 use Rattle.std.proofs.lemmas.List.Sums.{fold-append, count_by_more_yes, count_by_more_no}
 use Rattle.list_lemmas.proofs.Positions.{range-push}
@@ -9,7 +9,7 @@ use Rattle.flat_table.specs.Word.{next_place}
 use Rattle.flat_table.specs.Table.{TableView}
 use Rattle.flat_table.specs.Batch.{keys_in}
 use Rattle.flow_core.specs.declared.flight.Flight.{Flight}
-use Rattle.flow_core.specs.Machine.{Machine, FlowState, state_of, flow_step, flow_run, byte_of}
+use Rattle.flow_core.specs.Machine.{Machine, FlowState, state_of, flow_step, flow_run}
 use Rattle.flow_core.specs.Standing.{StandsOver}
 use Rattle.lane_walk.specs.Turn.{is_busy, IsFetched, IsPlaceOf, IsLanes}
 

@@ -2,7 +2,7 @@ use Rattle.std.proofs.Common.{ℕ, List, ap, ◌∙◌, arith, length, subst}
 use Rattle.flow_core.specs.Standing.{held_after, rows_after, LeadsOnward}
 use Rattle.flow_core.proofs.Offered.{IsLent, word_step, word_others, word_stands, job_taken, job_stands, none_left}
 use Rattle.flow_core.proofs.Offered.{key_of_flight}
-use Rattle.lane_walk.proofs.Landing.{Lands, lands, place_there, word_leads, word_is}
+use Rattle.lane_walk.proofs.Landing.{lands, place_there, word_leads, word_is}
 use Rattle.lane_walk.proofs.lanes.LaneFlows.step_lane.Goals as goal
 
 pub bounds-words-place : goal.bounds-words-place

@@ -1,4 +1,4 @@
-use Rattle.std.proofs.Common.{◌≡◌, ℕ, ◌+◌, ◌<◌, List, sym, ap, ◌∙◌, arith, length, get_or, subst}
+use Rattle.std.proofs.Common.{◌≡◌, ◌+◌, ◌<◌, sym, ap, ◌∙◌, arith, length, get_or, subst}
 use Rattle.std.specs.Prelude.{All, IfSome, None, Option}
 use Rattle.flow_core.specs.declared.flight.Flight.{Flight}
 use Rattle.flow_core.specs.Machine.{Machine}
