@@ -1,0 +1,5 @@
+pub mod Above
+pub mod Fetching
+pub mod Landing
+pub mod Turns
+pub mod Vectors

@@ -1,0 +1,19 @@
+//! A table and keys in, the row of each key by a walk of many lanes at once out.
+//!
+//! A machine by lanes is the flow machine of `flow_core`, whose slots are stepped in turns, each
+//! once and in order. Before a turn each busy lane reads its word and its key byte, and the places
+//! of the words that the lanes take are worked out in all lanes at once, by comparisons and choices
+//! of vectors. Then the lanes take their words, or their next jobs.
+//!
+//! - `places`: the places of the next words, by vectors.
+//! - `lanes`: the machine and its turn.
+//!
+//! After DPDK's `lib/acl/acl_run_sse.h` and `acl_run_avx2.h`, which step 4, 8 or 16 flows at once.
+#![tactic(auto)]
+
+mod lanes;
+mod places;
+#[cfg(test)]
+mod tests;
+
+pub use lanes::LaneFlows;
