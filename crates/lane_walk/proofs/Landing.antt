@@ -59,8 +59,8 @@ lands {table = table} {keys = keys} {inside = inside} {rows = rows} {slot = slot
     l busy stay sound bytes is = record {
       given = inside.given;
       on_way = flight_on_way table keys inside rows slot
-          (subst (λ (machine : Machine). StandsOver table keys machine (length rows)) (sym l.is) l.stands) l.within flight
-          busy;
+          (subst (λ (machine : Machine). StandsOver table keys machine (length rows)) (sym l.is) l.stands)
+          l.within flight busy;
       stay = stay;
       sound = sound;
       bytes = bytes;

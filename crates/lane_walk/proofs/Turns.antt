@@ -23,17 +23,6 @@ pub record SteppedTo (table : TableView) (keys : List ℕ) (before : Machine) (o
   pub later : (lane : ℕ) → n ≤ lane → get_or now.slots lane None ≡ get_or before.slots lane None
   pub busy_is : busy ≡ count_by is_busy (take n before.slots)
 
--- no lane was stepped yet
-pub stepped_none : {table : TableView} {keys : List ℕ} {before : Machine} {old : List (List ℕ)} →
-    StandsOver table keys before (length old) → SteppedTo table keys before old 0 before old 0
-stepped_none stands = record {
-  state = refl;
-  stands = stands;
-  others = refl;
-  later = λ lane _. refl;
-  busy_is = refl;
-}
-
 -- what one lane's step did
 pub record StepsLane (table : TableView) (keys : List ℕ) (now next : Machine) (rows new : List (List ℕ)) (lane : ℕ)
     : Type 0 where

@@ -37,7 +37,8 @@ module _ {n i : ℕ} (within : i < n) where
         at = ap (λ (ms : List Bool). get_or (sel_l ms ps qs) i 0) same
             ∙ get_or-sel_l lanes ps qs i 0 (omega (arith, within, count)) (omega (arith, within, p.len))
             (omega (arith, within, q.len))
-            ∙ (λ j. cond (get_or-zip2 t xs ys i 0 0 false (omega (arith, within, v.len)) (omega (arith, within, w.len)) j)
+            ∙ (λ j. cond
+            (get_or-zip2 t xs ys i 0 0 false (omega (arith, within, v.len)) (omega (arith, within, w.len)) j)
             (p.at j) (q.at j))
             ∙ (λ j. cond (t (v.at j) (w.at j)) a b);
       }

@@ -26,8 +26,8 @@ flow_turn table keys width old = flow_run table keys old (range_with_len 0 width
 -- ---- what the lanes read before a turn
 
 -- for each busy slot its word and the key byte that it reads next, in its lane
-pub record IsFetched (table : TableView) (keys : List ℕ) (slots : List (Option Flight)) (words bytes : List ℕ)
-    : Type 0 where
+pub record IsFetched (table : TableView) (keys : List ℕ) (slots : List (Option Flight))
+    (words bytes : List ℕ) : Type 0 where
   pub word : (lane : ℕ) (flight : Flight) → slice_index_or slots lane None ≡ Some flight →
       slice_index words lane ≡ flight.word
   pub byte : (lane : ℕ) (flight : Flight) → slice_index_or slots lane None ≡ Some flight →

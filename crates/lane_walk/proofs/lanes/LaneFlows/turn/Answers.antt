@@ -22,7 +22,8 @@ fetch-fetched-requires g c =
 
 pub next_places-places-requires : goal.next_places-places-requires
 next_places-places-requires g c =
-    let few = lanes_few c.requires.lanes in (omega (arith, few), (few, (c.fetch-fetched.ensures.words, c.fetch-fetched.ensures.bytes)))
+    let few = lanes_few c.requires.lanes in
+    (omega (arith, few), (few, (c.fetch-fetched.ensures.words, c.fetch-fetched.ensures.bytes)))
 
 pub step_lane-requires : goal.step_lane-requires
 step_lane-requires g c =
