@@ -43,7 +43,7 @@ use Rattle.trie_merge.proofs.StateLaws.{whole_keys_are_live_where_they_match, he
 
 -- ---- the run of a byte
 
-same_is : (a b : Succ) → same_succ a b ≡ true → a ≡ b
+pub same_is : (a b : Succ) → same_succ a b ≡ true → a ≡ b
 same_is Dead Dead h = refl
 same_is (State m) (State n) h = ap State (eqb-true m n h)
 same_is (Row m) (Row n) h = ap Row (eqb-true m n h)
@@ -230,7 +230,7 @@ same_state_sound s t = (same_state-Decides s t).0
 -- ---- whole keys
 
 -- the rules of the state after a whole key are those that match
-whole_numbers : (set : RuleSetView) (group key : List ℕ) → length key ≡ key_len_of set.layout
+pub whole_numbers : (set : RuleSetView) (group key : List ℕ) → length key ≡ key_len_of set.layout
     → map (λ (h : Held). h.number) (state set group key) ≡ matching set group key
 unfolding state rule_rest
 whole_numbers set [] key long = refl
