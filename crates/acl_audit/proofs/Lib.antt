@@ -1,0 +1,14 @@
+mod Back
+mod Finding
+mod Fitting
+mod Keys
+mod Leading
+mod Least
+mod Noting
+mod Numbering
+mod Ready
+mod RunLinks
+mod Telling
+mod Through
+mod Tracing
+mod Winning

@@ -1,0 +1,112 @@
+-- What an audit of the merged states of all rules stands on, at each of its calls.
+use Rattle.std.proofs.Common.{◌≡◌, ℕ, ◌-◌, ◌^◌, ◌<◌, ◌≤◌, List, [], length, map, get_or, sym, ◌∙◌, ap, subst, All, Option}
+use Rattle.std.proofs.lemmas.List.FromFn.{length-map-range_with_len}
+use Rattle.std.specs.List.{range_with_len}
+use Rattle.field_defs.specs.Layout.{key_len_of}
+use Rattle.field_defs.specs.Lawful.{IsLayout}
+use Rattle.rule_set.specs.Fault.{categories}
+use Rattle.rule_set.specs.Laws.{TheWinnerIsAmongAllPlaces}
+use Rattle.rule_set.specs.Rule.{RuleSetView}
+use Rattle.rule_set.specs.RuleSet.{IsRuleSet}
+use Rattle.table_sizes.specs.Sizes.{max_words, row_len}
+use Rattle.trie_merge.specs.declared.run.Run.{Run}
+use Rattle.trie_merge.specs.Kept.{kept_places}
+use Rattle.trie_merge.specs.Laws.{IsGrouped}
+use Rattle.trie_merge.specs.Levels.{LevelsView, levels_of}
+use Rattle.acl_audit.specs.declared.links.Link.{Link}
+use Rattle.acl_audit.specs.Audited.{keys_of, HasKeys}
+use Rattle.acl_audit.specs.Firsts.{AreFirsts}
+use Rattle.acl_audit.specs.Least.{all_rules, least_key, least_keys}
+use Rattle.acl_audit.specs.Links.{links_of}
+use Rattle.acl_audit.specs.Traced.{places_of, keys_traced, AreChained}
+use Rattle.acl_audit.proofs.Fitting.{all_are_group, places_are, places_below, few_states, few_rows, rows_long, rows_low}
+use Rattle.acl_audit.proofs.Telling.{chain, levels_long, last_links, told, has_keys}
+
+-- the links of each place, and the kept places, as the code makes them
+abbrev pub all_links : LevelsView → List (List Link)
+all_links levels = map links_of levels.levels
+
+abbrev pub all_places : RuleSetView → LevelsView → List ℕ
+all_places set levels = places_of levels.kept (key_len_of set.layout)
+
+module _ (set : RuleSetView) (levels : LevelsView) (some : 0 < length set.rules) (rules : IsRuleSet set)
+    (layout : IsLayout set.layout) (merged : levels ≡ levels_of set (all_rules set))
+    (among : TheWinnerIsAmongAllPlaces) where
+  grouped : IsGrouped set (all_rules set)
+  grouped = record { rules = rules; layout = layout; group = all_are_group set some }
+
+  pub states_fit : levels.words ≤ max_words
+      → All (λ (states : List (List Run)). length states ≤ 2 ^ 32) levels.levels
+  states_fit within =
+      subst (λ (l : LevelsView). All (λ (states : List (List Run)). length states ≤ 2 ^ 32) l.levels) (sym merged)
+      (few_states set (all_rules set) (subst (λ (l : LevelsView). l.words ≤ max_words) merged within))
+
+  pub rows_few : levels.words ≤ max_words → length levels.rows < 2 ^ 32
+  rows_few within =
+      subst (λ (l : LevelsView). length l.rows < 2 ^ 32) (sym merged)
+      (few_rows set (all_rules set) (subst (λ (l : LevelsView). l.words ≤ max_words) merged within))
+
+  pub rows_fit : All (All (λ entry. entry ≤ length set.rules)) levels.rows
+  rows_fit =
+      subst (λ (l : LevelsView). All (All (λ entry. entry ≤ length set.rules)) l.rows) (sym merged)
+      (rows_low set grouped among)
+
+  pub rows_wide : All (λ row. length row ≡ row_len) levels.rows
+  rows_wide =
+      subst (λ (l : LevelsView). All (λ row. length row ≡ row_len) l.rows) (sym merged) (rows_long set grouped among)
+
+  pub chained_fit : AreChained (all_links levels)
+  chained_fit = subst (λ (l : LevelsView). AreChained (map links_of l.levels)) (sym merged) (chain set grouped among)
+
+  pub last_fit : length levels.rows ≡ length (get_or (all_links levels) (length (all_links levels) - 1) [])
+  last_fit =
+      subst (λ (l : LevelsView). length l.rows
+      ≡ length (get_or (map links_of l.levels) (length (map links_of l.levels) - 1) [])) (sym merged)
+      (last_links set grouped among)
+
+  places_same : all_places set levels ≡ kept_places set (all_rules set)
+  places_same = ap (λ (l : LevelsView). places_of l.kept (key_len_of set.layout)) merged
+      ∙ places_are set (all_rules set)
+
+  pub long_fit : length (all_places set levels) ≡ length (all_links levels)
+  long_fit =
+      ap length places_same ∙ sym (levels_long set grouped among)
+      ∙ ap (λ (l : LevelsView). length (map links_of l.levels)) (sym merged)
+
+  pub places_fit : All (λ place. place < key_len_of set.layout) (all_places set levels)
+  places_fit = subst (All (λ place. place < key_len_of set.layout)) (sym places_same)
+      (places_below set (all_rules set))
+
+  keys_same : keys_traced (all_links levels) (all_places set levels) (key_len_of set.layout) (length levels.rows)
+      ≡ keys_traced (map links_of (levels_of set (all_rules set)).levels) (kept_places set (all_rules set))
+      (key_len_of set.layout) (length (levels_of set (all_rules set)).rows)
+  keys_same =
+      (λ i. keys_traced (map links_of (merged i).levels) (places_same i) (key_len_of set.layout) (length (merged i).rows))
+
+  pub keys_fit : (firsts : List (List ℕ)) → AreFirsts levels.rows (length set.rules) firsts
+      → HasKeys firsts (keys_traced (all_links levels) (all_places set levels) (key_len_of set.layout)
+      (length levels.rows)) (key_len_of set.layout)
+  keys_fit firsts are =
+      subst (λ ks. HasKeys firsts ks (key_len_of set.layout)) (sym keys_same)
+      (has_keys set grouped among firsts
+      (subst (λ (l : LevelsView). AreFirsts l.rows (length set.rules) firsts) merged are))
+
+  pub keys_told : (firsts : List (List ℕ)) → AreFirsts levels.rows (length set.rules) firsts
+      → keys_of firsts (keys_traced (all_links levels) (all_places set levels) (key_len_of set.layout)
+      (length levels.rows)) (key_len_of set.layout) ≡ least_keys set
+  keys_told firsts are =
+      ap (λ ks. keys_of firsts ks (key_len_of set.layout)) keys_same
+      ∙ told set grouped among firsts
+      (subst (λ (l : LevelsView). AreFirsts l.rows (length set.rules) firsts) merged are)
+
+-- where there is no rule there is no key
+pub no_keys : (set : RuleSetView) → length set.rules ≡ 0 → [] ≡ least_keys set
+unfolding least_keys
+no_keys set none = ap (λ n. map (λ rule. map (least_key set rule) categories) (range_with_len 0 n)) (sym none)
+
+-- there are keys for each rule
+pub count_of_keys : (set : RuleSetView) (keys : List (List (Option (List ℕ)))) → keys ≡ least_keys set
+    → length keys ≡ length set.rules
+unfolding least_keys
+count_of_keys set keys are =
+    ap length are ∙ length-map-range_with_len (λ rule. map (least_key set rule) categories) 0 (length set.rules)

@@ -1,0 +1,40 @@
+-- The key that is read off the links, from a row back to the first byte.
+use Rattle.std.specs.Prelude.{ℕ, ◌+◌, ◌<◌, ◌==◌, List, [], length, slice_index_or, slice_set}
+use Rattle.std.specs.Prelude.{filter, replicate, Bool}
+use Rattle.std.specs.Int.{bit_at}
+use Rattle.std.specs.List.{range_with_len, flat_map}
+use Rattle.std.proofs.Common.{zero, suc}
+use Rattle.trie_merge.specs.Kept.{group_of}
+use Rattle.acl_audit.specs.declared.links.Link.{Link}
+use Rattle.acl_audit.specs.Links.{no_link}
+
+-- the link to the state or row of that number
+abbrev pub link_at : List (List Link) → ℕ → ℕ → Link
+link_at levels depth number = slice_index_or (slice_index_or levels depth []) number no_link
+
+-- the key with the bytes at the first kept places that lead to the state or row of that number
+abbrev pub traced : List (List Link) → List ℕ → ℕ → ℕ → List ℕ → List ℕ
+traced levels places zero number key = key
+traced levels places (suc depth) number key =
+    traced levels places depth (link_at levels depth number).before
+    (slice_set key (slice_index_or places depth 0) (link_at levels depth number).byte)
+
+-- Each link leads back to a link of the place before it.
+pub record AreChained (levels : List (List Link)) : Type 0 where
+  pub before : (depth number : ℕ) → depth + 1 < length levels →
+      number < length (slice_index_or levels (depth + 1) []) →
+      (link_at levels (depth + 1) number).before < length (slice_index_or levels depth [])
+
+-- the keys of the rows, one after the other
+unfoldable pub keys_traced : List (List Link) → List ℕ → ℕ → ℕ → List ℕ
+keys_traced levels places len count =
+    flat_map (λ row. traced levels places (length levels) row (replicate len 0))
+    (range_with_len 0 count)
+
+-- the place is one of a kept group
+abbrev pub is_kept_in : ℕ → ℕ → Bool
+is_kept_in kept place = bit_at kept (group_of place) == 1
+
+-- the places of a key that are kept
+abbrev pub places_of : ℕ → ℕ → List ℕ
+places_of kept len = filter (is_kept_in kept) (range_with_len 0 len)

@@ -1,0 +1,202 @@
+//! Which rules ever win, and at which least key.
+
+ghost use Rattle.std.specs.Prelude.{◌≡◌, ℕ, ◌+◌, ◌*◌, ◌<◌, ◌≤◌, length, OnOk, IfOk, IfErr, Err};
+ghost use Rattle.std.specs.List.{range_with_len};
+ghost use Rattle.std.specs.Option.{option_map};
+ghost use Rattle.table_sizes.specs.Sizes.{max_words};
+ghost use Rattle.trie_merge.specs.Levels.{IsGroup, levels_of};
+ghost use Rattle.acl_audit.specs.declared.audit.AuditFault.TheVariants.{TooLarge, OutOfMemory};
+ghost use Rattle.acl_audit.specs.Audited.{key_numbered};
+ghost use Rattle.acl_audit.specs.Least.{all_rules, least_keys};
+
+use crate::firsts::first_rows;
+use crate::links::links_of;
+use crate::places::kept_places;
+use crate::trace::row_keys;
+use rule_set::RuleSet;
+use std::alloc::{AllocError, Global};
+use std::marker::Model;
+use table_sizes::ROW_LEN;
+use thiserror::Error;
+use trie_merge::{Levels, MergeFault};
+
+/// Why there is no audit.
+#[derive(Clone, Copy, Debug, PartialEq, Eq, Error)]
+pub enum AuditFault {
+    /// A table of all rules in one group has more words than the budget.
+    #[error("the table needs {words} words, and the budget is {budget}")]
+    TooLarge {
+        /// One word more than the budget.
+        words: u64,
+        /// The budget.
+        budget: u64,
+    },
+    /// There is no memory for the merged states.
+    #[error("out of memory")]
+    OutOfMemory,
+}
+
+/// Want of memory ends an audit, whatever it was doing.
+impl From<AllocError> for AuditFault {
+    ghost use Rattle.std.specs.Prelude.{◌≡◌};
+    ghost use Rattle.acl_audit.specs.declared.audit.AuditFault.TheVariants.{OutOfMemory};
+
+    ghost from_gives = { λ _ fault. fault ≡ OutOfMemory };
+
+    fn from(_: AllocError) -> AuditFault {
+        AuditFault::OutOfMemory
+    }
+}
+
+/// The key of that number, counted from 1 on, or none for number 0.
+fn key_numbered(keys: &[u8], len: usize, number: usize) -> Option<&[u8]>
+    requires { number * len ≤ length keys.now }
+    ensures { option_map (λ key. key.now) result ≡ key_numbered keys.now len number }
+{
+    if number == 0 {
+        return None;
+    }
+    let (_, rest) = keys.split_at((number - 1) * len);
+    let (key, _) = rest.split_at(len);
+    Some(key)
+}
+
+/// The least key at which each rule of a set wins in each category. Contracts see, for each rule
+/// and each of the 16 categories, the key or none.
+#[derive(Drop)]
+pub struct Audit {
+    firsts: Vec<[u32; ROW_LEN]>,
+    keys: Vec<u8>,
+    key_len: usize,
+}
+
+impl Model for Audit {
+    ghost use Rattle.std.specs.Prelude.{ℕ, List, Option};
+    ghost use Rattle.acl_audit.specs.Audited.{keys_of, HasKeys};
+
+    ghost Value = { List (List (Option (List ℕ))) };
+
+    ghost view = { λ audit. keys_of audit.firsts.items audit.keys.items audit.key_len };
+
+    ghost invariant = { λ audit. HasKeys audit.firsts.items audit.keys.items audit.key_len };
+}
+
+impl Audit {
+    ghost use Rattle.std.specs.Prelude.{◌≡◌, ◌<◌, [], length, slice_index_or, None};
+    ghost use Rattle.std.specs.Option.{option_map};
+    ghost use Rattle.table_sizes.specs.Sizes.{row_len};
+
+    /// The least key at which the rule of that place in the set wins in the category, or none where
+    /// it wins at no key there.
+    ///
+    /// The place is below the number of rules and the category below 16. Keys have the bytes of the
+    /// set's layout, the fields one after the other in network order, and are compared byte by byte
+    /// from the first on. It takes no memory.
+    pub fn key_of(&self, rule: usize, category: u32) -> Option<&[u8]>
+        requires rule { rule < length self.now }
+        requires category { category < row_len }
+        ensures { option_map (λ key. key.now) result
+            ≡ slice_index_or (slice_index_or self.now rule []) category None }
+    {
+        let number = self.firsts[rule][category as usize];
+        key_numbered(&self.keys, self.key_len, number as usize)
+    }
+}
+
+/// The numbers of all rules.
+fn all_rules(alloc: Global, rules: &RuleSet) -> Result<Vec<u32>, AllocError>
+    ensures { IfOk result (λ numbers. numbers.items ≡ range_with_len 0 (length rules.now.rules)) }
+{
+    let count = rules.all().len();
+    let mut numbers = Vec::with_capacity(alloc, count)?;
+    for number in 0..count {
+        numbers.push(number as u32)?;
+    }
+    Ok(numbers)
+}
+
+/// The merged states of all rules.
+fn merged(alloc: Global, rules: &RuleSet, budget: u64) -> Result<Levels, AuditFault>
+    requires some { 0 < length rules.now.rules }
+    requires budget { budget ≤ max_words }
+    ensures levels { IfOk result (λ levels. levels ≡ levels_of rules.now (all_rules rules.now)) }
+    ensures within { IfOk result (λ levels. levels.words ≤ budget) }
+    ensures over { (words most : ℕ) → result ≡ Err (TooLarge words most) →
+        (budget < (levels_of rules.now (all_rules rules.now)).words)
+        × (words ≡ budget + 1) × (most ≡ budget) }
+{
+    let group = all_rules(alloc, rules)?;
+    match Levels::build(alloc, rules, group.as_slice(), budget) {
+        Ok(levels) => Ok(levels),
+        Err(MergeFault::OverCap) => Err(AuditFault::TooLarge {
+            words: budget + 1,
+            budget,
+        }),
+        Err(MergeFault::OutOfMemory) => Err(AuditFault::OutOfMemory),
+    }
+}
+
+/// What the merged states of all rules say.
+fn audited(alloc: Global, rules: &RuleSet, levels: &Levels) -> Result<Audit, AllocError>
+    requires some { 0 < length rules.now.rules }
+    requires levels { levels.now ≡ levels_of rules.now (all_rules rules.now) }
+    requires within { levels.now.words ≤ max_words }
+    ensures { IfOk result (λ audit. audit ≡ least_keys rules.now) }
+{
+    let _rules = rules.all();
+    let _fields = rules.layout().fields();
+    rule_set::laws::the_winner_is_among_all_places();
+    let key_len = rules.layout().key_len();
+    let places = kept_places(alloc, levels.kept(), key_len)?;
+    let links = links_of(alloc, levels)?;
+    let count = rules.len();
+    let firsts = first_rows(alloc, count, levels)?;
+    let rows = levels.rows();
+    let keys = row_keys(alloc, links.as_slice(), places.as_slice(), key_len, rows)?;
+    Ok(Audit {
+        firsts,
+        keys,
+        key_len,
+    })
+}
+
+/// The audit of no rule.
+#[tactic(auto, using(crate::proofs::Ready::no_keys))]
+fn no_audit(alloc: Global, rules: &RuleSet) -> Audit
+    requires { length rules.now.rules ≡ 0 }
+    ensures { result ≡ least_keys rules.now }
+{
+    Audit {
+        firsts: Vec::new(alloc),
+        keys: Vec::new(alloc),
+        key_len: rules.layout().key_len(),
+    }
+}
+
+/// Tells for each rule and each category whether the rule ever wins there, and at which least key.
+///
+/// The budget is from 1 to [`table_sizes::MAX_WORDS`] words. `TooLarge` comes exactly where there
+/// is a rule and the table of all rules in one group has more words than the budget, unless memory
+/// ran out before that was known; its words are one more than the budget. It takes memory for the
+/// merged states, for a number and a byte for each of them, for the key of each row and for a
+/// number for each rule and category, and gives it back after a refusal.
+#[tactic(auto, using(crate::proofs::Ready::count_of_keys))]
+pub fn live_rules(alloc: Global, rules: &RuleSet, budget: u64) -> Result<Audit, AuditFault>
+    requires some { 0 < budget }
+    requires budget { budget ≤ max_words }
+    ensures keys { IfOk result (λ audit. audit ≡ least_keys rules.now) }
+    ensures count { IfOk result (λ audit. length audit ≡ length rules.now.rules) }
+    ensures fits { OnOk result (0 < length rules.now.rules →
+        (levels_of rules.now (all_rules rules.now)).words ≤ budget) }
+    ensures too_large { (words most : ℕ) → result ≡ Err (TooLarge words most) →
+        (0 < length rules.now.rules)
+        × (budget < (levels_of rules.now (all_rules rules.now)).words)
+        × (words ≡ budget + 1) × (most ≡ budget) }
+{
+    if rules.is_empty() {
+        return Ok(no_audit(alloc, rules));
+    }
+    let levels = merged(alloc, rules, budget)?;
+    let audit = audited(alloc, rules, &levels)?;
+    Ok(audit)
+}

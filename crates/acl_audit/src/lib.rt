@@ -1,0 +1,24 @@
+//! a rule set and a budget of words → which rules ever win in a category, and the least key at which
+//! each does
+//!
+//! A rule that never wins is dead: others cover all of its keys. Whether it is, and the least key
+//! at which it wins where it isn't, is read off the merged states of all rules. Their numbers are
+//! those of the order in which they are found, all beginnings of keys ascending, so the first state
+//! and the least byte that lead to a state or a row say the least key that leads there.
+//!
+//! - `links`: the first state and the least byte that lead to each state and each row
+//! - `places`: the places of a key that the states tell apart
+//! - `trace`: from a row back to the first byte, and so its least key
+//! - `firsts`: the first row in which each rule is the winner of each category
+//! - `audit`: [`live_rules`], and what comes of it
+//! - `laws`: what least keys are, over the definitions alone
+#![tactic(auto)]
+
+mod audit;
+mod firsts;
+pub mod laws;
+mod links;
+mod places;
+mod trace;
+
+pub use audit::{Audit, AuditFault, live_rules};

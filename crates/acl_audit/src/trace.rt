@@ -1,0 +1,77 @@
+//! From a row back to the first byte of its least key.
+
+ghost use Rattle.std.specs.Prelude.{◌≡◌, ◌+◌, ◌-◌, ◌<◌, ◌≤◌, ◌++◌, ℕ, [], length, replicate, All};
+ghost use Rattle.std.specs.Prelude.{slice_index_or, OnOk, IfOk};
+ghost use Rattle.acl_audit.specs.Traced.{traced, AreChained, keys_traced};
+
+use crate::links::Links;
+use std::alloc::{AllocError, Global};
+
+/// Writes the bytes at the kept places that lead to the row first.
+fn trace(links: &[Links], places: &[usize], row: usize, key: &mut [u8])
+    requires chained { AreChained links.now }
+    requires row { row < length (slice_index_or links.now (length links.now - 1) []) }
+    requires long { length places.now ≡ length links.now }
+    requires places { All (λ place. place < length key.old) places.now }
+    ensures { key.new ≡ traced links.now places.now (length links.now) row key.old }
+{
+    let mut number = row;
+    for passed in 0..links.len() {
+        let depth = links.len() - 1 - passed;
+        let link = links[depth].at(number);
+        key[places[depth]] = link.byte;
+        number = link.before as usize;
+    }
+}
+
+/// Puts so many bytes 0 after the others.
+fn push_zeros(keys: &mut Vec<u8>, count: usize) -> Result<(), AllocError>
+    requires { count ≤ 505 }
+    ensures { OnOk result (keys.new.items ≡ keys.old.items ++ replicate count 0) }
+{
+    keys.resize(keys.len() + count, 0)
+}
+
+/// Puts the row's least key, which has so many bytes, after the others.
+fn push_key(
+    keys: &mut Vec<u8>,
+    links: &[Links],
+    places: &[usize],
+    len: usize,
+    row: usize,
+) -> Result<(), AllocError>
+    requires len { len ≤ 505 }
+    requires chained { AreChained links.now }
+    requires row { row < length (slice_index_or links.now (length links.now - 1) []) }
+    requires long { length places.now ≡ length links.now }
+    requires places { All (λ place. place < len) places.now }
+    ensures { OnOk result (keys.new.items ≡ keys.old.items
+        ++ traced links.now places.now (length links.now) row (replicate len 0)) }
+{
+    let start = keys.len();
+    push_zeros(keys, len)?;
+    trace(links, places, row, &mut keys[start..]);
+    Ok(())
+}
+
+/// The least keys of so many rows, one after the other.
+pub(crate) fn row_keys(
+    alloc: Global,
+    links: &[Links],
+    places: &[usize],
+    len: usize,
+    rows: usize,
+) -> Result<Vec<u8>, AllocError>
+    requires len { len ≤ 505 }
+    requires chained { AreChained links.now }
+    requires rows { rows ≤ length (slice_index_or links.now (length links.now - 1) []) }
+    requires long { length places.now ≡ length links.now }
+    requires places { All (λ place. place < len) places.now }
+    ensures { IfOk result (λ keys. keys.items ≡ keys_traced links.now places.now len rows) }
+{
+    let mut keys = Vec::new(alloc);
+    for row in 0..rows {
+        push_key(&mut keys, links, places, len, row)?;
+    }
+    Ok(keys)
+}
