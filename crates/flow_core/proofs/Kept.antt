@@ -141,8 +141,8 @@ module _ (table : TableView) (keys : List ℕ) where
     where
       -- ---- an empty slot takes a job
       module _ (empty : get_or state.machine.slots i None ≡ None) (few : state.machine.given < job_count table keys)
-          (on_way : IsInWalk table keys (state.machine.given + 1) (begun table (job_at table state.machine.given)))
-        where
+          (on_way : IsInWalk table keys (state.machine.given + 1)
+          (begun table (job_at table state.machine.given))) where
         new_held : (job : Job) → Contains (take state.machine.given (jobs_of table keys)) job →
             is_held (set state.machine.slots i (Some (begun table (job_at table state.machine.given)))) job
             ≡ is_held state.machine.slots job

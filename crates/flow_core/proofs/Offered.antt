@@ -16,7 +16,8 @@ pub use Rattle.flow_core.proofs.OnWay.{place_in_key, byte_there, byte_is, produc
 pub use Rattle.flow_core.proofs.Flying.{level_there}
 -- ---- a step of a machine that is lent
 
-pub use Rattle.flow_core.proofs.Lent.{IsLent, lent, word_step, word_others, word_stands, job_taken, job_stands, none_left}
+pub use Rattle.flow_core.proofs.Lent.{IsLent, lent, word_step, word_others, word_stands}
+pub use Rattle.flow_core.proofs.Lent.{job_taken, job_stands, none_left}
 -- a flight that a slot holds may go on
 pub use Rattle.flow_core.proofs.Stepped.{flight_on_way}
 -- ---- a run
