@@ -73,11 +73,11 @@ fn fetch<const W: usize>(table: &Table, keys: &[u8], slots: &[Option<Flight>; W]
 {
     let mut words = [0u64; W];
     let mut bytes = [0u64; W];
-    for lane in 0..W {
-        match slots[lane] {
+    for slot in 0..W {
+        match slots[slot] {
             Some(flight) => {
-                words[lane] = word_of(flight);
-                bytes[lane] = u64::from(byte_of(table, keys, flight));
+                words[slot] = word_of(flight);
+                bytes[slot] = u64::from(byte_of(table, keys, flight));
             }
             None => {}
         }
