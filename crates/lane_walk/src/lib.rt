@@ -7,6 +7,7 @@
 //!
 //! - `places`: the places of the next words, by vectors.
 //! - `lanes`: the machine and its turn.
+//! - `walk`: which walk is asked for, one key for itself or many by lanes.
 //!
 //! After DPDK's `lib/acl/acl_run_sse.h` and `acl_run_avx2.h`, which step 4, 8 or 16 flows at once.
 #![tactic(auto)]
@@ -15,5 +16,7 @@ mod lanes;
 mod places;
 #[cfg(test)]
 mod tests;
+mod walk;
 
 pub use lanes::LaneFlows;
+pub use walk::Walk;
