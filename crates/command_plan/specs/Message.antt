@@ -6,7 +6,8 @@ use Rattle.command_plan.specs.declared.status.Status.TheVariants.{Done, Usage, R
 use Rattle.command_plan.specs.declared.status.Status.TheVariants.{TooLarge, CaptureRefused}
 use Rattle.command_plan.specs.declared.status.Status.TheVariants.{ImageRefused}
 use Rattle.command_plan.specs.declared.status.Status.TheVariants.{ReadFault, WriteFault}
-use Rattle.command_plan.specs.declared.status.Status.TheVariants.{OutOfMemory}
+use Rattle.command_plan.specs.declared.status.Status.TheVariants.{OutOfMemory, TooManyTogether}
+use Rattle.command_plan.specs.declared.status.Status.TheVariants.{SecondRulesRefused}
 use Rattle.command_words.specs.declared.fault.UsageKind.{UsageKind}
 use Rattle.command_words.specs.declared.fault.UsageKind.TheVariants.{MissingCommand, UnknownCommand}
 use Rattle.command_words.specs.declared.fault.UsageKind.TheVariants.{MissingName, UnknownOption}
@@ -113,6 +114,9 @@ message (ImageRefused fault) =
 message ReadFault = codes "aclc: read fault" ++ 10 ∷ []
 message WriteFault = codes "aclc: write fault" ++ 10 ∷ []
 message OutOfMemory = codes "aclc: out of memory" ++ 10 ∷ []
+message TooManyTogether = codes "aclc: compare: too many rules" ++ 10 ∷ []
+message (SecondRulesRefused fault) =
+    numbered (codes "second rules: line ") fault.line (line_text fault.kind)
 
 -- the exit code of a status
 abbrev pub code_of : Status → ℕ
@@ -125,3 +129,5 @@ code_of (ImageRefused fault) = 6
 code_of ReadFault = 7
 code_of WriteFault = 8
 code_of OutOfMemory = 9
+code_of TooManyTogether = 11
+code_of (SecondRulesRefused fault) = 12

@@ -8,6 +8,8 @@ use Rattle.command_plan.specs.declared.status.Status.TheVariants.{Done, Usage, R
 use Rattle.command_plan.specs.declared.status.Status.TheVariants.{TooLarge, CaptureRefused}
 use Rattle.command_plan.specs.declared.status.Status.TheVariants.{ReadFault, WriteFault}
 use Rattle.command_plan.specs.declared.status.Status.TheVariants.{OutOfMemory, ImageRefused}
+use Rattle.command_plan.specs.declared.status.Status.TheVariants.{TooManyTogether}
+use Rattle.command_plan.specs.declared.status.Status.TheVariants.{SecondRulesRefused}
 use Rattle.command_words.specs.declared.fault.UsageKind.TheVariants.{MissingCommand, UnknownCommand}
 use Rattle.command_words.specs.declared.fault.UsageKind.TheVariants.{MissingName, UnknownOption}
 use Rattle.command_words.specs.declared.fault.UsageKind.TheVariants.{RepeatedOption, BadValue}
@@ -73,6 +75,14 @@ write_fault = refl
 out_of_memory : message OutOfMemory ≡ codes "aclc: out of memory\n"
 out_of_memory = refl
 
+too_many_together : message TooManyTogether ≡ codes "aclc: compare: too many rules\n"
+too_many_together = refl
+
+bad_second_line : message (SecondRulesRefused (record { line = 2; kind = EmptyRange }))
+    ≡ codes "aclc: second rules: line 2: empty range\n"
+unfolding digits
+bad_second_line = refl
+
 usage_kinds : map usage_text
     (MissingCommand ∷ UnknownCommand ∷ MissingName ∷ UnknownOption ∷ RepeatedOption ∷ BadValue ∷ [])
     ≡ codes "missing command" ∷ codes "unknown command" ∷ codes "missing name"
@@ -119,5 +129,6 @@ all_codes : map code_of (
     Done ∷ Usage (fault_at 1 UnknownCommand) ∷ RulesRefused (record { line = 1; kind = BadStart })
     ∷ TooLarge Ip4 16 15 ∷ CaptureRefused Magic
     ∷ ImageRefused (record { place = 0; kind = kind.Length }) ∷ ReadFault ∷ WriteFault ∷ OutOfMemory
-    ∷ []) ≡ 0 ∷ 2 ∷ 3 ∷ 4 ∷ 5 ∷ 6 ∷ 7 ∷ 8 ∷ 9 ∷ []
+    ∷ TooManyTogether ∷ SecondRulesRefused (record { line = 1; kind = BadStart }) ∷ [])
+    ≡ 0 ∷ 2 ∷ 3 ∷ 4 ∷ 5 ∷ 6 ∷ 7 ∷ 8 ∷ 9 ∷ 11 ∷ 12 ∷ []
 all_codes = refl

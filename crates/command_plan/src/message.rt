@@ -58,6 +58,15 @@ pub fn message_line(status: &Status, into: &mut [u8; LINE_ROOM]) -> usize
         Status::ReadFault => append(into, 0, b"aclc: read fault\n"),
         Status::WriteFault => append(into, 0, b"aclc: write fault\n"),
         Status::OutOfMemory => append(into, 0, b"aclc: out of memory\n"),
+        Status::TooManyTogether => append(into, 0, b"aclc: compare: too many rules\n"),
+        Status::SecondRulesRefused(fault) => {
+            numbered_line(
+                b"second rules: line ",
+                u64::from(fault.line),
+                line_kind(fault.kind),
+                into,
+            )
+        }
     }
 }
 
