@@ -23,6 +23,9 @@ use Rattle.classbench_reader.specs.declared.fault.LineKind.TheVariants.{NoCatego
 use Rattle.pcap_reader.specs.declared.fault.CaptureFault.TheVariants.{HeaderCut, Magic, Version}
 use Rattle.pcap_reader.specs.declared.fault.CaptureFault.TheVariants.{LinkType, RecordCut}
 use Rattle.pcap_reader.specs.declared.fault.CaptureFault.TheVariants.{RecordTooLong, TooManyRecords}
+use Rattle.pcap_reader.specs.declared.fault.CaptureFault.TheVariants.{PngCut, PngLength, PngOrder}
+use Rattle.pcap_reader.specs.declared.fault.CaptureFault.TheVariants.{PngVersion, PngInterface}
+use Rattle.pcap_reader.specs.declared.fault.CaptureFault.TheVariants.{PngLink, PngTooMany}
 use Rattle.command_words.specs.Command.{fault_at}
 use Rattle.command_plan.specs.Message.{message, usage_text, line_text, capture_text, code_of}
 use Rattle.command_plan.specs.Message.{image_text}
@@ -107,6 +110,13 @@ capture_kinds : map capture_text (
     ∷ codes "too long" ∷ codes "too many" ∷ []
 capture_kinds = refl
 
+block_kinds : map capture_text (
+    PngCut 1 ∷ PngLength 1 ∷ PngOrder 1 ∷ PngVersion 1 ∷ PngInterface 1 ∷ PngLink 1
+    ∷ PngTooMany 1 ∷ [])
+    ≡ codes "block cut" ∷ codes "block length" ∷ codes "byte order" ∷ codes "section version"
+    ∷ codes "no interface" ∷ codes "interface link type" ∷ codes "too many interfaces" ∷ []
+block_kinds = refl
+
 image_kinds : map image_text (
     kind.Magic ∷ kind.Version ∷ kind.Family ∷ kind.Length ∷ kind.TooMany ∷ kind.Unsound
     ∷ kind.RowForm ∷ kind.Trailing ∷ kind.KeptGroups ∷ [])
@@ -123,6 +133,15 @@ long_record : message (CaptureRefused (RecordTooLong 7))
     ≡ codes "aclc: capture: record 7: too long\n"
 unfolding digits
 long_record = refl
+
+cut_block : message (CaptureRefused (PngCut 2)) ≡ codes "aclc: capture: record 2: block cut\n"
+unfolding digits
+cut_block = refl
+
+no_interface : message (CaptureRefused (PngInterface 1))
+    ≡ codes "aclc: capture: record 1: no interface\n"
+unfolding digits
+no_interface = refl
 
 -- each status has a code of its own
 all_codes : map code_of (
