@@ -35,7 +35,8 @@ times-more slot i slots same =
 
 times-same : (slot i : ℕ) (slots : List ℕ) → (i == slot) ≡ false → times slot (i ∷ slots) ≡ times slot slots
 times-same slot i slots other =
-    count_by-cons (λ entry. entry == slot) i slots ∙ ap (λ (b : Bool). cond b 1 0 + times slot slots) other ∙ omega arith
+    count_by-cons (λ entry. entry == slot) i slots ∙ ap (λ (b : Bool). cond b 1 0 + times slot slots) other
+    ∙ omega arith
 
 module _ (table : TableView) (keys : List ℕ) (stay : WalksStay) (sound : sound_fault table ≡ None)
     (bytes : AreBytes keys) where
@@ -162,12 +163,14 @@ in_turn slot first (suc n) from below = elim (cases_eq first slot) [
   )
 ]
 
-turns-more : (width n : ℕ) → turns width (n + 1) ≡ turns width n ++ range_with_len 0 width
+-- one turn more
+pub turns-more : (width n : ℕ) → turns width (n + 1) ≡ turns width n ++ range_with_len 0 width
 turns-more width n =
     ap (λ (ns : List ℕ). flat_map (λ turn. range_with_len 0 width) ns) (range-push 0 n)
     ∙ flat_map-append (λ turn. range_with_len 0 width) (range_with_len 0 n) ((0 + n) ∷ [])
     ∙ ap (λ (xs : List ℕ). turns width n ++ xs) (append-nil (range_with_len 0 width))
 
+-- turns are of slots that are there
 pub turns_are_slots : (width n : ℕ) → AreSlots width (turns width n)
 turns_are_slots width zero = All-nil (λ slot. slot < width)
 turns_are_slots width (suc n) =

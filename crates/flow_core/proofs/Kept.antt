@@ -80,7 +80,8 @@ module _ (slots : List (Option Flight)) (i : ℕ) (within : i < length slots) (o
         | inl a ↦ ap (λ (n : ℕ). holds job (get_or (set slots i None) n None)) a
             ∙ ap (holds job) (get_or-set_same slots i None None within)
         | inr b ↦ elim (cases_Bool (holds job (get_or (set slots i None) k None))) [
-          | inl yes' ↦ absurd (b (once job k i (ap (holds job) (sym (get_or-set_other slots i k None None b)) ∙ yes') held))
+          | inl yes' ↦ absurd (b (once job k i
+              (ap (holds job) (sym (get_or-set_other slots i k None None b)) ∙ yes') held))
           | inr no' ↦ no'
         ]
       ]))
@@ -140,7 +141,8 @@ module _ (table : TableView) (keys : List ℕ) where
     where
       -- ---- an empty slot takes a job
       module _ (empty : get_or state.machine.slots i None ≡ None) (few : state.machine.given < job_count table keys)
-          (on_way : IsInWalk table keys (state.machine.given + 1) (begun table (job_at table state.machine.given))) where
+          (on_way : IsInWalk table keys (state.machine.given + 1)
+          (begun table (job_at table state.machine.given))) where
         new_held : (job : Job) → Contains (take state.machine.given (jobs_of table keys)) job →
             is_held (set state.machine.slots i (Some (begun table (job_at table state.machine.given)))) job
             ≡ is_held state.machine.slots job
@@ -181,8 +183,8 @@ module _ (table : TableView) (keys : List ℕ) where
               jobs = flown.jobs;
               few = omega (arith, few);
               flights = All-set (P (state.machine.given + 1)) state.machine.slots i (Some (begun table job)) on_way
-                  (All-weaker (P state.machine.given) (P (state.machine.given + 1)) (later table keys state.machine.given few)
-                  state.machine.slots flown.flights);
+                  (All-weaker (P state.machine.given) (P (state.machine.given + 1))
+                  (later table keys state.machine.given few) state.machine.slots flown.flights);
               once = once-set state.machine.slots i within flown.once (Some (begun table job))
                   (λ j other here _ there.
                   let in' = held_given table keys state.machine.given state.machine.slots flown.flights j other there in
@@ -190,7 +192,8 @@ module _ (table : TableView) (keys : List ℕ) where
               len = flown.len;
               rows = λ key category below narrow.
                   flown.rows key category below narrow
-                  ∙ ap (λ (jobs : List Job). greatest (map (word_reached table keys category) jobs)) (sym (new_ended key));
+                  ∙ ap (λ (jobs : List Job). greatest (map (word_reached table keys category) jobs))
+                  (sym (new_ended key));
             }
 
       -- ---- a busy slot takes a word
@@ -240,7 +243,8 @@ module _ (table : TableView) (keys : List ℕ) where
         -- the jobs of the flight's own key gain the flight's
         gained : (category : ℕ) →
             greatest (map (word_reached table keys category)
-            (filter (is_ended (set state.machine.slots i None) flight.key) (take state.machine.given (jobs_of table keys))))
+            (filter (is_ended (set state.machine.slots i None) flight.key)
+            (take state.machine.given (jobs_of table keys))))
             ≡ max (greatest (map (word_reached table keys category) (ended_jobs table keys state.machine flight.key)))
             (word_reached table keys category (job_of flight))
         gained category =
@@ -292,7 +296,8 @@ module _ (table : TableView) (keys : List ℕ) where
                 | inl same ↦ (
                     let reached : slice_index row category ≡ word_reached table keys category (job_of flight) =
                     ap (λ (n : ℕ). slice_index (get_or table.rows n []) category) (took.row match) in
-                    let is : slice_index (get_or (set state.rows flight.key (joined_row old row)) flight.key []) category
+                    let is :
+                    slice_index (get_or (set state.rows flight.key (joined_row old row)) flight.key []) category
                     ≡ greatest (map (word_reached table keys category)
                     (filter (is_ended (set state.machine.slots i None) flight.key)
                     (take state.machine.given (jobs_of table keys)))) =
@@ -301,7 +306,8 @@ module _ (table : TableView) (keys : List ℕ) where
                     ∙ joined_word old row category narrow
                     ∙ (λ t. max (flown.rows flight.key category (omega (arith, there, flown.len)) narrow t) (reached t))
                     ∙ sym (gained category) in
-                    subst (λ (k : ℕ). slice_index (get_or (set state.rows flight.key (joined_row old row)) k []) category
+                    subst (λ (k : ℕ).
+                    slice_index (get_or (set state.rows flight.key (joined_row old row)) k []) category
                     ≡ greatest (map (word_reached table keys category)
                     (filter (is_ended (set state.machine.slots i None) k)
                     (take state.machine.given (jobs_of table keys))))) same is

@@ -1,5 +1,5 @@
 -- A machine that is lent to a step, with what it has inside.
-use Rattle.std.proofs.Common.{◌≡◌, ℕ, ◌+◌, ◌<◌, ◌≤◌, List, sym, ap, ◌∙◌, length, drop, get_or, set, subst}
+use Rattle.std.proofs.Common.{◌≡◌, ℕ, ◌+◌, ◌<◌, ◌≤◌, List, sym, ap, ◌∙◌, arith, length, drop, get_or, set, subst}
 use Rattle.std.specs.Prelude.{None, Some, Option}
 use Rattle.flat_table.specs.Table.{TableView}
 use Rattle.flat_table.specs.Batch.{keys_in}
@@ -18,6 +18,16 @@ pub record IsLent (table : TableView) (keys : List ℕ) (inside before : Machine
   pub is : inside ≡ before
   pub stands : StandsOver table keys before (length rows)
   pub within : slot < length inside.slots
+
+-- from what a step is told of a machine of so many slots
+pub lent : {table : TableView} {keys : List ℕ} {inside before : Machine} {rows : List (List ℕ)} {slot width : ℕ} →
+    inside ≡ before → StandsOver table keys before (length rows) → slot < width → length inside.slots ≡ width →
+    IsLent table keys inside before rows slot
+lent is stands within told = record {
+  is = is;
+  stands = stands;
+  within = omega (arith, within, told);
+}
 
 module _ {table : TableView} {keys : List ℕ} {inside before : Machine} {rows : List (List ℕ)} {slot : ℕ}
     (l : IsLent table keys inside before rows slot) where

@@ -1,3 +1,4 @@
+pub mod Begin
 pub mod Clear
 pub mod Ends
 pub mod Enough

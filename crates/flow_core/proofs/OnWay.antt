@@ -46,7 +46,8 @@ module _ {table : TableView} {keys : List ℕ} {given : ℕ} {flight : Flight} (
         let len_is = ap (λ (n : ℕ). flight.key * n) e in
         omega (arith, more, len_is, whole, place_in_key)
 
-    pub byte_is : {len : ℕ} → len ≡ table.key_len → slice_index keys (flight.key * len + place) ≡ byte_of table keys flight
+    pub byte_is : {len : ℕ} → len ≡ table.key_len →
+        slice_index keys (flight.key * len + place) ≡ byte_of table keys flight
     byte_is e =
         ap (λ (n : ℕ). slice_index keys (flight.key * n + place)) e
         ∙ sym (get_or-take table.key_len (drop (flight.key * table.key_len) keys) place 0 place_in_key

@@ -68,7 +68,8 @@ module _ (rows : List (List ℕ)) (count keys : ℕ) (old : List ℕ) (few : key
       (append-nil (row_verdicts count (get_or rows k []))
       ∙ ap (row_verdicts count) (get_or_from_slice_get rows k row [] row_is)) in
       now.is
-      ∙ ap (λ (piece : List ℕ). (flat_map (row_verdicts count) (take k rows) ++ piece) ++ drop ((k + 1) * count) old) are
+      ∙ ap (λ (piece : List ℕ). (flat_map (row_verdicts count) (take k rows) ++ piece) ++ drop ((k + 1) * count) old)
+      are
       ∙ ap (λ (front : List ℕ). front ++ drop ((k + 1) * count) old) (sym more)
 
 -- ---- of rows that are joined they are those of the table
@@ -99,7 +100,8 @@ module _ (table : TableView) (keys : List ℕ) (count : ℕ) (few : count ≤ ro
       ap (flat_map (row_verdicts count))
       (fill_by_all (λ k. get_or rows k []) rows n [] joined.len (λ k below. refl))
       ∙ made_flat (row_verdicts count) (λ k. get_or rows k []) (range_with_len 0 n)
-      ∙ flat_map_where (λ k. row_verdicts count (get_or rows k [])) (λ k. key_verdicts table count (key_at table keys k))
+      ∙ flat_map_where (λ k. row_verdicts count (get_or rows k []))
+      (λ k. key_verdicts table count (key_at table keys k))
       (range_with_len 0 n)
       (in_range (λ k. row_verdicts count (get_or rows k []) ≡ key_verdicts table count (key_at table keys k)) n
       verdicts_of_key)

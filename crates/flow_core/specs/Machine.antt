@@ -25,7 +25,8 @@ pub record FlowState : Type 0 where
 
 -- the state of a machine whose rows are the first of these, one for each key
 abbrev pub state_of : TableView → List ℕ → Machine → List (List ℕ) → FlowState
-state_of table keys machine rows = record { machine = machine; rows = take (keys_in table keys) rows }
+state_of table keys machine rows =
+    record { machine = machine; rows = take (keys_in table keys) rows }
 
 -- ---- where it begins and ends
 

@@ -32,7 +32,8 @@ pub record IsOnWay (table : TableView) (keys : List ℕ) (given : ℕ) (flight :
   pub word : leads_into (level_of table flight.trie flight.depth) flight.word ≡ true
 
 -- there are as many jobs as pairs of a key and a trie, the lengths fit, and so is each flight
-pub record StandsOver (table : TableView) (keys : List ℕ) (machine : Machine) (rows : ℕ) : Type 0 where
+pub record StandsOver (table : TableView) (keys : List ℕ) (machine : Machine) (rows : ℕ)
+    : Type 0 where
   pub jobs : machine.jobs ≡ job_count table keys
   pub fits : BatchFits table keys rows
   pub flights : All (λ held. IfSome held (IsOnWay table keys machine.given)) machine.slots

@@ -19,7 +19,8 @@ pub struct Flight {
     pub word: u64,
 }
 
-/// The flight of the job of this number, which is just given out: it stands at the root of its trie.
+/// The flight of the job of this number, which is just given out: it stands at the root of its
+/// trie.
 ///
 /// The table has a trie, and jobs are numbered from 0 on, by key and then by trie. It refuses
 /// nothing and takes no memory.

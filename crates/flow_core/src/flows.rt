@@ -6,7 +6,7 @@ ghost use Rattle.flat_table.specs.Word.{index_of, is_match};
 ghost use Rattle.flat_table.specs.Batch.{keys_in, most_keys};
 ghost use Rattle.flow_core.specs.Rows.{cleared};
 ghost use Rattle.flow_core.specs.Machine.{Machine, state_of, first_state, is_empty, is_done};
-ghost use Rattle.flow_core.specs.Machine.{word_of, flow_step};
+ghost use Rattle.flow_core.specs.Machine.{byte_of, word_of, flow_step};
 ghost use Rattle.flow_core.specs.Standing.{BatchFits, IsOnWay, StandsOver, held_after, rows_after};
 ghost use Rattle.flow_core.specs.Standing.{LeadsOnward, most_slots};
 
@@ -45,6 +45,21 @@ impl<const W: usize> Model for Flows<W> {
     } };
 }
 
+/// The key byte that the flight reads next.
+///
+/// It refuses nothing and takes no memory.
+#[inline]
+pub fn byte_of(table: &Table, keys: &[u8], flight: Flight) -> u8
+    requires whole { length keys.now ≡ keys_in table.now keys.now * table.now.key_len }
+    requires few { keys_in table.now keys.now ≤ most_keys }
+    requires on_way { (given : ℕ) × IsOnWay table.now keys.now given flight }
+    ensures { result ≡ byte_of table.now keys.now flight }
+{
+    stay_in(table);
+    let place = usize::from(table.places(flight.trie)[flight.depth]);
+    keys[flight.key * table.key_len() + place]
+}
+
 /// The word that the flight takes next. It names a row, or leads on.
 #[inline]
 fn word_after(table: &Table, keys: &[u8], flight: Flight) -> u64
@@ -55,9 +70,7 @@ fn word_after(table: &Table, keys: &[u8], flight: Flight) -> u64
     ensures onward { LeadsOnward table.now flight result }
 {
     stay_in(table);
-    let place = usize::from(table.places(flight.trie)[flight.depth]);
-    let byte = keys[flight.key * table.key_len() + place];
-    table.words()[next_place(flight.word, byte)]
+    table.words()[next_place(flight.word, byte_of(table, keys, flight))]
 }
 
 /// What the slot of the flight holds after the flight took this word: the flight at the word, or
@@ -137,11 +150,11 @@ impl<const W: usize> Flows<W> {
         }
     }
 
-    /// One step of the slot: an empty slot takes the next job, if one is left, and a busy slot takes
-    /// one word. After a match the row of the slot's key is joined, and the slot is empty.
+    /// One step of the slot: an empty slot takes the next job, if one is left, and a busy slot
+    /// takes one word. After a match the row of the slot's key is joined, and the slot is empty.
     ///
-    /// The table, the keys and the scratch are those that the machine began with. It refuses nothing
-    /// and takes no memory.
+    /// The table, the keys and the scratch are those that the machine began with. It refuses
+    /// nothing and takes no memory.
     #[inline]
     pub fn step_slot(&mut self, table: &Table, keys: &[u8], scratch: &mut Scratch, slot: usize)
         requires slot { slot < W }

@@ -1,8 +1,8 @@
 //! Laws of flow machines, over their definitions alone. They do nothing when they are run.
 
-ghost use Rattle.std.specs.Prelude.{◌≡◌, ◌≤◌, None};
+ghost use Rattle.std.specs.Prelude.{◌≡◌, ◌≤◌, length, None};
 ghost use Rattle.flat_table.specs.Groups.{longest_key};
-ghost use Rattle.flat_table.specs.Sound.{sound_fault};
+ghost use Rattle.flat_table.specs.Sound.{most_tries, sound_fault};
 ghost use Rattle.flat_table.specs.Laws.{WalksStay};
 ghost use Rattle.flow_core.specs.Laws.{InvariantIsKept, EverySchedule};
 
@@ -23,12 +23,14 @@ pub fn every_schedule()
     walks_stay();
 }
 
-/// The table is sound, its keys are not too long, and each walk through it stays in it.
+/// The table is sound, its keys are not too long, it has not too many tries, and each walk through
+/// it stays in it.
 #[inline]
 pub fn stay_in(table: &Table)
     ensures sound { sound_fault table.now ≡ None }
     ensures stay { WalksStay }
     ensures short { table.now.key_len ≤ longest_key }
+    ensures few { length table.now.roots ≤ most_tries }
 {
     walks_stay();
     table.tries();

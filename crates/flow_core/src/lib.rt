@@ -32,6 +32,6 @@ mod scratch;
 mod tests;
 
 pub use flight::{Flight, flight_of};
-pub use flows::{Flows, are_empty, arrive};
+pub use flows::{Flows, are_empty, arrive, byte_of};
 pub use schedule::{run_schedule, write_verdicts};
 pub use scratch::Scratch;

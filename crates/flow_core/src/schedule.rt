@@ -58,9 +58,9 @@ pub fn write_verdicts(scratch: &Scratch, keys: usize, count: usize, out: &mut [u
 /// `keys` has the bytes of at most 65,536 keys of the table, one after the other. The scratch has a
 /// row for each of them, and `out` has room for the verdicts of each: the categories from 0 on of
 /// the first key, then those of the second. Each entry of `slots` is below `W`, and a slot may
-/// stand in it as often as one likes, in any order. The machine is done where each slot stands in it
-/// at least as many times as there are jobs, times the length of a key and 1. The rows of the keys
-/// are left in the scratch, and all its other rows stay. It takes no memory.
+/// stand in it as often as one likes, in any order. The machine is done where each slot stands in
+/// it at least as many times as there are jobs, times the length of a key and 1. The rows of the
+/// keys are left in the scratch, and all its other rows stay. It takes no memory.
 pub fn run_schedule<const W: usize>(
     table: &Table,
     keys: &[u8],

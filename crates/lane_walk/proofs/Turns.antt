@@ -31,19 +31,20 @@ pub record StepsLane (table : TableView) (keys : List ℕ) (now next : Machine) 
   pub stands : StandsOver table keys next (length new)
   pub lanes : (other : ℕ) → other ≢ lane → get_or next.slots other None ≡ get_or now.slots other None
 
+-- one lane more, as a run
+pub lane_more : (table : TableView) (keys : List ℕ) (state : FlowState) (n : ℕ) →
+    flow_run table keys state (range_with_len 0 (n + 1))
+    ≡ flow_step table keys (flow_run table keys state (range_with_len 0 n)) n
+lane_more table keys state n =
+    ap (λ (lanes : List ℕ). flow_run table keys state lanes) (range-push 0 n)
+    ∙ fold-append (flow_step table keys) state (range_with_len 0 n) ((0 + n) ∷ [])
+    ∙ ap (λ (lane : ℕ). flow_step table keys (flow_run table keys state (range_with_len 0 n)) lane) (omega arith)
+
 module _ {table : TableView} {keys : List ℕ} {before : Machine} {old : List (List ℕ)} {n : ℕ} {now : Machine}
     {rows : List (List ℕ)} {busy : ℕ} (s : SteppedTo table keys before old n now rows busy) where
   -- the lane that is stepped next holds what it held
   pub holds_as_before : get_or now.slots n None ≡ get_or before.slots n None
   holds_as_before = s.later n (omega arith)
-
-  run_push : flow_run table keys (state_of table keys before old) (range_with_len 0 (n + 1))
-      ≡ flow_step table keys (flow_run table keys (state_of table keys before old) (range_with_len 0 n)) n
-  run_push =
-      ap (λ (lanes : List ℕ). flow_run table keys (state_of table keys before old) lanes) (range-push 0 n)
-      ∙ fold-append (flow_step table keys) (state_of table keys before old) (range_with_len 0 n) ((0 + n) ∷ [])
-      ∙ ap (λ (lane : ℕ). flow_step table keys
-      (flow_run table keys (state_of table keys before old) (range_with_len 0 n)) lane) (omega arith)
 
   -- one lane more
   more : {next : Machine} {new : List (List ℕ)} {more_busy : ℕ} →
@@ -51,7 +52,8 @@ module _ {table : TableView} {keys : List ℕ} {before : Machine} {old : List (L
       more_busy ≡ count_by is_busy (take (n + 1) before.slots) →
       SteppedTo table keys before old (n + 1) next new more_busy
   more l count = record {
-    state = l.step ∙ ap (λ (state : FlowState). flow_step table keys state n) s.state ∙ sym run_push;
+    state = l.step ∙ ap (λ (state : FlowState). flow_step table keys state n) s.state
+        ∙ sym (lane_more table keys (state_of table keys before old) n);
     stands = l.stands;
     others = l.others ∙ s.others;
     later = λ lane past. l.lanes lane (let other : lane ≢ n = omega arith in other) ∙ s.later lane (omega arith);
@@ -83,6 +85,12 @@ place_of_lane {table = table} {keys = keys} {slots = slots} {words = words} {byt
     go : (held : Option Flight) → get_or slots lane None ≡ held → IsPlaceOf table keys held place
     go None empty = tt
     go (Some flight) busy = is ∙ (λ i. next_place (f.word lane flight busy i) (f.byte lane flight busy i))
+
+-- there is a lane
+pub lanes_some : {width : ℕ} → IsLanes width → 0 < width
+lanes_some (inl four) = omega (arith, four)
+lanes_some (inr (inl eight)) = omega (arith, eight)
+lanes_some (inr (inr sixteen)) = omega (arith, sixteen)
 
 -- there are at most sixteen lanes
 pub lanes_few : {width : ℕ} → IsLanes width → width ≤ 16

@@ -14,7 +14,7 @@ ghost use Rattle.lane_walk.specs.Turn.{IsPlaceOf};
 use crate::places::next_places;
 use flat_table::Table;
 use flow_core::laws::stay_in;
-use flow_core::{Flight, Scratch, are_empty, arrive, flight_of};
+use flow_core::{Flight, Scratch, are_empty, arrive, byte_of, flight_of};
 use std::marker::Model;
 
 /// A flow machine of `W` slots, 4, 8 or 16, which are stepped in turns. Contracts see it as they
@@ -60,19 +60,6 @@ fn word_of(flight: Flight) -> u64
     flight.word
 }
 
-/// The key byte that the flight reads next.
-#[inline]
-fn byte_of(table: &Table, keys: &[u8], flight: Flight) -> u8
-    requires whole { length keys.now ≡ keys_in table.now keys.now * table.now.key_len }
-    requires few { keys_in table.now keys.now ≤ most_keys }
-    requires on_way { (given : ℕ) × IsOnWay table.now keys.now given flight }
-    ensures { result ≡ byte_of table.now keys.now flight }
-{
-    stay_in(table);
-    let place = usize::from(table.places(flight.trie)[flight.depth]);
-    keys[flight.key * table.key_len() + place]
-}
-
 /// What the lanes read before a turn.
 #[inline]
 fn fetch<const W: usize>(table: &Table, keys: &[u8], slots: &[Option<Flight>; W]) -> Fetched<W>
@@ -86,11 +73,11 @@ fn fetch<const W: usize>(table: &Table, keys: &[u8], slots: &[Option<Flight>; W]
 {
     let mut words = [0u64; W];
     let mut bytes = [0u64; W];
-    for lane in 0..W {
-        match slots[lane] {
+    for slot in 0..W {
+        match slots[slot] {
             Some(flight) => {
-                words[lane] = word_of(flight);
-                bytes[lane] = u64::from(byte_of(table, keys, flight));
+                words[slot] = word_of(flight);
+                bytes[slot] = u64::from(byte_of(table, keys, flight));
             }
             None => {}
         }

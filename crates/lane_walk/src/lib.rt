@@ -1,4 +1,4 @@
-//! A table and keys in, the row of each key by a walk of many lanes at once out.
+//! A table and keys in, the row and the verdicts of each key by a walk of many lanes at once out.
 //!
 //! A machine by lanes is the flow machine of `flow_core`, whose slots are stepped in turns, each
 //! once and in order. Before a turn each busy lane reads its word and its key byte, and the places
@@ -7,13 +7,20 @@
 //!
 //! - `places`: the places of the next words, by vectors.
 //! - `lanes`: the machine and its turn.
+//! - `classify`: turns until the machine is done, and the verdicts of a batch.
+//! - `walk`: which walk is asked for, one key for itself or many by lanes.
+//! - `either`: the verdicts of a batch by the walk that is asked for.
 //!
 //! After DPDK's `lib/acl/acl_run_sse.h` and `acl_run_avx2.h`, which step 4, 8 or 16 flows at once.
 #![tactic(auto)]
 
+mod classify;
+mod either;
 mod lanes;
 mod places;
-#[cfg(test)]
-mod tests;
+mod walk;
 
+pub use classify::{Flown, classify_lanes};
+pub use either::classify_by;
 pub use lanes::LaneFlows;
+pub use walk::Walk;

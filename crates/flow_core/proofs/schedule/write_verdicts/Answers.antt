@@ -5,4 +5,5 @@ pub loop-k-preserved : goal.loop-k-preserved
 loop-k-preserved c =
     let l = c.loop-k in
     row_written c.args.scratch.now c.args.count c.args.keys c.args.out.now c.requires.keys c.requires.room l.k l.out
-    c.write_row.new.verdicts c.row.result.now c.loop-k-test.true l.auto.out l.invariant c.row.ensures c.write_row.ensures
+    c.write_row.new.verdicts c.row.result.now c.loop-k-test.true l.auto.out l.invariant c.row.ensures
+    c.write_row.ensures

@@ -1,6 +1,6 @@
 use Rattle.std.proofs.Common.{arith}
-use Rattle.flow_core.proofs.Offered.{trie_of_flight, byte_there, byte_is, product_fits, place_in_key}
-use Rattle.lane_walk.proofs.lanes.byte_of.Goals as goal
+use Rattle.flow_core.proofs.OnWay.{trie_of_flight, byte_there, byte_is, product_fits, place_in_key}
+use Rattle.flow_core.proofs.flows.byte_of.Goals as goal
 
 pub places-requires : goal.places-requires
 places-requires c = trie_of_flight c.requires.on_way.1

@@ -1,0 +1,106 @@
+//! The verdicts of a batch, by turns of all lanes.
+
+ghost use Rattle.std.specs.Prelude.{◌≡◌, ◌+◌, ◌≤◌, length, take, drop};
+ghost use Rattle.flat_table.specs.Batch.{LengthsFit, keys_in, batch_verdicts};
+ghost use Rattle.flat_table.specs.Batch.{batch_transitions, most_of_batch};
+ghost use Rattle.flow_core.specs.Machine.{flow_from_first, turns, IsRounds};
+ghost use Rattle.flow_core.specs.Standing.{BatchFits};
+ghost use Rattle.flow_core.specs.Laws.{AreJoined};
+ghost use Rattle.lane_walk.specs.Turn.{IsLanes};
+
+use crate::lanes::LaneFlows;
+use flat_table::laws::walks_go_step_by_step;
+use flat_table::{Steps, Table};
+use flow_core::laws::{every_schedule, stay_in};
+use flow_core::{Scratch, write_verdicts};
+use rule_set::Categories;
+use std::sync::ledger::Ledger;
+
+/// What the walks of a batch by lanes took.
+#[derive(Clone, Copy, Debug, PartialEq, Eq)]
+pub struct Flown {
+    /// How many transitions the walks took.
+    pub taken: u64,
+    /// After how many turns of all lanes the last walk had ended.
+    pub turns: u64,
+}
+
+/// So many transitions more. It does nothing when it is run.
+#[inline]
+fn raise_by<L: Ledger>(steps: &mut Steps<L>, count: u32)
+    ensures { steps.new ≡ steps.old + count }
+{
+    for _ in 0..count {
+        steps.raise();
+    }
+}
+
+/// Turns of a machine of `W` lanes from its beginning on, until it is done. The rows of the keys
+/// are then joined, and all other rows of the scratch stay.
+fn fly<const W: usize, L: Ledger>(
+    table: &Table,
+    keys: &[u8],
+    scratch: &mut Scratch,
+    steps: &mut Steps<L>,
+) -> Flown
+    requires lanes { IsLanes W }
+    requires fits { BatchFits table.now keys.now (length scratch.old) }
+    ensures taken { result.taken ≡ batch_transitions table.now keys.now }
+    ensures steps { steps.new ≡ steps.old + batch_transitions table.now keys.now }
+    ensures turns { IsRounds table.now keys.now W result.turns }
+    ensures rows { take (keys_in table.now keys.now) scratch.new
+        ≡ (flow_from_first table.now keys.now W (turns W result.turns)).rows }
+    ensures joined { AreJoined table.now keys.now (take (keys_in table.now keys.now) scratch.new) }
+    ensures others { drop (keys_in table.now keys.now) scratch.new
+        ≡ drop (keys_in table.now keys.now) scratch.old }
+    ensures len { length scratch.new ≡ length scratch.old }
+{
+    stay_in(table);
+    every_schedule();
+    walks_go_step_by_step();
+    let mut lanes = LaneFlows::<W>::begin(table, keys, scratch);
+    let (mut taken, mut turns) = (0u64, 0u64);
+    while !lanes.done() {
+        let busy = lanes.turn(table, keys, scratch);
+        raise_by(steps, busy);
+        taken += u64::from(busy);
+        turns += 1;
+    }
+    Flown { taken, turns }
+}
+
+/// Writes the verdicts of the keys of a batch by a walk of `W` lanes, 4, 8 or 16, and says how many
+/// transitions the walks took, and how many turns of all lanes.
+///
+/// `keys` has the bytes of at most 65,536 keys of the table, one after the other. The scratch has a
+/// row for each of them, and `out` has room for the verdicts of each: the categories from 0 on of
+/// the first key, then those of the second. A verdict is the userdata of the winner, or 0 where no
+/// rule wins. The rows of the keys are left in the scratch, and all its other rows stay. It refuses
+/// nothing and takes no memory.
+#[tactic(auto, using(crate::proofs::Batches::taken_bound))]
+pub fn classify_lanes<const W: usize, L: Ledger>(
+    table: &Table,
+    keys: &[u8],
+    cats: Categories,
+    scratch: &mut Scratch,
+    out: &mut [u32],
+    steps: &mut Steps<L>,
+) -> Flown
+    requires lanes { IsLanes W }
+    requires fits { LengthsFit table.now keys.now cats.count (length out.old) }
+    requires room { keys_in table.now keys.now ≤ length scratch.old }
+    ensures verdicts { out.new ≡ batch_verdicts table.now cats.count keys.now }
+    ensures taken { result.taken ≡ batch_transitions table.now keys.now }
+    ensures bound { result.taken ≤ most_of_batch table.now keys.now }
+    ensures steps { steps.new ≡ steps.old + batch_transitions table.now keys.now }
+    ensures turns { IsRounds table.now keys.now W result.turns }
+    ensures rows { take (keys_in table.now keys.now) scratch.new
+        ≡ (flow_from_first table.now keys.now W (turns W result.turns)).rows }
+    ensures others { drop (keys_in table.now keys.now) scratch.new
+        ≡ drop (keys_in table.now keys.now) scratch.old }
+    ensures len { length scratch.new ≡ length scratch.old }
+{
+    let flown = fly::<W, L>(table, keys, scratch, steps);
+    write_verdicts(scratch, keys.len() / table.key_len(), cats.count(), out);
+    flown
+}
