@@ -1,17 +1,18 @@
 -- The first row of a half that answers unlike says the least key and category at which its two sets differ.
 use Rattle.std.proofs.Common.{◌≡◌, ℕ, zero, suc, ◌+◌, ◌-◌, ◌*◌, ◌<◌, ◌≤◌, ◌==◌, List, [], ◌∷◌, length, map, get_or, cond}
 use Rattle.std.proofs.Common.{Bool, true, false, not, ◌||◌, true≢false, ◌⊎◌, Option, Some, None, refl, sym, ◌∙◌, ap, subst}
-use Rattle.std.proofs.Common.{inl, inr, arith}
+use Rattle.std.proofs.Common.{inl, inr, arith, ◌↔◌, IfSome, IfOk, Result, Ok, Err}
 use Rattle.std.specs.List.{AllByRecursion, find, list_any, range_with_len}
 use Rattle.std.specs.Option.{option_map, is_some}
 use Rattle.std.specs.Str.{bytes_eq}
 use Rattle.std.proofs.lemmas.Bool.{eqb-true}
 use Rattle.list_lemmas.proofs.First.{find_agree}
+use Rattle.field_defs.specs.Faults.{first_of}
 use Rattle.field_defs.specs.Layout.{key_len_of}
 use Rattle.rule_set.specs.Laws.{TheWinnerIsAmongAllPlaces}
 use Rattle.rule_set.specs.Rule.{RuleView, RuleSetView}
 use Rattle.rule_set.specs.RuleSet.{IsRuleSet}
-use Rattle.rule_set.specs.Winner.{winner, userdata_at}
+use Rattle.rule_set.specs.Winner.{winner, verdict, userdata_at}
 use Rattle.field_defs.specs.Lawful.{IsLayout}
 use Rattle.table_sizes.specs.Sizes.{row_len}
 use Rattle.trie_merge.specs.Found.{prefixes}
@@ -20,22 +21,26 @@ use Rattle.trie_merge.specs.Levels.{LevelsView, levels_of}
 use Rattle.trie_merge.specs.Row.{final_row}
 use Rattle.trie_merge.specs.State.{state, is_live}
 use Rattle.trie_merge.proofs.Offered.{bytes_eq_sound, prefixes_are, all_weaker, IsPrefix}
+use Rattle.acl_audit.specs.declared.compare.Compared.{Compared}
+use Rattle.acl_audit.specs.declared.compare.CompareFault.{CompareFault}
 use Rattle.acl_audit.specs.declared.unlike.Unlike.{Unlike}
+use Rattle.acl_audit.specs.Compared.{told_difference}
 use Rattle.acl_audit.specs.Difference.{Difference, verdict_of, is_unlike, eight_from, with_category, least_passing}
-use Rattle.acl_audit.specs.Difference.{difference_from}
+use Rattle.acl_audit.specs.Difference.{difference_from, difference}
 use Rattle.acl_audit.specs.Half.{half_len, half_of}
+use Rattle.acl_audit.specs.Laws.{AreAlike, AreUnlikeAt}
 use Rattle.acl_audit.specs.Least.{least_from, all_rules}
 use Rattle.acl_audit.specs.Traced.{key_of_row}
 use Rattle.acl_audit.specs.Unlike.{entry_userdata, is_unlike_in, unlike_category, unlike_or, first_unlike}
+use Rattle.acl_audit.proofs.Differing.{any_by_find, differences_tell}
 use Rattle.acl_audit.proofs.Finding.{find_found}
 use Rattle.acl_audit.proofs.Fitting.{entry_is_winner}
 use Rattle.acl_audit.proofs.Halving.{halves_have_verdicts}
-use Rattle.acl_audit.proofs.Leading.{rows_found}
 use Rattle.acl_audit.proofs.Least.{least_is_first}
 use Rattle.acl_audit.proofs.Ready.{grouped, row_key_is}
 use Rattle.acl_audit.proofs.Telling.{keys, rows_are, row_count, all_long}
 use Rattle.acl_audit.proofs.Tracing.{all_at}
-use Rattle.acl_audit.proofs.Winning.{entry_for, row_at}
+use Rattle.acl_audit.proofs.Winning.{entry_for}
 
 -- ---- tests that agree
 
@@ -307,3 +312,82 @@ half_told one two half set levels unlike layouts is some rules layout among merg
     by (Some u) =
         (let e : half_len * half + (0 + u.category) ≡ half_len * half + u.category = omega arith in
         λ i. Some (record { key = key_of_row set levels u.row; category = e i }))
+
+pub some_length : (set : RuleSetView) → (length set.rules == 0) ≡ false → 0 < length set.rules
+some_length set some = by (length set.rules) some
+  where
+    by : (n : ℕ) → (n == 0) ≡ false → 0 < n
+    by zero none = absurd (true≢false none)
+    by (suc n) its = omega arith
+
+-- ---- a half without rules
+
+never_found : {X : Type 0} (p : X → Bool) → ((x : X) → p x ≡ false) → (xs : List X) → find p xs ≡ None
+never_found p never [] = refl
+never_found p never (x ∷ xs) = ap (λ b. cond b (Some x) (find p xs)) (never x) ∙ never_found p never xs
+
+no_rules : (rules : List RuleView) → length rules ≡ 0 → rules ≡ []
+no_rules [] none = refl
+no_rules (rule ∷ rules) none = absurd (omega (arith, none))
+
+no_verdict : (set : RuleSetView) → length set.rules ≡ 0 → (key : List ℕ) (category : ℕ)
+    → verdict_of set key category ≡ 0
+no_verdict set none key category = ap (λ rules. verdict set.layout rules key category) (no_rules set.rules none)
+
+never_passing : (test : List ℕ → ℕ → Bool) (len : ℕ) → ((key : List ℕ) (n : ℕ) → test key n ≡ false)
+    → least_passing test len 0 ≡ None
+unfolding least_passing
+never_passing test len never =
+    ap (with_category test 0)
+    (least_is_first (λ key. list_any (test key) (eight_from 0)) len
+    ∙ never_found (λ key. list_any (test key) (eight_from 0))
+    (λ key. any_by_find (test key) (eight_from 0) (never_found (test key) (never key) (eight_from 0))) (prefixes len))
+
+pub none_told : (one two : RuleSetView) (half : ℕ) (set : RuleSetView) → one.layout ≡ two.layout
+    → set ≡ half_of one two half → length set.rules ≡ 0 → None ≡ difference_from one two (half_len * half)
+none_told one two half set layouts is none =
+    sym (difference_by_half one two half layouts
+    ∙ ap (λ (s : RuleSetView). option_map (old_category (half_len * half))
+    (least_passing (unlike_inside s) (key_len_of s.layout) 0)) (sym is)
+    ∙ ap (option_map (old_category (half_len * half)))
+    (never_passing (unlike_inside set) (key_len_of set.layout)
+    (λ key n. λ i. not (no_verdict set none key n i == no_verdict set none key (n + half_len) i))))
+
+-- ---- both halves
+
+first_of_second : {X : Type 0} (o : Option X) → first_of (None ∷ o ∷ []) ≡ o
+first_of_second None = refl
+first_of_second (Some x) = refl
+
+pub told_second : (one two : RuleSetView) (result : Result Compared CompareFault)
+    → None ≡ difference_from one two (half_len * 0)
+    → IfOk result (λ compared. told_difference compared ≡ difference_from one two (half_len * 1))
+    → IfOk result (λ compared. told_difference compared ≡ difference one two)
+unfolding difference
+told_second one two (Err fault) none told = tt
+told_second one two (Ok compared) none told =
+    told ∙ sym (ap (λ o. first_of (o ∷ difference_from one two 8 ∷ [])) (sym none)
+    ∙ first_of_second (difference_from one two 8))
+
+pub told_first : (one two : RuleSetView) (at : Difference) → Some at ≡ difference_from one two (half_len * 0)
+    → Some at ≡ difference one two
+unfolding difference
+told_first one two at is = ap (λ o. first_of (o ∷ difference_from one two 8 ∷ [])) is
+
+pub same_told : (one two : RuleSetView) (result : Result Compared CompareFault)
+    → IfOk result (λ compared. told_difference compared ≡ difference one two)
+    → IfOk result (λ compared. told_difference compared ≡ None ↔ AreAlike one two)
+same_told one two (Err fault) told = tt
+same_told one two (Ok compared) told =
+    let law = differences_tell.none one two in
+    (λ none. law.0 (sym told ∙ none), λ alike. told ∙ law.1 alike)
+
+pub differ_told : (one two : RuleSetView) (result : Result Compared CompareFault)
+    → IfOk result (λ compared. told_difference compared ≡ difference one two)
+    → IfOk result (λ compared. IfSome (told_difference compared) (AreUnlikeAt one two))
+differ_told one two (Err fault) told = tt
+differ_told one two (Ok compared) told = by (told_difference compared) told
+  where
+    by : (o : Option Difference) → o ≡ difference one two → IfSome o (AreUnlikeAt one two)
+    by None is = tt
+    by (Some at) is = differences_tell.some one two at (sym is)

@@ -1,5 +1,5 @@
 -- Where there is a difference verdicts are unlike, and where there is none they are equal everywhere.
-use Rattle.std.proofs.Common.{◌≡◌, ◌≢◌, ℕ, zero, suc, ◌+◌, ◌<◌, ◌≤◌, ◌==◌, List, [], ◌∷◌, ◌++◌, length, map, cond, Bool}
+use Rattle.std.proofs.Common.{◌≡◌, ℕ, zero, suc, ◌+◌, ◌<◌, ◌≤◌, ◌==◌, List, [], ◌∷◌, ◌++◌, length, map, cond, Bool}
 use Rattle.std.proofs.Common.{true, false, not, ◌||◌, ◌⊎◌, true≢false, Option, Some, None, refl, sym, ◌∙◌, ap, subst, inl}
 use Rattle.std.proofs.Common.{inr, arith}
 use Rattle.std.specs.List.{AllByRecursion, find, list_any, range_with_len}
@@ -32,7 +32,7 @@ of_found P p (x ∷ xs) w all found = by (p x) (of_found P p xs w all.1) found
     by false rest is = rest is
 
 -- where none is found none passes
-any_by_find : {X : Type 0} (p : X → Bool) (xs : List X) → find p xs ≡ None → list_any p xs ≡ false
+pub any_by_find : {X : Type 0} (p : X → Bool) (xs : List X) → find p xs ≡ None → list_any p xs ≡ false
 any_by_find p [] none = refl
 any_by_find p (x ∷ xs) none = by (p x) (any_by_find p xs) none
   where
@@ -146,7 +146,8 @@ module _ (test : List ℕ → ℕ → Bool) (first : ℕ) where
       → list_any (test key) (eight_from first) ≡ false
   none_there key none = any_by_find (test key) (eight_from first) (by (find (test key) (eight_from first)) none)
     where
-      by : (o : Option ℕ) → option_map (λ category. record { key = key; category = category }) o ≡ None → o ≡ None
+      by : (o : Option ℕ) → option_map {U = Difference} (λ category. record { key = key; category = category }) o ≡ None
+          → o ≡ None
       by None h = refl
       by (Some category) h = absurd (cc)
 

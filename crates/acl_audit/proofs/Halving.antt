@@ -13,9 +13,8 @@ use Rattle.list_lemmas.proofs.First.{position_of_found}
 use Rattle.list_lemmas.proofs.Sums.{bit_is}
 use Rattle.field_defs.specs.declared.field.FieldDef.{FieldDef}
 use Rattle.rule_set.specs.Fault.{categories}
-use Rattle.rule_set.specs.Rule.{RuleView, RuleSetView}
+use Rattle.rule_set.specs.Rule.{RuleView}
 use Rattle.rule_set.specs.Winner.{rule_match, is_in_category, applies, is_greatest, userdata_at, verdict}
-use Rattle.acl_audit.specs.Difference.{verdict_of}
 use Rattle.acl_audit.specs.Half.{half_len, is_in_half, mask_of, halved, halved_rules, half_of}
 use Rattle.acl_audit.specs.Laws.{HalvesHaveTheVerdictsOfBoth}
 

@@ -2,6 +2,7 @@ mod Back
 mod Comparing
 mod Differing
 mod Finding
+mod FirstRow
 mod Fitting
 mod Halving
 mod Keys

@@ -1,11 +1,11 @@
 -- The rules of a half: their masks, and that they are lawful.
 use Rattle.std.proofs.Common.{◌≡◌, ℕ, zero, suc, ◌+◌, ◌-◌, ◌*◌, ◌/◌, ◌%◌, ◌^◌, ◌<◌, ◌≤◌, ◌==◌, List, [], ◌∷◌, ◌++◌, length, map}
-use Rattle.std.proofs.Common.{filter, cond, Bool, true, false, not, ◌&&◌, true≢false, None, refl, sym, ◌∙◌, ap, subst, inl}
-use Rattle.std.proofs.Common.{inr, arith, pos}
+use Rattle.std.proofs.Common.{filter, cond, Bool, true, false, not, ◌&&◌, None, refl, sym, ◌∙◌, ap, inl}
+use Rattle.std.proofs.Common.{inr, arith, take, get_or, length-append}
 use Rattle.std.specs.Int.{bit_at}
-use Rattle.std.specs.List.{list_any}
+use Rattle.std.specs.Prelude.{bit_and}
 use Rattle.std.proofs.lemmas.Bool.{cases_Bool, cases_lt, eqb-true, eq-eqb}
-use Rattle.std.proofs.lemmas.List.{map-append}
+use Rattle.std.proofs.lemmas.List.{map-append, append-nil, append_assoc, take_more, take_all, length-take-le}
 use Rattle.std.proofs.lemmas.List.Elements.{filter-append}
 use Rattle.std.proofs.lemmas.Nat.{and_mask, pow-add}
 use Rattle.std.proofs.lemmas.Nat.Bits.{bit_at-zero, bit_at-lt, bit_at_above, bit_at_cat_low, bit_at_cat_high}
@@ -18,7 +18,6 @@ use Rattle.field_defs.specs.Lawful.{IsLayout}
 use Rattle.rule_set.specs.declared.rule.RuleTag.{RuleTag}
 use Rattle.rule_set.specs.Fault.{categories, rule_fault}
 use Rattle.rule_set.specs.Rule.{RuleView, RuleSetView}
-use Rattle.rule_set.specs.Winner.{is_in_category}
 use Rattle.rule_set.proofs.Offered.{faultless_rules, some_category}
 use Rattle.acl_audit.specs.Half.{half_len, is_in_half, mask_of, halved, halved_rules, half_of}
 
@@ -93,6 +92,16 @@ half_mask_is tag half list few =
     (bit_at-lt tag.category_mask (half_len * half + i % half_len))
     ∙ sym (bit_is (is_in_half half list tag) 16 i below))
 
+-- and so it is as the code works it out
+pub half_mask_code : (tag : RuleTag) (half list : ℕ) → list < 2
+    → bit_and (tag.category_mask / 2 ^ (half_len * half)) 255 * 2 ^ (half_len * list) % 4294967296
+    ≡ mask_of (is_in_half half list tag)
+half_mask_code tag half list few =
+    let w : ℕ = tag.category_mask / 2 ^ (half_len * half) in
+    let small = moved_small (w % 256) list (omega arith) few in
+    let stays : w % 256 * 2 ^ (half_len * list) % 4294967296 ≡ w % 256 * 2 ^ (half_len * list) = omega (arith, small) in
+    ap (λ n. n * 2 ^ (half_len * list) % 4294967296) (and_mask w 8) ∙ stays ∙ half_mask_is tag half list few
+
 pub mask_small : (test : ℕ → Bool) → mask_of test < 2 ^ 16
 unfolding mask_of categories
 mask_small test = bits_small test 16
@@ -131,11 +140,12 @@ pub halved_one : (half list : ℕ) (rule : RuleView) → (mask_of (is_in_half ha
     → halved_rules half list (rule ∷ []) ≡ halved half list rule ∷ []
 unfolding halved_rules
 halved_one half list rule some =
-    ap (λ b. cond (not b) (halved half list rule ∷ []) [])
-    (elim (cases_Bool (mask_of (is_in_half half list rule.tag) == 0)) [
+    let left : (mask_of (is_in_half half list rule.tag) == 0) ≡ false =
+    elim (cases_Bool (mask_of (is_in_half half list rule.tag) == 0)) [
       | inl is ↦ absurd (some (eqb-true (mask_of (is_in_half half list rule.tag)) 0 is))
       | inr differs ↦ differs
-    ])
+    ] in
+    ap (λ b. cond (not b) (halved half list rule ∷ []) []) left
 
 pub halved-append : (half list : ℕ) (xs ys : List RuleView)
     → halved_rules half list (xs ++ ys) ≡ halved_rules half list xs ++ halved_rules half list ys
@@ -163,3 +173,68 @@ halved_few half list (x ∷ xs) =
         ≤ suc (length xs)
     by true rest = omega (arith, rest)
     by false rest = omega (arith, rest)
+
+-- ---- the loop over a list
+
+-- the rules of a half so far, where so many rules of a list are taken
+pub record AreHalvedUpTo (before : RuleSetView) (half list : ℕ) (rules : List RuleView) (n : ℕ) (now : RuleSetView)
+    : Type 0 where
+  pub layout : now.layout ≡ before.layout
+  pub rules_are : now.rules ≡ before.rules ++ halved_rules half list (take n rules)
+
+pub halved_start : (before : RuleSetView) (half list : ℕ) (rules : List RuleView)
+    → AreHalvedUpTo before half list rules 0 before
+halved_start before half list rules = record {
+  layout = refl;
+  rules_are = sym (append-nil before.rules) ∙ ap (λ l. before.rules ++ l) (sym (halved_nil half list));
+}
+
+pub halved_more : (before : RuleSetView) (half list : ℕ) (rules : List RuleView) (n : ℕ) (now next : RuleSetView)
+    (rule : RuleView) → AreHalvedUpTo before half list rules n now → n < length rules → rule ≡ get_or rules n rule
+    → next ≡ record now { rules = now.rules ++ halved_rules half list (rule ∷ []) }
+    → AreHalvedUpTo before half list rules (n + 1) next
+halved_more before half list rules n now next rule are below is step = record {
+  layout = ap (λ (s : RuleSetView). s.layout) step ∙ are.layout;
+  rules_are = ap (λ (s : RuleSetView). s.rules) step
+      ∙ ap (λ l. l ++ halved_rules half list (rule ∷ [])) are.rules_are
+      ∙ append_assoc before.rules (halved_rules half list (take n rules)) (halved_rules half list (rule ∷ []))
+      ∙ ap (λ l. before.rules ++ l)
+      (sym (halved-append half list (take n rules) (rule ∷ []))
+      ∙ ap (halved_rules half list)
+      (ap (λ (r : RuleView). take n rules ++ r ∷ []) is ∙ sym (take_more rules n rule below)));
+}
+
+pub halved_room : (before : RuleSetView) (half list : ℕ) (rules : List RuleView) (n most : ℕ) (now : RuleSetView)
+    → AreHalvedUpTo before half list rules n now → n < length rules → length before.rules + length rules ≤ most
+    → length now.rules < most
+halved_room before half list rules n most now are below room =
+    omega (
+      arith,
+      below,
+      room,
+      ap length are.rules_are,
+      length-append before.rules (halved_rules half list (take n rules)),
+      halved_few half list (take n rules),
+      length-take-le n rules (omega (arith, below)),
+    )
+
+pub halved_all : (before : RuleSetView) (half list : ℕ) (rules : List RuleView) (n : ℕ) (now : RuleSetView)
+    → AreHalvedUpTo before half list rules n now → length rules ≤ n
+    → now ≡ record before { rules = before.rules ++ halved_rules half list rules }
+halved_all before half list rules n now are all =
+    λ i. record {
+      layout = are.layout i;
+      rules = (are.rules_are ∙ ap (λ l. before.rules ++ halved_rules half list l) (take_all n rules all)) i;
+    }
+
+-- the rules of a half are those of both lists
+pub halved_both : (one two : RuleSetView) (half : ℕ) (start first second : RuleSetView)
+    → start ≡ record { layout = one.layout; rules = [] }
+    → first ≡ record start { rules = start.rules ++ halved_rules half 0 one.rules }
+    → second ≡ record first { rules = first.rules ++ halved_rules half 1 two.rules }
+    → second ≡ half_of one two half
+unfolding half_of
+halved_both one two half start first second start_is first_is second_is =
+    second_is
+    ∙ ap (λ (s : RuleSetView). record s { rules = s.rules ++ halved_rules half 1 two.rules })
+    (first_is ∙ ap (λ (s : RuleSetView). record s { rules = s.rules ++ halved_rules half 0 one.rules }) start_is)

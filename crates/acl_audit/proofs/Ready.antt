@@ -119,8 +119,8 @@ unfolding least_keys
 no_keys set none = ap (λ n. map (λ rule. map (least_key set rule) categories) (range_with_len 0 n)) (sym none)
 
 -- there are keys for each rule
-pub count_of_keys : (set : RuleSetView) (keys : List (List (Option (List ℕ)))) → keys ≡ least_keys set
-    → length keys ≡ length set.rules
+pub count_of_keys : (set : RuleSetView) (all_keys : List (List (Option (List ℕ)))) → all_keys ≡ least_keys set
+    → length all_keys ≡ length set.rules
 unfolding least_keys
-count_of_keys set keys are =
+count_of_keys set all_keys are =
     ap length are ∙ length-map-range_with_len (λ rule. map (least_key set rule) categories) 0 (length set.rules)

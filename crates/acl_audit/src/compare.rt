@@ -139,18 +139,46 @@ fn compare_half(
     if rules.is_empty() {
         return Ok(Compared::Same);
     }
+    let _rules = rules.all();
+    let _fields = rules.layout().fields();
+    rule_set::laws::the_winner_is_among_all_places();
     let levels = match half_levels(alloc, &rules, budget) {
         Ok(levels) => levels,
         Err(fault) => return Err(fault),
     };
-    let Some(unlike) = first_unlike(&rules, &levels) else {
-        return Ok(Compared::Same);
-    };
-    let key = key_of_row(alloc, &rules, &levels, unlike.row)?;
-    Ok(Compared::Differ {
-        key,
-        category: HALF_LEN * half + unlike.category,
-    })
+    match first_unlike(&rules, &levels) {
+        Some(unlike) => {
+            let key = key_of_row(alloc, &rules, &levels, unlike.row)?;
+            let category = HALF_LEN * half + unlike.category;
+            Ok(Compared::Differ { key, category })
+        }
+        None => Ok(Compared::Same),
+    }
+}
+
+/// Compares two sets of not too many rules in all categories.
+fn compare_both(
+    alloc: Global,
+    one: &RuleSet,
+    two: &RuleSet,
+    budget: u64,
+) -> Result<Compared, CompareFault>
+    requires layouts { one.now.layout ≡ two.now.layout }
+    requires rules { length one.now.rules + length two.now.rules ≤ max_rules }
+    requires budget { budget ≤ max_words }
+    ensures told { IfOk result
+        (λ compared. told_difference compared ≡ difference one.now two.now) }
+    ensures fits { OnOk result (is_too_large one.now two.now budget ≡ false) }
+    ensures over { (words most : ℕ) → result ≡ Err (TooLarge words most) →
+        (is_too_large one.now two.now budget ≡ true)
+        × (words ≡ budget + 1) × (most ≡ budget) }
+    ensures few { result ≢ Err TooManyRules }
+{
+    match compare_half(alloc, one, two, 0, budget) {
+        Ok(Compared::Same) => compare_half(alloc, one, two, 1, budget),
+        Ok(Compared::Differ { key, category }) => Ok(Compared::Differ { key, category }),
+        Err(fault) => Err(fault),
+    }
 }
 
 /// Tells whether two rule sets of one layout have equal verdicts for every key in all 16
@@ -188,11 +216,8 @@ pub fn compare_rules(
         (is_too_large one.now two.now budget ≡ true)
         × (words ≡ budget + 1) × (most ≡ budget) }
 {
-    if one.len() + two.len() > MAX_RULES {
+    if one.all().len() + two.all().len() > MAX_RULES {
         return Err(CompareFault::TooManyRules);
     }
-    match compare_half(alloc, one, two, 0, budget) {
-        Ok(Compared::Same) => compare_half(alloc, one, two, 1, budget),
-        decided => decided,
-    }
+    compare_both(alloc, one, two, budget)
 }

@@ -23,6 +23,18 @@ fn half_mask(tag: &RuleTag, half: u32, list: u32) -> u32
     (tag.category_mask >> (HALF_LEN * half) & HALF_BITS) << (HALF_LEN * list)
 }
 
+/// The tag with its categories of the half, and no others.
+fn half_tag(tag: &RuleTag, half: u32, list: u32) -> RuleTag
+    requires half { half < 2 }
+    requires list { list < 2 }
+    ensures { result ≡ record tag.now { category_mask = mask_of (is_in_half half list tag.now) } }
+{
+    RuleTag {
+        category_mask: half_mask(tag, half, list),
+        ..*tag
+    }
+}
+
 /// Puts the rule after the others with its categories of the half, if it has any.
 fn push_halved(
     alloc: Global,
@@ -39,13 +51,8 @@ fn push_halved(
         ≡ record rules.old { rules = rules.old.rules ++ halved_rules half list (rule.now ∷ []) }) }
 {
     let _fields = rules.layout().fields();
-    let old = rule.tag();
-    let category_mask = half_mask(&old, half, list);
-    if category_mask != 0 {
-        let tag = RuleTag {
-            category_mask,
-            ..old
-        };
+    let tag = half_tag(&rule.tag(), half, list);
+    if tag.category_mask != 0 {
         rules.push_lawful(StoredRule::new(alloc, tag, rule.fields())?)?;
     }
     Ok(())

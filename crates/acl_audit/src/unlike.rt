@@ -46,7 +46,7 @@ fn is_unlike_in(rules: &RuleSet, row: &[u32; ROW_LEN], category: u32) -> bool
 /// The first category in which the row answers unlike.
 fn unlike_category(rules: &RuleSet, row: &[u32; ROW_LEN]) -> Option<u32>
     requires { All (λ entry. entry ≤ length rules.now.rules) row.now }
-    ensures { result ≡ unlike_category rules.now.rules row.now }
+    ensures first { result ≡ unlike_category rules.now.rules row.now }
     ensures bound { IfSome result (λ category. category < half_len) }
 {
     for category in 0..HALF_LEN {
@@ -60,13 +60,14 @@ fn unlike_category(rules: &RuleSet, row: &[u32; ROW_LEN]) -> Option<u32>
 /// The first row in which the two lists answer unlike, and the first category there.
 pub(crate) fn first_unlike(rules: &RuleSet, levels: &Levels) -> Option<Unlike>
     requires { All (All (λ entry. entry ≤ length rules.now.rules)) levels.now.rows }
-    ensures { result ≡ first_unlike rules.now.rules 0 levels.now.rows }
+    ensures first { result ≡ first_unlike rules.now.rules 0 levels.now.rows }
     ensures row { IfSome result (λ unlike. unlike.row < length levels.now.rows) }
     ensures category { IfSome result (λ unlike. unlike.category < half_len) }
 {
     for row in 0..levels.rows() {
-        if let Some(category) = unlike_category(rules, levels.row(row)) {
-            return Some(Unlike { row, category });
+        match unlike_category(rules, levels.row(row)) {
+            Some(category) => return Some(Unlike { row, category }),
+            None => {}
         }
     }
     None
