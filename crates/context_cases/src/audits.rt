@@ -84,7 +84,15 @@ fn a_covered_rule_never_wins(rt: HostRuntime) -> Result<(), Fail> {
     wins(&rt, &rules, &audit, 1, 0, None)?;
     wins(&rt, &rules, &audit, 0, 1, None)?;
     let refused = live_rules(rt.alloc(), &rules, 26);
-    assert!(rt; matches!(refused, Err(AuditFault::TooLarge { words: 27, budget: 26 })));
+    assert!(rt;
+        matches!(
+            refused,
+            Err(AuditFault::TooLarge {
+                words: 27,
+                budget: 26
+            })
+        )
+    );
     Ok(())
 }
 

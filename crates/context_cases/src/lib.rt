@@ -15,6 +15,7 @@
 //! | `filled` | tables whose words were worked out by hand |
 //! | `groups` | states whose words were worked out by hand |
 //! | `images` | images of one rule, in both versions, and changed ones |
+//! | `lanes` | walks by lanes, turn by turn and to their end |
 //! | `layouts` | contexts whose layouts have two and nine fields, and keys of 5 and 25 bytes |
 //! | `messages` | what each fault says |
 //! | `numbers` | the places of rules, for the tests above and below |
@@ -43,6 +44,8 @@ mod filled;
 mod groups;
 #[cfg(test)]
 mod images;
+#[cfg(test)]
+mod lanes;
 #[cfg(test)]
 mod layouts;
 #[cfg(test)]
