@@ -4,6 +4,7 @@ use Rattle.std.specs.Option.{option_map_or}
 use Rattle.field_defs.specs.declared.field.Family.TheVariants.{Ip4, Ip6}
 use Rattle.rule_set.specs.declared.categories.Categories.{Categories}
 use Rattle.table_sizes.specs.Sizes.{max_words}
+use Rattle.lane_walk.specs.declared.walk.Walk.{Walk}
 use Rattle.table_fill.specs.Laws.{FilledTablesDecide}
 use Rattle.acl_outside.specs.Desk.{File, bytes_of}
 use Rattle.classbench_reader.specs.Accepted.{AcceptedRulesAreLawful}
@@ -65,13 +66,13 @@ replay_found files i c image capture options tables at_i at_c loaded =
     ∙ report_found (form_of (ByTables tables) tables options) files c capture at_c
 
 pub agrees : FilledTablesDecide → AcceptedRulesAreLawful → (rules image capture : List ℕ) (budget : ℕ)
-    (cats : Categories) (stats marks : Bool) → budget ≤ max_words →
+    (cats : Categories) (stats marks : Bool) → budget ≤ max_words → (walk : Walk) →
     ReplayAgrees rules image capture
-    (record { categories = cats.count; max_words = budget; stats = stats; marks = marks })
-agrees decide lawful rules image capture budget cats stats marks within saved bytes files r i c at_r at_i at_c =
+    (record { categories = cats.count; walk = walk; max_words = budget; stats = stats; marks = marks })
+agrees decide lawful rules image capture budget cats stats marks within walk saved bytes files r i c at_r at_i at_c =
     let serve = tables_serve decide lawful rules saved.lists budget saved.accepted saved.fits within in
     let options : Options =
-    record { categories = cats.count; max_words = budget; stats = stats; marks = marks } in
+    record { categories = cats.count; walk = walk; max_words = budget; stats = stats; marks = marks } in
     let printed : PrintOptions = record { cats = cats; stats = stats; marks = marks } in
     let tables : Tables = tables_built saved.lists budget in
     let loaded : tables_of_bytes image ≡ Ok tables =

@@ -47,7 +47,7 @@ asked_after (rules ∷ capture ∷ words) old new status lawful answers =
       options = words;
       read = options;
       is = refl;
-      said = options_said words options at;
+      said = options_said for_classify 4 words options at;
       ends = all.ends;
       totals = all.totals;
     }

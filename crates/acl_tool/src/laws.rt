@@ -2,6 +2,7 @@
 //! memory.
 
 ghost use Rattle.std.specs.Prelude.{◌<◌, ◌≤◌};
+ghost use Rattle.lane_walk.specs.declared.walk.Walk.{Walk};
 ghost use Rattle.table_sizes.specs.Sizes.{max_words};
 ghost use Rattle.acl_tool.specs.Laws.{ReplayAgrees};
 
@@ -9,7 +10,8 @@ use rule_set::Categories;
 
 /// Where the image is that of the tables of an accepted rule file, as `build` makes it under a
 /// budget from 1 to 67,108,864 words, `replay` of the image comes to what `classify` of the rule
-/// file comes to, whatever the capture: the same status, the same text and as many transitions.
+/// file comes to, whatever the capture and the walk: the same status, the same text and as many
+/// transitions.
 pub fn replay_agrees(
     rules: &[u8],
     image: &[u8],
@@ -21,8 +23,9 @@ pub fn replay_agrees(
 )
     requires some { 0 < budget }
     requires budget { budget ≤ max_words }
-    ensures { ReplayAgrees rules.now image.now capture.now (record {
+    ensures { (walk : Walk) → ReplayAgrees rules.now image.now capture.now (record {
       categories = cats.count;
+      walk = walk;
       max_words = budget;
       stats = stats;
       marks = marks;

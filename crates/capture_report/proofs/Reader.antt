@@ -12,7 +12,7 @@ use Rattle.acl_outside.specs.Heard.{Ending, Ended, GoesOn, BrokenOff}
 use Rattle.acl_outside.specs.Reading.{ReadsOn, and_goes_on}
 use Rattle.header_extract.specs.Class.{FrameClass}
 use Rattle.pcap_reader.specs.declared.fault.CaptureFault.{CaptureFault}
-use Rattle.pcap_reader.specs.declared.fault.CaptureFault.TheVariants.{HeaderCut, RecordCut, ReadFault}
+use Rattle.pcap_reader.specs.declared.fault.CaptureFault.TheVariants.{HeaderCut, RecordCut, PngCut, ReadFault}
 use Rattle.pcap_reader.specs.declared.start.Start.{Start}
 use Rattle.pcap_reader.specs.Start.{start_of, file_header_len}
 use Rattle.pcap_reader.specs.State.{Answer, CaptureRecord, begun, state_after}
@@ -141,6 +141,16 @@ Took-fault HeaderCut state old new reads = record {
 }
 Took-fault (RecordCut n) state old new reads = record {
   bytes = AreAll-cut state reads.given (RecordCut n) reads.next;
+  reads = reads.reads;
+  at_end = λ e. reads.end refl;
+  read_fault = λ e. absurd (cc);
+  keeps = reads.keeps;
+  goes_on = λ full. absurd (cc);
+  count = omega arith;
+  few = λ below. below;
+}
+Took-fault (PngCut n) state old new reads = record {
+  bytes = AreAll-cut state reads.given (PngCut n) reads.next;
   reads = reads.reads;
   at_end = λ e. reads.end refl;
   read_fault = λ e. absurd (cc);
@@ -385,6 +395,8 @@ RefusedHeader-from HeaderCut old new isnt reads =
     header_cut HeaderCut old new reads.given reads.reads (reads.end refl) reads.keeps reads.answer
 RefusedHeader-from (RecordCut n) old new isnt reads =
     header_cut (RecordCut n) old new reads.given reads.reads (reads.end refl) reads.keeps reads.answer
+RefusedHeader-from (PngCut n) old new isnt reads =
+    header_cut (PngCut n) old new reads.given reads.reads (reads.end refl) reads.keeps reads.answer
 RefusedHeader-from fault old new isnt reads =
     header_decided fault old new reads.given reads.reads reads.keeps reads.answer (λ e. absurd (cc))
 

@@ -8,7 +8,7 @@ use Rattle.acl_outside.specs.Sink.{Gains, Puts}
 use Rattle.acl_outside.proofs.Offered.{Gains-then}
 use Rattle.header_extract.specs.Class.{FrameClass}
 use Rattle.pcap_reader.specs.declared.fault.CaptureFault.{CaptureFault}
-use Rattle.pcap_reader.specs.declared.fault.CaptureFault.TheVariants.{HeaderCut, RecordCut, ReadFault as CannotRead}
+use Rattle.pcap_reader.specs.declared.fault.CaptureFault.TheVariants.{HeaderCut, RecordCut, PngCut, ReadFault as CannotRead}
 use Rattle.pcap_reader.specs.State.{CaptureRecord}
 use Rattle.pcap_reader.specs.Capture.{max_records}
 use Rattle.pcap_reader.specs.declared.state.CaptureState.{CaptureState}
@@ -164,6 +164,7 @@ HasPrinted-batch form state old now new packets stop x h batch put =
 fault_opened : (fault : CaptureFault) → IsOpened (ending_of_fault fault)
 fault_opened HeaderCut = tt
 fault_opened (RecordCut n) = tt
+fault_opened (PngCut n) = tt
 fault_opened CannotRead = tt
 fault_opened fault = tt
 
@@ -318,4 +319,6 @@ Streams-fault HeaderCut form state old now status h is =
     fault_whole form state old now HeaderCut status h tt h.took.bytes is
 Streams-fault (RecordCut n) form state old now status h is =
     fault_whole form state old now (RecordCut n) status h tt h.took.bytes is
+Streams-fault (PngCut n) form state old now status h is =
+    fault_whole form state old now (PngCut n) status h tt h.took.bytes is
 Streams-fault fault form state old now status h is = fault_whole form state old now fault status h tt h.took.bytes is

@@ -7,7 +7,7 @@ use Rattle.acl_outside.specs.Heard.{Heard, Ending, NotOpened, GoesOn, Ended, Bro
 use Rattle.acl_outside.specs.Reading.{ReadsOn, and_goes_on}
 use Rattle.header_extract.specs.Class.{FrameClass}
 use Rattle.pcap_reader.specs.declared.fault.CaptureFault.{CaptureFault}
-use Rattle.pcap_reader.specs.declared.fault.CaptureFault.TheVariants.{HeaderCut, RecordCut, ReadFault}
+use Rattle.pcap_reader.specs.declared.fault.CaptureFault.TheVariants.{HeaderCut, RecordCut, PngCut, ReadFault}
 use Rattle.pcap_reader.specs.State.{Answer, CaptureRecord, state_after}
 use Rattle.pcap_reader.specs.Capture.{followed_by, max_records, records_from}
 use Rattle.pcap_reader.specs.Fill.{KeepsReading, IsAtEnd}
@@ -28,6 +28,7 @@ max_batch = 64
 abbrev pub ending_of_fault : CaptureFault → Ending
 ending_of_fault HeaderCut = Ended
 ending_of_fault (RecordCut number) = Ended
+ending_of_fault (PngCut number) = Ended
 ending_of_fault ReadFault = BrokenOff
 ending_of_fault fault = GoesOn
 

@@ -6,7 +6,8 @@ use Rattle.command_plan.specs.declared.status.Status.TheVariants.{Done, Usage, R
 use Rattle.command_plan.specs.declared.status.Status.TheVariants.{TooLarge, CaptureRefused}
 use Rattle.command_plan.specs.declared.status.Status.TheVariants.{ImageRefused}
 use Rattle.command_plan.specs.declared.status.Status.TheVariants.{ReadFault, WriteFault}
-use Rattle.command_plan.specs.declared.status.Status.TheVariants.{OutOfMemory}
+use Rattle.command_plan.specs.declared.status.Status.TheVariants.{OutOfMemory, TooManyTogether}
+use Rattle.command_plan.specs.declared.status.Status.TheVariants.{SecondRulesRefused}
 use Rattle.command_words.specs.declared.fault.UsageKind.{UsageKind}
 use Rattle.command_words.specs.declared.fault.UsageKind.TheVariants.{MissingCommand, UnknownCommand}
 use Rattle.command_words.specs.declared.fault.UsageKind.TheVariants.{MissingName, UnknownOption}
@@ -24,6 +25,9 @@ use Rattle.pcap_reader.specs.declared.fault.CaptureFault.TheVariants.{HeaderCut,
 use Rattle.pcap_reader.specs.declared.fault.CaptureFault.TheVariants.{LinkType, RecordCut}
 use Rattle.pcap_reader.specs.declared.fault.CaptureFault.TheVariants.{RecordTooLong, TooManyRecords}
 use Rattle.pcap_reader.specs.declared.fault.CaptureFault.TheVariants.{ReadFault as CannotRead}
+use Rattle.pcap_reader.specs.declared.fault.CaptureFault.TheVariants.{PngCut, PngLength, PngOrder}
+use Rattle.pcap_reader.specs.declared.fault.CaptureFault.TheVariants.{PngVersion, PngInterface}
+use Rattle.pcap_reader.specs.declared.fault.CaptureFault.TheVariants.{PngLink, PngTooMany}
 use Rattle.pcap_reader.specs.Capture.{max_records}
 use Rattle.table_image.specs.declared.fault.ImageKind.{ImageKind}
 use Rattle.table_image.specs.declared.fault.ImageKind.TheVariants as kind
@@ -64,6 +68,13 @@ capture_text (RecordCut number) = codes "cut"
 capture_text (RecordTooLong number) = codes "too long"
 capture_text TooManyRecords = codes "too many"
 capture_text CannotRead = codes "read fault"
+capture_text (PngCut number) = codes "block cut"
+capture_text (PngLength number) = codes "block length"
+capture_text (PngOrder number) = codes "byte order"
+capture_text (PngVersion number) = codes "section version"
+capture_text (PngInterface number) = codes "no interface"
+capture_text (PngLink number) = codes "interface link type"
+capture_text (PngTooMany number) = codes "too many interfaces"
 
 -- the number of the record that a fault names: 0 for the file header, and one more than the
 -- greatest for too many
@@ -76,6 +87,13 @@ record_of_fault (RecordCut number) = number
 record_of_fault (RecordTooLong number) = number
 record_of_fault TooManyRecords = max_records + 1
 record_of_fault CannotRead = 0
+record_of_fault (PngCut number) = number
+record_of_fault (PngLength number) = number
+record_of_fault (PngOrder number) = number
+record_of_fault (PngVersion number) = number
+record_of_fault (PngInterface number) = number
+record_of_fault (PngLink number) = number
+record_of_fault (PngTooMany number) = number
 
 -- what is told of a saved image of tables
 abbrev pub image_text : ImageKind → List ℕ
@@ -113,6 +131,9 @@ message (ImageRefused fault) =
 message ReadFault = codes "aclc: read fault" ++ 10 ∷ []
 message WriteFault = codes "aclc: write fault" ++ 10 ∷ []
 message OutOfMemory = codes "aclc: out of memory" ++ 10 ∷ []
+message TooManyTogether = codes "aclc: compare: too many rules" ++ 10 ∷ []
+message (SecondRulesRefused fault) =
+    numbered (codes "second rules: line ") fault.line (line_text fault.kind)
 
 -- the exit code of a status
 abbrev pub code_of : Status → ℕ
@@ -125,3 +146,5 @@ code_of (ImageRefused fault) = 6
 code_of ReadFault = 7
 code_of WriteFault = 8
 code_of OutOfMemory = 9
+code_of TooManyTogether = 11
+code_of (SecondRulesRefused fault) = 12

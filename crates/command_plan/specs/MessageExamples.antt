@@ -8,6 +8,8 @@ use Rattle.command_plan.specs.declared.status.Status.TheVariants.{Done, Usage, R
 use Rattle.command_plan.specs.declared.status.Status.TheVariants.{TooLarge, CaptureRefused}
 use Rattle.command_plan.specs.declared.status.Status.TheVariants.{ReadFault, WriteFault}
 use Rattle.command_plan.specs.declared.status.Status.TheVariants.{OutOfMemory, ImageRefused}
+use Rattle.command_plan.specs.declared.status.Status.TheVariants.{TooManyTogether}
+use Rattle.command_plan.specs.declared.status.Status.TheVariants.{SecondRulesRefused}
 use Rattle.command_words.specs.declared.fault.UsageKind.TheVariants.{MissingCommand, UnknownCommand}
 use Rattle.command_words.specs.declared.fault.UsageKind.TheVariants.{MissingName, UnknownOption}
 use Rattle.command_words.specs.declared.fault.UsageKind.TheVariants.{RepeatedOption, BadValue}
@@ -21,6 +23,9 @@ use Rattle.classbench_reader.specs.declared.fault.LineKind.TheVariants.{NoCatego
 use Rattle.pcap_reader.specs.declared.fault.CaptureFault.TheVariants.{HeaderCut, Magic, Version}
 use Rattle.pcap_reader.specs.declared.fault.CaptureFault.TheVariants.{LinkType, RecordCut}
 use Rattle.pcap_reader.specs.declared.fault.CaptureFault.TheVariants.{RecordTooLong, TooManyRecords}
+use Rattle.pcap_reader.specs.declared.fault.CaptureFault.TheVariants.{PngCut, PngLength, PngOrder}
+use Rattle.pcap_reader.specs.declared.fault.CaptureFault.TheVariants.{PngVersion, PngInterface}
+use Rattle.pcap_reader.specs.declared.fault.CaptureFault.TheVariants.{PngLink, PngTooMany}
 use Rattle.command_words.specs.Command.{fault_at}
 use Rattle.command_plan.specs.Message.{message, usage_text, line_text, capture_text, code_of}
 use Rattle.command_plan.specs.Message.{image_text}
@@ -73,6 +78,14 @@ write_fault = refl
 out_of_memory : message OutOfMemory ≡ codes "aclc: out of memory\n"
 out_of_memory = refl
 
+too_many_together : message TooManyTogether ≡ codes "aclc: compare: too many rules\n"
+too_many_together = refl
+
+bad_second_line : message (SecondRulesRefused (record { line = 2; kind = EmptyRange }))
+    ≡ codes "aclc: second rules: line 2: empty range\n"
+unfolding digits
+bad_second_line = refl
+
 usage_kinds : map usage_text
     (MissingCommand ∷ UnknownCommand ∷ MissingName ∷ UnknownOption ∷ RepeatedOption ∷ BadValue ∷ [])
     ≡ codes "missing command" ∷ codes "unknown command" ∷ codes "missing name"
@@ -97,6 +110,13 @@ capture_kinds : map capture_text (
     ∷ codes "too long" ∷ codes "too many" ∷ []
 capture_kinds = refl
 
+block_kinds : map capture_text (
+    PngCut 1 ∷ PngLength 1 ∷ PngOrder 1 ∷ PngVersion 1 ∷ PngInterface 1 ∷ PngLink 1
+    ∷ PngTooMany 1 ∷ [])
+    ≡ codes "block cut" ∷ codes "block length" ∷ codes "byte order" ∷ codes "section version"
+    ∷ codes "no interface" ∷ codes "interface link type" ∷ codes "too many interfaces" ∷ []
+block_kinds = refl
+
 image_kinds : map image_text (
     kind.Magic ∷ kind.Version ∷ kind.Family ∷ kind.Length ∷ kind.TooMany ∷ kind.Unsound
     ∷ kind.RowForm ∷ kind.Trailing ∷ kind.KeptGroups ∷ [])
@@ -114,10 +134,20 @@ long_record : message (CaptureRefused (RecordTooLong 7))
 unfolding digits
 long_record = refl
 
+cut_block : message (CaptureRefused (PngCut 2)) ≡ codes "aclc: capture: record 2: block cut\n"
+unfolding digits
+cut_block = refl
+
+no_interface : message (CaptureRefused (PngInterface 1))
+    ≡ codes "aclc: capture: record 1: no interface\n"
+unfolding digits
+no_interface = refl
+
 -- each status has a code of its own
 all_codes : map code_of (
     Done ∷ Usage (fault_at 1 UnknownCommand) ∷ RulesRefused (record { line = 1; kind = BadStart })
     ∷ TooLarge Ip4 16 15 ∷ CaptureRefused Magic
     ∷ ImageRefused (record { place = 0; kind = kind.Length }) ∷ ReadFault ∷ WriteFault ∷ OutOfMemory
-    ∷ []) ≡ 0 ∷ 2 ∷ 3 ∷ 4 ∷ 5 ∷ 6 ∷ 7 ∷ 8 ∷ 9 ∷ []
+    ∷ TooManyTogether ∷ SecondRulesRefused (record { line = 1; kind = BadStart }) ∷ [])
+    ≡ 0 ∷ 2 ∷ 3 ∷ 4 ∷ 5 ∷ 6 ∷ 7 ∷ 8 ∷ 9 ∷ 11 ∷ 12 ∷ []
 all_codes = refl

@@ -58,6 +58,15 @@ pub fn message_line(status: &Status, into: &mut [u8; LINE_ROOM]) -> usize
         Status::ReadFault => append(into, 0, b"aclc: read fault\n"),
         Status::WriteFault => append(into, 0, b"aclc: write fault\n"),
         Status::OutOfMemory => append(into, 0, b"aclc: out of memory\n"),
+        Status::TooManyTogether => append(into, 0, b"aclc: compare: too many rules\n"),
+        Status::SecondRulesRefused(fault) => {
+            numbered_line(
+                b"second rules: line ",
+                u64::from(fault.line),
+                line_kind(fault.kind),
+                into,
+            )
+        }
     }
 }
 
@@ -149,6 +158,13 @@ fn capture_kind(fault: CaptureFault) -> &'static [u8]
         CaptureFault::RecordTooLong(_) => b"too long",
         CaptureFault::TooManyRecords => b"too many",
         CaptureFault::ReadFault => b"read fault",
+        CaptureFault::PngCut(_) => b"block cut",
+        CaptureFault::PngLength(_) => b"block length",
+        CaptureFault::PngOrder(_) => b"byte order",
+        CaptureFault::PngVersion(_) => b"section version",
+        CaptureFault::PngInterface(_) => b"no interface",
+        CaptureFault::PngLink(_) => b"interface link type",
+        CaptureFault::PngTooMany(_) => b"too many interfaces",
     }
 }
 
@@ -182,7 +198,15 @@ fn fault_record(fault: CaptureFault) -> u64
         | CaptureFault::Version
         | CaptureFault::LinkType
         | CaptureFault::ReadFault => 0,
-        CaptureFault::RecordCut(number) | CaptureFault::RecordTooLong(number) => number,
+        CaptureFault::RecordCut(number)
+        | CaptureFault::RecordTooLong(number)
+        | CaptureFault::PngCut(number)
+        | CaptureFault::PngLength(number)
+        | CaptureFault::PngOrder(number)
+        | CaptureFault::PngVersion(number)
+        | CaptureFault::PngInterface(number)
+        | CaptureFault::PngLink(number)
+        | CaptureFault::PngTooMany(number) => number,
         CaptureFault::TooManyRecords => MAX_RECORDS + 1,
     }
 }

@@ -35,6 +35,10 @@ pub enum Status {
     WriteFault,
     /// There isn't enough memory. Nothing was printed, and no file made.
     OutOfMemory,
+    /// The two rule files have more rules of one family together than a rule set may have.
+    TooManyTogether,
+    /// The second rule file isn't one.
+    SecondRulesRefused(LineFault),
 }
 
 /// Where memory runs out a command ends so, whatever it was doing.
@@ -63,6 +67,8 @@ impl Status {
             Status::ReadFault => 7,
             Status::WriteFault => 8,
             Status::OutOfMemory => 9,
+            Status::TooManyTogether => 11,
+            Status::SecondRulesRefused(_) => 12,
         }
     }
 }

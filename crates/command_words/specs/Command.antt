@@ -69,13 +69,15 @@ named_of allowed (first ∷ []) = Err (fault_at 3 MissingName)
 named_of allowed (first ∷ second ∷ words) =
     named_with first second (options_from allowed 4 none_given words)
 
--- what each command of two files asks for
+-- what `classify` asks for
 abbrev pub classify_by : Named → Request
 classify_by named = Classify named.first named.second named.options
 
+-- what `build` asks for
 abbrev pub build_by : Named → Request
 build_by named = Build named.first named.second named.options.max_words
 
+-- what `replay` asks for
 abbrev pub replay_by : Named → Request
 replay_by named = Replay named.first named.second named.options
 

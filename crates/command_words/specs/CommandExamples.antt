@@ -5,7 +5,8 @@ use Rattle.command_words.specs.declared.fault.UsageKind.TheVariants.{MissingComm
 use Rattle.command_words.specs.declared.fault.UsageKind.TheVariants.{MissingName, UnknownOption}
 use Rattle.command_words.specs.declared.fault.UsageKind.TheVariants.{RepeatedOption, BadValue}
 use Rattle.command_words.specs.Options.{Options, none_given, settled_options, number_in, budget_in}
-use Rattle.command_words.specs.Options.{with_option}
+use Rattle.lane_walk.specs.declared.walk.Walk.TheVariants.{Scalar, Lanes}
+use Rattle.command_words.specs.Options.{walk_in, with_option}
 use Rattle.command_words.specs.Options.{for_build}
 use Rattle.command_words.specs.Command.{Build, Classify, Replay, command, fault_at, options_from}
 
@@ -65,9 +66,10 @@ another_option = refl
 
 -- all options, in any order
 all_options : command (classify_with
-    (codes "marks=off" ∷ codes "max-words=15" ∷ codes "stats=on" ∷ codes "categories=4" ∷ []))
+    (codes "marks=off" ∷ codes "max-words=15" ∷ codes "walk=lanes" ∷ codes "stats=on"
+    ∷ codes "categories=4" ∷ []))
     ≡ Ok (Classify (codes "r") (codes "c")
-    (record { categories = 4; max_words = 15; stats = true; marks = false }))
+    (record { categories = 4; walk = Lanes; max_words = 15; stats = true; marks = false }))
 all_options = refl
 
 -- a choice has two values, and each in one spelling
@@ -79,6 +81,14 @@ great_choice = refl
 
 no_choice : command (classify_with (codes "marks=" ∷ [])) ≡ Err (fault_at 4 BadValue)
 no_choice = refl
+
+-- a walk is named by one of two words
+walks : map walk_in (codes "scalar" ∷ codes "lanes" ∷ codes "Lanes" ∷ codes "lane" ∷ codes "" ∷ [])
+    ≡ Some Scalar ∷ Some Lanes ∷ None ∷ None ∷ None ∷ []
+walks = refl
+
+no_walk : command (classify_with (codes "walk=vector" ∷ [])) ≡ Err (fault_at 4 BadValue)
+no_walk = refl
 
 a_repeated_choice : command (classify_with (codes "stats=on" ∷ codes "stats=off" ∷ []))
     ≡ Err (fault_at 5 RepeatedOption)
@@ -111,15 +121,18 @@ no_image : map command
     ∷ []
 no_image = refl
 
-a_replay : command (replay_with (codes "marks=on" ∷ codes "categories=8" ∷ codes "stats=on" ∷ []))
+a_replay : command (replay_with
+    (codes "marks=on" ∷ codes "categories=8" ∷ codes "walk=lanes" ∷ codes "stats=on" ∷ []))
     ≡ Ok (Replay (codes "i") (codes "c")
-    (record usual { categories = 8; stats = true; marks = true }))
+    (record usual { categories = 8; walk = Lanes; stats = true; marks = true }))
 a_replay = refl
 
 -- to `build` every option but `max-words=` is unknown, whatever its value, and to `replay` that one
 the_others : map (with_option for_build none_given)
-    (codes "categories=4" ∷ codes "stats=on" ∷ codes "marks=x" ∷ codes "depth=1" ∷ [])
-    ≡ Err UnknownOption ∷ Err UnknownOption ∷ Err UnknownOption ∷ Err UnknownOption ∷ []
+    (codes "categories=4" ∷ codes "walk=lanes" ∷ codes "stats=on" ∷ codes "marks=x"
+    ∷ codes "depth=1" ∷ [])
+    ≡ Err UnknownOption ∷ Err UnknownOption ∷ Err UnknownOption ∷ Err UnknownOption
+    ∷ Err UnknownOption ∷ []
 the_others = refl
 
 a_budget : command (replay_with (codes "max-words=15" ∷ [])) ≡ Err (fault_at 4 UnknownOption)

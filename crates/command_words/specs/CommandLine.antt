@@ -16,6 +16,7 @@ use Rattle.command_words.specs.Command.{Request, Bench, Build, Classify, Named, 
 abbrev pub options_of : chosen.Options → Options
 options_of options = record {
   categories = options.categories.count;
+  walk = options.walk;
   max_words = options.max_words.words;
   stats = options.stats;
   marks = options.marks;
@@ -53,5 +54,5 @@ words_of budget = option_map (λ b. b.words) budget
 -- how many options were given so far
 abbrev pub options_given : Given → ℕ
 options_given given =
-    option_len given.categories + option_len given.max_words + option_len given.stats
-    + option_len given.marks
+    option_len given.categories + option_len given.walk + option_len given.max_words
+    + option_len given.stats + option_len given.marks

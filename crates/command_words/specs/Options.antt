@@ -5,17 +5,20 @@ use Rattle.std.specs.Option.{unwrap_or}
 use Rattle.std.specs.Str.{bytes_eq}
 use Rattle.rule_set.specs.Categories.{is_count_of_categories}
 use Rattle.table_sizes.specs.Sizes.{max_words}
+use Rattle.lane_walk.specs.declared.walk.Walk.{Walk}
+use Rattle.lane_walk.specs.declared.walk.Walk.TheVariants.{Scalar, Lanes}
 use Rattle.text_scan.specs.Digits.{are_digits, place_value}
 use Rattle.command_words.specs.declared.allowed.Allowed.{Allowed}
 use Rattle.command_words.specs.declared.fault.UsageKind.{UsageKind}
 use Rattle.command_words.specs.declared.fault.UsageKind.TheVariants.{UnknownOption, RepeatedOption}
 use Rattle.command_words.specs.declared.fault.UsageKind.TheVariants.{BadValue}
 
--- the options of a command: how many categories are printed, how many words the table of each
--- family may have, whether the sizes of the tables are printed, and whether a dash marks where no
--- rule matches
+-- the options of a command: how many categories are printed, which walk answers the keys, how many
+-- words the table of each family may have, whether the sizes of the tables are printed, and whether
+-- a dash marks where no rule matches
 pub record Options : Type 0 where
   pub categories : ℕ
+  pub walk : Walk
   pub max_words : ℕ
   pub stats : Bool
   pub marks : Bool
@@ -23,13 +26,15 @@ pub record Options : Type 0 where
 -- the values of the options that were given so far
 pub record Given : Type 0 where
   pub categories : Option ℕ
+  pub walk : Option Walk
   pub max_words : Option ℕ
   pub stats : Option Bool
   pub marks : Option Bool
 
 -- no option was given yet
 abbrev pub none_given : Given
-none_given = record { categories = None; max_words = None; stats = None; marks = None }
+none_given =
+    record { categories = None; walk = None; max_words = None; stats = None; marks = None }
 
 -- the budget where none is given: 16 MiB for each family
 abbrev pub usual_words : ℕ
@@ -39,6 +44,7 @@ usual_words = 2097152
 abbrev pub settled_options : Given → Options
 settled_options given = record {
   categories = unwrap_or given.categories 1;
+  walk = unwrap_or given.walk Scalar;
   max_words = unwrap_or given.max_words usual_words;
   stats = unwrap_or given.stats false;
   marks = unwrap_or given.marks false;
@@ -73,6 +79,13 @@ is_budget words = nat_le 1 words && nat_le words max_words
 abbrev pub budget_in : List ℕ → Option ℕ
 budget_in text = lawful is_budget (number_in text)
 
+-- the walk that a text names
+abbrev pub walk_in : List ℕ → Option Walk
+walk_in text =
+    if bytes_eq text (codes "scalar") then Some Scalar
+    else if bytes_eq text (codes "lanes") then Some Lanes
+    else None
+
 -- a choice that is made by `on` or `off`
 abbrev pub choice_in : List ℕ → Option Bool
 choice_in text =
@@ -103,6 +116,10 @@ value_of name word = drop (length name) word
 abbrev pub categories_option : List ℕ
 categories_option = codes "categories="
 
+-- the option that says which walk answers the keys
+abbrev pub walk_option : List ℕ
+walk_option = codes "walk="
+
 -- the option that says how many words the table of each family may have
 abbrev pub max_words_option : List ℕ
 max_words_option = codes "max-words="
@@ -117,15 +134,18 @@ marks_option = codes "marks="
 
 -- the options of `classify`: all that there are
 abbrev pub for_classify : Allowed
-for_classify = record { categories = true; max_words = true; stats = true; marks = true }
+for_classify =
+    record { categories = true; walk = true; max_words = true; stats = true; marks = true }
 
 -- the option of `build`
 abbrev pub for_build : Allowed
-for_build = record { categories = false; max_words = true; stats = false; marks = false }
+for_build =
+    record { categories = false; walk = false; max_words = true; stats = false; marks = false }
 
 -- the options of `replay`, whose tables are made already
 abbrev pub for_replay : Allowed
-for_replay = record { categories = true; max_words = false; stats = true; marks = true }
+for_replay =
+    record { categories = true; walk = true; max_words = false; stats = true; marks = true }
 
 -- the options with one word more: the table of the options, one after the other, of which a command
 -- allows some; any other is unknown to it
@@ -134,6 +154,9 @@ with_option allowed given word =
     if allowed.categories && begins_with categories_option word
     then adds (λ count. record given { categories = Some count })
     (once given.categories (categories_in (value_of categories_option word)))
+    else if allowed.walk && begins_with walk_option word
+    then adds (λ walk. record given { walk = Some walk })
+    (once given.walk (walk_in (value_of walk_option word)))
     else if allowed.max_words && begins_with max_words_option word
     then adds (λ words. record given { max_words = Some words })
     (once given.max_words (budget_in (value_of max_words_option word)))

@@ -7,6 +7,7 @@ ghost use Rattle.command_words.specs.Options.{for_build, for_classify, for_repla
 #[derive(Clone, Copy, Debug)]
 pub struct Allowed {
     pub categories: bool,
+    pub walk: bool,
     pub max_words: bool,
     pub stats: bool,
     pub marks: bool,
@@ -19,6 +20,7 @@ impl Allowed {
     {
         Allowed {
             categories: true,
+            walk: true,
             max_words: true,
             stats: true,
             marks: true,
@@ -31,6 +33,7 @@ impl Allowed {
     {
         Allowed {
             categories: false,
+            walk: false,
             max_words: true,
             stats: false,
             marks: false,
@@ -43,6 +46,7 @@ impl Allowed {
     {
         Allowed {
             categories: true,
+            walk: true,
             max_words: false,
             stats: true,
             marks: true,

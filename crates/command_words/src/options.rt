@@ -3,13 +3,14 @@
 ghost use Rattle.std.specs.Prelude.{◌≡◌, ◌+◌, ◌&&◌, false, IfOk, IfErr, IfSome, IsTrue, OnOk};
 ghost use Rattle.std.specs.Prelude.{Ok, Err, None};
 ghost use Rattle.command_words.specs.Options.{none_given, settled_options, usual_words, number_in};
-ghost use Rattle.command_words.specs.Options.{categories_in, budget_in, choice_in, once};
+ghost use Rattle.command_words.specs.Options.{categories_in, walk_in, budget_in, choice_in, once};
 ghost use Rattle.command_words.specs.Options.{with_option, begins_with, value_of};
 ghost use Rattle.command_words.specs.CommandLine.{count_of, words_of, options_of, options_given};
 
 use crate::allowed::Allowed;
 use crate::budget::Budget;
 use crate::fault::UsageKind;
+use lane_walk::Walk;
 use rule_set::Categories;
 use std::marker::Model;
 use text_scan::digits_value;
@@ -19,6 +20,8 @@ use text_scan::digits_value;
 pub struct Options {
     /// How many categories are printed.
     pub categories: Categories,
+    /// Which walk answers the keys. It changes nothing that is printed.
+    pub walk: Walk,
     /// How many words the table of each family may have.
     pub max_words: Budget,
     /// Whether the sizes of the tables and the transitions are printed.
@@ -37,6 +40,7 @@ const USUAL_WORDS: u64 = 2_097_152;
 #[derive(Debug, Drop)]
 pub struct Given {
     categories: Option<Categories>,
+    walk: Option<Walk>,
     max_words: Option<Budget>,
     stats: Option<bool>,
     marks: Option<bool>,
@@ -50,6 +54,7 @@ impl Model for Given {
 
     ghost view = { λ given. record {
       categories = count_of given.categories;
+      walk = given.walk;
       max_words = words_of given.max_words;
       stats = given.stats;
       marks = given.marks;
@@ -63,6 +68,7 @@ impl Given {
     {
         Given {
             categories: None,
+            walk: None,
             max_words: None,
             stats: None,
             marks: None,
@@ -80,6 +86,8 @@ impl Given {
     {
         if let Some(value) = value_of(allowed.categories, b"categories=", word) {
             self.categories = Some(once(self.categories, categories_in(value))?);
+        } else if let Some(value) = value_of(allowed.walk, b"walk=", word) {
+            self.walk = Some(once(self.walk, walk_in(value))?);
         } else if let Some(value) = value_of(allowed.max_words, b"max-words=", word) {
             self.max_words = Some(once(self.max_words, budget_in(value))?);
         } else if let Some(value) = value_of(allowed.stats, b"stats=", word) {
@@ -98,6 +106,7 @@ impl Given {
     {
         Options {
             categories: self.categories.unwrap_or(one_category()),
+            walk: self.walk.unwrap_or(Walk::Scalar),
             max_words: self.max_words.unwrap_or(usual_budget()),
             stats: self.stats.unwrap_or(false),
             marks: self.marks.unwrap_or(false),
@@ -148,6 +157,19 @@ fn categories_in(text: &[u8]) -> Option<Categories>
 {
     let number = number_in(text)?;
     Categories::new(u32::try_from(number).ok()?)
+}
+
+/// The walk that a text names.
+fn walk_in(text: &[u8]) -> Option<Walk>
+    ensures { result ≡ walk_in text.now }
+{
+    if text == b"scalar".as_slice() {
+        Some(Walk::Scalar)
+    } else if text == b"lanes".as_slice() {
+        Some(Walk::Lanes)
+    } else {
+        None
+    }
 }
 
 /// The budget where none is given.

@@ -96,6 +96,13 @@ fn a_capture_says_why_it_is_refused(rt: HostRuntime) -> Result<(), Fail> {
         ),
         (CaptureFault::TooManyRecords, "too many"),
         (CaptureFault::ReadFault, "read fault"),
+        (CaptureFault::PngCut(2), "record 2: block cut"),
+        (CaptureFault::PngLength(3), "record 3: block length"),
+        (CaptureFault::PngOrder(1), "record 1: byte order"),
+        (CaptureFault::PngVersion(1), "record 1: section version"),
+        (CaptureFault::PngInterface(4), "record 4: no interface"),
+        (CaptureFault::PngLink(1), "record 1: interface link type"),
+        (CaptureFault::PngTooMany(1), "record 1: too many interfaces"),
     ];
     for (fault, words) in cases {
         let text = format!(in rt.alloc(); "{}", BeginFault::Capture(fault))?;

@@ -67,13 +67,14 @@ next_of-record state left is_open header lawful whole =
     ) refl
 
 -- a number is read from its own bytes
-part-append : (at size : ℕ) (left rest : List ℕ) → at + size ≤ length left →
+pub part-append : (at size : ℕ) (left rest : List ℕ) → at + size ≤ length left →
     take size (drop at (left ++ rest)) ≡ take size (drop at left)
 part-append at size left rest within =
     ap (take size) (drop-append-le at left rest (omega arith))
     ∙ take-append-le size (drop at left) rest (omega (arith, length-drop at left))
 
-number_in-append : (order : Order) (at size : ℕ) (left rest : List ℕ) → at + size ≤ length left →
+-- and so it is the same whatever stands after them
+pub number_in-append : (order : Order) (at size : ℕ) (left rest : List ℕ) → at + size ≤ length left →
     number_in order (left ++ rest) at size ≡ number_in order left at size
 number_in-append Big at size left rest within = rw (part-append at size left rest within) refl
 number_in-append Little at size left rest within = rw (part-append at size left rest within) refl

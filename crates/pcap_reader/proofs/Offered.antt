@@ -7,6 +7,16 @@ pub use Rattle.pcap_reader.proofs.FillLaws.{take-put_mid}
 pub use Rattle.pcap_reader.proofs.FillLaws.{KeepsReading-same}
 -- some was read, and then more
 pub use Rattle.pcap_reader.proofs.FillLaws.{KeepsReading-join}
+-- a fault that is counted in a later call is counted over both
+pub use Rattle.pcap_reader.proofs.FillLaws.{Rose-later}
+-- a slice that is full leaves the reading as it stands
+pub use Rattle.pcap_reader.proofs.FillLaws.{reads-full}
+-- and a slice that isn't full met the end
+pub use Rattle.pcap_reader.proofs.FillLaws.{reads-short}
+-- a number is read from its own bytes
+pub use Rattle.pcap_reader.proofs.NextLaws.{part-append}
+-- and so it is the same whatever stands after them
+pub use Rattle.pcap_reader.proofs.NextLaws.{number_in-append}
 -- what stands next, and more bytes after it
 -- what decides is there: more bytes change nothing but what stands after a record
 unfoldable pub use Rattle.pcap_reader.proofs.NextLaws.{IsDecided}

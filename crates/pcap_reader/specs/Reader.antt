@@ -11,6 +11,7 @@ use Rattle.pcap_reader.specs.declared.fault.BeginFault.{BeginFault}
 use Rattle.pcap_reader.specs.declared.fault.BeginFault.TheVariants as begin_faults
 use Rattle.pcap_reader.specs.declared.fault.CaptureFault.{CaptureFault}
 use Rattle.pcap_reader.specs.declared.fault.CaptureFault.TheVariants.{HeaderCut, Magic, Version, LinkType, RecordCut, RecordTooLong, TooManyRecords, ReadFault}
+use Rattle.pcap_reader.specs.declared.fault.CaptureFault.TheVariants.{PngCut, PngLength, PngOrder, PngVersion, PngInterface, PngLink, PngTooMany}
 use Rattle.pcap_reader.specs.declared.start.Start.{Start}
 use Rattle.pcap_reader.specs.declared.state.CaptureState.{CaptureState}
 use Rattle.pcap_reader.specs.State.{Answer, begun, has_ended, record_of}
@@ -31,6 +32,13 @@ after_fault Version = and_goes_on
 after_fault LinkType = and_goes_on
 after_fault (RecordTooLong number) = and_goes_on
 after_fault TooManyRecords = and_goes_on
+after_fault (PngCut number) = with_ending Ended
+after_fault (PngLength number) = and_goes_on
+after_fault (PngOrder number) = and_goes_on
+after_fault (PngVersion number) = and_goes_on
+after_fault (PngInterface number) = and_goes_on
+after_fault (PngLink number) = and_goes_on
+after_fault (PngTooMany number) = and_goes_on
 
 -- These bytes begin with no whole record.
 abbrev pub HasNoRecord : Next → Type 0
@@ -63,6 +71,7 @@ after_next (Err fault) = after_fault fault
 abbrev pub is_cut : CaptureFault → Bool
 is_cut HeaderCut = true
 is_cut (RecordCut number) = true
+is_cut (PngCut number) = true
 is_cut fault = false
 
 -- the answer is the end of the file, or a record that the end of the file cuts
@@ -144,6 +153,12 @@ pub record ReadsStart (first : List ℕ) (old new : DeskView) (result : Result S
   pub end : is_cut_start result ≡ true → IsAtEnd new
   pub read_fault : result ≡ Err ReadFault → Rose old.read_faults new.read_faults
   pub keeps : KeepsReading old new
+
+-- all that `begin_in` promises: it is the file header
+abbrev pub BeginsIn : List ℕ → DeskView → DeskView → Result CaptureState CaptureFault → Type 0
+BeginsIn first old new (Ok capture) = (capture ≡ begun capture.start) × ReadsStart first old new
+    (Ok capture.start)
+BeginsIn first old new (Err fault) = ReadsStart first old new (Err fault)
 
 -- All that `begin_with` promises: it asks for nothing where there is no memory, and else it is the
 -- file header.

@@ -1,7 +1,8 @@
 //! A capture that is read record by record.
 
-ghost use Rattle.std.specs.Prelude.{◌≡◌, ◌≤◌, IsTrue, false, length};
-ghost use Rattle.pcap_reader.specs.Reader.{Begins, BeginsWith, TakesNext, answer_of};
+ghost use Rattle.std.specs.Prelude.{◌≡◌, ◌≤◌, IsTrue, false, length, vec_len};
+ghost use Rattle.pcap_reader.specs.Capture.{max_captured};
+ghost use Rattle.pcap_reader.specs.Reader.{Begins, BeginsIn, BeginsWith, TakesNext, answer_of};
 ghost use Rattle.pcap_reader.specs.Start.{file_header_len};
 ghost use Rattle.pcap_reader.specs.State.{has_failed};
 
@@ -70,17 +71,33 @@ impl Capture {
     {
         let mut buffer = Vec::new(alloc);
         buffer.resize(MAX_CAPTURED, 0)?;
-        match read_file_header(desk, first) {
-            Ok(start) => {
-                let state = CaptureState {
-                    start,
-                    count: 0,
-                    progress: Progress::Reading,
-                };
-                Ok(Capture { state, buffer })
-            }
+        match Capture::begin_in(buffer, desk, first) {
+            Ok(capture) => Ok(capture),
             Err(fault) => Err(BeginFault::Capture(fault)),
         }
+    }
+
+    /// Begins to read such a capture with a buffer of 262,144 bytes that was taken before. It takes
+    /// no memory.
+    ///
+    /// A file has to be opened, and `first` has at most 24 bytes.
+    pub fn begin_in<D: Desk>(
+        buffer: Vec<u8>,
+        desk: &mut D,
+        first: &[u8],
+    ) -> Result<Capture, CaptureFault>
+        requires reading { IsTrue (D.view desk.old).reading }
+        requires few { length first.now ≤ file_header_len }
+        requires room { vec_len buffer ≡ max_captured }
+        ensures { BeginsIn first.now (D.view desk.old) (D.view desk.new) result }
+    {
+        let start = read_file_header(desk, first)?;
+        let state = CaptureState {
+            start,
+            count: 0,
+            progress: Progress::Reading,
+        };
+        Ok(Capture { state, buffer })
     }
 
     /// The captured bytes of the next record, or `None` at the end of the file.

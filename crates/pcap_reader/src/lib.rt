@@ -27,7 +27,7 @@
 
 mod capture;
 mod fault;
-mod fill;
+pub mod fill;
 mod header;
 pub mod laws;
 mod link;
@@ -39,4 +39,6 @@ pub use capture::Capture;
 pub use fault::{BeginFault, CaptureFault};
 pub use header::{FileHeader, RecordHeader, file_header, record_header};
 pub use link::Link;
+pub use record::{MAX_CAPTURED, MAX_RECORDS};
 pub use start::Order;
+pub use state::Progress;

@@ -1,5 +1,8 @@
 //! What the records of a capture begin with.
 
+ghost use Rattle.std.specs.Prelude.{◌≡◌};
+ghost use Rattle.pcap_reader.specs.Start.{link_in, link_types};
+
 /// The link type of a capture: which header stands at the front of each of its records.
 ///
 /// Source: the list of link-layer header types of tcpdump.org, with its numbers.
@@ -17,4 +20,21 @@ pub enum Link {
     Ip4,
     /// 229: no header, but an IPv6 packet.
     Ip6,
+}
+
+impl Link {
+    /// The link type of a number, or `None` where it isn't read.
+    pub fn of_number(number: u32) -> Option<Link>
+        ensures { result ≡ link_in link_types number }
+    {
+        match number {
+            1 => Some(Link::Ethernet),
+            101 => Some(Link::Raw),
+            113 => Some(Link::Cooked),
+            228 => Some(Link::Ip4),
+            229 => Some(Link::Ip6),
+            276 => Some(Link::CookedV2),
+            _ => None,
+        }
+    }
 }

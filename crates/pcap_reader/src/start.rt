@@ -102,13 +102,8 @@ fn is_magic(number: u32) -> bool
 fn read_link(network: u32) -> Result<Link, CaptureFault>
     ensures { result ≡ or_fault CaptureFault.LinkType (link_of network) }
 {
-    match network & LINK_TYPE {
-        1 => Ok(Link::Ethernet),
-        101 => Ok(Link::Raw),
-        113 => Ok(Link::Cooked),
-        228 => Ok(Link::Ip4),
-        229 => Ok(Link::Ip6),
-        276 => Ok(Link::CookedV2),
-        _ => Err(CaptureFault::LinkType),
+    match Link::of_number(network & LINK_TYPE) {
+        Some(link) => Ok(link),
+        None => Err(CaptureFault::LinkType),
     }
 }

@@ -7,7 +7,8 @@
 //!
 //! - `divide`: how one group becomes two
 //! - `counted`: a group whose words were counted
-//! - `split`: [`plan`], turn by turn
+//! - `split`: [`plan`], turn by turn, and [`Split`], which says whether the words fit before it is a
+//!   plan
 //! - `answer`: a plan, or why there is none
 //! - `laws`: the groups hold each rule once, and the winner of all rules is one of their winners
 #![tactic(auto)]
@@ -19,4 +20,4 @@ pub mod laws;
 mod split;
 
 pub use answer::{Plan, PlanFault};
-pub use split::{MAX_GROUPS, plan};
+pub use split::{MAX_GROUPS, Split, plan};

@@ -1,7 +1,7 @@
 //! The split of a rule set under a budget of words, turn by turn.
 
 ghost use Rattle.std.specs.Prelude.{◌≡◌, ℕ, ◌+◌, ◌<◌, ◌≤◌, ◌∷◌, ◌++◌, length, map, take, drop};
-ghost use Rattle.std.specs.Prelude.{All, [], slice_index_or, Err, IfErr, IfOk, OnOk};
+ghost use Rattle.std.specs.Prelude.{All, [], slice_index_or, Err, IfErr, IfOk, OnErr, OnOk};
 ghost use Rattle.std.specs.Option.{option_to_list};
 ghost use Rattle.std.specs.List.{filter_map, position, range_with_len, sum_by};
 ghost use Rattle.rule_set.specs.Groups.{IsPartition};
@@ -9,6 +9,7 @@ ghost use Rattle.table_sizes.specs.Sizes.{max_words, row_len};
 ghost use Rattle.rule_split.specs.declared.answer.PlanFault.TheVariants.{OutOfMemory, TooLarge};
 ghost use Rattle.rule_split.specs.Counted.{group_in, levels_in, words_counted, most_counted};
 ghost use Rattle.rule_split.specs.Counted.{is_most, IsCounted, IsWithin};
+ghost use Rattle.rule_split.specs.Ended.{IsSplit, plan_in};
 ghost use Rattle.rule_split.specs.Split.{plan_of, total_of, split_at, turn, groups_of};
 ghost use Rattle.rule_split.specs.Split.{words_of_group, first_groups, max_groups};
 
@@ -17,6 +18,7 @@ use crate::counted::Counted;
 use crate::divide::divide;
 use rule_set::RuleSet;
 use std::alloc::{AllocError, Global};
+use std::marker::Model;
 use table_sizes::ROW_LEN;
 use trie_merge::Levels;
 
@@ -204,13 +206,97 @@ fn kept_levels(alloc: Global, groups: Vec<Counted>) -> Result<Vec<Levels>, Alloc
     Ok(kept)
 }
 
-/// Splits the rules into groups until the words of their table are within the budget.
+/// The groups of a rule set after the last turn of its split, each with its words counted.
+///
+/// All memory for deciding whether a table of them fits its budget was taken when it was made.
+/// Contracts see the total, the budget, and the merged states that are kept: those of all groups,
+/// where the total is within the budget.
+#[derive(Drop)]
+pub struct Split {
+    groups: Vec<Counted>,
+    total: u64,
+    budget: u64,
+}
+
+impl Model for Split {
+    ghost use Rattle.std.specs.List.{filter_map};
+    ghost use Rattle.rule_split.specs.Counted.{levels_in};
+    ghost use Rattle.rule_split.specs.Ended.{SplitView};
+
+    ghost Value = { SplitView };
+
+    ghost view = { λ split. record {
+      total = split.total;
+      budget = split.budget;
+      kept = filter_map levels_in split.groups.items;
+    } };
+}
+
+impl Split {
+    /// Splits the rules into groups until the words of their table are within the budget, or until
+    /// no group can be split or there are eight.
+    ///
+    /// The budget is from 1 to [`table_sizes::MAX_WORDS`] words. It takes memory for the merged
+    /// states of each group, and the only fault is want of it. Each group is counted once, when it
+    /// is made, so at most fifteen are.
+    pub fn new(alloc: Global, rules: &RuleSet, budget: u64) -> Result<Self, PlanFault>
+        requires some { 0 < budget }
+        requires budget { budget ≤ max_words }
+        ensures split { IfOk result (λ split. IsSplit rules.now budget split) }
+        ensures memory { IfErr result (λ fault. fault ≡ OutOfMemory) }
+    {
+        let groups = last_groups(alloc, rules, budget)?;
+        let total = total(groups.as_slice(), budget);
+        Ok(Split {
+            groups,
+            total,
+            budget,
+        })
+    }
+
+    /// The words of a table of all groups, where more than the budget of a group count as one word
+    /// more than it.
+    pub fn total(&self) -> u64
+        ensures { result ≡ self.now.total }
+    {
+        self.total
+    }
+
+    /// Whether the total is within the budget, and else `TooLarge` with both. No memory is taken, so
+    /// want of it can't stand in for this refusal.
+    pub fn check(&self) -> Result<(), PlanFault>
+        ensures fits { OnOk result (self.now.total ≤ self.now.budget) }
+        ensures over { OnErr result (self.now.budget < self.now.total) }
+        ensures too_large { IfErr result
+            (λ fault. fault ≡ TooLarge self.now.total self.now.budget) }
+    {
+        if self.total > self.budget {
+            return Err(PlanFault::TooLarge {
+                words: self.total,
+                budget: self.budget,
+            });
+        }
+        Ok(())
+    }
+
+    /// The merged states that are kept, as a plan. It takes memory for a list of at most eight, and
+    /// leaves the states where they are.
+    pub fn into_plan(self, alloc: Global) -> Result<Plan, AllocError>
+        ensures { IfOk result (λ plan. plan ≡ plan_in self) }
+    {
+        let total = self.total;
+        let levels = kept_levels(alloc, self.groups)?;
+        Ok(Plan { levels, total })
+    }
+}
+
+/// Splits the rules into groups until the words of their table are within the budget: a [`Split`],
+/// checked and made into a plan.
 ///
 /// The budget is from 1 to [`table_sizes::MAX_WORDS`] words. `TooLarge` comes exactly where the
 /// split ends with a total above the budget, with that total, unless memory ran out before that was
-/// known: no memory is taken between. It takes memory for the merged states of each group, and
-/// gives it back after a refusal. Each group is counted once, when it is made, so at most fifteen
-/// are.
+/// known: no memory is taken between ([`Split::check`]). What was taken is given back after a
+/// refusal.
 ///
 /// Source: DPDK's `lib/acl`, `acl_bld.c`; which group is split and where is ours.
 pub fn plan(alloc: Global, rules: &RuleSet, budget: u64) -> Result<Plan, PlanFault>
@@ -221,14 +307,8 @@ pub fn plan(alloc: Global, rules: &RuleSet, budget: u64) -> Result<Plan, PlanFau
     ensures too_large { (words most : ℕ) → result ≡ Err (TooLarge words most) →
         (words ≡ total_of rules.now budget) × (most ≡ budget) × (budget < words) }
 {
-    let groups = last_groups(alloc, rules, budget)?;
-    let words = total(groups.as_slice(), budget);
-    if words > budget {
-        return Err(PlanFault::TooLarge { words, budget });
-    }
-    let levels = kept_levels(alloc, groups)?;
-    Ok(Plan {
-        levels,
-        total: words,
-    })
+    let split = Split::new(alloc, rules, budget)?;
+    split.check()?;
+    let plan = split.into_plan(alloc)?;
+    Ok(plan)
 }
