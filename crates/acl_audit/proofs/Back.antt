@@ -17,7 +17,8 @@ one_back levels places n passed number key link within is =
     (slice_set key (get_or places (n - 1 - passed) 0) l.byte)) is
     ∙ ap (λ d. traced levels places d number key) (sym one)
 
-pub lower_number : (levels : List (List Link)) (n passed number : ℕ) (link : Link) → AreChained levels → n ≡ length levels
+pub lower_number : (levels : List (List Link)) (n passed number : ℕ) (link : Link) → AreChained levels
+    → n ≡ length levels
     → passed + 1 < n → number < length (get_or levels (n - passed - 1) [])
     → link ≡ link_at levels (n - 1 - passed) number
     → link.before < length (get_or levels (n - (passed + 1) - 1) [])

@@ -11,9 +11,7 @@ use Rattle.field_defs.specs.Faults.{first_of}
 use Rattle.field_defs.specs.Layout.{key_len_of}
 use Rattle.rule_set.specs.Laws.{TheWinnerIsAmongAllPlaces}
 use Rattle.rule_set.specs.Rule.{RuleView, RuleSetView}
-use Rattle.rule_set.specs.RuleSet.{IsRuleSet}
 use Rattle.rule_set.specs.Winner.{winner, verdict, userdata_at}
-use Rattle.field_defs.specs.Lawful.{IsLayout}
 use Rattle.table_sizes.specs.Sizes.{row_len}
 use Rattle.trie_merge.specs.Found.{prefixes}
 use Rattle.trie_merge.specs.Laws.{IsGrouped}
@@ -37,7 +35,7 @@ use Rattle.acl_audit.proofs.Finding.{find_found}
 use Rattle.acl_audit.proofs.Fitting.{entry_is_winner}
 use Rattle.acl_audit.proofs.Halving.{halves_have_verdicts}
 use Rattle.acl_audit.proofs.Least.{least_is_first}
-use Rattle.acl_audit.proofs.Ready.{grouped, row_key_is}
+use Rattle.acl_audit.proofs.Ready.{AreMerged, grouped, row_key_is}
 use Rattle.acl_audit.proofs.Telling.{keys, rows_are, row_count, all_long}
 use Rattle.acl_audit.proofs.Tracing.{all_at}
 use Rattle.acl_audit.proofs.Winning.{entry_for}
@@ -240,7 +238,8 @@ module _ (set : RuleSetView) (is : IsGrouped set (all_rules set)) (among : TheWi
       ∙ by rows_is (first_unlike set.rules 0 levels.rows)
       (find (λ key. is_some (unlike_category set.rules (final_row set (state set (all_rules set) key))))
       (keys set is among))
-      (subst (λ rows. IsFirstUnlike set.rules (λ key. final_row set (state set (all_rules set) key)) (keys set is among) 0
+      (subst (λ rows. IsFirstUnlike set.rules (λ key. final_row set (state set (all_rules set) key))
+      (keys set is among) 0
       (first_unlike set.rules 0 rows)
       (find (λ key. is_some (unlike_category set.rules (final_row set (state set (all_rules set) key))))
       (keys set is among))) (sym rows_is)
@@ -292,17 +291,15 @@ difference_by_half one two half layouts =
     (least_passing (unlike_inside (half_of one two half)) (key_len_of l) 0)) (sym (same_layout one two half))
 
 pub half_told : (one two : RuleSetView) (half : ℕ) (set : RuleSetView) (levels : LevelsView) (unlike : Option Unlike)
-    → one.layout ≡ two.layout → set ≡ half_of one two half → 0 < length set.rules → IsRuleSet set → IsLayout set.layout
-    → TheWinnerIsAmongAllPlaces → levels ≡ levels_of set (all_rules set)
+    → one.layout ≡ two.layout → set ≡ half_of one two half → AreMerged set levels
     → unlike ≡ first_unlike set.rules 0 levels.rows
     → row_difference set levels (half_len * half) unlike ≡ difference_from one two (half_len * half)
-half_told one two half set levels unlike layouts is some rules layout among merged first =
-    let its = grouped set levels some rules layout merged among in
+half_told one two half set levels unlike layouts is its first =
     sym (difference_by_half one two half layouts
     ∙ ap (λ (s : RuleSetView). option_map (old_category (half_len * half))
     (least_passing (unlike_inside s) (key_len_of s.layout) 0)) (sym is)
     ∙ ap (option_map (old_category (half_len * half)))
-    (told_by_rows set its among levels merged (row_key_is set levels some rules layout merged among)
+    (told_by_rows set (grouped set levels its) its.among levels its.merged (row_key_is set levels its)
     ∙ ap (row_difference set levels 0) (sym first))
     ∙ by unlike)
   where

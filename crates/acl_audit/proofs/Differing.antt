@@ -88,8 +88,11 @@ none_of_range {X} f first (suc count) n none from below =
 pub least_some : (test : List ℕ → Bool) (len : ℕ) (key : List ℕ) → least_from test len [] ≡ Some key
     → (test key ≡ true) × IsPrefix len key
 least_some test len key is =
-    let found = sym (least_is_first test len) ∙ is in
-    (find_passes test (prefixes len) key found, of_found (IsPrefix len) test (prefixes len) key (prefixes_are len) found)
+    let found = sym (least_is_first test len) ∙ is in (
+      find_passes test (prefixes len) key found,
+      of_found (IsPrefix len) test (prefixes len) key
+          (prefixes_are len) found,
+    )
 
 bytes_are : all_bytes ≡ range_with_len 0 256
 unfolding all_bytes
@@ -161,7 +164,8 @@ module _ (one two : RuleSetView) where
       let there = found_there (is_unlike one two) first (least_from test (key_len_of one.layout) []) at is in
       let least = least_some test (key_len_of one.layout) at.key there.0 in
       let found : find (is_unlike one two at.key) (range_with_len first 8) ≡ Some at.category = there.1 in
-      let inside = of_found (λ n. (first ≤ n) × (n < 16)) (is_unlike one two at.key) (range_with_len first 8) at.category
+      let inside = of_found (λ n. (first ≤ n) × (n < 16)) (is_unlike one two at.key)
+      (range_with_len first 8) at.category
       (range_within first 16 first 8 (omega arith) within) found in
       record {
         key = record { bytes = All-from_recursion (λ byte. byte < 256) at.key least.1.0; long = least.1.1 };
@@ -176,7 +180,8 @@ module _ (one two : RuleSetView) where
       → first ≤ category → category < first + 8 → verdict_of one key category ≡ verdict_of two key category
   unfolding least_passing eight_from
   alike_from first none key category its from below =
-      by (least_from (λ k. list_any (is_unlike one two k) (range_with_len first 8)) (key_len_of one.layout) []) refl none
+      by (least_from (λ k. list_any (is_unlike one two k) (range_with_len first 8))
+      (key_len_of one.layout) []) refl none
     where
       by : (o : Option (List ℕ))
           → least_from (λ k. list_any (is_unlike one two k) (range_with_len first 8)) (key_len_of one.layout) [] ≡ o
@@ -186,7 +191,8 @@ module _ (one two : RuleSetView) where
           absurd (true≢false (sym (least_some (λ k. list_any (is_unlike one two k) (range_with_len first 8))
           (key_len_of one.layout) least is).0 ∙ none_there (is_unlike one two) first least there))
       by None is there =
-          let no_key = least_none (λ k. list_any (is_unlike one two k) (range_with_len first 8)) (key_len_of one.layout) []
+          let no_key = least_none (λ k. list_any (is_unlike one two k) (range_with_len first 8))
+          (key_len_of one.layout) []
           is key (recursion_from_All (λ byte. byte < 256) key its.bytes) its.long in
           eqb-true (verdict_of one key category) (verdict_of two key category)
           (not-false (verdict_of one key category == verdict_of two key category)
@@ -214,7 +220,8 @@ module _ (one two : RuleSetView) where
       by : (o : Option Difference) → difference one two ≡ o → o ≡ None
       by None is = refl
       by (Some at) is =
-          (let unlike = some_unlike at is in absurd (unlike.unlike (alike at.key at.category unlike.key unlike.category)))
+          (let unlike = some_unlike at is in absurd
+          (unlike.unlike (alike at.key at.category unlike.key unlike.category)))
 
 pub differences_tell : DifferencesTellUnlikeSets
 differences_tell = record {

@@ -105,12 +105,14 @@ module _ {X Y V W : Type 0} (same : V → V → Bool) (live : V → Bool) (of : 
       let before : List Y = fold with_y [] (flat_map f acc) in
       elim (cases_Bool (is_new (λ y z. same (of y) (of z)) (λ y. live (of y)) acc x)) [
         | inl new ↦
-            ap (λ a. fold with_y [] (flat_map f a)) (goes_after (λ y z. same (of y) (of z)) (λ y. live (of y)) acc x new)
+            ap (λ a. fold with_y [] (flat_map f a))
+            (goes_after (λ y z. same (of y) (of z)) (λ y. live (of y)) acc x new)
             ∙ ap (λ l. fold with_y [] l)
             (flat_map-append f acc (x ∷ []) ∙ ap (λ l. flat_map f acc ++ l) (append-nil (f x)))
             ∙ fold-append with_y [] (flat_map f acc) (f x)
         | inr old ↦
-            ap (λ a. fold with_y [] (flat_map f a)) (stays_found (λ y z. same (of y) (of z)) (λ y. live (of y)) acc x old)
+            ap (λ a. fold with_y [] (flat_map f a))
+            (stays_found (λ y z. same (of y) (of z)) (λ y. live (of y)) acc x old)
             ∙ sym (all_stays (λ y z. same_y (of_y y) (of_y z)) (λ y. live_y (of_y y)) before (f x)
             (none (live (of x)) refl (list_any (λ y. same (of x) (of y)) acc) refl old))
       ]
@@ -144,7 +146,8 @@ module _ {X Y V W : Type 0} (same : V → V → Bool) (live : V → Bool) (of : 
 
   -- what is found after those found is what is found after all
   pub found_after : (xs : List X) → AllByRecursion P xs
-      → found_by same_y live_y of_y (flat_map f (found_by same live of xs)) ≡ found_by same_y live_y of_y (flat_map f xs)
+      → found_by same_y live_y of_y (flat_map f (found_by same live of xs)) ≡ found_by same_y live_y of_y
+      (flat_map f xs)
   unfolding found_in
   found_after xs ps = finds_of_finds [] xs tt ps
 

@@ -28,7 +28,8 @@ module _ (rules : List RuleView) (row : List ℕ) where
   unfolding NoneBefore
   one_alike category below alike before =
       before ∙ ap (find (is_unlike_in rules row)) (left_more category below)
-      ∙ ap (λ b. cond b (Some category) (find (is_unlike_in rules row) (range_with_len (category + 1) (8 - (category + 1)))))
+      ∙ ap (λ b. cond b (Some category) (find (is_unlike_in rules row)
+      (range_with_len (category + 1) (8 - (category + 1)))))
       alike
 
   pub here_unlike : (category : ℕ) → category < 8 → is_unlike_in rules row category ≡ true → NoneBefore category
@@ -36,7 +37,8 @@ module _ (rules : List RuleView) (row : List ℕ) where
   unfolding NoneBefore
   here_unlike category below unlike before =
       sym (before ∙ ap (find (is_unlike_in rules row)) (left_more category below)
-      ∙ ap (λ b. cond b (Some category) (find (is_unlike_in rules row) (range_with_len (category + 1) (8 - (category + 1)))))
+      ∙ ap (λ b. cond b (Some category) (find (is_unlike_in rules row)
+      (range_with_len (category + 1) (8 - (category + 1)))))
       unlike)
 
   pub all_alike : (category : ℕ) → 8 ≤ category → NoneBefore category → None ≡ unlike_category rules row

@@ -86,7 +86,8 @@ module _ (half list : ℕ) where
       → filter p (map (halved half list) xs) ≡ map (halved half list) (filter q xs)
   filter_halved p q same [] = refl
   filter_halved p q same (x ∷ xs) =
-      ap (λ b. cond b (halved half list x ∷ filter p (map (halved half list) xs)) (filter p (map (halved half list) xs)))
+      ap (λ b. cond b (halved half list x ∷ filter p (map (halved half list) xs))
+      (filter p (map (halved half list) xs)))
       (same x)
       ∙ by (q x) (filter_halved p q same xs)
     where
@@ -156,7 +157,8 @@ module _ (layout : List FieldDef) (key : List ℕ) (half list category : ℕ) (b
       → filter (applies layout key category) (halved_rules half list xs) ≡ []
   none_apply xs other =
       halved_applying (λ x. false)
-      (λ x. ap (λ b. rule_match layout x.fields key && (b && is_in_category x.tag (half_len * half + category % half_len)))
+      (λ x. ap (λ b. rule_match layout x.fields key &&
+      (b && is_in_category x.tag (half_len * half + category % half_len)))
       other ∙ never (rule_match layout x.fields key)) xs
       ∙ ap (map (halved half list)) (none_pass xs)
     where

@@ -102,7 +102,8 @@ begins_with len place next key byte rises within below is =
     ap (λ n. take n (slice_set key place byte)) e
     ∙ zeros_after (slice_set key place byte) (place + 1) (next - place - 1) (omega (arith, rises, within, its.long))
     its.none
-    ∙ ap (λ l. l ++ replicate (next - place - 1) 0) (take_more_set key place byte (omega (arith, rises, within, is.long)))
+    ∙ ap (λ l. l ++ replicate (next - place - 1) 0)
+    (take_more_set key place byte (omega (arith, rises, within, is.long)))
     ∙ append_assoc (take place key) (byte ∷ []) (replicate (next - place - 1) 0)
 
 -- the beginnings of the keys with each byte at a place are each beginning with each byte after it
@@ -283,7 +284,8 @@ module _ (set : RuleSetView) (group : List ℕ) (is : IsGrouped set group) where
   pub lead_over : (place count : ℕ) (keys : List (List ℕ)) → place + count ≤ key_len_of set.layout
       → ((k : ℕ) → place ≤ k → k < place + count → is_wild_place set group k ≡ true) → Lead place keys
       → Lead (place + count) keys
-  lead_over place zero keys within wild lead = (let e : place ≡ place + 0 = omega arith in subst (λ n. Lead n keys) e lead)
+  lead_over place zero keys within wild lead =
+      (let e : place ≡ place + 0 = omega arith in subst (λ n. Lead n keys) e lead)
   lead_over place (suc count) keys within wild lead =
       let e : place + 1 + count ≡ place + suc count = omega arith in
       subst (λ n. Lead n keys) e

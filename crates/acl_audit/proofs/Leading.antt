@@ -132,11 +132,13 @@ module _ {V : Type 0} (same : V → V → Bool) (live : V → Bool) (reflexive :
       (pairs_from 0 (length keys)) (pairs_below 0 (length keys) (length keys) (omega arith))))
 
 -- a live value's number is the next one, where it is
-pub live_says : (count place : ℕ) (live : Bool) → is_next count (cond live (State place) Dead) ≡ (live && place == count)
+pub live_says : (count place : ℕ) (live : Bool)
+    → is_next count (cond live (State place) Dead) ≡ (live && place == count)
 live_says count place true = refl
 live_says count place false = refl
 
-pub live_says_row : (count place : ℕ) (live : Bool) → is_next count (cond live (Row place) Dead) ≡ (live && place == count)
+pub live_says_row : (count place : ℕ) (live : Bool)
+    → is_next count (cond live (Row place) Dead) ≡ (live && place == count)
 live_says_row count place true = refl
 live_says_row count place false = refl
 
@@ -161,12 +163,14 @@ module _ (set : RuleSetView) (group : List ℕ) (is : IsGrouped set group) where
       ∙ map-map (state set group) (take place) keys
 
   -- the runs of a level by the keys of its states
-  pub level_is : {V : Type 0} (to : V → Succ) (after : List Held → V) (place next : ℕ) (keys : List (List ℕ)) → place < next
+  pub level_is : {V : Type 0} (to : V → Succ) (after : List Held → V) (place next : ℕ) (keys : List (List ℕ))
+      → place < next
       → next ≤ key_len_of set.layout → AreLeast set group is place keys
       → map (λ before. runs_of (λ byte. to (after (reached set place next before byte)))) (states_at set group place)
       ≡ map (λ key. runs_of (λ byte. to (after (state set group (take next (slice_set key place byte)))))) keys
   level_is to after place next keys rises within least =
-      ap (map (λ before. runs_of (λ byte. to (after (reached set place next before byte))))) (states_of place keys least)
+      ap (map (λ before. runs_of (λ byte. to (after (reached set place next before byte)))))
+      (states_of place keys least)
       ∙ map-map (λ before. runs_of (λ byte. to (after (reached set place next before byte))))
       (λ key. state set group (take place key)) keys
       ∙ map_same

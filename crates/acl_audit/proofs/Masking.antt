@@ -166,9 +166,11 @@ halved_few half list (x ∷ xs) =
     by (not (mask_of (is_in_half half list x.tag) == 0)) (halved_few half list xs)
   where
     by : (b : Bool)
-        → length (filter (λ (rule : RuleView). not (rule.tag.category_mask == 0)) (map (halved half list) xs)) ≤ length xs
+        → length (filter (λ (rule : RuleView). not (rule.tag.category_mask == 0))
+        (map (halved half list) xs)) ≤ length xs
         → length (cond b
-        (halved half list x ∷ filter (λ (rule : RuleView). not (rule.tag.category_mask == 0)) (map (halved half list) xs))
+        (halved half list x ∷ filter (λ (rule : RuleView). not (rule.tag.category_mask == 0))
+        (map (halved half list) xs))
         (filter (λ (rule : RuleView). not (rule.tag.category_mask == 0)) (map (halved half list) xs)))
         ≤ suc (length xs)
     by true rest = omega (arith, rest)
@@ -217,15 +219,6 @@ halved_room before half list rules n most now are below room =
       halved_few half list (take n rules),
       length-take-le n rules (omega (arith, below)),
     )
-
-pub halved_all : (before : RuleSetView) (half list : ℕ) (rules : List RuleView) (n : ℕ) (now : RuleSetView)
-    → AreHalvedUpTo before half list rules n now → length rules ≤ n
-    → now ≡ record before { rules = before.rules ++ halved_rules half list rules }
-halved_all before half list rules n now are all =
-    λ i. record {
-      layout = are.layout i;
-      rules = (are.rules_are ∙ ap (λ l. before.rules ++ halved_rules half list l) (take_all n rules all)) i;
-    }
 
 -- the rules of a half are those of both lists
 pub halved_both : (one two : RuleSetView) (half : ℕ) (start first second : RuleSetView)

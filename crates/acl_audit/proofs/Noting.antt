@@ -22,7 +22,8 @@ module _ (table : List (List ℕ)) (place category number : ℕ) where
   abbrev row_set : List ℕ
   row_set = slice_set (get_or table place []) category number
 
-  set_elsewhere : (rule c : ℕ) → rule ≢ place → number_at (slice_set table place row_set) rule c ≡ number_at table rule c
+  set_elsewhere : (rule c : ℕ) → rule ≢ place
+      → number_at (slice_set table place row_set) rule c ≡ number_at table rule c
   set_elsewhere rule c apart = ap (λ l. get_or l c 0) (get_or-set_other table place rule row_set [] apart)
 
   set_row : (c : ℕ) → place < length table
@@ -51,7 +52,8 @@ noted_suc : (table : List (List ℕ)) (place category number : ℕ) → entry_no
     ≡ slice_set table place (slice_set (get_or table place []) category number)
 noted_suc table place category number =
     let e : suc place - 1 ≡ place = omega arith in
-    ap (λ b. cond b (slice_set table (suc place - 1) (slice_set (get_or table (suc place - 1) []) category number)) table)
+    ap (λ b. cond b (slice_set table (suc place - 1)
+    (slice_set (get_or table (suc place - 1) []) category number)) table)
     (lt-ltb 0 (suc place) (omega arith))
     ∙ ap (λ p. slice_set table p (slice_set (get_or table p []) category number)) e
 

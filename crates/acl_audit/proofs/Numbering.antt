@@ -96,7 +96,8 @@ module _ {V : Type 0} (same : V → V → Bool) (live : V → Bool) (reflexive :
         ∙ ap (λ b. cond (live (of link) && not b) (map of links ++ of link ∷ []) (map of links))
         (sym (any_of (same (of link)) of links))
       where
-        by : (b : Bool) → map of (cond b (links ++ link ∷ []) links) ≡ cond b (map of links ++ of link ∷ []) (map of links)
+        by : (b : Bool) → map of (cond b (links ++ link ∷ []) links)
+            ≡ cond b (map of links ++ of link ∷ []) (map of links)
         by true = map-append of links (link ∷ [])
         by false = refl
 
@@ -149,7 +150,8 @@ module _ {S : Type 0} (to : S → ℕ → Succ) (at : ℕ → S) (d : S) where
       ∙ fold-map state_linked (λ byte. record { before = before; byte = byte }) links all_bytes in
       ap (λ ls. states_linked ls (before + 1) (map (λ s. runs_of (to s)) states)) one
       ∙ states_by_bytes (fold state_linked links pairs) (before + 1) states
-      (λ k below. (let e : before + 1 + k ≡ before + suc k = omega arith in ap at e ∙ are (suc k) (omega (arith, below))))
+      (λ k below. (let e : before + 1 + k ≡ before + suc k = omega arith in ap at e ∙ are (suc k)
+      (omega (arith, below))))
       ∙ sym (fold-append state_linked links pairs (pairs_from (before + 1) (length states)))
 
 -- the links of a level are those of the pairs of state and byte whose values are found

@@ -31,49 +31,57 @@ all_links levels = map links_of levels.levels
 abbrev pub all_places : RuleSetView → LevelsView → List ℕ
 all_places set levels = places_of levels.kept (key_len_of set.layout)
 
-module _ (set : RuleSetView) (levels : LevelsView) (some : 0 < length set.rules) (rules : IsRuleSet set)
-    (layout : IsLayout set.layout) (merged : levels ≡ levels_of set (all_rules set))
-    (among : TheWinnerIsAmongAllPlaces) where
+-- The merged states of all rules of a set that has some.
+pub record AreMerged (set : RuleSetView) (levels : LevelsView) : Type 0 where
+  pub some : 0 < length set.rules
+  pub rules : IsRuleSet set
+  pub layout : IsLayout set.layout
+  pub merged : levels ≡ levels_of set (all_rules set)
+  pub among : TheWinnerIsAmongAllPlaces
+
+module _ (set : RuleSetView) (levels : LevelsView) (its : AreMerged set levels) where
   pub grouped : IsGrouped set (all_rules set)
-  grouped = record { rules = rules; layout = layout; group = all_are_group set some }
+  grouped = record { rules = its.rules; layout = its.layout; group = all_are_group set its.some }
 
   pub states_fit : levels.words ≤ max_words
       → All (λ (states : List (List Run)). length states ≤ 2 ^ 32) levels.levels
   states_fit within =
-      subst (λ (l : LevelsView). All (λ (states : List (List Run)). length states ≤ 2 ^ 32) l.levels) (sym merged)
-      (few_states set (all_rules set) (subst (λ (l : LevelsView). l.words ≤ max_words) merged within))
+      subst (λ (l : LevelsView). All (λ (states : List (List Run)). length states ≤ 2 ^ 32) l.levels) (sym its.merged)
+      (few_states set (all_rules set) (subst (λ (l : LevelsView). l.words ≤ max_words) its.merged within))
 
   pub rows_few : levels.words ≤ max_words → length levels.rows < 2 ^ 32
   rows_few within =
-      subst (λ (l : LevelsView). length l.rows < 2 ^ 32) (sym merged)
-      (few_rows set (all_rules set) (subst (λ (l : LevelsView). l.words ≤ max_words) merged within))
+      subst (λ (l : LevelsView). length l.rows < 2 ^ 32) (sym its.merged)
+      (few_rows set (all_rules set) (subst (λ (l : LevelsView). l.words ≤ max_words) its.merged within))
 
   pub rows_fit : All (All (λ entry. entry ≤ length set.rules)) levels.rows
   rows_fit =
-      subst (λ (l : LevelsView). All (All (λ entry. entry ≤ length set.rules)) l.rows) (sym merged)
-      (rows_low set grouped among)
+      subst (λ (l : LevelsView). All (All (λ entry. entry ≤ length set.rules)) l.rows) (sym its.merged)
+      (rows_low set grouped its.among)
 
   pub rows_wide : All (λ row. length row ≡ row_len) levels.rows
   rows_wide =
-      subst (λ (l : LevelsView). All (λ row. length row ≡ row_len) l.rows) (sym merged) (rows_long set grouped among)
+      subst (λ (l : LevelsView). All (λ row. length row ≡ row_len) l.rows) (sym its.merged)
+      (rows_long set grouped its.among)
 
   pub chained_fit : AreChained (all_links levels)
-  chained_fit = subst (λ (l : LevelsView). AreChained (map links_of l.levels)) (sym merged) (chain set grouped among)
+  chained_fit = subst (λ (l : LevelsView). AreChained (map links_of l.levels)) (sym its.merged)
+      (chain set grouped its.among)
 
   pub last_fit : length levels.rows ≡ length (get_or (all_links levels) (length (all_links levels) - 1) [])
   last_fit =
       subst (λ (l : LevelsView). length l.rows
-      ≡ length (get_or (map links_of l.levels) (length (map links_of l.levels) - 1) [])) (sym merged)
-      (last_links set grouped among)
+      ≡ length (get_or (map links_of l.levels) (length (map links_of l.levels) - 1) [])) (sym its.merged)
+      (last_links set grouped its.among)
 
   places_same : all_places set levels ≡ kept_places set (all_rules set)
-  places_same = ap (λ (l : LevelsView). places_of l.kept (key_len_of set.layout)) merged
+  places_same = ap (λ (l : LevelsView). places_of l.kept (key_len_of set.layout)) its.merged
       ∙ places_are set (all_rules set)
 
   pub long_fit : length (all_places set levels) ≡ length (all_links levels)
   long_fit =
-      ap length places_same ∙ sym (levels_long set grouped among)
-      ∙ ap (λ (l : LevelsView). length (map links_of l.levels)) (sym merged)
+      ap length places_same ∙ sym (levels_long set grouped its.among)
+      ∙ ap (λ (l : LevelsView). length (map links_of l.levels)) (sym its.merged)
 
   pub places_fit : All (λ place. place < key_len_of set.layout) (all_places set levels)
   places_fit = subst (All (λ place. place < key_len_of set.layout)) (sym places_same)
@@ -81,37 +89,39 @@ module _ (set : RuleSetView) (levels : LevelsView) (some : 0 < length set.rules)
 
   -- the key of a row is the least one that leads there
   pub row_key_is : (row : ℕ) → row < length levels.rows
-      → key_of_row set levels row ≡ get_or (keys set grouped among) row []
+      → key_of_row set levels row ≡ get_or (keys set grouped its.among) row []
   row_key_is row below =
       let inside : row < length (levels_of set (all_rules set)).rows =
-      subst (λ (l : LevelsView). row < length l.rows) merged below in
-      (λ i. traced (map links_of (merged i).levels) (places_same i) (length (map links_of (merged i).levels)) row
+      subst (λ (l : LevelsView). row < length l.rows) its.merged below in
+      (λ i. traced (map links_of (its.merged i).levels) (places_same i)
+      (length (map links_of (its.merged i).levels)) row
       (replicate (key_len_of set.layout) 0))
-      ∙ key_read set grouped among row inside
-      ∙ get_or_default (keys set grouped among) row (replicate (key_len_of set.layout) 0) []
-      (omega (arith, inside, row_count set grouped among))
+      ∙ key_read set grouped its.among row inside
+      ∙ get_or_default (keys set grouped its.among) row (replicate (key_len_of set.layout) 0) []
+      (omega (arith, inside, row_count set grouped its.among))
 
   keys_same : keys_traced (all_links levels) (all_places set levels) (key_len_of set.layout) (length levels.rows)
       ≡ keys_traced (map links_of (levels_of set (all_rules set)).levels) (kept_places set (all_rules set))
       (key_len_of set.layout) (length (levels_of set (all_rules set)).rows)
   keys_same =
-      (λ i. keys_traced (map links_of (merged i).levels) (places_same i) (key_len_of set.layout) (length (merged i).rows))
+      (λ i. keys_traced (map links_of (its.merged i).levels) (places_same i) (key_len_of set.layout)
+      (length (its.merged i).rows))
 
   pub keys_fit : (firsts : List (List ℕ)) → AreFirsts levels.rows (length set.rules) firsts
       → HasKeys firsts (keys_traced (all_links levels) (all_places set levels) (key_len_of set.layout)
       (length levels.rows)) (key_len_of set.layout)
   keys_fit firsts are =
       subst (λ ks. HasKeys firsts ks (key_len_of set.layout)) (sym keys_same)
-      (has_keys set grouped among firsts
-      (subst (λ (l : LevelsView). AreFirsts l.rows (length set.rules) firsts) merged are))
+      (has_keys set grouped its.among firsts
+      (subst (λ (l : LevelsView). AreFirsts l.rows (length set.rules) firsts) its.merged are))
 
   pub keys_told : (firsts : List (List ℕ)) → AreFirsts levels.rows (length set.rules) firsts
       → keys_of firsts (keys_traced (all_links levels) (all_places set levels) (key_len_of set.layout)
       (length levels.rows)) (key_len_of set.layout) ≡ least_keys set
   keys_told firsts are =
       ap (λ ks. keys_of firsts ks (key_len_of set.layout)) keys_same
-      ∙ told set grouped among firsts
-      (subst (λ (l : LevelsView). AreFirsts l.rows (length set.rules) firsts) merged are)
+      ∙ told set grouped its.among firsts
+      (subst (λ (l : LevelsView). AreFirsts l.rows (length set.rules) firsts) its.merged are)
 
 -- where there is no rule there is no key
 pub no_keys : (set : RuleSetView) → length set.rules ≡ 0 → [] ≡ least_keys set

@@ -112,6 +112,7 @@ module _ (before : ℕ) (succ : ℕ → Succ) where
         ∙ ap (linked_with (linked_with links (link_of start) (succ first)) (link_of (first + 1))) same)
   ]
 
-  pub runs_are_bytes : (links : List Link) → runs_linked links before 0 (runs_of succ) ≡ fold byte_linked links all_bytes
+  pub runs_are_bytes : (links : List Link)
+      → runs_linked links before 0 (runs_of succ) ≡ fold byte_linked links all_bytes
   unfolding runs_of all_bytes
   runs_are_bytes links = linked_on links 0 0 255 refl (omega arith)

@@ -64,7 +64,8 @@ module _ (set : RuleSetView) (is : IsGrouped set (all_rules set)) (among : TheWi
 
   pub all_long : AllByRecursion (λ key. length key ≡ key_len_of set.layout) keys
   all_long =
-      All-found_in (λ x y. bytes_eq (final_row set (state set (all_rules set) x)) (final_row set (state set (all_rules set) y)))
+      All-found_in (λ x y. bytes_eq (final_row set (state set (all_rules set) x))
+      (final_row set (state set (all_rules set) y)))
       (λ x. is_live (final_row set (state set (all_rules set) x))) (λ key. length key ≡ key_len_of set.layout)
       (prefixes (key_len_of set.layout))
       (all_weaker (IsPrefix (key_len_of set.layout))

@@ -42,7 +42,8 @@ module _ (set : RuleSetView) (group : List ℕ) (is : IsGrouped set group) where
     pub chained : ChainedFrom (length keys) levels
     pub long : length levels ≡ length places
 
-  pub rows_values : rows_of set group ≡ map (row_for set group is) (rows_found set group is (prefixes (key_len_of set.layout)))
+  pub rows_values : rows_of set group ≡ map (row_for set group is)
+      (rows_found set group is (prefixes (key_len_of set.layout)))
   unfolding rows_of
   rows_values = values_found bytes_eq is_live (row_for set group is) (prefixes (key_len_of set.layout))
 
@@ -96,11 +97,14 @@ module _ (set : RuleSetView) (group : List ℕ) (is : IsGrouped set group) where
       let states = states_at set group next in
       let lead = (lead_next set group is place next keys gaps.0.rises gaps.0.within
       (λ k from below. gaps.0.wild k from below) least).found in
-      let begins = next_begins same_state is_live same_state_refl (state_succ states) states (state_says next) (state set group) len
+      let begins = next_begins same_state is_live same_state_refl (state_succ states) states (state_says next)
+      (state set group) len
       place next keys least.keys_are lead (states_values next) in
-      let are = next_keys same_state is_live same_state_refl (state_succ states) states (state_says next) (state set group) len
+      let are = next_keys same_state is_live same_state_refl (state_succ states) states (state_says next)
+      (state set group) len
       place next keys least.keys_are lead (states_values next) in
-      let below = links_below same_state is_live same_state_refl (state_succ states) states (state_says next) (state set group) len
+      let below = links_below same_state is_live same_state_refl (state_succ states) states (state_says next)
+      (state set group) len
       place next keys least.keys_are lead (states_values next) in
       let same = level_is set group is (state_succ states) (λ s. s) place next keys gaps.0.rises gaps.0.within least in
       let level : List (List Run) = map (λ key. runs_of (λ byte. state_succ (states_at set group next)

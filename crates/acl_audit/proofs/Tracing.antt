@@ -142,7 +142,8 @@ module _ (len : ℕ) (levels : List (List Link)) (places : List ℕ) (chained : 
       let e : suc (length levels - 1) ≡ length levels = omega (arith, some) in
       (λ i. traced levels places (sym e i) row (zero_bytes len))
       ∙ traced_key (length levels - 1) row (omega (arith, some)) below
-      ∙ (λ i. get_or (keys_after len (zero_bytes len ∷ []) (take (e i) places) (take (e i) levels)) row (zero_bytes len))
+      ∙ (λ i. get_or (keys_after len (zero_bytes len ∷ []) (take (e i) places) (take (e i) levels)) row
+      (zero_bytes len))
       ∙ (λ i. get_or (keys_after len (zero_bytes len ∷ [])
       (take_all (length levels) places (omega (arith, long)) i)
       (take_all (length levels) levels (omega arith) i)) row (zero_bytes len))

@@ -128,7 +128,8 @@ module _ (set : RuleSetView) (is : IsGrouped set (all_rules set)) (among : TheWi
       least_is_first (wins_at set rule category) (key_len_of set.layout)
       ∙ find_where (wins_at set rule category) (λ key. names (row_at key)) (prefixes (key_len_of set.layout))
       (all_weaker (IsPrefix (key_len_of set.layout)) (λ key. wins_at set rule category key ≡ names (row_at key))
-      (prefixes (key_len_of set.layout)) (λ key begins. wins_by_row key begins.1) (prefixes_are (key_len_of set.layout)))
+      (prefixes (key_len_of set.layout)) (λ key begins. wins_by_row key begins.1)
+      (prefixes_are (key_len_of set.layout)))
       ∙ find_found bytes_eq is_live row_at bytes_eq_sound names named_is_live (prefixes (key_len_of set.layout))
 
 -- What the number of the first row says: there is none, or it is that of the key.

@@ -29,7 +29,9 @@ mask_of test = sum_by (λ category. 2 ^ category) (filter test categories)
 -- the rule with its categories of the half, and no others
 abbrev pub halved : ℕ → ℕ → RuleView → RuleView
 halved half list rule =
-    record rule { tag = record rule.tag { category_mask = mask_of (is_in_half half list rule.tag) } }
+    record rule {
+      tag = record rule.tag { category_mask = mask_of (is_in_half half list rule.tag) };
+    }
 
 -- the rules of a list with their categories of the half, without those that have none
 unfoldable pub halved_rules : ℕ → ℕ → List RuleView → List RuleView

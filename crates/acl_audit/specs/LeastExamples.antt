@@ -1,5 +1,5 @@
--- Examples of least keys, each checked by evaluation. Keys are cut down to one or two bytes, so that
--- all of them can be gone through.
+-- Examples of least keys, each checked by evaluation. Keys are cut down to one or two bytes, so
+-- that all of them can be gone through.
 use Rattle.std.specs.Prelude.{◌≡◌, ℕ, pos, List, [], ◌∷◌, map, Some, None, refl}
 use Rattle.field_defs.specs.declared.field.FieldKind.TheVariants as kinds
 use Rattle.field_defs.specs.declared.field.FieldValue.{FieldValue}

@@ -1,6 +1,7 @@
 pub mod Audited
 pub mod Compared
 pub mod Difference
+pub mod DifferenceExamples
 pub mod Firsts
 pub mod Half
 pub mod Keyed

@@ -184,16 +184,16 @@ fn compare_both(
 /// Tells whether two rule sets of one layout have equal verdicts for every key in all 16
 /// categories, and else the least key and category at which they don't.
 ///
-/// The layouts are equal, and the budget is from 1 to [`table_sizes::MAX_WORDS`] words. The rules of
-/// both sets are merged twice: in their categories below 8, and where these are alike in those from
-/// 8 on; rules without such a category are left out, and no rules need no table. `TooManyRules`
-/// comes exactly where both sets together have more than [`rule_set::MAX_RULES`] rules, and
-/// `TooLarge` exactly where such a table of both has more words than the budget, unless memory ran
-/// out before that was known; its words are one more than the budget. It takes memory for a copy of
-/// the rules of both sets, for the merged states and for a number and a byte for each of them, and
-/// gives it back before it returns, but for that of the key. A rule of userdata 0 and no matching
-/// rule have equal verdicts. Source: DPDK Programmer's Guide, "Packet Classification and Access
-/// Control".
+/// The layouts are equal, and the budget is from 1 to [`table_sizes::MAX_WORDS`] words. The rules
+/// of both sets are merged twice: in their categories below 8, and where these are alike in those
+/// from 8 on; rules without such a category are left out, and no rules need no table.
+/// `TooManyRules` comes exactly where both sets together have more than [`rule_set::MAX_RULES`]
+/// rules, and `TooLarge` exactly where such a table of both has more words than the budget, unless
+/// memory ran out before that was known; its words are one more than the budget. It takes memory
+/// for a copy of the rules of both sets, for the merged states and for a number and a byte for each
+/// of them, and gives it back before it returns, but for that of the key. A rule of userdata 0 and
+/// no matching rule have equal verdicts. Source: DPDK Programmer's Guide, "Packet Classification
+/// and Access Control".
 pub fn compare_rules(
     alloc: Global,
     one: &RuleSet,

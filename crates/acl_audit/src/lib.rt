@@ -1,5 +1,6 @@
-//! a rule set and a budget of words → which rules ever win in a category, and the least key at which
-//! each does; two rule sets → whether they decide alike, and else the least key at which they don't
+//! a rule set and a budget of words → which rules ever win in a category, and the least key at
+//! which each does; two rule sets → whether they decide alike, and else the least key at which they
+//! don't
 //!
 //! A rule that never wins is dead: others cover all of its keys. Whether it is, and the least key
 //! at which it wins where it isn't, is read off the merged states of all rules. Their numbers are

@@ -1,6 +1,6 @@
 //! Rules of one layout, and the table of the last build.
 
-ghost use Rattle.std.specs.Prelude.{◌≡◌, ◌↔◌, ℕ, ◌+◌, ◌<◌, ◌≤◌, [], length, map};
+ghost use Rattle.std.specs.Prelude.{◌≡◌, ◌↔◌, ℕ, ◌+◌, ◌<◌, ◌≤◌, [], drop, length, map};
 ghost use Rattle.std.specs.Prelude.{Some, None, Ok, Err, IfOk, IfSome, IsErr, OnOk, OnErr, option_copied};
 ghost use Rattle.field_defs.specs.Layout.{key_len_of, max_fields};
 ghost use Rattle.rule_set.specs.Rule.{RuleSetView};
@@ -8,7 +8,7 @@ ghost use Rattle.rule_set.specs.declared.set.TheConstants.{MAX_RULES};
 ghost use Rattle.table_sizes.specs.Sizes.{max_words};
 ghost use Rattle.rule_split.specs.Split.{total_of};
 ghost use Rattle.flat_table.specs.Batch.{KeysFit, batch_verdicts, batch_transitions};
-ghost use Rattle.flat_table.specs.Batch.{most_of_batch};
+ghost use Rattle.flat_table.specs.Batch.{keys_of_len, most_of_batch};
 ghost use Rattle.flat_table.specs.Table.{words_of};
 ghost use Rattle.table_fill.specs.Serves.{Serves};
 ghost use Rattle.acl_context.specs.Context.{built_of, rule_view, with_rules};
@@ -19,8 +19,9 @@ use crate::add::{AddFault, Given, check_all, push_all};
 use crate::build::{BuildFault, make_table};
 use field_defs::Layout;
 use flat_table::{Steps, Table};
+use flow_core::Scratch;
+use lane_walk::{Walk, classify_by};
 use rule_set::{Categories, Rule, RuleSet, StoredRule};
-use scalar_walk::classify_scalar;
 use std::alloc::{AllocError, Global};
 use std::marker::Model;
 use std::sync::ledger::Ledger;
@@ -144,19 +145,26 @@ impl AclContext {
     ///
     /// `keys` has the bytes of at most 65,536 keys of the layout, one after the other, and `out`
     /// has room for the verdicts of each: the categories from 0 on of the first key, then those of
-    /// the second. A verdict is the userdata of the winner, or 0 where no rule wins. On `NotBuilt`
-    /// nothing is written and no transition counted. It takes no memory.
+    /// the second. A verdict is the userdata of the winner, or 0 where no rule wins. Both walks
+    /// give the same answer. [`Walk::Lanes`] is of eight lanes and needs a row of the scratch for
+    /// each key; it leaves all other rows as they are. [`Walk::Scalar`] leaves the whole scratch as
+    /// it is. On `NotBuilt` nothing is written and no transition counted. It takes no memory.
     pub fn classify<L: Ledger>(
         &self,
         keys: &[u8],
         cats: Categories,
+        walk: Walk,
+        scratch: &mut Scratch,
         out: &mut [u32],
         steps: &mut Steps<L>,
     ) -> Result<u64, NotBuilt>
-        requires { KeysFit (key_len_of self.now.set.layout) keys.now cats.count
+        requires fits { KeysFit (key_len_of self.now.set.layout) keys.now cats.count
             (length out.old) }
+        requires room { walk ≡ Walk.Lanes →
+            keys_of_len (key_len_of self.now.set.layout) keys.now ≤ length scratch.old }
         ensures not_built { IsErr result ↔ (self.now.table ≡ None) }
-        ensures idle { OnErr result ((out.new ≡ out.old) × (steps.new ≡ steps.old)) }
+        ensures idle { OnErr result ((out.new ≡ out.old) × (scratch.new ≡ scratch.old)
+            × (steps.new ≡ steps.old)) }
         ensures verdicts { IfSome self.now.table
             (λ table. out.new ≡ batch_verdicts table cats.count keys.now) }
         ensures taken { IfSome self.now.table
@@ -168,9 +176,13 @@ impl AclContext {
         // They are those of the rules, where the table answers as some rules do.
         ensures served { (set : RuleSetView) → IfSome self.now.table (λ table. Serves set table →
             out.new ≡ verdicts_by_rules set cats.count keys.now) }
+        ensures scalar { walk ≡ Walk.Scalar → scratch.new ≡ scratch.old }
+        ensures others { drop (keys_of_len (key_len_of self.now.set.layout) keys.now) scratch.new
+            ≡ drop (keys_of_len (key_len_of self.now.set.layout) keys.now) scratch.old }
+        ensures len { length scratch.new ≡ length scratch.old }
     {
         match &self.table {
-            Some(table) => Ok(classify_scalar(table, keys, cats, out, steps)),
+            Some(table) => Ok(classify_by(walk, table, keys, cats, scratch, out, steps)),
             None => Err(NotBuilt),
         }
     }

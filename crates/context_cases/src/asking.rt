@@ -2,7 +2,7 @@
 
 ghost use Rattle.std.specs.Prelude.{◌≡◌, ◌<◌};
 
-use acl_context::AclContext;
+use acl_context::{AclContext, Scratch, Walk};
 use flat_table::Steps;
 use rule_set::Categories;
 use std::alloc::Global;
@@ -11,6 +11,15 @@ use std::process::Abort;
 use std::sync::ledger::{Blank, Ledger};
 use std::test::Fail;
 
+/// What a context says of keys.
+#[derive(Drop)]
+pub(crate) struct Answered {
+    /// The verdicts, key by key.
+    pub(crate) verdicts: Vec<u32>,
+    /// How many transitions the walks took.
+    pub(crate) taken: Option<u64>,
+}
+
 /// Writes what the context says of the keys in so many categories, and gives how many transitions
 /// that took, or None where there is no table or the keys don't fit.
 fn answers<L: Ledger>(
@@ -18,6 +27,8 @@ fn answers<L: Ledger>(
     context: &AclContext,
     keys: &[u8],
     count: u32,
+    walk: Walk,
+    scratch: &mut Scratch,
     out: &mut [u32],
 ) -> Option<u64>
     requires name { blank.name ≡ L.name }
@@ -31,13 +42,47 @@ fn answers<L: Ledger>(
         return None;
     }
     let n = keys.len() / key_len;
-    if n > 65_536 || keys.len() != n * key_len || out.len() != n * cats.count() {
+    if n > scratch.room()
+        || n > 65_536
+        || keys.len() != n * key_len
+        || out.len() != n * cats.count()
+    {
         return None;
     }
-    context.classify(keys, cats, out, &mut steps).ok()
+    context
+        .classify(keys, cats, walk, scratch, out, &mut steps)
+        .ok()
 }
 
-/// What the context says of so many keys in so many categories.
+/// What the context says of so many keys in so many categories, by the walk.
+pub(crate) fn classified(
+    rt: &impl Abort,
+    alloc: Global,
+    context: &AclContext,
+    keys: &[u8],
+    n: u32,
+    count: u32,
+    walk: Walk,
+) -> Result<Answered, Fail> {
+    assert!(rt; n <= 65_536);
+    let mut scratch = Scratch::new(alloc, n as usize)?;
+    let room = (n as usize).wrapping_mul(count as usize);
+    let mut verdicts = vec![in alloc; 9u32; room]?;
+    let blank = Blank::new(1);
+    let taken = answers::<Brand>(
+        blank,
+        context,
+        keys,
+        count,
+        walk,
+        &mut scratch,
+        &mut verdicts,
+    );
+    assert!(rt; taken.is_some());
+    Ok(Answered { verdicts, taken })
+}
+
+/// What the context says of so many keys in so many categories, by either walk.
 pub(crate) fn answered(
     rt: &impl Abort,
     alloc: Global,
@@ -46,9 +91,9 @@ pub(crate) fn answered(
     n: u32,
     count: u32,
 ) -> Result<Vec<u32>, Fail> {
-    let room = (n as usize).wrapping_mul(count as usize);
-    let mut out = vec![in alloc; 9u32; room]?;
-    let taken = answers::<Brand>(Blank::new(1), context, keys, count, &mut out);
-    assert!(rt; taken.is_some());
-    Ok(out)
+    let scalar = classified(rt, alloc, context, keys, n, count, Walk::Scalar)?;
+    let lanes = classified(rt, alloc, context, keys, n, count, Walk::Lanes)?;
+    assert!(rt; scalar.verdicts == lanes.verdicts);
+    assert_eq!(rt; scalar.taken, lanes.taken);
+    Ok(scalar.verdicts)
 }

@@ -2,7 +2,7 @@
 
 ghost use Rattle.std.specs.Prelude.{◌≡◌, ◌<◌};
 
-use acl_context::{AclContext, AddFault, BuildFault};
+use acl_context::{AclContext, AddFault, BuildFault, Scratch, Walk};
 use field_defs::{FieldValue, ip4_layout};
 use flat_table::Steps;
 use rule_set::{Categories, Rule, RuleFault, RuleSet, RuleTag};
@@ -35,7 +35,12 @@ fn wild(category_mask: u32, userdata: u32) -> Rule<5> {
 }
 
 /// The verdicts of two packets in category 0, or nothing where there is no table.
-fn verdicts<L: Ledger>(blank: Blank, context: &AclContext) -> Option<[u32; 2]>
+fn verdicts<L: Ledger>(
+    blank: Blank,
+    context: &AclContext,
+    walk: Walk,
+    scratch: &mut Scratch,
+) -> Option<[u32; 2]>
     requires name { blank.name ≡ L.name }
     requires parts { blank.parts ≡ L.parts }
     requires some { 0 < blank.parts }
@@ -47,20 +52,30 @@ fn verdicts<L: Ledger>(blank: Blank, context: &AclContext) -> Option<[u32; 2]>
     let mut steps = Steps::<L>::new(blank);
     let mut out = [9u32; 2];
     let cats = Categories::new(1)?;
-    if context.rules().layout().key_len() != 13 {
+    if context.rules().layout().key_len() != 13 || scratch.room() < 2 {
         return None;
     }
-    context.classify(&keys, cats, &mut out, &mut steps).ok()?;
+    let taken = context.classify(&keys, cats, walk, scratch, &mut out, &mut steps);
+    taken.ok()?;
     Some(out)
 }
 
-/// Checks the verdicts of the two packets.
-fn expect(rt: &impl Abort, context: &AclContext, expected: Option<[u32; 2]>) {
-    assert_eq!(rt; verdicts::<Brand>(Blank::new(1), context), expected);
+/// Checks the verdicts of the two packets by both walks.
+fn expect(
+    rt: &impl Abort,
+    scratch: &mut Scratch,
+    context: &AclContext,
+    expected: Option<[u32; 2]>,
+) {
+    let scalar = verdicts::<Brand>(Blank::new(1), context, Walk::Scalar, scratch);
+    assert_eq!(rt; scalar, expected);
+    let lanes = verdicts::<Brand>(Blank::new(1), context, Walk::Lanes, scratch);
+    assert_eq!(rt; lanes, expected);
 }
 
 #[test]
 fn a_context_answers_by_its_last_build(rt: HostRuntime) -> Result<(), Fail> {
+    let mut scratch = Scratch::new(rt.alloc(), 2)?;
     let mut context = AclContext::create(rt.alloc(), ip4_layout(), 1);
     let two = context.add_rules(&[wild(1, 7), wild(1, 8)]);
     assert_eq!(rt; two, Err(AddFault::Full));
@@ -70,21 +85,21 @@ fn a_context_answers_by_its_last_build(rt: HostRuntime) -> Result<(), Fail> {
         Err(AddFault::RuleRefused(0, RuleFault::NoCategory))
     );
     context.add_rules(&[wild(1, 7)])?;
-    expect(&rt, &context, None);
+    expect(&rt, &mut scratch, &context, None);
     context.build(33)?;
-    expect(&rt, &context, Some([7, 7]));
+    expect(&rt, &mut scratch, &context, Some([7, 7]));
     let too_large = Err(BuildFault::TooLarge {
         words: 33,
         budget: 32,
     });
     assert_eq!(rt; context.build(32), too_large);
-    expect(&rt, &context, Some([7, 7]));
+    expect(&rt, &mut scratch, &context, Some([7, 7]));
     context.reset_rules();
-    expect(&rt, &context, Some([7, 7]));
+    expect(&rt, &mut scratch, &context, Some([7, 7]));
     context.build(16)?;
-    expect(&rt, &context, Some([0, 0]));
+    expect(&rt, &mut scratch, &context, Some([0, 0]));
     context.reset();
-    expect(&rt, &context, None);
+    expect(&rt, &mut scratch, &context, None);
     Ok(())
 }
 
@@ -102,13 +117,14 @@ fn a_list_that_is_half_refused_leaves_nothing(rt: HostRuntime) -> Result<(), Fai
 
 #[test]
 fn a_context_made_of_a_set_holds_its_rules(rt: HostRuntime) -> Result<(), Fail> {
+    let mut scratch = Scratch::new(rt.alloc(), 2)?;
     let mut set = RuleSet::new(rt.alloc(), ip4_layout());
     set.push(wild(1, 7).store(rt.alloc())?)?;
     let mut context = AclContext::holding(rt.alloc(), set, 1);
     assert_eq!(rt; context.add_rules(&[wild(1, 8)]), Err(AddFault::Full));
-    expect(&rt, &context, None);
+    expect(&rt, &mut scratch, &context, None);
     context.build(33)?;
-    expect(&rt, &context, Some([7, 7]));
+    expect(&rt, &mut scratch, &context, Some([7, 7]));
     context.reset();
     assert!(rt; context.rules().is_empty());
     Ok(())

@@ -10,11 +10,13 @@
 //! | `adding` | rules that are added to a context in two calls |
 //! | `asking` | a context's answers to a batch, for the tests of contexts |
 //! | `audits` | least keys, against all keys of few distinct bytes |
+//! | `comparisons` | where two lists differ, against all keys of few distinct bytes |
 //! | `contexts` | contexts from their first rule to their reset |
 //! | `edges` | what bytes leave of a value, worked out by hand |
 //! | `filled` | tables whose words were worked out by hand |
 //! | `groups` | states whose words were worked out by hand |
 //! | `images` | images of one rule, in both versions, and changed ones |
+//! | `lanes` | walks by lanes, turn by turn and to their end |
 //! | `layouts` | contexts whose layouts have two and nine fields, and keys of 5 and 25 bytes |
 //! | `messages` | what each fault says |
 //! | `numbers` | the places of rules, for the tests above and below |
@@ -34,6 +36,8 @@ mod asking;
 #[cfg(test)]
 mod audits;
 #[cfg(test)]
+mod comparisons;
+#[cfg(test)]
 mod contexts;
 #[cfg(test)]
 mod edges;
@@ -43,6 +47,8 @@ mod filled;
 mod groups;
 #[cfg(test)]
 mod images;
+#[cfg(test)]
+mod lanes;
 #[cfg(test)]
 mod layouts;
 #[cfg(test)]

@@ -6,11 +6,11 @@
 
 ghost use Rattle.std.specs.Prelude.{◌≡◌, ◌<◌};
 
-use acl_context::{AclContext, AddFault, BuildFault, NotBuilt};
+use acl_context::{AclContext, AddFault, BuildFault, NotBuilt, Scratch, Walk};
 use field_defs::{FieldValue, ip4_layout};
 use flat_table::Steps;
 use rule_set::{Categories, Rule, RuleTag};
-use std::alloc::Global;
+use std::alloc::{AllocError, Global};
 use std::marker::Brand;
 use std::sync::ledger::{Blank, Ledger};
 use thiserror::Error;
@@ -32,6 +32,8 @@ enum Refused {
     Rules(#[from] AddFault),
     #[error("the table is refused: {0}")]
     Table(#[from] BuildFault),
+    #[error("out of memory")]
+    Memory(#[from] AllocError),
 }
 
 /// A rule of all packets from 10.0.0.0/8 whose protocol agrees with this one in the bits of the
@@ -72,10 +74,14 @@ fn two_rules(alloc: Global) -> Result<AclContext, Refused> {
 }
 
 /// The userdata that decides each of the three packets in the first category, or nothing where
-/// there is no table, or its keys have another length.
+/// there is no table, or its keys have another length. The keys are walked at once, by lanes.
 ///
 /// `blank` is what the counter of the transitions is made of, which exists in proofs alone.
-fn verdicts<L: Ledger>(blank: Blank, context: &AclContext) -> Option<[u32; 3]>
+fn verdicts<L: Ledger>(
+    blank: Blank,
+    context: &AclContext,
+    scratch: &mut Scratch,
+) -> Option<[u32; 3]>
     requires name { blank.name ≡ L.name }
     requires parts { blank.parts ≡ L.parts }
     requires some { 0 < blank.parts }
@@ -83,21 +89,26 @@ fn verdicts<L: Ledger>(blank: Blank, context: &AclContext) -> Option<[u32; 3]>
     let mut steps = Steps::<L>::new(blank);
     let mut out = [0u32; 3];
     let first = Categories::new(1)?;
-    if context.rules().layout().key_len() != 13 {
+    if context.rules().layout().key_len() != 13 || scratch.room() < 3 {
         return None;
     }
-    match context.classify(&KEYS, first, &mut out, &mut steps) {
+    match context.classify(&KEYS, first, Walk::Lanes, scratch, &mut out, &mut steps) {
         Ok(_) => Some(out),
         Err(NotBuilt) => None,
     }
 }
 
+/// What the context of the two rules says of the packets.
+fn answers(alloc: Global) -> Result<Option<[u32; 3]>, Refused> {
+    let context = two_rules(alloc)?;
+    // A row for each key, which the lanes write to.
+    let mut scratch = Scratch::new(alloc, 3)?;
+    Ok(verdicts::<Brand>(Blank::new(1), &context, &mut scratch))
+}
+
 fn main(rt: HostRuntime) -> std::io::Result<()> {
-    match two_rules(rt.alloc()) {
-        Ok(context) => {
-            let answers = verdicts::<Brand>(Blank::new(1), &context);
-            println!(rt; "{answers:?}")
-        }
+    match answers(rt.alloc()) {
+        Ok(answers) => println!(rt; "{answers:?}"),
         Err(refused) => println!(rt; "{refused}"),
     }
 }

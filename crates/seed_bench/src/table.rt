@@ -14,7 +14,7 @@ ghost use Rattle.seed_bench.specs.Bench.{IsRefused, bench_budget};
 ghost use Rattle.seed_bench.specs.Tally.{tally_of};
 
 use crate::tally::Tally;
-use acl_context::{AclContext, AddFault, BuildFault, NotBuilt};
+use acl_context::{AclContext, AddFault, BuildFault, NotBuilt, Scratch, Walk};
 use command_plan::Status;
 use field_defs::{Family, ip4_layout};
 use flat_table::Steps;
@@ -82,7 +82,9 @@ pub fn table_tally<L: Ledger>(
     ensures idle { OnErr result (steps.new ≡ steps.old) }
 {
     let mut verdicts = vec![in alloc; 0; keys.len() / KEY_LEN * cats.count()]?;
-    Ok(classify(context, keys, cats, &mut verdicts, steps))
+    // Each key is walked for itself, which needs no row.
+    let mut scratch = Scratch::new(alloc, 0)?;
+    Ok(classify(context, keys, cats, &mut scratch, &mut verdicts, steps))
 }
 
 /// Classifies the keys, and gives what their verdicts come to.
@@ -90,6 +92,7 @@ fn classify<L: Ledger>(
     context: &AclContext,
     keys: &[u8],
     cats: Categories,
+    scratch: &mut Scratch,
     verdicts: &mut [u32],
     steps: &mut Steps<L>,
 ) -> Tally
@@ -103,7 +106,7 @@ fn classify<L: Ledger>(
     ensures steps { IfSome context.now.table
         (λ table. steps.new ≡ steps.old + batch_transitions table keys.now) }
 {
-    match context.classify(keys, cats, verdicts, steps) {
+    match context.classify(keys, cats, Walk::Scalar, scratch, verdicts, steps) {
         Ok(_) => tally_of(verdicts),
         Err(NotBuilt) => unreachable!(),
     }

@@ -30,7 +30,8 @@ loop-passed-preserved c =
     let new = subst (FirstsFrom rows c.args.count (length rows - 1 - passed)) (sym is) noted in
     let whole = whole_written c.loop-passed.table.len c.note_row.new.table old
     (new.table_is.long ∙ sym c.loop-passed.invariant.table_is.long) c.loop-passed.table.ok.0 in
-    subst (λ n. FirstsFrom rows c.args.count n (take c.loop-passed.table.len (c.note_row.new.table ++ drop (length c.note_row.new.table) old))) after
+    subst (λ n. FirstsFrom rows c.args.count n
+    (take c.loop-passed.table.len (c.note_row.new.table ++ drop (length c.note_row.new.table) old))) after
     (subst (FirstsFrom rows c.args.count (length rows - 1 - passed)) (sym whole) new)
 
 pub returns : goal.returns

@@ -16,5 +16,6 @@ pub loop-rule-preserved : goal.loop-rule-preserved
 loop-rule-preserved c =
     halved_more c.args.rules.now c.args.half c.args.list c.args.list_rules.now.rules c.loop-rule.rule-index
     c.loop-rule.rules c.push_halved.new.rules c.rule-item.result c.loop-rule.invariant
-    (omega (arith, c.loop-rule-test.true, ap length c.all-rule-items.ensures.rules)) (c.rule-item.is ∙ ap (λ l. get_or l c.loop-rule.rule-index c.rule-item.result) c.all-rule-items.ensures.rules)
+    (omega (arith, c.loop-rule-test.true, ap length c.all-rule-items.ensures.rules))
+    (c.rule-item.is ∙ ap (λ l. get_or l c.loop-rule.rule-index c.rule-item.result) c.all-rule-items.ensures.rules)
     c.in_ok-push_halved.ensures

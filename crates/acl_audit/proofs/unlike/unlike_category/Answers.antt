@@ -7,7 +7,8 @@ loop-category-init c = none_yet c.args.rules.now.rules c.args.row.now
 
 pub returns-then-is_unlike_in-clause-first : goal.returns-then-is_unlike_in-clause-first
 returns-then-is_unlike_in-clause-first c =
-    here_unlike c.args.rules.now.rules c.args.row.now c.loop-category.category (omega (arith, c.loop-category-test.true))
+    here_unlike c.args.rules.now.rules c.args.row.now c.loop-category.category
+    (omega (arith, c.loop-category-test.true))
     (sym c.is_unlike_in.ensures ∙ c.if-is_unlike_in.true) c.loop-category.invariant
 
 pub loop-category-preserved : goal.loop-category-preserved

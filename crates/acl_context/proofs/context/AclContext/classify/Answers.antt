@@ -15,7 +15,7 @@ returns-in-Some-clause-served g c = λ set.
     (rw c.in-Some.is at c.self.invariant.keys)
     ∙ ap (λ (context : ContextView). key_len_of context.set.layout) c.self.view_is in
     rw (sym (ap (λ (context : ContextView). context.table) c.self.view_is), c.in-Some.is) (λ serves.
-    c.classify_scalar.ensures.verdicts
+    c.classify_by.ensures.verdicts
     ∙ batch_by_rules set table c.args.cats.count keys serves few
     (are_bytes_from_fits keys (λ k. omega (arith, c.type_inv.keys k)))
-    (whole_of_lengths keys _ _ (sym of_layout ∙ serves.key_len) c.requires.whole))
+    (whole_of_lengths keys _ _ (sym of_layout ∙ serves.key_len) c.requires.fits.whole))
