@@ -1,0 +1,67 @@
+-- What the front of a block comes to.
+use Rattle.std.proofs.Common.{◌≡◌, ℕ, ◌+◌, ◌<◌, ◌≤◌, List, [], ◌++◌, length, take, drop, Result, Ok, Err}
+use Rattle.std.proofs.Common.{false, inl}
+use Rattle.std.proofs.Common.{refl, sym, ap, ◌∙◌, length-drop, arith}
+use Rattle.std.proofs.lemmas.List.{take-append-le, drop-append-le}
+use Rattle.acl_outside.specs.Desk.{DeskView}
+use Rattle.acl_outside.specs.Heard.{GoesOn, Ended}
+use Rattle.pcap_reader.specs.declared.fault.CaptureFault.{CaptureFault}
+use Rattle.pcap_reader.specs.declared.fault.CaptureFault.TheVariants.{PngCut, ReadFault}
+use Rattle.pcapng_reader.specs.Block.{BlockState, End, Fault, Given, front_of, front_len, is_last}
+use Rattle.pcapng_reader.specs.declared.blocks.BlockRead.{BlockRead}
+use Rattle.pcapng_reader.specs.declared.blocks.BlockRead.TheVariants as read
+use Rattle.pcapng_reader.specs.Reading.{HasRead, HasBroken, ReadsBlock, StandsWithin, block_read}
+use Rattle.pcapng_reader.proofs.BlockLaws.{HasFront-from, front_least, block-none, block-front_fault, front-cut}
+use Rattle.pcapng_reader.proofs.BlockLaws.{short-stuck}
+use Rattle.pcapng_reader.proofs.ReadLaws.{ReadsBlock-is, ReadsBlock-broken, ReadsBlock-plain, front-plain}
+
+-- no byte was left
+pub front-end : (state : BlockState) (part : List ℕ) (old new : DeskView) → length part ≡ 0 →
+    HasRead state part Ended old new → ReadsBlock state old new End
+front-end state part old new none read =
+    ReadsBlock-is state part Ended old new End read (block-none state part none) refl (λ e. absurd (cc))
+
+-- fewer bytes than a front has
+pub front-short : (state : BlockState) (part : List ℕ) (old new : DeskView) → is_last state ≡ false →
+    0 < length part → length part < front_len → HasRead state part Ended old new →
+    ReadsBlock state old new (Fault (PngCut (state.count + 1)))
+front-short state part old new few some cut read =
+    ReadsBlock-is state part Ended old new (Fault (PngCut (state.count + 1))) read
+    (block-front_fault state part _ some (front-cut state part few cut)) refl (λ e. absurd (cc))
+
+-- a read failed
+pub front-broken : (state : BlockState) (room : ℕ) (old new : DeskView) → room ≡ front_len →
+    HasBroken state state.first room old new → ReadsBlock state old new (Fault ReadFault)
+front-broken state room old new is broken =
+    ReadsBlock-broken state state.first room old new broken
+    (λ rest less. short-stuck state (state.first ++ rest) front_len (omega (arith, less, is))
+    (λ front says.
+    let facts = HasFront-from state (state.first ++ rest) front says in
+    omega (arith, facts.least, front_least front.kind)))
+
+-- the front is refused
+pub front-refused : (state : BlockState) (part : List ℕ) (fault : CaptureFault) (old new : DeskView) →
+    is_last state ≡ false → front_len ≤ length part → front_of state part ≡ Err fault →
+    HasRead state part GoesOn old new → ReadsBlock state old new (Fault fault)
+front-refused state part fault old new few there is read =
+    ReadsBlock-plain state part GoesOn old new fault read (inl refl)
+    (block-front_fault state part fault (omega (arith, there)) is) (front-plain state part fault few there is)
+
+-- a packet stands in the front of a buffer as in the whole of it
+pub block_read-front : (now : BlockState) (front rest : List ℕ) (result : Result BlockRead CaptureFault) →
+    StandsWithin (length front) result → block_read now front result ≡ block_read now (front ++ rest) result
+block_read-front now front rest (Ok read.End) within = refl
+block_read-front now front rest (Ok read.Passed) within = refl
+block_read-front now front rest (Ok (read.Given place)) within =
+    ap (λ (l : List ℕ). Given (record { link = place.link; bytes = l }) now [])
+    (sym (ap (take place.len) (drop-append-le place.at front rest (omega (arith, within)))
+    ∙ take-append-le place.len (drop place.at front) rest (omega (arith, within, length-drop place.at front))))
+block_read-front now front rest (Err fault) within = refl
+
+-- and so it stands within it
+pub within-more : (small large : ℕ) (result : Result BlockRead CaptureFault) → small ≤ large →
+    StandsWithin small result → StandsWithin large result
+within-more small large (Ok read.End) more within = tt
+within-more small large (Ok read.Passed) more within = tt
+within-more small large (Ok (read.Given place)) more within = omega (arith, more, within)
+within-more small large (Err fault) more within = tt

@@ -1,0 +1,14 @@
+mod AnswersLaws
+mod BeginLaws
+mod BlockLaws
+mod CaptureLaws
+mod FrontLaws
+mod LongLaws
+mod NextLaws
+mod PacketLaws
+mod ReadLaws
+mod ShortLaws
+mod StartLaws
+mod Steps
+mod TellLaws
+pub mod Offered

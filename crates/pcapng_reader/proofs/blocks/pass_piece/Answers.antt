@@ -1,0 +1,21 @@
+-- The piece is as long as is asked.
+use Rattle.std.proofs.Common.{◌≡◌, ℕ, ◌≤◌, List, length, take, replicate, refl, ap, ◌∙◌, arith, length-take}
+use Rattle.pcapng_reader.proofs.ReadLaws.{ReadsMore-weaker}
+use Rattle.pcapng_reader.proofs.blocks.pass_piece.Goals as goal
+
+-- the bytes of a piece
+abbrev zeros : List ℕ
+zeros = replicate 1024 0
+
+-- as many of them as there may be
+part_of : (bytes : List ℕ) (len : ℕ) → length bytes ≡ 1024 → len ≤ 1024 → length (take len bytes) ≡ len
+part_of bytes len room few = omega (arith, room, few, length-take len bytes)
+
+pub returns-clause-more : goal.returns-clause-more
+returns-clause-more g c state part before h =
+    let len = c.args.len in
+    ReadsMore-weaker (λ (done : Unit {0}) (more : List ℕ). more ≡ c.fill_part.new.into)
+    (λ (done : Unit {0}) (more : List ℕ). length more ≡ len) c.fill_part.result state part _ len c.args.number before
+    (g.D.Desk.view c.fill_part.new.desk) (part_of zeros len refl c.requires.few)
+    (λ x more is. ap length is ∙ c.fill_part.auto.into ∙ part_of zeros len refl c.requires.few)
+    (c.fill_part.ensures.more state part before h)

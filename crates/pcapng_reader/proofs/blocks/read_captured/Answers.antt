@@ -1,0 +1,121 @@
+-- The captured bytes were read, and then what is after them.
+use Rattle.std.proofs.Common.{◌≡◌, ℕ, ◌+◌, ◌-◌, ◌≤◌, List, ◌++◌, length, take, drop, Ok, sym, subst, ap, ◌∙◌}
+use Rattle.std.proofs.Common.{arith, length-append, length-take}
+use Rattle.std.proofs.lemmas.List.{take_at}
+use Rattle.acl_outside.specs.Desk.{DeskView}
+use Rattle.pcap_reader.specs.declared.fault.CaptureFault.TheVariants.{PngCut, PngLength}
+use Rattle.pcap_reader.specs.Headers.{number_in}
+use Rattle.pcapng_reader.specs.Block.{BlockState, Fault, state_said}
+use Rattle.pcapng_reader.specs.declared.blocks.BlockRead.{BlockRead}
+use Rattle.pcapng_reader.specs.Reading.{EndIn, ReadsBlock, block_read, captured_by, read_of}
+use Rattle.pcapng_reader.proofs.LongLaws.{head-more, long-broken, long-cut, long-other_end, long-whole}
+use Rattle.pcapng_reader.proofs.ReadLaws.{ReadsMore-refused}
+use Rattle.pcapng_reader.proofs.blocks.read_captured.Goals as goal
+
+pub returns-in-Err-clause-block : goal.returns-in-Err-clause-block
+returns-in-Err-clause-block g c before part head h =
+    let state = c.args.reader.now in
+    let front = c.args.front.now in
+    let new = g.D.Desk.view c.fill_part.new.desk in
+    let n = c.captured_by-captured.result in
+    let within : length part + length (take n c.args.buffer.now) ≤ front.total =
+    omega (
+      arith,
+      head.len_is,
+      c.requires.head,
+      c.requires.total,
+      c.captured_by-captured.ensures,
+      length-take n c.args.buffer.now,
+    ) in
+    ReadsMore-refused (λ (done : Unit {0}) (more : List ℕ). more ≡ c.fill_part.new.into) c.in-Err.fault state part _
+    (c.reader.inside.count + 1) before new
+    (c.in-Err.ensures.more state part before h)
+    (λ more less read. subst (λ k. ReadsBlock state before new (Fault (PngCut (k + 1))))
+    (sym (ap (λ s. s.count) c.reader.view_is))
+    (long-cut state front part before new head.front_is _ c.args.said more less within head.enough head.says read))
+    (long-broken state front part before new head.front_is _ within)
+
+pub returns-in-Err-pass_over-clause-block : goal.returns-in-Err-pass_over-clause-block
+returns-in-Err-pass_over-clause-block g c before part head h =
+    let state = c.args.reader.now in
+    let front = c.args.front.now in
+    let new = g.D.Desk.view c.pass_over.new.desk in
+    let n = c.captured_by-captured.result in
+    let read = c.in-Ok.ensures.more state part before h in
+    let more = head-more state front c.args.said c.args.head part read.0 head in
+    let within : length (part ++ read.0) + (front.total - c.args.head - n) ≤ front.total =
+    omega (
+      arith,
+      head.len_is,
+      c.requires.head,
+      c.requires.total,
+      c.captured_by-captured.ensures,
+      ap length read.1,
+      c.fill_part.auto.into,
+      length-take n c.args.buffer.now,
+      length-append part read.0,
+    ) in
+    ReadsMore-refused (λ (end : ℕ) (more : List ℕ). EndIn front.order (front.total - c.args.head - n) end more)
+    c.in-Err-pass_over.fault state (part ++ read.0) _ (c.reader.inside.count + 1) before new
+    (c.in-Err-pass_over.ensures.more state (part ++ read.0) before read.2)
+    (λ rest less has. subst (λ k. ReadsBlock state before new (Fault (PngCut (k + 1))))
+    (sym (ap (λ s. s.count) c.reader.view_is))
+    (long-cut state front (part ++ read.0) before new more.0 _ c.args.said rest less within more.1 more.2 has))
+    (long-broken state front (part ++ read.0) before new more.0 _ within)
+
+-- so many bytes were captured
+captured_len : (buffer into more : List ℕ) (n : ℕ) → more ≡ into → length into ≡ length (take n buffer) →
+    n ≤ length buffer → length more ≡ n
+captured_len buffer into more n is fits room = omega (arith, ap length is, fits, room, length-take n buffer)
+
+pub returns-then-end-front-clause-block : goal.returns-then-end-front-clause-block
+returns-then-end-front-clause-block g c before part head h =
+    let state = c.args.reader.now in
+    let front = c.args.front.now in
+    let new = g.D.Desk.view c.pass_over.new.desk in
+    let n = c.captured_by-captured.result in
+    let read = c.in-Ok.ensures.more state part before h in
+    let rest = c.in-Ok-pass_over.ensures.more state (part ++ read.0) before read.2 in
+    let len = captured_len c.args.buffer.now c.fill_part.new.into read.0 n read.1 c.fill_part.auto.into
+    (omega (arith, c.requires.captured, c.captured_by-captured.ensures, c.requires.room)) in
+    subst (λ k. ReadsBlock state before new (Fault (PngLength (k + 1)))) (sym (ap (λ s. s.count) c.reader.view_is))
+    (long-other_end state front part read.0 rest.0 c.args.said c.in-Ok-pass_over.end before new head.front_is
+    head.enough head.says
+    (omega (arith, rest.1.len, c.requires.head, c.requires.total, c.captured_by-captured.ensures))
+    (omega (arith, rest.1.len, len, head.len_is, c.requires.head, c.requires.total, c.captured_by-captured.ensures))
+    (subst (λ k. number_in front.order (drop (k - 4) rest.0) 0 4 ≡ c.in-Ok-pass_over.end) (sym rest.1.len)
+    rest.1.number)
+    rest.2 c.if-end-front.true)
+
+-- the block by what the code has in place of it
+as_read : (state : BlockState) (before new : DeskView) (buffer : List ℕ) (says now : BlockState) (r s : BlockRead) →
+    now ≡ says → s ≡ r → ReadsBlock state before new (block_read says buffer (Ok r)) →
+    ReadsBlock state before new (block_read now buffer (Ok s))
+as_read state before new buffer says now r s is_said is_read reads =
+    subst (λ x. ReadsBlock state before new (block_read x buffer (Ok s))) (sym is_said)
+    (subst (λ x. ReadsBlock state before new (block_read says buffer (Ok x))) (sym is_read) reads)
+
+pub returns-clause-block : goal.returns-clause-block
+returns-clause-block g c before part head h =
+    let state = c.args.reader.now in
+    let front = c.args.front.now in
+    let new = g.D.Desk.view c.pass_over.new.desk in
+    let n = c.captured_by-captured.result in
+    let buffer : List ℕ = c.fill_part.new.into ++ drop n c.args.buffer.now in
+    let read = c.in-Ok.ensures.more state part before h in
+    let rest = c.in-Ok-pass_over.ensures.more state (part ++ read.0) before read.2 in
+    let len = captured_len c.args.buffer.now c.fill_part.new.into read.0 n read.1 c.fill_part.auto.into
+    (omega (arith, c.requires.captured, c.captured_by-captured.ensures, c.requires.room)) in
+    let holds : take (captured_by c.args.said) buffer ≡ read.0 =
+    ap (λ k. take k buffer) (sym c.captured_by-captured.ensures)
+    ∙ take_at c.fill_part.new.into (drop n c.args.buffer.now) n (omega (arith, ap length read.1, len)) ∙ sym read.1 in
+    as_read state before new buffer (state_said state front c.args.said) c.learn.new.self (read_of c.args.said 0)
+    c.read_of.result c.learn.ensures c.read_of.ensures
+    (long-whole state front part read.0 rest.0 c.args.said c.in-Ok-pass_over.end before new head.front_is
+    head.enough head.says
+    (omega (arith, rest.1.len, c.requires.head, c.requires.total, c.captured_by-captured.ensures))
+    (omega (arith, rest.1.len, len, head.len_is, c.requires.head, c.requires.total, c.captured_by-captured.ensures))
+    (subst (λ k. number_in front.order (drop (k - 4) rest.0) 0 4 ≡ c.in-Ok-pass_over.end) (sym rest.1.len)
+    rest.1.number)
+    rest.2 buffer c.if-end-front.false holds (len ∙ c.captured_by-captured.ensures)
+    (λ packet. head.len_is ∙ head.packet packet))

@@ -1,0 +1,11 @@
+pub mod Block
+pub mod Capture
+pub mod CaptureExamples
+pub mod Reading
+pub mod Reader
+pub mod Answers
+pub mod Packets
+pub mod BlockLending
+pub mod SavefileLending
+pub mod Formats
+pub mod Lending

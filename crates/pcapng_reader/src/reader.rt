@@ -1,0 +1,237 @@
+//! What a reader of blocks knows, and what a block says to it.
+
+ghost use Rattle.std.specs.Prelude.{◌≡◌, ◌-◌, ◌≤◌, IfOk, false, length};
+ghost use Rattle.pcapng_reader.specs.Block.{front_len, front_of, is_last, is_no_len, least_len};
+ghost use Rattle.pcapng_reader.specs.Block.{magic_order, order_in, said_by};
+ghost use Rattle.pcapng_reader.specs.Block.{interface_said, packet_said, section_said, state_said};
+ghost use Rattle.pcap_reader.specs.State.{has_ended};
+ghost use Rattle.pcapng_reader.specs.Capture.{begun_blocks, section_bytes};
+ghost use Rattle.pcapng_reader.specs.Reading.{HasRoom};
+
+use crate::front::Front;
+use crate::interfaces::Interfaces;
+use crate::kind::Kind;
+use crate::number::{u16_in, u32_in};
+use crate::said::Said;
+use pcap_reader::{CaptureFault, Link, MAX_CAPTURED, MAX_RECORDS, Order, Progress};
+use std::alloc::{AllocError, Global};
+use std::marker::Model;
+
+/// How many blocks a capture may have.
+const MAX_BLOCKS: u64 = 2_000_000_000;
+/// The byte-order magic of a section.
+const BYTE_ORDER_MAGIC: u32 = 0x1A2B_3C4D;
+/// The major version of a section.
+const MAJOR: u16 = 1;
+/// The greatest captured length of a packet.
+const MOST_CAPTURED: u32 = MAX_CAPTURED as u32;
+
+/// What a reader of blocks knows of its section, and how far it came.
+#[derive(Debug, Drop)]
+pub struct Reader {
+    /// The order of the section's numbers.
+    pub order: Order,
+    /// The interfaces of the section.
+    pub interfaces: Interfaces,
+    /// Whether the type of the next block was read before, which is that of a section.
+    pub type_read: bool,
+    /// How many records were given.
+    pub count: u64,
+    /// How many blocks were read.
+    pub blocks: u64,
+    /// Whether more records are to come.
+    pub progress: Progress,
+}
+
+impl Model for Reader {
+    ghost use Rattle.std.specs.Prelude.{[], if◌then◌else◌};
+    ghost use Rattle.pcapng_reader.specs.Block.{BlockState};
+    ghost use Rattle.pcapng_reader.specs.Capture.{section_bytes};
+
+    ghost Value = { BlockState };
+
+    ghost view = { λ reader. record {
+      order = reader.order;
+      interfaces = reader.interfaces;
+      first = if reader.type_read then section_bytes else [];
+      count = reader.count;
+      blocks = reader.blocks;
+      progress = reader.progress;
+    } };
+}
+
+impl Reader {
+    /// A reader that has read the type of the first block. It takes the memory for the interfaces.
+    pub fn new(alloc: Global) -> Result<Self, AllocError>
+        ensures { IfOk result (λ reader. reader ≡ begun_blocks section_bytes) }
+    {
+        Ok(Reader {
+            order: Order::Big,
+            interfaces: Interfaces::new(alloc)?,
+            type_read: true,
+            count: 0,
+            blocks: 0,
+            progress: Progress::Reading,
+        })
+    }
+
+    /// Whether all records were given.
+    #[inline]
+    pub fn has_ended(&self) -> bool
+        ensures { result ≡ has_ended self.now.progress }
+    {
+        self.progress == Progress::Ended
+    }
+
+    /// Whether as many records were given or blocks read as a capture may have.
+    #[inline]
+    pub fn is_last(&self) -> bool
+        ensures { result ≡ is_last self.now }
+    {
+        self.count >= MAX_RECORDS || self.blocks >= MAX_BLOCKS
+    }
+
+    /// What the first twelve bytes of the next block say, or why it is refused.
+    #[inline]
+    pub fn front(&self, bytes: &[u8]) -> Result<Front, CaptureFault>
+        requires few { is_last self.now ≡ false }
+        requires there { front_len ≤ length bytes.now }
+        ensures { result ≡ front_of self.now bytes.now }
+    {
+        let kind = Kind::of(u32_in(self.order, bytes, 0));
+        let order = match self.order_in(kind, bytes) {
+            Some(order) => order,
+            None => return Err(CaptureFault::PngOrder(self.count + 1)),
+        };
+        let total = u32_in(order, bytes, 4);
+        if is_no_len(kind, total) {
+            return Err(CaptureFault::PngLength(self.count + 1));
+        }
+        Ok(Front { kind, order, total })
+    }
+
+    /// The order of a block's numbers, which a section's byte-order magic says of itself.
+    #[inline]
+    fn order_in(&self, kind: Kind, bytes: &[u8]) -> Option<Order>
+        requires { front_len ≤ length bytes.now }
+        ensures { result ≡ order_in self.now kind bytes.now }
+    {
+        match kind {
+            Kind::Section => magic_order(bytes),
+            Kind::Interface | Kind::Packet | Kind::Other => Some(self.order),
+        }
+    }
+
+    /// What the block says whose first bytes these are, or why it is refused. They are at least
+    /// those up to its last four where it is as short as a block of its kind may be.
+    #[inline]
+    pub fn said(&self, front: &Front, bytes: &[u8]) -> Result<Said, CaptureFault>
+        requires few { is_last self.now ≡ false }
+        requires there { least_len front.now.kind - 4 ≤ length bytes.now }
+        ensures said { result ≡ said_by front.now.kind self.now front.now bytes.now }
+        ensures room { IfOk result (λ said. HasRoom self.now front.now said) }
+    {
+        match front.kind {
+            Kind::Packet => self.packet_said(front, bytes),
+            Kind::Section => self.section_said(front, bytes),
+            Kind::Interface => self.interface_said(front, bytes),
+            Kind::Other => Ok(Said::Other),
+        }
+    }
+
+    /// What a section says.
+    #[inline(never)]
+    fn section_said(&self, front: &Front, bytes: &[u8]) -> Result<Said, CaptureFault>
+        requires few { is_last self.now ≡ false }
+        requires there { least_len Kind.Section - 4 ≤ length bytes.now }
+        ensures said { result ≡ section_said self.now front.now bytes.now }
+        ensures room { IfOk result (λ said. HasRoom self.now front.now said) }
+    {
+        if u16_in(front.order, bytes, 12) != MAJOR {
+            return Err(CaptureFault::PngVersion(self.count + 1));
+        }
+        Ok(Said::Section)
+    }
+
+    /// What an interface says.
+    #[inline(never)]
+    fn interface_said(&self, front: &Front, bytes: &[u8]) -> Result<Said, CaptureFault>
+        requires few { is_last self.now ≡ false }
+        requires there { least_len Kind.Interface - 4 ≤ length bytes.now }
+        ensures said { result ≡ interface_said self.now front.now bytes.now }
+        ensures room { IfOk result (λ said. HasRoom self.now front.now said) }
+    {
+        if self.interfaces.is_full() {
+            return Err(CaptureFault::PngTooMany(self.count + 1));
+        }
+        let number = u16_in(front.order, bytes, 8);
+        Ok(Said::Interface(Link::of_number(number as u32)))
+    }
+
+    /// What a packet says.
+    #[inline]
+    fn packet_said(&self, front: &Front, bytes: &[u8]) -> Result<Said, CaptureFault>
+        requires few { is_last self.now ≡ false }
+        requires there { least_len Kind.Packet - 4 ≤ length bytes.now }
+        ensures said { result ≡ packet_said self.now front.now bytes.now }
+        ensures room { IfOk result (λ said. HasRoom self.now front.now said) }
+    {
+        let number = self.count + 1;
+        let link = match self.interfaces.get(u32_in(front.order, bytes, 8)) {
+            Some(Some(link)) => link,
+            Some(None) => return Err(CaptureFault::PngLink(number)),
+            None => return Err(CaptureFault::PngInterface(number)),
+        };
+        let captured = u32_in(front.order, bytes, 20);
+        if captured > MOST_CAPTURED {
+            return Err(CaptureFault::RecordTooLong(number));
+        }
+        if front.total < (captured + 3) / 4 * 4 + Kind::Packet.least_len() {
+            return Err(CaptureFault::PngLength(number));
+        }
+        Ok(Said::Packet(link, captured))
+    }
+
+    /// Knows what a block said.
+    #[inline]
+    pub fn learn(&mut self, front: &Front, said: Said)
+        requires few { is_last self.old ≡ false }
+        requires room { HasRoom self.old front.now said }
+        ensures { self.new ≡ state_said self.old front.now said }
+    {
+        self.type_read = false;
+        self.blocks += 1;
+        match said {
+            Said::Packet(_, _) => self.count += 1,
+            Said::Section => {
+                self.order = front.order;
+                self.interfaces.clear();
+            }
+            Said::Interface(link) => self.interfaces.add(link),
+            Said::Other => {}
+        }
+    }
+}
+
+/// The order in which a section's byte-order magic stands.
+#[inline(never)]
+fn magic_order(bytes: &[u8]) -> Option<Order>
+    requires { front_len ≤ length bytes.now }
+    ensures { result ≡ magic_order bytes.now }
+{
+    if u32_in(Order::Big, bytes, 8) == BYTE_ORDER_MAGIC {
+        return Some(Order::Big);
+    }
+    if u32_in(Order::Little, bytes, 8) == BYTE_ORDER_MAGIC {
+        return Some(Order::Little);
+    }
+    None
+}
+
+/// Whether no block of this kind has this length.
+#[inline]
+fn is_no_len(kind: Kind, total: u32) -> bool
+    ensures { result ≡ is_no_len kind total }
+{
+    total % 4 != 0 || total < kind.least_len()
+}
