@@ -144,14 +144,19 @@ final_long set (held ∷ s) live = length-map-range_with_len
     (λ c. entry_for (winner_of set c (map (λ (h : Held). h.number) (held ∷ s)))) 0 16
 
 module _ (set : RuleSetView) (is : IsGrouped set (all_rules set)) (among : TheWinnerIsAmongAllPlaces) where
+  -- an entry of a key's row is that of the winner of the key
+  pub entry_is_winner : (key : List ℕ) → length key ≡ key_len_of set.layout → (category : ℕ) → category < row_len
+      → get_or (final_row set (state set (all_rules set) key)) category 0
+      ≡ entry_for (winner set.layout set.rules key category)
+  entry_is_winner key long category within =
+      entry_is set (state set (all_rules set) key) category within
+      ∙ ap (λ numbers. entry_for (winner_of set category numbers)) (whole_numbers set (all_rules set) key long)
+      ∙ ap entry_for (winner_matching set key (short_keys set.layout is.layout).0 among category)
+
   entry_low : (key : List ℕ) → length key ≡ key_len_of set.layout → (category : ℕ) → category < row_len
       → get_or (final_row set (state set (all_rules set) key)) category 0 ≤ length set.rules
   entry_low key long category within =
-      let is_winner : get_or (final_row set (state set (all_rules set) key)) category 0
-      ≡ entry_for (winner set.layout set.rules key category) =
-      entry_is set (state set (all_rules set) key) category within
-      ∙ ap (λ numbers. entry_for (winner_of set category numbers)) (whole_numbers set (all_rules set) key long)
-      ∙ ap entry_for (winner_matching set key (short_keys set.layout is.layout).0 among category) in
+      let is_winner = entry_is_winner key long category within in
       let low = position_low (λ rule. applies set.layout key category rule && is_greatest
       (filter (applies set.layout key category) set.rules) rule) 0 set.rules in
       omega (arith, is_winner, low)

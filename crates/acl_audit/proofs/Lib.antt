@@ -1,9 +1,14 @@
 mod Back
+mod Comparing
+mod Differing
 mod Finding
+mod FirstRow
 mod Fitting
+mod Halving
 mod Keys
 mod Leading
 mod Least
+mod Masking
 mod Noting
 mod Numbering
 mod Ready

@@ -1,5 +1,7 @@
 -- What an audit of the merged states of all rules stands on, at each of its calls.
 use Rattle.std.proofs.Common.{◌≡◌, ℕ, ◌-◌, ◌^◌, ◌<◌, ◌≤◌, List, [], length, map, get_or, sym, ◌∙◌, ap, subst, All, Option}
+use Rattle.std.proofs.Common.{replicate, arith}
+use Rattle.std.proofs.lemmas.List.{get_or_default}
 use Rattle.std.proofs.lemmas.List.FromFn.{length-map-range_with_len}
 use Rattle.std.specs.List.{range_with_len}
 use Rattle.field_defs.specs.Layout.{key_len_of}
@@ -18,9 +20,9 @@ use Rattle.acl_audit.specs.Audited.{keys_of, HasKeys}
 use Rattle.acl_audit.specs.Firsts.{AreFirsts}
 use Rattle.acl_audit.specs.Least.{all_rules, least_key, least_keys}
 use Rattle.acl_audit.specs.Links.{links_of}
-use Rattle.acl_audit.specs.Traced.{places_of, keys_traced, AreChained}
+use Rattle.acl_audit.specs.Traced.{places_of, traced, keys_traced, key_of_row, AreChained}
 use Rattle.acl_audit.proofs.Fitting.{all_are_group, places_are, places_below, few_states, few_rows, rows_long, rows_low}
-use Rattle.acl_audit.proofs.Telling.{chain, levels_long, last_links, told, has_keys}
+use Rattle.acl_audit.proofs.Telling.{keys, row_count, chain, levels_long, last_links, key_read, told, has_keys}
 
 -- the links of each place, and the kept places, as the code makes them
 abbrev pub all_links : LevelsView → List (List Link)
@@ -32,7 +34,7 @@ all_places set levels = places_of levels.kept (key_len_of set.layout)
 module _ (set : RuleSetView) (levels : LevelsView) (some : 0 < length set.rules) (rules : IsRuleSet set)
     (layout : IsLayout set.layout) (merged : levels ≡ levels_of set (all_rules set))
     (among : TheWinnerIsAmongAllPlaces) where
-  grouped : IsGrouped set (all_rules set)
+  pub grouped : IsGrouped set (all_rules set)
   grouped = record { rules = rules; layout = layout; group = all_are_group set some }
 
   pub states_fit : levels.words ≤ max_words
@@ -77,6 +79,18 @@ module _ (set : RuleSetView) (levels : LevelsView) (some : 0 < length set.rules)
   places_fit = subst (All (λ place. place < key_len_of set.layout)) (sym places_same)
       (places_below set (all_rules set))
 
+  -- the key of a row is the least one that leads there
+  pub row_key_is : (row : ℕ) → row < length levels.rows
+      → key_of_row set levels row ≡ get_or (keys set grouped among) row []
+  row_key_is row below =
+      let inside : row < length (levels_of set (all_rules set)).rows =
+      subst (λ (l : LevelsView). row < length l.rows) merged below in
+      (λ i. traced (map links_of (merged i).levels) (places_same i) (length (map links_of (merged i).levels)) row
+      (replicate (key_len_of set.layout) 0))
+      ∙ key_read set grouped among row inside
+      ∙ get_or_default (keys set grouped among) row (replicate (key_len_of set.layout) 0) []
+      (omega (arith, inside, row_count set grouped among))
+
   keys_same : keys_traced (all_links levels) (all_places set levels) (key_len_of set.layout) (length levels.rows)
       ≡ keys_traced (map links_of (levels_of set (all_rules set)).levels) (kept_places set (all_rules set))
       (key_len_of set.layout) (length (levels_of set (all_rules set)).rows)
@@ -105,8 +119,8 @@ unfolding least_keys
 no_keys set none = ap (λ n. map (λ rule. map (least_key set rule) categories) (range_with_len 0 n)) (sym none)
 
 -- there are keys for each rule
-pub count_of_keys : (set : RuleSetView) (keys : List (List (Option (List ℕ)))) → keys ≡ least_keys set
-    → length keys ≡ length set.rules
+pub count_of_keys : (set : RuleSetView) (all_keys : List (List (Option (List ℕ)))) → all_keys ≡ least_keys set
+    → length all_keys ≡ length set.rules
 unfolding least_keys
-count_of_keys set keys are =
+count_of_keys set all_keys are =
     ap length are ∙ length-map-range_with_len (λ rule. map (least_key set rule) categories) 0 (length set.rules)

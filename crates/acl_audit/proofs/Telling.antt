@@ -52,7 +52,7 @@ module _ (set : RuleSetView) (is : IsGrouped set (all_rules set)) (among : TheWi
   len = key_len_of set.layout
 
   -- the least key of each row
-  abbrev keys : List (List ℕ)
+  abbrev pub keys : List (List ℕ)
   keys = rows_found set (all_rules set) is (prefixes (key_len_of set.layout))
 
   abbrev levels : List (List Link)
@@ -62,7 +62,7 @@ module _ (set : RuleSetView) (is : IsGrouped set (all_rules set)) (among : TheWi
   unfolding levels_of
   rows_are = rows_values set (all_rules set) is
 
-  all_long : AllByRecursion (λ key. length key ≡ key_len_of set.layout) keys
+  pub all_long : AllByRecursion (λ key. length key ≡ key_len_of set.layout) keys
   all_long =
       All-found_in (λ x y. bytes_eq (final_row set (state set (all_rules set) x)) (final_row set (state set (all_rules set) y)))
       (λ x. is_live (final_row set (state set (all_rules set) x))) (λ key. length key ≡ key_len_of set.layout)
@@ -94,7 +94,16 @@ module _ (set : RuleSetView) (is : IsGrouped set (all_rules set)) (among : TheWi
       ∙ ap length (sym (lead_through set (all_rules set) is).rows)
       ∙ count_last (key_len_of set.layout) levels (kept_places set (all_rules set)) chain levels_long rising some_levels
 
-  -- the keys that are read off the links are those of the rows
+  -- the key that is read off the links from a row is that of the row
+  pub key_read : (row : ℕ) → row < length (levels_of set (all_rules set)).rows
+      → traced levels (kept_places set (all_rules set)) (length levels) row (zero_bytes (key_len_of set.layout))
+      ≡ get_or keys row (zero_bytes (key_len_of set.layout))
+  key_read row below =
+      traced_row (key_len_of set.layout) levels (kept_places set (all_rules set)) chain levels_long rising some_levels
+      row (omega (arith, below, last_links))
+      ∙ ap (λ ks. get_or ks row (zero_bytes (key_len_of set.layout))) (lead_through set (all_rules set) is).rows
+
+  -- and so for all rows
   keys_read : keys_traced levels (kept_places set (all_rules set)) (key_len_of set.layout)
       (length (levels_of set (all_rules set)).rows) ≡ flat_map (λ key. key) keys
   unfolding keys_traced
@@ -106,9 +115,7 @@ module _ (set : RuleSetView) (is : IsGrouped set (all_rules set)) (among : TheWi
       (λ row below. (let e : 0 + row ≡ row = omega arith in
       ap (λ r. traced levels (kept_places set (all_rules set)) (length levels) r
       (zero_bytes (key_len_of set.layout))) e
-      ∙ traced_row (key_len_of set.layout) levels (kept_places set (all_rules set)) chain levels_long rising some_levels
-      row (omega (arith, below, row_count, last_links))
-      ∙ ap (λ ks. get_or ks row (zero_bytes (key_len_of set.layout))) (lead_through set (all_rules set) is).rows))
+      ∙ key_read row (omega (arith, below, row_count))))
 
   -- the key of a first row's number is the least key
   key_told : (rule category number : ℕ) (found : Option (List ℕ)) → IsFirst keys 0 number found

@@ -48,7 +48,7 @@ after_more len keys (p ∷ places) [] place links long = absurd (omega (arith, l
 after_more len keys (p ∷ places) (l ∷ levels) place links long =
     after_more len (map (keyed len keys p) l) places levels place links (omega (arith, long))
 
-all_at : {X : Type 0} (P : X → Type 0) (xs : List X) (n : ℕ) (d : X) → AllByRecursion P xs → n < length xs
+pub all_at : {X : Type 0} (P : X → Type 0) (xs : List X) (n : ℕ) (d : X) → AllByRecursion P xs → n < length xs
     → P (get_or xs n d)
 all_at P [] n d all within = absurd (omega (arith, within))
 all_at P (x ∷ xs) zero d all within = all.0

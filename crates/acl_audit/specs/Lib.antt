@@ -1,8 +1,12 @@
 pub mod Audited
+pub mod Compared
+pub mod Difference
 pub mod Firsts
+pub mod Half
 pub mod Keyed
 pub mod Laws
 pub mod Least
 pub mod LeastExamples
 pub mod Links
 pub mod Traced
+pub mod Unlike

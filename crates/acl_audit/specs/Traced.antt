@@ -1,12 +1,15 @@
 -- The key that is read off the links, from a row back to the first byte.
 use Rattle.std.specs.Prelude.{ℕ, ◌+◌, ◌<◌, ◌==◌, List, [], length, slice_index_or, slice_set}
-use Rattle.std.specs.Prelude.{filter, replicate, Bool}
+use Rattle.std.specs.Prelude.{map, filter, replicate, Bool}
 use Rattle.std.specs.Int.{bit_at}
 use Rattle.std.specs.List.{range_with_len, flat_map}
 use Rattle.std.proofs.Common.{zero, suc}
+use Rattle.field_defs.specs.Layout.{key_len_of}
+use Rattle.rule_set.specs.Rule.{RuleSetView}
 use Rattle.trie_merge.specs.Kept.{group_of}
+use Rattle.trie_merge.specs.Levels.{LevelsView}
 use Rattle.acl_audit.specs.declared.links.Link.{Link}
-use Rattle.acl_audit.specs.Links.{no_link}
+use Rattle.acl_audit.specs.Links.{no_link, links_of}
 
 -- the link to the state or row of that number
 abbrev pub link_at : List (List Link) → ℕ → ℕ → Link
@@ -38,3 +41,9 @@ is_kept_in kept place = bit_at kept (group_of place) == 1
 -- the places of a key that are kept
 abbrev pub places_of : ℕ → ℕ → List ℕ
 places_of kept len = filter (is_kept_in kept) (range_with_len 0 len)
+
+-- the least key of the row of that number in the merged states of all rules
+abbrev pub key_of_row : RuleSetView → LevelsView → ℕ → List ℕ
+key_of_row set levels row =
+    traced (map links_of levels.levels) (places_of levels.kept (key_len_of set.layout))
+    (length (map links_of levels.levels)) row (replicate (key_len_of set.layout) 0)

@@ -116,7 +116,7 @@ fn all_rules(alloc: Global, rules: &RuleSet) -> Result<Vec<u32>, AllocError>
 }
 
 /// The merged states of all rules.
-fn merged(alloc: Global, rules: &RuleSet, budget: u64) -> Result<Levels, AuditFault>
+pub(crate) fn merged(alloc: Global, rules: &RuleSet, budget: u64) -> Result<Levels, AuditFault>
     requires some { 0 < length rules.now.rules }
     requires budget { budget ≤ max_words }
     ensures levels { IfOk result (λ levels. levels ≡ levels_of rules.now (all_rules rules.now)) }

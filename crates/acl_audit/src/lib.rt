@@ -1,5 +1,5 @@
 //! a rule set and a budget of words → which rules ever win in a category, and the least key at which
-//! each does
+//! each does; two rule sets → whether they decide alike, and else the least key at which they don't
 //!
 //! A rule that never wins is dead: others cover all of its keys. Whether it is, and the least key
 //! at which it wins where it isn't, is read off the merged states of all rules. Their numbers are
@@ -11,14 +11,21 @@
 //! - `trace`: from a row back to the first byte, and so its least key
 //! - `firsts`: the first row in which each rule is the winner of each category
 //! - `audit`: [`live_rules`], and what comes of it
-//! - `laws`: what least keys are, over the definitions alone
+//! - `half`: two lists as one, in eight categories of each
+//! - `unlike`: the first row in which the two lists of a half answer unlike
+//! - `compare`: [`compare_rules`], over both halves
+//! - `laws`: what least keys, differences and halves are, over the definitions alone
 #![tactic(auto)]
 
 mod audit;
+mod compare;
 mod firsts;
+mod half;
 pub mod laws;
 mod links;
 mod places;
 mod trace;
+mod unlike;
 
 pub use audit::{Audit, AuditFault, live_rules};
+pub use compare::{CompareFault, Compared, compare_rules};

@@ -54,6 +54,27 @@ fn push_key(
     Ok(())
 }
 
+/// The least key of the row, which has so many bytes.
+pub(crate) fn row_key(
+    alloc: Global,
+    links: &[Links],
+    places: &[usize],
+    len: usize,
+    row: usize,
+) -> Result<Vec<u8>, AllocError>
+    requires len { len ≤ 505 }
+    requires chained { AreChained links.now }
+    requires row { row < length (slice_index_or links.now (length links.now - 1) []) }
+    requires long { length places.now ≡ length links.now }
+    requires places { All (λ place. place < len) places.now }
+    ensures { IfOk result (λ key. key.items
+        ≡ traced links.now places.now (length links.now) row (replicate len 0)) }
+{
+    let mut key = Vec::new(alloc);
+    push_key(&mut key, links, places, len, row)?;
+    Ok(key)
+}
+
 /// The least keys of so many rows, one after the other.
 pub(crate) fn row_keys(
     alloc: Global,
