@@ -1,177 +1,231 @@
--- Four walks in step. Their lanes are numbered from 0 to 3: lane i walks key i.
-use Rattle.std.proofs.Common.{◌≡◌, ◌≢◌, ℕ, ◌+◌, ◌*◌, ◌<◌, ◌≤◌, ◌^◌, Bool, true, false, List, sym, ap, ◌∙◌, arith, subst}
-use Rattle.std.proofs.Common.{length, drop, get_or, set, [], ◌∷◌, inl, inr, refl, get_or-set_same, get_or-set_other}
-use Rattle.std.specs.Prelude.{slice_index, if◌then◌else◌, nat_lt}
-use Rattle.std.proofs.lemmas.List.{get_or-take, get_or-drop, get_or-replicate}
-use Rattle.std.proofs.lemmas.Bool.{cases_eq}
-use Rattle.std.proofs.lemmas.Bool.Decides.{nat_tests}
-use Rattle.std.proofs.Math.ListN.{length-set}
+-- Four of sixteen walks in step.
+use Rattle.std.proofs.Common.{◌≡◌, ℕ, ◌+◌, ◌-◌, ◌*◌, ◌%◌, ◌<◌, ◌≤◌, ◌^◌, Bool, true, false, List, refl, sym, ap, ◌∙◌}
+use Rattle.std.proofs.Common.{arith, subst, length, drop, inl, inr}
+use Rattle.std.specs.Prelude.{slice_index, if◌then◌else◌}
+use Rattle.std.proofs.lemmas.List.{get_or-take, get_or-drop}
+use Rattle.std.proofs.lemmas.Bool.{cases_lt}
 use Rattle.std.proofs.Math.Nat.{mul-le-mul_right}
+use Rattle.flat_table.specs.Groups.{longest_key}
 use Rattle.flat_table.specs.Word.{index_of, is_match}
-use Rattle.flat_table.specs.Table.{places_of}
-use Rattle.flat_table.specs.Walk.{root_of, transitions_after}
+use Rattle.flat_table.specs.Table.{TableView, places_of}
+use Rattle.flat_table.specs.Walk.{root_of, transitions_after, walk_transitions}
 use Rattle.flat_table.specs.Batch.{key_at}
-use Rattle.list_lemmas.proofs.Sums.{one_of_four_grows}
-use Rattle.flat_table.proofs.Offered.{Stands, begins, ends_at_match, row_is}
-use Rattle.scalar_walk.specs.Rows.{EndsAt, GoesOn}
+use Rattle.flat_table.specs.Laws.{WalksStay}
+use Rattle.flat_table.proofs.Offered.{Stands, begins, ends_at_match, row_is, transitions_are}
+use Rattle.scalar_walk.specs.Lanes.{word_in}
+use Rattle.scalar_walk.specs.Rows.{CanGoOn, EndsAt, GoesOn}
+use Rattle.scalar_walk.specs.declared.vectors.Four.{Four}
 use Rattle.scalar_walk.proofs.Ways.{Way, IsWay, Step, step, count_of_places, place_in_key}
 
--- in the turn after n bytes, how many bytes lane i has read when the lanes before j have read theirs
-abbrev pub bytes_read : ℕ → ℕ → ℕ → ℕ
-bytes_read n j i = if nat_lt i j then n + 1 else n
+-- what a walk of the code goes by
+abbrev pub way_of : TableView → ℕ → List ℕ → List ℕ → Way
+way_of table trie places words = record { table = table; trie = trie; places = places; words = words }
 
--- how many words lane i has taken then
-abbrev pub lane_transitions : Way → List ℕ → ℕ → ℕ → ℕ → ℕ
-lane_transitions way keys n j i = transitions_after way.table way.trie (key_at way.table keys i) (bytes_read n j i)
-
--- four keys, one after the other
-pub record FourKeys (way : Way) (keys : List ℕ) : Type 0 where
-  pub whole : length keys ≡ 4 * way.table.key_len
+-- sixteen keys, one after the other
+pub record SixteenKeys (way : Way) (keys : List ℕ) : Type 0 where
+  pub whole : length keys ≡ 16 * way.table.key_len
   pub bytes : (k : ℕ) → slice_index keys k < 2 ^ 8
 
--- the four walks in that turn: the words at which they stand, and the two counts
-pub record InStep (way : Way) (keys : List ℕ) (n j : ℕ) (lanes : List ℕ) (taken start steps : ℕ) : Type 0 where
+-- four walks after n bytes each, of the keys from the first of them on
+pub record FourWalks (way : Way) (keys : List ℕ) (first n : ℕ) (walks : Four) : Type 0 where
   pub is_way : IsWay way
-  pub keys_are : FourKeys way keys
-  pub four : length lanes ≡ 4
+  pub keys_are : SixteenKeys way keys
+  pub in_keys : first + 4 ≤ 16
   pub stands : (i : ℕ) → i < 4 →
-      Stands way.table way.trie (key_at way.table keys i) (bytes_read n j i) (get_or lanes i 0)
-  pub total : taken
-      ≡ lane_transitions way keys n j 0 + lane_transitions way keys n j 1 + lane_transitions way keys n j 2
-      + lane_transitions way keys n j 3
-  pub most : taken ≤ 4 * n + j
-  pub counted : steps ≡ start + taken
+      Stands way.table way.trie (key_at way.table keys (first + i)) n (word_in walks.lows walks.highs i)
+  pub taken_is : (i : ℕ) → i < 4 →
+      slice_index walks.taken i ≡ transitions_after way.table way.trie (key_at way.table keys (first + i)) n
+  pub few : (i : ℕ) → i < 4 → slice_index walks.taken i ≤ n
 
--- a lane whose number isn't below j hasn't read its byte
-not_yet : (n s j : ℕ) → s ≤ j → bytes_read n s j ≡ n
-not_yet n s j h = grind (arith, nat_tests)
-
--- all begin at the root
-pub four_begin : {way : Way} {keys : List ℕ} → IsWay way → FourKeys way keys → (root start : ℕ) →
-    root ≡ root_of way.table way.trie → InStep way keys 0 0 (root ∷ root ∷ root ∷ root ∷ []) 0 start start
-four_begin {way = way} {keys = keys} w k root start is = record {
+-- they begin at the root
+pub four_begin : {way : Way} {keys : List ℕ} {walks : Four} {root : ℕ} → IsWay way → SixteenKeys way keys →
+    (first : ℕ) → first + 4 ≤ 16 → root ≡ root_of way.table way.trie →
+    ((i : ℕ) → i < 4 → word_in walks.lows walks.highs i ≡ root) → ((i : ℕ) → i < 4 → slice_index walks.taken i ≡ 0) →
+    FourWalks way keys first 0 walks
+four_begin {way = way} {keys = keys} w k first in_keys root words taken = record {
   is_way = w;
   keys_are = k;
-  four = refl;
-  stands = λ i below. rw (get_or-replicate 4 i root 0 below, not_yet 0 0 i (omega arith), is)
-      (begins way.table way.trie (key_at way.table keys i) w.sound w.there);
-  total = refl;
-  most = omega arith;
-  counted = omega arith;
+  in_keys = in_keys;
+  stands = λ i h. subst (Stands way.table way.trie (key_at way.table keys (first + i)) 0) (sym (words i h ∙ root))
+      (begins way.table way.trie (key_at way.table keys (first + i)) w.sound w.there);
+  taken_is = taken;
+  few = λ i h. omega (arith, taken i h);
 }
-
--- what lane j goes on by from the word: its byte is at a place of the keys
-pub record LaneStep (way : Way) (keys : List ℕ) (n j place at word : ℕ) : Type 0 where
-  pub in_keys : at < length keys
-  pub step : Step way (key_at way.table keys j) n place (slice_index keys at) word
-
--- a lane that hasn't read its byte yet, in any part of the turn
-lane_in_turn : {way : Way} {keys : List ℕ} {n s place : ℕ} {lanes : List ℕ} {taken start steps : ℕ} →
-    InStep way keys n s lanes taken start steps → (j at : ℕ) → s ≤ j → j < 4 → n < length way.places →
-    place ≡ slice_index way.places n → at ≡ j * way.table.key_len + place →
-    LaneStep way keys n j place at (get_or lanes j 0)
-lane_in_turn {way = way} {keys = keys} {n = n} {s = s} {place = place} {lanes = lanes} w j at unread few within place_is
-    at_is =
-    let len : ℕ = way.table.key_len in
-    let below : place < len = place_in_key w.is_way n place within place_is in
-    let whole : (j + 1) * len ≤ 4 * len = mul-le-mul_right len (omega arith) in
-    let byte : slice_index keys at ≡ slice_index (key_at way.table keys j) place =
-    ap (λ (k : ℕ). slice_index keys k) at_is
-    ∙ sym (get_or-take len (drop (j * len) keys) place 0 below ∙ get_or-drop (j * len) keys place 0) in
-    record {
-      in_keys = omega (arith, whole, below, at_is, w.keys_are.whole);
-      step = step w.is_way (key_at way.table keys j) n place (slice_index keys at) (get_or lanes j 0) within place_is
-          byte (w.keys_are.bytes at)
-          (subst (λ (m : ℕ). Stands way.table way.trie (key_at way.table keys j) m (get_or lanes j 0))
-          (not_yet n s j unread) (w.stands j few));
-    }
-
--- each lane at the start of the turn
-pub lane : {way : Way} {keys : List ℕ} {n place : ℕ} {lanes : List ℕ} {taken start steps : ℕ} →
-    InStep way keys n 0 lanes taken start steps → (j at : ℕ) → j < 4 → n < length way.places →
-    place ≡ slice_index way.places n → at ≡ j * way.table.key_len + place →
-    LaneStep way keys n j place at (get_or lanes j 0)
-lane w j at few within place_is at_is = lane_in_turn w j at (omega arith) few within place_is at_is
-
-read_now : (n j : ℕ) → bytes_read n (j + 1) j ≡ n + 1
-read_now n j = grind (arith, nat_tests)
-
-read_else : (n j i : ℕ) → i ≢ j → bytes_read n (j + 1) i ≡ bytes_read n j i
-read_else n j i other = grind (arith, nat_tests)
 
 at_most_one : (b : Bool) → (if b then 0 else 1) ≤ 1
 at_most_one true = omega arith
 at_most_one false = omega arith
 
--- lane j reads its byte
-pub lane_went : {way : Way} {keys : List ℕ} {n place : ℕ} {lanes : List ℕ}
-    {taken start steps next taken' steps' : ℕ} → (j at : ℕ) → InStep way keys n j lanes taken start steps → j < 4 →
-    n < length way.places → place ≡ slice_index way.places n → at ≡ j * way.table.key_len + place →
-    GoesOn way.words (get_or lanes j 0) (slice_index keys at) next taken taken' steps steps' →
-    InStep way keys n (j + 1) (set lanes j next) taken' start steps'
-lane_went {way = way} {keys = keys} {n = n} {lanes = lanes} {next = next} j at w few within place_is at_is g =
-    let stands_after = λ (i m v : ℕ). Stands way.table way.trie (key_at way.table keys i) m v in
-    let steps_of = λ (i m : ℕ). transitions_after way.table way.trie (key_at way.table keys i) m in
-    let more : ℕ = if is_match (get_or lanes j 0) then 0 else 1 in
-    let l = (lane_in_turn w j at (omega arith) few within place_is at_is).step in
-    let grew : lane_transitions way keys n (j + 1) j ≡ lane_transitions way keys n j j + more =
-    ap (steps_of j) (read_now n j) ∙ l.steps
-    ∙ ap (λ (m : ℕ). steps_of j m + more) (sym (not_yet n j j (omega arith))) in
-    let stands : stands_after j (bytes_read n (j + 1) j) (get_or (set lanes j next) j 0) =
-    rw (get_or-set_same lanes j next 0 (omega (arith, w.four, few)), read_now n j)
-    (subst (stands_after j (n + 1)) (sym g.word_is) l.next) in
-    record {
-      is_way = w.is_way;
-      keys_are = w.keys_are;
-      four = omega (arith, length-set lanes j next, w.four);
-      stands = λ i below. elim (cases_eq i j) [
-        | inl same ↦
-            subst (λ (k : ℕ). stands_after k (bytes_read n (j + 1) k) (get_or (set lanes j next) k 0)) (sym same) stands
-        | inr other ↦ rw (get_or-set_other lanes j i next 0 other, read_else n j i other) (w.stands i below)
-      ];
-      total = omega (
-        arith,
-        g.taken_is,
-        w.total,
-        one_of_four_grows (lane_transitions way keys n j) (lane_transitions way keys n (j + 1)) j more few grew
-            (λ i other. ap (steps_of i) (read_else n j i other)),
-      );
-      most = omega (arith, g.taken_is, w.most, at_most_one (is_match (get_or lanes j 0)));
-      counted = omega (arith, g.taken_is, g.steps_are, w.counted);
+-- a sound table with a trie has words
+pub some_words : {way : Way} → IsWay way → WalksStay → 0 < length way.words
+some_words {way = way} w stay =
+    let on = stay.next way.table way.trie 0 (root_of way.table way.trie) 0 w.sound w.there (omega arith)
+    (stay.root way.table way.trie w.sound w.there) in
+    omega (arith, on.there, ap (λ (xs : List ℕ). length xs) w.words_are)
+
+-- What the four walks read at once of their keys: the bytes at some places, which stand one after the other.
+pub record GroupOf (way : Way) (keys : List ℕ) (first n count : ℕ) (groups : List ℕ) : Type 0 where
+  pub within : n + count ≤ length way.places
+  pub follow : (k : ℕ) → k < count → slice_index way.places (n + k) ≡ slice_index way.places n + k
+  pub bytes : (i k : ℕ) → i < 4 → k < count → slice_index groups (4 * i + k)
+      ≡ slice_index keys ((first + i) * way.table.key_len + (slice_index way.places n + k))
+
+-- four walks that have gone on by the first k bytes of what they read
+pub record FourRead (way : Way) (keys : List ℕ) (first n count : ℕ) (groups : List ℕ) (k : ℕ) (walks : Four)
+    : Type 0 where
+  pub group : GroupOf way keys first n count groups
+  pub walks_are : FourWalks way keys first (n + k) walks
+
+-- the bytes that are read are those of the keys
+pub bytes_in_keys : {way : Way} {keys : List ℕ} {first n : ℕ} {walks : Four} → FourWalks way keys first n walks →
+    {count len from place : ℕ} → 0 < count → n + count ≤ length way.places →
+    ((k : ℕ) → k < count → slice_index way.places (n + k) ≡ slice_index way.places n + k) →
+    len ≡ way.table.key_len → place ≡ slice_index way.places n → from ≡ first * len + place →
+    from + 3 * len + count ≤ length keys
+bytes_in_keys {way = way} {n = n} w {count = count} {len = len} some within follow len_is place_is from_is =
+    let last : ℕ = count - 1 in
+    let at : slice_index way.places (n + last) ≡ slice_index way.places n + last = follow last (omega (arith, some)) in
+    let below : slice_index way.places n + last < len =
+    omega (
+      arith,
+      at,
+      len_is,
+      place_in_key w.is_way (n + last) (slice_index way.places (n + last))
+          (omega (arith, within, some)) refl,
+    ) in
+    let whole = mul-le-mul_right len w.in_keys in
+    omega (arith, whole, below, some, place_is, from_is, w.keys_are.whole, ap (λ (k : ℕ). 16 * k) len_is)
+
+-- before the first of them
+pub group_begins : {way : Way} {keys : List ℕ} {first n : ℕ} {walks : Four} → FourWalks way keys first n walks →
+    {count len from place : ℕ} {groups : List ℕ} → n + count ≤ length way.places →
+    ((k : ℕ) → k < count → slice_index way.places (n + k) ≡ slice_index way.places n + k) →
+    len ≡ way.table.key_len → place ≡ slice_index way.places n → from ≡ first * len + place →
+    ((i k : ℕ) → i < 4 → k < count → slice_index groups (4 * i + k) ≡ slice_index keys (from + i * len + k)) →
+    FourRead way keys first n count groups 0 walks
+group_begins {way = way} {keys = keys} {first = first} {n = n} {walks = walks} w {len = len} {from = from} within follow
+    len_is place_is from_is bytes = record {
+      group = record {
+        within = within;
+        follow = follow;
+        bytes = λ i k few h. bytes i k few h ∙ ap (λ (at : ℕ). slice_index keys at)
+            (omega (arith, from_is, place_is, ap (λ (size : ℕ). (first + i) * size) len_is));
+      };
+      walks_are = subst (λ (m : ℕ). FourWalks way keys first m walks) (omega arith) w;
     }
 
-read_all : (n i : ℕ) → i < 4 → bytes_read n 4 i ≡ bytes_read (n + 1) 0 i
-read_all n i below = grind (arith, nat_tests)
+-- after the last of them
+pub group_ends : {way : Way} {keys : List ℕ} {first n count k : ℕ} {groups : List ℕ} {walks : Four} →
+    FourRead way keys first n count groups k walks → k ≡ count → FourWalks way keys first (n + count) walks
+group_ends {way = way} {keys = keys} {first = first} {n = n} {walks = walks} r all =
+    subst (λ (m : ℕ). FourWalks way keys first (n + m) walks) all r.walks_are
 
--- after a turn of all lanes the next one begins
-pub turn_ends : {way : Way} {keys : List ℕ} {n : ℕ} {lanes : List ℕ} {taken start steps : ℕ} →
-    InStep way keys n 4 lanes taken start steps → InStep way keys (n + 1) 0 lanes taken start steps
-turn_ends {way = way} {keys = keys} {n = n} {lanes = lanes} w = record {
-  is_way = w.is_way;
-  keys_are = w.keys_are;
-  four = w.four;
-  stands = λ i below.
-      subst (λ (m : ℕ). Stands way.table way.trie (key_at way.table keys i) m (get_or lanes i 0)) (read_all n i below)
-      (w.stands i below);
-  total = w.total;
-  most = omega (arith, w.most);
-  counted = w.counted;
-}
+-- what one byte more brings them
+module _ {way : Way} {keys : List ℕ} {first n count k : ℕ} {groups : List ℕ} {walks : Four}
+    (r : FourRead way keys first n count groups k walks) (more : k < count) where
+  lane_step : (i : ℕ) → i < 4 → Step way (key_at way.table keys (first + i)) (n + k) (slice_index way.places n + k)
+      (slice_index groups (4 * i + k)) (word_in walks.lows walks.highs i)
+  lane_step i few =
+      let w = r.walks_are in
+      let size : ℕ = way.table.key_len in
+      let place : ℕ = slice_index way.places n + k in
+      let within : n + k < length way.places = omega (arith, r.group.within, more) in
+      let place_is : place ≡ slice_index way.places (n + k) = sym (r.group.follow k more) in
+      let byte : slice_index groups (4 * i + k) ≡ slice_index (key_at way.table keys (first + i)) place =
+      r.group.bytes i k few more
+      ∙ sym (get_or-take size (drop ((first + i) * size) keys) place 0
+      (place_in_key w.is_way (n + k) place within place_is) ∙ get_or-drop ((first + i) * size) keys place 0) in
+      let small : slice_index groups (4 * i + k) < 2 ^ 8 =
+      omega (arith, r.group.bytes i k few more, w.keys_are.bytes ((first + i) * size + place)) in
+      step w.is_way (key_at way.table keys (first + i)) (n + k) place (slice_index groups (4 * i + k))
+      (word_in walks.lows walks.highs i) within place_is byte small (w.stands i few)
 
--- where all places are read, lane j has ended at a row
-module _ {way : Way} {keys : List ℕ} {n : ℕ} {lanes : List ℕ} {taken start steps : ℕ}
-    (w : InStep way keys n 0 lanes taken start steps) (all : n ≡ length way.places) where
+  pub group_ready : WalksStay → length way.places ≤ longest_key → (i : ℕ) → i < 4 →
+      CanGoOn way.words (word_in walks.lows walks.highs i) (slice_index groups (4 * i + k)) (slice_index walks.taken i)
+  group_ready stay short i few =
+      let s = lane_step i few in
+      record {
+        some = some_words r.walks_are.is_way stay;
+        node = s.node;
+        in_words = s.in_words;
+        few = omega (arith, r.walks_are.few i few, r.group.within, more, short);
+      }
+
+  pub group_went : {next : Four} → ((i : ℕ) → i < 4 → GoesOn way.words (word_in walks.lows walks.highs i)
+      (slice_index groups (4 * i + k)) (word_in next.lows next.highs i) (slice_index walks.taken i)
+      (slice_index next.taken i)) → FourRead way keys first n count groups (k + 1) next
+  group_went {next = next} went =
+      let w = r.walks_are in
+      record {
+        group = r.group;
+        walks_are = subst (λ (m : ℕ). FourWalks way keys first m next) (omega arith) (the_next w went);
+      }
+    where
+      the_next : FourWalks way keys first (n + k) walks → ((i : ℕ) → i < 4 → GoesOn way.words
+          (word_in walks.lows walks.highs i) (slice_index groups (4 * i + k)) (word_in next.lows next.highs i)
+          (slice_index walks.taken i) (slice_index next.taken i)) → FourWalks way keys first (n + k + 1) next
+      the_next w went = record {
+        is_way = w.is_way;
+        keys_are = w.keys_are;
+        in_keys = w.in_keys;
+        stands = λ i few. subst (Stands way.table way.trie (key_at way.table keys (first + i)) (n + k + 1))
+            (sym (went i few).word_is) (lane_step i few).next;
+        taken_is = λ i few. (went i few).taken_is
+            ∙ ap (λ (m : ℕ). m + (if is_match (word_in walks.lows walks.highs i) then 0 else 1)) (w.taken_is i few)
+            ∙ sym (lane_step i few).steps;
+        few = λ i few. omega (
+          arith,
+          (went i few).taken_is,
+          w.few i few,
+          at_most_one (is_match (word_in walks.lows walks.highs i)),
+        );
+      }
+
+-- where all places are read, each has ended at a row, and all its transitions are counted
+module _ {way : Way} {keys : List ℕ} {first n : ℕ} {walks : Four} (w : FourWalks way keys first n walks)
+    (all : n ≡ length way.places) where
   all_read : n ≡ length (places_of way.table way.trie)
   all_read = all ∙ count_of_places way w.is_way
 
-  pub lane_ends : (j row : ℕ) → j < 4 → row ≡ index_of (get_or lanes j 0) →
-      EndsAt way.table way.trie (key_at way.table keys j) row
-  lane_ends j row few is_row =
-      let key : List ℕ = key_at way.table keys j in
-      let s = subst (λ (k : ℕ). Stands way.table way.trie key k (get_or lanes j 0))
-      (not_yet n 0 j (omega arith) ∙ all_read) (w.stands j few) in
-      let match = ends_at_match way.table way.trie key w.is_way.sound w.is_way.there (get_or lanes j 0) s in
+  pub lane_ends : (i row : ℕ) → i < 4 → row ≡ slice_index walks.lows i % 2 ^ 29 →
+      EndsAt way.table way.trie (key_at way.table keys (first + i)) row
+  lane_ends i row few is_row =
+      let key : List ℕ = key_at way.table keys (first + i) in
+      let word : ℕ = word_in walks.lows walks.highs i in
+      let s = subst (λ (k : ℕ). Stands way.table way.trie key k word) all_read (w.stands i few) in
+      let match = ends_at_match way.table way.trie key w.is_way.sound w.is_way.there word s in
+      let named : row ≡ index_of word = omega (arith, is_row) in
       record {
-        is = is_row ∙ ap index_of s.is ∙ sym (row_is way.table way.trie key);
-        there = omega (arith, is_row, s.row match);
+        is = named ∙ ap index_of s.is ∙ sym (row_is way.table way.trie key);
+        there = omega (arith, named, s.row match);
       }
+
+  pub lane_took : (i : ℕ) → i < 4 →
+      slice_index walks.taken i ≡ walk_transitions way.table way.trie (key_at way.table keys (first + i))
+  lane_took i few =
+      w.taken_is i few
+      ∙ ap (λ (k : ℕ). transitions_after way.table way.trie (key_at way.table keys (first + i)) k) all_read
+      ∙ sym (transitions_are way.table way.trie (key_at way.table keys (first + i)))
+
+  pub lane_took_few : length way.places ≤ longest_key → (i : ℕ) → i < 4 → slice_index walks.taken i ≤ longest_key
+  lane_took_few short i few = omega (arith, w.few i few, all, short)
+
+-- what holds of each of four fours holds of each of sixteen
+pub each_of_fours : (P : ℕ → Type 0) → ((i : ℕ) → i < 4 → P (0 + i)) → ((i : ℕ) → i < 4 → P (4 + i)) →
+    ((i : ℕ) → i < 4 → P (8 + i)) → ((i : ℕ) → i < 4 → P (12 + i)) → (k : ℕ) → k < 16 → P k
+each_of_fours P first second third fourth k h =
+    elim (cases_lt k 4) [
+      | inl one ↦ at 0 k (omega (arith, one)) first
+      | inr past ↦
+          elim (cases_lt k 8) [
+            | inl two ↦ at 4 k (omega (arith, two, past)) second
+            | inr past ↦
+                elim (cases_lt k 12) [
+                  | inl three ↦ at 8 k (omega (arith, three, past)) third
+                  | inr past ↦ at 12 k (omega (arith, h, past)) fourth
+                ]
+          ]
+    ]
+  where
+    at : (from n : ℕ) → (from ≤ n) × (n < from + 4) → ((i : ℕ) → i < 4 → P (from + i)) → P n
+    at from n within each = subst P (omega (arith, within.0)) (each (n - from) (omega (arith, within.0, within.1)))

@@ -1,5 +1,10 @@
 pub mod Batches
+pub mod Below
+pub mod Ended
+pub mod Halves
 pub mod InStep
+pub mod OneLane
 pub mod Reached
+pub mod Stepping
 pub mod Walks
 pub mod Ways

@@ -18,6 +18,14 @@ use Rattle.list_lemmas.proofs.Maps.{map_agree}
 use Rattle.list_lemmas.proofs.Positions.{range-push}
 use Rattle.scalar_walk.specs.Rows.{EndsAt, Reaches, joined_rows, row_verdicts, winners_of}
 
+-- no trie is walked yet
+pub reaches_none : {table : TableView} {key rows : List ℕ} → length rows ≡ most_tries → Reaches table key 0 rows
+reaches_none len = record {
+  len = len;
+  each = λ k h. absurd (omega (arith, h));
+  there = λ k h. absurd (omega (arith, h));
+}
+
 -- a row more is reached, where the walk through the next trie ends
 pub reaches_more : {table : TableView} {key rows : List ℕ} {n row : ℕ} → Reaches table key n rows → n < most_tries →
     EndsAt table n key row → Reaches table key (n + 1) (set rows n row)

@@ -1,12 +1,16 @@
 -- What rows that were reached say of a category.
 use Rattle.std.specs.Prelude.{◌≡◌, ℕ, ◌+◌, ◌<◌, ◌%◌, List, [], map, length, slice_index}
-use Rattle.std.specs.Prelude.{slice_index_or, Bool, not, ◌==◌, if◌then◌else◌}
+use Rattle.std.specs.Prelude.{slice_index_or, Bool, false, true, not, ◌==◌, if◌then◌else◌}
 use Rattle.std.specs.List.{range_with_len}
 use Rattle.flat_table.specs.Table.{TableView}
 use Rattle.table_sizes.specs.Sizes.{row_len}
+use Rattle.flat_table.specs.Groups.{longest_key}
 use Rattle.flat_table.specs.Sound.{most_tries}
-use Rattle.flat_table.specs.Word.{is_match}
-use Rattle.flat_table.specs.Walk.{greatest, joined, userdatas, walk_row, moved}
+use Rattle.flat_table.specs.Word.{is_match, is_node, next_place}
+use Rattle.flat_table.specs.Walk.{greatest, joined, userdatas, walk_row, moved, walk_transitions}
+use Rattle.flat_table.specs.Walk.{key_transitions}
+use Rattle.flat_table.specs.Batch.{key_at, key_verdicts}
+use Rattle.scalar_walk.specs.Lanes.{sum_below, pieces_below}
 
 -- the greatest word of the category over the rows of these numbers
 abbrev pub joined_rows : List (List ℕ) → List ℕ → ℕ → ℕ
@@ -35,10 +39,31 @@ pub record EndsAt (table : TableView) (trie : ℕ) (key : List ℕ) (row : ℕ) 
   pub is : row ≡ walk_row table trie key
   pub there : row < length table.rows
 
--- A walk that stands at the word goes on by a byte. The next word is the one that stands then, and
--- two counts of transitions are each raised by one, unless the word is a match.
-pub record GoesOn (words : List ℕ) (word byte next taken new_taken steps new_steps : ℕ)
-    : Type 0 where
+-- A walk that stands at the word can go on by the byte: a word that is no match leads to a node,
+-- whose word for the byte is there, and the walk took few words so far. A match may read word 0.
+pub record CanGoOn (words : List ℕ) (word byte taken : ℕ) : Type 0 where
+  pub some : 0 < length words
+  pub node : is_match word ≡ false → is_node word ≡ true
+  pub in_words : is_match word ≡ false → next_place word byte < length words
+  pub few : taken < longest_key
+
+-- A walk that stands at the word goes on by the byte. The next word is the one that stands then,
+-- and the count of words that it took is raised by one, unless the word is a match.
+pub record GoesOn (words : List ℕ) (word byte next taken new_taken : ℕ) : Type 0 where
   pub word_is : next ≡ moved words word byte
   pub taken_is : new_taken ≡ taken + (if is_match word then 0 else 1)
-  pub steps_are : new_steps ≡ steps + (if is_match word then 0 else 1)
+
+-- ---- the first n keys of some, one after the other
+
+-- how many transitions their walks through the trie take
+abbrev pub walks_below : TableView → ℕ → List ℕ → ℕ → ℕ
+walks_below table trie keys n = sum_below (λ k. walk_transitions table trie (key_at table keys k)) n
+
+-- how many their walks through all tries take
+abbrev pub transitions_below : TableView → List ℕ → ℕ → ℕ
+transitions_below table keys n = sum_below (λ k. key_transitions table (key_at table keys k)) n
+
+-- their verdicts, so many of each
+abbrev pub verdicts_below : TableView → ℕ → List ℕ → ℕ → List ℕ
+verdicts_below table count keys n =
+    pieces_below (λ k. key_verdicts table count (key_at table keys k)) n

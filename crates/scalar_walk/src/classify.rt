@@ -1,18 +1,20 @@
 //! The verdicts of keys, by the rows that their walks reach.
 
 ghost use Rattle.std.specs.Prelude.{◌≡◌, ◌+◌, ◌*◌, ◌%◌, ◌<◌, ◌≤◌, ◌^◌, ◌==◌, length, map, take};
-ghost use Rattle.std.specs.Prelude.{not, slice_index, flat_map, ◌∷◌, [], All};
+ghost use Rattle.std.specs.Prelude.{ℕ, not, slice_index, slice_index_or, slice_set, [], All};
 ghost use Rattle.std.specs.List.{range_with_len};
 ghost use Rattle.flat_table.specs.Groups.{longest_key};
 ghost use Rattle.table_sizes.specs.Sizes.{row_len};
 ghost use Rattle.flat_table.specs.Sound.{most_tries};
 ghost use Rattle.flat_table.specs.Walk.{joined, key_transitions, userdatas};
-ghost use Rattle.flat_table.specs.Batch.{LengthsFit, key_at, key_verdicts, first_verdicts};
-ghost use Rattle.flat_table.specs.Batch.{first_transitions, batch_verdicts, batch_transitions};
+ghost use Rattle.flat_table.specs.Batch.{LengthsFit, key_at, key_verdicts, batch_verdicts};
+ghost use Rattle.flat_table.specs.Batch.{batch_transitions};
 ghost use Rattle.flat_table.specs.Batch.{most_of_batch};
+ghost use Rattle.scalar_walk.specs.Lanes.{pieces_below};
 ghost use Rattle.scalar_walk.specs.Rows.{Reaches, joined_rows, row_verdicts, winners_of};
+ghost use Rattle.scalar_walk.specs.Rows.{transitions_below, verdicts_below};
 
-use crate::in_step::{FourWalked, IN_STEP, walk_four};
+use crate::in_step::{IN_STEP, walk_sixteen};
 use crate::walk::walk_one;
 use flat_table::{MAX_TRIES, Steps, Table};
 use rule_set::Categories;
@@ -60,36 +62,18 @@ fn write_row(row: &[u64; ROW_LEN], count: usize, verdicts: &mut [u32])
     }
 }
 
-/// Writes for so many categories from 0 on the userdata of the rows that four walks reached.
-///
-/// It is not inlined, so that the walks before and after it keep their numbers in registers.
-#[inline(never)]
-fn write_four(rows: &[[u64; ROW_LEN]], walked: FourWalked, count: usize, verdicts: &mut [u32])
-    requires first { walked.first < length rows.now }
-    requires second { walked.second < length rows.now }
-    requires third { walked.third < length rows.now }
-    requires fourth { walked.fourth < length rows.now }
+/// Writes for so many categories from 0 on the userdata of the rows that sixteen walks reached.
+fn write_rows(rows: &[[u64; ROW_LEN]], reached: &[u32; IN_STEP], count: usize, verdicts: &mut [u32])
+    requires there { (k : ℕ) → k < IN_STEP → slice_index reached.now k < length rows.now }
     requires few { count ≤ row_len }
-    requires room { length verdicts.old ≡ 4 * count }
-    ensures { verdicts.new ≡ flat_map (row_verdicts rows.now count)
-        (walked.first ∷ walked.second ∷ walked.third ∷ walked.fourth ∷ []) }
+    requires room { length verdicts.old ≡ IN_STEP * count }
+    ensures { verdicts.new ≡ pieces_below
+        (λ k. row_verdicts rows.now count (slice_index reached.now k)) IN_STEP }
 {
-    write_row(&rows[walked.first as usize], count, &mut verdicts[0..count]);
-    write_row(
-        &rows[walked.second as usize],
-        count,
-        &mut verdicts[count..2 * count],
-    );
-    write_row(
-        &rows[walked.third as usize],
-        count,
-        &mut verdicts[2 * count..3 * count],
-    );
-    write_row(
-        &rows[walked.fourth as usize],
-        count,
-        &mut verdicts[3 * count..4 * count],
-    );
+    for (lane, row) in reached.iter().enumerate() {
+        let piece = &mut verdicts[lane * count..(lane + 1) * count];
+        write_row(&rows[*row as usize], count, piece);
+    }
 }
 
 /// Writes for so many categories from 0 on the userdata of the greatest word over the rows of these
@@ -164,126 +148,102 @@ fn classify_one<L: Ledger>(
     reached.taken
 }
 
-/// The rows that the walks of four keys reach, one for each trie.
-#[derive(Clone, Copy)]
-struct FourReached {
-    first: [u32; MAX_TRIES],
-    second: [u32; MAX_TRIES],
-    third: [u32; MAX_TRIES],
-    fourth: [u32; MAX_TRIES],
-}
+/// The rows that the walks of sixteen keys reach, for each key one for each trie.
+type Sixteen = [[u32; MAX_TRIES]; IN_STEP];
 
-/// No row is reached yet.
-fn no_rows() -> FourReached {
-    FourReached {
-        first: [0; MAX_TRIES],
-        second: [0; MAX_TRIES],
-        third: [0; MAX_TRIES],
-        fourth: [0; MAX_TRIES],
+/// Writes the row that the walk of each key through the trie reached.
+fn put_rows(reached: &mut Sixteen, trie: usize, rows: &[u32; IN_STEP])
+    requires trie { trie < most_tries }
+    requires len { (k : ℕ) → k < IN_STEP →
+        length (slice_index_or reached.old k []) ≡ most_tries }
+    ensures { (k : ℕ) → k < IN_STEP → slice_index_or reached.new k []
+        ≡ slice_set (slice_index_or reached.old k []) trie (slice_index rows.now k) }
+{
+    for lane in 0..IN_STEP {
+        reached[lane][trie] = rows[lane];
     }
 }
 
-/// The walks of four keys, which stand one after the other, through all tries: writes the rows that
-/// they reach, and says how many transitions they took together.
+/// The walks of sixteen keys, which stand one after the other, through all tries: writes the rows
+/// that they reach, and says how many transitions they took together.
 ///
 /// The rows are written in place, since a copy of so much would wait for what was just written.
-fn reach_four<L: Ledger>(
+fn reach_sixteen<L: Ledger>(
     table: &Table,
     keys: &[u8],
-    reached: &mut FourReached,
+    reached: &mut Sixteen,
     steps: &mut Steps<L>,
 ) -> u64
-    requires { length keys.now ≡ 4 * table.now.key_len }
+    requires keys { length keys.now ≡ IN_STEP * table.now.key_len }
+    requires len { (k : ℕ) → k < IN_STEP →
+        length (slice_index_or reached.old k []) ≡ most_tries }
     ensures few { length table.now.roots ≤ most_tries }
-    ensures first { Reaches table.now (key_at table.now keys.now 0)
-        (length table.now.roots) reached.new.first }
-    ensures second { Reaches table.now (key_at table.now keys.now 1)
-        (length table.now.roots) reached.new.second }
-    ensures third { Reaches table.now (key_at table.now keys.now 2)
-        (length table.now.roots) reached.new.third }
-    ensures fourth { Reaches table.now (key_at table.now keys.now 3)
-        (length table.now.roots) reached.new.fourth }
-    ensures taken { result ≡ first_transitions table.now keys.now IN_STEP }
-    ensures bound { result ≤ 4 * (most_tries * longest_key) }
+    ensures rows { (k : ℕ) → k < IN_STEP → Reaches table.now (key_at table.now keys.now k)
+        (length table.now.roots) (slice_index_or reached.new k []) }
+    ensures taken { result ≡ transitions_below table.now keys.now IN_STEP }
+    ensures bound { result ≤ IN_STEP * (most_tries * longest_key) }
     ensures steps { steps.new ≡ steps.old + result }
 {
     let mut taken = 0;
+    let mut rows = [0u32; IN_STEP];
     for trie in 0..table.tries() {
-        let walked = walk_four(table, trie, keys, steps);
-        reached.first[trie] = walked.first;
-        reached.second[trie] = walked.second;
-        reached.third[trie] = walked.third;
-        reached.fourth[trie] = walked.fourth;
-        taken += walked.taken;
+        taken += walk_sixteen(table, trie, keys, &mut rows, steps);
+        put_rows(reached, trie, &rows);
     }
     taken
 }
 
-/// Writes the verdicts of four keys, so many of each, by the greatest words over the rows of all
+/// Writes the verdicts of sixteen keys, so many of each, by the greatest words over the rows of all
 /// tries, and says how many transitions their walks took.
-fn join_four<L: Ledger>(
+fn join_sixteen<L: Ledger>(
     table: &Table,
     keys: &[u8],
     count: usize,
     verdicts: &mut [u32],
     steps: &mut Steps<L>,
 ) -> u64
-    requires keys { length keys.now ≡ 4 * table.now.key_len }
+    requires keys { length keys.now ≡ IN_STEP * table.now.key_len }
     requires few { count ≤ row_len }
-    requires room { length verdicts.old ≡ 4 * count }
-    ensures verdicts { verdicts.new ≡ first_verdicts table.now count keys.now IN_STEP }
-    ensures taken { result ≡ first_transitions table.now keys.now IN_STEP }
-    ensures bound { result ≤ 4 * (most_tries * longest_key) }
+    requires room { length verdicts.old ≡ IN_STEP * count }
+    ensures verdicts { verdicts.new ≡ verdicts_below table.now count keys.now IN_STEP }
+    ensures taken { result ≡ transitions_below table.now keys.now IN_STEP }
+    ensures bound { result ≤ IN_STEP * (most_tries * longest_key) }
     ensures steps { steps.new ≡ steps.old + result }
 {
-    let mut reached = no_rows();
-    let taken = reach_four(table, keys, &mut reached, steps);
-    write_verdicts(table, &reached.first, count, &mut verdicts[0..count]);
-    write_verdicts(
-        table,
-        &reached.second,
-        count,
-        &mut verdicts[count..2 * count],
-    );
-    write_verdicts(
-        table,
-        &reached.third,
-        count,
-        &mut verdicts[2 * count..3 * count],
-    );
-    write_verdicts(
-        table,
-        &reached.fourth,
-        count,
-        &mut verdicts[3 * count..4 * count],
-    );
+    let mut reached = [[0; MAX_TRIES]; IN_STEP];
+    let taken = reach_sixteen(table, keys, &mut reached, steps);
+    for lane in 0..IN_STEP {
+        let piece = &mut verdicts[lane * count..(lane + 1) * count];
+        write_verdicts(table, &reached[lane], count, piece);
+    }
     taken
 }
 
-/// Writes the verdicts of four keys, so many of each, and says how many transitions their walks
+/// Writes the verdicts of sixteen keys, so many of each, and says how many transitions their walks
 /// took.
-fn classify_four<L: Ledger>(
+fn classify_sixteen<L: Ledger>(
     table: &Table,
     keys: &[u8],
     count: usize,
     verdicts: &mut [u32],
     steps: &mut Steps<L>,
 ) -> u64
-    requires keys { length keys.now ≡ 4 * table.now.key_len }
+    requires keys { length keys.now ≡ IN_STEP * table.now.key_len }
     requires few { count ≤ row_len }
-    requires room { length verdicts.old ≡ 4 * count }
-    ensures verdicts { verdicts.new ≡ first_verdicts table.now count keys.now IN_STEP }
-    ensures taken { result ≡ first_transitions table.now keys.now IN_STEP }
-    ensures bound { result ≤ 4 * (most_tries * longest_key) }
+    requires room { length verdicts.old ≡ IN_STEP * count }
+    ensures verdicts { verdicts.new ≡ verdicts_below table.now count keys.now IN_STEP }
+    ensures taken { result ≡ transitions_below table.now keys.now IN_STEP }
+    ensures bound { result ≤ IN_STEP * (most_tries * longest_key) }
     ensures steps { steps.new ≡ steps.old + result }
 {
     // One trie is the common case, and its rows need no joining.
     if table.tries() == 1 {
-        let walked = walk_four(table, 0, keys, steps);
-        write_four(table.rows(), walked, count, verdicts);
-        walked.taken
+        let mut rows = [0; IN_STEP];
+        let taken = walk_sixteen(table, 0, keys, &mut rows, steps);
+        write_rows(table.rows(), &rows, count, verdicts);
+        taken
     } else {
-        join_four(table, keys, count, verdicts, steps)
+        join_sixteen(table, keys, count, verdicts, steps)
     }
 }
 
@@ -313,9 +273,9 @@ pub fn classify_scalar<L: Ledger>(
     let mut taken = 0;
     for block in 0..n / IN_STEP {
         let k = block * IN_STEP;
-        let four = &keys[k * key_len..(k + IN_STEP) * key_len];
+        let part = &keys[k * key_len..(k + IN_STEP) * key_len];
         let verdicts = &mut out[k * count..(k + IN_STEP) * count];
-        taken += classify_four(table, four, count, verdicts, steps);
+        taken += classify_sixteen(table, part, count, verdicts, steps);
     }
     for k in n / IN_STEP * IN_STEP..n {
         let key = &keys[k * key_len..(k + 1) * key_len];

@@ -9,9 +9,13 @@
 //! ```
 //!
 //! - `walk`: one key through one trie.
-//! - `in_step`: four keys through one trie, in step.
-//! - `kinds`: the kinds of words, as the two test them.
+//! - `in_step`: sixteen keys through one trie, in step.
+//! - `vectors`: one step of four of them, by vectors of four lanes.
+//! - `kinds`: the kinds of words, as `walk` tests them.
 //! - `classify`: the rows, the verdicts of a batch and the winners.
+//!
+//! *Scalar* is said of the promise, each key's walk for itself and no machine in between, and not
+//! of the instructions.
 //!
 //! The definitions of a walk, of a verdict and of a batch stand in `flat_table`. After DPDK's
 //! `lib/acl/acl_run_scalar.c`.
@@ -20,6 +24,7 @@
 mod classify;
 mod in_step;
 mod kinds;
+mod vectors;
 mod walk;
 
 pub use classify::{classify_scalar, winners};

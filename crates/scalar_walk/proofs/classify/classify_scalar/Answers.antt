@@ -1,6 +1,7 @@
 use Rattle.std.proofs.Common.{◌≡◌, ◌+◌, ◌*◌, ◌/◌, ◌≤◌, ℕ, length, arith, sym, ap, ◌∙◌}
 use Rattle.flat_table.specs.Batch.{keys_in}
 use Rattle.scalar_walk.proofs.Batches.{classified_up_to, keys_more, one_key}
+use Rattle.scalar_walk.proofs.Below.{fold_is_sum, pieces_are}
 use Rattle.scalar_walk.proofs.classify.classify_scalar.Goals as goal
 
 pub loop-k-preserved : goal.loop-k-preserved
@@ -18,8 +19,13 @@ loop-k-preserved g c =
 pub loop-block-preserved : goal.loop-block-preserved
 loop-block-preserved g c =
     let l = c.loop-block in
-    let w = c.classify_four-taken.ensures in
-    let next : l.block * 4 + 4 ≡ (l.block + 1) * 4 = omega arith in
+    let w = c.classify_sixteen-taken.ensures in
+    let next : l.block * 16 + 16 ≡ (l.block + 1) * 16 = omega arith in
     classified_up_to next
     (keys_more l.invariant c.key_len-key_len.ensures.value
-    record { verdicts_are = w.verdicts; taken_is = w.taken; most = w.bound; counted = w.steps })
+    record {
+      verdicts_are = w.verdicts ∙ pieces_are _ 16;
+      taken_is = w.taken ∙ sym (fold_is_sum _ 16);
+      most = w.bound;
+      counted = w.steps;
+    })

@@ -4,7 +4,7 @@ use Rattle.scalar_walk.proofs.Batches.{Classified}
 use Rattle.scalar_walk.proofs.classify.classify_scalar.Given as goal
 
 abbrev pub invariant-loop-block : goal.invariant-loop-block
-invariant-loop-block g l = Classified l.table l.keys l.count (l.block * 4) l.fn.out l.out l.taken l.fn.steps l.steps
+invariant-loop-block g l = Classified l.table l.keys l.count (l.block * 16) l.fn.out l.out l.taken l.fn.steps l.steps
 
 abbrev pub invariant-loop-k : goal.invariant-loop-k
 invariant-loop-k g l = Classified l.table l.keys l.count l.k l.fn.out l.out l.taken l.fn.steps l.steps

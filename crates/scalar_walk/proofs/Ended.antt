@@ -1,0 +1,45 @@
+-- The rows of walks that have ended, written lane by lane.
+use Rattle.std.proofs.Common.{◌≡◌, ℕ, ◌≢◌, ◌+◌, ◌*◌, ◌%◌, ◌<◌, ◌≤◌, List, refl, sym, ◌∙◌, arith, length, get_or, set}
+use Rattle.std.proofs.Common.{get_or-set_same, get_or-set_other}
+use Rattle.std.specs.Prelude.{bit_and}
+use Rattle.std.proofs.lemmas.Nat.{and_mask}
+use Rattle.std.proofs.Math.ListN.{length-set}
+use borrow.Author.Count.{below_more}
+use Rattle.flat_table.specs.Groups.{longest_key}
+use Rattle.flat_table.specs.Word.{indexes}
+use Rattle.scalar_walk.specs.Lanes.{sum_below}
+use Rattle.scalar_walk.proofs.Below.{sum_none, sum_more}
+
+-- the rows of the first n lanes are written from a place on, those before them stay, and their words are counted
+pub record RowsTo (lows counts old : List ℕ) (at n : ℕ) (rows : List ℕ) (taken : ℕ) : Type 0 where
+  pub len : length rows ≡ 16
+  pub written : (k : ℕ) → k < n → get_or rows (at + k) 0 ≡ get_or lows k 0 % indexes
+  pub others : (k : ℕ) → k < at → get_or rows k 0 ≡ get_or old k 0
+  pub taken_is : taken ≡ sum_below (λ (k : ℕ). get_or counts k 0) n
+  pub most : taken ≤ n * longest_key
+
+pub rows_none : (lows counts old : List ℕ) (at : ℕ) → length old ≡ 16 → RowsTo lows counts old at 0 old 0
+rows_none lows counts old at len = record {
+  len = len;
+  written = λ k h. absurd (omega (arith, h));
+  others = λ k h. refl;
+  taken_is = sym (sum_none (λ (k : ℕ). get_or counts k 0));
+  most = omega arith;
+}
+
+pub rows_more : {lows counts old rows : List ℕ} {at n taken row count : ℕ} → RowsTo lows counts old at n rows taken →
+    n < 4 → at + 4 ≤ 16 → row ≡ bit_and (get_or lows n 0) 536870911 → count ≡ get_or counts n 0 → count ≤ longest_key →
+    RowsTo lows counts old at (n + 1) (set rows (at + n) row) (taken + count)
+rows_more {lows = lows} {counts = counts} {rows = rows} {at = at} {n = n} {row = row} r few room row_is count_is most =
+    record {
+      len = omega (arith, length-set rows (at + n) row, r.len);
+      written = below_more _ _
+          (λ k h. let other : at + k ≢ at + n = omega (arith, h) in get_or-set_other rows (at + n) (at + k) row 0 other
+          ∙ r.written k h)
+          (get_or-set_same rows (at + n) row 0 (omega (arith, r.len, few, room)) ∙ row_is
+          ∙ and_mask (get_or lows n 0) 29);
+      others = λ k h. let other : k ≢ at + n = omega (arith, h) in get_or-set_other rows (at + n) k row 0 other
+          ∙ r.others k h;
+      taken_is = omega (arith, r.taken_is, sum_more (λ (k : ℕ). get_or counts k 0) n, count_is);
+      most = omega (arith, r.most, most);
+    }

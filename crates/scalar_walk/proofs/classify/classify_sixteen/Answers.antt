@@ -1,0 +1,40 @@
+use Rattle.std.proofs.Common.{◌≡◌, ℕ, List, length, arith, ap, ◌∙◌}
+use Rattle.std.specs.Prelude.{slice_index}
+use Rattle.flat_table.specs.Batch.{key_at, key_verdicts}
+use Rattle.flat_table.specs.Walk.{key_transitions, walk_transitions}
+use Rattle.scalar_walk.specs.Lanes.{pieces_below}
+use Rattle.scalar_walk.specs.Rows.{row_verdicts}
+use Rattle.scalar_walk.proofs.Below.{pieces_agree, sum_agree}
+use Rattle.scalar_walk.proofs.Reached.{one_verdicts, one_transitions}
+use Rattle.scalar_walk.proofs.classify.classify_sixteen.Goals as goal
+
+pub write_rows-requires-clause-there : goal.write_rows-requires-clause-there
+write_rows-requires-clause-there g c k h =
+    omega (
+      arith,
+      (c.walk_sixteen-taken.ensures.rows k h).there,
+      ap (λ (rows : List (List ℕ)). length rows) c.rows.ensures,
+    )
+
+pub returns-then-tries-eq1-clause-verdicts : goal.returns-then-tries-eq1-clause-verdicts
+returns-then-tries-eq1-clause-verdicts g c =
+    let table = c.args.table.now in
+    let one : length table.roots ≡ 1 = omega arith in
+    let key = λ (k : ℕ). key_at table c.args.keys.now k in
+    let row = λ (k : ℕ). slice_index c.walk_sixteen-taken.new.rows k in
+    c.write_rows.ensures
+    ∙ ap (λ (rows : List (List ℕ)). pieces_below (λ k. row_verdicts rows c.args.count (row k)) 16) c.rows.ensures
+    ∙ pieces_agree (λ k. row_verdicts table.rows c.args.count (row k)) (λ k. key_verdicts table c.args.count (key k)) 16
+    (λ k h. one_verdicts table (key k) c.args.count one (c.walk_sixteen-taken.ensures.rows k h).is)
+
+pub returns-then-tries-eq1-clause-taken : goal.returns-then-tries-eq1-clause-taken
+returns-then-tries-eq1-clause-taken g c =
+    let table = c.args.table.now in
+    let one : length table.roots ≡ 1 = omega arith in
+    let key = λ (k : ℕ). key_at table c.args.keys.now k in
+    omega (
+      arith,
+      c.walk_sixteen-taken.ensures.taken,
+      sum_agree (λ k. key_transitions table (key k)) (λ k. walk_transitions table 0 (key k)) 16
+          (λ k h. one_transitions table (key k) one),
+    )

@@ -1,0 +1,15 @@
+-- the rows that the tries so far reach, and the words that they took
+use Rattle.std.proofs.Common.{◌≡◌, ◌+◌, ◌*◌, ◌≤◌, ◌<◌, ℕ, [], get_or}
+use Rattle.flat_table.specs.Groups.{longest_key}
+use Rattle.flat_table.specs.Batch.{key_at}
+use Rattle.scalar_walk.specs.Lanes.{sum_below}
+use Rattle.scalar_walk.specs.Rows.{Reaches}
+use Rattle.scalar_walk.proofs.Reached.{first_tries_transitions}
+use Rattle.scalar_walk.proofs.classify.reach_sixteen.Given as goal
+
+abbrev pub invariant-loop-trie : goal.invariant-loop-trie
+invariant-loop-trie g l =
+    ((k : ℕ) → k < 16 → Reaches l.table (key_at l.table l.keys k) l.trie (get_or l.reached k []))
+    × (l.taken ≡ sum_below (λ (k : ℕ). first_tries_transitions l.table (key_at l.table l.keys k) l.trie) 16)
+    × (l.taken ≤ l.trie * (16 * longest_key))
+    × (l.steps ≡ l.initial.steps + l.taken)

@@ -1,0 +1,32 @@
+use Rattle.std.proofs.Common.{◌<◌, w32, ltb, lit<, arith, ◌∙◌}
+use Rattle.std.specs.Prelude.{slice_index}
+use Rattle.std.proofs.lemmas.List.{get_or_default}
+use Rattle.scalar_walk.proofs.OneLane.{lane_of, lane_fits, splat, zipped, chosen}
+use Rattle.scalar_walk.proofs.Stepping.{place_there, goes_on}
+use Rattle.scalar_walk.proofs.vectors.go_on.Goals as goal
+
+pub fetch-requires : goal.fetch-requires
+fetch-requires c i d h =
+    let first : 0 < 4 = lit< tt in
+    let places = chosen first w32 ltb (lane_of c.fits-lows.0 0) (splat first 2147483648)
+    (lane_of c.next_places-places.ensures.len 0) (splat first 0) in
+    let within : i < 4 = omega (arith, h, places.len) in
+    let low = lane_of c.fits-lows.0 i in
+    let read = chosen within w32 ltb low (splat within 2147483648) (lane_of c.next_places-places.ensures.len i)
+    (splat within 0) in
+    place_there (slice_index c.args.lows i) (slice_index c.args.highs i) (lane_fits w32 c.args.lows c.fits-lows within)
+    (c.requires.ready i within) (c.next_places-places.ensures.places i within)
+    (get_or_default _ i d 0 h ∙ read.at)
+
+pub returns : goal.returns
+returns c i within =
+    let low = lane_of c.fits-lows.0 i in
+    let great = splat within 2147483648 in
+    let read = chosen within w32 ltb low great (lane_of c.next_places-places.ensures.len i) (splat within 0) in
+    let next_low = chosen within w32 ltb low great (lane_of c.fetch.ensures.lows i) low in
+    let next_high = chosen within w32 ltb low great (lane_of c.fetch.ensures.highs i) (lane_of c.fits-highs.0 i) in
+    let more = chosen within w32 ltb low great (splat within 1) (splat within 0) in
+    goes_on (slice_index c.args.lows i) (slice_index c.args.highs i) (lane_fits w32 c.args.lows c.fits-lows within)
+    (c.requires.ready i within) (slice_index c.fetch.result.0 i) (slice_index c.fetch.result.1 i)
+    (c.next_places-places.ensures.places i within) read.at (c.fetch.ensures.words i within) next_low.at next_high.at
+    (zipped within _ (lane_of c.fits-taken.0 i) more).at

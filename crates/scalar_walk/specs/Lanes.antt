@@ -1,0 +1,20 @@
+-- Four walks at once, a lane for each: lane i of each vector is that of walk i.
+use Rattle.std.specs.Prelude.{◌≡◌, ◌⊎◌, ℕ, zero, suc, ◌+◌, ◌*◌, ◌^◌, List, slice_index, flat_map}
+use Rattle.std.specs.List.{range_with_len}
+
+-- the word whose low and high halves lane i of two vectors has
+abbrev pub word_in : List ℕ → List ℕ → ℕ → ℕ
+word_in lows highs i = slice_index lows i + 2 ^ 32 * slice_index highs i
+
+-- how many bytes are read at once: one, or a group of four
+abbrev pub IsGroupLen : ℕ → Type 0
+IsGroupLen count = (count ≡ 1) ⊎ (count ≡ 4)
+
+-- the sum of a function over the numbers below n
+unfoldable pub sum_below : (ℕ → ℕ) → ℕ → ℕ
+sum_below f zero = 0
+sum_below f (suc n) = sum_below f n + f n
+
+-- what a function gives for each number below n, one after the other
+unfoldable pub pieces_below : (ℕ → List ℕ) → ℕ → List ℕ
+pieces_below f n = flat_map f (range_with_len 0 n)

@@ -1,0 +1,267 @@
+//! One step of four walks at once, by vectors of four lanes.
+//!
+//! A word is kept as two numbers of 32 bits, its low half with index and kind and its high half
+//! with the boundaries. The place in a node is the sum of what its four boundaries count:
+//!
+//! ```text
+//!     byte, four times     b       b       b       b
+//!     less the boundaries  b - x0  b - x1  b - x2  b - x3      0 where that is below 0
+//!     and at most          255     0       0       0           in a full node, where each x is 0
+//!                          0       0       0       0           in a single node
+//!                          1       1       1       1           in a quad-range
+//! ```
+//!
+//! After DPDK's `lib/acl/acl_run_sse.h`, whose vectors have four lanes too.
+
+ghost use Rattle.std.specs.Prelude.{◌≡◌, ℕ, ◌+◌, ◌-◌, ◌*◌, ◌/◌, ◌%◌, ◌<◌, ◌≤◌, ◌^◌, ◌==◌, true, length};
+ghost use Rattle.std.specs.Prelude.{slice_index, All, min, if◌then◌else◌};
+ghost use Rattle.flat_table.specs.Groups.{longest_key};
+ghost use Rattle.flat_table.specs.Word.{full, indexes, quad, is_node, next_place};
+ghost use Rattle.scalar_walk.specs.Lanes.{IsGroupLen, word_in, sum_below};
+ghost use Rattle.scalar_walk.specs.Rows.{CanGoOn, GoesOn};
+
+use crate::kinds::FULL;
+use std::simd::{u8x16, u32x4, u64x2};
+
+/// How many bits of a word are the index.
+const INDEX_BITS: u32 = 29;
+
+/// The bits of the index.
+const INDEX_MASK: u32 = 0x1FFF_FFFF;
+
+/// The kind of a quad-range node.
+const QUAD: u32 = flat_table::QUAD as u32;
+
+/// The bits of a word that are its low half.
+const LOW_HALF: u64 = 0xFFFF_FFFF;
+
+/// The low half of the least word that ends a walk.
+const ENDED: u32 = 0x8000_0000;
+
+/// The places of the first bytes of four groups of four, each four times.
+#[inline]
+fn first_places() -> u8x16
+    ensures len { length result ≡ 16 }
+    ensures places { (i k : ℕ) → i < 4 → k < 4 → slice_index result (4 * i + k) ≡ 4 * i }
+{
+    u8x16::from_array([0, 0, 0, 0, 4, 4, 4, 4, 8, 8, 8, 8, 12, 12, 12, 12])
+}
+
+/// Of each group of four bytes that of a place, four times.
+#[inline]
+fn bytes_in(groups: u8x16, place: usize) -> u8x16
+    requires { place < 4 }
+    ensures { (i k : ℕ) → i < 4 → k < 4 →
+        slice_index result (4 * i + k) ≡ slice_index groups (4 * i + place) }
+{
+    groups.swizzle_dyn(first_places() + u8x16::splat(place as u8))
+}
+
+/// The bytes of four numbers, low byte first.
+#[inline]
+fn bytes_of(numbers: u32x4) -> u8x16
+    ensures { (i k : ℕ) → i < 4 → k < 4 →
+        slice_index result (4 * i + k) ≡ slice_index numbers i / 256 ^ k % 256 }
+{
+    numbers.to_le_bytes()
+}
+
+/// By how much each byte is above the other, and no more than a third says.
+#[inline]
+fn excess(bytes: u8x16, below: u8x16, most: u8x16) -> u8x16
+    ensures { (i : ℕ) → i < 16 → slice_index result i
+        ≡ min (slice_index bytes i - slice_index below i) (slice_index most i) }
+{
+    bytes.saturating_sub(below).simd_min(most)
+}
+
+/// The sums of four bytes each.
+#[inline]
+fn sums(bytes: u8x16) -> u32x4
+    ensures len { length result ≡ 4 }
+    ensures sums { (i : ℕ) → i < 4 → slice_index result i
+        ≡ slice_index bytes (4 * i) + slice_index bytes (4 * i + 1)
+        + slice_index bytes (4 * i + 2) + slice_index bytes (4 * i + 3) }
+{
+    bytes.dot4(u8x16::splat(1))
+}
+
+/// For each word how much each of its boundaries counts at most.
+#[inline]
+fn most_of(lows: u32x4) -> u32x4
+    ensures { (i : ℕ) → i < 4 → slice_index result i
+        ≡ (if slice_index lows i / 2 ^ 29 == full then 255
+        else (if slice_index lows i / 2 ^ 29 == quad then 0x01010101 else 0)) }
+{
+    let kinds = lows >> u32x4::splat(INDEX_BITS);
+    let none = u32x4::splat(0);
+    let quad = kinds.simd_eq(u32x4::splat(QUAD));
+    let full = kinds.simd_eq(u32x4::splat(FULL));
+    quad.select(u32x4::splat(0x0101_0101), none) + full.select(u32x4::splat(0xFF), none)
+}
+
+/// The places of the words that four walks take by their bytes, each of which stands there four
+/// times. A walk at a match has no such place, and gets any number.
+#[inline]
+fn next_places(lows: u32x4, highs: u32x4, bytes: u8x16) -> u32x4
+    requires { (i k : ℕ) → i < 4 → k < 4 →
+        slice_index bytes (4 * i + k) ≡ slice_index bytes (4 * i) }
+    ensures len { length result ≡ 4 }
+    ensures places { (i : ℕ) → i < 4 → is_node (word_in lows highs i) ≡ true →
+        slice_index result i ≡ next_place (word_in lows highs i) (slice_index bytes (4 * i)) }
+{
+    let above = excess(bytes, bytes_of(highs), bytes_of(most_of(lows)));
+    (lows & u32x4::splat(INDEX_MASK)) + sums(above)
+}
+
+/// The low and the high halves of the words at four places.
+#[inline]
+fn fetch(words: &[u64], places: &[u32; 4]) -> (u32x4, u32x4)
+    requires { All (λ place. place < length words.now) places.now }
+    ensures lows { length result.0 ≡ 4 }
+    ensures highs { length result.1 ≡ 4 }
+    ensures words { (i : ℕ) → i < 4 → word_in result.0 result.1 i
+        ≡ slice_index words.now (slice_index places.now i) }
+{
+    let first = u64x2::from_array([words[places[0] as usize], words[places[1] as usize]]);
+    let second = u64x2::from_array([words[places[2] as usize], words[places[3] as usize]]);
+    let first = u32x4::from_le_bytes(first.to_le_bytes());
+    let second = u32x4::from_le_bytes(second.to_le_bytes());
+    first.deinterleave(second)
+}
+
+/// Four walks: the halves of the words at which they stand, and how many words each has taken.
+#[derive(Clone, Copy)]
+pub(crate) struct Four {
+    pub(crate) lows: u32x4,
+    pub(crate) highs: u32x4,
+    pub(crate) taken: u32x4,
+}
+
+/// Four walks that begin at the root.
+#[inline]
+pub(crate) fn begin(root: u64) -> Four
+    ensures words { (i : ℕ) → i < 4 → word_in result.lows result.highs i ≡ root }
+    ensures taken { (i : ℕ) → i < 4 → slice_index result.taken i ≡ 0 }
+{
+    Four {
+        lows: u32x4::splat((root & LOW_HALF) as u32),
+        highs: u32x4::splat((root >> 32) as u32),
+        taken: u32x4::splat(0),
+    }
+}
+
+/// The number that four bytes from a place on make, low byte first.
+#[inline]
+fn four_bytes(keys: &[u8], at: usize) -> u32
+    requires { at + 4 ≤ length keys.now }
+    ensures { (k : ℕ) → k < 4 → result / 256 ^ k % 256 ≡ slice_index keys.now (at + k) }
+{
+    u32::from_le_bytes([keys[at], keys[at + 1], keys[at + 2], keys[at + 3]])
+}
+
+/// Four bytes from a place on of four keys of a length, which stand one after the other.
+#[inline]
+fn whole_groups(keys: &[u8], from: usize, len: usize) -> u8x16
+    requires { from + 3 * len + 4 ≤ length keys.now }
+    ensures { (i k : ℕ) → i < 4 → k < 4 →
+        slice_index result (4 * i + k) ≡ slice_index keys.now (from + i * len + k) }
+{
+    bytes_of(u32x4::from_array([
+        four_bytes(keys, from),
+        four_bytes(keys, from + len),
+        four_bytes(keys, from + 2 * len),
+        four_bytes(keys, from + 3 * len),
+    ]))
+}
+
+/// The byte at a place of four keys of a length, which stand one after the other, as the first of a
+/// group.
+#[inline]
+fn single_bytes(keys: &[u8], from: usize, len: usize) -> u8x16
+    requires { from + 3 * len < length keys.now }
+    ensures { (i k : ℕ) → i < 4 → k < 1 →
+        slice_index result (4 * i + k) ≡ slice_index keys.now (from + i * len + k) }
+{
+    bytes_of(u32x4::from_array([
+        u32::from(keys[from]),
+        u32::from(keys[from + len]),
+        u32::from(keys[from + 2 * len]),
+        u32::from(keys[from + 3 * len]),
+    ]))
+}
+
+/// So many bytes, one or four, from a place on of four keys of a length, which stand one after the
+/// other.
+#[inline]
+pub(crate) fn groups_at(keys: &[u8], from: usize, len: usize, count: usize) -> u8x16
+    requires count { IsGroupLen count }
+    requires keys { from + 3 * len + count ≤ length keys.now }
+    ensures { (i k : ℕ) → i < 4 → k < count →
+        slice_index result (4 * i + k) ≡ slice_index keys.now (from + i * len + k) }
+{
+    if count == 4 {
+        whole_groups(keys, from, len)
+    } else {
+        single_bytes(keys, from, len)
+    }
+}
+
+/// Four walks, given by their vectors, after one more byte each: a walk that has ended stays.
+#[inline]
+fn go_on(words: &[u64], lows: u32x4, highs: u32x4, taken: u32x4, bytes: u8x16) -> Four
+    requires bytes { (i k : ℕ) → i < 4 → k < 4 →
+        slice_index bytes (4 * i + k) ≡ slice_index bytes (4 * i) }
+    requires ready { (i : ℕ) → i < 4 → CanGoOn words.now (word_in lows highs i)
+        (slice_index bytes (4 * i)) (slice_index taken i) }
+    ensures { (i : ℕ) → i < 4 → GoesOn words.now (word_in lows highs i)
+        (slice_index bytes (4 * i)) (word_in result.lows result.highs i) (slice_index taken i)
+        (slice_index result.taken i) }
+{
+    let none = u32x4::splat(0);
+    let on_way = lows.simd_lt(u32x4::splat(ENDED));
+    let places = next_places(lows, highs, bytes);
+    // A walk that has ended reads word 0, which is then left out.
+    let (next_lows, next_highs) = fetch(words, &on_way.select(places, none).to_array());
+    Four {
+        lows: on_way.select(next_lows, lows),
+        highs: on_way.select(next_highs, highs),
+        taken: taken + on_way.select(u32x4::splat(1), none),
+    }
+}
+
+/// Four walks after the bytes at a place of their groups.
+#[inline]
+pub(crate) fn step(words: &[u64], walks: Four, groups: u8x16, place: usize) -> Four
+    requires place { place < 4 }
+    requires ready { (i : ℕ) → i < 4 → CanGoOn words.now (word_in walks.lows walks.highs i)
+        (slice_index groups (4 * i + place)) (slice_index walks.taken i) }
+    ensures { (i : ℕ) → i < 4 → GoesOn words.now (word_in walks.lows walks.highs i)
+        (slice_index groups (4 * i + place)) (word_in result.lows result.highs i)
+        (slice_index walks.taken i) (slice_index result.taken i) }
+{
+    let bytes = bytes_in(groups, place);
+    go_on(words, walks.lows, walks.highs, walks.taken, bytes)
+}
+
+/// Writes the rows that four walks name, from a place on, and says how many words they took
+/// together.
+#[inline]
+pub(crate) fn end(walks: Four, rows: &mut [u32; 16], at: usize) -> u64
+    requires room { at + 4 ≤ 16 }
+    requires few { (i : ℕ) → i < 4 → slice_index walks.taken i ≤ longest_key }
+    ensures rows { (i : ℕ) → i < 4 →
+        slice_index rows.new (at + i) ≡ slice_index walks.lows i % indexes }
+    ensures others { (k : ℕ) → k < at → slice_index rows.new k ≡ slice_index rows.old k }
+    ensures taken { result ≡ sum_below (λ i. slice_index walks.taken i) 4 }
+    ensures limit { result ≤ 4 * longest_key }
+{
+    let lows = walks.lows.to_array();
+    let counts = walks.taken.to_array();
+    let mut taken = 0;
+    for i in 0..4 {
+        rows[at + i] = lows[i] & INDEX_MASK;
+        taken += u64::from(counts[i]);
+    }
+    taken
+}
