@@ -1,3 +1,5 @@
 pub mod Key
 pub mod Audit
 pub mod AuditExamples
+pub mod Compare
+pub mod CompareExamples
