@@ -13,7 +13,7 @@ use std::test::Fail;
 
 /// What a context says of keys.
 #[derive(Drop)]
-pub(crate) struct Answered {
+pub(crate) struct Said {
     /// The verdicts, key by key.
     pub(crate) verdicts: Vec<u32>,
     /// How many transitions the walks took.
@@ -63,7 +63,7 @@ pub(crate) fn classified(
     n: u32,
     count: u32,
     walk: Walk,
-) -> Result<Answered, Fail> {
+) -> Result<Said, Fail> {
     assert!(rt; n <= 65_536);
     let mut scratch = Scratch::new(alloc, n as usize)?;
     let room = (n as usize).wrapping_mul(count as usize);
@@ -79,7 +79,7 @@ pub(crate) fn classified(
         &mut verdicts,
     );
     assert!(rt; taken.is_some());
-    Ok(Answered { verdicts, taken })
+    Ok(Said { verdicts, taken })
 }
 
 /// What the context says of so many keys in so many categories, by either walk.
