@@ -73,7 +73,7 @@ agrees decide lawful rules image capture budget cats stats marks within walk sav
     let serve = tables_serve decide lawful rules saved.lists budget saved.accepted saved.fits within in
     let options : Options =
     record { categories = cats.count; walk = walk; max_words = budget; stats = stats; marks = marks } in
-    let printed : PrintOptions = record { cats = cats; stats = stats; marks = marks } in
+    let printed : PrintOptions = record { cats = cats; walk = walk; stats = stats; marks = marks } in
     let tables : Tables = tables_built saved.lists budget in
     let loaded : tables_of_bytes image ≡ Ok tables =
     tables_of_whole image (image_within saved.version image (pair_of tables) saved.image)

@@ -40,6 +40,7 @@ pub fn classify<D: Desk, O: Sink, L: Ledger>(
     };
     let printed = PrintOptions {
         cats: options.categories,
+        walk: options.walk,
         stats: options.stats,
         marks: options.marks,
     };

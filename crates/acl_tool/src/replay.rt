@@ -41,6 +41,7 @@ pub fn replay<D: Desk, O: Sink, L: Ledger>(
     };
     let printed = PrintOptions {
         cats: options.categories,
+        walk: options.walk,
         stats: options.stats,
         marks: options.marks,
     };

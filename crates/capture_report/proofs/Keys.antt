@@ -163,7 +163,8 @@ module _ (family : Family) (table : TableView) (len : table.key_len ≡ key_len_
           ))
       go false own later = rw own later
 
-  keys_number : (packets : List FrameClass) → All IsPacket packets → 0 < table.key_len →
+  -- they are so many
+  pub keys_number : (packets : List FrameClass) → All IsPacket packets → 0 < table.key_len →
       keys_in table (keys_of family packets) ≡ number_of family packets
   keys_number packets all some =
       ap (λ (n : ℕ). n / table.key_len) (keys_len packets all) ∙ mul-div_cancel (number_of family packets) some

@@ -15,6 +15,7 @@ use acl_report::MAX_VERDICTS;
 use field_defs::Family;
 use flat_table::{MAX_TRIES, Table};
 use header_extract::Class;
+use lane_walk::Walk;
 use rule_set::Categories;
 use scalar_walk::winners;
 use std::marker::Model;
@@ -24,6 +25,8 @@ use std::marker::Model;
 pub struct PrintOptions {
     /// How many categories are shown of each packet, from category 0 on.
     pub cats: Categories,
+    /// Which walk answers the keys. It changes no printed byte.
+    pub walk: Walk,
     /// Whether the sizes of the tables and the transitions are told after a whole capture.
     pub stats: bool,
     /// Whether a dash marks where no rule matches. Otherwise the digit 0 stands there.
@@ -89,6 +92,11 @@ impl<'a> FormByTables<'a> {
         ensures { result.count ≡ self.now.categories }
     {
         self.options.cats
+    }
+
+    /// Which walk answers the keys.
+    pub fn walk(&self) -> Walk {
+        self.options.walk
     }
 
     /// Whether the sizes of the tables and the transitions are told.

@@ -1,9 +1,10 @@
-//! The memory of a batch: its packets, their keys, verdicts and lines.
+//! The memory of a batch: its packets, their keys, rows, verdicts and lines.
 
 use crate::batch::MAX_BATCH;
 use crate::packets::Packets;
 use crate::verdicts::{BATCH_KEYS, BATCH_VERDICTS};
 use acl_report::LINE_ROOM;
+use flow_core::Scratch;
 use std::alloc::{AllocError, Global};
 use std::marker::Model;
 
@@ -17,6 +18,8 @@ pub struct Room {
     pub packets: Packets,
     /// The keys of the packets of one family, one after the other.
     pub keys: Vec<u8>,
+    /// A row for each of these keys.
+    pub scratch: Scratch,
     /// The verdicts on the IPv4 packets.
     pub ip4: Vec<u32>,
     /// The verdicts on the IPv6 packets.
@@ -34,7 +37,8 @@ impl Model for Room {
 
     ghost view = { λ room. room.packets };
 
-    ghost invariant = { λ room. HasRoom room.keys room.ip4 room.ip6 room.lines };
+    ghost invariant = { λ room. HasRoom room.keys room.scratch room.ip4 room.ip6
+        room.lines };
 }
 
 impl Room {
@@ -44,6 +48,7 @@ impl Room {
         Ok(Room {
             packets: Packets::new(alloc)?,
             keys: vec![in alloc; 0; BATCH_KEYS]?,
+            scratch: Scratch::new(alloc, MAX_BATCH)?,
             ip4: vec![in alloc; 0; BATCH_VERDICTS]?,
             ip6: vec![in alloc; 0; BATCH_VERDICTS]?,
             lines: vec![in alloc; 0; BATCH_LINES]?,

@@ -14,8 +14,9 @@ use crate::packet::{IP6_KEY, Packet};
 use acl_report::MAX_VERDICTS;
 use field_defs::Family;
 use flat_table::Steps;
+use flow_core::Scratch;
 use header_extract::Class;
-use scalar_walk::classify_scalar;
+use lane_walk::classify_by;
 use std::sync::ledger::Ledger;
 
 /// How many bytes the keys of a batch have at most.
@@ -36,19 +37,23 @@ pub struct FamilyVerdicts {
 /// Walks the keys of the packets of a family through its table, and writes their verdicts to the
 /// front of `verdicts`, those of one packet after those of another.
 ///
-/// There are at most 64 packets. `keys` has room for their keys, [`BATCH_KEYS`] bytes, which are
-/// overwritten, and `verdicts` has [`BATCH_VERDICTS`] elements. It takes no memory.
+/// There are at most 64 packets. `keys` has room for their keys, [`BATCH_KEYS`] bytes, and
+/// `scratch` has a row for each, which are overwritten; `verdicts` has [`BATCH_VERDICTS`] elements.
+/// Whichever walk the form asks for, the verdicts and the transitions are the same. It takes no
+/// memory.
 pub fn walk_keys<L: Ledger>(
     form: &FormByTables<'_>,
     family: Family,
     packets: &[Packet],
     keys: &mut [u8],
+    scratch: &mut Scratch,
     verdicts: &mut [u32],
     steps: &mut Steps<L>,
 ) -> FamilyVerdicts
     requires few { length packets.now ≤ max_batch }
     requires packets { All IsPacket packets.now }
     requires keys { BATCH_KEYS ≤ length keys.old }
+    requires rows { max_batch ≤ length scratch.old }
     requires verdicts { length verdicts.old ≡ BATCH_VERDICTS }
     ensures within { result.verdicts ≤ BATCH_VERDICTS }
     ensures verdicts { take result.verdicts verdicts.new ≡ verdicts_of family
@@ -59,12 +64,14 @@ pub fn walk_keys<L: Ledger>(
     ensures steps { steps.new ≡ steps.old + result.transitions }
     ensures len { length verdicts.new ≡ BATCH_VERDICTS }
     ensures keys { length keys.new ≡ length keys.old }
+    ensures rows { length scratch.new ≡ length scratch.old }
 {
     let (table, categories) = (form.table(family), form.categories());
     let gathered = gather_keys(family, packets, keys);
     let count = gathered.packets * categories.count();
     let keys = &keys[..gathered.bytes];
-    let transitions = classify_scalar(table, keys, categories, &mut verdicts[..count], steps);
+    let (walk, out) = (form.walk(), &mut verdicts[..count]);
+    let transitions = classify_by(walk, table, keys, categories, scratch, out, steps);
     FamilyVerdicts {
         verdicts: count,
         transitions,

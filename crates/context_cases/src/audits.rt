@@ -1,6 +1,6 @@
 //! Least keys, worked out by hand and by going through all keys of few distinct bytes.
 
-ghost use Rattle.std.specs.Prelude.{◌≡◌, ◌<◌, length};
+ghost use Rattle.std.specs.Prelude.{◌≡◌, ◌<◌, length, OnOk};
 ghost use Rattle.table_sizes.specs.Sizes.{row_len};
 
 use acl_audit::{Audit, AuditFault, live_rules};
@@ -10,39 +10,40 @@ use std::alloc::Global;
 use std::process::Abort;
 use std::test::Fail;
 
-const ANY: FieldValue = FieldValue::Mask { value: 0, bits: 0 };
+/// Any address.
+pub(crate) const ANY: FieldValue = FieldValue::Mask { value: 0, bits: 0 };
 
 /// A source of 10.0.0.0/8.
-const TEN: FieldValue = FieldValue::Mask {
+pub(crate) const TEN: FieldValue = FieldValue::Mask {
     value: 0x0A00_0000,
     bits: 8,
 };
 
 /// Adds a rule of the set's fields.
-fn add(
+pub(crate) fn add(
     rt: &impl Abort,
     alloc: Global,
     rules: &mut RuleSet,
     tag: RuleTag,
     fields: &[FieldValue],
-) -> Result<(), Fail> {
+) -> Result<(), Fail>
+    ensures { OnOk result (rules.new.layout ≡ rules.old.layout) }
+{
     assert!(rt; !rules.is_full());
     rules.push(StoredRule::new(alloc, tag, fields)?)?;
     Ok(())
 }
 
-/// Adds a rule for all packets from a source.
-fn add_source(
+/// Adds a rule of the tag for all packets from a source.
+pub(crate) fn add_source(
     rt: &impl Abort,
     alloc: Global,
     rules: &mut RuleSet,
+    tag: RuleTag,
     source: FieldValue,
-) -> Result<(), Fail> {
-    let tag = RuleTag {
-        category_mask: 1,
-        priority: 1,
-        userdata: 1,
-    };
+) -> Result<(), Fail>
+    ensures { OnOk result (rules.new.layout ≡ rules.old.layout) }
+{
     let ports = FieldValue::Range {
         low: 0,
         high: 0xFFFF,
@@ -56,6 +57,13 @@ fn add_source(
         &[protocol, source, ANY, ports, ports],
     )
 }
+
+/// A rule of category 0.
+const FIRST: RuleTag = RuleTag {
+    category_mask: 1,
+    priority: 1,
+    userdata: 1,
+};
 
 /// The rule's key in the category is this one.
 fn wins(
@@ -77,8 +85,8 @@ fn wins(
 #[test]
 fn a_covered_rule_never_wins(rt: HostRuntime) -> Result<(), Fail> {
     let mut rules = RuleSet::new(rt.alloc(), ip4_layout());
-    add_source(&rt, rt.alloc(), &mut rules, ANY)?;
-    add_source(&rt, rt.alloc(), &mut rules, TEN)?;
+    add_source(&rt, rt.alloc(), &mut rules, FIRST, ANY)?;
+    add_source(&rt, rt.alloc(), &mut rules, FIRST, TEN)?;
     let audit = live_rules(rt.alloc(), &rules, 27)?;
     wins(&rt, &rules, &audit, 0, 0, Some(&[0; 13]))?;
     wins(&rt, &rules, &audit, 1, 0, None)?;
@@ -99,8 +107,8 @@ fn a_covered_rule_never_wins(rt: HostRuntime) -> Result<(), Fail> {
 #[test]
 fn rules_exchanged_both_win(rt: HostRuntime) -> Result<(), Fail> {
     let mut rules = RuleSet::new(rt.alloc(), ip4_layout());
-    add_source(&rt, rt.alloc(), &mut rules, TEN)?;
-    add_source(&rt, rt.alloc(), &mut rules, ANY)?;
+    add_source(&rt, rt.alloc(), &mut rules, FIRST, TEN)?;
+    add_source(&rt, rt.alloc(), &mut rules, FIRST, ANY)?;
     let audit = live_rules(rt.alloc(), &rules, 1000)?;
     let ten = [0, 10, 0, 0, 0, 0, 0, 0, 0, 0, 0, 0, 0];
     wins(&rt, &rules, &audit, 0, 0, Some(&ten))?;
@@ -116,7 +124,7 @@ fn no_rule_is_never_too_large(rt: HostRuntime) -> Result<(), Fail> {
 }
 
 /// The definition of a field of numbers.
-fn def(size: u8, field_index: u8, input_index: u8, offset: u32) -> FieldDef {
+pub(crate) fn def(size: u8, field_index: u8, input_index: u8, offset: u32) -> FieldDef {
     FieldDef {
         kind: FieldKind::Range,
         size,

@@ -10,6 +10,7 @@
 //! | `adding` | rules that are added to a context in two calls |
 //! | `asking` | a context's answers to a batch, for the tests of contexts |
 //! | `audits` | least keys, against all keys of few distinct bytes |
+//! | `comparisons` | where two lists differ, against all keys of few distinct bytes |
 //! | `contexts` | contexts from their first rule to their reset |
 //! | `edges` | what bytes leave of a value, worked out by hand |
 //! | `filled` | tables whose words were worked out by hand |
@@ -34,6 +35,8 @@ mod adding;
 mod asking;
 #[cfg(test)]
 mod audits;
+#[cfg(test)]
+mod comparisons;
 #[cfg(test)]
 mod contexts;
 #[cfg(test)]

@@ -168,13 +168,20 @@ packets 17 ip4 17 ip6 0 other 0 short 0
 ip4 rules 1 tries 1 words 85\nip6 rules 0 tries 0 words 16\ntransitions 221\n";
 
 #[test]
-fn an_image_prints_what_its_rules_print(rt: HostRuntime) -> Result<(), Fail> {
+fn an_image_prints_what_its_rules_print_by_either_walk(rt: HostRuntime) -> Result<(), Fail> {
     // To the ports 1227 to 1243, of which the eighth is the guide's.
     let mut capture = Vec::from_slice(rt.alloc(), HEADER)?;
     for port in 203..220 {
         add_udp(&mut capture, &to_port(port))?;
     }
-    let cases: [&[&[&str]]; 2] = [&[BUILD, REPLAY], &[&["classify", "r", "c", "stats=on"]]];
+    // The default walk is the scalar one, and both print the same.
+    let cases: [&[&[&str]]; 5] = [
+        &[BUILD, REPLAY],
+        &[BUILD, &["replay", "i", "c", "stats=on", "walk=lanes"]],
+        &[&["classify", "r", "c", "stats=on"]],
+        &[&["classify", "r", "c", "stats=on", "walk=scalar"]],
+        &[&["classify", "r", "c", "stats=on", "walk=lanes"]],
+    ];
     for commands in cases {
         let want: Want<'_> = (Status::Done, SEVENTEEN, "", b"", 0);
         expect_image(&rt, commands, (GUIDE, &capture, b""), 0, want)?;

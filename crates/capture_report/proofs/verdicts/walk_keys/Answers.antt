@@ -1,16 +1,16 @@
 -- The keys are a batch of the table, and the verdicts and steps of the batch are those of the packets.
-use Rattle.std.proofs.Common.{◌≡◌, ℕ, ◌+◌, ◌*◌, List, length, take, subst, sym, ap, ◌∙◌, arith}
+use Rattle.std.proofs.Common.{◌≡◌, ℕ, ◌+◌, ◌*◌, ◌≤◌, List, length, take, subst, sym, ap, ◌∙◌, arith}
 use Rattle.std.proofs.lemmas.List.{length-take-le}
 use Rattle.std.proofs.Math.Nat.{mul-le-mul}
 use Rattle.flat_table.specs.Table.{TableView}
-use Rattle.flat_table.specs.Batch.{LengthsFit, batch_verdicts, batch_transitions}
-use Rattle.capture_report.specs.Batch.{number_of, verdicts_of, transitions_of_family, table_of}
+use Rattle.flat_table.specs.Batch.{LengthsFit, keys_in, batch_verdicts, batch_transitions}
+use Rattle.capture_report.specs.Batch.{keys_of, number_of, verdicts_of, transitions_of_family, table_of}
 use Rattle.capture_report.proofs.Keys.{keys_fit, batch_verdicts_are, batch_transitions_are, family_transitions_bound, some_bytes}
-use Rattle.capture_report.proofs.Keys.{few_bytes, verdicts_len, front-is}
+use Rattle.capture_report.proofs.Keys.{few_bytes, keys_number, verdicts_len, front-is}
 use Rattle.capture_report.proofs.verdicts.walk_keys.Goals as goal
 
-pub classify_scalar-transitions-requires : goal.classify_scalar-transitions-requires
-classify_scalar-transitions-requires g c =
+pub classify_by-transitions-requires-clause-fits : goal.classify_by-transitions-requires-clause-fits
+classify_by-transitions-requires-clause-fits g c =
     let table = c.table-table.result.now in
     let gathered = c.gather_keys-gathered in
     let room = length (take (gathered.result.packets * c.count.result) c.args.verdicts.now) in
@@ -27,13 +27,30 @@ classify_scalar-transitions-requires g c =
     c.args.packets.now c.requires.packets (some_bytes c.args.family table.key_len c.table-table.ensures.key_len)
     (omega (arith, gathered.ensures.count, gathered.ensures.few, c.requires.few)) is)
 
+-- there is a row for each key
+pub classify_by-transitions-requires-clause-room : goal.classify_by-transitions-requires-clause-room
+classify_by-transitions-requires-clause-room g c lanes =
+    let table = c.table-table.result.now in
+    let few : keys_in table (keys_of c.args.family c.args.packets.now) ≤ length c.args.scratch.now =
+    omega (
+      arith,
+      keys_number c.args.family table c.table-table.ensures.key_len c.args.packets.now c.requires.packets
+          (some_bytes c.args.family table.key_len c.table-table.ensures.key_len),
+      c.gather_keys-gathered.ensures.count,
+      c.gather_keys-gathered.ensures.few,
+      c.requires.few,
+      c.requires.rows,
+    ) in
+    subst (λ (keys : List ℕ). keys_in table keys ≤ length c.args.scratch.now)
+    (sym c.gather_keys-gathered.ensures.keys) few
+
 pub returns-clause-verdicts : goal.returns-clause-verdicts
 returns-clause-verdicts g c =
     let table = c.table-table.result.now in
     let gathered = c.gather_keys-gathered in
     let count = c.categories-categories.result.count in
-    let out = c.classify_scalar-transitions.new.out in
-    let is_out = c.classify_scalar-transitions.ensures.verdicts
+    let out = c.classify_by-transitions.new.out in
+    let is_out = c.classify_by-transitions.ensures.verdicts
     ∙ ap (batch_verdicts table count) gathered.ensures.keys
     ∙ batch_verdicts_are c.args.family table c.table-table.ensures.key_len count c.args.packets.now
     c.requires.packets (some_bytes c.args.family table.key_len c.table-table.ensures.key_len) in
@@ -49,7 +66,7 @@ returns-clause-verdicts g c =
 pub returns-clause-transitions : goal.returns-clause-transitions
 returns-clause-transitions g c =
     let table = c.table-table.result.now in
-    c.classify_scalar-transitions.ensures.taken ∙ ap (batch_transitions table) c.gather_keys-gathered.ensures.keys
+    c.classify_by-transitions.ensures.taken ∙ ap (batch_transitions table) c.gather_keys-gathered.ensures.keys
     ∙ batch_transitions_are c.args.family table c.table-table.ensures.key_len c.args.packets.now c.requires.packets
     (some_bytes c.args.family table.key_len c.table-table.ensures.key_len)
     ∙ ap (λ (t : TableView). transitions_of_family c.args.family t c.args.packets.now) c.table-table.ensures.table
@@ -57,7 +74,7 @@ returns-clause-transitions g c =
 pub returns-clause-bound : goal.returns-clause-bound
 returns-clause-bound g c =
     let table = c.table-table.result.now in
-    let transitions = c.classify_scalar-transitions.ensures.taken
+    let transitions = c.classify_by-transitions.ensures.taken
     ∙ ap (batch_transitions table) c.gather_keys-gathered.ensures.keys
     ∙ batch_transitions_are c.args.family table c.table-table.ensures.key_len c.args.packets.now c.requires.packets
     (some_bytes c.args.family table.key_len c.table-table.ensures.key_len) in
@@ -70,5 +87,5 @@ returns-clause-bound g c =
 
 pub returns-clause-steps : goal.returns-clause-steps
 returns-clause-steps g c =
-    c.classify_scalar-transitions.ensures.steps
-    ∙ ap (λ (n : ℕ). c.args.steps.now + n) (sym c.classify_scalar-transitions.ensures.taken)
+    c.classify_by-transitions.ensures.steps
+    ∙ ap (λ (n : ℕ). c.args.steps.now + n) (sym c.classify_by-transitions.ensures.taken)

@@ -1,0 +1,100 @@
+// Walks keys by DPDK's librte_acl: rte RULES KEYS, and then a question on each line of standard input
+//
+// RULES has for each rule eleven numbers of 4 bytes, low byte first: protocol and mask, source and prefix length, destination
+// and prefix length, the ends of both ranges of ports, and the userdata. The first rule has the greatest priority. KEYS has 16
+// bytes for each key: protocol, source, destination and ports in network order, and three bytes that aren't read. It prints the
+// microseconds that the build took. A question has three numbers: the algorithm of rte_acl.h (1 scalar, 2 SSE, 0 the best one
+// that this processor has), how many keys are walked at a time, and how many rounds over all keys. The answer is the least time of a
+// round in nanoseconds a key. With no rounds it is the userdata of each key, a line for each.
+#include <stdint.h>
+#include <stdio.h>
+#include <stdlib.h>
+#include <time.h>
+
+#include <rte_acl.h>
+#include <rte_eal.h>
+
+enum { NUMBERS = 11, KEY = 16, MOST_RULES = 262144 };
+
+// The fields of an IPv4 key. A group of four bytes is read at a time; the two ports are one.
+static const struct rte_acl_field_def fields[5] = {
+    {RTE_ACL_FIELD_TYPE_BITMASK, 1, 0, 0, 0}, {RTE_ACL_FIELD_TYPE_MASK, 4, 1, 1, 1}, {RTE_ACL_FIELD_TYPE_MASK, 4, 2, 2, 5},
+    {RTE_ACL_FIELD_TYPE_RANGE, 2, 3, 3, 9},   {RTE_ACL_FIELD_TYPE_RANGE, 2, 4, 3, 11}};
+RTE_ACL_RULE_DEF(rule5, 5);
+
+static void *content(const char *name, size_t *size) {
+    FILE *file = fopen(name, "rb");
+    if (!file || fseek(file, 0, SEEK_END)) exit(7);
+    *size = ftell(file);
+    rewind(file);
+    void *bytes = malloc(*size + 1);
+    if (!bytes || fread(bytes, 1, *size, file) != *size) exit(7);
+    fclose(file);
+    return bytes;
+}
+
+static double seconds(void) {
+    struct timespec now;
+    clock_gettime(CLOCK_MONOTONIC, &now);
+    return now.tv_sec + now.tv_nsec / 1e9;
+}
+
+static struct rte_acl_ctx *table(const uint32_t *numbers, size_t rules) {
+    struct rte_acl_param param = {"rules", SOCKET_ID_ANY, RTE_ACL_RULE_SZ(5), MOST_RULES};
+    struct rte_acl_config config = {.num_categories = 1, .num_fields = 5};
+    struct rte_acl_ctx *ctx = rte_acl_create(&param);
+    if (!ctx) exit(2);
+    for (size_t at = 0; at < rules; at++, numbers += NUMBERS) {
+        struct rule5 rule = {{.category_mask = 1, .priority = RTE_ACL_MAX_PRIORITY - (int)at - 1, .userdata = numbers[10]}};
+        rule.field[0].value.u8 = numbers[0], rule.field[0].mask_range.u8 = numbers[1];
+        for (int field = 1; field < 3; field++)
+            rule.field[field].value.u32 = numbers[2 * field], rule.field[field].mask_range.u32 = numbers[2 * field + 1];
+        for (int field = 3; field < 5; field++)
+            rule.field[field].value.u16 = numbers[2 * field], rule.field[field].mask_range.u16 = numbers[2 * field + 1];
+        if (rte_acl_add_rules(ctx, (struct rte_acl_rule *)&rule, 1)) exit(3);
+    }
+    for (int field = 0; field < 5; field++) config.defs[field] = fields[field];
+    double begun = seconds();
+    if (rte_acl_build(ctx, &config)) exit(4);
+    printf("build %.0f\n", (seconds() - begun) * 1e6);
+    return ctx;
+}
+
+// The least time of a round for a key.
+static double least_of(struct rte_acl_ctx *ctx, const uint8_t **places, size_t keys, uint32_t *answers, int algorithm,
+                       size_t at_a_time, int rounds) {
+    double least = 1e9;
+    do {
+        double begun = seconds();
+        for (size_t at = 0; at < keys; at += at_a_time) {
+            uint32_t some = keys - at < at_a_time ? keys - at : at_a_time;
+            if (algorithm ? rte_acl_classify_alg(ctx, places + at, answers + at, some, 1, algorithm)
+                          : rte_acl_classify(ctx, places + at, answers + at, some, 1))
+                exit(5);
+        }
+        if (seconds() - begun < least) least = seconds() - begun;
+    } while (--rounds > 0);
+    return least / keys * 1e9;
+}
+
+int main(int count, char **words) {
+    char *eal[] = {"rte", "--no-huge", "--no-pci", "--no-shconf", "--no-telemetry", "-l", "0", "-m", "3072", "--log-level=*:1",
+                   "--log-level=lib.acl:8"};
+    if (count != 3 || rte_eal_init(sizeof eal / sizeof *eal, eal) < 0) return 2;
+    size_t size, keys;
+    uint32_t *numbers = content(words[1], &size);
+    uint8_t *bytes = content(words[2], &keys);
+    struct rte_acl_ctx *ctx = table(numbers, size / (4 * NUMBERS));
+    keys /= KEY;
+    uint32_t *answers = malloc(keys * sizeof *answers + 1);
+    const uint8_t **places = malloc(keys * sizeof *places + 1);
+    for (size_t at = 0; at < keys; at++) places[at] = bytes + KEY * at;
+    int algorithm, rounds;
+    size_t at_a_time;
+    for (fflush(stdout); scanf("%d %zu %d", &algorithm, &at_a_time, &rounds) == 3; fflush(stdout)) {
+        double least = least_of(ctx, places, keys, answers, algorithm, at_a_time, rounds);
+        if (rounds) printf("%.2f\n", least);
+        for (size_t at = 0; !rounds && at < keys; at++) printf("%u\n", answers[at]);
+    }
+    return 0;
+}
