@@ -7,6 +7,7 @@
 //!
 //! | module | what it tests |
 //! |---|---|
+//! | `blocks` | pcapng captures that are whole or cut |
 //! | `captures` | captures that are whole, cut or not read on |
 //! | `desks` | files and output, in memory and of the system |
 //! | `frames` | frames of packets, and the keys in them |
@@ -20,6 +21,8 @@
 //! | `verdicts` | verdicts of the plain filter |
 #![tactic(auto)]
 
+#[cfg(test)]
+mod blocks;
 #[cfg(test)]
 mod captures;
 #[cfg(test)]

@@ -1,0 +1,121 @@
+//! A pcapng capture of two sections that is whole, cut or can't be read on, over a desk in memory.
+
+ghost use Rattle.std.specs.Prelude.{◌<◌, IsTrue};
+
+use acl_outside::{Desk, MemDesk, MemFile};
+use pcap_reader::{BeginFault, CaptureFault, Link};
+use pcapng_reader::AnyCapture;
+use std::alloc::AllocError;
+use std::process::Abort;
+use std::test::Fail;
+
+/// A little-endian section with an interface of Ethernet frames, a packet of 2 bytes and an empty
+/// block of another type, and then a big-endian section with an interface of packets without a
+/// header, and a packet of 2 bytes.
+const CAPTURE: [u8; 180] = [
+    0x0A, 0x0D, 0x0D, 0x0A, 28, 0, 0, 0, 0x4D, 0x3C, 0x2B, 0x1A, 1, 0, 0, 0, 255, 255, 255, 255,
+    255, 255, 255, 255, 28, 0, 0, 0, 1, 0, 0, 0, 20, 0, 0, 0, 1, 0, 0, 0, 0, 0, 4, 0, 20, 0, 0, 0,
+    6, 0, 0, 0, 36, 0, 0, 0, 0, 0, 0, 0, 0, 0, 0, 0, 0, 0, 0, 0, 2, 0, 0, 0, 60, 0, 0, 0, 8, 9, 0,
+    0, 36, 0, 0, 0, 4, 0, 0, 0, 12, 0, 0, 0, 12, 0, 0, 0, 0x0A, 0x0D, 0x0D, 0x0A, 0, 0, 0, 28,
+    0x1A, 0x2B, 0x3C, 0x4D, 0, 1, 0, 0, 255, 255, 255, 255, 255, 255, 255, 255, 0, 0, 0, 28, 0, 0,
+    0, 1, 0, 0, 0, 20, 0, 101, 0, 0, 0, 4, 0, 0, 0, 0, 0, 20, 0, 0, 0, 6, 0, 0, 0, 36, 0, 0, 0, 0,
+    0, 0, 0, 0, 0, 0, 0, 0, 0, 0, 0, 2, 0, 0, 0, 2, 5, 6, 0, 0, 0, 0, 0, 36,
+];
+
+/// The records of that capture.
+const RECORDS: [(Link, &[u8]); 2] = [(Link::Ethernet, &[8, 9]), (Link::Raw, &[5, 6])];
+
+/// How many bytes the capture has up to the end of each block, how many records, and the number of
+/// the record after them.
+const ENDS: [(usize, usize, u64); 7] = [
+    (28, 0, 1),
+    (48, 0, 1),
+    (84, 1, 2),
+    (96, 1, 2),
+    (124, 1, 2),
+    (144, 1, 2),
+    (180, 2, 3),
+];
+
+/// A desk with the first bytes of that capture, which gives some bytes a call and fails at one of
+/// them.
+fn desk_of<R: AllocGlobal>(
+    rt: &R,
+    len: usize,
+    piece: usize,
+    failing: u64,
+) -> Result<MemDesk, AllocError>
+    requires { 0 < piece }
+{
+    let alloc = rt.alloc();
+    let file = MemFile {
+        name: String::from_str(alloc, "capture")?,
+        bytes: Vec::from_slice(alloc, &CAPTURE[..len.min(CAPTURE.len())])?,
+    };
+    let (files, failing) = (vec![in alloc; file]?, vec![in alloc; failing]?);
+    MemDesk::new(alloc, files, piece, 0, failing, Vec::new(alloc))
+}
+
+/// Asserts that the opened file is a capture with so many of the records and this ending.
+fn shows<R: Abort + AllocGlobal, D: Desk>(
+    rt: &R,
+    desk: &mut D,
+    records: usize,
+    ending: Result<(), BeginFault>,
+)
+    requires { IsTrue (D.view desk.old).reading }
+{
+    let mut capture = match AnyCapture::begin(rt.alloc(), desk) {
+        Ok(capture) => capture,
+        Err(fault) => {
+            assert_eq!(rt; ending, Err(fault));
+            return;
+        }
+    };
+    for record in RECORDS.iter().take(records) {
+        match capture.next(desk) {
+            Ok(found) => assert_eq!(rt; found, Some(*record)),
+            Err(fault) => {
+                assert_eq!(rt; ending, Err(BeginFault::Capture(fault)));
+                return;
+            }
+        }
+    }
+    match capture.next(desk) {
+        Ok(found) => {
+            assert_eq!(rt; found, None);
+            assert_eq!(rt; ending, Ok(()));
+        }
+        Err(fault) => assert_eq!(rt; ending, Err(BeginFault::Capture(fault))),
+    }
+    assert_eq!(rt; capture.failed(), ending.is_err());
+    assert_eq!(rt; capture.count(), records as u64);
+}
+
+/// How many records the first bytes of the capture have, and their ending.
+fn expected(len: usize) -> (usize, Result<(), CaptureFault>) {
+    if len < 4 {
+        return (0, Err(CaptureFault::HeaderCut));
+    }
+    let mut before = (0, 1);
+    for (end, records, next) in ENDS {
+        if end == len {
+            return (records, Ok(()));
+        }
+        if end < len {
+            before = (records, next);
+        }
+    }
+    (before.0, Err(CaptureFault::PngCut(before.1)))
+}
+
+#[test]
+fn each_prefix_of_two_sections_has_its_records_and_its_ending(rt: HostRuntime) -> Result<(), Fail> {
+    for len in 0..=CAPTURE.len() {
+        let (records, ending) = expected(len);
+        let mut desk = desk_of(&rt, len, 1 + len % 50, 0)?;
+        desk.open_file("capture")?;
+        shows(&rt, &mut desk, records, ending.map_err(BeginFault::Capture));
+    }
+    Ok(())
+}
