@@ -112,7 +112,7 @@ build_heard rules image max_words told old new reached follows is =
       is = both.rest.1;
     }
 
-done_told : (status : Status) → (Done ≡ status) ⊎ ((Done ≡ WriteFault) ⊎ (Done ≡ OutOfMemory)) →
+pub done_told : (status : Status) → (Done ≡ status) ⊎ ((Done ≡ WriteFault) ⊎ (Done ≡ OutOfMemory)) →
     is_told status ≡ true
 done_told status (inl is) = rw (← is) refl
 done_told status (inr (inl written)) = absurd (cc)

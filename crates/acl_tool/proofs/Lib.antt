@@ -15,3 +15,11 @@ mod ReadOn
 mod Printing
 mod Sizing
 mod Imaging
+mod Texts
+mod WholeRules
+mod Merging
+mod Auditing
+mod AuditTold
+mod Compared
+mod Comparing
+mod CompareTold

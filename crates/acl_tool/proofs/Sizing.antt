@@ -46,11 +46,11 @@ use Rattle.acl_tool.proofs.ReadOn.{IsTest, accepted_rules, after_bytes, after_ru
 use Rattle.acl_tool.proofs.Printing.{ReportedBy, asked_of, heard_by, report_status, reported_by, text_same}
 
 -- a status of rules that are too large
-abbrev is_large : Status → Bool
+abbrev pub is_large : Status → Bool
 is_large (TooLarge family words budget) = true
 is_large status = false
 
-large_test : IsTest is_large
+pub large_test : IsTest is_large
 large_test = record { unread = refl; full = refl }
 
 small_report : (fault : Option CaptureFault) → is_large (status_of_fault fault) ≡ false
@@ -155,7 +155,7 @@ large_tables rules capture options status told file lists old new reached named 
     go (Ok ip4) (Err refusal) at_ip4 at_ip6 rest = stopped Ip6 refusal at_ip6 rest
     go (Err refusal) two at_ip4 at_ip6 rest = stopped Ip4 refusal at_ip4 rest
 
-small_rules : (result : Result RuleLists LineFault) (status : Status) →
+pub small_rules : (result : Result RuleLists LineFault) (status : Status) →
     refused_rules RulesRefused result ≡ Err status → is_large status ≡ false
 small_rules (Ok all) status is = absurd (cc)
 small_rules (Err fault) status is = let same : RulesRefused fault ≡ status = cc in rw (← same) refl
@@ -216,22 +216,22 @@ tells_sizes words old new asked by =
     }
 
 -- the parts of a status of rules that are too large
-abbrev family_in : Status → Option Family
+abbrev pub family_in : Status → Option Family
 family_in (TooLarge family words budget) = Some family
 family_in status = None
 
-abbrev words_in : Status → ℕ
+abbrev pub words_in : Status → ℕ
 words_in (TooLarge family words budget) = words
 words_in status = 0
 
-abbrev budget_in : Status → ℕ
+abbrev pub budget_in : Status → ℕ
 budget_in (TooLarge family words budget) = budget
 budget_in status = 0
 
-same_family : (one two : Family) → Some one ≡ Some two → one ≡ two
+pub same_family : (one two : Family) → Some one ≡ Some two → one ≡ two
 same_family one two is = cc
 
-large_status : (family : Family) (size budget : ℕ) (status : Status) →
+pub large_status : (family : Family) (size budget : ℕ) (status : Status) →
     (TooLarge family size budget ≡ status)
     ⊎ ((TooLarge family size budget ≡ WriteFault) ⊎ (TooLarge family size budget ≡ OutOfMemory)) →
     TooLarge family size budget ≡ status

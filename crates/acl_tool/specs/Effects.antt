@@ -20,6 +20,8 @@ use Rattle.acl_tool.specs.Headline.{ClassifyPrints}
 use Rattle.acl_tool.specs.Transitions.{BenchWalks, ClassifyWalks}
 use Rattle.acl_tool.specs.Sizes.{ClassifySizes}
 use Rattle.acl_tool.specs.Images.{BuildMakes, ReplayPrints}
+use Rattle.acl_tool.specs.Audits.{AuditTells}
+use Rattle.acl_tool.specs.Comparisons.{CompareTells}
 use Rattle.command_plan.specs.Effects.{Outside, EndsMaking, EndsAsTold, HasNoFaultMaking, PutsLine}
 use Rattle.command_plan.specs.Effects.{files_of, heard_of, opened_of}
 use Rattle.capture_report.specs.PrintsCapture.{KeepsUp}
@@ -83,6 +85,10 @@ pub record Runs (words : List (List ℕ)) (old new : Outside) (err_old err_new :
   -- the image that is made, and what is printed by an image
   pub builds : BuildMakes words status old new
   pub replays : ReplayPrints words status old new
+  -- which rules are told as live, and at which least keys
+  pub audits : AuditTells words status old new
+  -- whether two lists decide alike
+  pub compares : CompareTells words status old new
   pub answers : Answers (command words) old new status
   -- where the outside has no fault, only memory keeps the command from its outcome
   pub complete : HasNoFaultMaking (makes_of (command words)) old new → (files : List File) →

@@ -3,13 +3,16 @@
 use Rattle.std.specs.Prelude.{ℕ, List, Result, Ok, Err}
 use Rattle.acl_outside.specs.Desk.{File}
 use Rattle.command_words.specs.declared.fault.UsageFault.{UsageFault}
-use Rattle.command_words.specs.Command.{Request, Bench, Build, Classify, Replay, command}
+use Rattle.command_words.specs.Command.{Request, Audit, Bench, Build, Classify, Compare, Replay}
+use Rattle.command_words.specs.Command.{command}
 use Rattle.command_plan.specs.declared.status.Status.TheVariants.{Usage}
 use Rattle.command_plan.specs.Plan.{Outcome, Plan, Stop, found, settled}
 use Rattle.acl_tool.specs.ClassifyPlan.{classify_plan}
 use Rattle.acl_tool.specs.BuildPlan.{build_plan}
 use Rattle.acl_tool.specs.ReplayPlan.{replay_plan}
 use Rattle.acl_tool.specs.BenchPlan.{bench_plan}
+use Rattle.acl_tool.specs.AuditPlan.{audit_plan}
+use Rattle.acl_tool.specs.ComparePlan.{compare_plan}
 
 -- what a command asks for, case by case
 abbrev pub plan_of_request : Request → Plan Outcome
@@ -17,6 +20,8 @@ plan_of_request (Classify rules capture options) = classify_plan rules capture o
 plan_of_request (Build rules image max_words) = build_plan rules image max_words
 plan_of_request (Replay image capture options) = replay_plan image capture options
 plan_of_request (Bench numbers) = bench_plan numbers
+plan_of_request (Audit rules categories max_words) = audit_plan rules categories max_words
+plan_of_request (Compare rules second max_words) = compare_plan rules second max_words
 
 -- words that are no command ask for nothing
 abbrev pub plan_of : Result Request UsageFault → Plan Outcome

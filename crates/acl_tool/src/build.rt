@@ -6,7 +6,7 @@ ghost use Rattle.command_words.specs.Command.{Build};
 ghost use Rattle.command_plan.specs.Effects.{outside};
 ghost use Rattle.acl_tool.specs.Effects.{Answers};
 
-use crate::rule_file::read_rule_file;
+use crate::rule_file::{Listing, read_rule_file};
 use crate::tables::{build_tables, table_of};
 use acl_outside::{Desk, Failed};
 use command_plan::{Status, make_file};
@@ -30,7 +30,7 @@ pub fn build<D: Desk>(
         Answers (Ok (Build rules.now image.now max_words.words))
         (outside (D.view desk.old) out steps) (outside (D.view desk.new) out steps) result }
 {
-    let rules = match read_rule_file(alloc, rules, desk) {
+    let rules = match read_rule_file(alloc, rules, Listing::First, desk) {
         Ok(rules) => rules,
         Err(status) => return status,
     };

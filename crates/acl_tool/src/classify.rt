@@ -6,7 +6,7 @@ ghost use Rattle.command_words.specs.CommandLine.{options_of};
 ghost use Rattle.command_plan.specs.Effects.{outside};
 ghost use Rattle.acl_tool.specs.Effects.{Answers};
 
-use crate::rule_file::read_rule_file;
+use crate::rule_file::{Listing, read_rule_file};
 use crate::tables::{build_tables, table_of};
 use acl_outside::{Desk, Sink};
 use capture_report::{PrintOptions, print_packets};
@@ -30,7 +30,7 @@ pub fn classify<D: Desk, O: Sink, L: Ledger>(
         (outside (D.view desk.old) (O.view out.old) steps.old)
         (outside (D.view desk.new) (O.view out.new) steps.new) result }
 {
-    let rules = match read_rule_file(alloc, rules, desk) {
+    let rules = match read_rule_file(alloc, rules, Listing::First, desk) {
         Ok(rules) => rules,
         Err(status) => return status,
     };

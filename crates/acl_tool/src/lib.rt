@@ -10,18 +10,24 @@
 //! | `build` | the command that saves the tables of a rule file as an image |
 //! | `replay` | the command that prints the report of a capture by the tables of an image |
 //! | `laws` | an image prints what the rules print of which it was made |
+//! | `audit` | the command that tells which rules ever win |
+//! | `compare` | the command that tells whether two rule files decide alike |
 //! | `bench` | the command that compares rules and table over a workload |
 //! | `rule_file` | the rules of a file |
 //! | `tables` | the rules in the contexts of both families, and their tables |
+//! | `text` | a text that is put whole |
 #![tactic(auto)]
 
+mod audit;
 mod bench;
 mod build;
 mod classify;
+mod compare;
 pub mod laws;
 mod replay;
 mod rule_file;
 mod tables;
+mod text;
 mod tool;
 
 pub use capture_report::{PrintOptions, print_packets};

@@ -7,9 +7,11 @@ ghost use Rattle.command_plan.specs.Message.{message};
 ghost use Rattle.acl_tool.specs.Effects.{Answers, Runs};
 ghost use Rattle.command_plan.specs.Effects.{PutsLine, outside};
 
+use crate::audit::audit;
 use crate::bench::bench;
 use crate::build::build;
 use crate::classify::classify;
+use crate::compare::compare;
 use crate::replay::replay;
 use acl_outside::{Desk, Sink, put_all};
 use acl_report::LINE_ROOM;
@@ -35,6 +37,11 @@ use std::sync::ledger::Ledger;
 ///
 /// `bench SEED RULES PACKETS` asks for no file: it draws rules and packets from a seed, classifies
 /// the packets by the plain filter and by a table, and puts four lines of numbers.
+///
+/// `audit RULES` and its options read the rule file, and put for each rule a line for each category
+/// in which it ever wins, with the least key at which it does, or a line that it never wins.
+/// `compare RULES RULES2` and its option read two rule files, and put a line for each family: that
+/// both decide every packet alike, or the least key and category at which they don't.
 pub fn run<D: Desk, O: Sink, E: Sink, L: Ledger>(
     alloc: Global,
     words: &[String],
@@ -100,6 +107,16 @@ fn answer_request<D: Desk, O: Sink, L: Ledger>(
             options,
         } => replay(alloc, image, capture, &options, desk, out, steps),
         Request::Bench(numbers) => bench(alloc, numbers, out, steps),
+        Request::Audit {
+            rules,
+            categories,
+            max_words,
+        } => audit(alloc, rules, categories, max_words, desk, out),
+        Request::Compare {
+            rules,
+            second,
+            max_words,
+        } => compare(alloc, rules, second, max_words, desk, out),
     }
 }
 

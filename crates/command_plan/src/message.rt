@@ -9,7 +9,7 @@ ghost use Rattle.command_plan.specs.Message.{record_of_fault};
 
 use crate::status::Status;
 use acl_report::{LINE_ROOM, append, append_number};
-use classbench_reader::LineKind;
+use classbench_reader::{LineFault, LineKind};
 use command_words::UsageKind;
 use field_defs::Family;
 use pcap_reader::CaptureFault;
@@ -31,14 +31,7 @@ pub fn message_line(status: &Status, into: &mut [u8; LINE_ROOM]) -> usize
             usage_kind(fault.kind),
             into,
         ),
-        Status::RulesRefused(fault) => {
-            numbered_line(
-                b"rules: line ",
-                u64::from(fault.line),
-                line_kind(fault.kind),
-                into,
-            )
-        }
+        Status::RulesRefused(fault) => rules_line(b"rules: line ", *fault, into),
         Status::TooLarge {
             family,
             words,
@@ -59,15 +52,18 @@ pub fn message_line(status: &Status, into: &mut [u8; LINE_ROOM]) -> usize
         Status::WriteFault => append(into, 0, b"aclc: write fault\n"),
         Status::OutOfMemory => append(into, 0, b"aclc: out of memory\n"),
         Status::TooManyTogether => append(into, 0, b"aclc: compare: too many rules\n"),
-        Status::SecondRulesRefused(fault) => {
-            numbered_line(
-                b"second rules: line ",
-                u64::from(fault.line),
-                line_kind(fault.kind),
-                into,
-            )
-        }
+        Status::SecondRulesRefused(fault) => rules_line(b"second rules: line ", *fault, into),
     }
+}
+
+/// A line that names a line of a rule file and what is wrong there.
+fn rules_line(subject: &[u8], fault: LineFault, into: &mut [u8; LINE_ROOM]) -> usize
+    requires { length subject.now ≤ 40 }
+    ensures within { result ≤ LINE_ROOM }
+    ensures line { take result into.new
+        ≡ numbered subject.now fault.line (line_text fault.kind) }
+{
+    numbered_line(subject, u64::from(fault.line), line_kind(fault.kind), into)
 }
 
 /// A line that names a number and what is wrong there.

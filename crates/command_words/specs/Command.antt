@@ -9,17 +9,20 @@ use Rattle.command_words.specs.declared.fault.UsageKind.TheVariants.{MissingComm
 use Rattle.command_words.specs.declared.fault.UsageKind.TheVariants.{MissingName}
 use Rattle.command_words.specs.BenchWords.{BenchNumbers, numbers_of}
 use Rattle.command_words.specs.Options.{Options, Given, none_given, settled_options, with_option}
-use Rattle.command_words.specs.Options.{for_classify, for_build, for_replay}
+use Rattle.command_words.specs.Options.{for_audit, for_build, for_classify, for_compare}
+use Rattle.command_words.specs.Options.{for_replay}
 use Rattle.command_words.specs.declared.allowed.Allowed.{Allowed}
 
 -- a command: `classify` has the names of a rule file and of a capture, `build` those of a rule file
--- and of the image that it makes, `replay` those of an image and of a capture, and `bench` has
--- numbers
+-- and of the image that it makes, `replay` those of an image and of a capture, `bench` has numbers,
+-- `audit` has the name of a rule file, and `compare` those of two
 pub data Request : Type 0 where
   Classify : (rules : List ℕ) → (capture : List ℕ) → (options : Options) → Request
   Build : (rules : List ℕ) → (image : List ℕ) → (max_words : ℕ) → Request
   Replay : (image : List ℕ) → (capture : List ℕ) → (options : Options) → Request
   Bench : (numbers : BenchNumbers) → Request
+  Audit : (rules : List ℕ) → (categories : ℕ) → (max_words : ℕ) → Request
+  Compare : (rules : List ℕ) → (second : List ℕ) → (max_words : ℕ) → Request
 
 -- the name of the capture that a command prints a report of, if it prints one
 abbrev pub capture_name : Request → Option (List ℕ)
@@ -27,6 +30,8 @@ capture_name (Classify rules capture options) = Some capture
 capture_name (Build rules image max_words) = None
 capture_name (Replay image capture options) = Some capture
 capture_name (Bench numbers) = None
+capture_name (Audit rules categories max_words) = None
+capture_name (Compare rules second max_words) = None
 
 -- the name of the file that a command makes, if it makes one
 abbrev pub made_name : Request → Option (List ℕ)
@@ -69,6 +74,21 @@ named_of allowed (first ∷ []) = Err (fault_at 3 MissingName)
 named_of allowed (first ∷ second ∷ words) =
     named_with first second (options_from allowed 4 none_given words)
 
+-- the name of a file, and the options after it
+pub record Single : Type 0 where
+  pub name : List ℕ
+  pub options : Options
+
+-- a name with options
+abbrev pub single_with : List ℕ → Result Options UsageFault → Result Single UsageFault
+single_with name (Ok options) = Ok (record { name = name; options = options })
+single_with name (Err fault) = Err fault
+
+-- the words after a command of one file: its name, and then options, of which it allows these
+abbrev pub single_of : Allowed → List (List ℕ) → Result Single UsageFault
+single_of allowed [] = Err (fault_at 2 MissingName)
+single_of allowed (name ∷ words) = single_with name (options_from allowed 3 none_given words)
+
 -- what `classify` asks for
 abbrev pub classify_by : Named → Request
 classify_by named = Classify named.first named.second named.options
@@ -80,6 +100,14 @@ build_by named = Build named.first named.second named.options.max_words
 -- what `replay` asks for
 abbrev pub replay_by : Named → Request
 replay_by named = Replay named.first named.second named.options
+
+-- what `audit` asks for
+abbrev pub audit_by : Single → Request
+audit_by single = Audit single.name single.options.categories single.options.max_words
+
+-- what `compare` asks for
+abbrev pub compare_by : Named → Request
+compare_by named = Compare named.first named.second named.options.max_words
 
 -- what is asked for by what was read of the words after a command
 abbrev pub asked_by : {A : Type 0} → (A → Request) → Result A UsageFault → Result Request UsageFault
@@ -94,4 +122,6 @@ command (verb ∷ words) =
     else if bytes_eq verb (codes "build") then asked_by build_by (named_of for_build words)
     else if bytes_eq verb (codes "replay") then asked_by replay_by (named_of for_replay words)
     else if bytes_eq verb (codes "bench") then asked_by Bench (numbers_of words)
+    else if bytes_eq verb (codes "audit") then asked_by audit_by (single_of for_audit words)
+    else if bytes_eq verb (codes "compare") then asked_by compare_by (named_of for_compare words)
     else Err (fault_at 1 UnknownCommand)

@@ -8,7 +8,8 @@ use Rattle.command_words.specs.Options.{Options, none_given, settled_options, nu
 use Rattle.lane_walk.specs.declared.walk.Walk.TheVariants.{Scalar, Lanes}
 use Rattle.command_words.specs.Options.{walk_in, with_option}
 use Rattle.command_words.specs.Options.{for_build}
-use Rattle.command_words.specs.Command.{Build, Classify, Replay, command, fault_at, options_from}
+use Rattle.command_words.specs.Command.{Audit, Build, Classify, Replay, command, fault_at}
+use Rattle.command_words.specs.Command.{Compare, options_from}
 
 -- `classify r c` with these words after it
 abbrev classify_with : List (List ℕ) → List (List ℕ)
@@ -134,6 +135,21 @@ the_others : map (with_option for_build none_given)
     ≡ Err UnknownOption ∷ Err UnknownOption ∷ Err UnknownOption ∷ Err UnknownOption
     ∷ Err UnknownOption ∷ []
 the_others = refl
+
+-- the options of `audit` begin at word 3
+an_audit : map command ((codes "audit" ∷ []) ∷ (codes "audit" ∷ codes "r" ∷ [])
+    ∷ (codes "audit" ∷ codes "r" ∷ codes "max-words=27" ∷ codes "categories=4" ∷ [])
+    ∷ (codes "audit" ∷ codes "r" ∷ codes "stats=on" ∷ []) ∷ [])
+    ≡ Err (fault_at 2 MissingName) ∷ Ok (Audit (codes "r") 1 2097152)
+    ∷ Ok (Audit (codes "r") 4 27) ∷ Err (fault_at 3 UnknownOption) ∷ []
+an_audit = refl
+
+a_comparison : map command ((codes "compare" ∷ codes "r" ∷ [])
+    ∷ (codes "compare" ∷ codes "r" ∷ codes "r" ∷ codes "max-words=16" ∷ [])
+    ∷ (codes "compare" ∷ codes "r" ∷ codes "s" ∷ codes "categories=4" ∷ []) ∷ [])
+    ≡ Err (fault_at 3 MissingName) ∷ Ok (Compare (codes "r") (codes "r") 16)
+    ∷ Err (fault_at 4 UnknownOption) ∷ []
+a_comparison = refl
 
 a_budget : command (replay_with (codes "max-words=15" ∷ [])) ≡ Err (fault_at 4 UnknownOption)
 a_budget = refl

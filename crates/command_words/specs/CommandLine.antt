@@ -9,8 +9,10 @@ use Rattle.command_words.specs.declared.bench_numbers.BenchNumbers as numbers
 use Rattle.command_words.specs.declared.budget.Budget.{Budget}
 use Rattle.command_words.specs.Options.{Options, Given}
 use Rattle.command_words.specs.BenchWords.{BenchNumbers}
+use Rattle.command_words.specs.declared.command_line.OneName.{OneName}
 use Rattle.command_words.specs.declared.command_line.TwoNames.{TwoNames}
-use Rattle.command_words.specs.Command.{Request, Bench, Build, Classify, Named, Replay}
+use Rattle.command_words.specs.Command.{Request, Audit, Bench, Build, Classify, Named, Replay}
+use Rattle.command_words.specs.Command.{Compare, Single}
 
 -- the options of a command
 abbrev pub options_of : chosen.Options → Options
@@ -34,6 +36,9 @@ request_of (variants.Build rules image max_words) = Build rules.now image.now ma
 request_of (variants.Replay image capture options) =
     Replay image.now capture.now (options_of options)
 request_of (variants.Bench numbers) = Bench (numbers_in numbers)
+request_of (variants.Audit rules categories max_words) =
+    Audit rules.now categories.count max_words.words
+request_of (variants.Compare rules second max_words) = Compare rules.now second.now max_words.words
 
 -- the names of two files, and the options after them
 abbrev pub named_in : TwoNames → Named
@@ -42,6 +47,10 @@ named_in names = record {
   second = names.second.now;
   options = options_of names.options;
 }
+
+-- the name of a file, and the options after it
+abbrev pub single_in : OneName → Single
+single_in one = record { name = one.name.now; options = options_of one.options }
 
 -- the number of categories, if it was given
 abbrev pub count_of : Option Categories → Option ℕ

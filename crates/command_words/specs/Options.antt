@@ -142,6 +142,15 @@ abbrev pub for_build : Allowed
 for_build =
     record { categories = false; walk = false; max_words = true; stats = false; marks = false }
 
+-- the options of `audit`
+abbrev pub for_audit : Allowed
+for_audit =
+    record { categories = true; walk = false; max_words = true; stats = false; marks = false }
+
+-- the option of `compare`, which is that of `build`
+abbrev pub for_compare : Allowed
+for_compare = for_build
+
 -- the options of `replay`, whose tables are made already
 abbrev pub for_replay : Allowed
 for_replay =

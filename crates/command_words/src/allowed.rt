@@ -1,7 +1,8 @@
 //! Which options a command allows.
 
 ghost use Rattle.std.specs.Prelude.{◌≡◌};
-ghost use Rattle.command_words.specs.Options.{for_build, for_classify, for_replay};
+ghost use Rattle.command_words.specs.Options.{for_audit, for_build, for_classify, for_compare};
+ghost use Rattle.command_words.specs.Options.{for_replay};
 
 /// The options that a command allows. Any other is unknown to it.
 #[derive(Clone, Copy, Debug)]
@@ -38,6 +39,27 @@ impl Allowed {
             stats: false,
             marks: false,
         }
+    }
+
+    /// The options of `audit`: how many categories are looked at, and how many words the merged
+    /// states of a family may need.
+    pub fn for_audit() -> Allowed
+        ensures { result ≡ for_audit }
+    {
+        Allowed {
+            categories: true,
+            walk: false,
+            max_words: true,
+            stats: false,
+            marks: false,
+        }
+    }
+
+    /// The option of `compare`: how many words the merged states of both lists may need.
+    pub fn for_compare() -> Allowed
+        ensures { result ≡ for_compare }
+    {
+        Allowed::for_build()
     }
 
     /// The options of `replay`: what is printed, of tables that are made already.

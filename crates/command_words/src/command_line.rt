@@ -1,10 +1,12 @@
 //! The words of a command line: a command, the names of its files, and its options.
 
-ghost use Rattle.std.specs.Prelude.{◌≡◌, Ok, Err, IfOk, IfErr, map, string_bytes};
-ghost use Rattle.command_words.specs.Options.{for_build, for_classify, for_replay, none_given};
+ghost use Rattle.std.specs.Prelude.{◌≡◌, ◌≤◌, Ok, Err, IfOk, IfErr, map, string_bytes};
+ghost use Rattle.command_words.specs.Options.{for_audit, for_build, for_classify, for_replay};
+ghost use Rattle.command_words.specs.Options.{for_compare, none_given};
 ghost use Rattle.command_words.specs.Command.{asked_by, build_by, classify_by, command, named_of};
-ghost use Rattle.command_words.specs.Command.{options_from, replay_by};
-ghost use Rattle.command_words.specs.CommandLine.{named_in, options_of, request_of};
+ghost use Rattle.command_words.specs.Command.{audit_by, compare_by, options_from, replay_by};
+ghost use Rattle.command_words.specs.Command.{single_of};
+ghost use Rattle.command_words.specs.CommandLine.{named_in, options_of, request_of, single_in};
 
 use crate::allowed::Allowed;
 use crate::bench_numbers::BenchNumbers;
@@ -12,6 +14,7 @@ use crate::bench_words::read_numbers;
 use crate::budget::Budget;
 use crate::fault::{UsageFault, UsageKind};
 use crate::options::{Given, Options};
+use rule_set::Categories;
 
 /// A command, with the names of its files and its options.
 #[derive(Clone, Copy, Debug)]
@@ -36,10 +39,31 @@ pub enum Request<'a> {
     },
     /// Classifies the packets of a seed by the plain filter and by a table.
     Bench(BenchNumbers),
+    /// Reads a rule file, and tells which of its rules ever win.
+    Audit {
+        rules: &'a str,
+        categories: Categories,
+        max_words: Budget,
+    },
+    /// Reads two rule files, and tells whether they decide alike.
+    Compare {
+        rules: &'a str,
+        second: &'a str,
+        max_words: Budget,
+    },
 }
 
-/// The number of the first word that is an option.
-const FIRST_OPTION: u32 = 4;
+/// The number of the first word that is an option, after one name and after two.
+const AFTER_ONE_NAME: u32 = 3;
+
+const AFTER_TWO_NAMES: u32 = 4;
+
+/// The name of a file, and the options after it.
+#[derive(Clone, Copy, Debug)]
+pub struct OneName<'a> {
+    name: &'a str,
+    options: Options,
+}
 
 /// The names of two files, and the options after them.
 #[derive(Clone, Copy, Debug)]
@@ -64,6 +88,8 @@ pub fn read_words(words: &[String]) -> Result<Request<'_>, UsageFault>
             Ok(numbers) => Ok(Request::Bench(numbers)),
             Err(fault) => Err(fault),
         },
+        [verb, words @ ..] if verb.as_str() == "audit" => read_audit(words),
+        [verb, words @ ..] if verb.as_str() == "compare" => read_compare(words),
         _ => Err(fault_at(1, UsageKind::UnknownCommand)),
     }
 }
@@ -122,6 +148,61 @@ fn read_replay(words: &[String]) -> Result<Request<'_>, UsageFault>
     }
 }
 
+/// The words after `audit`.
+fn read_audit(words: &[String]) -> Result<Request<'_>, UsageFault>
+    ensures request { IfOk result (λ request.
+        asked_by audit_by (single_of for_audit (map string_bytes words.now))
+        ≡ Ok (request_of request)) }
+    ensures fault { IfErr result (λ fault.
+        asked_by audit_by (single_of for_audit (map string_bytes words.now)) ≡ Err fault) }
+{
+    match read_name(words, Allowed::for_audit()) {
+        Ok(one) => Ok(Request::Audit {
+            rules: one.name,
+            categories: one.options.categories,
+            max_words: one.options.max_words,
+        }),
+        Err(fault) => Err(fault),
+    }
+}
+
+/// The words after `compare`.
+fn read_compare(words: &[String]) -> Result<Request<'_>, UsageFault>
+    ensures request { IfOk result (λ request.
+        asked_by compare_by (named_of for_compare (map string_bytes words.now))
+        ≡ Ok (request_of request)) }
+    ensures fault { IfErr result (λ fault.
+        asked_by compare_by (named_of for_compare (map string_bytes words.now)) ≡ Err fault) }
+{
+    match read_names(words, Allowed::for_compare()) {
+        Ok(names) => Ok(Request::Compare {
+            rules: names.first,
+            second: names.second,
+            max_words: names.options.max_words,
+        }),
+        Err(fault) => Err(fault),
+    }
+}
+
+/// The name of a file, and the options after it, of which the command allows these.
+fn read_name(words: &[String], allowed: Allowed) -> Result<OneName<'_>, UsageFault>
+    ensures name { IfOk result
+        (λ one. single_of allowed (map string_bytes words.now) ≡ Ok (single_in one)) }
+    ensures fault { IfErr result
+        (λ fault. single_of allowed (map string_bytes words.now) ≡ Err fault) }
+{
+    match words {
+        [] => Err(fault_at(2, UsageKind::MissingName)),
+        [name, words @ ..] => match read_options(words, allowed, AFTER_ONE_NAME) {
+            Ok(options) => Ok(OneName {
+                name: name.as_str(),
+                options,
+            }),
+            Err(fault) => Err(fault),
+        },
+    }
+}
+
 /// The names of two files, and the options after them, of which the command allows these.
 fn read_names(words: &[String], allowed: Allowed) -> Result<TwoNames<'_>, UsageFault>
     ensures names { IfOk result
@@ -132,7 +213,7 @@ fn read_names(words: &[String], allowed: Allowed) -> Result<TwoNames<'_>, UsageF
     match words {
         [] => Err(fault_at(2, UsageKind::MissingName)),
         [_] => Err(fault_at(3, UsageKind::MissingName)),
-        [first, second, words @ ..] => match read_options(words, allowed) {
+        [first, second, words @ ..] => match read_options(words, allowed, AFTER_TWO_NAMES) {
             Ok(options) => Ok(TwoNames {
                 first: first.as_str(),
                 second: second.as_str(),
@@ -143,17 +224,19 @@ fn read_names(words: &[String], allowed: Allowed) -> Result<TwoNames<'_>, UsageF
     }
 }
 
-/// The options of the words after the names of two files, of which the command allows these.
-fn read_options(words: &[String], allowed: Allowed) -> Result<Options, UsageFault>
+/// The options of the words after the names of files, of which the first has the number. The
+/// command allows these.
+fn read_options(words: &[String], allowed: Allowed, first: u32) -> Result<Options, UsageFault>
+    requires { first ≤ 4 }
     ensures options { IfOk result
-        (λ options. options_from allowed FIRST_OPTION none_given (map string_bytes words.now)
+        (λ options. options_from allowed first none_given (map string_bytes words.now)
         ≡ Ok (options_of options)) }
     ensures fault { IfErr result
-        (λ fault. options_from allowed FIRST_OPTION none_given (map string_bytes words.now)
+        (λ fault. options_from allowed first none_given (map string_bytes words.now)
         ≡ Err fault) }
 {
     let mut given = Given::new();
-    let mut number = FIRST_OPTION;
+    let mut number = first;
     for word in words {
         match given.add(allowed, word.as_bytes()) {
             Ok(()) => number += 1,

@@ -5,6 +5,8 @@ use Rattle.acl_tool.proofs.Benching.{bench_walks}
 use Rattle.acl_tool.proofs.Printing.{classify_prints, classify_walks}
 use Rattle.acl_tool.proofs.Sizing.{classify_sizes}
 use Rattle.acl_tool.proofs.Imaging.{build_makes, replay_prints}
+use Rattle.acl_tool.proofs.AuditTold.{audit_tells}
+use Rattle.acl_tool.proofs.CompareTold.{compare_tells}
 use Rattle.acl_tool.proofs.tool.run.Goals as goal
 
 pub returns : goal.returns
@@ -18,6 +20,8 @@ returns g c =
       sizes = classify_sizes words _ _ c.answer-status.result answers;
       builds = build_makes words _ _ c.answer-status.result answers;
       replays = replay_prints words _ _ c.answer-status.result answers;
+      audits = audit_tells words _ _ c.answer-status.result answers;
+      compares = compare_tells words _ _ c.answer-status.result answers;
       answers = answers;
       complete = Ends-complete _ _ _ c.answer-status.result answers.ends;
       message = c.put_message.ensures;

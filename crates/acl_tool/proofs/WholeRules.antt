@@ -1,0 +1,40 @@
+-- An accepted rule file was read to its end, whatever comes after it.
+use Rattle.std.proofs.Common.{◌≡◌, ◌<◌, List, ℕ, ◌++◌, Bool, true, false, Result, Ok, Err, inl, inr, sym, ap, ◌∙◌, arith}
+use Rattle.std.proofs.Common.{length, length-append}
+use Rattle.std.proofs.lemmas.Bool.{false≢true}
+use Rattle.acl_outside.specs.Heard.{Heard, Ended}
+use Rattle.classbench_reader.specs.declared.fault.LineFault.{LineFault}
+use Rattle.classbench_reader.specs.Limits.{max_rule_file}
+use Rattle.classbench_reader.specs.RuleFile.{RuleLists}
+use Rattle.command_plan.specs.declared.status.Status.{Status}
+use Rattle.command_plan.specs.Plan.{Outcome, Plan, ◌>>=◌, Give, Stop, Read, unless_refused}
+use Rattle.command_plan.specs.Follow.{IsEnough}
+use Rattle.acl_tool.specs.RuleTables.{refused_rules, rules_of_bytes}
+use Rattle.acl_tool.proofs.ReadOn.{longer}
+use Rattle.acl_tool.proofs.RuleFiles.{rule_file_of-long}
+
+-- a plan stops
+abbrev pub stops : Plan Outcome → Bool
+stops (Give value) = false
+stops (Stop status) = true
+stops (Read name shown next) = false
+
+-- with enough bytes more the file would be too long, and the command would stop
+pub whole_file : (refused : LineFault → Status) (f : RuleLists → Plan Outcome) (file : Heard) (lists : RuleLists) →
+    rules_of_bytes refused file.bytes ≡ Ok lists → stops (f lists) ≡ false →
+    IsEnough (λ bytes. unless_refused (rules_of_bytes refused bytes) >>= f) file → file.ending ≡ Ended
+whole_file refused f file lists accepted goes_on (inl ended) = ended
+whole_file refused f file lists accepted goes_on (inr on) =
+    let (long, is_long) = longer max_rule_file in
+    let too_long = rule_file_of-long (file.bytes ++ long) (omega (arith, length-append file.bytes long, is_long)) in
+    let stopped : stops (unless_refused (rules_of_bytes refused (file.bytes ++ long)) >>= f) ≡ true =
+    ap (λ (r : Result RuleLists LineFault). stops (unless_refused (refused_rules refused r) >>= f)) too_long in
+    let going : stops (unless_refused (rules_of_bytes refused file.bytes) >>= f) ≡ false =
+    ap (λ (r : Result RuleLists Status). stops (unless_refused r >>= f)) accepted ∙ goes_on in
+    absurd (false≢true (sym going ∙ ap stops (sym ((on.1) long)) ∙ stopped))
+
+-- a rule file that is accepted has these rules, whatever a refused one is called
+pub accepted_by : (refused : LineFault → Status) (result : Result RuleLists LineFault) (lists : RuleLists) →
+    refused_rules refused result ≡ Ok lists → result ≡ Ok lists
+accepted_by refused (Ok all) lists is = let same : all ≡ lists = cc in ap Ok same
+accepted_by refused (Err fault) lists is = absurd (cc)

@@ -1,0 +1,16 @@
+//! A text that is whole in memory before its first byte is put.
+
+ghost use Rattle.command_plan.specs.Effects.{PutsLast};
+
+use acl_outside::{Failed, Sink, put_all};
+use command_plan::Status;
+
+/// Puts the whole text. It takes no memory. `WriteFault`: a first part of it was put.
+pub fn put_text<O: Sink>(text: &[u8], out: &mut O) -> Status
+    ensures { PutsLast text.now (O.view out.old) (O.view out.new) result }
+{
+    match put_all(out, text) {
+        Ok(()) => Status::Done,
+        Err(Failed) => Status::WriteFault,
+    }
+}
