@@ -2,6 +2,8 @@
 
 ghost use Rattle.std.specs.Prelude.{◌≡◌, ◌<◌};
 
+mod audits;
+mod comparisons;
 mod images;
 mod tables;
 
