@@ -155,6 +155,18 @@ fn flown<const W: usize, L: Ledger>(
     Some((flown, out))
 }
 
+/// The same, with a counter that nobody sees.
+fn flown_by<const W: usize>(
+    table: &Table,
+    keys: &[u8],
+    scratch: &mut Scratch,
+) -> Option<(Flown, [u32; 4])>
+    requires { IsLanes W }
+{
+    let blank = Blank::new(1);
+    flown::<W, Brand>(blank, table, keys, scratch)
+}
+
 /// The walks of four keys take so many words, and so many turns by 4, 8 and 16 lanes. The first key
 /// is that of 10.0.0.1, the second that of 11.0.0.1, and so on by turns.
 fn expect(
@@ -172,11 +184,11 @@ fn expect(
     let mut scratch = Scratch::new(alloc, 4)?;
     let [four, eight, sixteen] = turns;
     assert_eq!(rt;
-        flown::<4, Brand>(Blank::new(1), table, &keys, &mut scratch),
+        flown_by::<4>(table, &keys, &mut scratch),
         Some((Flown { taken, turns: four }, won))
     );
     assert_eq!(rt;
-        flown::<8, Brand>(Blank::new(1), table, &keys, &mut scratch),
+        flown_by::<8>(table, &keys, &mut scratch),
         Some((
             Flown {
                 taken,
@@ -186,7 +198,7 @@ fn expect(
         ))
     );
     assert_eq!(rt;
-        flown::<16, Brand>(Blank::new(1), table, &keys, &mut scratch),
+        flown_by::<16>(table, &keys, &mut scratch),
         Some((
             Flown {
                 taken,
