@@ -3,8 +3,8 @@ use Rattle.std.specs.List.{range_with_len}
 use Rattle.std.proofs.lemmas.List.Elements.{All-from_recursion}
 use Rattle.rule_set.specs.Groups.{IsPartition}
 use Rattle.trie_merge.specs.Levels.{LevelsView, levels_of, IsGroup}
-use Rattle.context_cases.proofs.Partitions.{group_of_range, two_groups, own_group}
-use Rattle.context_cases.proofs.filled.fill_two.Goals as goal
+use Rattle.table_cases.proofs.Partitions.{group_of_range, two_groups, own_group}
+use Rattle.table_cases.proofs.filled.fill_two.Goals as goal
 
 pub build-requires-clause-group : goal.build-requires-clause-group
 build-requires-clause-group g c =

@@ -2,7 +2,7 @@
 use Rattle.std.proofs.Common.{List, ℕ, ◌+◌, ◌++◌, ◌∷◌, [], sym, ◌∙◌, ap, arith}
 use Rattle.std.specs.List.{range_with_len}
 use Rattle.list_lemmas.proofs.Positions.{range-push}
-use Rattle.context_cases.proofs.numbers.numbers.Goals as goal
+use Rattle.table_cases.proofs.numbers.numbers.Goals as goal
 
 pub loop-place-preserved : goal.loop-place-preserved
 loop-place-preserved c =

@@ -1,7 +1,7 @@
 -- the numbers of all rules are a group
 use Rattle.std.proofs.Common.{◌∙◌, arith}
-use Rattle.context_cases.proofs.Partitions.{group_of_range}
-use Rattle.context_cases.proofs.groups.of_all.Goals as goal
+use Rattle.table_cases.proofs.Partitions.{group_of_range}
+use Rattle.table_cases.proofs.groups.of_all.Goals as goal
 
 pub build-levels-requires-clause-group : goal.build-levels-requires-clause-group
 build-levels-requires-clause-group g c =

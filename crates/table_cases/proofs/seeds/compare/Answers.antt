@@ -1,7 +1,7 @@
 -- numbers of rules, one after the other, are a group
 use Rattle.std.proofs.Common.{◌∙◌, arith}
-use Rattle.context_cases.proofs.Partitions.{group_of_range}
-use Rattle.context_cases.proofs.seeds.compare.Goals as goal
+use Rattle.table_cases.proofs.Partitions.{group_of_range}
+use Rattle.table_cases.proofs.seeds.compare.Goals as goal
 
 pub build-requires-clause-group : goal.build-requires-clause-group
 build-requires-clause-group g c =
