@@ -9,7 +9,6 @@
 //! | `adding` | rules that are added to a context in two calls |
 //! | `asking` | a context's answers to a batch, for the tests of contexts |
 //! | `contexts` | contexts from their first rule to their reset |
-//! | `lanes` | walks by lanes, turn by turn and to their end |
 //! | `layouts` | contexts whose layouts have two and nine fields, and keys of 5 and 25 bytes |
 //! | `messages` | what each fault says |
 //! | `sizes` | a context of 1,024 rules, split into eight tries, in 1 to 16 categories |
@@ -23,8 +22,6 @@ mod adding;
 mod asking;
 #[cfg(test)]
 mod contexts;
-#[cfg(test)]
-mod lanes;
 #[cfg(test)]
 mod layouts;
 #[cfg(test)]
