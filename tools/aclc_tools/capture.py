@@ -1,19 +1,10 @@
-"""Captures: their records, or the fault that ends them, and what to do about it."""
+"""Captures of either format: their records, or the fault that ends them, and what to do about it."""
 import struct
 
+from . import blocks
+from .refusal import LINKS, MOST_CAPTURED, Fault, link_sentence
+
 MAGICS = (0xA1B2C3D4, 0xA1B23C4D)
-LINKS = (1, 101, 113, 228, 229, 276)
-MOST_CAPTURED = 262144
-OTHER_LINKS = {0: "BSD loopback", 9: "PPP", 12: "raw IP of some systems", 105: "802.11", 108: "OpenBSD loopback", 127: "802.11 radiotap",
-               147: "a private link type", 189: "USB", 195: "802.15.4", 239: "netfilter log", 280: "VPP", 253: "netlink"}
-
-
-class Fault(Exception):
-    """Why a capture isn't read: the number of the record, 0 for the header, a kind of the program, and a sentence."""
-
-    def __init__(self, record, kind, sentence):
-        super().__init__(kind)
-        self.record, self.kind, self.sentence = record, kind, sentence
 
 
 def foreign(content):
@@ -22,8 +13,6 @@ def foreign(content):
         return "It is compressed by gzip: gunzip it first, or give <(zcat FILE) as the capture."
     if content[:4] == b"\x28\xb5\x2f\xfd" or content[:3] == b"BZh" or content[:6] == b"\xfd7zXZ\0":
         return "It is compressed: unpack it first."
-    if content[:4] == b"\n\r\r\n":
-        return "It is a pcapng file: editcap -F pcap FILE NEW makes a capture of it."
     if content[:4] in (b"\x34\xcd\xb2\xa1", b"\xa1\xb2\xcd\x34"):
         return "It is a capture in the modified form of 1999: editcap -F pcap FILE NEW makes a capture of it."
     if content[:8] == b"snoop\0\0\0":
@@ -34,7 +23,7 @@ def foreign(content):
 
 
 def begin(content):
-    """The byte order, the link type and the snap length."""
+    """The byte order, the link type and the snap length of a savefile."""
     if len(content) < 24:
         sentence = "The file is empty: tcpdump writes what it holds back when it ends." if not content else foreign(content)
         raise Fault(0, "header cut", sentence)
@@ -46,13 +35,15 @@ def begin(content):
         raise Fault(0, "version", f"Its version is {major}.{minor}, and only 2.4 is read.")
     link = network & 0xFFFF
     if link not in LINKS:
-        name = f" ({OTHER_LINKS[link]})" if link in OTHER_LINKS else ""
-        raise Fault(0, "link type", f"Its link type is {link}{name}; read are Ethernet, raw IP, IPv4, IPv6 and Linux cooked captures.")
+        raise Fault(0, "link type", link_sentence("Its", link))
     return orders[0], link, snap
 
 
 def records(content):
     """Each record's captured bytes and its length on the wire; a Fault at the first one that isn't whole."""
+    if content[:4] == blocks.SECTION:
+        yield from blocks.records(content)
+        return
     order, _, _ = begin(content)
     at, count = 24, 0
     while at < len(content):

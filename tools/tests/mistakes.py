@@ -3,7 +3,7 @@
 The first text of a row stands in docs/MISTAKES.md under the message. RULES are lines of a rule file after a lawful one,
 CAPTURES the bytes of a capture, WORDS the words of a command.
 """
-from aclc_tools import capture
+from aclc_tools import blocks, capture
 
 GUIDE = b"@192.168.1.0/24 192.168.2.31/32 0:65535 1234:1234 0x11/0xFF\n"
 NETWORKS = b"@10.0.0.0/8 0.0.0.0/0 "
@@ -59,14 +59,21 @@ RULES = [
 ]
 
 FRAME = capture.write([bytes(60)])
+BLOCKS = blocks.write([bytes(60)])
 CAPTURES = [
     ("record 0: header cut", "nothing was captured yet", b"", "is empty"),
     ("record 0: magic", "the capture is compressed", b"\x1f\x8b\x08\x08" + bytes(40), "gunzip"),
-    ("record 0: magic", "it is a pcapng file", b"\n\r\r\n" + bytes(40), "editcap"),
     ("record 0: magic", "a rule file in place of the capture", GUIDE, "rule file"),
     ("record 0: version", "another version", FRAME[:6] + b"\5" + FRAME[7:], "only 2.4"),
     ("record 0: link type", "wireless frames, or a loopback of BSD", FRAME[:20] + b"\x69" + FRAME[21:], "802.11"),
     ("record 1: cut", "the capture is still being written", FRAME[:-1], "still being written"),
+    ("record 1: block cut", "the capture is still being written", BLOCKS[:-1], "still being written"),
+    ("record 1: block length", "the file is damaged", BLOCKS[:-4] + bytes(4), "damaged"),
+    ("record 1: byte order", "the file is damaged", BLOCKS[:8] + bytes(4) + BLOCKS[12:], "damaged"),
+    ("record 1: section version", "another version", BLOCKS[:12] + b"\2" + BLOCKS[13:], "only 1"),
+    ("record 1: no interface", "packets before their interface", BLOCKS[:28] + BLOCKS[48:], "interface 0"),
+    ("record 1: interface link type", "wireless frames, or a loopback of BSD", blocks.write([bytes(60)], 105), "802.11"),
+    ("record 1: too many interfaces", "more than 1,024 interfaces in a section", BLOCKS[:28] + BLOCKS[28:48] * 1025, "1024"),
     ("record 1: too long", "the file is damaged", FRAME[:32] + b"\xff\xff\xff\xff" + FRAME[36:], "damaged"),
 ]
 

@@ -62,6 +62,11 @@ class Check(unittest.TestCase):
             self.assertTrue(list(capture.records(packets.read_bytes())))
             self.program_says("", 0, "classify", rules, packets)
 
+    def test_both_formats_have_the_same_records(self):
+        savefile, blocks = EXAMPLES / "mixed.pcap", EXAMPLES / "mixed.pcapng"
+        self.assertEqual(list(capture.records(blocks.read_bytes())), list(capture.records(savefile.read_bytes())))
+        self.program_says("", 0, "classify", EXAMPLES / "mixed.rules", blocks)
+
     def test_mistakes_in_rules(self):
         for kind, title, lines, advised in mistakes.RULES:
             with self.subTest(title=title):

@@ -31,6 +31,7 @@ class Hits(unittest.TestCase):
         told = json.loads(hits("--json", *names)[1])
         rows = list(csv.DictReader(hits("--csv", *names)[1].splitlines()))
         self.assertEqual([rule["hits"] for rule in told["rules"]], [1, 1, 1, 1, 1, 1])
+        self.assertEqual(told, json.loads(hits("--json", names[0], EXAMPLES / "mixed.pcapng")[1]))
         self.assertEqual([int(row["hits"]) for row in rows], [1, 1, 1, 1, 1, 1, told["unmatched"]])
         self.assertEqual([row["line"] for row in rows], ["2", "3", "4", "5", "7", "8", ""])
 

@@ -25,7 +25,7 @@ use Rattle.command_plan.specs.Follow.{Reached, Given, Follows, IsEnough, outcome
 use Rattle.command_plan.specs.Endings.{is_usage}
 use Rattle.command_plan.specs.Effects.{EndsMaking, Makes, Outside, files_of, heard_of}
 use Rattle.pcap_reader.specs.declared.fault.CaptureFault.{CaptureFault}
-use Rattle.pcap_reader.specs.Capture.{capture_of, whole_records}
+use Rattle.pcapng_reader.specs.Capture.{capture_of, whole_records}
 use Rattle.capture_report.specs.Classifier.{ByTables, Tables}
 use Rattle.capture_report.specs.ReportForm.{ReportForm}
 use Rattle.capture_report.specs.CaptureOutcome.{lines_so_far, report, text_of_records}

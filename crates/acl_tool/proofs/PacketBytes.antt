@@ -1,6 +1,6 @@
 -- The packets of a capture of bytes are of bytes, and as long as their classes say.
 use Rattle.std.proofs.Common.{◌≡◌, ℕ, zero, suc, ◌+◌, ◌*◌, ◌==◌, ◌<◌, ◌≤◌, ◌||◌, List, [], ◌∷◌, ◌++◌, length, take}
-use Rattle.std.proofs.Common.{drop, map, Bool, true, false, Option, Some, None, Result, Ok, Err, All, refl, sym, ap, ◌∙◌}
+use Rattle.std.proofs.Common.{drop, map, Bool, true, false, Some, None, Result, Ok, Err, All, refl, sym, ap}
 use Rattle.std.proofs.Common.{arith, length-append, subst}
 use Rattle.std.specs.Prelude.{⊤, nat_le, nat_lt, slice_index, if◌then◌else◌}
 use Rattle.std.specs.List.{AllByRecursion}
@@ -11,14 +11,21 @@ use Rattle.byte_numbers.specs.Number.{number_at}
 use Rattle.pcap_reader.specs.declared.fault.CaptureFault.{CaptureFault}
 use Rattle.pcap_reader.specs.declared.link.Link.{Link}
 use Rattle.pcap_reader.specs.declared.link.Link.TheVariants as links
-use Rattle.pcap_reader.specs.declared.start.Start.{Start}
 use Rattle.pcap_reader.specs.declared.state.CaptureState.{CaptureState}
-use Rattle.pcap_reader.specs.State.{CaptureRecord, begun, record_of, state_after}
-use Rattle.pcap_reader.specs.Start.{file_header_len, start_of}
+use Rattle.pcap_reader.specs.State.{CaptureRecord}
 use Rattle.pcap_reader.specs.Headers.{record_header_of}
-use Rattle.pcap_reader.specs.Capture.{End, Fault, Next, Record, Recorded, capture_of, max_captured, max_records}
-use Rattle.pcap_reader.specs.Capture.{next_of, next_record, onward, record_header_len, records_in, records_within}
-use Rattle.pcap_reader.specs.Capture.{whole_records}
+use Rattle.pcap_reader.specs.Capture as savefile
+use Rattle.pcapng_reader.specs.declared.front.Front.{Front}
+use Rattle.pcapng_reader.specs.declared.said.Said.{Said}
+use Rattle.pcapng_reader.specs.declared.said.Said.TheVariants as said
+use Rattle.pcapng_reader.specs.Block.{Block, BlockState, block_at, block_by, block_in, block_of, block_said}
+use Rattle.pcapng_reader.specs.Block.{front_of, said_in}
+use Rattle.pcapng_reader.specs.Block as block
+use Rattle.pcapng_reader.specs.Capture.{AnyState, Savefile, Blocks, Next, End, Record, Fault, Recorded}
+use Rattle.pcapng_reader.specs.Capture.{first_of, next_of, next_within, onward, past_block, records_in}
+use Rattle.pcapng_reader.specs.Capture.{records_within, size_of, whole_records, with_state}
+use Rattle.pcapng_reader.specs.Reader.{start_len, start_of}
+use Rattle.pcapng_reader.proofs.Offered.{capture-start, start-fault, start-left}
 use Rattle.header_extract.specs.declared.class.Class.{Class}
 use Rattle.header_extract.specs.declared.ip6.Upper.{Upper}
 use Rattle.header_extract.specs.Class.{FrameClass, at_least, key_len, settled, ◌>>=◌}
@@ -222,54 +229,124 @@ settled_packet : (result : Result FrameClass Class) → Fine IsPacket result →
 settled_packet (Ok packet) is = is
 settled_packet (Err class) is = record { bytes = All-nil IsByte; len = sym is }
 
--- what stands next in bytes is of bytes
-abbrev IsOfBytes : Next → Type 0
-IsOfBytes End = ⊤
-IsOfBytes (Record captured after) = AreBytes captured.bytes × AreBytes after
-IsOfBytes (Fault fault) = ⊤
+-- what stands next in a savefile of bytes is of bytes
+abbrev IsOfBytes : savefile.Next → Type 0
+IsOfBytes savefile.End = ⊤
+IsOfBytes (savefile.Record captured after) = AreBytes captured.bytes × AreBytes after
+IsOfBytes (savefile.Fault fault) = ⊤
 
-next_if : (test : Bool) (fault : CaptureFault) (other : Next) → IsOfBytes other →
-    IsOfBytes (if test then Fault fault else other)
+next_if : (test : Bool) (fault : CaptureFault) (other : savefile.Next) → IsOfBytes other →
+    IsOfBytes (if test then savefile.Fault fault else other)
 next_if true fault other is = tt
 next_if false fault other is = is
 
-next_bytes : (state : CaptureState) (left : List ℕ) → AreBytes left → IsOfBytes (next_of state left)
-next_bytes state left all = go (length left == 0)
+savefile_bytes : (state : CaptureState) (left : List ℕ) → AreBytes left → IsOfBytes (savefile.next_of state left)
+savefile_bytes state left all = go (length left == 0)
   where
     len : ℕ
     len = (record_header_of state.start.order left).captured
 
-    go : (none : Bool) → IsOfBytes (if none then End else next_record state left)
+    go : (none : Bool) → IsOfBytes (if none then savefile.End else savefile.next_record state left)
     go true = tt
     go false =
-        next_if (nat_lt max_records (state.count + 1)) _ _
-        (next_if (nat_lt (length left) record_header_len) _ _
-        (next_if (nat_lt max_captured len) _ _
-        (next_if (nat_lt (length left) (record_header_len + len)) _ _ (
-          All-take IsByte len (drop record_header_len left) (All-drop IsByte record_header_len left all),
-          All-drop IsByte (record_header_len + len) left all,
+        next_if (nat_lt savefile.max_records (state.count + 1)) _ _
+        (next_if (nat_lt (length left) savefile.record_header_len) _ _
+        (next_if (nat_lt savefile.max_captured len) _ _
+        (next_if (nat_lt (length left) (savefile.record_header_len + len)) _ _ (
+          All-take IsByte len (drop savefile.record_header_len left)
+              (All-drop IsByte savefile.record_header_len left all),
+          All-drop IsByte (savefile.record_header_len + len) left all,
         ))))
+
+-- what a block of bytes is, and the bytes after it, are of bytes
+abbrev IsBlockOfBytes : Block → Type 0
+IsBlockOfBytes block.End = ⊤
+IsBlockOfBytes (block.Passed state after) = (state.first ≡ []) × AreBytes after
+IsBlockOfBytes (block.Given captured state after) = (state.first ≡ []) × AreBytes captured.bytes × AreBytes after
+IsBlockOfBytes (block.Fault fault) = ⊤
+
+said_bytes : (x : Said) (state : BlockState) (front : Front) (left : List ℕ) → AreBytes left →
+    IsBlockOfBytes (block_said state front x left)
+said_bytes said.Section state front left all = (refl, All-drop IsByte front.total left all)
+said_bytes (said.Interface link) state front left all = (refl, All-drop IsByte front.total left all)
+said_bytes (said.Packet link captured) state front left all = (
+  refl,
+  All-take IsByte captured (drop 28 left) (All-drop IsByte 28 left all),
+  All-drop IsByte front.total left all,
+)
+said_bytes said.Other state front left all = (refl, All-drop IsByte front.total left all)
+
+block_in_bytes : (state : BlockState) (front : Front) (left : List ℕ) (said : Result Said CaptureFault) →
+    AreBytes left → IsBlockOfBytes (block_in state front left said)
+block_in_bytes state front left (Ok x) all = said_bytes x state front left all
+block_in_bytes state front left (Err fault) all = tt
+
+block_by_bytes : (state : BlockState) (left : List ℕ) (front : Result Front CaptureFault) → AreBytes left →
+    IsBlockOfBytes (block_by state left front)
+block_by_bytes state left (Ok front) all = block_in_bytes state front left (said_in state front left) all
+block_by_bytes state left (Err fault) all = tt
+
+block_bytes : (state : BlockState) (bytes : List ℕ) → AreBytes bytes → IsBlockOfBytes (block_at state bytes)
+block_bytes state bytes all = go (length bytes == 0)
+  where
+    go : (none : Bool) →
+        IsBlockOfBytes (if none then block.End else block_by state bytes (front_of state bytes))
+    go true = tt
+    go false = block_by_bytes state bytes (front_of state bytes) all
+
+-- what stands next in a capture of either format, with the bytes that were read ahead, is of bytes
+abbrev IsNextOfBytes : Next → Type 0
+IsNextOfBytes (End state) = ⊤
+IsNextOfBytes (Record captured state after) = AreBytes captured.bytes × AreBytes (first_of state ++ after)
+IsNextOfBytes (Fault fault) = ⊤
+
+past_bytes : (state : BlockState) (read : Block) (rest : BlockState → List ℕ → Next) → IsBlockOfBytes read →
+    ((now : BlockState) (after : List ℕ) → AreBytes (now.first ++ after) → IsNextOfBytes (rest now after)) →
+    IsNextOfBytes (past_block state read rest)
+past_bytes state block.End rest is each = tt
+past_bytes state (block.Passed now after) rest is each =
+    each now after (subst (λ (l : List ℕ). AreBytes (l ++ after)) (sym is.0) is.1)
+past_bytes state (block.Given captured now after) rest is each =
+    (is.1, subst (λ (l : List ℕ). AreBytes (l ++ after)) (sym is.0) is.2)
+past_bytes state (block.Fault fault) rest is each = tt
+
+within_bytes : (fuel : ℕ) (state : BlockState) (left : List ℕ) → AreBytes (state.first ++ left) →
+    IsNextOfBytes (next_within fuel state left)
+within_bytes zero state left all = tt
+within_bytes (suc fuel) state left all =
+    past_bytes state (block_of state left) (λ now after. next_within fuel now after)
+    (block_bytes state (state.first ++ left) all) (λ now after are. within_bytes fuel now after are)
+
+with_state_bytes : (state : CaptureState) (next : savefile.Next) → IsOfBytes next →
+    IsNextOfBytes (with_state state next)
+with_state_bytes state savefile.End is = tt
+with_state_bytes state (savefile.Record captured after) is = is
+with_state_bytes state (savefile.Fault fault) is = tt
+
+next_bytes : (state : AnyState) (left : List ℕ) → AreBytes (first_of state ++ left) →
+    IsNextOfBytes (next_of state left)
+next_bytes (Savefile state) left all =
+    with_state_bytes state (savefile.next_of state left) (savefile_bytes state left all)
+next_bytes (Blocks state) left all = within_bytes (suc (length (state.first ++ left))) state left all
 
 -- each record is of bytes
 abbrev AreRecords : List CaptureRecord → Type 0
 AreRecords records = AllByRecursion (λ (captured : CaptureRecord). AreBytes captured.bytes) records
 
 -- the records of what stands next, and of what comes after it
-onward_bytes : (next : Next) (rest : CaptureRecord → List ℕ → Recorded) → IsOfBytes next →
-    ((captured : CaptureRecord) (after : List ℕ) → AreBytes after → AreRecords (rest captured after).records) →
+onward_bytes : (next : Next) (rest : AnyState → List ℕ → Recorded) → IsNextOfBytes next →
+    ((now : AnyState) (after : List ℕ) → AreBytes (first_of now ++ after) → AreRecords (rest now after).records) →
     AreRecords (onward next rest).records
-onward_bytes End rest is each = tt
-onward_bytes (Record captured after) rest is each = (is.0, each captured after is.1)
+onward_bytes (End state) rest is each = tt
+onward_bytes (Record captured now after) rest is each = (is.0, each now after is.1)
 onward_bytes (Fault fault) rest is each = tt
 
-records_bytes : (fuel : ℕ) (state : CaptureState) (left : List ℕ) → AreBytes left →
+records_bytes : (fuel : ℕ) (state : AnyState) (left : List ℕ) → AreBytes (first_of state ++ left) →
     AreRecords (records_within fuel state left).records
 records_bytes zero state left all = tt
 records_bytes (suc fuel) state left all =
-    onward_bytes (next_of state left)
-    (λ captured after. records_within fuel (state_after state (Ok (Some captured))) after)
-    (next_bytes state left all)
-    (λ captured after is. records_bytes fuel (state_after state (Ok (Some captured))) after is)
+    onward_bytes (next_of state left) (λ now after. records_within fuel now after) (next_bytes state left all)
+    (λ now after is. records_bytes fuel now after is)
 
 packets_are : (records : List CaptureRecord) → AreRecords records →
     AllByRecursion IsPacket (map packet_of records)
@@ -279,13 +356,25 @@ packets_are (captured ∷ records) all = (
   packets_are records all.1,
 )
 
+-- the bytes that were read ahead, and what is left
+ahead_bytes : (bytes : List ℕ) (state : AnyState) → AreBytes bytes → start_of bytes ≡ Ok state →
+    AreBytes (first_of state ++ drop (start_len state) bytes)
+ahead_bytes bytes state all says =
+    let left = start-left bytes state says in
+    subst AreBytes (sym left.1) (All-drop IsByte left.0 bytes all)
+
 -- the packets of the whole records of bytes
 pub packets_of_bytes : (bytes : List ℕ) → AreBytes bytes → All IsPacket (map packet_of (whole_records bytes))
 packets_of_bytes bytes all = go (start_of bytes) refl
   where
-    go : (start : Result Start CaptureFault) → start_of bytes ≡ start →
+    go : (start : Result AnyState CaptureFault) → start_of bytes ≡ start →
         All IsPacket (map packet_of (whole_records bytes))
-    go (Ok start) is =
-        rw is (All-from_recursion IsPacket _ (packets_are _ (records_bytes (length (drop file_header_len bytes))
-        (begun start) (drop file_header_len bytes) (All-drop IsByte file_header_len bytes all))))
-    go (Err fault) is = rw is (All-nil IsPacket)
+    go (Ok state) is =
+        let left : List ℕ = drop (start_len state) bytes in
+        let records = ap records_in (capture-start bytes state is) in
+        subst (λ (l : List CaptureRecord). All IsPacket (map packet_of l)) (sym records)
+        (All-from_recursion IsPacket _ (packets_are _
+        (records_bytes (size_of state left) state left (ahead_bytes bytes state all is))))
+    go (Err fault) is =
+        subst (λ (l : List CaptureRecord). All IsPacket (map packet_of l))
+        (sym (ap records_in (start-fault bytes fault is))) (All-nil IsPacket)

@@ -1,7 +1,7 @@
 -- What `classify` printed: the lines of the capture that was heard, by the rules that were heard.
 use Rattle.std.proofs.Common.{◌≡◌, ◌≢◌, ◌⊎◌, ℕ, ◌+◌, List, [], ◌∷◌, ◌++◌, map, Bool, true, false, Option, Some, None}
 use Rattle.std.proofs.Common.{Result, Ok, Err, inl, inr, refl, sym, ap, subst, ◌∙◌, append-nil, arith}
-use Rattle.std.specs.Prelude.{codes, nat_lt}
+use Rattle.std.specs.Prelude.{codes}
 use Rattle.std.specs.List.{enumerate_from, flat_map, range_with_len}
 use Rattle.acl_outside.specs.Heard.{Heard, Ended}
 use Rattle.classbench_reader.specs.RuleFile.{RuleLists}
@@ -12,13 +12,9 @@ use Rattle.rule_set.specs.Rule.{RuleView}
 use Rattle.header_extract.specs.declared.class.Class.{Class}
 use Rattle.header_extract.specs.declared.class.Class.TheVariants.{Ip4, Ip6, Other, Short}
 use Rattle.pcap_reader.specs.declared.fault.CaptureFault.{CaptureFault}
-use Rattle.pcap_reader.specs.declared.start.Start.{Start}
-use Rattle.pcap_reader.specs.declared.state.CaptureState.{CaptureState}
-use Rattle.pcap_reader.specs.State.{CaptureRecord, begun, state_past}
-use Rattle.pcap_reader.specs.Start.{start_of}
-use Rattle.pcap_reader.specs.Capture.{Recorded, capture_of, max_records, records_from, records_in}
-use Rattle.pcap_reader.specs.Capture.{whole_records}
-use Rattle.pcap_reader.proofs.Offered.{capture_of-append}
+use Rattle.pcap_reader.specs.State.{CaptureRecord}
+use Rattle.pcapng_reader.specs.Capture.{Recorded, capture_of, records_in, whole_records}
+use Rattle.pcapng_reader.proofs.Offered.{whole-last}
 use Rattle.acl_report.specs.Packet.{packet_text}
 use Rattle.command_words.specs.Options.{Options}
 use Rattle.command_words.specs.Command.{command}
@@ -75,32 +71,20 @@ pub report_text : (form : ReportForm) (capture : Result Recorded CaptureFault) �
 report_text form (Ok capture) = refl
 report_text form (Err fault) = refl
 
--- one byte is no record
-one_byte : (state : CaptureState) → (records_from state (0 ∷ [])).fault ≢ None
-one_byte state none = go (nat_lt max_records (state.count + 1)) refl
-  where
-    go : (many : Bool) → nat_lt max_records (state.count + 1) ≡ many → ⊥
-    go true e = absurd (let faulty = rw e at none in cc)
-    go false e = absurd (let faulty = rw e at none in cc)
+-- a capture without a fault is its records
+whole_is : (capture : Result Recorded CaptureFault) → fault_of_capture capture ≡ None →
+    capture ≡ Ok (record { records = records_in capture; fault = None })
+whole_is (Ok capture) none =
+    ap (λ (fault : Option CaptureFault). let r : Recorded = record { records = capture.records; fault = fault } in Ok r)
+    none
+whole_is (Err fault) none = absurd (cc)
 
 -- one byte more after a whole capture is a fault
 one_more : (bytes : List ℕ) → fault_of_capture (capture_of bytes) ≡ None →
     fault_of_capture (capture_of (bytes ++ 0 ∷ [])) ≢ None
-one_more bytes whole none = started (start_of bytes) refl
-  where
-    recorded : (start : Start) → start_of bytes ≡ Ok start → (capture : Result Recorded CaptureFault) →
-        capture_of bytes ≡ capture → ⊥
-    recorded start begins (Ok capture) is =
-        let faultless : capture.fault ≡ None = ap fault_of_capture (sym is) ∙ whole in
-        let all = capture_of-append bytes (0 ∷ []) start capture.records begins
-        (is ∙ ap (λ (fault : Option CaptureFault).
-        let r : Recorded = record { records = capture.records; fault = fault } in Ok r) faultless) in
-        one_byte (state_past (begun start) capture.records) (sym (ap fault_of_capture all) ∙ none)
-    recorded start begins (Err fault) is = absurd (let e = sym (ap fault_of_capture is) ∙ whole in cc)
-
-    started : (start : Result Start CaptureFault) → start_of bytes ≡ start → ⊥
-    started (Ok start) begins = recorded start begins (capture_of bytes) refl
-    started (Err fault) begins = absurd (let e = rw begins at whole in cc)
+one_more bytes whole none =
+    whole-last bytes 0 (whole_records bytes) (whole_records (bytes ++ 0 ∷ [])) (whole_is (capture_of bytes) whole)
+    (whole_is (capture_of (bytes ++ 0 ∷ [])) none)
 
 -- so many categories of a key, with marks or not
 abbrev shown_by : List FieldDef → List RuleView → List ℕ → ℕ → Bool → List (Option ℕ)

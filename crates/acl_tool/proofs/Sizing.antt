@@ -18,7 +18,7 @@ use Rattle.acl_outside.specs.Heard.{Heard}
 use Rattle.classbench_reader.specs.RuleFile.{RuleLists, rule_file_of}
 use Rattle.classbench_reader.specs.declared.fault.LineFault.{LineFault}
 use Rattle.pcap_reader.specs.declared.fault.CaptureFault.{CaptureFault}
-use Rattle.pcap_reader.specs.Capture.{capture_of, whole_records}
+use Rattle.pcapng_reader.specs.Capture.{capture_of, whole_records}
 use Rattle.acl_report.specs.Counts.{packets_text}
 use Rattle.acl_report.specs.Tables.{table_text, transitions_text}
 use Rattle.command_words.specs.Options.{Options}

@@ -26,7 +26,7 @@ use Rattle.capture_report.specs.CaptureOutcome.{lines_so_far, report}
 use Rattle.command_plan.specs.Plan.{printed, silent}
 
 -- the options where none is given
-abbrev usual : Options
+abbrev pub usual : Options
 usual = settled_options none_given
 
 -- a table of no rules, with keys of so many bytes
@@ -63,13 +63,17 @@ wild_tables = record { ip4 = wild_table; ip6 = empty_table 37 }
 abbrev guide_line : List ℕ
 guide_line = codes "@192.168.1.0/24 192.168.2.31/32 0:65535 1234:1234 0x11/0xFF\n"
 
--- a record of a frame of 38 bytes: UDP from 192.168.1.5, port 5000, to 192.168.2.31, whose port
--- ends in the byte
+-- a frame of 38 bytes: UDP from 192.168.1.5, port 5000, to 192.168.2.31, whose port ends in the
+-- byte
+abbrev pub udp_frame : ℕ → List ℕ
+udp_frame port =
+    replicate 12 0 ++ 8 ∷ 0 ∷ 0x45 ∷ 0 ∷ 0 ∷ 24 ∷ 0 ∷ 0 ∷ 0 ∷ 0 ∷ 64 ∷ 17 ∷ 0 ∷ 0
+    ∷ 192 ∷ 168 ∷ 1 ∷ 5 ∷ 192 ∷ 168 ∷ 2 ∷ 31 ∷ 19 ∷ 136 ∷ 4 ∷ port ∷ []
+
+-- a record of that frame
 abbrev pub udp_record : ℕ → List ℕ
 udp_record port =
-    replicate 8 0 ++ 38 ∷ 0 ∷ 0 ∷ 0 ∷ 38 ∷ 0 ∷ 0 ∷ 0
-    ∷ replicate 12 0 ++ 8 ∷ 0 ∷ 0x45 ∷ 0 ∷ 0 ∷ 24 ∷ 0 ∷ 0 ∷ 0 ∷ 0 ∷ 64 ∷ 17 ∷ 0 ∷ 0
-    ∷ 192 ∷ 168 ∷ 1 ∷ 5 ∷ 192 ∷ 168 ∷ 2 ∷ 31 ∷ 19 ∷ 136 ∷ 4 ∷ port ∷ []
+    replicate 8 0 ++ 38 ∷ 0 ∷ 0 ∷ 0 ∷ 38 ∷ 0 ∷ 0 ∷ 0 ∷ udp_frame port
 
 -- the rules of a file that has no fault
 abbrev lists_of : Result RuleLists Status → RuleLists
@@ -77,7 +81,7 @@ lists_of (Ok lists) = lists
 lists_of (Err status) = record { ip4 = []; ip6 = [] }
 
 -- a report by the guide's rule
-abbrev by_guide : Options → ReportForm
+abbrev pub by_guide : Options → ReportForm
 by_guide options =
     form_of (ByRules (lists_of (rules_of_bytes RulesRefused guide_line))) no_tables options
 
@@ -129,11 +133,11 @@ none_so_far = refl
 abbrev classify_with : List (List ℕ) → List (List ℕ)
 classify_with options = codes "classify" ∷ codes "r" ∷ codes "c" ∷ options
 
-abbrev classify : List (List ℕ)
+abbrev pub classify : List (List ℕ)
 classify = classify_with []
 
 -- two files of these names
-abbrev both : List ℕ → List ℕ → List File
+abbrev pub both : List ℕ → List ℕ → List File
 both rules capture = record { name = codes "r"; bytes = rules }
     ∷ record { name = codes "c"; bytes = capture } ∷ []
 

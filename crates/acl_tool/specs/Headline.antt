@@ -14,7 +14,7 @@ use Rattle.header_extract.specs.declared.class.Class.{Class}
 use Rattle.header_extract.specs.declared.class.Class.TheVariants.{Ip4, Ip6, Other, Short}
 use Rattle.pcap_reader.specs.declared.fault.CaptureFault.{CaptureFault}
 use Rattle.pcap_reader.specs.State.{CaptureRecord}
-use Rattle.pcap_reader.specs.Capture.{capture_of, whole_records}
+use Rattle.pcapng_reader.specs.Capture.{capture_of, whole_records}
 use Rattle.acl_report.specs.Packet.{packet_text}
 use Rattle.acl_report.specs.Counts.{packets_text}
 use Rattle.acl_outside.specs.Heard.{Heard, Ended}

@@ -9,7 +9,7 @@ use Rattle.table_image.specs.Reading.{image_of}
 use Rattle.acl_context.specs.Context.{built_of}
 use Rattle.acl_outside.specs.Heard.{Heard, Ended}
 use Rattle.pcap_reader.specs.declared.fault.CaptureFault.{CaptureFault}
-use Rattle.pcap_reader.specs.Capture.{capture_of, whole_records}
+use Rattle.pcapng_reader.specs.Capture.{capture_of, whole_records}
 use Rattle.classbench_reader.specs.RuleFile.{RuleLists, rule_file_of}
 use Rattle.command_words.specs.Options.{Options, for_build, for_replay, none_given}
 use Rattle.command_words.specs.Command.{options_from}

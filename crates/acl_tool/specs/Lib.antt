@@ -23,6 +23,7 @@ pub mod Comparisons
 pub mod Effects
 pub mod Laws
 pub mod ClassifyExamples
+pub mod PcapngExamples
 pub mod SavedExamples
 pub mod FollowExamples
 pub mod BenchExamples

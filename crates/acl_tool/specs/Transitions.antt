@@ -5,7 +5,7 @@ use Rattle.field_defs.specs.declared.field.Family.TheVariants.{Ip4, Ip6}
 use Rattle.acl_outside.specs.Heard.{Heard}
 use Rattle.acl_context.specs.Context.{built_of}
 use Rattle.pcap_reader.specs.declared.fault.CaptureFault.{CaptureFault}
-use Rattle.pcap_reader.specs.Capture.{whole_records}
+use Rattle.pcapng_reader.specs.Capture.{whole_records}
 use Rattle.command_words.specs.BenchWords.{BenchNumbers}
 use Rattle.command_words.specs.Command.{Bench, command}
 use Rattle.seed_bench.specs.Bench.{most_drawn, transitions_drawn}

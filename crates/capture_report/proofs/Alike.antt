@@ -16,9 +16,8 @@ use Rattle.acl_report.specs.declared.packet.TheConstants.{MAX_VERDICTS}
 use Rattle.acl_report.specs.Packet.{packet_text}
 use Rattle.acl_outside.specs.Desk.{File}
 use Rattle.pcap_reader.specs.declared.fault.CaptureFault.{CaptureFault}
-use Rattle.pcap_reader.specs.declared.state.CaptureState.{CaptureState}
 use Rattle.pcap_reader.specs.State.{CaptureRecord}
-use Rattle.pcap_reader.specs.Capture.{Recorded, capture_of, records_in, whole_records}
+use Rattle.pcapng_reader.specs.Capture.{AnyState, Recorded, capture_of, records_in, whole_records}
 use Rattle.capture_report.specs.declared.form.PrintOptions.{PrintOptions}
 use Rattle.command_plan.specs.declared.status.Status.{Status}
 use Rattle.capture_report.specs.Packet.{IsPacket}
@@ -114,7 +113,7 @@ module _ (classifier : Classifier) (tables : Tables) (options : PrintOptions) (a
       go (Err fault) all = refl
 
   -- what was streamed by the tables
-  pub Streams-alike : (state : CaptureState) (old new : Outside) (status : Status) →
+  pub Streams-alike : (state : AnyState) (old new : Outside) (status : Status) →
       Streams (form_by (ByTables tables) tables options) state old new status →
       Streams (form_by classifier tables options) state old new status
   Streams-alike state old new status s =

@@ -12,7 +12,7 @@ use Rattle.header_extract.specs.declared.class.Class.{Class}
 use Rattle.header_extract.specs.declared.class.Class.TheVariants.{Ip4, Ip6, Other, Short}
 use Rattle.header_extract.specs.Class.{FrameClass}
 use Rattle.pcap_reader.specs.declared.fault.CaptureFault.{CaptureFault}
-use Rattle.pcap_reader.specs.Capture.{Recorded, capture_of, whole_records, records_in}
+use Rattle.pcapng_reader.specs.Capture.{Recorded, capture_of, whole_records, records_in}
 use Rattle.command_plan.specs.declared.status.Status.{Status}
 use Rattle.command_plan.specs.Plan.{Outcome}
 use Rattle.command_plan.specs.Endings.{is_decided}

@@ -6,7 +6,7 @@ use Rattle.std.proofs.lemmas.List.Elements.{All-nil, All-append}
 use Rattle.acl_outside.specs.Desk.{DeskView}
 use Rattle.header_extract.specs.Class.{FrameClass}
 use Rattle.pcap_reader.specs.State.{CaptureRecord}
-use Rattle.pcap_reader.specs.declared.state.CaptureState.{CaptureState}
+use Rattle.pcapng_reader.specs.Capture.{AnyState}
 use Rattle.capture_report.specs.declared.batch.BatchEnd.{BatchEnd}
 use Rattle.capture_report.specs.declared.batch.BatchEnd.TheVariants.{Full}
 use Rattle.capture_report.specs.Packet.{IsPacket}
@@ -16,7 +16,7 @@ use Rattle.capture_report.proofs.Taking.{Took-none, Took-then}
 use Rattle.capture_report.proofs.Reader.{TookRecord, TookRecord-from, IsStop, end-is_stop, records_by, records_by-stop}
 
 -- some records were taken, of which these are the packets
-pub record IsTaking (before after : CaptureState) (packets : List FrameClass) (old new : DeskView) (stop : BatchEnd)
+pub record IsTaking (before after : AnyState) (packets : List FrameClass) (old new : DeskView) (stop : BatchEnd)
     : Type 0 where
   pub records : List CaptureRecord
   pub given : List ℕ
@@ -24,7 +24,7 @@ pub record IsTaking (before after : CaptureState) (packets : List FrameClass) (o
   pub keys : All IsPacket packets
   pub took : Took before after records given old new stop
 
-pub IsTaking-none : (state : CaptureState) (packets : List FrameClass) (view : DeskView) → packets ≡ [] →
+pub IsTaking-none : (state : AnyState) (packets : List FrameClass) (view : DeskView) → packets ≡ [] →
     IsTaking state state packets view view Full
 IsTaking-none state packets view none = record {
   records = [];
@@ -35,7 +35,7 @@ IsTaking-none state packets view none = record {
 }
 
 -- one answer more
-IsTaking-more : (before mid after : CaptureState) (packets packets_new : List FrameClass) (old between new : DeskView)
+IsTaking-more : (before mid after : AnyState) (packets packets_new : List FrameClass) (old between new : DeskView)
     (stop : BatchEnd) → IsTaking before mid packets old between Full →
     TookRecord mid after packets packets_new between new stop →
     IsTaking before after packets_new old new stop × (length packets_new ≡ length packets + records_by stop)
@@ -60,7 +60,7 @@ IsTaking-more before mid after packets packets_new old between new stop h one = 
 )
 
 -- a record more
-pub IsTaking-record : (before mid after : CaptureState) (packets packets_new : List FrameClass)
+pub IsTaking-record : (before mid after : AnyState) (packets packets_new : List FrameClass)
     (old between new : DeskView) → IsTaking before mid packets old between Full →
     TakesRecord mid after packets packets_new between new None →
     IsTaking before after packets_new old new Full × (length packets_new ≡ length packets + 1)
@@ -69,7 +69,7 @@ IsTaking-record before mid after packets packets_new old between new h takes =
     (TookRecord-from mid after packets packets_new between new None takes)
 
 -- no record more
-pub TakesBatch-stopped : (before mid after : CaptureState) (packets packets_new : List FrameClass)
+pub TakesBatch-stopped : (before mid after : AnyState) (packets packets_new : List FrameClass)
     (old between new : DeskView) (stop : BatchEnd) → IsTaking before mid packets old between Full →
     TakesRecord mid after packets packets_new between new (Some stop) → length packets ≤ max_batch →
     TakesBatch before after packets_new old new stop

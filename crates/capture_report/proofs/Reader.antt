@@ -1,11 +1,10 @@
--- What the reader of a capture comes to: the next record, the file header, and the first bytes of a file. These are
--- the only lemmas that know the format of a capture.
-use Rattle.std.proofs.Common.{◌≡◌, ◌≢◌, ℕ, zero, suc, ◌<◌, ◌≤◌, List, [], ◌∷◌, ◌++◌, length, map, drop, All}
+-- What the reader of a capture comes to: the next record, the first bytes of a file, and their records. These are the
+-- only lemmas that know the formats of captures.
+use Rattle.std.proofs.Common.{◌≡◌, ◌≢◌, ℕ, zero, suc, ◌<◌, List, [], ◌∷◌, ◌++◌, length, map, drop, All}
 use Rattle.std.proofs.Common.{Option, Some, None, Result, Ok, Err, inl, inr, refl, sym, subst, ap, ◌∙◌, append-nil}
-use Rattle.std.proofs.Common.{length-append, arith}
+use Rattle.std.proofs.Common.{arith}
 use Rattle.std.specs.Bool.{⊤}
-use Rattle.std.proofs.lemmas.Bool.{cases_eq, cases_lt, eq-eqb, lt-leb, le-leb}
-use Rattle.std.proofs.lemmas.List.{take-append-le, drop-append-le}
+use Rattle.std.proofs.lemmas.List.{drop-append-le}
 use Rattle.acl_outside.specs.Fault.{Rose}
 use Rattle.acl_outside.specs.Desk.{DeskView}
 use Rattle.acl_outside.specs.Heard.{Ending, Ended, GoesOn, BrokenOff}
@@ -13,161 +12,159 @@ use Rattle.acl_outside.specs.Reading.{ReadsOn, and_goes_on}
 use Rattle.header_extract.specs.Class.{FrameClass}
 use Rattle.pcap_reader.specs.declared.fault.CaptureFault.{CaptureFault}
 use Rattle.pcap_reader.specs.declared.fault.CaptureFault.TheVariants.{HeaderCut, RecordCut, PngCut, ReadFault}
-use Rattle.pcap_reader.specs.declared.start.Start.{Start}
-use Rattle.pcap_reader.specs.Start.{start_of, file_header_len}
-use Rattle.pcap_reader.specs.State.{Answer, CaptureRecord, begun, state_after}
-use Rattle.pcap_reader.specs.Capture.{End as NoMore, Record, Fault as Failing, max_records, next_of}
-use Rattle.pcap_reader.specs.Capture.{records_from, capture_of, whole_records}
+use Rattle.pcap_reader.specs.State.{Answer, CaptureRecord}
 use Rattle.pcap_reader.specs.Fill.{KeepsReading, IsAtEnd}
-use Rattle.pcap_reader.specs.declared.state.CaptureState.{CaptureState}
-use Rattle.pcap_reader.specs.Reader.{ReadsNext, ReadsStart}
-use Rattle.pcap_reader.proofs.Offered.{IsDecided, with_more, next_of-append, next_of-too_many}
-use Rattle.pcap_reader.proofs.Offered.{IsShorter, next_of-shorter, next_cases, records_from-record}
-use Rattle.pcap_reader.proofs.Offered.{records_from-end, records_from-fault}
-use Rattle.pcap_reader.proofs.Offered.{no_records, unanswered, capture_of-read, whole_records-none}
+use Rattle.pcapng_reader.specs.Capture.{AnyState, Next, End as NoMore, Record, Fault as Failing, capture_of}
+use Rattle.pcapng_reader.specs.Capture.{next_of, records_from, records_in, size_of, whole_records}
+use Rattle.pcapng_reader.specs.Reader.{IsEnd, ReadsNext, ReadsStart, start_len, start_of}
+use Rattle.pcapng_reader.specs.Reading.{stands}
+use Rattle.pcapng_reader.proofs.Offered.{IsDecidedNext, next_more, next-append, CountsNext, next-counts}
+use Rattle.pcapng_reader.proofs.Offered.{IsShorterNext, next-shorter, next_cases, FirstNone, next-first}
+use Rattle.pcapng_reader.proofs.Offered.{records-record, records-end, records-fault, records-none, records-nothing}
+use Rattle.pcapng_reader.proofs.Offered.{unanswered, start-append, start-begun, start-first, len_cases}
+use Rattle.pcapng_reader.proofs.Offered.{capture-read, capture-start, start-fault, whole-none}
 use Rattle.capture_report.specs.declared.batch.BatchEnd.{BatchEnd}
 use Rattle.capture_report.specs.declared.batch.BatchEnd.TheVariants.{Full, End, Fault}
 use Rattle.capture_report.specs.NextRecord.{IsBegun, MayGoOn, record_in}
 use Rattle.capture_report.specs.Packet.{IsPacket}
 use Rattle.capture_report.specs.Shown.{packet_of}
 use Rattle.capture_report.specs.Streams.{IsUnbroken}
-use Rattle.capture_report.specs.Taken.{AreAll, Took, TakesRecord, end_of, stands}
+use Rattle.capture_report.specs.Taken.{AreAll, Took, TakesRecord, end_of}
 
--- a reader that has begun gave no record, and may be asked
-pub begun-count : (state : CaptureState) → IsBegun state → state.count ≡ 0
-begun-count state begins = ap (λ s. s.count) begins
-
-pub begun-goes_on : (state : CaptureState) → IsBegun state → MayGoOn state
-begun-goes_on state begins = ap (λ s. s.progress) begins
+-- a reader that has read the first bytes gave no record, and may be asked
+pub begun-from : (state : AnyState) (old new : DeskView) → ReadsStart old new (Ok state) → IsBegun state
+begun-from state old new reads =
+    let begun = start-begun reads.given state reads.answer.0 in
+    (record { reading = begun.1; ahead = start-first reads.given state reads.answer.0 }, begun.0)
 
 -- no bytes have no records
-pub records_from-nothing : (state : CaptureState) → (records_from state []).records ≡ []
-records_from-nothing state = ap (λ r. r.records) (records_from-end state [] refl)
+pub records-of_none : (state : AnyState) → MayGoOn state → (records_from state []).records ≡ []
+records-of_none state may = records-nothing state may.ahead
 
--- there is a record only where there may be one more
-record_few : (state : CaptureState) (given : List ℕ) (captured : CaptureRecord) (later : List ℕ) →
-    next_of state given ≡ Record captured later → state.count < max_records
-record_few state given captured later next =
-    elim (cases_eq (length given) 0) [
-      | inl none ↦
-          let ends : next_of state given ≡ NoMore =
-          rw (eq-eqb (length given) 0 none) refl in
-          absurd (cc)
-      | inr some ↦ elim (cases_lt state.count max_records) [
-        | inl few ↦ few
-        | inr many ↦
-            let over = next_of-too_many state given (omega arith) many in
-            absurd (cc)
-      ]
-    ]
+-- the state after a record
+past_record : (before now : AnyState) (given : List ℕ) (captured : CaptureRecord) →
+    next_of before given ≡ Record captured now [] → MayGoOn before → MayGoOn now
+past_record before now given captured next may =
+    let counts = subst (CountsNext before) next (next-counts before given) in
+    let first = subst FirstNone next (next-first before given) in
+    record { reading = counts.2 ∙ may.reading; ahead = omega (arith, ap length first) }
 
 -- one record was taken
-Took-record : (state : CaptureState) (captured : CaptureRecord) (old new : DeskView) →
-    (reads : ReadsNext state old new (Ok (Some captured))) →
-    Took state (state_after state (Ok (Some captured))) (captured ∷ []) reads.given old new Full
-Took-record state captured old new reads = record {
-  bytes = λ later.
-      let next : next_of state (reads.given ++ later) ≡ Record captured later =
-      next_of-append state reads.given later (subst IsDecided (sym reads.next) tt)
-      ∙ ap (λ n. with_more n later) reads.next in
-      records_from-record state (reads.given ++ later) captured later next;
-  reads = reads.reads;
-  at_end = λ e. absurd (cc);
-  read_fault = λ e. absurd (cc);
-  keeps = reads.keeps;
-  goes_on = λ full may. may;
-  count = refl;
-  few = λ below. omega (arith, record_few state reads.given captured [] reads.next);
-}
+Took-record : (before now : AnyState) (captured : CaptureRecord) (old new : DeskView) →
+    (reads : ReadsNext before now old new (Ok (Some captured))) →
+    Took before now (captured ∷ []) reads.given old new Full
+Took-record before now captured old new reads =
+    let counts = subst (CountsNext before) reads.next (next-counts before reads.given) in
+    record {
+      ending = reads.ending;
+      stood = reads.stood;
+      bytes = λ later.
+          let next : next_of before (reads.given ++ later) ≡ Record captured now later =
+          next-append before reads.given later (subst IsDecidedNext (sym reads.next) tt)
+          ∙ ap (λ n. next_more n later) reads.next in
+          records-record before (reads.given ++ later) captured now later next;
+      reads = reads.reads;
+      at_end = reads.end;
+      read_fault = λ e. absurd (cc);
+      keeps = reads.keeps;
+      goes_on = λ full may. past_record before now reads.given captured reads.next may;
+      count = reads.state.1;
+      few = λ below. omega (arith, counts.0, counts.1);
+    }
 
-AreAll-end : (state : CaptureState) (given : List ℕ) → next_of state given ≡ NoMore →
-    AreAll state given Ended [] None
-AreAll-end state given next more none =
-    ap (records_from state) (ap (λ l. given ++ l) (none refl) ∙ append-nil given)
-    ∙ records_from-end state given next
+-- nothing stands next
+at_end : (state : AnyState) (left : List ℕ) → IsEnd (next_of state left) →
+    records_from state left ≡ record { records = []; fault = None }
+at_end state left ends = go (next_of state left) refl
+  where
+    go : (n : Next) → next_of state left ≡ n → records_from state left ≡ record { records = []; fault = None }
+    go (NoMore later) is = records-end state left later is
+    go (Record captured now after) is = absurd (subst IsEnd is ends)
+    go (Failing fault) is = absurd (subst IsEnd is ends)
 
-AreAll-cut : (state : CaptureState) (given : List ℕ) (fault : CaptureFault) →
-    next_of state given ≡ Failing fault → AreAll state given Ended [] (Some fault)
-AreAll-cut state given fault next more none =
-    ap (records_from state) (ap (λ l. given ++ l) (none refl) ∙ append-nil given)
-    ∙ records_from-fault state given fault next
+-- where the end of the file was met, there is no more of it
+only_given : (given more : List ℕ) (ending : Ending) → ending ≡ Ended → (ending ≡ Ended → more ≡ []) →
+    given ++ more ≡ given
+only_given given more ending ended none =
+    ap (λ (l : List ℕ). given ++ l) (none ended) ∙ append-nil given
 
-AreAll-decided : (state : CaptureState) (given : List ℕ) (fault : CaptureFault) →
-    next_of state given ≡ Failing fault →
-    IsDecided (Failing fault) → AreAll state given GoesOn [] (Some fault)
-AreAll-decided state given fault next decided more none =
-    records_from-fault state (given ++ more) fault
-    (next_of-append state given more (subst IsDecided (sym next) decided)
-    ∙ ap (λ n. with_more n more) next)
+AreAll-end : (state : AnyState) (given : List ℕ) (ending : Ending) → ending ≡ Ended → IsEnd (next_of state given) →
+    AreAll state given ending [] None
+AreAll-end state given ending ended next more none =
+    ap (records_from state) (only_given given more ending ended none) ∙ at_end state given next
+
+AreAll-cut : (state : AnyState) (given : List ℕ) (ending : Ending) (fault : CaptureFault) → ending ≡ Ended →
+    next_of state given ≡ Failing fault → AreAll state given ending [] (Some fault)
+AreAll-cut state given ending fault ended next more none =
+    ap (records_from state) (only_given given more ending ended none) ∙ records-fault state given fault next
+
+AreAll-decided : (state : AnyState) (given : List ℕ) (ending : Ending) (fault : CaptureFault) →
+    next_of state given ≡ Failing fault → IsDecidedNext (Failing fault) → AreAll state given ending [] (Some fault)
+AreAll-decided state given ending fault next decided more none =
+    records-fault state (given ++ more) fault
+    (next-append state given more (subst IsDecidedNext (sym next) decided)
+    ∙ ap (λ n. next_more n more) next)
 
 -- no record was there: the end of the capture
-Took-end : (state : CaptureState) (old new : DeskView) → (reads : ReadsNext state old new (Ok None)) →
-    Took state (state_after state (Ok None)) [] reads.given old new End
-Took-end state old new reads = record {
-  bytes = AreAll-end state reads.given reads.next.0;
+Took-end : (before now : AnyState) (old new : DeskView) → (reads : ReadsNext before now old new (Ok None)) →
+    Took before now [] reads.given old new End
+Took-end before now old new reads = record {
+  ending = reads.ending;
+  stood = reads.stood;
+  bytes = AreAll-end before reads.given reads.ending reads.stood reads.next.0;
   reads = reads.reads;
-  at_end = λ e. reads.end refl;
+  at_end = reads.end;
   read_fault = λ e. absurd (cc);
   keeps = reads.keeps;
   goes_on = λ full. absurd (cc);
-  count = omega arith;
-  few = λ below. below;
+  count = omega (arith, reads.state.1);
+  few = λ below. omega (arith, reads.state.1);
 }
 
+-- The bytes before a fault have no record, and say so.
+abbrev FaultSays : AnyState → List ℕ → Ending → CaptureFault → Type 0
+FaultSays before given ending ReadFault = (records_from before given).records ≡ []
+FaultSays before given ending fault = AreAll before given ending [] (Some fault)
+
+fault_says : (fault : CaptureFault) (before now : AnyState) (old new : DeskView) →
+    (reads : ReadsNext before now old new (Err fault)) → FaultSays before reads.given reads.ending fault
+fault_says ReadFault before now old new reads =
+    records-none before reads.given (unanswered before now reads.given ReadFault reads.next)
+fault_says HeaderCut before now old new reads =
+    AreAll-cut before reads.given reads.ending HeaderCut reads.stood reads.next
+fault_says (RecordCut n) before now old new reads =
+    AreAll-cut before reads.given reads.ending (RecordCut n) reads.stood reads.next
+fault_says (PngCut n) before now old new reads =
+    AreAll-cut before reads.given reads.ending (PngCut n) reads.stood reads.next
+fault_says fault before now old new reads =
+    AreAll-decided before reads.given reads.ending fault reads.next tt
+
 -- no record was there: a fault
-Took-fault : (fault : CaptureFault) (state : CaptureState) (old new : DeskView) →
-    (reads : ReadsNext state old new (Err fault)) →
-    Took state (state_after state (Err fault)) [] reads.given old new (Fault fault)
-Took-fault ReadFault state old new reads = record {
-  bytes = no_records state reads.given
-      (unanswered state reads.given ReadFault reads.next);
+Took-fault : (fault : CaptureFault) (before now : AnyState) (old new : DeskView) →
+    (reads : ReadsNext before now old new (Err fault)) → Took before now [] reads.given old new (Fault fault)
+Took-fault ReadFault before now old new reads = record {
+  ending = reads.ending;
+  stood = reads.stood;
+  bytes = fault_says ReadFault before now old new reads;
   reads = reads.reads;
-  at_end = λ e. absurd (cc);
+  at_end = reads.end;
   read_fault = λ e. reads.read_fault refl;
   keeps = reads.keeps;
   goes_on = λ full. absurd (cc);
-  count = omega arith;
-  few = λ below. below;
+  count = omega (arith, reads.state.1);
+  few = λ below. omega (arith, reads.state.1);
 }
-Took-fault HeaderCut state old new reads = record {
-  bytes = AreAll-cut state reads.given HeaderCut reads.next;
+Took-fault fault before now old new reads = record {
+  ending = reads.ending;
+  stood = reads.stood;
+  bytes = fault_says fault before now old new reads;
   reads = reads.reads;
-  at_end = λ e. reads.end refl;
+  at_end = reads.end;
   read_fault = λ e. absurd (cc);
   keeps = reads.keeps;
   goes_on = λ full. absurd (cc);
-  count = omega arith;
-  few = λ below. below;
-}
-Took-fault (RecordCut n) state old new reads = record {
-  bytes = AreAll-cut state reads.given (RecordCut n) reads.next;
-  reads = reads.reads;
-  at_end = λ e. reads.end refl;
-  read_fault = λ e. absurd (cc);
-  keeps = reads.keeps;
-  goes_on = λ full. absurd (cc);
-  count = omega arith;
-  few = λ below. below;
-}
-Took-fault (PngCut n) state old new reads = record {
-  bytes = AreAll-cut state reads.given (PngCut n) reads.next;
-  reads = reads.reads;
-  at_end = λ e. reads.end refl;
-  read_fault = λ e. absurd (cc);
-  keeps = reads.keeps;
-  goes_on = λ full. absurd (cc);
-  count = omega arith;
-  few = λ below. below;
-}
-Took-fault fault state old new reads = record {
-  bytes = AreAll-decided state reads.given fault reads.next tt;
-  reads = reads.reads;
-  at_end = λ e. absurd (cc);
-  read_fault = λ e. absurd (cc);
-  keeps = reads.keeps;
-  goes_on = λ full. absurd (cc);
-  count = omega arith;
-  few = λ below. below;
+  count = omega (arith, reads.state.1);
+  few = λ below. omega (arith, reads.state.1);
 }
 
 -- how a batch of the records of one answer ends
@@ -177,12 +174,12 @@ stop_of (Ok (Some captured)) = Full
 stop_of (Err fault) = Fault fault
 
 -- what an answer says was taken
-Took-answer : (answer : Answer) (state : CaptureState) (old new : DeskView) →
-    (reads : ReadsNext state old new answer) →
-    Took state (state_after state answer) (record_in answer) reads.given old new (stop_of answer)
-Took-answer (Ok None) state old new reads = Took-end state old new reads
-Took-answer (Ok (Some captured)) state old new reads = Took-record state captured old new reads
-Took-answer (Err fault) state old new reads = Took-fault fault state old new reads
+Took-answer : (answer : Answer) (before now : AnyState) (old new : DeskView) →
+    (reads : ReadsNext before now old new answer) →
+    Took before now (record_in answer) reads.given old new (stop_of answer)
+Took-answer (Ok None) before now old new reads = Took-end before now old new reads
+Took-answer (Ok (Some captured)) before now old new reads = Took-record before now captured old new reads
+Took-answer (Err fault) before now old new reads = Took-fault fault before now old new reads
 
 -- the same of the end of a batch, if there is one
 abbrev pub stop_or_full : Option BatchEnd → BatchEnd
@@ -223,7 +220,7 @@ one_record (Ok (Some captured)) = refl
 one_record (Err fault) = refl
 
 -- At most one record was taken, and its packet was put after the others.
-pub record TookRecord (before after : CaptureState) (packets packets_new : List FrameClass) (old new : DeskView)
+pub record TookRecord (before after : AnyState) (packets packets_new : List FrameClass) (old new : DeskView)
     (stop : BatchEnd) : Type 0 where
   pub records : List CaptureRecord
   pub given : List ℕ
@@ -233,7 +230,7 @@ pub record TookRecord (before after : CaptureState) (packets packets_new : List 
   pub number : length records ≡ records_by stop
 
 -- what one call of the reader comes to
-pub TookRecord-from : (before after : CaptureState) (packets packets_new : List FrameClass) (old new : DeskView)
+pub TookRecord-from : (before after : AnyState) (packets packets_new : List FrameClass) (old new : DeskView)
     (result : Option BatchEnd) → TakesRecord before after packets packets_new old new result →
     TookRecord before after packets packets_new old new (stop_or_full result)
 TookRecord-from before after packets packets_new old new result t =
@@ -242,9 +239,7 @@ TookRecord-from before after packets packets_new old new result t =
     record {
       records = record_in t.answer;
       given = t.takes.given;
-      took = subst (λ (s : CaptureState).
-          Took before s (record_in t.answer) t.takes.given old new (stop_of t.answer)) (sym t.state)
-          (Took-answer t.answer before old new t.takes);
+      took = Took-answer t.answer before after old new t.takes;
       packets_are = t.packets;
       keys = t.keys;
       number = one_record t.answer;
@@ -259,68 +254,51 @@ none_first : (front all : List CaptureRecord) → front ≡ [] → AreFirst fron
 none_first front all none = record { rest = all; parts = ap (λ (l : List CaptureRecord). l ++ all) (sym none) }
 
 -- more bytes leave the first records as they are
-records_more : (fuel : ℕ) (state : CaptureState) (left more : List ℕ) → length left ≤ fuel →
+record_first : (state : AnyState) (left more : List ℕ) (captured : CaptureRecord) (now : AnyState) (later : List ℕ) →
+    next_of state left ≡ Record captured now later →
+    AreFirst (records_from now later).records (records_from now (later ++ more)).records →
     AreFirst (records_from state left).records (records_from state (left ++ more)).records
-records_more zero state [] more enough =
-    none_first (records_from state []).records (records_from state more).records (records_from-nothing state)
-records_more zero state (b ∷ bs) more enough = absurd (omega (arith, enough))
+record_first state left more captured now later next follow =
+    let longer : next_of state (left ++ more) ≡ Record captured now (later ++ more) =
+    next-append state left more (subst IsDecidedNext (sym next) tt) ∙ ap (λ n. next_more n more) next in
+    record {
+      rest = follow.rest;
+      parts =
+          ap (λ r. r.records) (records-record state (left ++ more) captured now (later ++ more) longer)
+          ∙ ap (λ l. captured ∷ l) follow.parts
+          ∙ ap (λ (l : List CaptureRecord). l ++ follow.rest)
+          (sym (ap (λ r. r.records) (records-record state left captured now later next)));
+    }
+
+records_more : (fuel : ℕ) (state : AnyState) (left more : List ℕ) → size_of state left < fuel →
+    AreFirst (records_from state left).records (records_from state (left ++ more)).records
+records_more zero state left more enough = absurd (omega (arith, enough))
 records_more (suc fuel) state left more enough =
     elim (next_cases (next_of state left)) [
-      | inl ends ↦ none_first _ _ (ap (λ r. r.records) (records_from-end state left ends))
+      | inl ends ↦ none_first _ _ (ap (λ r. r.records) (records-end state left ends.0 ends.1))
       | inr (inl whole) ↦
-          let shorter = subst (IsShorter left) whole.2 (next_of-shorter state left) in
-          record_first whole.0 whole.1 whole.2
-          (records_more fuel (state_after state (Ok (Some whole.0))) whole.1 more (omega (arith, shorter, enough)))
-      | inr (inr fails) ↦ none_first _ _ (ap (λ r. r.records) (records_from-fault state left fails.0 fails.1))
-    ]
-  where
-    record_first : (captured : CaptureRecord) (later : List ℕ) → next_of state left ≡ Record captured later →
-        AreFirst (records_from (state_after state (Ok (Some captured))) later).records
-        (records_from (state_after state (Ok (Some captured))) (later ++ more)).records →
-        AreFirst (records_from state left).records (records_from state (left ++ more)).records
-    record_first captured later next follow =
-        let longer : next_of state (left ++ more) ≡ Record captured (later ++ more) =
-        next_of-append state left more (subst IsDecided (sym next) tt) ∙ ap (λ n. with_more n more) next in
-        record {
-          rest = follow.rest;
-          parts =
-              ap (λ r. r.records) (records_from-record state (left ++ more) captured (later ++ more) longer)
-              ∙ ap (λ l. captured ∷ l) follow.parts
-              ∙ ap (λ (l : List CaptureRecord). l ++ follow.rest)
-              (sym (ap (λ r. r.records) (records_from-record state left captured later next)));
-        }
-
--- what a file header says is said by its first bytes
-start_of-more : (bytes more : List ℕ) (result : Result Start CaptureFault) → start_of bytes ≡ result →
-    (result ≡ Err HeaderCut → ⊥) →
-    (start_of (bytes ++ more) ≡ result) × (file_header_len ≤ length bytes)
-start_of-more bytes more result says isnt =
-    elim (cases_lt (length bytes) file_header_len) [
-      | inl short ↦
-          let cut : start_of bytes ≡ Err HeaderCut = rw (lt-leb file_header_len (length bytes) short) refl in
-          absurd (isnt (sym says ∙ cut))
-      | inr long ↦ (
-        rw (
-          le-leb file_header_len (length (bytes ++ more)) (omega (arith, long, length-append bytes more)),
-          take-append-le file_header_len bytes more long,
-        ) (rw (le-leb file_header_len (length bytes) long) at says),
-        long,
-      )
+          let shorter = subst (IsShorterNext (size_of state left)) whole.3 (next-shorter state left) in
+          record_first state left more whole.0 whole.1 whole.2 whole.3
+          (records_more fuel whole.1 whole.2 more (omega (arith, shorter, enough)))
+      | inr (inr fails) ↦ none_first _ _ (ap (λ r. r.records) (records-fault state left fails.0 fails.1))
     ]
 
-first_by_start : (bytes more : List ℕ) (result : Result Start CaptureFault) → start_of bytes ≡ result →
+first_by_start : (bytes more : List ℕ) (result : Result AnyState CaptureFault) → start_of bytes ≡ result →
     AreFirst (whole_records bytes) (whole_records (bytes ++ more))
 first_by_start bytes more (Err fault) says =
-    none_first (whole_records bytes) (whole_records (bytes ++ more)) (rw says refl)
-first_by_start bytes more (Ok start) says =
-    let longer = start_of-more bytes more (Ok start) says (λ e. absurd (cc)) in
-    let first = records_more (length (drop file_header_len bytes)) (begun start) (drop file_header_len bytes) more
-    (omega arith) in
-    let alone : whole_records bytes ≡ (records_from (begun start) (drop file_header_len bytes)).records =
-    rw says refl in
-    let all : whole_records (bytes ++ more)
-    ≡ (records_from (begun start) (drop file_header_len bytes ++ more)).records =
-    rw (longer.0, drop-append-le file_header_len bytes more longer.1) refl in
+    none_first (whole_records bytes) (whole_records (bytes ++ more)) (ap records_in (start-fault bytes fault says))
+first_by_start bytes more (Ok state) says =
+    let len = start_len state in
+    let left : List ℕ = drop len bytes in
+    let longer : start_of (bytes ++ more) ≡ Ok state =
+    start-append bytes more (λ e. absurd (let f = sym e ∙ says in cc)) ∙ says in
+    let first = records_more (suc (size_of state left)) state left more (omega arith) in
+    let alone : whole_records bytes ≡ (records_from state left).records =
+    ap records_in (capture-start bytes state says) in
+    let all : whole_records (bytes ++ more) ≡ (records_from state (left ++ more)).records =
+    ap records_in (capture-start (bytes ++ more) state longer)
+    ∙ ap (λ (l : List ℕ). (records_from state l).records)
+    (drop-append-le len bytes more (len_cases state bytes says)) in
     record {
       rest = first.rest;
       parts = all ∙ first.parts ∙ ap (λ (l : List CaptureRecord). l ++ first.rest) (sym alone);
@@ -330,22 +308,20 @@ first_by_start bytes more (Ok start) says =
 pub whole_first : (bytes more : List ℕ) → AreFirst (whole_records bytes) (whole_records (bytes ++ more))
 whole_first bytes more = first_by_start bytes more (start_of bytes) refl
 
--- The file header was read, and these records follow from the state, whatever else the file may have.
-pub record ReadHeader (state : CaptureState) (old new : DeskView) : Type 0 where
+-- The first bytes were read, and these records follow from the state, whatever else the file may have.
+pub record ReadHeader (state : AnyState) (old new : DeskView) : Type 0 where
   pub given : List ℕ
   pub reads : ReadsOn and_goes_on given old new
   pub keeps : KeepsReading old new
   pub says : (more : List ℕ) → capture_of (given ++ more) ≡ Ok (records_from state more)
 
-pub ReadHeader-from : (state : CaptureState) (old new : DeskView) → IsBegun state →
-    ReadsStart [] old new (Ok state.start) → ReadHeader state old new
-ReadHeader-from state old new begins reads = record {
+pub ReadHeader-from : (state : AnyState) (old new : DeskView) → ReadsStart old new (Ok state) →
+    ReadHeader state old new
+ReadHeader-from state old new reads = record {
   given = reads.given;
   reads = reads.reads;
   keeps = reads.keeps;
-  says = λ more.
-      capture_of-read reads.given more state.start reads.answer
-      ∙ ap (λ (s : CaptureState). Ok (records_from s more)) (sym begins);
+  says = λ more. capture-read reads.given more state reads.answer;
 }
 
 -- The file header was read, and has this fault, whatever else the file may have.
@@ -368,9 +344,7 @@ header_cut fault old new given reads end keeps says = record {
   reads = reads;
   at_end = λ e. end;
   keeps = keeps;
-  says = λ more none.
-      (let whole = ap start_of (ap (λ (l : List ℕ). given ++ l) (none refl) ∙ append-nil given) ∙ says in
-      rw whole refl);
+  says = λ more none. ap capture_of (only_given given more Ended refl none) ∙ start-fault given fault says;
 }
 
 -- Nor are those of a file header that the first bytes refuse.
@@ -384,12 +358,12 @@ header_decided fault old new given reads keeps says isnt = record {
   at_end = λ e. absurd (cc);
   keeps = keeps;
   says = λ more none.
-      (let whole = (start_of-more given more (Err fault) says
-      (λ e. isnt (let same : fault ≡ HeaderCut = cc in same))).0 in rw whole refl);
+      start-fault (given ++ more) fault
+      (start-append given more (λ e. isnt (let f = sym says ∙ e in cc)) ∙ says);
 }
 
 pub RefusedHeader-from : (fault : CaptureFault) (old new : DeskView) → fault ≢ ReadFault →
-    (reads : ReadsStart [] old new (Err fault)) → RefusedHeader fault old new
+    (reads : ReadsStart old new (Err fault)) → RefusedHeader fault old new
 RefusedHeader-from ReadFault old new isnt reads = absurd (isnt refl)
 RefusedHeader-from HeaderCut old new isnt reads =
     header_cut HeaderCut old new reads.given reads.reads (reads.end refl) reads.keeps reads.answer
@@ -408,11 +382,11 @@ pub record BrokenHeader (old new : DeskView) : Type 0 where
   pub none : whole_records given ≡ []
   pub read_fault : Rose old.read_faults new.read_faults
 
-pub BrokenHeader-from : (old new : DeskView) → ReadsStart [] old new (Err ReadFault) → BrokenHeader old new
+pub BrokenHeader-from : (old new : DeskView) → ReadsStart old new (Err ReadFault) → BrokenHeader old new
 BrokenHeader-from old new reads = record {
   given = reads.given;
   reads = reads.reads;
   keeps = reads.keeps;
-  none = whole_records-none reads.given ReadFault reads.answer;
+  none = whole-none reads.given ReadFault reads.answer;
   read_fault = reads.read_fault refl;
 }

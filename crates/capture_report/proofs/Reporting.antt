@@ -12,16 +12,15 @@ use Rattle.acl_outside.proofs.Offered.{ReadsOn-none, ReadsOn-then}
 use Rattle.pcap_reader.specs.declared.fault.CaptureFault.{CaptureFault}
 use Rattle.pcap_reader.specs.declared.fault.CaptureFault.TheVariants as faults
 use Rattle.pcap_reader.specs.State.{CaptureRecord}
-use Rattle.pcap_reader.specs.Capture.{Recorded, capture_of, whole_records, records_in}
+use Rattle.pcapng_reader.specs.Capture.{AnyState, Recorded, capture_of, records_from, whole_records, records_in}
+use Rattle.pcapng_reader.specs.Reader.{ReadsStart}
+use Rattle.pcapng_reader.specs.Reading.{stands}
 use Rattle.pcap_reader.specs.Fill.{KeepsReading, IsAtEnd}
-use Rattle.pcap_reader.specs.declared.state.CaptureState.{CaptureState}
-use Rattle.pcap_reader.specs.Reader.{ReadsStart}
 use Rattle.pcap_reader.proofs.Offered.{KeepsReading-same, KeepsReading-join}
 use Rattle.command_plan.specs.declared.status.Status.{Status}
 use Rattle.command_plan.specs.declared.status.Status.TheVariants.{CaptureRefused, ReadFault, WriteFault, OutOfMemory}
 use Rattle.capture_report.specs.ReportForm.{ReportForm}
 use Rattle.capture_report.specs.Report.{lines_of_records, transitions_of_records}
-use Rattle.capture_report.specs.Taken.{stands}
 use Rattle.command_plan.specs.Plan.{Outcome, Plan, Give, silent, found, settled}
 use Rattle.command_plan.specs.Follow.{Given, Within, IsEnough, IsOpened, IsOneOf, said_in, status_within}
 use Rattle.command_plan.specs.Endings.{is_decided, is_usage}
@@ -35,7 +34,6 @@ use Rattle.capture_report.specs.Streams.{BreaksOffSoon, Streams}
 use Rattle.command_plan.proofs.Offered.{Gains-none}
 use Rattle.command_plan.proofs.Offered.{heard_file, part_told, opened_told, opened_absent, kept_files, cannot_open}
 use Rattle.command_plan.proofs.Offered.{unopened_kept, CannotRead-because}
-use Rattle.pcap_reader.specs.Capture.{records_from}
 use Rattle.capture_report.proofs.Reader.{ReadHeader, RefusedHeader, RefusedHeader-from, BrokenHeader, BrokenHeader-from}
 
 -- an opened file, of which these bytes were heard
@@ -329,7 +327,7 @@ header_broken {T} {E} form name old mid new x opens header =
     }
 
 pub Reports-header : {T E : Type 0} (fault : CaptureFault) (form : ReportForm) (name : List ℕ) (old mid : DeskView)
-    (new : Outside) (x : T) → OpensFile {E = E} name old mid (Ok x) → ReadsStart [] mid new.desk (Err fault) →
+    (new : Outside) (x : T) → OpensFile {E = E} name old mid (Ok x) → ReadsStart mid new.desk (Err fault) →
     Reports form name (outside old new.out new.steps) new (refusal fault)
 Reports-header {T} {E} faults.ReadFault form name old mid new x opens reads =
     header_broken {E = E} form name old mid new x opens (BrokenHeader-from mid new.desk reads)
@@ -365,7 +363,7 @@ record Streamed (form : ReportForm) (name : List ℕ) (read : Reading) (old new 
     : Type 0 where
   given : List ℕ
   ending : Ending
-  state : CaptureState
+  state : AnyState
   later : List ℕ
   hears : HearsFile name given ending old.desk new.desk
   says : (more : List ℕ) → capture_of (given ++ more) ≡ Ok (records_from state (later ++ more))
@@ -463,7 +461,7 @@ streamed (Part records) form name old new status s =
     }
 
 -- the records are read and printed
-pub Reports-streamed : {T E : Type 0} (form : ReportForm) (name : List ℕ) (state : CaptureState)
+pub Reports-streamed : {T E : Type 0} (form : ReportForm) (name : List ℕ) (state : AnyState)
     (old opened : DeskView) (mid new : Outside) (x : T) (status : Status) →
     OpensFile {E = E} name old opened (Ok x) → ReadHeader state opened mid.desk → Streams form state mid new status →
     Reports form name (outside old mid.out mid.steps) new status

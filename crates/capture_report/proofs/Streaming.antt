@@ -1,5 +1,5 @@
 -- The printing of a capture, batch by batch.
-use Rattle.std.proofs.Common.{◌≡◌, ℕ, ◌+◌, ◌≤◌, List, [], ◌++◌, length, map, All, Some, None, Result, Ok, Err, inl}
+use Rattle.std.proofs.Common.{◌≡◌, ◌≢◌, ◌⊎◌, ℕ, ◌+◌, ◌≤◌, List, [], ◌++◌, length, map, All, Some, None, Result, Ok, Err, inl}
 use Rattle.std.proofs.Common.{inr, refl, sym, subst, ap, ◌∙◌, append_assoc, append-nil, length-append, arith}
 use Rattle.std.proofs.lemmas.List.{length-map, map-append}
 use Rattle.std.proofs.lemmas.List.Elements.{All-nil, All-append}
@@ -10,8 +10,8 @@ use Rattle.header_extract.specs.Class.{FrameClass}
 use Rattle.pcap_reader.specs.declared.fault.CaptureFault.{CaptureFault}
 use Rattle.pcap_reader.specs.declared.fault.CaptureFault.TheVariants.{HeaderCut, RecordCut, PngCut, ReadFault as CannotRead}
 use Rattle.pcap_reader.specs.State.{CaptureRecord}
-use Rattle.pcap_reader.specs.Capture.{max_records}
-use Rattle.pcap_reader.specs.declared.state.CaptureState.{CaptureState}
+use Rattle.pcapng_reader.specs.Capture.{AnyState, max_records}
+use Rattle.pcapng_reader.specs.Reading.{FaultStands}
 use Rattle.acl_report.specs.declared.counts.Counts.{Counts}
 use Rattle.capture_report.specs.declared.batch.BatchEnd.{BatchEnd}
 use Rattle.capture_report.specs.declared.batch.BatchEnd.TheVariants.{Full, End, Fault}
@@ -23,12 +23,11 @@ use Rattle.capture_report.specs.Shown.{counts_of_records, packet_of}
 use Rattle.capture_report.specs.ReportForm.{ReportForm}
 use Rattle.capture_report.specs.Report.{counted_all, lines_of_packets, lines_of_records}
 use Rattle.capture_report.specs.Report.{transitions_of_packets, transitions_of_records}
-use Rattle.capture_report.specs.Taken.{ending_of, ending_of_fault, AreAll, Took, TakesBatch}
+use Rattle.capture_report.specs.Taken.{BatchStands, AreAll, Took, TakesBatch}
 use Rattle.capture_report.specs.CaptureOutcome.{last_lines, last_text, refusal}
 use Rattle.command_plan.specs.Follow.{IsOpened}
 use Rattle.command_plan.specs.Effects.{Outside, PutsLast}
 use Rattle.capture_report.specs.Streams.{Whole, Part, IsUnbroken, Streams}
-use Rattle.capture_report.proofs.Reader.{begun-count}
 use Rattle.capture_report.proofs.Taking.{Took-none, Took-then, AreOfBatch-part}
 use Rattle.capture_report.proofs.LineLaws.{transitions_of_records-append, lines_of_records-append}
 use Rattle.capture_report.proofs.LineLaws.{counts_of_records-append, packets_counted, lines_in-records}
@@ -36,18 +35,18 @@ use Rattle.command_plan.proofs.Offered.{Gains-none}
 
 -- how far the printing of a capture is: the reader's state, what was counted, and the outside
 pub record Standing : Type 0 where
-  pub state : CaptureState
+  pub state : AnyState
   pub counts : Counts
   pub transitions : ℕ
   pub outside : Outside
 
 -- one that stands so
-abbrev pub standing : CaptureState → Counts → ℕ → Outside → Standing
+abbrev pub standing : AnyState → Counts → ℕ → Outside → Standing
 standing state counts transitions outside =
     record { state = state; counts = counts; transitions = transitions; outside = outside }
 
 -- Some records were taken from the state, and their lines were put.
-pub record HasPrinted (form : ReportForm) (state : CaptureState) (old : Outside) (now : Standing) (stop : BatchEnd)
+pub record HasPrinted (form : ReportForm) (state : AnyState) (old : Outside) (now : Standing) (stop : BatchEnd)
     : Type 0 where
   pub records : List CaptureRecord
   pub given : List ℕ
@@ -60,7 +59,7 @@ pub record HasPrinted (form : ReportForm) (state : CaptureState) (old : Outside)
   pub count : old.out.faults ≤ now.outside.out.faults
 
 -- no record was taken yet
-pub HasPrinted-none : (form : ReportForm) (state : CaptureState) (counts : Counts) (view : Outside) →
+pub HasPrinted-none : (form : ReportForm) (state : AnyState) (counts : Counts) (view : Outside) →
     counts ≡ counts_of_records [] →
     HasPrinted form state view
     (standing state counts 0 view) Full
@@ -85,13 +84,13 @@ pub record PutsBatch {T E : Type 0} (form : ReportForm) (packets : List FrameCla
   pub steps : new.outside.steps ≡ old.outside.steps + transitions_of_packets form.tables packets
 
 -- Some records were printed, and a batch more is there.
-module _ (form : ReportForm) (state : CaptureState) (old : Outside) (now : Standing) (next : CaptureState)
+module _ (form : ReportForm) (state : AnyState) (old : Outside) (now : Standing) (next : AnyState)
     (packets : List FrameClass) (new : Outside) (stop : BatchEnd) (h : HasPrinted form state old now Full)
     (batch : TakesBatch now.state next packets now.outside.desk new.desk stop) where
   -- there is room to count it
   pub packets_few : IsBegun state → now.counts.packets + length packets ≤ max_records
   packets_few begun =
-      let none = begun-count state begun in
+      let none = begun.1 in
       let so_far = h.took.few (omega (arith, none)) in
       omega (
         arith,
@@ -136,7 +135,7 @@ module _ (form : ReportForm) (state : CaptureState) (old : Outside) (now : Stand
       + transitions_of_packets form.tables l) (sym batch.packets_are)
 
 -- a batch more was taken and printed
-pub HasPrinted-batch : {T E : Type 0} (form : ReportForm) (state : CaptureState) (old : Outside) (now new : Standing)
+pub HasPrinted-batch : {T E : Type 0} (form : ReportForm) (state : AnyState) (old : Outside) (now new : Standing)
     (packets : List FrameClass) (stop : BatchEnd) (x : T) →
     HasPrinted form state old now Full →
     TakesBatch now.state new.state packets now.outside.desk new.outside.desk stop →
@@ -161,44 +160,56 @@ HasPrinted-batch form state old now new packets stop x h batch put =
       count = omega (arith, h.count, put.puts.count);
     }
 
-fault_opened : (fault : CaptureFault) → IsOpened (ending_of_fault fault)
-fault_opened HeaderCut = tt
-fault_opened (RecordCut n) = tt
-fault_opened (PngCut n) = tt
-fault_opened CannotRead = tt
-fault_opened fault = tt
-
-batch_opened : (stop : BatchEnd) → IsOpened (ending_of stop)
-batch_opened Full = tt
-batch_opened End = tt
-batch_opened (Fault fault) = fault_opened fault
-
 unbroken_opened : (ending : Ending) → IsUnbroken ending → IsOpened ending
 unbroken_opened NotOpened unbroken = absurd unbroken
 unbroken_opened GoesOn unbroken = tt
 unbroken_opened Ended unbroken = tt
 unbroken_opened BrokenOff unbroken = tt
 
+on_or_ended : (ending : Ending) → (ending ≡ GoesOn) ⊎ (ending ≡ Ended) → IsUnbroken ending
+on_or_ended ending (inl on) = subst IsUnbroken (sym on) tt
+on_or_ended ending (inr ended) = subst IsUnbroken (sym ended) tt
+
+-- a fault of the capture breaks no reading off
+fault_unbroken : (fault : CaptureFault) (ending : Ending) → fault ≢ CannotRead → FaultStands fault ending →
+    IsUnbroken ending
+fault_unbroken CannotRead ending isnt stood = absurd (isnt refl)
+fault_unbroken HeaderCut ending isnt stood = subst IsUnbroken (sym stood) tt
+fault_unbroken (RecordCut n) ending isnt stood = subst IsUnbroken (sym stood) tt
+fault_unbroken (PngCut n) ending isnt stood = subst IsUnbroken (sym stood) tt
+fault_unbroken fault ending isnt stood = on_or_ended ending stood
+
+fault_opened : (fault : CaptureFault) (ending : Ending) → FaultStands fault ending → IsOpened ending
+fault_opened CannotRead ending stood = subst IsOpened (sym stood) tt
+fault_opened fault ending stood =
+    unbroken_opened ending (fault_unbroken fault ending (λ e. absurd (cc)) stood)
+
+batch_opened : (stop : BatchEnd) (ending : Ending) → BatchStands stop ending → IsOpened ending
+batch_opened Full ending stood = subst IsOpened (sym stood) tt
+batch_opened End ending stood = subst IsOpened (sym stood) tt
+batch_opened (Fault fault) ending stood = fault_opened fault ending stood
+
 -- where the lines of a batch couldn't be put
-pub Streams-failed : {T E : Type 0} (form : ReportForm) (state : CaptureState) (old : Outside) (now new : Standing)
-    (packets : List FrameClass) (stop : BatchEnd) (e : E) →
+pub Streams-failed : {T E : Type 0} (form : ReportForm) (state : AnyState) (old : Outside) (now new : Standing)
+    (packets : List FrameClass) (stop : BatchEnd) (e : E) → IsBegun state →
     HasPrinted form state old now Full →
     TakesBatch now.state new.state packets now.outside.desk new.outside.desk stop →
     PutsBatch {T = T} form packets now new (Err e) → Streams form state old new.outside WriteFault
-Streams-failed form state old now new packets stop e h batch put =
+Streams-failed form state old now new packets stop e begun h batch put =
     let took = all_taken form state old now new.state packets new.outside stop h batch in
     let more = all_transitions form state old now new.state packets new.outside stop h batch in
     let lines = lines_of_records form h.records in
     let prefix = put.puts.prefix in
     record {
       given = h.given ++ batch.given;
-      ending = ending_of stop;
-      opened = batch_opened stop;
+      ending = took.ending;
+      opened = batch_opened stop took.ending took.stood;
       read = Part (h.records ++ batch.records);
       reads = took.reads;
       at_end = took.at_end;
       keeps = took.keeps;
-      bytes = AreOfBatch-part stop state new.state (h.given ++ batch.given) (h.records ++ batch.records) took.bytes;
+      bytes = AreOfBatch-part stop state new.state (h.given ++ batch.given) took.ending (h.records ++ batch.records)
+          (λ full. took.goes_on full begun.0) took.bytes;
       packets = all_packets form state old now new.state packets new.outside stop h batch;
       answer = inr (
         refl,
@@ -227,20 +238,20 @@ Streams-failed form state old now new packets stop e h batch put =
     }
 
 -- the capture ended, and the last lines were put or not
-pub Streams-ended : (form : ReportForm) (state : CaptureState) (old : Outside) (now : Standing) (new : Outside)
+pub Streams-ended : (form : ReportForm) (state : AnyState) (old : Outside) (now : Standing) (new : Outside)
     (status : Status) →
     HasPrinted form state old now End → new.desk ≡ now.outside.desk → new.steps ≡ now.outside.steps →
     PutsLast (last_text form now.counts now.transitions) now.outside.out new.out status →
     Streams form state old new status
 Streams-ended form state old now new status h same same_steps puts = record {
   given = h.given;
-  ending = Ended;
-  opened = tt;
+  ending = h.took.ending;
+  opened = batch_opened End h.took.ending h.took.stood;
   read = Whole h.records None;
   reads = rw same h.took.reads;
   at_end = rw same h.took.at_end;
   keeps = rw same h.took.keeps;
-  bytes = (tt, h.took.bytes);
+  bytes = (subst IsUnbroken (sym h.took.stood) tt, h.took.bytes);
   packets = h.packets;
   answer = elim puts.puts [
     | inl done ↦ inl (
@@ -277,14 +288,14 @@ Streams-ended form state old now new status h same same_steps puts = record {
         ∙ ap (last_text form (counts_of_records h.records)) h.transitions_are
 
 -- a fault of the capture, after all lines
-fault_whole : (form : ReportForm) (state : CaptureState) (old : Outside) (now : Standing) (fault : CaptureFault)
-    (status : Status) (h : HasPrinted form state old now (Fault fault)) → IsUnbroken (ending_of_fault fault) →
-    AreAll state h.given (ending_of_fault fault) h.records (Some fault) → status ≡ CaptureRefused fault →
+fault_whole : (form : ReportForm) (state : AnyState) (old : Outside) (now : Standing) (fault : CaptureFault)
+    (status : Status) (h : HasPrinted form state old now (Fault fault)) → IsUnbroken h.took.ending →
+    AreAll state h.given h.took.ending h.records (Some fault) → status ≡ CaptureRefused fault →
     Streams form state old now.outside status
 fault_whole form state old now fault status h unbroken all is = record {
   given = h.given;
-  ending = ending_of_fault fault;
-  opened = unbroken_opened (ending_of_fault fault) unbroken;
+  ending = h.took.ending;
+  opened = unbroken_opened h.took.ending unbroken;
   read = Whole h.records (Some fault);
   reads = h.took.reads;
   at_end = h.took.at_end;
@@ -297,28 +308,24 @@ fault_whole form state old now fault status h unbroken all is = record {
   count = h.count;
 }
 
-pub Streams-fault : (fault : CaptureFault) (form : ReportForm) (state : CaptureState) (old : Outside)
+pub Streams-fault : (fault : CaptureFault) (form : ReportForm) (state : AnyState) (old : Outside)
     (now : Standing) (status : Status) →
     HasPrinted form state old now (Fault fault) → status ≡ refusal fault → Streams form state old now.outside status
 Streams-fault CannotRead form state old now status h is = record {
   given = h.given;
-  ending = BrokenOff;
-  opened = tt;
+  ending = h.took.ending;
+  opened = batch_opened (Fault CannotRead) h.took.ending h.took.stood;
   read = Part h.records;
   reads = h.took.reads;
   at_end = h.took.at_end;
   keeps = h.took.keeps;
   bytes = h.took.bytes;
   packets = h.packets;
-  answer = inl ((is, refl), h.printed);
+  answer = inl ((is, h.took.stood), h.printed);
   read_fault = λ e. h.took.read_fault refl;
   steps = h.steps;
   count = h.count;
 }
-Streams-fault HeaderCut form state old now status h is =
-    fault_whole form state old now HeaderCut status h tt h.took.bytes is
-Streams-fault (RecordCut n) form state old now status h is =
-    fault_whole form state old now (RecordCut n) status h tt h.took.bytes is
-Streams-fault (PngCut n) form state old now status h is =
-    fault_whole form state old now (PngCut n) status h tt h.took.bytes is
-Streams-fault fault form state old now status h is = fault_whole form state old now fault status h tt h.took.bytes is
+Streams-fault fault form state old now status h is =
+    fault_whole form state old now fault status h
+    (fault_unbroken fault h.took.ending (λ e. absurd (cc)) h.took.stood) h.took.bytes is

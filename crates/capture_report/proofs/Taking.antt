@@ -1,25 +1,28 @@
 -- Records that were taken, and then more.
 use Rattle.std.proofs.Common.{◌≡◌, ℕ, List, [], ◌++◌, Option, Some, None}
-use Rattle.std.proofs.Common.{refl, sym, ap, ◌∙◌, append_assoc, append-nil, length-append, arith}
+use Rattle.std.proofs.Common.{refl, sym, subst, ap, ◌∙◌, append_assoc, append-nil, length-append, arith}
 use Rattle.acl_outside.specs.Desk.{DeskView}
-use Rattle.acl_outside.specs.Heard.{Ending, Ended}
+use Rattle.acl_outside.specs.Heard.{Ending, GoesOn}
+use Rattle.acl_outside.specs.Reading.{ReadsOn}
 use Rattle.acl_outside.proofs.Offered.{ReadsOn-none, ReadsOn-then}
 use Rattle.pcap_reader.specs.declared.fault.CaptureFault.{CaptureFault}
 use Rattle.pcap_reader.specs.declared.fault.CaptureFault.TheVariants.{ReadFault}
 use Rattle.pcap_reader.specs.State.{CaptureRecord}
-use Rattle.pcap_reader.specs.Capture.{followed_by}
-use Rattle.pcap_reader.specs.declared.state.CaptureState.{CaptureState}
+use Rattle.pcapng_reader.specs.Capture.{AnyState, followed_by, records_from}
+use Rattle.pcapng_reader.specs.Reading.{stands}
 use Rattle.pcap_reader.proofs.Offered.{followed_by-then, KeepsReading-same, KeepsReading-join}
 use Rattle.capture_report.specs.declared.batch.BatchEnd.{BatchEnd}
 use Rattle.capture_report.specs.declared.batch.BatchEnd.TheVariants.{Full, End, Fault}
-use Rattle.pcap_reader.specs.Capture.{records_from}
-use Rattle.capture_report.specs.Taken.{ending_of, ending_of_fault, stands, AreRecords, AreAll, AreWhole}
+use Rattle.capture_report.specs.NextRecord.{MayGoOn}
+use Rattle.capture_report.specs.Taken.{AreRecords, AreAll, AreWhole}
 use Rattle.capture_report.specs.Taken.{AreOfBatch, Took}
-use Rattle.capture_report.proofs.Reader.{records_from-nothing}
+use Rattle.capture_report.proofs.Reader.{records-of_none}
 
 -- nothing was taken yet
-pub Took-none : (state : CaptureState) (view : DeskView) → Took state state [] [] view view Full
+pub Took-none : (state : AnyState) (view : DeskView) → Took state state [] [] view view Full
 Took-none state view = record {
+  ending = GoesOn;
+  stood = refl;
   bytes = λ later. refl;
   reads = ReadsOn-none view;
   at_end = λ e. absurd (cc);
@@ -30,7 +33,7 @@ Took-none state view = record {
   few = λ below. below;
 }
 
-module _ (before mid : CaptureState) (first : List CaptureRecord) (given : List ℕ)
+module _ (before mid : AnyState) (first : List CaptureRecord) (given : List ℕ)
     (a : AreRecords before mid given first) where
   -- records, and then more bytes
   records_later : (more later : List ℕ) →
@@ -41,24 +44,28 @@ module _ (before mid : CaptureState) (first : List CaptureRecord) (given : List 
       AreAll mid more ending second fault → AreAll before (given ++ more) ending (first ++ second) fault
   AreAll-then second more ending fault b later none = records_later more later ∙ ap (followed_by first) (b later none)
 
-  AreOfBatch-then : (stop : BatchEnd) (after : CaptureState) (second : List CaptureRecord) (more : List ℕ) →
-      AreOfBatch mid after more second stop → AreOfBatch before after (given ++ more) (first ++ second) stop
-  AreOfBatch-then Full after second more b =
+  AreOfBatch-then : (stop : BatchEnd) (after : AnyState) (second : List CaptureRecord) (more : List ℕ)
+      (ending : Ending) → AreOfBatch mid after more ending second stop →
+      AreOfBatch before after (given ++ more) ending (first ++ second) stop
+  AreOfBatch-then Full after second more ending b =
       λ later. records_later more later ∙ ap (followed_by first) (b later)
       ∙ followed_by-then first second (records_from after later)
-  AreOfBatch-then End after second more b = AreAll-then second more Ended None b
-  AreOfBatch-then (Fault ReadFault) after second more b = ap (λ r. r.records) (a more) ∙ ap (λ l. first ++ l) b
-  AreOfBatch-then (Fault fault) after second more b =
-      AreAll-then second more (ending_of_fault fault) (Some fault) b
+  AreOfBatch-then End after second more ending b = AreAll-then second more ending None b
+  AreOfBatch-then (Fault ReadFault) after second more ending b =
+      ap (λ r. r.records) (a more) ∙ ap (λ l. first ++ l) b
+  AreOfBatch-then (Fault fault) after second more ending b = AreAll-then second more ending (Some fault) b
 
 -- records, and then more of them
-pub Took-then : (before mid after : CaptureState) (first second : List CaptureRecord) (given more : List ℕ)
+pub Took-then : (before mid after : AnyState) (first second : List CaptureRecord) (given more : List ℕ)
     (old between new : DeskView) (stop : BatchEnd) →
     Took before mid first given old between Full → Took mid after second more between new stop →
     Took before after (first ++ second) (given ++ more) old new stop
 Took-then before mid after first second given more old between new stop a b = record {
-  bytes = AreOfBatch-then before mid first given a.bytes stop after second more b.bytes;
-  reads = ReadsOn-then (stands (ending_of stop)) given more old between new a.reads b.reads;
+  ending = b.ending;
+  stood = b.stood;
+  bytes = AreOfBatch-then before mid first given a.bytes stop after second more b.ending b.bytes;
+  reads = ReadsOn-then (stands b.ending) given more old between new
+      (subst (λ (e : Ending). ReadsOn (stands e) given old between) a.stood a.reads) b.reads;
   at_end = b.at_end;
   read_fault = λ e. omega (arith, a.keeps.counts.read_faults, b.read_fault e);
   keeps = KeepsReading-join old between new a.keeps b.keeps;
@@ -67,19 +74,20 @@ Took-then before mid after first second given more old between new stop a b = re
   few = λ below. b.few (a.few below);
 }
 
-AreAll-part : (state : CaptureState) (given : List ℕ) (ending : Ending) (records : List CaptureRecord)
+AreAll-part : (state : AnyState) (given : List ℕ) (ending : Ending) (records : List CaptureRecord)
     (fault : Option CaptureFault) →
     AreAll state given ending records fault → AreWhole state given records
 AreAll-part state given ending records fault all =
     ap (λ l. (records_from state l).records) (sym (append-nil given)) ∙ ap (λ r. r.records) (all [] (λ e. refl))
 
 -- the records are the whole ones of the bytes
-pub AreOfBatch-part : (stop : BatchEnd) (before after : CaptureState) (given : List ℕ)
-    (records : List CaptureRecord) → AreOfBatch before after given records stop → AreWhole before given records
-AreOfBatch-part Full before after given records are =
+pub AreOfBatch-part : (stop : BatchEnd) (before after : AnyState) (given : List ℕ) (ending : Ending)
+    (records : List CaptureRecord) → (stop ≡ Full → MayGoOn after) →
+    AreOfBatch before after given ending records stop → AreWhole before given records
+AreOfBatch-part Full before after given ending records may are =
     ap (λ l. (records_from before l).records) (sym (append-nil given)) ∙ ap (λ r. r.records) (are [])
-    ∙ ap (λ l. records ++ l) (records_from-nothing after) ∙ append-nil records
-AreOfBatch-part End before after given records are = AreAll-part before given Ended records None are
-AreOfBatch-part (Fault ReadFault) before after given records are = are
-AreOfBatch-part (Fault fault) before after given records are =
-    AreAll-part before given (ending_of_fault fault) records (Some fault) are
+    ∙ ap (λ l. records ++ l) (records-of_none after (may refl)) ∙ append-nil records
+AreOfBatch-part End before after given ending records may are = AreAll-part before given ending records None are
+AreOfBatch-part (Fault ReadFault) before after given ending records may are = are
+AreOfBatch-part (Fault fault) before after given ending records may are =
+    AreAll-part before given ending records (Some fault) are

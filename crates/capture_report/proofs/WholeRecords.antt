@@ -3,7 +3,7 @@ use Rattle.std.proofs.Common.{◌≡◌, ℕ, ◌+◌, List, [], ◌∷◌, ◌+
 use Rattle.std.proofs.Common.{append_assoc}
 use Rattle.pcap_reader.specs.declared.fault.CaptureFault.{CaptureFault}
 use Rattle.pcap_reader.specs.State.{CaptureRecord}
-use Rattle.pcap_reader.specs.Capture.{Recorded, capture_of, whole_records, records_in}
+use Rattle.pcapng_reader.specs.Capture.{Recorded, capture_of, whole_records, records_in}
 use Rattle.capture_report.specs.ReportForm.{ReportForm}
 use Rattle.capture_report.specs.Report.{lines_of_packets, lines_of_records}
 use Rattle.capture_report.specs.CaptureOutcome.{last_lines, lines_so_far, report, report_of_capture}

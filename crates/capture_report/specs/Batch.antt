@@ -11,7 +11,7 @@ use Rattle.scalar_walk.specs.Rows.{winners_of}
 use Rattle.header_extract.specs.declared.class.Class.{Class}
 use Rattle.header_extract.specs.declared.class.Class.TheVariants.{Ip4, Ip6, Other, Short}
 use Rattle.header_extract.specs.Class.{FrameClass}
-use Rattle.pcap_reader.specs.Capture.{max_records}
+use Rattle.pcapng_reader.specs.Capture.{max_records}
 use Rattle.acl_report.specs.declared.counts.Counts.{Counts}
 use Rattle.acl_report.specs.declared.packet.TheConstants.{MAX_VERDICTS}
 use Rattle.acl_report.specs.Counts.{same_class}

@@ -4,7 +4,7 @@ use Rattle.flat_table.specs.Walk.{most_of_key}
 use Rattle.header_extract.specs.declared.class.Class.{Class}
 use Rattle.header_extract.specs.declared.class.Class.TheVariants.{Ip4, Ip6, Other, Short}
 use Rattle.pcap_reader.specs.State.{CaptureRecord}
-use Rattle.pcap_reader.specs.Capture.{whole_records}
+use Rattle.pcapng_reader.specs.Capture.{whole_records}
 use Rattle.capture_report.specs.Classifier.{Tables}
 use Rattle.capture_report.specs.Shown.{packet_of}
 use Rattle.capture_report.specs.ReportForm.{ReportForm}

@@ -6,7 +6,7 @@ use Rattle.acl_report.specs.Counts.{packets_text}
 use Rattle.pcap_reader.specs.declared.fault.CaptureFault.{CaptureFault}
 use Rattle.pcap_reader.specs.declared.fault.CaptureFault.TheVariants.{ReadFault as CannotRead}
 use Rattle.pcap_reader.specs.State.{CaptureRecord}
-use Rattle.pcap_reader.specs.Capture.{Recorded, capture_of, whole_records}
+use Rattle.pcapng_reader.specs.Capture.{Recorded, capture_of, whole_records}
 use Rattle.command_plan.specs.declared.status.Status.{Status}
 use Rattle.command_plan.specs.declared.status.Status.TheVariants.{CaptureRefused, ReadFault}
 use Rattle.capture_report.specs.ReportForm.{ReportForm}

@@ -1,13 +1,12 @@
 -- The next record of a capture, as this crate asks for it: the reader's state is one value, and
--- each answer has a record with its own link. For a second format these words change, and the
--- lemmas of Reader.
-use Rattle.std.specs.Prelude.{◌≡◌, ℕ, List, [], ◌∷◌, Option, Some, None, Result, Ok, Err}
-use Rattle.std.specs.Borrow.{Bor}
-use Rattle.pcap_reader.specs.declared.fault.CaptureFault.{CaptureFault}
-use Rattle.pcap_reader.specs.declared.link.Link.{Link}
-use Rattle.pcap_reader.specs.declared.state.CaptureState.{CaptureState}
+-- each answer has a record with its own link. Captures are of either format, and only the lemmas of
+-- Reader know which there are.
+use Rattle.std.specs.Prelude.{◌≡◌, ℕ, ◌<◌, List, [], ◌∷◌, length, Some, None, Ok, Err}
 use Rattle.pcap_reader.specs.declared.state.Progress.TheVariants as progress
-use Rattle.pcap_reader.specs.State.{Answer, CaptureRecord, begun}
+use Rattle.pcap_reader.specs.State.{Answer, CaptureRecord}
+use Rattle.pcapng_reader.specs.Block.{front_len}
+use Rattle.pcapng_reader.specs.Capture.{AnyState, first_of}
+use Rattle.pcapng_reader.specs.Reader.{count_of, progress_of}
 
 -- the record of an answer, if there is one
 abbrev pub record_in : Answer → List CaptureRecord
@@ -15,26 +14,12 @@ record_in (Ok None) = []
 record_in (Ok (Some captured)) = captured ∷ []
 record_in (Err fault) = []
 
--- The file header was read, and no record yet.
-abbrev pub IsBegun : CaptureState → Type 0
-IsBegun state = state ≡ begun state.start
+-- The next record may be asked for: the reader has neither ended nor failed, and has read no block
+-- ahead.
+pub record MayGoOn (state : AnyState) : Type 0 where
+  pub reading : progress_of state ≡ progress.Reading
+  pub ahead : length (first_of state) < front_len
 
--- The next record may be asked for.
-abbrev pub MayGoOn : CaptureState → Type 0
-MayGoOn state = state.progress ≡ progress.Reading
-
--- an answer of the code: a link with a reference to the captured bytes, the end, or a fault
-abbrev pub Lent : Type 0
-Lent = Result (Option (Link × Bor (List ℕ))) CaptureFault
-
--- the same without the link
-abbrev pub frame_in : Lent → Result (Option (Bor (List ℕ))) CaptureFault
-frame_in (Ok None) = Ok None
-frame_in (Ok (Some lent)) = Ok (Some lent.1)
-frame_in (Err fault) = Err fault
-
--- the same with the captured bytes in place of a reference to them
-abbrev pub lent_answer : Lent → Answer
-lent_answer (Ok None) = Ok None
-lent_answer (Ok (Some lent)) = Ok (Some (record { link = lent.0; bytes = lent.1.now }))
-lent_answer (Err fault) = Err fault
+-- The first bytes were read, and no record yet.
+abbrev pub IsBegun : AnyState → Type 0
+IsBegun state = MayGoOn state × (count_of state ≡ 0)

@@ -6,7 +6,7 @@ use Rattle.acl_outside.specs.Heard.{Heard}
 use Rattle.acl_outside.specs.Sink.{Gains}
 use Rattle.command_plan.specs.declared.status.Status.{Status}
 use Rattle.command_plan.specs.declared.status.Status.TheVariants.{WriteFault, OutOfMemory}
-use Rattle.pcap_reader.specs.Capture.{whole_records}
+use Rattle.pcapng_reader.specs.Capture.{whole_records}
 use Rattle.capture_report.specs.Classifier.{Classifier, ByTables, Tables, AnswersAs}
 use Rattle.capture_report.specs.declared.form.PrintOptions.{PrintOptions}
 use Rattle.capture_report.specs.ReportForm.{ReportForm, form_by}

@@ -9,7 +9,7 @@ use Rattle.header_extract.specs.Class.{FrameClass, settled}
 use Rattle.header_extract.specs.Link.{frame_class}
 use Rattle.pcap_reader.specs.declared.fault.CaptureFault.{CaptureFault}
 use Rattle.pcap_reader.specs.State.{CaptureRecord}
-use Rattle.pcap_reader.specs.Capture.{Recorded}
+use Rattle.pcapng_reader.specs.Capture.{Recorded}
 use Rattle.acl_report.specs.declared.counts.Counts.{Counts}
 use Rattle.acl_report.specs.Counts.{counts_of}
 use Rattle.command_plan.specs.declared.status.Status.{Status}

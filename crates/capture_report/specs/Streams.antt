@@ -1,4 +1,4 @@
--- What printing a capture changes of the outside, from the end of its file header on.
+-- What printing a capture changes of the outside, from the end of its first bytes on.
 use Rattle.std.specs.Prelude.{◌≡◌, ℕ, ◌+◌, ◌≤◌, ◌⊎◌, List, ◌++◌, length, map, All, Option, ⊤}
 use Rattle.acl_outside.specs.Fault.{Rose}
 use Rattle.acl_outside.specs.Heard.{Ending, NotOpened, GoesOn, Ended, BrokenOff}
@@ -7,14 +7,15 @@ use Rattle.acl_outside.specs.Sink.{SinkView, Gains}
 use Rattle.pcap_reader.specs.declared.fault.CaptureFault.{CaptureFault}
 use Rattle.pcap_reader.specs.State.{CaptureRecord}
 use Rattle.pcap_reader.specs.Fill.{KeepsReading, IsAtEnd}
-use Rattle.pcap_reader.specs.declared.state.CaptureState.{CaptureState}
+use Rattle.pcapng_reader.specs.Capture.{AnyState}
+use Rattle.pcapng_reader.specs.Reading.{stands}
 use Rattle.command_plan.specs.declared.status.Status.{Status}
 use Rattle.command_plan.specs.declared.status.Status.TheVariants.{ReadFault, WriteFault}
 use Rattle.capture_report.specs.Packet.{IsPacket}
 use Rattle.capture_report.specs.Shown.{packet_of, status_of_fault}
 use Rattle.capture_report.specs.ReportForm.{ReportForm}
 use Rattle.capture_report.specs.Report.{lines_of_records, lines_in, transitions_of_records}
-use Rattle.capture_report.specs.Taken.{max_batch, stands, AreAll, AreWhole}
+use Rattle.capture_report.specs.Taken.{max_batch, AreAll, AreWhole}
 use Rattle.capture_report.specs.CaptureOutcome.{text_of_records}
 use Rattle.command_plan.specs.Follow.{IsOpened}
 use Rattle.command_plan.specs.Effects.{Outside}
@@ -43,7 +44,7 @@ IsUnbroken Ended = ⊤
 IsUnbroken BrokenOff = ⊥
 
 -- the bytes that were given in this state of the reader say so
-abbrev pub AreRead : CaptureState → List ℕ → Ending → Reading → Type 0
+abbrev pub AreRead : AnyState → List ℕ → Ending → Reading → Type 0
 AreRead state given ending (Whole records fault) =
     IsUnbroken ending × AreAll state given ending records fault
 AreRead state given ending (Part records) = AreWhole state given records
@@ -64,7 +65,7 @@ pub record BreaksOffSoon (text : List ℕ) (records : ℕ) (old new : SinkView) 
 
 -- The records that follow from a state of the reader were read and printed, as far as the status
 -- says.
-pub record Streams (form : ReportForm) (state : CaptureState) (old new : Outside)
+pub record Streams (form : ReportForm) (state : AnyState) (old new : Outside)
     (status : Status) : Type 0 where
   pub given : List ℕ
   pub ending : Ending

@@ -3,16 +3,16 @@ use Rattle.std.specs.Prelude.{◌≡◌, ℕ, ◌+◌, ◌≤◌, List, [], ◌+
 use Rattle.std.specs.Prelude.{Ok, Err}
 use Rattle.acl_outside.specs.Fault.{Rose}
 use Rattle.acl_outside.specs.Desk.{DeskView}
-use Rattle.acl_outside.specs.Heard.{Heard, Ending, NotOpened, GoesOn, Ended, BrokenOff, with_ending}
-use Rattle.acl_outside.specs.Reading.{ReadsOn, and_goes_on}
+use Rattle.acl_outside.specs.Heard.{Ending, GoesOn, Ended}
+use Rattle.acl_outside.specs.Reading.{ReadsOn}
 use Rattle.header_extract.specs.Class.{FrameClass}
 use Rattle.pcap_reader.specs.declared.fault.CaptureFault.{CaptureFault}
-use Rattle.pcap_reader.specs.declared.fault.CaptureFault.TheVariants.{HeaderCut, RecordCut, PngCut, ReadFault}
-use Rattle.pcap_reader.specs.State.{Answer, CaptureRecord, state_after}
-use Rattle.pcap_reader.specs.Capture.{followed_by, max_records, records_from}
+use Rattle.pcap_reader.specs.declared.fault.CaptureFault.TheVariants.{ReadFault}
+use Rattle.pcap_reader.specs.State.{Answer, CaptureRecord}
 use Rattle.pcap_reader.specs.Fill.{KeepsReading, IsAtEnd}
-use Rattle.pcap_reader.specs.Reader.{ReadsNext}
-use Rattle.pcap_reader.specs.declared.state.CaptureState.{CaptureState}
+use Rattle.pcapng_reader.specs.Capture.{AnyState, followed_by, max_records, records_from}
+use Rattle.pcapng_reader.specs.Reader.{ReadsNext, count_of}
+use Rattle.pcapng_reader.specs.Reading.{FaultStands, stands}
 use Rattle.capture_report.specs.declared.batch.BatchEnd.{BatchEnd}
 use Rattle.capture_report.specs.declared.batch.BatchEnd.TheVariants.{Full, End, Fault}
 use Rattle.capture_report.specs.NextRecord.{MayGoOn, record_in}
@@ -23,69 +23,56 @@ use Rattle.capture_report.specs.Shown.{packet_of}
 abbrev pub max_batch : ℕ
 max_batch = 64
 
--- how the reading of the file stands after a fault of the capture: its end was met where bytes are
--- missing, and a read broke off at a read fault
-abbrev pub ending_of_fault : CaptureFault → Ending
-ending_of_fault HeaderCut = Ended
-ending_of_fault (RecordCut number) = Ended
-ending_of_fault (PngCut number) = Ended
-ending_of_fault ReadFault = BrokenOff
-ending_of_fault fault = GoesOn
-
--- how the reading of the file stands after a batch
-abbrev pub ending_of : BatchEnd → Ending
-ending_of Full = GoesOn
-ending_of End = Ended
-ending_of (Fault fault) = ending_of_fault fault
-
--- the change to an opened file that goes on
-abbrev pub stands : Ending → Heard → Heard
-stands NotOpened = with_ending NotOpened
-stands GoesOn = and_goes_on
-stands Ended = with_ending Ended
-stands BrokenOff = with_ending BrokenOff
+-- The reading of the file stands so after a batch: its end was met after the last record, and after
+-- a fault as the fault says.
+abbrev pub BatchStands : BatchEnd → Ending → Type 0
+BatchStands Full ending = ending ≡ GoesOn
+BatchStands End ending = ending ≡ Ended
+BatchStands (Fault fault) ending = FaultStands fault ending
 
 -- The bytes are these records, whatever comes later, and lead from one state to another.
-abbrev pub AreRecords : CaptureState → CaptureState → List ℕ → List CaptureRecord → Type 0
+abbrev pub AreRecords : AnyState → AnyState → List ℕ → List CaptureRecord → Type 0
 AreRecords before after given records =
     (later : List ℕ) →
     records_from before (given ++ later) ≡ followed_by records (records_from after later)
 
 -- The bytes are all records that follow from the state and their ending, whatever else the file may
 -- have.
-abbrev pub AreAll : CaptureState → List ℕ → Ending → List CaptureRecord → Option CaptureFault →
+abbrev pub AreAll : AnyState → List ℕ → Ending → List CaptureRecord → Option CaptureFault →
     Type 0
 AreAll before given ending records fault =
     (more : List ℕ) → (ending ≡ Ended → more ≡ []) →
     records_from before (given ++ more) ≡ record { records = records; fault = fault }
 
 -- These are the whole records of the bytes.
-abbrev pub AreWhole : CaptureState → List ℕ → List CaptureRecord → Type 0
+abbrev pub AreWhole : AnyState → List ℕ → List CaptureRecord → Type 0
 AreWhole before given records = (records_from before given).records ≡ records
 
--- What the bytes of a batch are, by how it ended.
-abbrev pub AreOfBatch : CaptureState → CaptureState → List ℕ → List CaptureRecord → BatchEnd →
-    Type 0
-AreOfBatch before after given records Full = AreRecords before after given records
-AreOfBatch before after given records End = AreAll before given Ended records None
-AreOfBatch before after given records (Fault ReadFault) = AreWhole before given records
-AreOfBatch before after given records (Fault fault) =
-    AreAll before given (ending_of_fault fault) records (Some fault)
+-- What the bytes of a batch are, by how it ended and how the reading stands.
+abbrev pub AreOfBatch : AnyState → AnyState → List ℕ → Ending → List CaptureRecord →
+    BatchEnd → Type 0
+AreOfBatch before after given ending records Full = AreRecords before after given records
+AreOfBatch before after given ending records End = AreAll before given ending records None
+AreOfBatch before after given ending records (Fault ReadFault) = AreWhole before given records
+AreOfBatch before after given ending records (Fault fault) =
+    AreAll before given ending records (Some fault)
 
 -- These records were read, from one state of the reader to another, and nothing else.
-pub record Took (before after : CaptureState) (records : List CaptureRecord) (given : List ℕ)
+pub record Took (before after : AnyState) (records : List CaptureRecord) (given : List ℕ)
     (old new : DeskView) (stop : BatchEnd) : Type 0 where
-  pub bytes : AreOfBatch before after given records stop
-  pub reads : ReadsOn (stands (ending_of stop)) given old new
-  pub at_end : ending_of stop ≡ Ended → IsAtEnd new
+  pub ending : Ending
+  pub stood : BatchStands stop ending
+  pub bytes : AreOfBatch before after given ending records stop
+  pub reads : ReadsOn (stands ending) given old new
+  pub at_end : ending ≡ Ended → IsAtEnd new
   pub read_fault : stop ≡ Fault ReadFault → Rose old.read_faults new.read_faults
   pub keeps : KeepsReading old new
   pub goes_on : stop ≡ Full → MayGoOn before → MayGoOn after
-  pub count : after.count ≡ before.count + length records
-  pub few : before.count ≤ max_records → after.count ≤ max_records
+  pub count : count_of after ≡ count_of before + length records
+  pub few : count_of before ≤ max_records → count_of after ≤ max_records
 
 -- A batch of records was read, and these are their packets.
-pub record TakesBatch (before after : CaptureState) (packets : List FrameClass)
+pub record TakesBatch (before after : AnyState) (packets : List FrameClass)
     (old new : DeskView) (stop : BatchEnd) : Type 0 where
   pub records : List CaptureRecord
   pub given : List ℕ
@@ -102,11 +89,10 @@ end_of (Ok (Some captured)) = None
 end_of (Err fault) = Some (Fault fault)
 
 -- The next record was asked for, and its packet was put after the others.
-pub record TakesRecord (before after : CaptureState) (packets_old packets_new : List FrameClass)
+pub record TakesRecord (before after : AnyState) (packets_old packets_new : List FrameClass)
     (old new : DeskView) (result : Option BatchEnd) : Type 0 where
   pub answer : Answer
-  pub takes : ReadsNext before old new answer
-  pub state : after ≡ state_after before answer
+  pub takes : ReadsNext before after old new answer
   pub packets : packets_new ≡ packets_old ++ map packet_of (record_in answer)
   pub keys : All IsPacket (map packet_of (record_in answer))
   pub stop : result ≡ end_of answer

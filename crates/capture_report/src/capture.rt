@@ -11,13 +11,15 @@ use crate::room::Room;
 use acl_outside::{Desk, Failed, Sink};
 use command_plan::Status;
 use flat_table::{Steps, Table};
-use pcap_reader::{BeginFault, Capture, CaptureFault};
+use pcap_reader::{BeginFault, CaptureFault};
+use pcapng_reader::AnyCapture;
 use std::alloc::{AllocError, Global};
 use std::sync::ledger::Ledger;
 
 /// Prints what the tables of both families answer for the packets of the named capture: a line for
 /// each record, and after a whole capture the line of the counts and, where they are asked for,
-/// those of the tables and of the transitions.
+/// those of the tables and of the transitions. The capture is a savefile of libpcap or a pcapng
+/// file, as its first bytes say.
 ///
 /// The keys of the tables have 13 and 37 bytes. At most 64 records are read ahead of their lines,
 /// and their keys are walked a batch at a time; `steps` rises by the transitions. All memory is
@@ -49,7 +51,7 @@ pub fn print_packets<D: Desk, O: Sink, L: Ledger>(
         Ok(()) => {}
         Err(Failed) => return Status::ReadFault,
     }
-    match Capture::begin(alloc, desk) {
+    match AnyCapture::begin(alloc, desk) {
         Ok(mut capture) => print_records(&form, &mut capture, &mut room, desk, out, steps),
         Err(BeginFault::Capture(fault)) => refused(fault),
         Err(BeginFault::OutOfMemory) => Status::OutOfMemory,

@@ -22,13 +22,13 @@ use acl_report::Counts;
 use command_plan::Status;
 use field_defs::Family;
 use flat_table::Steps;
-use pcap_reader::Capture;
+use pcapng_reader::AnyCapture;
 use std::sync::ledger::Ledger;
 
 /// Prints the lines of the records, from the first one on, and what comes after them.
 pub fn print_records<D: Desk, O: Sink, L: Ledger>(
     form: &FormByTables<'_>,
-    capture: &mut Capture,
+    capture: &mut AnyCapture,
     room: &mut Room,
     desk: &mut D,
     out: &mut O,

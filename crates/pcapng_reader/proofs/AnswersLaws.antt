@@ -47,8 +47,8 @@ only_piece given pieces later state none answers =
     ap (λ (l : List ℕ). given ++ l) (last_piece pieces later state none answers) ∙ append-nil given
 
 -- a fault is the answer to bytes with no record
-unanswered : (state now : AnyState) (given : List ℕ) (fault : CaptureFault) → IsNext state now given [] (Err fault) →
-    HasNoRecord (next_of state given)
+pub unanswered : (state now : AnyState) (given : List ℕ) (fault : CaptureFault) →
+    IsNext state now given [] (Err fault) → HasNoRecord (next_of state given)
 unanswered state now given ReadFault breaks =
     subst (λ l. HasNoRecord (next_of state l)) (sym (breaks.parts ∙ append-nil breaks.front)) breaks.no_whole
 unanswered state now given fault fails = subst HasNoRecord (sym fails) tt
@@ -59,9 +59,9 @@ first_none : (state : AnyState) (left : List ℕ) (captured : CaptureRecord) (no
 first_none state left captured now after is = subst FirstNone is (next-first state left)
 
 -- fewer bytes than a block has are no record
-nothing : (state : AnyState) → length (first_of state) < 12 → (records_from state []).records ≡ []
-nothing (Savefile state) few = ap (λ r. r.records) (records-end (Savefile state) [] (Savefile state) refl)
-nothing (Blocks state) few = go (next_of (Blocks state) []) refl
+pub records-nothing : (state : AnyState) → length (first_of state) < 12 → (records_from state []).records ≡ []
+records-nothing (Savefile state) few = ap (λ r. r.records) (records-end (Savefile state) [] (Savefile state) refl)
+records-nothing (Blocks state) few = go (next_of (Blocks state) []) refl
   where
     go : (n : Next) → next_of (Blocks state) [] ≡ n → (records_from (Blocks state) []).records ≡ []
     go (End later) is = ap (λ r. r.records) (records-end (Blocks state) [] later is)
@@ -73,7 +73,7 @@ nothing (Blocks state) few = go (next_of (Blocks state) []) refl
 pub records_of_answers : (state : AnyState) (pieces : List (List ℕ)) (answers : List Answer) →
     length (first_of state) < 12 → AreAnswersTo state pieces answers →
     (records_from state (concat pieces)).records ≡ records_given answers
-records_of_answers state [] [] few answers = nothing state few
+records_of_answers state [] [] few answers = records-nothing state few
 records_of_answers state [] (answer ∷ later) few answers = absurd answers
 records_of_answers state (given ∷ pieces) [] few answers = absurd answers
 records_of_answers state (given ∷ pieces) (Ok (Some captured) ∷ later) few answers =

@@ -2,6 +2,7 @@ mod AnswersLaws
 mod BeginLaws
 mod BlockLaws
 mod CaptureLaws
+mod FollowLaws
 mod FrontLaws
 mod LongLaws
 mod NextLaws

@@ -33,3 +33,27 @@ pub use Rattle.pcapng_reader.proofs.BeginLaws.{capture-start}
 pub use Rattle.pcapng_reader.proofs.BeginLaws.{start-fault}
 -- and has no records
 pub use Rattle.pcapng_reader.proofs.BeginLaws.{whole-none}
+-- the start of a reader
+-- it has given no record, and goes on
+pub use Rattle.pcapng_reader.proofs.StartLaws.{start-begun}
+-- it has read four bytes of a block at most
+pub use Rattle.pcapng_reader.proofs.StartLaws.{start-first}
+-- the bytes that it has read ahead, and then what is left, are the end of the file
+pub use Rattle.pcapng_reader.proofs.StartLaws.{start-left}
+-- it was said by the first bytes
+pub use Rattle.pcapng_reader.proofs.StartLaws.{len_cases}
+-- what follows
+-- a reader that gave a record has counted it, and goes on as before
+unfoldable pub use Rattle.pcapng_reader.proofs.FollowLaws.{CountsNext}
+-- and so it has
+pub use Rattle.pcapng_reader.proofs.FollowLaws.{next-counts}
+-- a reader that gave a record has read no bytes of the next block
+unfoldable pub use Rattle.pcapng_reader.proofs.NextLaws.{FirstNone}
+-- and so it has
+pub use Rattle.pcapng_reader.proofs.NextLaws.{next-first}
+-- fewer bytes than a block has are no record
+pub use Rattle.pcapng_reader.proofs.AnswersLaws.{records-nothing}
+-- a fault is the answer to bytes with no record
+pub use Rattle.pcapng_reader.proofs.AnswersLaws.{unanswered}
+-- one byte more after a whole capture is a fault
+pub use Rattle.pcapng_reader.proofs.FollowLaws.{whole-last}

@@ -29,7 +29,7 @@ use Rattle.pcapng_reader.proofs.BlockLaws.{Came, Empty, Faulty, Whole, came, IsD
 use Rattle.pcapng_reader.proofs.NextLaws.{block_of-append, next-passed, next-given, next-end, next-fault}
 
 -- What a reader knows after a block: it has counted it.
-abbrev CountsBlock : BlockState → Block → Type 0
+abbrev pub CountsBlock : BlockState → Block → Type 0
 CountsBlock state block.End = ⊤
 CountsBlock state (block.Passed now after) =
     (now.blocks ≡ state.blocks + 1) × (state.blocks < max_blocks) × (now.count ≡ state.count)

@@ -22,7 +22,9 @@ use Rattle.pcap_reader.specs.Reader as savefile
 use Rattle.pcap_reader.specs.Fill.{KeepsReading, IsAtEnd, Fills}
 use Rattle.pcap_reader.proofs.Offered.{KeepsReading-join, Rose-later, reads-full, reads-short}
 use Rattle.pcapng_reader.specs.Capture.{AnyState, Savefile, Blocks, begun_blocks, first_of, is_blocks, section_bytes}
+use Rattle.pcap_reader.specs.declared.state.Progress.TheVariants as progress
 use Rattle.pcapng_reader.specs.Reader.{IsStart, ReadsStart, after_start, is_cut_start, start_len, start_of}
+use Rattle.pcapng_reader.specs.Reader.{count_of, progress_of}
 
 -- what the header of a savefile says, as a state of the reader
 abbrev pub savefile_says : Result Start CaptureFault → Result AnyState CaptureFault
@@ -143,6 +145,54 @@ start-first bytes state says = by_format (is_blocks bytes) refl
         let same : Blocks (begun_blocks section_bytes) ≡ state = (let e = sym (start_blocks bytes is_so) ∙ says in cc)
         in
         subst (λ s. length (first_of s) < 12) same (omega arith)
+
+-- and it has given no record, and no call of it has ended or failed
+pub start-begun : (bytes : List ℕ) (state : AnyState) → start_of bytes ≡ Ok state →
+    (count_of state ≡ 0) × (progress_of state ≡ progress.Reading)
+start-begun bytes state says = by_format (is_blocks bytes) refl
+  where
+    by_header : is_blocks bytes ≡ false → (r : Result Start CaptureFault) → savefile_start bytes ≡ r →
+        (count_of state ≡ 0) × (progress_of state ≡ progress.Reading)
+    by_header isnt (Err fault) is = absurd (let e = sym (start_savefile bytes isnt (Err fault) is) ∙ says in cc)
+    by_header isnt (Ok start) is =
+        let same : Savefile (begun_savefile start) ≡ state =
+        (let e = sym (start_savefile bytes isnt (Ok start) is) ∙ says in cc) in
+        subst (λ s. (count_of s ≡ 0) × (progress_of s ≡ progress.Reading)) same (refl, refl)
+
+    by_format : (blocks : Bool) → is_blocks bytes ≡ blocks →
+        (count_of state ≡ 0) × (progress_of state ≡ progress.Reading)
+    by_format false isnt = by_header isnt (savefile_start bytes) refl
+    by_format true is_so =
+        let same : Blocks (begun_blocks section_bytes) ≡ state = (let e = sym (start_blocks bytes is_so) ∙ says in cc)
+        in
+        subst (λ s. (count_of s ≡ 0) × (progress_of s ≡ progress.Reading)) same (refl, refl)
+
+-- the bytes that it has read ahead, and then what is left, are the end of the file
+pub start-left : (bytes : List ℕ) (state : AnyState) → start_of bytes ≡ Ok state →
+    (n : ℕ) × (first_of state ++ drop (start_len state) bytes ≡ drop n bytes)
+start-left bytes state says = by_format (is_blocks bytes) refl
+  where
+    by_header : is_blocks bytes ≡ false → (r : Result Start CaptureFault) → savefile_start bytes ≡ r →
+        (n : ℕ) × (first_of state ++ drop (start_len state) bytes ≡ drop n bytes)
+    by_header isnt (Err fault) is = absurd (let e = sym (start_savefile bytes isnt (Err fault) is) ∙ says in cc)
+    by_header isnt (Ok start) is =
+        let same : Savefile (begun_savefile start) ≡ state =
+        (let e = sym (start_savefile bytes isnt (Ok start) is) ∙ says in cc) in (
+          file_header_len,
+          subst (λ s. first_of s ++ drop (start_len s) bytes ≡ drop file_header_len bytes) same refl,
+        )
+
+    by_format : (blocks : Bool) → is_blocks bytes ≡ blocks →
+        (n : ℕ) × (first_of state ++ drop (start_len state) bytes ≡ drop n bytes)
+    by_format false isnt = by_header isnt (savefile_start bytes) refl
+    by_format true is_so =
+        let same : Blocks (begun_blocks section_bytes) ≡ state = (let e = sym (start_blocks bytes is_so) ∙ says in cc)
+        in
+        let all : take 4 bytes ≡ section_bytes = (bytes_eq-Decides (take 4 bytes) section_bytes).0 is_so in (
+          0,
+          subst (λ s. first_of s ++ drop (start_len s) bytes ≡ bytes) same
+              (ap (λ (l : List ℕ). l ++ drop 4 bytes) (sym all) ∙ take-append-drop 4 bytes),
+        )
 
 -- what is said by a file is said by the first bytes alone
 pub start-take : (bytes : List ℕ) (state : AnyState) → start_of bytes ≡ Ok state →

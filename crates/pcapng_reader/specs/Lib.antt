@@ -4,6 +4,7 @@ pub mod CaptureExamples
 pub mod Reading
 pub mod Reader
 pub mod Answers
+pub mod Following
 pub mod Packets
 pub mod BlockLending
 pub mod SavefileLending

@@ -4,7 +4,7 @@ use Rattle.capture_report.specs.CaptureOutcome.{refusal}
 use Rattle.capture_report.specs.ReportForm.{form_by}
 use Rattle.command_plan.specs.Effects.{outside}
 use Rattle.capture_report.proofs.Alike.{Reports-no_room, Streams-alike, PrintsCapture-from, categories_few}
-use Rattle.capture_report.proofs.Reader.{ReadHeader-from}
+use Rattle.capture_report.proofs.Reader.{ReadHeader-from, begun-from}
 use Rattle.capture_report.proofs.Reporting.{Reports-unopened, Reports-full, Reports-header, Reports-streamed}
 use Rattle.capture_report.proofs.capture.print_packets.Goals as goal
 
@@ -22,6 +22,11 @@ returns-in-Err-open_file g c =
     (g.O.Sink.view c.args.out.now) c.args.steps.now
     c.in-Err-open_file.field-0 c.in-Err-open_file.ensures)
 
+pub print_records-requires-clause-begun : goal.print_records-requires-clause-begun
+print_records-requires-clause-begun g c =
+    begun-from c.in-Ok-begin.capture (g.D.Desk.view c.open_file.new.self) (g.D.Desk.view c.begin.new.desk)
+    c.in-Ok-begin.ensures
+
 pub returns-in-Ok-begin : goal.returns-in-Ok-begin
 returns-in-Ok-begin g c =
     let desk = g.D.Desk.view in
@@ -33,8 +38,7 @@ returns-in-Ok-begin g c =
     (outside (desk c.begin.new.desk) (out c.args.out.now) c.args.steps.now)
     (outside (desk c.print_records.new.desk) (out c.print_records.new.out) c.print_records.new.steps)
     c.in-Ok-open_file.field-0 c.print_records.result c.in-Ok-open_file.ensures
-    (ReadHeader-from c.in-Ok-begin.capture (desk c.open_file.new.self) (desk c.begin.new.desk) c.in-Ok-begin.ensures.0
-    c.in-Ok-begin.ensures.1)
+    (ReadHeader-from c.in-Ok-begin.capture (desk c.open_file.new.self) (desk c.begin.new.desk) c.in-Ok-begin.ensures)
     (Streams-alike classifier tables c.args.options.now answers
     (categories_few c.args.options.now.cats.count c.args.options.now.cats.lawful) _ _ _ _
     (rw c.new-form.ensures at c.print_records.ensures)))

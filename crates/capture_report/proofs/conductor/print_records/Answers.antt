@@ -2,7 +2,6 @@
 use Rattle.std.proofs.Common.{refl, ap, arith}
 use Rattle.command_plan.specs.Effects.{outside}
 use Rattle.capture_report.proofs.LineLaws.{counts-none, records_add_up, counted_all-packets}
-use Rattle.capture_report.proofs.Reader.{begun-goes_on}
 use Rattle.capture_report.proofs.Streaming.{HasPrinted-none, HasPrinted-batch, Streams-failed}
 use Rattle.capture_report.proofs.Streaming.{Streams-ended, Streams-fault, packets_few, standing}
 use Rattle.capture_report.proofs.conductor.print_records.Goals as goal
@@ -14,7 +13,7 @@ batches-init g c = record {
       (counts-none c.default-counts.result c.default-counts.ensures);
   bound = omega arith;
   reading = c.requires.reading;
-  state = begun-goes_on c.args.capture.now c.requires.begun;
+  state = c.requires.begun.0;
 }
 
 pub put_lines-requires-clause-next : goal.put_lines-requires-clause-next
@@ -44,7 +43,7 @@ returns-in-Err g c =
     (outside (desk c.batches.desk) (out c.batches.out) c.batches.steps))
     (standing c.take_batch-end.new.capture c.put_lines.new.counts c.put_lines.new.transitions
     (outside (desk c.take_batch-end.new.desk) (out c.put_lines.new.out) c.put_lines.new.steps))
-    c.take_batch-end.new.packets c.take_batch-end.result c.in-Err.field-0 c.batches.invariant.printed
+    c.take_batch-end.new.packets c.take_batch-end.result c.in-Err.field-0 c.requires.begun c.batches.invariant.printed
     c.take_batch-end.ensures.batch
     record {
       puts = c.in-Err.ensures.puts;

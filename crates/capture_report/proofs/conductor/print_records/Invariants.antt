@@ -1,7 +1,7 @@
 -- some records were taken and their lines were put
 use Rattle.std.proofs.Common.{◌-◌, ◌*◌, ◌≤◌}
 use Rattle.std.specs.Bool.{IsTrue}
-use Rattle.pcap_reader.specs.Capture.{max_records}
+use Rattle.pcapng_reader.specs.Capture.{max_records}
 use Rattle.capture_report.specs.Batch.{max_transitions}
 use Rattle.capture_report.specs.NextRecord.{MayGoOn}
 use Rattle.capture_report.specs.declared.batch.BatchEnd.TheVariants.{Full}

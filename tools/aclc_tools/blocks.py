@@ -1,0 +1,91 @@
+"""pcapng captures: their packets, or the fault that ends them, and what to do about it."""
+import struct
+
+from .refusal import LINKS, MOST_CAPTURED, Fault, link_sentence
+
+SECTION = b"\n\r\r\n"
+SECTION_TYPE, INTERFACE, PACKET = 0x0A0D0D0A, 1, 6
+# How many bytes a block has at least, with its type and its two lengths.
+LEAST = {SECTION_TYPE: 28, INTERFACE: 20, PACKET: 32}
+MOST_INTERFACES = 1024
+MOST_RECORDS, MOST_BLOCKS = 1_000_000_000, 2_000_000_000
+ENDS = "The file ends within this block: it is still being written, or was cut."
+DAMAGED = "the file is damaged here, or one block before it is."
+
+
+def section_order(content, at):
+    """The byte order of a section, or none."""
+    return next((order for order in "<>" if struct.unpack(order + "I", content[at + 8:at + 12])[0] == 0x1A2B3C4D), None)
+
+
+def record_of(order, content, at, total, links, number):
+    """The captured bytes of an enhanced packet and its length on the wire."""
+    interface, _, _, captured, length = struct.unpack(order + "IIIII", content[at + 8:at + 28])
+    if interface >= len(links):
+        raise Fault(number, "no interface", f"The packet is of interface {interface}, and {len(links)} stand before it in its section.")
+    if links[interface] not in LINKS:
+        raise Fault(number, "interface link type", link_sentence("The interface's", links[interface]))
+    if captured > MOST_CAPTURED:
+        raise Fault(number, "too long", f"The packet claims {captured} bytes: {DAMAGED}")
+    if -captured % 4 + captured + 32 > total:
+        raise Fault(number, "block length", f"The packet claims {captured} bytes, and its block has {total}: {DAMAGED}")
+    return content[at + 28:at + 28 + captured], length
+
+
+def told(order, content, at, kind, total, links, number):
+    """What the head of a block says: the record of a packet, or none, with the interfaces after it."""
+    if kind == SECTION_TYPE:
+        major, minor = struct.unpack(order + "HH", content[at + 12:at + 16])
+        if major != 1:
+            raise Fault(number, "section version", f"The section's version is {major}.{minor}, and only 1 is read.")
+        return None, []
+    if kind == INTERFACE:
+        if len(links) >= MOST_INTERFACES:
+            raise Fault(number, "too many interfaces", f"A section has at most {MOST_INTERFACES} interfaces.")
+        return None, [*links, struct.unpack(order + "H", content[at + 8:at + 10])[0]]
+    if kind == PACKET:
+        return record_of(order, content, at, total, links, number), links
+    return None, links
+
+
+def records(content):
+    """Each packet's captured bytes and its length on the wire; a Fault at the first block that isn't whole."""
+    order, links, at, count, read = ">", [], 0, 0, 0
+    while at < len(content):
+        number, left = count + 1, len(content) - at
+        if count == MOST_RECORDS or read == MOST_BLOCKS:
+            raise Fault(number, "too many", f"A capture has at most {MOST_RECORDS} packets and {MOST_BLOCKS} blocks: divide it.")
+        if left < 12:
+            raise Fault(number, "block cut", ENDS)
+        kind, = struct.unpack(order + "I", content[at:at + 4])
+        if kind == SECTION_TYPE:
+            order = section_order(content, at)
+            if order is None:
+                raise Fault(number, "byte order", f"The section's byte-order magic is of neither order: {DAMAGED}")
+        total, = struct.unpack(order + "I", content[at + 4:at + 8])
+        least = LEAST.get(kind, 12)
+        if total % 4 or total < least:
+            raise Fault(number, "block length", f"The block claims {total} bytes: {DAMAGED}")
+        if left < least - 4:
+            raise Fault(number, "block cut", ENDS)
+        record, links = told(order, content, at, kind, total, links, number)
+        if left < total:
+            raise Fault(number, "block cut", ENDS)
+        if struct.unpack(order + "I", content[at + total - 4:at + total])[0] != total:
+            raise Fault(number, "block length", f"The block's two lengths differ: {DAMAGED}")
+        at, read = at + total, read + 1
+        if record is not None:
+            count += 1
+            yield record
+
+
+def block(kind, body):
+    """A block of little-endian numbers with this body, filled up to a multiple of 4 bytes."""
+    body += bytes(-len(body) % 4)
+    return struct.pack("<II", kind, len(body) + 12) + body + struct.pack("<I", len(body) + 12)
+
+
+def write(frames, link=1):
+    """A pcapng capture of these frames: a section, an interface and a packet for each frame."""
+    start = block(SECTION_TYPE, struct.pack("<IHHq", 0x1A2B3C4D, 1, 0, -1)) + block(INTERFACE, struct.pack("<HHI", link, 0, MOST_CAPTURED))
+    return start + b"".join(block(PACKET, struct.pack("<IIIII", 0, 0, 0, len(frame), len(frame)) + frame) for frame in frames)
