@@ -12,6 +12,7 @@ mod Masking
 mod Noting
 mod Numbering
 mod Ready
+mod Repeating
 mod RunLinks
 mod Telling
 mod Through

@@ -5,7 +5,7 @@ use Rattle.std.proofs.Common.{inr, arith, take, get_or, length-append}
 use Rattle.std.specs.Int.{bit_at}
 use Rattle.std.specs.Prelude.{bit_and}
 use Rattle.std.proofs.lemmas.Bool.{cases_Bool, cases_lt, eqb-true, eq-eqb}
-use Rattle.std.proofs.lemmas.List.{map-append, append-nil, append_assoc, take_more, take_all, length-take-le}
+use Rattle.std.proofs.lemmas.List.{map-append, append-nil, append_assoc, take_more, length-take-le}
 use Rattle.std.proofs.lemmas.List.Elements.{filter-append}
 use Rattle.std.proofs.lemmas.Nat.{and_mask, pow-add}
 use Rattle.std.proofs.lemmas.Nat.Bits.{bit_at-zero, bit_at-lt, bit_at_above, bit_at_cat_low, bit_at_cat_high}

@@ -1,13 +1,13 @@
 -- Examples of differences and of halves, each checked by evaluation. Keys are cut down to one byte,
 -- so that all of them can be gone through.
-use Rattle.std.specs.Prelude.{◌≡◌, ℕ, pos, List, [], ◌∷◌, map, Some, None, refl}
+use Rattle.std.specs.Prelude.{◌≡◌, ℕ, pos, List, [], ◌∷◌, map, true, false, Some, None, refl}
 use Rattle.field_defs.specs.declared.field.FieldKind.TheVariants as kinds
 use Rattle.field_defs.specs.declared.field.FieldValue.TheVariants.{Range}
 use Rattle.rule_set.specs.Fault.{categories}
 use Rattle.rule_set.specs.Rule.{RuleView, RuleSetView}
 use Rattle.trie_merge.specs.Found.{all_bytes}
 use Rattle.acl_audit.specs.Difference.{eight_from, least_passing, difference}
-use Rattle.acl_audit.specs.Half.{mask_of, halved_rules, half_of}
+use Rattle.acl_audit.specs.Half.{mask_of, halved_rules, half_of, has_equal_halves}
 
 -- a rule of some categories for the numbers of a range, and its userdata
 abbrev rule : ℕ → ℕ → ℕ → ℕ → RuleView
@@ -63,3 +63,10 @@ masks half = map (λ (r : RuleView). r.tag.category_mask)
 masks_of_halves : map masks (0 ∷ 1 ∷ []) ≡ (3 ∷ 256 ∷ []) ∷ (1 ∷ 2 ∷ 33024 ∷ []) ∷ []
 unfolding half_of halved_rules mask_of categories
 masks_of_halves = refl
+
+-- all categories, 0 and 8, and 7 and 15 are the same in both halves; 0 to 7, 7 and 8, and 15 aren't
+equal_halves : map (λ mask. has_equal_halves 1 (rule mask 0 9 1).tag)
+    (65535 ∷ 257 ∷ 32896 ∷ 255 ∷ 384 ∷ 32768 ∷ [])
+    ≡ true ∷ true ∷ true ∷ false ∷ false ∷ false ∷ []
+unfolding mask_of categories
+equal_halves = refl

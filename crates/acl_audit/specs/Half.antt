@@ -4,7 +4,7 @@
 -- Classification and Access Control".
 use Rattle.std.specs.Prelude.{ℕ, ◌+◌, ◌*◌, ◌/◌, ◌%◌, ◌^◌, ◌==◌, List, ◌++◌, map, filter, length, nat_lt}
 use Rattle.std.specs.Prelude.{Bool, not, ◌&&◌}
-use Rattle.std.specs.List.{sum_by}
+use Rattle.std.specs.List.{sum_by, list_all}
 use Rattle.rule_set.specs.declared.rule.RuleTag.{RuleTag}
 use Rattle.rule_set.specs.Fault.{categories}
 use Rattle.rule_set.specs.Rule.{RuleView, RuleSetView}
@@ -44,6 +44,18 @@ half_of one two half = record {
   layout = one.layout;
   rules = halved_rules half 0 one.rules ++ halved_rules half 1 two.rules;
 }
+
+-- a rule of the list of that number has the same mask in both halves
+abbrev pub has_equal_halves : ℕ → RuleTag → Bool
+has_equal_halves list tag = mask_of (is_in_half 0 list tag) == mask_of (is_in_half 1 list tag)
+
+-- each rule of the list has
+abbrev pub have_equal_halves : ℕ → List RuleView → Bool
+have_equal_halves list rules = list_all (λ rule. has_equal_halves list rule.tag) rules
+
+-- each rule of both sets has
+abbrev pub are_halves_equal : RuleSetView → RuleSetView → Bool
+are_halves_equal one two = have_equal_halves 0 one.rules && have_equal_halves 1 two.rules
 
 -- there is a rule, and the table of all rules in one group has more words than the budget
 abbrev pub exceeds : RuleSetView → ℕ → Bool

@@ -14,7 +14,7 @@ ghost use Rattle.acl_audit.specs.Least.{all_rules};
 ghost use Rattle.acl_audit.specs.Traced.{key_of_row};
 
 use crate::audit::{AuditFault, merged};
-use crate::half::{HALF_LEN, half_of};
+use crate::half::{HALF_LEN, are_halves_equal, half_of};
 use crate::links::links_of;
 use crate::places::kept_places;
 use crate::trace::row_key;
@@ -156,6 +156,34 @@ fn compare_half(
     }
 }
 
+/// Compares two sets in the categories from 8 on, where they are alike in those below 8 and the
+/// table of these fits.
+fn compare_second(
+    alloc: Global,
+    one: &RuleSet,
+    two: &RuleSet,
+    budget: u64,
+) -> Result<Compared, CompareFault>
+    requires layouts { one.now.layout ≡ two.now.layout }
+    requires rules { length one.now.rules + length two.now.rules ≤ max_rules }
+    requires budget { budget ≤ max_words }
+    requires alike { difference_from one.now two.now 0 ≡ None }
+    requires first { exceeds (half_of one.now two.now 0) budget ≡ false }
+    ensures told { IfOk result
+        (λ compared. told_difference compared ≡ difference_from one.now two.now half_len) }
+    ensures fits { OnOk result (exceeds (half_of one.now two.now 1) budget ≡ false) }
+    ensures over { (words most : ℕ) → result ≡ Err (TooLarge words most) →
+        (exceeds (half_of one.now two.now 1) budget ≡ true)
+        × (words ≡ budget + 1) × (most ≡ budget) }
+    ensures few { result ≢ Err TooManyRules }
+{
+    // What was found of the first half then holds of the second one too.
+    if are_halves_equal(one, two) {
+        return Ok(Compared::Same);
+    }
+    compare_half(alloc, one, two, 1, budget)
+}
+
 /// Compares two sets of not too many rules in all categories.
 fn compare_both(
     alloc: Global,
@@ -175,7 +203,7 @@ fn compare_both(
     ensures few { result ≢ Err TooManyRules }
 {
     match compare_half(alloc, one, two, 0, budget) {
-        Ok(Compared::Same) => compare_half(alloc, one, two, 1, budget),
+        Ok(Compared::Same) => compare_second(alloc, one, two, budget),
         Ok(Compared::Differ { key, category }) => Ok(Compared::Differ { key, category }),
         Err(fault) => Err(fault),
     }
@@ -185,8 +213,9 @@ fn compare_both(
 /// categories, and else the least key and category at which they don't.
 ///
 /// The layouts are equal, and the budget is from 1 to [`table_sizes::MAX_WORDS`] words. The rules
-/// of both sets are merged twice: in their categories below 8, and where these are alike in those
-/// from 8 on; rules without such a category are left out, and no rules need no table.
+/// of both sets are merged in their categories below 8, and where these are alike in those from 8
+/// on; rules without such a category are left out, and no rules need no table. Where each rule of
+/// both sets has the same eight categories there, they aren't merged a second time.
 /// `TooManyRules` comes exactly where both sets together have more than [`rule_set::MAX_RULES`]
 /// rules, and `TooLarge` exactly where such a table of both has more words than the budget, unless
 /// memory ran out before that was known; its words are one more than the budget. It takes memory

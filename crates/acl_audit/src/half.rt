@@ -4,6 +4,7 @@ ghost use Rattle.std.specs.Prelude.{◌≡◌, ◌<◌, ◌≤◌, ◌+◌, ◌+
 ghost use Rattle.rule_set.specs.Fault.{rule_fault};
 ghost use Rattle.rule_set.specs.Limits.{max_rules};
 ghost use Rattle.acl_audit.specs.Half.{is_in_half, mask_of, halved_rules, half_of};
+ghost use Rattle.acl_audit.specs.Half.{has_equal_halves, have_equal_halves, are_halves_equal};
 
 use rule_set::{RuleSet, RuleTag, StoredRule};
 use std::alloc::{AllocError, Global};
@@ -96,4 +97,30 @@ pub(crate) fn half_of(
     push_list(alloc, &mut rules, one, half, 0)?;
     push_list(alloc, &mut rules, two, half, 1)?;
     Ok(rules)
+}
+
+/// Whether the rule of the list of that number, 0 or 1, has the same mask in both halves.
+fn has_equal_halves(tag: &RuleTag, list: u32) -> bool
+    requires { list < 2 }
+    ensures { result ≡ has_equal_halves list tag.now }
+{
+    half_mask(tag, 0, list) == half_mask(tag, 1, list)
+}
+
+/// Whether each rule of the list has.
+fn have_equal_halves(rules: &RuleSet, list: u32) -> bool
+    requires { list < 2 }
+    ensures { result ≡ have_equal_halves list rules.now.rules }
+{
+    rules
+        .all()
+        .iter()
+        .all(|rule| has_equal_halves(&rule.tag(), list))
+}
+
+/// Whether each rule of both sets has, so that both halves are one list of rules.
+pub(crate) fn are_halves_equal(one: &RuleSet, two: &RuleSet) -> bool
+    ensures { result ≡ are_halves_equal one.now two.now }
+{
+    have_equal_halves(one, 0) && have_equal_halves(two, 1)
 }

@@ -12,7 +12,7 @@
 //! - `trace`: from a row back to the first byte, and so its least key
 //! - `firsts`: the first row in which each rule is the winner of each category
 //! - `audit`: [`live_rules`], and what comes of it
-//! - `half`: two lists as one, in eight categories of each
+//! - `half`: two lists as one, in eight categories of each, and whether both halves are equal
 //! - `unlike`: the first row in which the two lists of a half answer unlike
 //! - `compare`: [`compare_rules`], over both halves
 //! - `laws`: what least keys, differences and halves are, over the definitions alone

@@ -128,7 +128,7 @@ type Row = (u32, i32, u32, [u64; 4]);
 /// The greatest number of four bytes.
 const WILD: u64 = 0xFFFF_FFFF;
 
-const ROWS: [Row; 7] = [
+const ROWS: [Row; 9] = [
     (0x0101, 1, 1, [0, 255, 0, WILD]),
     (0x8001, 2, 2, [5, 255, 5, 1285]),
     (0x0180, 2, 1, [5, 5, 0, WILD]),
@@ -136,13 +136,15 @@ const ROWS: [Row; 7] = [
     (0x8000, 2, 2, [0, 5, 1285, 1285]),
     (0x0102, 1, 0, [0, 255, 1, 1]),
     (0xFFFF, 0, 1, [0, 255, 0, WILD]),
+    (0x8181, 3, 3, [6, 255, 256, 256]),
+    (0x0100, 3, 3, [6, 255, 256, 256]),
 ];
 
 /// Adds the rules of the rows whose bits are set in the number.
 fn add_rows(rt: &impl Abort, alloc: Global, rules: &mut RuleSet, number: u32) -> Result<(), Fail>
     ensures { OnOk result (rules.new.layout ≡ rules.old.layout) }
 {
-    for place in 0..7u32 {
+    for place in 0..9u32 {
         let (category_mask, priority, userdata, [a, b, c, d]) = ROWS[place as usize];
         if number >> place & 1 == 1 {
             let tag = RuleTag {
@@ -221,6 +223,29 @@ fn differences_are_the_least_of_all(rt: HostRuntime) -> Result<(), Fail> {
     for number in 0..128u32 {
         compares(&rt, rt.alloc(), number, (number * 37 + 11) % 128)?;
         compares(&rt, rt.alloc(), number, number & 0x6F)?;
+    }
+    Ok(())
+}
+
+#[test]
+fn differences_from_8_on_are_found_though_a_list_has_equal_halves(
+    rt: HostRuntime,
+) -> Result<(), Fail> {
+    // Rows 0, 6 and 7 have equal masks below 8 and from 8 on, and the others haven't.
+    let cases: [(u32, u32); 8] = [
+        (0b0_1100_0001, 0b0_1100_0001),
+        (0b0_1000_0000, 0b0_0000_0000),
+        // Row 8 adds category 8, which row 7 has too.
+        (0b0_1000_0001, 0b1_1000_0001),
+        (0b1_1000_0001, 0b0_1000_0001),
+        // Only category 8 differs, and then only category 15.
+        (0b0_0100_0001, 0b1_0100_0001),
+        (0b1_0000_0000, 0b0_0000_0000),
+        (0b0_0100_0000, 0b0_0101_0000),
+        (0b0_0001_0000, 0b0_0000_0000),
+    ];
+    for (number, other) in &cases {
+        compares(&rt, rt.alloc(), *number, *other)?;
     }
     Ok(())
 }

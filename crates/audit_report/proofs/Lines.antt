@@ -1,10 +1,9 @@
 -- Lines that are put one after the other, and what the audit of a set says of its rules.
-use Rattle.std.proofs.Common.{◌≡◌, ℕ, ◌+◌, ◌<◌, ◌≤◌, List, [], ◌∷◌, ◌++◌, Bool, true, false, filter, length, map, take, get_or}
+use Rattle.std.proofs.Common.{◌≡◌, ℕ, ◌+◌, ◌<◌, ◌≤◌, List, [], ◌∷◌, ◌++◌, Bool, true, false, filter, length, map, get_or}
 use Rattle.std.proofs.Common.{Option, None, refl, sym, ◌∙◌, ap, arith, append-nil, append_assoc, length-append, Some}
 use Rattle.std.specs.Prelude.{cond, ◌||◌}
 use Rattle.std.specs.Int.{from_bool}
 use Rattle.std.specs.List.{flat_map, list_any, range_with_len}
-use Rattle.std.proofs.lemmas.List.{take_more}
 use Rattle.std.proofs.lemmas.List.Concat.{flat_map-append}
 use Rattle.std.proofs.lemmas.List.Folds.{list_any-append}
 use Rattle.std.proofs.lemmas.List.FromFn.{get_or-map-range_with_len, length-map-range_with_len}
@@ -13,7 +12,6 @@ use Rattle.rule_set.specs.Fault.{categories}
 use Rattle.rule_set.specs.Rule.{RuleSetView}
 use Rattle.table_sizes.specs.Sizes.{row_len}
 use Rattle.acl_audit.specs.Least.{least_key, least_keys}
-use Rattle.audit_report.specs.Key.{byte_text, hex_text}
 use Rattle.audit_report.specs.Audit.{category_text, rule_text, wins_text}
 use Rattle.field_defs.specs.declared.field.Family.{Family}
 use Rattle.rule_set.specs.Winner.{userdata_at}
@@ -25,12 +23,6 @@ parts_more f n =
     ap (flat_map f) (range-push 0 n) ∙ flat_map-append f (range_with_len 0 n) ((0 + n) ∷ [])
     ∙ ap (λ l. flat_map f (range_with_len 0 n) ++ l) (append-nil (f (0 + n)))
     ∙ ap (λ k. flat_map f (range_with_len 0 n) ++ f k) (omega arith)
-
--- one more byte of a key
-pub hex_more : (key : List ℕ) (n : ℕ) → n < length key →
-    hex_text (take (n + 1) key) ≡ hex_text (take n key) ++ byte_text (get_or key n 0)
-hex_more key n within =
-    ap hex_text (take_more key n 0 within) ∙ flat_map-append byte_text (take n key) (get_or key n 0 ∷ [])
 
 -- one more of those of which one may pass
 pub any_more : (p : ℕ → Bool) (n : ℕ) →

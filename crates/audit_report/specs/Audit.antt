@@ -1,5 +1,5 @@
--- The lines of `audit`: in which categories each rule ever wins, with the least key at which it does,
--- or that it never wins.
+-- The lines of `audit`: in which categories each rule ever wins, with the least key at which it
+-- does, or that it never wins.
 use Rattle.std.specs.Prelude.{ℕ, ◌+◌, ◌-◌, List, [], ◌∷◌, ◌++◌, length, filter, codes, decimal, Bool}
 use Rattle.std.specs.Prelude.{true, false, Option, Some, None}
 use Rattle.std.specs.List.{flat_map, list_any, range_with_len}
@@ -25,7 +25,7 @@ abbrev pub is_some : Option (List ℕ) → Bool
 is_some None = false
 is_some (Some key) = true
 
--- the line of a rule in a category, of which this is the least key at which it wins, if there is one
+-- the line of a rule in a category, of which this is the least key at which it wins, or no line
 abbrev pub category_text : Family → ℕ → ℕ → ℕ → Option (List ℕ) → List ℕ
 category_text family place userdata category None = []
 category_text family place userdata category (Some key) =

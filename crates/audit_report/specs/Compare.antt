@@ -1,5 +1,5 @@
--- The lines of `compare`: for each family that both lists decide alike, or the least key and category
--- at which they don't, with both verdicts.
+-- The lines of `compare`: for each family that both lists decide alike, or the least key and
+-- category at which they don't, with both verdicts.
 use Rattle.std.specs.Prelude.{ℕ, List, [], ◌∷◌, ◌++◌, codes, decimal, Option, Some, None}
 use Rattle.field_defs.specs.declared.field.Family.{Family}
 use Rattle.rule_set.specs.Rule.{RuleSetView}

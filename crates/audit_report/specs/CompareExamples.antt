@@ -43,10 +43,10 @@ unfolding digits all_bytes difference.difference difference.least_passing differ
 a_difference = refl
 
 -- categories below 8 come first, whatever their keys
-categories_below_8 : compared_text Ip4 (rules (rule 7 7 4096 1 ∷ rule 200 200 128 2 ∷ [])) (rules [])
+categories_from_0 : compared_text Ip4 (rules (rule 7 7 4096 1 ∷ rule 200 200 128 2 ∷ [])) (rules [])
     ≡ codes "ip4 differ category 7 key c8 one 2 two 0\n"
 unfolding digits all_bytes difference.difference difference.least_passing difference.eight_from
-categories_below_8 = refl
+categories_from_0 = refl
 
 -- a rule of userdata 0 answers as no rule does
 userdata_0 : compared_text Ip4 (rules (rule 0 255 65535 0 ∷ [])) (rules []) ≡ codes "ip4 same\n"

@@ -56,7 +56,7 @@ fn push_category(
     ensures text { OnOk result (text.new.items ≡ text.old.items
         ++ category_text rule.family rule.place rule.userdata category
         (option_map (λ found. found.now) key.entry)) }
-    ensures wins { IfOk result (λ wins. wins ≡ is_some (option_map (λ found. found.now) key.entry)) }
+    ensures wins { IfOk result (λ won. won ≡ is_some (option_map (λ found. found.now) key.entry)) }
 {
     let Some(key) = key else {
         return Ok(false);
