@@ -1,35 +1,15 @@
 -- The lanes of a turn, one after the other.
-use Rattle.std.proofs.Common.{◌≡◌, ◌≢◌, ℕ, ◌+◌, ◌<◌, ◌≤◌, List, [], ◌∷◌, sym, ap, ◌∙◌, refl, arith, length, take, drop}
-use Rattle.std.proofs.Common.{get_or, true, false, inl, inr}
-use Rattle.std.specs.Prelude.{None, Some, Option, count_by, slice_index}
+use Rattle.std.proofs.Common.{◌≡◌, ℕ, ◌+◌, ◌-◌, ◌*◌, ◌/◌, ◌<◌, ◌≤◌, List, [], ◌∷◌, sym, ap, ◌∙◌, arith, take, drop}
+use Rattle.std.proofs.Common.{get_or, Bool, cond, inl, inr, length-take}
+use Rattle.std.specs.Prelude.{None, count_by}
 use Rattle.std.specs.List.{range_with_len}
-use Rattle.std.proofs.lemmas.List.Sums.{fold-append, count_by_more_yes, count_by_more_no}
-use Rattle.list_lemmas.proofs.Positions.{range-push}
-use Rattle.flat_table.specs.Word.{next_place}
+use Rattle.std.proofs.Math.Seq.{take-add}
+use Rattle.std.proofs.lemmas.List.{drop-drop, get_or-drop}
+use Rattle.std.proofs.lemmas.List.Sums.{fold-append, count_by-le-length, sum_by-append}
+use Rattle.list_lemmas.proofs.Positions.{range-append, range-push}
 use Rattle.flat_table.specs.Table.{TableView}
-use Rattle.flat_table.specs.Batch.{keys_in}
-use Rattle.flow_core.specs.declared.flight.Flight.{Flight}
 use Rattle.flow_core.specs.Machine.{Machine, FlowState, state_of, flow_step, flow_run}
-use Rattle.flow_core.specs.Standing.{StandsOver}
-use Rattle.lane_walk.specs.Turn.{is_busy, IsFetched, IsPlaceOf, IsLanes}
-
--- the first lanes were stepped, and the others hold what they held
-pub record SteppedTo (table : TableView) (keys : List ℕ) (before : Machine) (old : List (List ℕ)) (n : ℕ)
-    (now : Machine) (rows : List (List ℕ)) (busy : ℕ) : Type 0 where
-  pub state : state_of table keys now rows
-      ≡ flow_run table keys (state_of table keys before old) (range_with_len 0 n)
-  pub stands : StandsOver table keys now (length rows)
-  pub others : drop (keys_in table keys) rows ≡ drop (keys_in table keys) old
-  pub later : (lane : ℕ) → n ≤ lane → get_or now.slots lane None ≡ get_or before.slots lane None
-  pub busy_is : busy ≡ count_by is_busy (take n before.slots)
-
--- what one lane's step did
-pub record StepsLane (table : TableView) (keys : List ℕ) (now next : Machine) (rows new : List (List ℕ)) (lane : ℕ)
-    : Type 0 where
-  pub step : state_of table keys next new ≡ flow_step table keys (state_of table keys now rows) lane
-  pub others : drop (keys_in table keys) new ≡ drop (keys_in table keys) rows
-  pub stands : StandsOver table keys next (length new)
-  pub lanes : (other : ℕ) → other ≢ lane → get_or next.slots other None ≡ get_or now.slots other None
+use Rattle.lane_walk.specs.Turn.{is_busy, IsLanes, StepsLanes}
 
 -- one lane more, as a run
 pub lane_more : (table : TableView) (keys : List ℕ) (state : FlowState) (n : ℕ) →
@@ -40,51 +20,60 @@ lane_more table keys state n =
     ∙ fold-append (flow_step table keys) state (range_with_len 0 n) ((0 + n) ∷ [])
     ∙ ap (λ (lane : ℕ). flow_step table keys (flow_run table keys state (range_with_len 0 n)) lane) (omega arith)
 
-module _ {table : TableView} {keys : List ℕ} {before : Machine} {old : List (List ℕ)} {n : ℕ} {now : Machine}
-    {rows : List (List ℕ)} {busy : ℕ} (s : SteppedTo table keys before old n now rows busy) where
-  -- the lane that is stepped next holds what it held
-  pub holds_as_before : get_or now.slots n None ≡ get_or before.slots n None
-  holds_as_before = s.later n (omega arith)
+-- how many of some elements pass, and then of some more
+counted : {X : Type 0} (p : X → Bool) (a b from : ℕ) (xs : List X) →
+    count_by p (take (a + b) (drop from xs))
+    ≡ count_by p (take a (drop from xs)) + count_by p (take b (drop (from + a) xs))
+counted p a b from xs =
+    ap (λ (ys : List _). count_by p ys) (take-add a b (drop from xs))
+    ∙ sum_by-append (λ x. cond (p x) 1 0) (take a (drop from xs)) (take b (drop a (drop from xs)))
+    ∙ ap (λ (ys : List _). count_by p (take a (drop from xs)) + count_by p (take b ys)) (drop-drop a from xs)
 
-  -- one lane more
-  more : {next : Machine} {new : List (List ℕ)} {more_busy : ℕ} →
-      StepsLane table keys now next rows new n →
-      more_busy ≡ count_by is_busy (take (n + 1) before.slots) →
-      SteppedTo table keys before old (n + 1) next new more_busy
-  more l count = record {
-    state = l.step ∙ ap (λ (state : FlowState). flow_step table keys state n) s.state
-        ∙ sym (lane_more table keys (state_of table keys before old) n);
-    stands = l.stands;
-    others = l.others ∙ s.others;
-    later = λ lane past. l.lanes lane (let other : lane ≢ n = omega arith in other) ∙ s.later lane (omega arith);
-    busy_is = count;
-  }
+module _ {table : TableView} {keys : List ℕ} {before mid : Machine} {old rows : List (List ℕ)} {from a busy : ℕ}
+    (s : StepsLanes table keys before old from a mid rows busy) where
+  -- lanes, and then some more
+  pub and_then : {now : Machine} {new : List (List ℕ)} {b more : ℕ} →
+      StepsLanes table keys mid rows (from + a) b now new more →
+      StepsLanes table keys before old from (a + b) now new (busy + more)
+  and_then {now = now} {b = b} l =
+      let at : from + a + b ≡ from + (a + b) = omega arith in
+      record {
+        state = l.state
+            ∙ ap (λ (state : FlowState). flow_run table keys state (range_with_len (from + a) b)) s.state
+            ∙ sym (ap (λ (lanes : List ℕ). flow_run table keys (state_of table keys before old) lanes)
+            (range-append from a b)
+            ∙ fold-append (flow_step table keys) (state_of table keys before old) (range_with_len from a)
+            (range_with_len (from + a) b));
+        stands = l.stands;
+        others = l.others ∙ s.others;
+        later = ap (λ (n : ℕ). drop n now.slots) (sym at) ∙ l.later
+            ∙ sym (drop-drop b (from + a) mid.slots)
+            ∙ ap (λ (held : List _). drop b held) s.later
+            ∙ drop-drop b (from + a) before.slots ∙ ap (λ (n : ℕ). drop n before.slots) at;
+        busy_is = (λ i. s.busy_is i + l.busy_is i)
+            ∙ ap (λ (held : List _).
+            count_by is_busy (take a (drop from before.slots)) + count_by is_busy (take b held)) s.later
+            ∙ sym (counted is_busy a b from before.slots);
+      }
 
-  pub busy_lane : {next : Machine} {new : List (List ℕ)} → StepsLane table keys now next rows new n →
-      n < length before.slots → true ≡ is_busy (get_or now.slots n None) →
-      SteppedTo table keys before old (n + 1) next new (busy + 1)
-  busy_lane l within is =
-      let test : is_busy (get_or before.slots n None) ≡ true = sym (is ∙ ap is_busy holds_as_before) in
-      more l (omega (arith, s.busy_is, count_by_more_yes is_busy before.slots n None within test))
+  -- a later lane holds what it held
+  pub holds_as_before : (lane : ℕ) → from + a ≤ lane → get_or mid.slots lane None ≡ get_or before.slots lane None
+  holds_as_before lane past =
+      let at : from + a + (lane - (from + a)) ≡ lane = omega (arith, past) in
+      ap (λ (n : ℕ). get_or mid.slots n None) (sym at)
+      ∙ sym (get_or-drop (from + a) mid.slots (lane - (from + a)) None)
+      ∙ ap (λ (held : List _). get_or held (lane - (from + a)) None) s.later
+      ∙ get_or-drop (from + a) before.slots (lane - (from + a)) None
+      ∙ ap (λ (n : ℕ). get_or before.slots n None) at
 
-  pub empty_lane : {next : Machine} {new : List (List ℕ)} → StepsLane table keys now next rows new n →
-      n < length before.slots → false ≡ is_busy (get_or now.slots n None) →
-      SteppedTo table keys before old (n + 1) next new busy
-  empty_lane l within is =
-      let test : is_busy (get_or before.slots n None) ≡ false = sym (is ∙ ap is_busy holds_as_before) in
-      more l (omega (arith, s.busy_is, count_by_more_no is_busy before.slots n None within test))
-
--- the place of a lane's next word, from what the lanes read
-pub place_of_lane : {table : TableView} {keys : List ℕ} {slots : List (Option Flight)} {words bytes : List ℕ} →
-    IsFetched table keys slots words bytes → (lane : ℕ) {place : ℕ} →
-    place ≡ next_place (slice_index words lane) (slice_index bytes lane) →
-    IsPlaceOf table keys (get_or slots lane None) place
-place_of_lane {table = table} {keys = keys} {slots = slots} {words = words} {bytes = bytes} f lane {place = place} is =
-    go (get_or slots lane None) refl
-  where
-    go : (held : Option Flight) → get_or slots lane None ≡ held → IsPlaceOf table keys held place
-    go None empty = tt
-    go (Some flight) busy = is ∙ (λ i. next_place (f.word lane flight busy i) (f.byte lane flight busy i))
+  -- no more of them were busy than there are
+  pub busy_few : busy ≤ a
+  busy_few = omega (
+    arith,
+    s.busy_is,
+    count_by-le-length is_busy (take a (drop from before.slots)),
+    length-take a (drop from before.slots),
+  )
 
 -- there is a lane
 pub lanes_some : {width : ℕ} → IsLanes width → 0 < width
@@ -97,3 +86,14 @@ pub lanes_few : {width : ℕ} → IsLanes width → width ≤ 16
 lanes_few (inl four) = omega (arith, four)
 lanes_few (inr (inl eight)) = omega (arith, eight)
 lanes_few (inr (inr sixteen)) = omega (arith, sixteen)
+
+in_fours : {width : ℕ} → IsLanes width → width / 4 * 4 ≡ width
+in_fours (inl four) = omega (arith, four)
+in_fours (inr (inl eight)) = omega (arith, eight)
+in_fours (inr (inr sixteen)) = omega (arith, sixteen)
+
+-- and all fours of them are all lanes
+pub all_groups : {width lanes n : ℕ} → IsLanes width → lanes ≡ width → n ≤ lanes / 4 → lanes / 4 ≤ n → n * 4 ≡ width
+all_groups {width = width} {lanes = lanes} {n = n} is same most least =
+    let whole : n ≡ lanes / 4 = omega (arith, most, least) in
+    ap (λ (k : ℕ). k * 4) (whole ∙ ap (λ (k : ℕ). k / 4) same) ∙ in_fours is

@@ -1,11 +1,13 @@
 -- A turn of all slots of a flow machine, which a walk by lanes takes at once.
-use Rattle.std.specs.Prelude.{◌≡◌, ℕ, ◌⊎◌, List, count_by, not, Option, Some, None, Bool, IfSome}
-use Rattle.std.specs.Prelude.{slice_index, slice_index_or}
+use Rattle.std.specs.Prelude.{◌≡◌, ℕ, ◌+◌, ◌<◌, ◌⊎◌, List, count_by, not, Option, Some, None, Bool, IfSome}
+use Rattle.std.specs.Prelude.{length, take, drop, if◌then◌else◌, true, false, slice_index_or}
 use Rattle.std.specs.List.{range_with_len}
 use Rattle.flat_table.specs.Table.{TableView}
 use Rattle.flow_core.specs.declared.flight.Flight.{Flight}
-use Rattle.flat_table.specs.Word.{next_place}
-use Rattle.flow_core.specs.Machine.{Machine, FlowState, flow_run, is_empty, byte_of}
+use Rattle.flat_table.specs.Word.{is_match, is_node, next_place}
+use Rattle.flat_table.specs.Batch.{keys_in}
+use Rattle.flow_core.specs.Machine.{Machine, FlowState, state_of, flow_run, is_empty, byte_of}
+use Rattle.flow_core.specs.Standing.{StandsOver}
 
 -- how many lanes there may be
 abbrev pub IsLanes : ℕ → Type 0
@@ -23,17 +25,37 @@ busy_slots machine = count_by is_busy machine.slots
 abbrev pub flow_turn : TableView → List ℕ → ℕ → FlowState → FlowState
 flow_turn table keys width old = flow_run table keys old (range_with_len 0 width)
 
--- ---- what the lanes read before a turn
+-- ---- what lanes keep
 
--- for each busy slot its word and the key byte that it reads next, in its lane
-pub record IsFetched (table : TableView) (keys : List ℕ) (slots : List (Option Flight))
-    (words bytes : List ℕ) : Type 0 where
-  pub word : (lane : ℕ) (flight : Flight) → slice_index_or slots lane None ≡ Some flight →
-      slice_index words lane ≡ flight.word
-  pub byte : (lane : ℕ) (flight : Flight) → slice_index_or slots lane None ≡ Some flight →
-      slice_index bytes lane ≡ byte_of table keys flight
+-- the slot of which a lane keeps this: it is empty where the word is a match
+abbrev pub held_in : Flight → Option Flight
+held_in flight = if is_match flight.word then None else Some flight
+
+-- a lane keeps no word but a match and such as lead to nodes
+abbrev pub EndsOrLeads : Flight → Type 0
+EndsOrLeads flight = is_match flight.word ≡ false → is_node flight.word ≡ true
+
+-- four slots hold a flight each, from one on
+abbrev pub AreBusy : Machine → ℕ → Type 0
+AreBusy machine first =
+    (k : ℕ) → k < 4 → is_busy (slice_index_or machine.slots (first + k) None) ≡ true
+
+-- the word and the byte are those by which the slot goes on, if it is busy
+abbrev pub GoesBy : TableView → List ℕ → Option Flight → ℕ → ℕ → Type 0
+GoesBy table keys held word byte =
+    IfSome held (λ flight. (word ≡ flight.word) × (byte ≡ byte_of table keys flight))
 
 -- the place is that of the word that the slot takes next, if it is busy
 abbrev pub IsPlaceOf : TableView → List ℕ → Option Flight → ℕ → Type 0
 IsPlaceOf table keys held place =
     IfSome held (λ flight. place ≡ next_place flight.word (byte_of table keys flight))
+
+-- so many slots were stepped, from one on and in order, and the later ones hold what they held
+pub record StepsLanes (table : TableView) (keys : List ℕ) (before : Machine) (old : List (List ℕ))
+    (from count : ℕ) (now : Machine) (rows : List (List ℕ)) (busy : ℕ) : Type 0 where
+  pub state : state_of table keys now rows
+      ≡ flow_run table keys (state_of table keys before old) (range_with_len from count)
+  pub stands : StandsOver table keys now (length rows)
+  pub others : drop (keys_in table keys) rows ≡ drop (keys_in table keys) old
+  pub later : drop (from + count) now.slots ≡ drop (from + count) before.slots
+  pub busy_is : busy ≡ count_by is_busy (take count (drop from before.slots))

@@ -1,21 +1,29 @@
-//! A flow machine whose slots are stepped all at once, a lane for each.
+//! A flow machine whose slots are stepped in turns, a lane for each, four lanes at once.
 
-ghost use Rattle.std.specs.Prelude.{◌≡◌, ◌≢◌, ℕ, ◌+◌, ◌*◌, ◌<◌, ◌≤◌, ◌^◌, length, drop, All, IfSome, None};
-ghost use Rattle.std.specs.Prelude.{slice_index_or};
-ghost use Rattle.flat_table.specs.Word.{next_place};
-ghost use Rattle.flat_table.specs.Batch.{keys_in, most_keys};
-ghost use Rattle.flow_core.specs.Rows.{cleared};
-ghost use Rattle.flow_core.specs.Machine.{Machine, state_of, first_state, is_done, byte_of};
-ghost use Rattle.flow_core.specs.Machine.{flow_step};
-ghost use Rattle.flow_core.specs.Standing.{BatchFits, IsOnWay, StandsOver};
-ghost use Rattle.lane_walk.specs.Turn.{IsLanes, is_busy, busy_slots, flow_turn, IsFetched};
-ghost use Rattle.lane_walk.specs.Turn.{IsPlaceOf};
+ghost use Rattle.std.specs.Prelude.{◌≡◌, ℕ, ◌+◌, ◌*◌, ◌<◌, ◌≤◌, length, drop, true, false, None, []};
+ghost use Rattle.std.specs.Prelude.{slice_index, slice_index_or};
+ghost use Rattle.std.specs.List.{list_all};
+ghost use Rattle.flat_table.specs.Groups.{longest_key};
+ghost use Rattle.flat_table.specs.Batch.{keys_in};
+ghost use Rattle.flat_table.specs.Word.{index_of, is_match, is_node};
+ghost use Rattle.flow_core.specs.Rows.{cleared, joined_into};
+ghost use Rattle.flow_core.specs.Machine.{Machine, state_of, first_state, is_done};
+ghost use Rattle.flow_core.specs.Standing.{BatchFits, StandsOver, LeadsOnward};
+ghost use Rattle.flow_core.specs.Standing.{held_after, rows_after};
+ghost use Rattle.lane_walk.specs.Turn.{IsLanes, is_busy, busy_slots, flow_turn, held_in};
+ghost use Rattle.lane_walk.specs.Turn.{AreBusy, EndsOrLeads, GoesBy, IsPlaceOf, StepsLanes};
 
-use crate::places::next_places;
-use flat_table::Table;
+use flat_table::{MATCH, Table, index_of, is_match, kind_of};
 use flow_core::laws::stay_in;
-use flow_core::{Flight, Scratch, are_empty, arrive, byte_of, flight_of};
+use flow_core::{Flight, Scratch, byte_of, flight_of};
+use scalar_walk::four_places;
 use std::marker::Model;
+
+/// How many lanes are stepped at once.
+const AT_ONCE: usize = 4;
+
+/// How many bits of a word are the index.
+const INDEX_BITS: u32 = 29;
 
 /// A flow machine of `W` slots, 4, 8 or 16, which are stepped in turns. Contracts see it as they
 /// see `Flows` of `flow_core`: how many jobs there are, how many of them were given out, and what
@@ -29,60 +37,86 @@ pub struct LaneFlows<const W: usize> {
     jobs: usize,
     /// How many of them were given out.
     given: usize,
-    /// The flight of each slot, where it is busy.
-    slots: [Option<Flight>; W],
+    /// The flight of each slot, where its word is no match. Where it is one, the slot is empty.
+    flights: [Flight; W],
 }
 
 impl<const W: usize> Model for LaneFlows<W> {
+    ghost use Rattle.std.specs.Prelude.{map, All};
     ghost use Rattle.flow_core.specs.Machine.{Machine};
+    ghost use Rattle.lane_walk.specs.Turn.{held_in, EndsOrLeads};
 
     ghost Value = { Machine };
 
     ghost view = { λ lanes. record {
       jobs = lanes.jobs;
       given = lanes.given;
-      slots = lanes.slots;
+      slots = map held_in lanes.flights;
     } };
+
+    ghost invariant = { λ lanes. All EndsOrLeads lanes.flights };
 }
 
-/// The word of each lane and the key byte that it reads next, and zeros where the lane is empty.
-#[derive(Drop)]
-struct Fetched<const W: usize> {
-    words: [u64; W],
-    bytes: [u64; W],
-}
-
-/// The word at which the flight stands.
+/// Whether the word ends a walk. It is a match or leads to a node, and no node has as great a kind.
 #[inline]
-fn word_of(flight: Flight) -> u64
-    ensures { result ≡ flight.word }
+fn is_end(word: u64) -> bool
+    requires { is_match word ≡ false → is_node word ≡ true }
+    ensures { result ≡ is_match word }
 {
-    flight.word
+    kind_of(word) >= MATCH
 }
 
-/// What the lanes read before a turn.
+/// What a lane keeps whose slot is empty.
 #[inline]
-fn fetch<const W: usize>(table: &Table, keys: &[u8], slots: &[Option<Flight>; W]) -> Fetched<W>
-    requires whole { length keys.now ≡ keys_in table.now keys.now * table.now.key_len }
-    requires few { keys_in table.now keys.now ≤ most_keys }
-    requires on_way { (given : ℕ) × All (λ held. IfSome held (IsOnWay table.now keys.now given))
-        slots.now }
-    ensures fetched { IsFetched table.now keys.now slots.now result.words result.bytes }
-    ensures words { All (λ word. word < 2 ^ 64) result.words }
-    ensures bytes { All (λ byte. byte < 256) result.bytes }
+fn no_flight() -> Flight
+    ensures held { held_in result ≡ None }
+    ensures lawful { EndsOrLeads result }
 {
-    let mut words = [0u64; W];
-    let mut bytes = [0u64; W];
-    for slot in 0..W {
-        match slots[slot] {
-            Some(flight) => {
-                words[slot] = word_of(flight);
-                bytes[slot] = u64::from(byte_of(table, keys, flight));
-            }
-            None => {}
-        }
+    Flight {
+        key: 0,
+        trie: 0,
+        depth: 0,
+        word: MATCH << INDEX_BITS,
     }
-    Fetched { words, bytes }
+}
+
+/// Whether every slot is empty.
+fn are_empty(flights: &[Flight]) -> bool
+    ensures { result ≡ list_all (λ flight. is_match flight.word) flights.now }
+{
+    flights.iter().all(|flight| is_match(flight.word))
+}
+
+/// Joins the row that the match names into that of the key.
+///
+/// It is not inlined, so that what stands around it stays small, for few words are a match.
+#[inline(never)]
+fn join_match(table: &Table, scratch: &mut Scratch, key: usize, word: u64)
+    requires row { index_of word < length table.now.rows }
+    requires key { key < length scratch.old }
+    ensures { scratch.new
+        ≡ joined_into key (slice_index_or table.now.rows (index_of word) []) scratch.old }
+{
+    scratch.join(key, table.row(index_of(word)));
+}
+
+/// The next word of a flight. After a match the row that it names is joined into that of the
+/// flight's key.
+#[inline]
+fn land(table: &Table, scratch: &mut Scratch, flight: &mut Flight, word: u64)
+    requires onward { LeadsOnward table.now flight.old word }
+    requires depth { flight.old.depth < longest_key }
+    requires key { flight.old.key < length scratch.old }
+    ensures held { held_in flight.new ≡ held_after flight.old word }
+    ensures lawful { EndsOrLeads flight.new }
+    ensures rows { scratch.new ≡ rows_after table.now flight.old word scratch.old }
+{
+    flight.depth += 1;
+    flight.word = word;
+    if !is_end(word) {
+        return;
+    }
+    join_match(table, scratch, flight.key, word);
 }
 
 impl<const W: usize> LaneFlows<W> {
@@ -104,12 +138,108 @@ impl<const W: usize> LaneFlows<W> {
         LaneFlows {
             jobs: n * table.tries(),
             given: 0,
-            slots: [None; W],
+            flights: [no_flight(); W],
         }
     }
 
-    /// One step of the slot, and whether it was busy before. A busy slot takes the word at the
-    /// place.
+    /// Whether the slot of the lane holds a flight.
+    #[inline]
+    fn is_busy(&self, lane: usize) -> bool
+        requires { lane < W }
+        ensures { result ≡ is_busy (slice_index_or self.now.slots lane None) }
+    {
+        !is_end(self.flights[lane].word)
+    }
+
+    /// Whether the slots of four lanes, from one on, hold a flight each.
+    #[inline]
+    fn are_busy(&self, first: usize) -> bool
+        requires { first + AT_ONCE ≤ W }
+        ensures { result ≡ true → AreBusy self.now first }
+    {
+        self.is_busy(first)
+            && self.is_busy(first + 1)
+            && self.is_busy(first + 2)
+            && self.is_busy(first + 3)
+    }
+
+    /// The word and the key byte by which the lane goes on, or any byte where it is empty.
+    #[inline]
+    fn read_lane(&self, table: &Table, keys: &[u8], lane: usize) -> (u64, u8)
+        requires lane { lane < W }
+        requires stands { (rows : ℕ) × StandsOver table.now keys.now self.now rows }
+        ensures { GoesBy table.now keys.now (slice_index_or self.now.slots lane None) result.0
+            result.1 }
+    {
+        let flight = self.flights[lane];
+        if is_end(flight.word) {
+            return (flight.word, 0);
+        }
+        (flight.word, byte_of(table, keys, flight))
+    }
+
+    /// The places of the words that four lanes take next, from one on.
+    #[inline]
+    fn places_from(&self, table: &Table, keys: &[u8], first: usize) -> [u32; AT_ONCE]
+        requires first { first + AT_ONCE ≤ W }
+        requires stands { (rows : ℕ) × StandsOver table.now keys.now self.now rows }
+        ensures { (k : ℕ) → k < AT_ONCE → IsPlaceOf table.now keys.now
+            (slice_index_or self.now.slots (first + k) None) (slice_index result k) }
+    {
+        let one = self.read_lane(table, keys, first);
+        let two = self.read_lane(table, keys, first + 1);
+        let three = self.read_lane(table, keys, first + 2);
+        let four = self.read_lane(table, keys, first + 3);
+        four_places(
+            &[one.0, two.0, three.0, four.0],
+            &[one.1, two.1, three.1, four.1],
+        )
+    }
+
+    /// A step of a busy lane, which takes the word at the place.
+    #[inline]
+    fn land_lane(
+        &mut self,
+        table: &Table,
+        keys: &[u8],
+        scratch: &mut Scratch,
+        lane: usize,
+        place: usize,
+    )
+        requires width { W ≤ 16 }
+        requires lane { lane < W }
+        requires stands { StandsOver table.now keys.now self.old (length scratch.old) }
+        requires busy { is_busy (slice_index_or self.old.slots lane None) ≡ true }
+        requires place { IsPlaceOf table.now keys.now (slice_index_or self.old.slots lane None)
+            place }
+        ensures { StepsLanes table.now keys.now self.old scratch.old lane 1 self.new scratch.new
+            1 }
+    {
+        stay_in(table);
+        let flight = &mut self.flights[lane];
+        let word = table.words()[place];
+        land(table, scratch, flight, word);
+    }
+
+    /// A step of an empty lane, which takes the next job, if one is left.
+    #[inline]
+    fn begin_job(&mut self, table: &Table, keys: &[u8], scratch: &Scratch, lane: usize)
+        requires width { W ≤ 16 }
+        requires lane { lane < W }
+        requires stands { StandsOver table.now keys.now self.old (length scratch.now) }
+        requires empty { is_busy (slice_index_or self.old.slots lane None) ≡ false }
+        ensures { StepsLanes table.now keys.now self.old scratch.now lane 1 self.new scratch.now
+            0 }
+    {
+        stay_in(table);
+        if self.given < self.jobs {
+            self.flights[lane] = flight_of(table, self.given);
+            self.given += 1;
+        }
+    }
+
+    /// A step of the lane, and how many lanes were busy before it: 1 or 0. A busy lane takes the
+    /// word at the place.
     #[inline]
     fn step_lane(
         &mut self,
@@ -118,42 +248,79 @@ impl<const W: usize> LaneFlows<W> {
         scratch: &mut Scratch,
         lane: usize,
         place: usize,
-    ) -> bool
+    ) -> u32
+        requires width { W ≤ 16 }
         requires lane { lane < W }
         requires stands { StandsOver table.now keys.now self.old (length scratch.old) }
         requires place { IsPlaceOf table.now keys.now (slice_index_or self.old.slots lane None)
             place }
-        ensures busy { result ≡ is_busy (slice_index_or self.old.slots lane None) }
-        ensures step { state_of table.now keys.now self.new scratch.new
-            ≡ flow_step table.now keys.now (state_of table.now keys.now self.old scratch.old) lane }
-        ensures others { drop (keys_in table.now keys.now) scratch.new
-            ≡ drop (keys_in table.now keys.now) scratch.old }
-        ensures stands { StandsOver table.now keys.now self.new (length scratch.new) }
-        ensures lanes { (other : ℕ) → other ≢ lane →
-            slice_index_or self.new.slots other None ≡ slice_index_or self.old.slots other None }
+        ensures { StepsLanes table.now keys.now self.old scratch.old lane 1 self.new scratch.new
+            result }
     {
-        stay_in(table);
-        match self.slots[lane] {
-            Some(flight) => {
-                let word = table.words()[place];
-                self.slots[lane] = arrive(table, scratch, flight, word);
-                true
-            }
-            None => {
-                if self.given < self.jobs {
-                    self.slots[lane] = Some(flight_of(table, self.given));
-                    self.given += 1;
-                }
-                false
-            }
+        if self.is_busy(lane) {
+            self.land_lane(table, keys, scratch, lane, place);
+            return 1;
         }
+        self.begin_job(table, keys, scratch, lane);
+        0
+    }
+
+    /// A step of each of four busy lanes, from one on and in order.
+    #[inline]
+    fn land_four(&mut self, table: &Table, keys: &[u8], scratch: &mut Scratch, first: usize)
+        requires width { W ≤ 16 }
+        requires first { first + AT_ONCE ≤ W }
+        requires stands { StandsOver table.now keys.now self.old (length scratch.old) }
+        requires busy { AreBusy self.old first }
+        ensures { StepsLanes table.now keys.now self.old scratch.old first AT_ONCE self.new
+            scratch.new AT_ONCE }
+    {
+        let places = self.places_from(table, keys, first);
+        for k in 0..AT_ONCE {
+            self.land_lane(table, keys, scratch, first + k, places[k] as usize);
+        }
+    }
+
+    /// A step of each of four lanes, from one on and in order, and how many of them were busy
+    /// before.
+    #[inline]
+    fn step_each(&mut self, table: &Table, keys: &[u8], scratch: &mut Scratch, first: usize) -> u32
+        requires width { W ≤ 16 }
+        requires first { first + AT_ONCE ≤ W }
+        requires stands { StandsOver table.now keys.now self.old (length scratch.old) }
+        ensures { StepsLanes table.now keys.now self.old scratch.old first AT_ONCE self.new
+            scratch.new result }
+    {
+        let places = self.places_from(table, keys, first);
+        let mut busy = 0;
+        for k in 0..AT_ONCE {
+            busy += self.step_lane(table, keys, scratch, first + k, places[k] as usize);
+        }
+        busy
+    }
+
+    /// A step of each of four lanes, from one on and in order, and how many of them were busy
+    /// before. Mostly all four are, and then no lane asks again.
+    #[inline]
+    fn step_four(&mut self, table: &Table, keys: &[u8], scratch: &mut Scratch, first: usize) -> u32
+        requires width { W ≤ 16 }
+        requires first { first + AT_ONCE ≤ W }
+        requires stands { StandsOver table.now keys.now self.old (length scratch.old) }
+        ensures { StepsLanes table.now keys.now self.old scratch.old first AT_ONCE self.new
+            scratch.new result }
+    {
+        if self.are_busy(first) {
+            self.land_four(table, keys, scratch, first);
+            return AT_ONCE as u32;
+        }
+        self.step_each(table, keys, scratch, first)
     }
 
     /// A step of each slot, in order, and how many of them were busy before: so many words are
     /// taken.
     ///
-    /// All lanes work out at once which words they take. The table, the keys and the scratch are
-    /// those that the machine began with. It refuses nothing and takes no memory.
+    /// Four lanes at a time work out at once which words they take. The table, the keys and the
+    /// scratch are those that the machine began with. It refuses nothing and takes no memory.
     pub fn turn(&mut self, table: &Table, keys: &[u8], scratch: &mut Scratch) -> u32
         requires lanes { IsLanes W }
         requires stands { StandsOver table.now keys.now self.old (length scratch.old) }
@@ -164,22 +331,20 @@ impl<const W: usize> LaneFlows<W> {
             ≡ drop (keys_in table.now keys.now) scratch.old }
         ensures stands { StandsOver table.now keys.now self.new (length scratch.new) }
     {
-        let fetched = fetch(table, keys, &self.slots);
-        let places = next_places(&fetched.words, &fetched.bytes);
+        let lanes = self.flights.as_slice().len();
         let mut busy = 0;
-        for lane in 0..W {
-            if self.step_lane(table, keys, scratch, lane, places[lane] as usize) {
-                busy += 1;
-            }
+        for group in 0..lanes / AT_ONCE {
+            busy += self.step_four(table, keys, scratch, group * AT_ONCE);
         }
         busy
     }
 
     /// Whether no job is left and every slot is empty. The row of each key is then the joined one
     /// of all its walks.
+    #[tactic(auto, using(crate::proofs::Held::all_empty))]
     pub fn done(&self) -> bool
         ensures { result ≡ is_done self.now }
     {
-        self.jobs <= self.given && are_empty(&self.slots)
+        self.jobs <= self.given && are_empty(&self.flights)
     }
 }

@@ -1,11 +1,10 @@
 //! A table and keys in, the row and the verdicts of each key by a walk of many lanes at once out.
 //!
 //! A machine by lanes is the flow machine of `flow_core`, whose slots are stepped in turns, each
-//! once and in order. Before a turn each busy lane reads its word and its key byte, and the places
-//! of the words that the lanes take are worked out in all lanes at once, by comparisons and choices
-//! of vectors. Then the lanes take their words, or their next jobs.
+//! once and in order. A turn goes by four lanes at a time: each busy lane reads its word and its
+//! key byte, the places of the words that the four take are worked out at once, by a vector, and
+//! then they take their words, or their next jobs.
 //!
-//! - `places`: the places of the next words, by vectors.
 //! - `lanes`: the machine and its turn.
 //! - `classify`: turns until the machine is done, and the verdicts of a batch.
 //! - `walk`: which walk is asked for, one key for itself or many by lanes.
@@ -17,7 +16,6 @@
 mod classify;
 mod either;
 mod lanes;
-mod places;
 mod walk;
 
 pub use classify::{Flown, classify_lanes};

@@ -28,4 +28,5 @@ mod vectors;
 mod walk;
 
 pub use classify::{classify_scalar, winners};
+pub use vectors::four_places;
 pub use walk::{Walked, walk_one};

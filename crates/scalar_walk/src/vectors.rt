@@ -130,6 +130,50 @@ fn fetch(words: &[u64], places: &[u32; 4]) -> (u32x4, u32x4)
     first.deinterleave(second)
 }
 
+/// The low and the high halves of four words.
+#[inline]
+fn halves(words: &[u64; 4]) -> (u32x4, u32x4)
+    ensures lows { length result.0 ≡ 4 }
+    ensures highs { length result.1 ≡ 4 }
+    ensures words { (i : ℕ) → i < 4 →
+        word_in result.0 result.1 i ≡ slice_index words.now i }
+{
+    let first = u64x2::from_array([words[0], words[1]]);
+    let second = u64x2::from_array([words[2], words[3]]);
+    let first = u32x4::from_le_bytes(first.to_le_bytes());
+    let second = u32x4::from_le_bytes(second.to_le_bytes());
+    first.deinterleave(second)
+}
+
+/// Each of four bytes four times.
+#[inline]
+fn spread(bytes: &[u8; 4]) -> u8x16
+    ensures { (i k : ℕ) → i < 4 → k < 4 →
+        slice_index result (4 * i + k) ≡ slice_index bytes.now i }
+{
+    let numbers = u32x4::from_array([
+        u32::from(bytes[0]),
+        u32::from(bytes[1]),
+        u32::from(bytes[2]),
+        u32::from(bytes[3]),
+    ]);
+    bytes_in(bytes_of(numbers), 0)
+}
+
+/// The places of the words that four walks take by their bytes from their words, worked out at
+/// once. A walk whose word leads to no node has no such place, and gets any number.
+///
+/// It refuses nothing and takes no memory.
+#[inline]
+pub fn four_places(words: &[u64; 4], bytes: &[u8; 4]) -> [u32; 4]
+    ensures { (i : ℕ) → i < 4 → is_node (slice_index words.now i) ≡ true →
+        slice_index result i
+        ≡ next_place (slice_index words.now i) (slice_index bytes.now i) }
+{
+    let (lows, highs) = halves(words);
+    next_places(lows, highs, spread(bytes)).to_array()
+}
+
 /// Four walks: the halves of the words at which they stand, and how many words each has taken.
 #[derive(Clone, Copy)]
 pub(crate) struct Four {
