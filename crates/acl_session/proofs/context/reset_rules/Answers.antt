@@ -1,0 +1,9 @@
+use Rattle.acl_session.proofs.Mirroring.{removes, on_ok}
+use Rattle.acl_session.proofs.context.reset_rules.Goals as goal
+
+pub returns : goal.returns
+returns c =
+    on_ok c.push_piece.result
+    (λ text. removes c.args.context.now c.reset_rules.new.self c.args.replies.now.items c.push_piece.new.text.items
+    c.reset_rules.ensures text)
+    c.push_piece.ensures
