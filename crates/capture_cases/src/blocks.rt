@@ -20,6 +20,7 @@ const LITTLE_SECTION: &[u8] = &[
     0x0A, 0x0D, 0x0D, 0x0A, 28, 0, 0, 0, 0x4D, 0x3C, 0x2B, 0x1A, 1, 0, 0, 0, 255, 255, 255, 255,
     255, 255, 255, 255, 28, 0, 0, 0,
 ];
+
 const BIG_SECTION: &[u8] = &[
     0x0A, 0x0D, 0x0D, 0x0A, 0, 0, 0, 28, 0x1A, 0x2B, 0x3C, 0x4D, 0, 1, 0, 0, 255, 255, 255, 255,
     255, 255, 255, 255, 0, 0, 0, 28,
@@ -28,15 +29,20 @@ const BIG_SECTION: &[u8] = &[
 /// An interface of Ethernet frames, of IEEE 802.11 frames, which aren't read, and one of Ethernet
 /// frames in big-endian order.
 const LITTLE_INTERFACE: &[u8] = &[1, 0, 0, 0, 20, 0, 0, 0, 1, 0, 0, 0, 0, 0, 4, 0, 20, 0, 0, 0];
-const WIRELESS_INTERFACE: &[u8] = &[1, 0, 0, 0, 20, 0, 0, 0, 105, 0, 0, 0, 0, 0, 4, 0, 20, 0, 0, 0];
+
+const WIRELESS_INTERFACE: &[u8] = &[
+    1, 0, 0, 0, 20, 0, 0, 0, 105, 0, 0, 0, 0, 0, 4, 0, 20, 0, 0, 0,
+];
+
 const BIG_INTERFACE: &[u8] = &[0, 0, 0, 1, 0, 0, 0, 20, 0, 1, 0, 0, 0, 4, 0, 0, 0, 0, 0, 20];
 
 /// Blocks that are passed over: a name resolution without records, and an interface statistics
 /// block with a comment.
 const NAMES: &[u8] = &[4, 0, 0, 0, 12, 0, 0, 0, 12, 0, 0, 0];
+
 const STATISTICS: &[u8] = &[
-    5, 0, 0, 0, 32, 0, 0, 0, 0, 0, 0, 0, 0, 0, 0, 0, 0, 0, 0, 0, 1, 0, 4, 0, b'n', b'o', b'n', b'e',
-    32, 0, 0, 0,
+    5, 0, 0, 0, 32, 0, 0, 0, 0, 0, 0, 0, 0, 0, 0, 0, 0, 0, 0, 0, 1, 0, 4, 0, b'n', b'o', b'n',
+    b'e', 32, 0, 0, 0,
 ];
 
 /// A frame of 38 bytes: UDP from 192.168.1.5, port 5000, to 192.168.2.31, port 1234.
@@ -49,12 +55,14 @@ const FRAME: [u8; 38] = [
 const LITTLE_PACKET: &[u8] = &[
     6, 0, 0, 0, 72, 0, 0, 0, 0, 0, 0, 0, 0, 0, 0, 0, 0, 0, 0, 0, 38, 0, 0, 0, 38, 0, 0, 0,
 ];
+
 const BIG_PACKET: &[u8] = &[
     0, 0, 0, 6, 0, 0, 0, 72, 0, 0, 0, 0, 0, 0, 0, 0, 0, 0, 0, 0, 0, 0, 0, 38, 0, 0, 0, 38,
 ];
 
 /// What stands after it: two bytes that fill the block, and its length.
 const LITTLE_END: &[u8] = &[0, 0, 72, 0, 0, 0];
+
 const BIG_END: &[u8] = &[0, 0, 0, 0, 0, 72];
 
 /// The same frame to port 1235.
