@@ -12,12 +12,13 @@ use std::test::Fail;
 /// first put that isn't made. Where no capture is read the first two are one.
 type Command = (&'static [&'static str], &'static str, [u64; 3]);
 
-/// An opening and four reads are for a rule file. An opening and a read for the file header begin
-/// the capture, three reads give a record, and one finds the end.
-const CLASSIFY: Command = (&["classify", "r", "c"], SEVENTEEN, [8, 60, 24]);
+/// An opening and four reads are for a rule file. An opening and two reads begin the capture, one for
+/// the bytes that tell its format and one for the rest of the file header. Three reads give a
+/// record, and one finds the end.
+const CLASSIFY: Command = (&["classify", "r", "c"], SEVENTEEN, [9, 61, 24]);
 
 /// 22 reads give the 656 bytes of the image, and one finds the end.
-const REPLAY: Command = (&["replay", "i", "c"], SEVENTEEN, [27, 79, 24]);
+const REPLAY: Command = (&["replay", "i", "c"], SEVENTEEN, [28, 80, 24]);
 
 const AUDIT: Command = (&["audit", "r"], AUDITED, [6, 6, 11]);
 
