@@ -10,12 +10,12 @@ use Rattle.command_words.specs.declared.fault.UsageKind.TheVariants.{MissingName
 use Rattle.command_words.specs.BenchWords.{BenchNumbers, numbers_of}
 use Rattle.command_words.specs.Options.{Options, Given, none_given, settled_options, with_option}
 use Rattle.command_words.specs.Options.{for_audit, for_build, for_classify, for_compare}
-use Rattle.command_words.specs.Options.{for_replay}
+use Rattle.command_words.specs.Options.{for_replay, for_session}
 use Rattle.command_words.specs.declared.allowed.Allowed.{Allowed}
 
 -- a command: `classify` has the names of a rule file and of a capture, `build` those of a rule file
 -- and of the image that it makes, `replay` those of an image and of a capture, `bench` has numbers,
--- `audit` has the name of a rule file, and `compare` those of two
+-- `audit` has the name of a rule file, `compare` those of two, and `session` that of a script
 pub data Request : Type 0 where
   Classify : (rules : List ℕ) → (capture : List ℕ) → (options : Options) → Request
   Build : (rules : List ℕ) → (image : List ℕ) → (max_words : ℕ) → Request
@@ -23,6 +23,7 @@ pub data Request : Type 0 where
   Bench : (numbers : BenchNumbers) → Request
   Audit : (rules : List ℕ) → (categories : ℕ) → (max_words : ℕ) → Request
   Compare : (rules : List ℕ) → (second : List ℕ) → (max_words : ℕ) → Request
+  Session : (script : List ℕ) → Request
 
 -- the name of the capture that a command prints a report of, if it prints one
 abbrev pub capture_name : Request → Option (List ℕ)
@@ -32,6 +33,7 @@ capture_name (Replay image capture options) = Some capture
 capture_name (Bench numbers) = None
 capture_name (Audit rules categories max_words) = None
 capture_name (Compare rules second max_words) = None
+capture_name (Session script) = None
 
 -- the name of the file that a command makes, if it makes one
 abbrev pub made_name : Request → Option (List ℕ)
@@ -109,6 +111,10 @@ audit_by single = Audit single.name single.options.categories single.options.max
 abbrev pub compare_by : Named → Request
 compare_by named = Compare named.first named.second named.options.max_words
 
+-- what `session` asks for
+abbrev pub session_by : Single → Request
+session_by single = Session single.name
+
 -- what is asked for by what was read of the words after a command
 abbrev pub asked_by : {A : Type 0} → (A → Request) → Result A UsageFault → Result Request UsageFault
 asked_by ask (Ok read) = Ok (ask read)
@@ -124,4 +130,5 @@ command (verb ∷ words) =
     else if bytes_eq verb (codes "bench") then asked_by Bench (numbers_of words)
     else if bytes_eq verb (codes "audit") then asked_by audit_by (single_of for_audit words)
     else if bytes_eq verb (codes "compare") then asked_by compare_by (named_of for_compare words)
+    else if bytes_eq verb (codes "session") then asked_by session_by (single_of for_session words)
     else Err (fault_at 1 UnknownCommand)

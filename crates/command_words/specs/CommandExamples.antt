@@ -9,7 +9,7 @@ use Rattle.lane_walk.specs.declared.walk.Walk.TheVariants.{Scalar, Lanes}
 use Rattle.command_words.specs.Options.{walk_in, with_option}
 use Rattle.command_words.specs.Options.{for_build}
 use Rattle.command_words.specs.Command.{Audit, Build, Classify, Replay, command, fault_at}
-use Rattle.command_words.specs.Command.{Compare, options_from}
+use Rattle.command_words.specs.Command.{Compare, Session, options_from}
 
 -- `classify r c` with these words after it
 abbrev classify_with : List (List ℕ) → List (List ℕ)
@@ -150,6 +150,13 @@ a_comparison : map command ((codes "compare" ∷ codes "r" ∷ [])
     ≡ Err (fault_at 3 MissingName) ∷ Ok (Compare (codes "r") (codes "r") 16)
     ∷ Err (fault_at 4 UnknownOption) ∷ []
 a_comparison = refl
+
+-- `session` has no option
+a_session : map command ((codes "session" ∷ []) ∷ (codes "session" ∷ codes "s" ∷ [])
+    ∷ (codes "session" ∷ codes "s" ∷ codes "stats=on" ∷ []) ∷ [])
+    ≡ Err (fault_at 2 MissingName) ∷ Ok (Session (codes "s"))
+    ∷ Err (fault_at 3 UnknownOption) ∷ []
+a_session = refl
 
 a_budget : command (replay_with (codes "max-words=15" ∷ [])) ≡ Err (fault_at 4 UnknownOption)
 a_budget = refl

@@ -12,7 +12,7 @@ use Rattle.command_words.specs.BenchWords.{BenchNumbers}
 use Rattle.command_words.specs.declared.command_line.OneName.{OneName}
 use Rattle.command_words.specs.declared.command_line.TwoNames.{TwoNames}
 use Rattle.command_words.specs.Command.{Request, Audit, Bench, Build, Classify, Named, Replay}
-use Rattle.command_words.specs.Command.{Compare, Single}
+use Rattle.command_words.specs.Command.{Compare, Session, Single}
 
 -- the options of a command
 abbrev pub options_of : chosen.Options → Options
@@ -39,6 +39,7 @@ request_of (variants.Bench numbers) = Bench (numbers_in numbers)
 request_of (variants.Audit rules categories max_words) =
     Audit rules.now categories.count max_words.words
 request_of (variants.Compare rules second max_words) = Compare rules.now second.now max_words.words
+request_of (variants.Session script) = Session script.now
 
 -- the names of two files, and the options after them
 abbrev pub named_in : TwoNames → Named

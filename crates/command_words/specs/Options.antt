@@ -151,6 +151,11 @@ for_audit =
 abbrev pub for_compare : Allowed
 for_compare = for_build
 
+-- `session` has no option
+abbrev pub for_session : Allowed
+for_session =
+    record { categories = false; walk = false; max_words = false; stats = false; marks = false }
+
 -- the options of `replay`, whose tables are made already
 abbrev pub for_replay : Allowed
 for_replay =

@@ -2,7 +2,7 @@
 
 ghost use Rattle.std.specs.Prelude.{◌≡◌};
 ghost use Rattle.command_words.specs.Options.{for_audit, for_build, for_classify, for_compare};
-ghost use Rattle.command_words.specs.Options.{for_replay};
+ghost use Rattle.command_words.specs.Options.{for_replay, for_session};
 
 /// The options that a command allows. Any other is unknown to it.
 #[derive(Clone, Copy, Debug)]
@@ -60,6 +60,15 @@ impl Allowed {
         ensures { result ≡ for_compare }
     {
         Allowed::for_build()
+    }
+
+    /// `session` has no option.
+    pub fn for_session() -> Allowed
+        ensures { result ≡ for_session }
+    {
+        let mut none = Allowed::for_build();
+        none.max_words = false;
+        none
     }
 
     /// The options of `replay`: what is printed, of tables that are made already.

@@ -2,10 +2,10 @@
 
 ghost use Rattle.std.specs.Prelude.{◌≡◌, ◌≤◌, Ok, Err, IfOk, IfErr, map, string_bytes};
 ghost use Rattle.command_words.specs.Options.{for_audit, for_build, for_classify, for_replay};
-ghost use Rattle.command_words.specs.Options.{for_compare, none_given};
+ghost use Rattle.command_words.specs.Options.{for_compare, for_session, none_given};
 ghost use Rattle.command_words.specs.Command.{asked_by, build_by, classify_by, command, named_of};
 ghost use Rattle.command_words.specs.Command.{audit_by, compare_by, options_from, replay_by};
-ghost use Rattle.command_words.specs.Command.{single_of};
+ghost use Rattle.command_words.specs.Command.{session_by, single_of};
 ghost use Rattle.command_words.specs.CommandLine.{named_in, options_of, request_of, single_in};
 
 use crate::allowed::Allowed;
@@ -51,6 +51,10 @@ pub enum Request<'a> {
         second: &'a str,
         max_words: Budget,
     },
+    /// Reads a script, and answers its lines.
+    Session {
+        script: &'a str,
+    },
 }
 
 /// The number of the first word that is an option, after one name and after two.
@@ -90,6 +94,7 @@ pub fn read_words(words: &[String]) -> Result<Request<'_>, UsageFault>
         },
         [verb, words @ ..] if verb.as_str() == "audit" => read_audit(words),
         [verb, words @ ..] if verb.as_str() == "compare" => read_compare(words),
+        [verb, words @ ..] if verb.as_str() == "session" => read_session(words),
         _ => Err(fault_at(1, UsageKind::UnknownCommand)),
     }
 }
@@ -180,6 +185,20 @@ fn read_compare(words: &[String]) -> Result<Request<'_>, UsageFault>
             second: names.second,
             max_words: names.options.max_words,
         }),
+        Err(fault) => Err(fault),
+    }
+}
+
+/// The words after `session`.
+fn read_session(words: &[String]) -> Result<Request<'_>, UsageFault>
+    ensures request { IfOk result (λ request.
+        asked_by session_by (single_of for_session (map string_bytes words.now))
+        ≡ Ok (request_of request)) }
+    ensures fault { IfErr result (λ fault.
+        asked_by session_by (single_of for_session (map string_bytes words.now)) ≡ Err fault) }
+{
+    match read_name(words, Allowed::for_session()) {
+        Ok(one) => Ok(Request::Session { script: one.name }),
         Err(fault) => Err(fault),
     }
 }
