@@ -7,7 +7,7 @@ use Rattle.command_plan.specs.declared.status.Status.TheVariants.{TooLarge, Capt
 use Rattle.command_plan.specs.declared.status.Status.TheVariants.{ImageRefused}
 use Rattle.command_plan.specs.declared.status.Status.TheVariants.{ReadFault, WriteFault}
 use Rattle.command_plan.specs.declared.status.Status.TheVariants.{OutOfMemory, TooManyTogether}
-use Rattle.command_plan.specs.declared.status.Status.TheVariants.{SecondRulesRefused}
+use Rattle.command_plan.specs.declared.status.Status.TheVariants.{ScriptRefused, SecondRulesRefused}
 use Rattle.command_words.specs.declared.fault.UsageKind.{UsageKind}
 use Rattle.command_words.specs.declared.fault.UsageKind.TheVariants.{MissingCommand, UnknownCommand}
 use Rattle.command_words.specs.declared.fault.UsageKind.TheVariants.{MissingName, UnknownOption}
@@ -134,6 +134,7 @@ message OutOfMemory = codes "aclc: out of memory" ++ 10 ∷ []
 message TooManyTogether = codes "aclc: compare: too many rules" ++ 10 ∷ []
 message (SecondRulesRefused fault) =
     numbered (codes "second rules: line ") fault.line (line_text fault.kind)
+message ScriptRefused = codes "aclc: script: too long" ++ 10 ∷ []
 
 -- the exit code of a status
 abbrev pub code_of : Status → ℕ
@@ -146,5 +147,6 @@ code_of (ImageRefused fault) = 6
 code_of ReadFault = 7
 code_of WriteFault = 8
 code_of OutOfMemory = 9
+code_of ScriptRefused = 10
 code_of TooManyTogether = 11
 code_of (SecondRulesRefused fault) = 12

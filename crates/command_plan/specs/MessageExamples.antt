@@ -9,7 +9,7 @@ use Rattle.command_plan.specs.declared.status.Status.TheVariants.{TooLarge, Capt
 use Rattle.command_plan.specs.declared.status.Status.TheVariants.{ReadFault, WriteFault}
 use Rattle.command_plan.specs.declared.status.Status.TheVariants.{OutOfMemory, ImageRefused}
 use Rattle.command_plan.specs.declared.status.Status.TheVariants.{TooManyTogether}
-use Rattle.command_plan.specs.declared.status.Status.TheVariants.{SecondRulesRefused}
+use Rattle.command_plan.specs.declared.status.Status.TheVariants.{ScriptRefused, SecondRulesRefused}
 use Rattle.command_words.specs.declared.fault.UsageKind.TheVariants.{MissingCommand, UnknownCommand}
 use Rattle.command_words.specs.declared.fault.UsageKind.TheVariants.{MissingName, UnknownOption}
 use Rattle.command_words.specs.declared.fault.UsageKind.TheVariants.{RepeatedOption, BadValue}
@@ -86,6 +86,9 @@ bad_second_line : message (SecondRulesRefused (record { line = 2; kind = EmptyRa
 unfolding digits
 bad_second_line = refl
 
+long_script : message ScriptRefused ≡ codes "aclc: script: too long\n"
+long_script = refl
+
 usage_kinds : map usage_text
     (MissingCommand ∷ UnknownCommand ∷ MissingName ∷ UnknownOption ∷ RepeatedOption ∷ BadValue ∷ [])
     ≡ codes "missing command" ∷ codes "unknown command" ∷ codes "missing name"
@@ -148,6 +151,7 @@ all_codes : map code_of (
     Done ∷ Usage (fault_at 1 UnknownCommand) ∷ RulesRefused (record { line = 1; kind = BadStart })
     ∷ TooLarge Ip4 16 15 ∷ CaptureRefused Magic
     ∷ ImageRefused (record { place = 0; kind = kind.Length }) ∷ ReadFault ∷ WriteFault ∷ OutOfMemory
-    ∷ TooManyTogether ∷ SecondRulesRefused (record { line = 1; kind = BadStart }) ∷ [])
-    ≡ 0 ∷ 2 ∷ 3 ∷ 4 ∷ 5 ∷ 6 ∷ 7 ∷ 8 ∷ 9 ∷ 11 ∷ 12 ∷ []
+    ∷ ScriptRefused ∷ TooManyTogether
+    ∷ SecondRulesRefused (record { line = 1; kind = BadStart }) ∷ [])
+    ≡ 0 ∷ 2 ∷ 3 ∷ 4 ∷ 5 ∷ 6 ∷ 7 ∷ 8 ∷ 9 ∷ 10 ∷ 11 ∷ 12 ∷ []
 all_codes = refl

@@ -53,6 +53,7 @@ pub fn message_line(status: &Status, into: &mut [u8; LINE_ROOM]) -> usize
         Status::OutOfMemory => append(into, 0, b"aclc: out of memory\n"),
         Status::TooManyTogether => append(into, 0, b"aclc: compare: too many rules\n"),
         Status::SecondRulesRefused(fault) => rules_line(b"second rules: line ", *fault, into),
+        Status::ScriptRefused => append(into, 0, b"aclc: script: too long\n"),
     }
 }
 

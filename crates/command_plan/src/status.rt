@@ -39,6 +39,8 @@ pub enum Status {
     TooManyTogether,
     /// The second rule file isn't one.
     SecondRulesRefused(LineFault),
+    /// The script has more bytes than a script may have. Nothing was printed.
+    ScriptRefused,
 }
 
 /// Where memory runs out a command ends so, whatever it was doing.
@@ -67,6 +69,7 @@ impl Status {
             Status::ReadFault => 7,
             Status::WriteFault => 8,
             Status::OutOfMemory => 9,
+            Status::ScriptRefused => 10,
             Status::TooManyTogether => 11,
             Status::SecondRulesRefused(_) => 12,
         }
