@@ -23,3 +23,5 @@ mod AuditTold
 mod Compared
 mod Comparing
 mod CompareTold
+mod Scripts
+mod ScriptTold

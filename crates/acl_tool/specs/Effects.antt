@@ -22,6 +22,7 @@ use Rattle.acl_tool.specs.Sizes.{ClassifySizes}
 use Rattle.acl_tool.specs.Images.{BuildMakes, ReplayPrints}
 use Rattle.acl_tool.specs.Audits.{AuditTells}
 use Rattle.acl_tool.specs.Comparisons.{CompareTells}
+use Rattle.acl_tool.specs.Sessions.{SessionTells}
 use Rattle.command_plan.specs.Effects.{Outside, EndsMaking, EndsAsTold, HasNoFaultMaking, PutsLine}
 use Rattle.command_plan.specs.Effects.{files_of, heard_of, opened_of}
 use Rattle.capture_report.specs.PrintsCapture.{KeepsUp}
@@ -89,6 +90,8 @@ pub record Runs (words : List (List ℕ)) (old new : Outside) (err_old err_new :
   pub audits : AuditTells words status old new
   -- whether two lists decide alike
   pub compares : CompareTells words status old new
+  -- the replies to a script
+  pub sessions : SessionTells words status old new
   pub answers : Answers (command words) old new status
   -- where the outside has no fault, only memory keeps the command from its outcome
   pub complete : HasNoFaultMaking (makes_of (command words)) old new → (files : List File) →

@@ -13,6 +13,7 @@ pub mod AuditPlan
 pub mod Listings
 pub mod Compared
 pub mod ComparePlan
+pub mod SessionPlan
 pub mod Outcome
 pub mod Headline
 pub mod Transitions
@@ -20,6 +21,7 @@ pub mod Sizes
 pub mod Images
 pub mod Audits
 pub mod Comparisons
+pub mod Sessions
 pub mod Effects
 pub mod Laws
 pub mod ClassifyExamples

@@ -4,7 +4,7 @@ use Rattle.std.specs.Prelude.{ℕ, List, Result, Ok, Err}
 use Rattle.acl_outside.specs.Desk.{File}
 use Rattle.command_words.specs.declared.fault.UsageFault.{UsageFault}
 use Rattle.command_words.specs.Command.{Request, Audit, Bench, Build, Classify, Compare, Replay}
-use Rattle.command_words.specs.Command.{command}
+use Rattle.command_words.specs.Command.{Session, command}
 use Rattle.command_plan.specs.declared.status.Status.TheVariants.{Usage}
 use Rattle.command_plan.specs.Plan.{Outcome, Plan, Stop, found, settled}
 use Rattle.acl_tool.specs.ClassifyPlan.{classify_plan}
@@ -13,6 +13,7 @@ use Rattle.acl_tool.specs.ReplayPlan.{replay_plan}
 use Rattle.acl_tool.specs.BenchPlan.{bench_plan}
 use Rattle.acl_tool.specs.AuditPlan.{audit_plan}
 use Rattle.acl_tool.specs.ComparePlan.{compare_plan}
+use Rattle.acl_tool.specs.SessionPlan.{session_plan}
 
 -- what a command asks for, case by case
 abbrev pub plan_of_request : Request → Plan Outcome
@@ -22,6 +23,7 @@ plan_of_request (Replay image capture options) = replay_plan image capture optio
 plan_of_request (Bench numbers) = bench_plan numbers
 plan_of_request (Audit rules categories max_words) = audit_plan rules categories max_words
 plan_of_request (Compare rules second max_words) = compare_plan rules second max_words
+plan_of_request (Session script) = session_plan script
 
 -- words that are no command ask for nothing
 abbrev pub plan_of : Result Request UsageFault → Plan Outcome

@@ -12,6 +12,7 @@
 //! | `laws` | an image prints what the rules print of which it was made |
 //! | `audit` | the command that tells which rules ever win |
 //! | `compare` | the command that tells whether two rule files decide alike |
+//! | `session` | the command that answers a script of calls |
 //! | `bench` | the command that compares rules and table over a workload |
 //! | `rule_file` | the rules of a file |
 //! | `tables` | the rules in the contexts of both families, and their tables |
@@ -26,6 +27,7 @@ mod compare;
 pub mod laws;
 mod replay;
 mod rule_file;
+mod session;
 mod tables;
 mod text;
 mod tool;

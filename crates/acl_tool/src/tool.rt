@@ -13,6 +13,7 @@ use crate::build::build;
 use crate::classify::classify;
 use crate::compare::compare;
 use crate::replay::replay;
+use crate::session::session;
 use acl_outside::{Desk, Sink, put_all};
 use acl_report::LINE_ROOM;
 use command_plan::{Status, message_line};
@@ -42,6 +43,9 @@ use std::sync::ledger::Ledger;
 /// in which it ever wins, with the least key at which it does, or a line that it never wins.
 /// `compare RULES RULES2` and its option read two rule files, and put a line for each family: that
 /// both decide every packet alike, or the least key and category at which they don't.
+///
+/// `session SCRIPT` reads a script of calls over a layout of its own, and puts the reply to each of
+/// its lines.
 pub fn run<D: Desk, O: Sink, E: Sink, L: Ledger>(
     alloc: Global,
     words: &[String],
@@ -117,6 +121,7 @@ fn answer_request<D: Desk, O: Sink, L: Ledger>(
             second,
             max_words,
         } => compare(alloc, rules, second, max_words, desk, out),
+        Request::Session { script } => session(alloc, script, desk, out),
     }
 }
 

@@ -8,9 +8,12 @@ returns-in-Bench g c = rw c.in-Bench.is (c.bench.ensures (g.D.Desk.view c.args.d
 pub returns-in-Build : goal.returns-in-Build
 returns-in-Build g c = rw c.in-Build.is (c.build.ensures (g.O.Sink.view c.args.out.now) c.args.steps.now)
 
--- and `audit` and `compare` for every number of transitions
+-- and `audit`, `compare` and `session` for every number of transitions
 pub returns-in-Audit : goal.returns-in-Audit
 returns-in-Audit g c = rw c.in-Audit.is (c.audit.ensures c.args.steps.now)
 
 pub returns-in-Compare : goal.returns-in-Compare
 returns-in-Compare g c = rw c.in-Compare.is (c.compare.ensures c.args.steps.now)
+
+pub returns-in-Session : goal.returns-in-Session
+returns-in-Session g c = rw c.in-Session.is (c.session.ensures c.args.steps.now)

@@ -7,6 +7,7 @@ use Rattle.acl_tool.proofs.Sizing.{classify_sizes}
 use Rattle.acl_tool.proofs.Imaging.{build_makes, replay_prints}
 use Rattle.acl_tool.proofs.AuditTold.{audit_tells}
 use Rattle.acl_tool.proofs.CompareTold.{compare_tells}
+use Rattle.acl_tool.proofs.ScriptTold.{session_tells}
 use Rattle.acl_tool.proofs.tool.run.Goals as goal
 
 pub returns : goal.returns
@@ -22,6 +23,7 @@ returns g c =
       replays = replay_prints words _ _ c.answer-status.result answers;
       audits = audit_tells words _ _ c.answer-status.result answers;
       compares = compare_tells words _ _ c.answer-status.result answers;
+      sessions = session_tells words _ _ c.answer-status.result answers;
       answers = answers;
       complete = Ends-complete _ _ _ c.answer-status.result answers.ends;
       message = c.put_message.ensures;
