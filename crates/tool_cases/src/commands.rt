@@ -5,6 +5,7 @@ ghost use Rattle.std.specs.Prelude.{◌≡◌, ◌<◌};
 mod audits;
 mod comparisons;
 mod images;
+mod sessions;
 mod tables;
 
 use acl_outside::{MemDesk, MemFile, MemSink};
