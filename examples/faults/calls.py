@@ -87,12 +87,14 @@ def right_of(commands, command, whole, call, fault, calls):
     return Run(8, b"", MESSAGES[8], whole.made[:moved] if name == "write" else whole.made)
 
 
-def fail_each(commands, table, command, words, whole):
-    """Fails each call of a command in turn."""
+def fail_each(commands, table, command, words, whole, file=None):
+    """Fails each call of a command in turn, or each on one of its files."""
     made = b"before" if command == "build" else None
     run, calls = traced(commands, words, made=made)
     table.note(command, "strace alone", run, whole)
     for call in own_calls(calls):
+        if file not in (None, call.file):
+            continue
         for fault in FAULTS.get(call.name, ["error=EIO"]):
             run, came = traced(commands, words, f"{call.name}:{fault}:when={call.number}", made)
             right = right_of(commands, command, whole, call, fault, came)
@@ -111,3 +113,6 @@ def fail_calls(commands, table):
     # Commands with a message, whose own write fails.
     for words in (["classify", "old.image", "many.pcap"], ["audit", "missing.rules"]):
         fail_each(commands, table, f"{words[0]} !", words, commands.run(words))
+    # A script that is too long takes some hundred reads.
+    words = ["session", "long.script"]
+    fail_each(commands, table, "session !", words, commands.run(words), "message")

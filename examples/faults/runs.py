@@ -10,6 +10,8 @@ HERE = Path(__file__).resolve().parent
 REPOSITORY = HERE.parent.parent
 PROGRAM = os.environ.get("ACLC", str(REPOSITORY / "crates" / "aclc" / "out" / "aclc"))
 RECORDS = 1500
+# A script has at most this many bytes.
+MOST_SCRIPT = 16_777_216
 MESSAGES = {1: b"", 7: b"aclc: read fault\n", 8: b"aclc: write fault\n", 9: b"aclc: out of memory\n"}
 
 Run = collections.namedtuple("Run", "code out err made")
@@ -23,7 +25,7 @@ def example(name, *words):
 
 
 class Commands:
-    """The six commands, their files in a folder, and what each leaves where nothing fails."""
+    """The seven commands, their files in a folder, and what each leaves where nothing fails."""
 
     def __init__(self, folder):
         self.folder, self.image = Path(folder), Path(folder) / "new.image"
@@ -33,6 +35,9 @@ class Commands:
         capture = example("packets", self.folder / "list.rules", str(RECORDS), "1")
         (self.folder / "many.pcap").write_bytes(capture)
         self.ends = ends_of_records(capture)
+        (self.folder / "fields.script").write_bytes((REPOSITORY / "examples" / "own_layout.script").read_bytes() * 4)
+        with open(self.folder / "long.script", "wb") as script:
+            script.truncate(MOST_SCRIPT + 1)
         options = ["categories=4", "stats=on"]
         self.words = {
             "classify": ["classify", "list.rules", "many.pcap", *options],
@@ -41,6 +46,7 @@ class Commands:
             "bench": ["bench", "1", "40", "300"],
             "audit": ["audit", "list.rules", "categories=16"],
             "compare": ["compare", "list.rules", "edited.rules"],
+            "session": ["session", "fields.script"],
         }
         old = self.run(["build", "list.rules", "old.image"])
         self.whole = {name: self.run(words) for name, words in self.words.items()}

@@ -62,14 +62,21 @@ def fail_disk(commands, table):
         made = (place / "new.image").read_bytes()
         table.note("build", "small disk", run._replace(made=made), Run(8, b"", MESSAGES[8], whole.made[:len(made)]))
         (place / "new.image").unlink()
-        for command in ("classify", "audit"):
+        for words in (commands.words["classify"], commands.words["audit"], ["session", long_script(commands)]):
+            whole = commands.run(words)
             with open(place / "out", "wb") as file:
-                run = commands.run(commands.words[command], stdout=file)
+                run = commands.run(words, stdout=file)
             given = (place / "out").read_bytes()
-            table.note(command, "small disk", run._replace(made=given),
-                       Run(8, None, MESSAGES[8], commands.whole[command].out[:len(given)]))
+            table.note(words[0], "small disk", run._replace(made=given), Run(8, None, MESSAGES[8], whole.out[:len(given)]))
     finally:
         subprocess.run(["umount", place], check=True)
+
+
+def long_script(commands):
+    """The name of a script with more replies than a pipe holds."""
+    name = "many.script"
+    (commands.folder / name).write_bytes((commands.folder / "fields.script").read_bytes() + b"hello\n" * 20_000)
+    return name
 
 
 def fail_readers(commands, table):
@@ -77,14 +84,14 @@ def fail_readers(commands, table):
     many = commands.folder / "lines.pcap"
     capture = (commands.folder / "many.pcap").read_bytes()
     many.write_bytes(capture + capture[24:] * 30)
-    words = ["classify", "list.rules", "lines.pcap", "categories=16"]
-    whole = commands.run(words)
-    for ignored in (False, True):
-        for count in (0, 10, 5000):
-            child = subprocess.Popen([PROGRAM, *words], cwd=commands.folder, stdout=subprocess.PIPE, stderr=subprocess.PIPE,
-                                     restore_signals=not ignored)
-            part = child.stdout.read(count)
-            child.stdout.close()
-            err = child.stderr.read()
-            run = Run(child.wait(), part, err, None)
-            table.note("classify", "reader goes away", run, Run(8, whole.out[:count], MESSAGES[8], None))
+    for words in (["classify", "list.rules", "lines.pcap", "categories=16"], ["session", long_script(commands)]):
+        whole = commands.run(words)
+        for ignored in (False, True):
+            for count in (0, 10, 5000):
+                child = subprocess.Popen([PROGRAM, *words], cwd=commands.folder, stdout=subprocess.PIPE, stderr=subprocess.PIPE,
+                                         restore_signals=not ignored)
+                part = child.stdout.read(count)
+                child.stdout.close()
+                err = child.stderr.read()
+                run = Run(child.wait(), part, err, None)
+                table.note(words[0], "reader goes away", run, Run(8, whole.out[:count], MESSAGES[8], None))

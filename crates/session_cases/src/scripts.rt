@@ -38,22 +38,38 @@ field masks 1 0 0
 field mask 256 0 0
 field mask 1 0 4294967296
 field mask 1 0 -1
+field mask 1 256 0
+field mask 1 0 0x
+field mask 1 0 100000000000000000000
+field mask 1 0 0 # and no comment
 context
+context 1 2
 context 262145
 context 100000000000000000000
 rule 1 2
 rule 2147483648 1 1
 rule 1 4294967296 1
+rule 1 1 4294967296
+rule 1 1 1 0
+rule 1 1 1 0/
+rule 1 1 1 /0
 rule 1 1 1 0/256
+rule 1 1 1 0/1:2
 rule 1 1 1 0:1:2
 rule 1 1 1 0 : 1
 rule 1 1 1 18446744073709551616:0
+rule 1 1 1 0&100000000000000000000
 build
 build 0
 build 67108865
+build 16 16
 reset now
 reset-rules 1
+Reset
+classify
 classify 1
+classify 0 00
+classify 17 00
 classify 1 0
 classify 1 000
 classify 1 0g
@@ -62,7 +78,7 @@ classify 2 00
 classify 1 00 00
 ";
 
-const BAD_LINE_COUNT: usize = 29;
+const BAD_LINE_COUNT: usize = 45;
 
 /// Each call on a context before there is one.
 const NO_CONTEXT: (&[u8], &str) = (
@@ -144,6 +160,35 @@ refused not built\nok\nrefused layout 1\n0\nok\nok\nrefused not built\n\
 refused short buffer\n",
 );
 
+/// Which of two replies is given: a full context and a faulty rule, a short buffer and no table.
+const FIRST_REPLIES: (&[u8], &str) = (
+    b"field bits 1 0 1
+context 0
+rule 1 1 1
+classify 1 00
+classify 1 0000
+",
+    "ok\nok\nrefused full\nrefused short buffer\nrefused not built\n",
+);
+
+/// As many verdicts as there are categories, of buffers in digits of either case, and longer than
+/// the fields reach. The rule is in the first category and in the last.
+const CATEGORIES: (&[u8], &str) = (
+    b"field bits 1 0 0
+context 1
+rule 1 0x8001 4294967295 0xAB&0xFF
+build 67108864
+classify 1 ab
+classify 4 AB
+classify 0x8 aB00
+classify 12 0xAB
+classify 12 ac
+classify 16 abFFff
+",
+    "ok\nok\nok\nok\n4294967295\n4294967295 0 0 0\n4294967295 0 0 0 0 0 0 0\nbad line\n\
+0 0 0 0 0 0 0 0 0 0 0 0\n4294967295 0 0 0 0 0 0 0 0 0 0 0 0 0 0 4294967295\n",
+);
+
 /// Compares the replies to a script.
 fn expect<R: Abort + AllocGlobal>(rt: &R, script: &[u8], replies: &[u8]) -> Result<(), AllocError> {
     let told = session(rt.alloc(), script)?;
@@ -170,6 +215,8 @@ fn each_line_is_answered_by_the_lines_before(rt: HostRuntime) -> Result<(), Fail
         LAYOUTS,
         RULES,
         BUILDS,
+        FIRST_REPLIES,
+        CATEGORIES,
     ];
     for (script, replies) in cases {
         expect(&rt, script, replies.as_bytes())?;
@@ -192,6 +239,35 @@ fn a_field_and_a_value_too_many_are_refused(rt: HostRuntime) -> Result<(), Fail>
     let mut replies = repeated(&rt, b"ok\n", 64)?;
     replies.extend_from_slice(b"refused too many fields\nrefused layout 5 1\nok\nok\n")?;
     replies.extend_from_slice(b"refused rule 1\n")?;
+    expect(&rt, &script, &replies)?;
+    Ok(())
+}
+
+/// The lines of 64 fields in 65 bytes: a byte, 15 groups of four bytes, and a group of two bytes and
+/// two of one.
+fn add_fields<R: AllocGlobal>(rt: &R, script: &mut Vec<u8>) -> Result<(), AllocError> {
+    script.extend_from_slice(b"field mask 1 0 0\n")?;
+    for place in 0..60u32 {
+        let line = format!(in rt.alloc(); "field mask 1 {} {}\n", place / 4 + 1, place + 1)?;
+        script.extend_from_slice(line.as_bytes())?;
+    }
+    script.extend_from_slice(b"field mask 2 16 61\nfield mask 1 16 63\nfield mask 1 16 64\n")
+}
+
+#[test]
+fn as_many_fields_as_there_may_be_decide_a_buffer(rt: HostRuntime) -> Result<(), Fail> {
+    let mut script = Vec::new(rt.alloc());
+    add_fields(&rt, &mut script)?;
+    script.extend_from_slice(b"context 1\nrule 1 1 9")?;
+    script.extend_from_slice(&repeated(&rt, b" 0/0", 63)?)?;
+    script.extend_from_slice(b" 0xAB/8\nbuild 1000\nclassify 1 ")?;
+    let zeros = repeated(&rt, b"00", 64)?;
+    script.extend_from_slice(&zeros)?;
+    script.extend_from_slice(b"ab\nclassify 1 ")?;
+    script.extend_from_slice(&zeros)?;
+    script.extend_from_slice(b"ac\n")?;
+    let mut replies = repeated(&rt, b"ok\n", 67)?;
+    replies.extend_from_slice(b"9\n0\n")?;
     expect(&rt, &script, &replies)?;
     Ok(())
 }
