@@ -1,6 +1,6 @@
 //! Rows of the keys of a batch, which are used again from batch to batch.
 
-ghost use Rattle.std.specs.Prelude.{◌≡◌, ◌<◌, ◌≤◌, length, replicate, slice_get, Some, IfOk};
+ghost use Rattle.std.specs.Prelude.{◌≡◌, ◌<◌, ◌≤◌, length, replicate, slice_get, Some, IfOk, true};
 ghost use Rattle.flat_table.specs.Batch.{most_keys};
 ghost use Rattle.flow_core.specs.Rows.{zero_row, cleared, joined_row, joined_into};
 
@@ -41,11 +41,24 @@ fn clear_rows(rows: &mut [[u64; ROW_LEN]], count: usize)
     }
 }
 
+/// Whether the row is one of zeros.
+#[inline]
+fn is_zero(row: &[u64; ROW_LEN]) -> bool
+    ensures { result ≡ true → row.now ≡ zero_row }
+{
+    u64x16::from_array(*row).reduce_or() == 0
+}
+
 /// Makes each word of the row the greater of itself and that of the other row.
 #[inline]
 fn join_rows(row: &mut [u64; ROW_LEN], other: &[u64; ROW_LEN])
     ensures { row.new ≡ joined_row row.old other.now }
 {
+    // The first row of a key needs no comparing, and with one trie it is the only one.
+    if is_zero(row) {
+        *row = *other;
+        return;
+    }
     *row = u64x16::from_array(*row)
         .simd_max(u64x16::from_array(*other))
         .to_array();

@@ -87,17 +87,33 @@ fn are_empty(flights: &[Flight]) -> bool
     flights.iter().all(|flight| is_match(flight.word))
 }
 
-/// Joins the row that the match names into that of the key.
+/// Joins the row that the flight's word names, which is a match, into that of its key.
 ///
-/// It is not inlined, so that what stands around it stays small, for few words are a match.
+/// It is not inlined, so that what stands around it stays small, for few words are a match. It
+/// reads the key itself, so that no one keeps it until then.
 #[inline(never)]
-fn join_match(table: &Table, scratch: &mut Scratch, key: usize, word: u64)
-    requires row { index_of word < length table.now.rows }
-    requires key { key < length scratch.old }
-    ensures { scratch.new
-        ≡ joined_into key (slice_index_or table.now.rows (index_of word) []) scratch.old }
+fn join_match(table: &Table, scratch: &mut Scratch, flight: &Flight)
+    requires row { index_of flight.now.word < length table.now.rows }
+    requires key { flight.now.key < length scratch.old }
+    ensures { scratch.new ≡ joined_into flight.now.key
+        (slice_index_or table.now.rows (index_of flight.now.word) []) scratch.old }
 {
+    let (key, word) = (flight.key, flight.word);
     scratch.join(key, table.row(index_of(word)));
+}
+
+/// The flight as it is. Where the table has one trie, its flights are of that one, and it is no
+/// longer read where its places lie.
+#[inline]
+fn of_trie<const ONE: bool>(flight: Flight) -> Flight
+    requires { ONE ≡ true → flight.trie ≡ 0 }
+    ensures { result ≡ flight }
+{
+    if ONE {
+        Flight { trie: 0, ..flight }
+    } else {
+        flight
+    }
 }
 
 /// The next word of a flight. After a match the row that it names is joined into that of the
@@ -116,7 +132,7 @@ fn land(table: &Table, scratch: &mut Scratch, flight: &mut Flight, word: u64)
     if !is_end(word) {
         return;
     }
-    join_match(table, scratch, flight.key, word);
+    join_match(table, scratch, flight);
 }
 
 impl<const W: usize> LaneFlows<W> {
@@ -157,15 +173,17 @@ impl<const W: usize> LaneFlows<W> {
         requires { first + AT_ONCE ≤ W }
         ensures { result ≡ true → AreBusy self.now first }
     {
+        // All four are asked at once, since one test of their words together takes fewer steps.
         self.is_busy(first)
-            && self.is_busy(first + 1)
-            && self.is_busy(first + 2)
-            && self.is_busy(first + 3)
+            & self.is_busy(first + 1)
+            & self.is_busy(first + 2)
+            & self.is_busy(first + 3)
     }
 
     /// The word and the key byte by which the lane goes on, or any byte where it is empty.
     #[inline]
-    fn read_lane(&self, table: &Table, keys: &[u8], lane: usize) -> (u64, u8)
+    fn read_lane<const ONE: bool>(&self, table: &Table, keys: &[u8], lane: usize) -> (u64, u8)
+        requires one { ONE ≡ true → length table.now.roots ≡ 1 }
         requires lane { lane < W }
         requires stands { (rows : ℕ) × StandsOver table.now keys.now self.now rows }
         ensures { GoesBy table.now keys.now (slice_index_or self.now.slots lane None) result.0
@@ -175,21 +193,27 @@ impl<const W: usize> LaneFlows<W> {
         if is_end(flight.word) {
             return (flight.word, 0);
         }
-        (flight.word, byte_of(table, keys, flight))
+        (flight.word, byte_of(table, keys, of_trie::<ONE>(flight)))
     }
 
     /// The places of the words that four lanes take next, from one on.
     #[inline]
-    fn places_from(&self, table: &Table, keys: &[u8], first: usize) -> [u32; AT_ONCE]
+    fn places_from<const ONE: bool>(
+        &self,
+        table: &Table,
+        keys: &[u8],
+        first: usize,
+    ) -> [u32; AT_ONCE]
+        requires one { ONE ≡ true → length table.now.roots ≡ 1 }
         requires first { first + AT_ONCE ≤ W }
         requires stands { (rows : ℕ) × StandsOver table.now keys.now self.now rows }
         ensures { (k : ℕ) → k < AT_ONCE → IsPlaceOf table.now keys.now
             (slice_index_or self.now.slots (first + k) None) (slice_index result k) }
     {
-        let one = self.read_lane(table, keys, first);
-        let two = self.read_lane(table, keys, first + 1);
-        let three = self.read_lane(table, keys, first + 2);
-        let four = self.read_lane(table, keys, first + 3);
+        let one = self.read_lane::<ONE>(table, keys, first);
+        let two = self.read_lane::<ONE>(table, keys, first + 1);
+        let three = self.read_lane::<ONE>(table, keys, first + 2);
+        let four = self.read_lane::<ONE>(table, keys, first + 3);
         four_places(
             &[one.0, two.0, three.0, four.0],
             &[one.1, two.1, three.1, four.1],
@@ -267,7 +291,14 @@ impl<const W: usize> LaneFlows<W> {
 
     /// A step of each of four busy lanes, from one on and in order.
     #[inline]
-    fn land_four(&mut self, table: &Table, keys: &[u8], scratch: &mut Scratch, first: usize)
+    fn land_four<const ONE: bool>(
+        &mut self,
+        table: &Table,
+        keys: &[u8],
+        scratch: &mut Scratch,
+        first: usize,
+    )
+        requires one { ONE ≡ true → length table.now.roots ≡ 1 }
         requires width { W ≤ 16 }
         requires first { first + AT_ONCE ≤ W }
         requires stands { StandsOver table.now keys.now self.old (length scratch.old) }
@@ -275,7 +306,7 @@ impl<const W: usize> LaneFlows<W> {
         ensures { StepsLanes table.now keys.now self.old scratch.old first AT_ONCE self.new
             scratch.new AT_ONCE }
     {
-        let places = self.places_from(table, keys, first);
+        let places = self.places_from::<ONE>(table, keys, first);
         for k in 0..AT_ONCE {
             self.land_lane(table, keys, scratch, first + k, places[k] as usize);
         }
@@ -284,14 +315,21 @@ impl<const W: usize> LaneFlows<W> {
     /// A step of each of four lanes, from one on and in order, and how many of them were busy
     /// before.
     #[inline]
-    fn step_each(&mut self, table: &Table, keys: &[u8], scratch: &mut Scratch, first: usize) -> u32
+    fn step_each<const ONE: bool>(
+        &mut self,
+        table: &Table,
+        keys: &[u8],
+        scratch: &mut Scratch,
+        first: usize,
+    ) -> u32
+        requires one { ONE ≡ true → length table.now.roots ≡ 1 }
         requires width { W ≤ 16 }
         requires first { first + AT_ONCE ≤ W }
         requires stands { StandsOver table.now keys.now self.old (length scratch.old) }
         ensures { StepsLanes table.now keys.now self.old scratch.old first AT_ONCE self.new
             scratch.new result }
     {
-        let places = self.places_from(table, keys, first);
+        let places = self.places_from::<ONE>(table, keys, first);
         let mut busy = 0;
         for k in 0..AT_ONCE {
             busy += self.step_lane(table, keys, scratch, first + k, places[k] as usize);
@@ -302,7 +340,14 @@ impl<const W: usize> LaneFlows<W> {
     /// A step of each of four lanes, from one on and in order, and how many of them were busy
     /// before. Mostly all four are, and then no lane asks again.
     #[inline]
-    fn step_four(&mut self, table: &Table, keys: &[u8], scratch: &mut Scratch, first: usize) -> u32
+    fn step_four<const ONE: bool>(
+        &mut self,
+        table: &Table,
+        keys: &[u8],
+        scratch: &mut Scratch,
+        first: usize,
+    ) -> u32
+        requires one { ONE ≡ true → length table.now.roots ≡ 1 }
         requires width { W ≤ 16 }
         requires first { first + AT_ONCE ≤ W }
         requires stands { StandsOver table.now keys.now self.old (length scratch.old) }
@@ -310,10 +355,10 @@ impl<const W: usize> LaneFlows<W> {
             scratch.new result }
     {
         if self.are_busy(first) {
-            self.land_four(table, keys, scratch, first);
+            self.land_four::<ONE>(table, keys, scratch, first);
             return AT_ONCE as u32;
         }
-        self.step_each(table, keys, scratch, first)
+        self.step_each::<ONE>(table, keys, scratch, first)
     }
 
     /// A step of each slot, in order, and how many of them were busy before: so many words are
@@ -331,10 +376,30 @@ impl<const W: usize> LaneFlows<W> {
             ≡ drop (keys_in table.now keys.now) scratch.old }
         ensures stands { StandsOver table.now keys.now self.new (length scratch.new) }
     {
+        if table.tries() == 1 {
+            self.turn_of::<true>(table, keys, scratch)
+        } else {
+            self.turn_of::<false>(table, keys, scratch)
+        }
+    }
+
+    /// The turn over a table of one trie, or over any.
+    #[inline]
+    fn turn_of<const ONE: bool>(&mut self, table: &Table, keys: &[u8], scratch: &mut Scratch) -> u32
+        requires one { ONE ≡ true → length table.now.roots ≡ 1 }
+        requires lanes { IsLanes W }
+        requires stands { StandsOver table.now keys.now self.old (length scratch.old) }
+        ensures state { state_of table.now keys.now self.new scratch.new
+            ≡ flow_turn table.now keys.now W (state_of table.now keys.now self.old scratch.old) }
+        ensures busy { result ≡ busy_slots self.old }
+        ensures others { drop (keys_in table.now keys.now) scratch.new
+            ≡ drop (keys_in table.now keys.now) scratch.old }
+        ensures stands { StandsOver table.now keys.now self.new (length scratch.new) }
+    {
         let lanes = self.flights.as_slice().len();
         let mut busy = 0;
         for group in 0..lanes / AT_ONCE {
-            busy += self.step_four(table, keys, scratch, group * AT_ONCE);
+            busy += self.step_four::<ONE>(table, keys, scratch, group * AT_ONCE);
         }
         busy
     }
