@@ -1,1 +1,2 @@
 mod AnswerWords
+mod NextDigits

@@ -7,6 +7,7 @@
 //! | module | what it writes |
 //! |---|---|
 //! | `line` | pieces of a line, one after the other |
+//! | `number` | the number of a line, with its digits, which is counted up |
 //! | `packet` | the line of a packet: its number, its class, and what each category says |
 //! | `counts` | how many packets of each class a capture has; the counts are kept here too |
 //! | `tables` | the size of a table, and the transitions that were taken |
@@ -17,10 +18,12 @@
 mod counts;
 pub mod laws;
 mod line;
+mod number;
 mod packet;
 mod tables;
 
 pub use counts::{Counts, packets_line};
 pub use line::{LINE_ROOM, append, append_number};
-pub use packet::{MAX_VERDICTS, packet_line};
+pub use number::LineNumber;
+pub use packet::{MAX_VERDICTS, numbered_line, packet_line};
 pub use tables::{table_line, transitions_line};

@@ -77,7 +77,7 @@ fn append_counted(into: &mut [u8; LINE_ROOM], at: usize, number: u64) -> usize
 
 /// How many decimal digits a number above 0 has.
 #[inline]
-fn digits_in(number: u64) -> usize
+pub(crate) fn digits_in(number: u64) -> usize
     requires { 0 < number }
     ensures { result ≡ length (decimal number) }
 {

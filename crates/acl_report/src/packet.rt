@@ -1,13 +1,14 @@
 //! The line of a packet.
 
-ghost use Rattle.std.specs.Prelude.{◌≡◌, ◌+◌, ◌*◌, ◌≤◌, ◌∷◌, ◌++◌, length, map, take};
+ghost use Rattle.std.specs.Prelude.{◌≡◌, ◌+◌, ◌*◌, ◌≤◌, ◌∷◌, ◌++◌, [], length, map, take};
 ghost use Rattle.acl_report.specs.declared.line.TheConstants.{LINE_ROOM};
 ghost use Rattle.acl_report.specs.declared.packet.TheConstants.{MAX_VERDICTS, VERDICT_ROOM};
-ghost use Rattle.acl_report.specs.Line.{space, spaced};
-ghost use Rattle.acl_report.specs.Packet.{answer_word, packet_text};
+ghost use Rattle.acl_report.specs.Line.{line_feed, space, spaced};
+ghost use Rattle.acl_report.specs.Packet.{answer_word, answer_words, class_word, packet_text};
 ghost use Rattle.acl_report.specs.Verdicts.{answer, answers};
 
 use crate::line::{LINE_ROOM, append, append_number, append_short};
+use crate::number::LineNumber;
 use header_extract::Class;
 use rule_set::MAX_CATEGORIES;
 
@@ -37,6 +38,47 @@ pub fn packet_line(
         ≡ packet_text number class (answers verdicts.now dashes.now) }
 {
     let at = append_number(into, 0, number);
+    append_packet(into, at, class, verdicts, dashes)
+}
+
+/// Writes the line of a packet, as [`packet_line`] has it, by the number's own digits. It takes no
+/// memory.
+#[inline(always)]
+pub fn numbered_line(
+    number: &LineNumber,
+    class: Class,
+    verdicts: &[u32],
+    dashes: &[bool],
+    into: &mut [u8; LINE_ROOM],
+) -> usize
+    requires categories { length verdicts.now ≤ MAX_VERDICTS }
+    requires dashes { length dashes.now ≡ length verdicts.now }
+    ensures within { result ≤ LINE_ROOM }
+    ensures line { take result into.new
+        ≡ packet_text number.now class (answers verdicts.now dashes.now) }
+{
+    let at = number.begin_line(into);
+    append_packet(into, at, class, verdicts, dashes)
+}
+
+/// Writes what a line has after its number: the word of the class, a word for each category, and
+/// LF.
+#[inline(always)]
+fn append_packet(
+    into: &mut [u8; LINE_ROOM],
+    at: usize,
+    class: Class,
+    verdicts: &[u32],
+    dashes: &[bool],
+) -> usize
+    requires number { at ≤ 20 }
+    requires categories { length verdicts.now ≤ MAX_VERDICTS }
+    requires dashes { length dashes.now ≡ length verdicts.now }
+    ensures within { result ≤ LINE_ROOM }
+    ensures line { take result into.new ≡ take at into.old
+        ++ spaced (class_word class ∷ answer_words class (answers verdicts.now dashes.now))
+        ++ line_feed ∷ [] }
+{
     let at = match class {
         Class::Ip4 => {
             let at = append(into, at, b" ip4");

@@ -1,5 +1,5 @@
 -- What is written of a packet by its verdicts and dashes is its line.
-use Rattle.std.proofs.Common.{◌≡◌, ℕ, ◌+◌, ◌%◌, ◌≤◌, ◌==◌, List, [], ◌∷◌, Bool, true, false, not, map, take, length}
+use Rattle.std.proofs.Common.{◌≡◌, ℕ, ◌%◌, ◌≤◌, ◌==◌, List, [], ◌∷◌, Bool, true, false, not, map, take, length}
 use Rattle.std.proofs.Common.{Some, inl, inr, refl, ap, ◌∙◌, replicate}
 use Rattle.std.specs.List.{range_with_len}
 use Rattle.std.proofs.lemmas.Bool.Decides.{eqb_tells}
@@ -13,8 +13,6 @@ use Rattle.scalar_walk.specs.Rows.{winners_of}
 use Rattle.header_extract.specs.declared.class.Class.{Class}
 use Rattle.header_extract.specs.declared.class.Class.TheVariants.{Ip4, Ip6, Other, Short}
 use Rattle.header_extract.specs.Class.{FrameClass}
-use Rattle.acl_report.specs.declared.counts.Counts.{Counts}
-use Rattle.acl_report.specs.Counting.{counted}
 use Rattle.acl_report.specs.declared.packet.TheConstants.{MAX_VERDICTS}
 use Rattle.acl_report.specs.Packet.{packet_text}
 use Rattle.acl_report.specs.Verdicts.{answer, answers}
@@ -23,7 +21,6 @@ use Rattle.capture_report.specs.ReportForm.{ReportForm}
 use Rattle.capture_report.specs.Shown.{shown}
 use Rattle.capture_report.specs.Report.{answers_on, line_of_packet}
 use Rattle.capture_report.specs.Batch.{verdicts_on, dashes_of, dashes_on}
-use Rattle.capture_report.proofs.LineLaws.{counted-packets}
 
 -- verdicts and dashes, category by category
 pair_up : (f : ℕ → ℕ) (d : ℕ → Bool) (r : List ℕ) → answers (map f r) (map d r) ≡ map (λ c. answer (f c) (d c)) r
@@ -117,19 +114,3 @@ line_by-is form number packet class verdicts dashes is_shown is_verdicts is_dash
     ∙ ap (λ (v : List ℕ). answers v (take (length v) (dashes_on packet.class form packet.key))) is_verdicts
     ∙ shown_is form packet.class packet.key by_tables few in
     ap (λ k. packet_text number k (answers verdicts dashes)) is_shown ∙ ap (packet_text number packet.class) all
-
--- and so it is after those that were counted
-pub line-is : (form : ReportForm) (counts counts_new : Counts) (packet : FrameClass) (class : Class)
-    (verdicts : List ℕ) (dashes : List Bool) →
-    counts_new ≡ counted class counts → class ≡ packet.class →
-    verdicts ≡ verdicts_on packet.class form packet.key →
-    dashes ≡ take (length verdicts) (dashes_on packet.class form packet.key) →
-    form.classifier ≡ ByTables form.tables → form.categories ≤ MAX_VERDICTS →
-    packet_text counts_new.packets class (answers verdicts dashes)
-    ≡ line_of_packet form (counts.packets + 1) packet
-line-is form counts counts_new packet class verdicts dashes is_counted is_shown is_verdicts is_dashes by_tables
-    few =
-    let number : counts_new.packets ≡ counts.packets + 1 =
-    ap (λ c. c.packets) is_counted ∙ counted-packets class counts in
-    line_by-is form counts_new.packets packet class verdicts dashes is_shown is_verdicts is_dashes by_tables few
-    ∙ ap (λ n. line_of_packet form n packet) number

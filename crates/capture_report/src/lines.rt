@@ -3,7 +3,6 @@
 ghost use Rattle.std.specs.Prelude.{◌≡◌, ◌+◌, ◌*◌, ◌≤◌, ◌++◌, [], length, take};
 ghost use Rattle.acl_report.specs.declared.line.TheConstants.{LINE_ROOM};
 ghost use Rattle.acl_report.specs.declared.packet.TheConstants.{MAX_VERDICTS};
-ghost use Rattle.acl_report.specs.Counting.{CountsFit, counted};
 ghost use Rattle.acl_report.specs.Packet.{packet_text};
 ghost use Rattle.acl_report.specs.Verdicts.{answers};
 ghost use Rattle.capture_report.specs.Packet.{IsPacket};
@@ -14,7 +13,9 @@ ghost use Rattle.capture_report.specs.Batch.{AreAnswered, AreNext, verdicts_on};
 
 use crate::form::FormByTables;
 use crate::packet::Packet;
-use acl_report::{Counts, LINE_ROOM, packet_line, packets_line, table_line, transitions_line};
+use acl_report::{
+    Counts, LINE_ROOM, LineNumber, numbered_line, packets_line, table_line, transitions_line,
+};
 use field_defs::Family;
 use flat_table::Table;
 use header_extract::Class;
@@ -43,42 +44,44 @@ pub fn write_lines(
     ensures len { length lines.new ≡ length lines.old }
 {
     let count = form.categories().count();
+    let mut number = LineNumber::new(counts.packets + 1);
     let mut end = 0;
     for packet in packets {
         // Each class has a call of its own, in which what depends on the class is settled.
         let class = packet.class();
+        counts.add(class);
         match class {
             Class::Ip4 => {
                 let (verdicts, rest) = ip4.split_at(count);
                 ip4 = rest;
-                end = write_line(form, packet, class, verdicts, counts, lines, end);
+                end = write_line(form, packet, class, verdicts, &number, lines, end);
             }
             Class::Ip6 => {
                 let (verdicts, rest) = ip6.split_at(count);
                 ip6 = rest;
-                end = write_line(form, packet, class, verdicts, counts, lines, end);
+                end = write_line(form, packet, class, verdicts, &number, lines, end);
             }
             Class::Other | Class::Short => {
-                end = write_line(form, packet, class, &[], counts, lines, end)
+                end = write_line(form, packet, class, &[], &number, lines, end)
             }
         }
+        number.advance();
     }
     end
 }
 
-/// Writes the line of a packet of the class at the place `at`, counts the packet, and gives the
-/// place after the line.
+/// Writes the line of a packet of the class and this number at the place `at`, and gives the place
+/// after the line.
 #[inline(always)]
 fn write_line(
     form: &FormByTables<'_>,
     packet: &Packet,
     class: Class,
     verdicts: &[u32],
-    counts: &mut Counts,
+    number: &LineNumber,
     lines: &mut [u8],
     at: usize,
 ) -> usize
-    requires fit { CountsFit counts.old }
     requires packet { IsPacket packet.now }
     requires class { class ≡ packet.now.class }
     requires verdicts { verdicts.now ≡ verdicts_on packet.now.class form.now packet.now.key }
@@ -86,17 +89,15 @@ fn write_line(
     requires room { at + LINE_ROOM ≤ length lines.old }
     ensures end { result ≤ at + LINE_ROOM }
     ensures lines { take result lines.new
-        ≡ take at lines.old ++ line_of_packet form.now (counts.old.packets + 1) packet.now }
+        ≡ take at lines.old ++ line_of_packet form.now number.now packet.now }
     ensures len { length lines.new ≡ length lines.old }
-    ensures counts { counts.new ≡ counted packet.now.class counts.old }
 {
-    counts.add(class);
     match form.no_dashes() {
         Some(dashes) => {
             let dashes = &dashes[..verdicts.len()];
-            at + write_front(counts.packets, class, verdicts, dashes, &mut lines[at..])
+            at + write_front(number, class, verdicts, dashes, &mut lines[at..])
         }
-        None => write_marked(form, packet, class, verdicts, counts.packets, lines, at),
+        None => write_marked(form, packet, class, verdicts, number, lines, at),
     }
 }
 
@@ -108,7 +109,7 @@ fn write_marked(
     packet: &Packet,
     class: Class,
     verdicts: &[u32],
-    number: u64,
+    number: &LineNumber,
     lines: &mut [u8],
     at: usize,
 ) -> usize
@@ -119,7 +120,7 @@ fn write_marked(
     requires room { at + LINE_ROOM ≤ length lines.old }
     ensures end { result ≤ at + LINE_ROOM }
     ensures lines { take result lines.new
-        ≡ take at lines.old ++ line_of_packet form.now number packet.now }
+        ≡ take at lines.old ++ line_of_packet form.now number.now packet.now }
     ensures len { length lines.new ≡ length lines.old }
 {
     let dashes = form.dashes(packet);
@@ -127,10 +128,10 @@ fn write_marked(
     at + write_front(number, class, verdicts, dashes, &mut lines[at..])
 }
 
-/// Writes the line of a packet, as [`packet_line`] has it, to the front of `lines`.
+/// Writes the line of a packet, as [`numbered_line`] has it, to the front of `lines`.
 #[inline(always)]
 fn write_front(
-    number: u64,
+    number: &LineNumber,
     class: Class,
     verdicts: &[u32],
     dashes: &[bool],
@@ -141,11 +142,11 @@ fn write_front(
     requires room { LINE_ROOM ≤ length lines.old }
     ensures within { result ≤ LINE_ROOM }
     ensures line { take result lines.new
-        ≡ packet_text number class (answers verdicts.now dashes.now) }
+        ≡ packet_text number.now class (answers verdicts.now dashes.now) }
     ensures len { length lines.new ≡ length lines.old }
 {
     match lines.first_chunk_mut() {
-        Some(line) => packet_line(number, class, verdicts, dashes, line),
+        Some(line) => numbered_line(number, class, verdicts, dashes, line),
         None => unreachable!(),
     }
 }

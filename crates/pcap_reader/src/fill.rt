@@ -10,7 +10,7 @@ use acl_outside::{Desk, Failed};
 ///
 /// It asks for no byte beyond `into`, and for none where `into` is empty. `Failed`: the desk's
 /// count of read faults rose. It takes no memory.
-#[inline]
+#[inline(always)]
 pub fn fill<D: Desk>(desk: &mut D, into: &mut [u8]) -> Result<usize, Failed>
     requires { IsTrue (D.view desk.old).reading }
     ensures { Fills into.old into.new (D.view desk.old) (D.view desk.new) result }

@@ -6,13 +6,16 @@ use Rattle.std.proofs.lemmas.List.{take-append-le, drop-append-le}
 use Rattle.acl_outside.specs.Desk.{DeskView}
 use Rattle.acl_outside.specs.Heard.{GoesOn, Ended}
 use Rattle.pcap_reader.specs.declared.fault.CaptureFault.{CaptureFault}
-use Rattle.pcap_reader.specs.declared.fault.CaptureFault.TheVariants.{PngCut, ReadFault}
-use Rattle.pcapng_reader.specs.Block.{BlockState, End, Fault, Given, front_of, front_len, is_last}
+use Rattle.pcap_reader.specs.declared.fault.CaptureFault.TheVariants.{PngCut, PngLength, ReadFault}
+use Rattle.pcap_reader.specs.Headers.{number_in}
+use Rattle.pcapng_reader.specs.Block.{BlockState, End, Fault, Given, front_of, front_len, is_last, is_no_len, kind_of}
+use Rattle.pcapng_reader.specs.declared.kind.Kind.TheVariants.{Packet}
 use Rattle.pcapng_reader.specs.declared.blocks.BlockRead.{BlockRead}
 use Rattle.pcapng_reader.specs.declared.blocks.BlockRead.TheVariants as read
 use Rattle.pcapng_reader.specs.Reading.{HasRead, HasBroken, ReadsBlock, StandsWithin, block_read}
 use Rattle.pcapng_reader.proofs.BlockLaws.{HasFront-from, front_least, block-none, block-front_fault, front-cut}
-use Rattle.pcapng_reader.proofs.BlockLaws.{short-stuck}
+use Rattle.pcapng_reader.proofs.BlockLaws.{front-whole, short-stuck}
+use Rattle.pcapng_reader.proofs.Steps.{refuse-no}
 use Rattle.pcapng_reader.proofs.ReadLaws.{ReadsBlock-is, ReadsBlock-broken, ReadsBlock-plain, front-plain}
 
 -- no byte was left
@@ -46,6 +49,17 @@ pub front-refused : (state : BlockState) (part : List ℕ) (fault : CaptureFault
 front-refused state part fault old new few there is read =
     ReadsBlock-plain state part GoesOn old new fault read (inl refl)
     (block-front_fault state part fault (omega (arith, there)) is) (front-plain state part fault few there is)
+
+-- the front of a packet whose length is lawful isn't refused
+pub front-packet : (state : BlockState) (bytes : List ℕ) (total : ℕ) → is_last state ≡ false →
+    front_len ≤ length bytes → Packet ≡ kind_of (number_in state.order bytes 0 4) →
+    total ≡ number_in state.order bytes 4 4 → is_no_len Packet total ≡ false →
+    front_of state bytes ≡ Ok (record { kind = Packet; order = state.order; total = total })
+front-packet state bytes total few there kind is lawful =
+    rw is
+    (front-whole state bytes few there Packet kind
+    ∙ refuse-no (is_no_len Packet (number_in state.order bytes 4 4)) (PngLength (state.count + 1)) _
+    (rw is at lawful))
 
 -- a packet stands in the front of a buffer as in the whole of it
 pub block_read-front : (now : BlockState) (front rest : List ℕ) (result : Result BlockRead CaptureFault) →

@@ -74,16 +74,70 @@ pub fn read_block<D: Desk>(
         Ok(_) => return Err(CaptureFault::PngCut(reader.count + 1)),
         Err(Failed) => return Err(CaptureFault::ReadFault),
     }
+    // Each order has a call of its own, in which what depends on it is settled.
+    match reader.order {
+        Order::Big => read_rest(desk, reader, Order::Big, buffer),
+        Order::Little => read_rest(desk, reader, Order::Little, buffer),
+    }
+}
+
+/// Reads the rest of a block of a section in this order, of which `buffer` has the first twelve
+/// bytes.
+#[inline(always)]
+fn read_rest<D: Desk>(
+    desk: &mut D,
+    reader: &mut Reader,
+    order: Order,
+    buffer: &mut [u8],
+) -> Result<BlockRead, CaptureFault>
+    requires reading { IsTrue (D.view desk.old).reading }
+    requires few { is_last reader.old ≡ false }
+    requires order { order ≡ reader.old.order }
+    requires room { length buffer.old ≡ max_captured }
+    ensures block { (before : DeskView)
+        → HasRead reader.old (take front_len buffer.old) GoesOn before (D.view desk.old)
+        → ReadsBlock reader.old before (D.view desk.new)
+        (block_read reader.new buffer.new result) }
+    ensures within { StandsWithin max_captured result }
+    ensures stays { Stays reader.old reader.new result }
+{
+    // Most blocks are packets, whose kind is settled where they are read.
+    match reader.packet_front(order, &buffer[..FRONT_LEN]) {
+        Some(front) => read_within(desk, reader, &front, buffer),
+        None => read_any(desk, reader, buffer),
+    }
+}
+
+/// Reads the rest of a block of any kind, of which `buffer` has the first twelve bytes.
+#[inline(never)]
+fn read_any<D: Desk>(
+    desk: &mut D,
+    reader: &mut Reader,
+    buffer: &mut [u8],
+) -> Result<BlockRead, CaptureFault>
+    requires reading { IsTrue (D.view desk.old).reading }
+    requires few { is_last reader.old ≡ false }
+    requires room { length buffer.old ≡ max_captured }
+    ensures block { (before : DeskView)
+        → HasRead reader.old (take front_len buffer.old) GoesOn before (D.view desk.old)
+        → ReadsBlock reader.old before (D.view desk.new)
+        (block_read reader.new buffer.new result) }
+    ensures within { StandsWithin max_captured result }
+    ensures stays { Stays reader.old reader.new result }
+{
     let front = match reader.front(&buffer[..FRONT_LEN]) {
         Ok(front) => front,
         Err(fault) => return Err(fault),
     };
-    read_rest(desk, reader, &front, buffer)
+    if front.total as usize > buffer.len() {
+        return read_long(desk, reader, &front, buffer);
+    }
+    read_within(desk, reader, &front, buffer)
 }
 
-/// Reads the rest of a block, of which `buffer` has the first twelve bytes.
-#[inline]
-fn read_rest<D: Desk>(
+/// Reads the rest of a block that has room in `buffer`, which has its first twelve bytes.
+#[inline(always)]
+fn read_within<D: Desk>(
     desk: &mut D,
     reader: &mut Reader,
     front: &Front,
@@ -93,6 +147,7 @@ fn read_rest<D: Desk>(
     requires few { is_last reader.old ≡ false }
     requires front { front_of reader.old (take front_len buffer.old) ≡ Ok front.now }
     requires room { length buffer.old ≡ max_captured }
+    requires fits { front.now.total ≤ max_captured }
     ensures block { (before : DeskView)
         → HasRead reader.old (take front_len buffer.old) GoesOn before (D.view desk.old)
         → ReadsBlock reader.old before (D.view desk.new)
@@ -100,11 +155,7 @@ fn read_rest<D: Desk>(
     ensures within { StandsWithin max_captured result }
     ensures stays { Stays reader.old reader.new result }
 {
-    let total = front.total as usize;
-    if total > buffer.len() {
-        return read_long(desk, reader, front, buffer);
-    }
-    read_short(desk, reader, front, &mut buffer[..total])
+    read_short(desk, reader, front, &mut buffer[..front.total as usize])
 }
 
 /// Reads the first bytes of a block, of which the type may have been read before, and says how many
@@ -138,7 +189,7 @@ fn read_first<D: Desk>(desk: &mut D, reader: &Reader, into: &mut [u8]) -> Result
 
 /// Reads the rest of a block that has room in the buffer, of which `block` has the first twelve
 /// bytes.
-#[inline]
+#[inline(always)]
 fn read_short<D: Desk>(
     desk: &mut D,
     reader: &mut Reader,

@@ -1,9 +1,10 @@
 //! What a reader of blocks knows, and what a block says to it.
 
-ghost use Rattle.std.specs.Prelude.{◌≡◌, ◌-◌, ◌≤◌, IfOk, false, length};
+ghost use Rattle.std.specs.Prelude.{◌≡◌, ◌-◌, ◌≤◌, IfOk, IfSome, Ok, false, length};
 ghost use Rattle.pcapng_reader.specs.Block.{front_len, front_of, is_last, is_no_len, least_len};
 ghost use Rattle.pcapng_reader.specs.Block.{magic_order, order_in, said_by};
 ghost use Rattle.pcapng_reader.specs.Block.{interface_said, packet_said, section_said, state_said};
+ghost use Rattle.pcap_reader.specs.Capture.{max_captured};
 ghost use Rattle.pcap_reader.specs.State.{has_ended};
 ghost use Rattle.pcapng_reader.specs.Capture.{begun_blocks, section_bytes};
 ghost use Rattle.pcapng_reader.specs.Reading.{HasRoom};
@@ -110,6 +111,31 @@ impl Reader {
         Ok(Front { kind, order, total })
     }
 
+    /// What the first twelve bytes of the next block say in the section's order, where it is a
+    /// packet that has room in 262,144 bytes. `None`: it is another block, or its front is refused.
+    #[inline(always)]
+    pub fn packet_front(&self, order: Order, bytes: &[u8]) -> Option<Front>
+        requires few { is_last self.now ≡ false }
+        requires order { order ≡ self.now.order }
+        requires there { front_len ≤ length bytes.now }
+        ensures front { IfSome result (λ front. front_of self.now bytes.now ≡ Ok front) }
+        ensures room { IfSome result (λ front. front.total ≤ max_captured) }
+    {
+        match Kind::of(u32_in(order, bytes, 0)) {
+            Kind::Packet => {}
+            Kind::Section | Kind::Interface | Kind::Other => return None,
+        }
+        let total = u32_in(order, bytes, 4);
+        if is_no_len(Kind::Packet, total) {
+            return None;
+        }
+        if total > MOST_CAPTURED {
+            return None;
+        }
+        let kind = Kind::Packet;
+        Some(Front { kind, order, total })
+    }
+
     /// The order of a block's numbers, which a section's byte-order magic says of itself.
     #[inline]
     fn order_in(&self, kind: Kind, bytes: &[u8]) -> Option<Order>
@@ -124,7 +150,7 @@ impl Reader {
 
     /// What the block says whose first bytes these are, or why it is refused. They are at least
     /// those up to its last four where it is as short as a block of its kind may be.
-    #[inline]
+    #[inline(always)]
     pub fn said(&self, front: &Front, bytes: &[u8]) -> Result<Said, CaptureFault>
         requires few { is_last self.now ≡ false }
         requires there { least_len front.now.kind - 4 ≤ length bytes.now }
@@ -169,7 +195,7 @@ impl Reader {
     }
 
     /// What a packet says.
-    #[inline]
+    #[inline(always)]
     fn packet_said(&self, front: &Front, bytes: &[u8]) -> Result<Said, CaptureFault>
         requires few { is_last self.now ≡ false }
         requires there { least_len Kind.Packet - 4 ≤ length bytes.now }
@@ -193,7 +219,7 @@ impl Reader {
     }
 
     /// Knows what a block said.
-    #[inline]
+    #[inline(always)]
     pub fn learn(&mut self, front: &Front, said: Said)
         requires few { is_last self.old ≡ false }
         requires room { HasRoom self.old front.now said }

@@ -6,16 +6,16 @@ use Rattle.capture_report.proofs.lines.write_front.Goals as goal
 
 pub returns-clause-line : goal.returns-clause-line
 returns-clause-line c =
-    let line = c.packet_line.new.into in
+    let line = c.numbered_line.new.into in
     let later = drop LINE_ROOM c.args.lines.now in
     let whole : length (line ++ later) ≡ length c.args.lines.now = search rules in
-    let within : c.packet_line.result ≤ length line =
+    let within : c.numbered_line.result ≤ length line =
     omega (
       arith,
-      c.packet_line.ensures.within,
+      c.numbered_line.ensures.within,
       c.requires.room,
       whole,
       length-append line later,
       length-drop LINE_ROOM c.args.lines.now,
     ) in
-    take-append-le c.packet_line.result line later within ∙ c.packet_line.ensures.line
+    take-append-le c.numbered_line.result line later within ∙ c.numbered_line.ensures.line

@@ -15,4 +15,5 @@ invariant-loop-packet l =
           ≡ lines_of_packets l.form (l.fn.counts.packets + 1) l.packets;
       counts : counted_all rest l.counts ≡ counted_all l.packets l.fn.counts;
       len : length l.lines ≡ length l.fn.lines;
+      number : l.number ≡ l.counts.packets + 1;
     }

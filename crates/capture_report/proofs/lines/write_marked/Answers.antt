@@ -7,7 +7,7 @@ use Rattle.capture_report.proofs.lines.write_marked.Goals as goal
 pub returns-clause-lines : goal.returns-clause-lines
 returns-clause-lines c =
     let is_line =
-    line_by-is c.args.form.now c.args.number c.args.packet.now c.args.class c.args.verdicts.now _
+    line_by-is c.args.form.now c.args.number.now c.args.packet.now c.args.class c.args.verdicts.now _
     c.requires.class c.requires.verdicts
     (ap (take (length c.args.verdicts.now)) c.dashes-dashes.ensures.dashes)
     c.dashes-dashes.ensures.by_tables c.dashes-dashes.ensures.few in

@@ -2,12 +2,13 @@
 use Rattle.std.proofs.Common.{◌≡◌, ℕ, ◌+◌, ◌<◌, List, ◌++◌, length, take, drop, sym, subst, ap, ◌∙◌}
 use Rattle.std.proofs.Common.{arith, length-take}
 use Rattle.std.proofs.lemmas.List.{take_at}
+use Rattle.acl_outside.specs.Desk.{DeskView}
 use Rattle.acl_outside.specs.Heard.{GoesOn}
 use Rattle.pcap_reader.specs.Capture.{max_captured}
 use Rattle.pcap_reader.specs.declared.fault.CaptureFault.TheVariants.{PngCut}
-use Rattle.pcapng_reader.specs.Block.{Fault}
+use Rattle.pcapng_reader.specs.Block.{BlockState, Fault}
 use Rattle.pcapng_reader.specs.Reading.{HasRead, ReadsBlock}
-use Rattle.pcapng_reader.proofs.FrontLaws.{front-end, front-short, front-broken, front-refused}
+use Rattle.pcapng_reader.proofs.FrontLaws.{front-end, front-short, front-broken}
 use Rattle.pcapng_reader.proofs.blocks.read_block.Goals as goal
 
 -- a front has twelve bytes
@@ -46,28 +47,28 @@ returns-in-Err-clause-block g c =
     (g.D.Desk.view c.read_front.new.desk)
     (twelve c.args.buffer.now c.read_front.new.into c.requires.room c.read_front.auto.into) c.in-Err.ensures
 
--- the front of the buffer is what was read
-front_is : (buffer into : List ℕ) → length into ≡ 12 → take 12 (into ++ drop 12 buffer) ≡ into
-front_is buffer into len = take_at into (drop 12 buffer) 12 len
+-- the front of the buffer was read, where as many bytes were read as it has
+front_read : (state : BlockState) (buffer into : List ℕ) (old new : DeskView) → length into ≡ 12 →
+    HasRead state into GoesOn old new → HasRead state (take 12 (into ++ drop 12 buffer)) GoesOn old new
+front_read state buffer into old new len read =
+    subst (λ l. HasRead state l GoesOn old new) (sym (take_at into (drop 12 buffer) 12 len)) read
 
-pub returns-in-Err-front-clause-block : goal.returns-in-Err-front-clause-block
-returns-in-Err-front-clause-block g c =
-    let state = c.args.reader.now in
+pub returns-in-Big-clause-block : goal.returns-in-Big-clause-block
+returns-in-Big-clause-block g c =
+    let old = g.D.Desk.view c.args.desk.now in
+    let new = g.D.Desk.view c.read_front.new.desk in
     let into = c.read_front.new.into in
     let len = twelve c.args.buffer.now into c.requires.room c.read_front.auto.into in
-    front-refused state into c.in-Err-front.fault (g.D.Desk.view c.args.desk.now) (g.D.Desk.view c.read_front.new.desk)
-    (sym c.if-is_last.ensures) (omega (arith, len))
-    (rw (front_is c.args.buffer.now into len) at (sym c.front.ensures ∙ c.in-Err-front.is))
-    (c.in-Ok-eq12.ensures.1 (c.in-Ok-eq12.field-0-test ∙ sym len))
+    c.read_rest.ensures.block old
+    (front_read c.args.reader.now c.args.buffer.now into old new len
+    (c.in-Ok-eq12.ensures.1 (c.in-Ok-eq12.field-0-test ∙ sym len)))
 
-pub returns-clause-block : goal.returns-clause-block
-returns-clause-block g c =
-    let state = c.args.reader.now in
+pub returns-in-Little-clause-block : goal.returns-in-Little-clause-block
+returns-in-Little-clause-block g c =
+    let old = g.D.Desk.view c.args.desk.now in
+    let new = g.D.Desk.view c.read_front.new.desk in
     let into = c.read_front.new.into in
     let len = twelve c.args.buffer.now into c.requires.room c.read_front.auto.into in
-    c.read_rest.ensures.block (g.D.Desk.view c.args.desk.now)
-    (subst (λ l. HasRead state l GoesOn (g.D.Desk.view c.args.desk.now) (g.D.Desk.view c.read_front.new.desk))
-    (sym (front_is c.args.buffer.now into len)) (c.in-Ok-eq12.ensures.1 (c.in-Ok-eq12.field-0-test ∙ sym len)))
-
-pub read_rest-requires-clause-front : goal.read_rest-requires-clause-front
-read_rest-requires-clause-front g c = sym c.front.ensures ∙ c.in-Ok-front.is
+    c.read_rest-in-Little.ensures.block old
+    (front_read c.args.reader.now c.args.buffer.now into old new len
+    (c.in-Ok-eq12.ensures.1 (c.in-Ok-eq12.field-0-test ∙ sym len)))
