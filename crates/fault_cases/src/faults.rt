@@ -1,6 +1,6 @@
 //! Read faults, write faults and faults of the message, of each command.
 
-use crate::files::{AUDITED, COMPARED, MEASURED, SEVENTEEN};
+use crate::files::{ANSWERED, AUDITED, COMPARED, MEASURED, SEVENTEEN};
 use crate::turns::{DESK_PIECE, Fault, SINK_PIECE, Want, expect, first, guide_image};
 use acl_tool::{CaptureFault, Family, Status, UsageFault, UsageKind};
 use std::alloc::AllocError;
@@ -23,6 +23,10 @@ const REPLAY: Command = (&["replay", "i", "c"], SEVENTEEN, [28, 80, 24]);
 const AUDIT: Command = (&["audit", "r"], AUDITED, [6, 6, 11]);
 
 const COMPARE: Command = (&["compare", "r", "s"], COMPARED, [11, 11, 11]);
+
+/// An opening and five reads are for the script, of which the last finds its end. Seven puts take the
+/// replies.
+const SESSION: Command = (&["session", "t"], ANSWERED, [7, 7, 8]);
 
 const BENCH: Command = (&["bench", "1", "0", "3"], MEASURED, [1, 1, 11]);
 
@@ -125,7 +129,7 @@ fn fail_puts<R: Abort + AllocGlobal>(
 #[test]
 fn a_read_that_fails_leaves_the_lines_of_the_records_before(rt: HostRuntime) -> Result<(), Fail> {
     let image = guide_image(&rt)?;
-    for command in [CLASSIFY, REPLAY, AUDIT, COMPARE, BENCH, BUILD] {
+    for command in [CLASSIFY, REPLAY, AUDIT, COMPARE, SESSION, BENCH, BUILD] {
         fail_reads(&rt, command, &image)?;
     }
     Ok(())
@@ -134,7 +138,7 @@ fn a_read_that_fails_leaves_the_lines_of_the_records_before(rt: HostRuntime) -> 
 #[test]
 fn a_put_that_fails_leaves_a_first_part_of_the_text(rt: HostRuntime) -> Result<(), Fail> {
     let image = guide_image(&rt)?;
-    for command in [CLASSIFY, REPLAY, AUDIT, COMPARE, BENCH, BUILD] {
+    for command in [CLASSIFY, REPLAY, AUDIT, COMPARE, SESSION, BENCH, BUILD] {
         fail_puts(&rt, command, &image)?;
     }
     Ok(())
@@ -210,5 +214,22 @@ fn a_message_that_fails_leaves_the_status(rt: HostRuntime) -> Result<(), Fail> {
         told,
         [0, 0, 0, 1],
     )?;
+    Ok(())
+}
+
+#[test]
+fn a_message_on_a_script_that_fails_leaves_the_status(rt: HostRuntime) -> Result<(), Fail> {
+    let usage = Status::Usage(UsageFault {
+        word: 2,
+        kind: UsageKind::MissingName,
+    });
+    let told = ("", "aclc: usage: word 2: missing name\n");
+    fail_message(&rt, &["session"], [0; 3], usage, told, [0; 4])?;
+    let (fault, counts) = (Status::ReadFault, [0, 1, 0, 0]);
+    let told = ("", "aclc: read fault\n");
+    fail_message(&rt, &["session", "x"], [0; 3], fault, told, counts)?;
+    let (fault, counts) = (Status::WriteFault, [0, 0, 0, 1]);
+    let told = ("ok\nok\nok\nrefused", "aclc: write fault\n");
+    fail_message(&rt, SESSION.0, [0, 0, 3], fault, told, counts)?;
     Ok(())
 }

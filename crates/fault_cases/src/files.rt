@@ -1,4 +1,4 @@
-//! The files and the texts of the worked example of 17 packets.
+//! The files and the texts of the worked example of 17 packets, and of a script.
 
 use acl_outside::MemFile;
 use std::alloc::{AllocError, Global};
@@ -41,6 +41,20 @@ pub(crate) const COMPARED: &str =
 pub(crate) const MEASURED: &str =
     "rules 0 packets 3\nplain hits 0 sum 0\ntable hits 0 sum 0\ntries 0 words 16\n";
 
+/// A script of eight calls over a field of one byte: 104 bytes.
+const SCRIPT: &[u8] = b"field range 1 0 0
+context 1
+rule 1 1 7 17:17
+classify 1 11
+build 1000
+classify 1 11
+classify 4 06
+hello
+";
+
+/// What `session` prints of the script: 49 bytes.
+pub(crate) const ANSWERED: &str = "ok\nok\nok\nrefused not built\nok\n7\n0 0 0 0\nbad line\n";
+
 /// A capture of 17 packets, to the ports 1227 to 1243.
 fn seventeen(alloc: Global) -> Result<Vec<u8>, AllocError> {
     let mut capture = Vec::from_slice(alloc, HEADER)?;
@@ -58,12 +72,13 @@ fn file(alloc: Global, name: &str, bytes: &[u8]) -> Result<MemFile, AllocError> 
     })
 }
 
-/// The rule files `r` and `s`, the capture `c`, and the image `i` with these bytes.
+/// The rule files `r` and `s`, the capture `c`, the script `t`, and the image `i` with these bytes.
 pub(crate) fn all_files(alloc: Global, image: &[u8]) -> Result<Vec<MemFile>, AllocError> {
     let mut files = Vec::new(alloc);
     files.push(file(alloc, "r", GUIDE)?)?;
     files.push(file(alloc, "s", EDITED)?)?;
     files.push(file(alloc, "c", &seventeen(alloc)?)?)?;
+    files.push(file(alloc, "t", SCRIPT)?)?;
     files.push(file(alloc, "i", image)?)?;
     Ok(files)
 }

@@ -7,7 +7,7 @@
 //! | module | what it tests |
 //! |---|---|
 //! | `faults` | read faults, write faults and faults of the message, of each command |
-//! | `files` | the files and the texts of the worked example of 17 packets |
+//! | `files` | the files and the texts of the worked example of 17 packets, and of a script |
 //! | `turns` | a run with one fault, and what is compared of it |
 #![tactic(auto)]
 
