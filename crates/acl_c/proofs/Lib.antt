@@ -1,0 +1,4 @@
+mod Adding
+mod AsBox
+mod Lengths
+mod Rows

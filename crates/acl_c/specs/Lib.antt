@@ -1,0 +1,6 @@
+pub mod Batch
+pub mod Calls
+pub mod Codes
+pub mod Given
+pub mod Handle
+pub mod Rules

@@ -1,0 +1,267 @@
+/*
+ * Calls of aclc.h in random orders, lawful and not, each answer compared with what it has to be.
+ *
+ *     orders SEED COUNT    makes COUNT orders of twenty calls, and ends with 1 at the first wrong answer
+ */
+#include <inttypes.h>
+#include <stdio.h>
+#include <stdlib.h>
+#include <string.h>
+
+#include "aclc.h"
+
+enum { CALLS = 20, MOST = 40, FIELDS = 2, KEY_LEN = 5, KEYS = 24, CATEGORIES = 4 };
+
+/* What a handle has to hold. */
+struct expected {
+    int held, built;
+    uint32_t max_rules, lanes;
+    size_t rules, built_rules;
+    struct aclc_rule rule[MOST], built_rule[MOST];
+    struct aclc_value value[MOST][FIELDS], built_value[MOST][FIELDS];
+};
+
+static const struct aclc_field LAYOUT[FIELDS] = {
+    {ACLC_FIELD_RANGE, 1, 0, 0, 0},
+    {ACLC_FIELD_MASK, 4, 1, 1, 4},
+};
+
+static uint64_t state;
+
+static uint32_t below(uint32_t most) {
+    state = state * 6364136223846793005u + 1442695040888963407u;
+    return (uint32_t)(state >> 33) % most;
+}
+
+static void fail(const char *what) {
+    fprintf(stderr, "orders: %s\n", what);
+    exit(1);
+}
+
+static void expect(const char *call, aclc_code answer, aclc_code wanted) {
+    if (answer != wanted) {
+        fprintf(stderr, "orders: %s answers %" PRIu32 " and not %" PRIu32 "\n", call, answer, wanted);
+        exit(1);
+    }
+}
+
+static void create(struct aclc_context *context, struct expected *is) {
+    struct aclc_field fields[FIELDS];
+    uint32_t max_rules = below(8) ? below(MOST) : ACLC_MAX_RULES + 1, place = 77, fault = below(5);
+    memcpy(fields, LAYOUT, sizeof fields);
+    if (fault == 0)
+        fields[1].kind = 3;
+    if (fault == 1)
+        fields[1].size = 3;
+    aclc_code code = aclc_create(context, fields, FIELDS, max_rules, &place);
+    if (is->held) {
+        expect("aclc_create", code, ACLC_TAKEN);
+        return;
+    }
+    if (max_rules > ACLC_MAX_RULES) {
+        expect("aclc_create", code, ACLC_BAD_LIMIT);
+        return;
+    }
+    if (fault < 2) {
+        expect("aclc_create", code, fault == 0 ? ACLC_BAD_KIND : ACLC_BAD_SIZE);
+        if (place != 1)
+            fail("aclc_create tells another place");
+        return;
+    }
+    expect("aclc_create", code, ACLC_OK);
+    memset(is, 0, sizeof *is);
+    is->held = 1;
+    is->max_rules = max_rules;
+}
+
+static void add(struct aclc_context *context, struct expected *is) {
+    struct aclc_rule rules[4];
+    struct aclc_value values[4][FIELDS];
+    uint32_t count = below(5), wrong = below(4), rule = 77, field = 77;
+    size_t length = (size_t)count * FIELDS + (below(8) == 0);
+    for (uint32_t i = 0; i < count; i++) {
+        rules[i].category_mask = 1 + below(15);
+        rules[i].priority = (int32_t)below(6);
+        rules[i].userdata = 1 + below(1000);
+        values[i][0].value = below(4);
+        values[i][0].mask_range = 3 + below(4);
+        values[i][1].value = (uint64_t)below(4) << 30;
+        values[i][1].mask_range = below(33);
+    }
+    int bad = wrong == 0 && count > 0;
+    if (bad)
+        values[count - 1][1].mask_range = 33 + below(1000);
+    struct aclc_value room[4 * FIELDS + 1];
+    memset(room, 0, sizeof room);
+    memcpy(room, values, count * sizeof values[0]);
+    aclc_code code = aclc_add_rules(context, rules, count, room, length, &rule, &field);
+    if (!is->held) {
+        expect("aclc_add_rules", code, ACLC_EMPTY);
+        return;
+    }
+    if (length != (size_t)count * FIELDS) {
+        expect("aclc_add_rules", code, ACLC_BAD_LENGTH);
+        return;
+    }
+    if (is->rules + count > is->max_rules) {
+        expect("aclc_add_rules", code, ACLC_FULL);
+        return;
+    }
+    if (bad) {
+        expect("aclc_add_rules", code, ACLC_MASK_TOO_LONG);
+        if (rule != count - 1 || field != 1)
+            fail("aclc_add_rules tells another place");
+        return;
+    }
+    expect("aclc_add_rules", code, ACLC_OK);
+    memcpy(is->rule + is->rules, rules, count * sizeof rules[0]);
+    memcpy(is->value + is->rules, values, count * sizeof values[0]);
+    is->rules += count;
+}
+
+static void build(struct aclc_context *context, struct expected *is) {
+    uint64_t budget = below(6) ? 100000 : below(2) ? 0 : 1, words = 77;
+    aclc_code code = aclc_build(context, budget, &words);
+    if (!is->held) {
+        expect("aclc_build", code, ACLC_EMPTY);
+        return;
+    }
+    if (budget == 0) {
+        expect("aclc_build", code, ACLC_BAD_BUDGET);
+        return;
+    }
+    if (budget == 1) {
+        expect("aclc_build", code, ACLC_TOO_LARGE);
+        if (words <= budget)
+            fail("aclc_build tells too few words");
+        return;
+    }
+    expect("aclc_build", code, ACLC_OK);
+    is->built = 1;
+    is->built_rules = is->rules;
+    memcpy(is->built_rule, is->rule, sizeof is->rule);
+    memcpy(is->built_value, is->value, sizeof is->value);
+}
+
+static void lanes(struct aclc_context *context, struct expected *is) {
+    uint32_t keys = below(8) ? below(KEYS + 1) : ACLC_MAX_KEYS + 1;
+    aclc_code code = aclc_lanes(context, keys);
+    if (!is->held) {
+        expect("aclc_lanes", code, ACLC_EMPTY);
+        return;
+    }
+    if (keys > ACLC_MAX_KEYS) {
+        expect("aclc_lanes", code, ACLC_TOO_MANY_KEYS);
+        return;
+    }
+    expect("aclc_lanes", code, ACLC_OK);
+    is->lanes = keys;
+}
+
+/* The userdata of the winner by one pass over the rules. */
+static uint32_t plain(const struct expected *is, const uint8_t *key, uint32_t category) {
+    uint32_t number = (uint32_t)key[1] << 24 | (uint32_t)key[2] << 16 | (uint32_t)key[3] << 8 | key[4];
+    const struct aclc_rule *best = NULL;
+    for (size_t i = 0; i < is->built_rules; i++) {
+        const struct aclc_rule *rule = &is->built_rule[i];
+        const struct aclc_value *value = is->built_value[i];
+        uint64_t mask = value[1].mask_range ? ~(uint64_t)0 << (32 - value[1].mask_range) : 0;
+        if (!(rule->category_mask >> category & 1) || key[0] < value[0].value || key[0] > value[0].mask_range)
+            continue;
+        if (((number ^ value[1].value) & mask & 0xffffffff) != 0)
+            continue;
+        if (best == NULL || rule->priority > best->priority)
+            best = rule;
+    }
+    return best == NULL ? 0 : best->userdata;
+}
+
+static void classify(struct aclc_context *context, struct expected *is) {
+    static const uint32_t COUNTS[] = {1, 4, 3, 0, 17};
+    uint8_t keys[KEYS * KEY_LEN + 1];
+    uint32_t verdicts[KEYS * CATEGORIES + 1], count = below(KEYS + 1), walk = below(8) ? below(2) : 2;
+    uint32_t categories = COUNTS[below(8) ? below(2) : 2 + below(3)];
+    size_t length = (size_t)count * KEY_LEN + (below(10) == 0);
+    size_t room = (size_t)count * (categories > 4 ? 4 : categories);
+    uint64_t transitions = 77;
+    room += below(10) == 0;
+    for (size_t i = 0; i < sizeof keys; i++)
+        keys[i] = (uint8_t)(i % KEY_LEN == 1 ? below(4) << 6 : below(8));
+    memset(verdicts, 0xa5, sizeof verdicts);
+    aclc_code wanted = ACLC_OK;
+    if (!is->held)
+        wanted = ACLC_EMPTY;
+    else if (!is->built)
+        wanted = ACLC_NOT_BUILT;
+    else if (categories != 1 && categories != 4)
+        wanted = ACLC_BAD_CATEGORIES;
+    else if (walk > 1)
+        wanted = ACLC_BAD_WALK;
+    else if (length % KEY_LEN != 0 || room != (size_t)count * categories)
+        wanted = ACLC_BAD_LENGTH;
+    else if (walk == ACLC_WALK_LANES && count > is->lanes)
+        wanted = ACLC_NO_LANES;
+    aclc_code code = aclc_classify(context, keys, length, categories, walk, verdicts, room, &transitions);
+    expect("aclc_classify", code, wanted);
+    for (size_t i = 0; i < room; i++) {
+        uint32_t verdict = 0xa5a5a5a5;
+        if (wanted == ACLC_OK)
+            verdict = plain(is, keys + i / categories * KEY_LEN, (uint32_t)(i % categories));
+        if (verdicts[i] != verdict)
+            fail("aclc_classify writes another verdict");
+    }
+    if (wanted != ACLC_OK && transitions != 77)
+        fail("aclc_classify counts where it refuses");
+}
+
+static void sizes(struct aclc_context *context, struct expected *is) {
+    size_t rules = 77, key_len = 77;
+    uint64_t words = 77;
+    aclc_code code = aclc_sizes(context, &rules, &key_len, &words);
+    if (!is->held) {
+        expect("aclc_sizes", code, ACLC_EMPTY);
+        return;
+    }
+    expect("aclc_sizes", code, ACLC_OK);
+    if (rules != is->rules || key_len != KEY_LEN || (words != 0) != is->built)
+        fail("aclc_sizes tells other sizes");
+}
+
+static void reset(struct aclc_context *context, struct expected *is) {
+    int all = below(2) == 0;
+    aclc_code code = all ? aclc_reset(context) : aclc_reset_rules(context);
+    expect("aclc_reset", code, is->held ? ACLC_OK : ACLC_EMPTY);
+    is->rules = 0;
+    if (all)
+        is->built = 0;
+}
+
+int main(int count, char **words) {
+    if (count != 3)
+        fail("it needs a seed and a number of orders");
+    state = strtoull(words[1], NULL, 10);
+    for (unsigned long orders = strtoul(words[2], NULL, 10); orders > 0; orders--) {
+        struct aclc_context context = {0};
+        struct expected is;
+        memset(&is, 0, sizeof is);
+        for (int i = 0; i < CALLS; i++) {
+            switch (below(10)) {
+            case 0: case 1: create(&context, &is); break;
+            case 2: case 3: add(&context, &is); break;
+            case 4: build(&context, &is); break;
+            case 5: lanes(&context, &is); break;
+            case 6: case 7: classify(&context, &is); break;
+            case 8: sizes(&context, &is); break;
+            default:
+                if (below(3) != 0) {
+                    reset(&context, &is);
+                } else {
+                    aclc_free(&context);
+                    is.held = 0;
+                }
+            }
+        }
+        aclc_free(&context);
+    }
+    return 0;
+}
