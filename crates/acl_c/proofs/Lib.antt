@@ -1,4 +1,6 @@
 mod Adding
 mod AsBox
+mod AsTableBox
 mod Lengths
 mod Rows
+mod Serving
