@@ -33,9 +33,10 @@
  *     - No call is made from a signal handler, or from the forked child of a process with threads.
  *
  * THREADS
- *     A handle stays on the thread that filled it, and has one call at a time. Handles that share a
- *     table (aclc_table_share) stay on one thread together. Calls on other handles may run at the
- *     same time: they share nothing.
+ *     One call at a time on each handle. A handle of a context stays on the thread that filled it. A
+ *     handle of a table may go to another thread, where a lock, a start or join of a thread, or a
+ *     sequentially consistent atomic orders the calls. Calls on different handles may run at the
+ *     same time, also where the handles share a table (aclc_table_share).
  *
  * MEMORY
  *     It is taken by malloc and realloc, and given back by free. Each comment says whether its call
@@ -303,8 +304,9 @@ aclc_code aclc_table_copy(struct aclc_context *context, struct aclc_table *table
 /*
  * aclc_table_share - fills another handle with the same table.
  *
- * Nothing is copied, and both handles are alike. The table is given back with the last of its
- * handles. The other handle has room for no keys by lanes.
+ * Nothing is copied, and both handles are alike. Each thread that classifies has a handle of its
+ * own. The table is given back with the last of its handles. The other handle has room for no keys
+ * by lanes.
  *
  * ACLC_EMPTY: the handle of the table is empty.
  * ACLC_TAKEN: the other handle isn't.

@@ -4,3 +4,4 @@ mod AsTableBox
 mod Lengths
 mod Rows
 mod Serving
+mod Crossing
