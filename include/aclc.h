@@ -6,14 +6,14 @@
  * of greatest priority, and of several such rules the one that was added first.
  *
  * HANDLES
- *     A context is held by a handle, which is a struct of two words in your memory. A handle of
- *     zeros is empty:
+ *     A context and a table are held by a handle, which is a struct of two words in your memory. A
+ *     handle of zeros is empty:
  *
  *         struct aclc_context context = {0};
  *
- *     aclc_create fills an empty handle, and aclc_free makes it empty again. Don't copy a handle,
- *     and don't read or write what is inside: the copy would lead to memory that the other has
- *     given back.
+ *     A call that fills a handle asks for an empty one, and aclc_free and aclc_table_free make it
+ *     empty again. Don't copy a handle, and don't read or write what is inside: the copy would lead
+ *     to memory that the other has given back.
  *
  * ANSWERS
  *     Each call answers ACLC_OK or why it was refused. A call that is refused changes nothing:
@@ -33,8 +33,10 @@
  *     - No call is made from a signal handler, or from the forked child of a process with threads.
  *
  * THREADS
- *     A handle stays on the thread that filled it, and has one call at a time. Calls on different
- *     handles may run at the same time: they share nothing.
+ *     One call at a time on each handle. A handle of a context stays on the thread that filled it. A
+ *     handle of a table may go to another thread, where a lock, a start or join of a thread, or a
+ *     sequentially consistent atomic orders the calls. Calls on different handles may run at the
+ *     same time, also where the handles share a table (aclc_table_share).
  *
  * MEMORY
  *     It is taken by malloc and realloc, and given back by free. Each comment says whether its call
@@ -119,6 +121,12 @@ enum {
 
 /* A context: rules of one layout, and the table of the last build. Zeros are an empty handle. */
 struct aclc_context {
+    void *inside;
+    uint64_t held;
+};
+
+/* A table, which nothing changes. Zeros are an empty handle. */
+struct aclc_table {
     void *inside;
     uint64_t held;
 };
@@ -279,6 +287,61 @@ aclc_code aclc_reset(struct aclc_context *context);
  * An empty handle stays empty. It refuses nothing.
  */
 void aclc_free(struct aclc_context *context);
+
+/*
+ * aclc_table_copy - fills a handle of a table with a copy of the context's table.
+ *
+ * The copy stays as it is, whatever happens to the context. It has room for no keys by lanes.
+ *
+ * ACLC_EMPTY: the handle of the context is empty.
+ * ACLC_TAKEN: the handle of the table isn't.
+ * ACLC_NOT_BUILT: no build succeeded since the context was made or reset.
+ * ACLC_NO_MEMORY. It takes memory for the copy: 8 bytes for each word, 4 for each byte of a key and
+ * each trie, and some 9 KiB.
+ */
+aclc_code aclc_table_copy(struct aclc_context *context, struct aclc_table *table);
+
+/*
+ * aclc_table_share - fills another handle with the same table.
+ *
+ * Nothing is copied, and both handles are alike. Each thread that classifies has a handle of its
+ * own. The table is given back with the last of its handles. The other handle has room for no keys
+ * by lanes.
+ *
+ * ACLC_EMPTY: the handle of the table is empty.
+ * ACLC_TAKEN: the other handle isn't.
+ * ACLC_NO_MEMORY. It takes memory for the handle's own part, less than 100 bytes.
+ */
+aclc_code aclc_table_share(struct aclc_table *table, struct aclc_table *other);
+
+/*
+ * aclc_table_lanes - as aclc_lanes. The room is the handle's own.
+ */
+aclc_code aclc_table_lanes(struct aclc_table *table, uint32_t keys);
+
+/*
+ * aclc_table_classify - as aclc_classify, without ACLC_NOT_BUILT.
+ */
+aclc_code aclc_table_classify(struct aclc_table *table, const uint8_t *keys, size_t keys_len,
+                              uint32_t categories, uint32_t walk, uint32_t *verdicts,
+                              size_t verdicts_len, uint64_t *transitions);
+
+/*
+ * aclc_table_sizes - tells of how many rules the table was made, how many bytes a key has, and how
+ * many words the table has.
+ *
+ * ACLC_EMPTY: the handle is empty. It takes no memory.
+ */
+aclc_code aclc_table_sizes(struct aclc_table *table, size_t *rules, size_t *key_len,
+                           uint64_t *words);
+
+/*
+ * aclc_table_free - frees the handle's part, and the table where no other handle has it. The handle
+ * is empty then, and may be filled again.
+ *
+ * An empty handle stays empty. It refuses nothing.
+ */
+void aclc_table_free(struct aclc_table *table);
 
 #ifdef __cplusplus
 }

@@ -1,7 +1,7 @@
 /*
  * Calls of aclc.h in random orders, lawful and not, each answer compared with what it has to be.
  *
- *     orders SEED COUNT    makes COUNT orders of twenty calls, and ends with 1 at the first wrong answer
+ *     orders SEED COUNT    makes COUNT orders of thirty calls, and ends with 1 at the first wrong answer
  */
 #include <inttypes.h>
 #include <stdio.h>
@@ -10,7 +10,7 @@
 
 #include "aclc.h"
 
-enum { CALLS = 20, MOST = 40, FIELDS = 2, KEY_LEN = 5, KEYS = 24, CATEGORIES = 4 };
+enum { CALLS = 30, MOST = 40, FIELDS = 2, KEY_LEN = 5, KEYS = 24, CATEGORIES = 4 };
 
 /* What a handle has to hold. */
 struct expected {
@@ -143,9 +143,10 @@ static void build(struct aclc_context *context, struct expected *is) {
     memcpy(is->built_value, is->value, sizeof is->value);
 }
 
-static void lanes(struct aclc_context *context, struct expected *is) {
+/* Of a context, or of a table where one is given. */
+static void lanes(struct aclc_context *context, struct aclc_table *table, struct expected *is) {
     uint32_t keys = below(8) ? below(KEYS + 1) : ACLC_MAX_KEYS + 1;
-    aclc_code code = aclc_lanes(context, keys);
+    aclc_code code = table != NULL ? aclc_table_lanes(table, keys) : aclc_lanes(context, keys);
     if (!is->held) {
         expect("aclc_lanes", code, ACLC_EMPTY);
         return;
@@ -176,7 +177,8 @@ static uint32_t plain(const struct expected *is, const uint8_t *key, uint32_t ca
     return best == NULL ? 0 : best->userdata;
 }
 
-static void classify(struct aclc_context *context, struct expected *is) {
+/* By a context, or by a table where one is given. */
+static void classify(struct aclc_context *context, struct aclc_table *table, struct expected *is) {
     static const uint32_t COUNTS[] = {1, 4, 3, 0, 17};
     uint8_t keys[KEYS * KEY_LEN + 1];
     uint32_t verdicts[KEYS * CATEGORIES + 1], count = below(KEYS + 1), walk = below(8) ? below(2) : 2;
@@ -201,7 +203,10 @@ static void classify(struct aclc_context *context, struct expected *is) {
         wanted = ACLC_BAD_LENGTH;
     else if (walk == ACLC_WALK_LANES && count > is->lanes)
         wanted = ACLC_NO_LANES;
-    aclc_code code = aclc_classify(context, keys, length, categories, walk, verdicts, room, &transitions);
+    aclc_code code =
+        table != NULL
+            ? aclc_table_classify(table, keys, length, categories, walk, verdicts, room, &transitions)
+            : aclc_classify(context, keys, length, categories, walk, verdicts, room, &transitions);
     expect("aclc_classify", code, wanted);
     for (size_t i = 0; i < room; i++) {
         uint32_t verdict = 0xa5a5a5a5;
@@ -236,21 +241,77 @@ static void reset(struct aclc_context *context, struct expected *is) {
         is->built = 0;
 }
 
+static void copy(struct aclc_context *context, const struct expected *is, struct aclc_table *table,
+                 struct expected *of) {
+    aclc_code code = aclc_table_copy(context, table);
+    if (!is->held || of->held || !is->built) {
+        expect("aclc_table_copy", code, !is->held ? ACLC_EMPTY : of->held ? ACLC_TAKEN : ACLC_NOT_BUILT);
+        return;
+    }
+    expect("aclc_table_copy", code, ACLC_OK);
+    *of = *is;
+    of->lanes = 0;
+}
+
+static void share(struct aclc_table *table, const struct expected *is, struct aclc_table *other,
+                  struct expected *of) {
+    aclc_code code = aclc_table_share(table, other);
+    if (!is->held || of->held) {
+        expect("aclc_table_share", code, !is->held ? ACLC_EMPTY : ACLC_TAKEN);
+        return;
+    }
+    expect("aclc_table_share", code, ACLC_OK);
+    *of = *is;
+    of->lanes = 0;
+}
+
+static void table_sizes(struct aclc_table *table, const struct expected *is) {
+    size_t rules = 77, key_len = 77;
+    uint64_t words = 0;
+    aclc_code code = aclc_table_sizes(table, &rules, &key_len, &words);
+    expect("aclc_table_sizes", code, is->held ? ACLC_OK : ACLC_EMPTY);
+    if (is->held && (rules != is->built_rules || key_len != KEY_LEN || words == 0))
+        fail("aclc_table_sizes tells other sizes");
+}
+
+/* A call on one of two tables. */
+static void table_call(struct aclc_context *context, const struct expected *is,
+                       struct aclc_table tables[2], struct expected are[2]) {
+    uint32_t one = below(2);
+    struct aclc_table *table = &tables[one];
+    switch (below(8)) {
+    case 0: case 1: copy(context, is, table, &are[one]); break;
+    case 2: share(table, &are[one], &tables[1 - one], &are[1 - one]); break;
+    case 3: lanes(NULL, table, &are[one]); break;
+    case 4: case 5: classify(NULL, table, &are[one]); break;
+    case 6: table_sizes(table, &are[one]); break;
+    default:
+        aclc_table_free(table);
+        are[one].held = 0;
+    }
+}
+
 int main(int count, char **words) {
     if (count != 3)
         fail("it needs a seed and a number of orders");
     state = strtoull(words[1], NULL, 10);
     for (unsigned long orders = strtoul(words[2], NULL, 10); orders > 0; orders--) {
         struct aclc_context context = {0};
-        struct expected is;
+        struct aclc_table tables[2] = {{0}, {0}};
+        struct expected is, are[2];
         memset(&is, 0, sizeof is);
+        memset(are, 0, sizeof are);
         for (int i = 0; i < CALLS; i++) {
+            if (i > CALLS / 4 && below(2) == 0) {
+                table_call(&context, &is, tables, are);
+                continue;
+            }
             switch (below(10)) {
             case 0: case 1: create(&context, &is); break;
             case 2: case 3: add(&context, &is); break;
             case 4: build(&context, &is); break;
-            case 5: lanes(&context, &is); break;
-            case 6: case 7: classify(&context, &is); break;
+            case 5: lanes(&context, NULL, &is); break;
+            case 6: case 7: classify(&context, NULL, &is); break;
             case 8: sizes(&context, &is); break;
             default:
                 if (below(3) != 0) {
@@ -262,6 +323,8 @@ int main(int count, char **words) {
             }
         }
         aclc_free(&context);
+        aclc_table_free(&tables[0]);
+        aclc_table_free(&tables[1]);
     }
     return 0;
 }

@@ -1,4 +1,7 @@
 mod Adding
 mod AsBox
+mod AsTableBox
 mod Lengths
 mod Rows
+mod Serving
+mod Crossing

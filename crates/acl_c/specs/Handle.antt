@@ -17,6 +17,6 @@ slot_owns alloc at (Some inside) = box_owns (ghosts.dealloc_token alloc) the_row
 abbrev pub context_coded : Coded (Option the_row.Denot)
 context_coded = (option.the_row the_row).coded
 
--- a handle that is marked by 0 leads to nothing, and any other to a context
-abbrev pub IsKept : ℕ → Option the_row.Denot → Type 0
+-- a handle that is marked by 0 leads to nothing, and any other to something
+abbrev pub IsKept : {A : Type 0} → ℕ → Option A → Type 0
 IsKept held inside = held ≡ 0 ↔ inside ≡ None

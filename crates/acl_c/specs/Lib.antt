@@ -4,3 +4,5 @@ pub mod Codes
 pub mod Given
 pub mod Handle
 pub mod Rules
+pub mod Shared
+pub mod TableHandle

@@ -11,7 +11,8 @@ ghost use Rattle.acl_c.specs.Batch.{walk_of, lengths_code, batch_code};
 
 use crate::codes::{BAD_CATEGORIES, BAD_LENGTH, BAD_WALK, NO_LANES, OK, TOO_MANY_KEYS};
 use acl_context::{AclContext, NotBuilt, Scratch, Walk};
-use flat_table::Steps;
+use flat_table::{Steps, Table};
+use lane_walk::classify_by;
 use rule_set::Categories;
 use std::sync::ledger::{Blank, Ledger};
 
@@ -124,4 +125,31 @@ pub(crate) fn walk_keys<L: Ledger>(
         Ok(taken) => taken,
         Err(NotBuilt) => 0,
     }
+}
+
+/// Walks the keys by the table, with a counter that nobody sees.
+pub(crate) fn walk_table<L: Ledger>(
+    blank: Blank,
+    table: &Table,
+    lanes: &mut Scratch,
+    keys: &[u8],
+    asked: Asked,
+    verdicts: &mut [u32],
+) -> u64
+    requires name { blank.name ≡ L.name }
+    requires parts { blank.parts ≡ L.parts }
+    requires some { 0 < blank.parts }
+    requires fits { KeysFit table.now.key_len keys.now asked.cats.count (length verdicts.old) }
+    requires room { asked.walk ≡ Walk.Lanes →
+        keys_of_len table.now.key_len keys.now ≤ length lanes.old }
+    ensures verdicts { verdicts.new ≡ batch_verdicts table.now asked.cats.count keys.now }
+    ensures taken { result ≡ batch_transitions table.now keys.now }
+    ensures served { (set : RuleSetView) → Serves set table.now →
+        verdicts.new ≡ verdicts_by_rules set asked.cats.count keys.now }
+    ensures len { length lanes.new ≡ length lanes.old }
+{
+    let mut steps = Steps::<L>::new(blank);
+    classify_by(
+        asked.walk, table, keys, asked.cats, lanes, verdicts, &mut steps,
+    )
 }

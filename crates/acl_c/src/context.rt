@@ -1,14 +1,16 @@
 //! What a handle of a context leads to, and the calls on it.
 
 ghost use Rattle.std.specs.Prelude.{◌≡◌, ℕ, ◌<◌, ◌≤◌, ◌⊎◌, [], ◌∷◌, ◌==◌, length, IfOk, IfSome};
-ghost use Rattle.std.specs.Prelude.{true, false};
+ghost use Rattle.std.specs.Prelude.{true, false, Some, None, Err, MatchResult};
 ghost use Rattle.rule_set.specs.Rule.{RuleSetView};
 ghost use Rattle.rule_split.specs.Split.{total_of};
 ghost use Rattle.table_fill.specs.Serves.{Serves};
+ghost use Rattle.flat_table.specs.Table.{TableView};
 ghost use Rattle.flat_table.specs.Batch.{most_keys, batch_verdicts, batch_transitions};
 ghost use Rattle.acl_context.specs.Context.{built_of};
 ghost use Rattle.acl_context.specs.Batch.{verdicts_by_rules};
-ghost use Rattle.acl_c.specs.Codes.{ok, no_memory, bad_budget, too_large, too_many_keys};
+ghost use Rattle.acl_c.specs.Codes.{ok, no_memory, not_built, bad_budget, too_large, too_many_keys};
+ghost use Rattle.acl_c.specs.Shared.{without_lanes};
 ghost use Rattle.acl_c.specs.Calls.{is_budget, with_table, without_rules, without_all, words_in, is_among};
 ghost use Rattle.acl_c.specs.Calls.{context_code, code_of, told_of, AddsStored, AddsGiven};
 
@@ -17,6 +19,7 @@ use crate::codes::{
     BAD_BUDGET, BAD_LENGTH, FULL, NO_MEMORY, NOT_BUILT, OK, TOO_LARGE, TOO_MANY_KEYS, rule_code,
 };
 use crate::rules::{Place, Tag, Value, are_whole, rules_from};
+use crate::shared::Shared;
 use acl_context::{AclContext, AddFault, BuildFault, Scratch};
 use rule_set::StoredRule;
 use std::alloc::{AllocError, Global};
@@ -47,6 +50,23 @@ impl Context {
         match self.acl.table() {
             Some(table) => table.total_words(),
             None => 0,
+        }
+    }
+
+    /// A copy of the table for a handle of its own, or the code of why there is none.
+    pub(crate) fn copy_table(&self, alloc: Global) -> Result<Box<Shared, Global>, u32>
+        ensures none { self.now.acl.table ≡ None → result ≡ Err not_built }
+        ensures some { (table : TableView) → self.now.acl.table ≡ Some table →
+            MatchResult result (λ copy. copy.value ≡ without_lanes table)
+            (λ code. code ≡ no_memory) }
+    {
+        let table = match self.acl.table() {
+            Some(table) => table,
+            None => return Err(NOT_BUILT),
+        };
+        match Shared::copied(alloc, table) {
+            Ok(copy) => Ok(copy),
+            Err(AllocError) => Err(NO_MEMORY),
         }
     }
 
