@@ -1,0 +1,9 @@
+/*
+ * rte_memory.h: the one name of it that a context's parameters need, where DPDK isn't there.
+ */
+#ifndef _RTE_MEMORY_H_
+#define _RTE_MEMORY_H_
+
+#define SOCKET_ID_ANY -1
+
+#endif
