@@ -28,8 +28,6 @@ mod flows;
 pub mod laws;
 mod schedule;
 mod scratch;
-#[cfg(test)]
-mod tests;
 
 pub use flight::{Flight, flight_of};
 pub use flows::{Flows, are_empty, arrive, byte_of};

@@ -3,8 +3,8 @@
 ghost use Rattle.std.specs.Prelude.{◌<◌, ◌≤◌, length};
 ghost use Rattle.flow_core.specs.Standing.{most_slots};
 
-use crate::{Scratch, run_schedule};
 use flat_table::{Parts, Table};
+use flow_core::{Scratch, run_schedule};
 use rule_set::Categories;
 use std::alloc::Global;
 use std::process::Abort;
