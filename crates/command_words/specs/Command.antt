@@ -120,15 +120,24 @@ abbrev pub asked_by : {A : Type 0} → (A → Request) → Result A UsageFault �
 asked_by ask (Ok read) = Ok (ask read)
 asked_by ask (Err fault) = Err fault
 
--- the command of the words, or their first fault: the table of the commands, one after the other
-abbrev pub command : List (List ℕ) → Result Request UsageFault
-command [] = Err (fault_at 1 MissingCommand)
-command (verb ∷ words) =
-    if bytes_eq verb (codes "classify") then asked_by classify_by (named_of for_classify words)
-    else if bytes_eq verb (codes "build") then asked_by build_by (named_of for_build words)
-    else if bytes_eq verb (codes "replay") then asked_by replay_by (named_of for_replay words)
-    else if bytes_eq verb (codes "bench") then asked_by Bench (numbers_of words)
+-- the command of a verb that names no table, and of the words after it
+abbrev pub other_command : List ℕ → List (List ℕ) → Result Request UsageFault
+other_command verb words =
+    if bytes_eq verb (codes "bench") then asked_by Bench (numbers_of words)
     else if bytes_eq verb (codes "audit") then asked_by audit_by (single_of for_audit words)
     else if bytes_eq verb (codes "compare") then asked_by compare_by (named_of for_compare words)
     else if bytes_eq verb (codes "session") then asked_by session_by (single_of for_session words)
     else Err (fault_at 1 UnknownCommand)
+
+-- the command of a verb and of the words after it: the table of the commands, one after the other
+abbrev pub command_of : List ℕ → List (List ℕ) → Result Request UsageFault
+command_of verb words =
+    if bytes_eq verb (codes "classify") then asked_by classify_by (named_of for_classify words)
+    else if bytes_eq verb (codes "build") then asked_by build_by (named_of for_build words)
+    else if bytes_eq verb (codes "replay") then asked_by replay_by (named_of for_replay words)
+    else other_command verb words
+
+-- the command of the words, or their first fault
+abbrev pub command : List (List ℕ) → Result Request UsageFault
+command [] = Err (fault_at 1 MissingCommand)
+command (verb ∷ words) = command_of verb words

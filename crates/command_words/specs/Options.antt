@@ -161,6 +161,17 @@ abbrev pub for_replay : Allowed
 for_replay =
     record { categories = true; walk = true; max_words = false; stats = true; marks = true }
 
+-- the options with one word more that switches something on or off, of those that a command allows
+abbrev pub with_switch : Allowed → Given → List ℕ → Result Given UsageKind
+with_switch allowed given word =
+    if allowed.stats && begins_with stats_option word
+    then adds (λ chosen. record given { stats = Some chosen })
+    (once given.stats (choice_in (value_of stats_option word)))
+    else if allowed.marks && begins_with marks_option word
+    then adds (λ chosen. record given { marks = Some chosen })
+    (once given.marks (choice_in (value_of marks_option word)))
+    else Err UnknownOption
+
 -- the options with one word more: the table of the options, one after the other, of which a command
 -- allows some; any other is unknown to it
 abbrev pub with_option : Allowed → Given → List ℕ → Result Given UsageKind
@@ -174,10 +185,4 @@ with_option allowed given word =
     else if allowed.max_words && begins_with max_words_option word
     then adds (λ words. record given { max_words = Some words })
     (once given.max_words (budget_in (value_of max_words_option word)))
-    else if allowed.stats && begins_with stats_option word
-    then adds (λ chosen. record given { stats = Some chosen })
-    (once given.stats (choice_in (value_of stats_option word)))
-    else if allowed.marks && begins_with marks_option word
-    then adds (λ chosen. record given { marks = Some chosen })
-    (once given.marks (choice_in (value_of marks_option word)))
-    else Err UnknownOption
+    else with_switch allowed given word

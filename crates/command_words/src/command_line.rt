@@ -5,7 +5,9 @@ ghost use Rattle.command_words.specs.Options.{for_audit, for_build, for_classify
 ghost use Rattle.command_words.specs.Options.{for_compare, for_session, none_given};
 ghost use Rattle.command_words.specs.Command.{asked_by, build_by, classify_by, command, named_of};
 ghost use Rattle.command_words.specs.Command.{audit_by, compare_by, options_from, replay_by};
-ghost use Rattle.command_words.specs.Command.{session_by, single_of};
+ghost use Rattle.command_words.specs.Command.{Bench, command_of, other_command, session_by};
+ghost use Rattle.command_words.specs.Command.{single_of};
+ghost use Rattle.command_words.specs.BenchWords.{numbers_of};
 ghost use Rattle.command_words.specs.CommandLine.{named_in, options_of, request_of, single_in};
 
 use crate::allowed::Allowed;
@@ -85,16 +87,38 @@ pub fn read_words(words: &[String]) -> Result<Request<'_>, UsageFault>
 {
     match words {
         [] => Err(fault_at(1, UsageKind::MissingCommand)),
-        [verb, words @ ..] if verb.as_str() == "classify" => read_classify(words),
-        [verb, words @ ..] if verb.as_str() == "build" => read_build(words),
-        [verb, words @ ..] if verb.as_str() == "replay" => read_replay(words),
-        [verb, words @ ..] if verb.as_str() == "bench" => match read_numbers(words) {
-            Ok(numbers) => Ok(Request::Bench(numbers)),
-            Err(fault) => Err(fault),
-        },
-        [verb, words @ ..] if verb.as_str() == "audit" => read_audit(words),
-        [verb, words @ ..] if verb.as_str() == "compare" => read_compare(words),
-        [verb, words @ ..] if verb.as_str() == "session" => read_session(words),
+        [verb, words @ ..] => read_command(verb.as_str(), words),
+    }
+}
+
+/// The command of a verb and of the words after it.
+fn read_command<'a>(verb: &str, words: &'a [String]) -> Result<Request<'a>, UsageFault>
+    ensures request { IfOk result (λ request.
+        command_of verb.now (map string_bytes words.now) ≡ Ok (request_of request)) }
+    ensures fault { IfErr result (λ fault.
+        command_of verb.now (map string_bytes words.now) ≡ Err fault) }
+{
+    match verb {
+        "classify" => read_classify(words),
+        "build" => read_build(words),
+        "replay" => read_replay(words),
+        _ => read_other(verb, words),
+    }
+}
+
+/// The command of a verb that names no table, and of the words after it.
+fn read_other<'a>(verb: &str, words: &'a [String]) -> Result<Request<'a>, UsageFault>
+    ensures request { IfOk result (λ request.
+        other_command verb.now (map string_bytes words.now)
+        ≡ Ok (request_of request)) }
+    ensures fault { IfErr result (λ fault.
+        other_command verb.now (map string_bytes words.now) ≡ Err fault) }
+{
+    match verb {
+        "bench" => read_bench(words),
+        "audit" => read_audit(words),
+        "compare" => read_compare(words),
+        "session" => read_session(words),
         _ => Err(fault_at(1, UsageKind::UnknownCommand)),
     }
 }
@@ -149,6 +173,19 @@ fn read_replay(words: &[String]) -> Result<Request<'_>, UsageFault>
             capture: names.second,
             options: names.options,
         }),
+        Err(fault) => Err(fault),
+    }
+}
+
+/// The words after `bench`.
+fn read_bench(words: &[String]) -> Result<Request<'_>, UsageFault>
+    ensures request { IfOk result (λ request.
+        asked_by Bench (numbers_of (map string_bytes words.now)) ≡ Ok (request_of request)) }
+    ensures fault { IfErr result (λ fault.
+        asked_by Bench (numbers_of (map string_bytes words.now)) ≡ Err fault) }
+{
+    match read_numbers(words) {
+        Ok(numbers) => Ok(Request::Bench(numbers)),
         Err(fault) => Err(fault),
     }
 }

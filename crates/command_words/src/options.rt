@@ -4,7 +4,7 @@ ghost use Rattle.std.specs.Prelude.{◌≡◌, ◌+◌, ◌&&◌, false, IfOk, I
 ghost use Rattle.std.specs.Prelude.{Ok, Err, None};
 ghost use Rattle.command_words.specs.Options.{none_given, settled_options, usual_words, number_in};
 ghost use Rattle.command_words.specs.Options.{categories_in, walk_in, budget_in, choice_in, once};
-ghost use Rattle.command_words.specs.Options.{with_option, begins_with, value_of};
+ghost use Rattle.command_words.specs.Options.{with_option, with_switch, begins_with, value_of};
 ghost use Rattle.command_words.specs.CommandLine.{count_of, words_of, options_of, options_given};
 
 use crate::allowed::Allowed;
@@ -90,7 +90,19 @@ impl Given {
             self.walk = Some(once(self.walk, walk_in(value))?);
         } else if let Some(value) = value_of(allowed.max_words, b"max-words=", word) {
             self.max_words = Some(once(self.max_words, budget_in(value))?);
-        } else if let Some(value) = value_of(allowed.stats, b"stats=", word) {
+        } else {
+            return self.add_switch(allowed, word);
+        }
+        Ok(())
+    }
+
+    /// Takes a word that switches something on or off.
+    fn add_switch(&mut self, allowed: Allowed, word: &[u8]) -> Result<(), UsageKind>
+        ensures more { OnOk result (options_given self.new ≡ options_given self.old + 1) }
+        ensures ok { OnOk result (with_switch allowed self.old word.now ≡ Ok self.new) }
+        ensures err { IfErr result (λ kind. with_switch allowed self.old word.now ≡ Err kind) }
+    {
+        if let Some(value) = value_of(allowed.stats, b"stats=", word) {
             self.stats = Some(once(self.stats, choice_in(value))?);
         } else if let Some(value) = value_of(allowed.marks, b"marks=", word) {
             self.marks = Some(once(self.marks, choice_in(value))?);
