@@ -17,7 +17,7 @@ pub const IP6_KEY: usize = 37;
 
 /// The class of a record's frame, and the key of the packet in it. Contracts see the bytes of the
 /// key, which are none where the frame has no packet.
-#[derive(Debug, Drop)]
+#[derive(Drop)]
 pub struct Packet {
     class: Class,
     /// The key stands in front.

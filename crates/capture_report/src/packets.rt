@@ -15,7 +15,7 @@ use std::marker::Model;
 /// The packets of a batch, at most 64. Contracts see them as a list.
 ///
 /// A packet is read into its place, and its room is used again for a later batch.
-#[derive(Debug, Drop)]
+#[derive(Drop)]
 pub struct Packets {
     /// Room for as many packets as a batch may have.
     slots: Vec<Packet>,

@@ -12,7 +12,7 @@ use std::marker::Model;
 const BATCH_LINES: usize = MAX_BATCH * LINE_ROOM;
 
 /// Room for a batch. Contracts see its packets.
-#[derive(Debug, Drop)]
+#[derive(Drop)]
 pub struct Room {
     /// The packets of the batch.
     pub packets: Packets,

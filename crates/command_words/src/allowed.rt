@@ -5,7 +5,7 @@ ghost use Rattle.command_words.specs.Options.{for_audit, for_build, for_classify
 ghost use Rattle.command_words.specs.Options.{for_replay, for_session};
 
 /// The options that a command allows. Any other is unknown to it.
-#[derive(Clone, Copy, Debug)]
+#[derive(Clone, Copy)]
 pub struct Allowed {
     pub categories: bool,
     pub walk: bool,

@@ -65,14 +65,14 @@ const AFTER_ONE_NAME: u32 = 3;
 const AFTER_TWO_NAMES: u32 = 4;
 
 /// The name of a file, and the options after it.
-#[derive(Clone, Copy, Debug)]
+#[derive(Clone, Copy)]
 pub struct OneName<'a> {
     name: &'a str,
     options: Options,
 }
 
 /// The names of two files, and the options after them.
-#[derive(Clone, Copy, Debug)]
+#[derive(Clone, Copy)]
 pub struct TwoNames<'a> {
     first: &'a str,
     second: &'a str,

@@ -37,7 +37,7 @@ const MAX_DIGITS: usize = 20;
 const USUAL_WORDS: u64 = 2_097_152;
 
 /// The options that were given so far.
-#[derive(Debug, Drop)]
+#[derive(Drop)]
 pub struct Given {
     categories: Option<Categories>,
     walk: Option<Walk>,
