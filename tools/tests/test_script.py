@@ -13,6 +13,7 @@ from aclc_tools.program import TOP
 # Tries and builds a program that prints its words and ends with 5, or the example's lines.
 RT = """#!/bin/bash
 echo "$PWD: $*" >> "$CALLS"
+[ -z "$SLOW" ] || { printf 'a part of ' >&2; sleep "$SLOW"; printf 'a line\n' >&2; }
 program='#!/bin/bash
 case $3 in *guide.pcap) cat "${2%.rules}.expected" ;; *) echo "$@"; echo told >&2; exit 5 ;; esac'
 case $1 in
@@ -58,6 +59,36 @@ class Script(unittest.TestCase):
         self.assertIn("unproved", said)
         self.assertTrue(said.endswith("told\n"))
 
+    def test_a_trial_run_of_no_command_is_refused_at_once(self):
+        for words in ((), ("",), ("clasify", "a", "b"), ("--version",)):
+            code, lines, said = self.run_script(*words)
+            self.assertEqual((code, lines, said.count("\n"), self.calls_of_rt()), (101, "", 1, 0), said)
+            self.assertIn("./aclc help", said)
+            self.assertIn("./aclc prove", said)
+
+    def test_a_trial_run_that_lasts_gives_signs_of_life(self):
+        script = self.folder / "aclc"
+        text = script.read_text()
+        self.assertIn("read -r -t 60 line", text)
+        script.write_text(text.replace("read -r -t 60 line", "read -r -t 0.3 line"))
+        code, lines, said = self.run_script("session", "a", SLOW="1")
+        self.assertEqual((code, lines), (5, "session a\n"))
+        self.assertIn("aclc: still compiling (0 min)\n", said)
+        self.assertTrue(said.endswith("min)\na part of a line\ntold\n"), said)
+        self.assertNotIn("still compiling", self.run_script("session", "a")[2])
+
+    def test_files_named_like_other_words_change_nothing(self):
+        for name in ("classify", "bench", "stats=on", "42", "a=b.rules"):
+            (self.folder / name).write_text("")
+        self.assertEqual(self.run_script("classify", "a=b.rules", "b", "stats=on")[1], "classify file1 b stats=on\n")
+        self.assertEqual(self.run_script("audit", "a", "stats=on")[1], "audit a stats=on\n")
+        self.assertEqual(self.run_script("bench", "42", "42", "42")[1], "bench 42 42 42\n")
+
+    def test_words_too_many_are_refused(self):
+        for words in (("prove", "x"), ("prove", "x", "y"), ("install", "a", "b")):
+            self.assertEqual(self.run_script(*words)[0], 101)
+        self.assertEqual(self.calls_of_rt(), 0)
+
     def test_a_trial_run_makes_no_image(self):
         code, lines, said = self.run_script("build", "examples/office.rules", "office.image")
         self.assertEqual((code, lines, self.calls_of_rt()), (101, "", 0))
@@ -75,7 +106,7 @@ class Script(unittest.TestCase):
         self.assertEqual(self.run_script("x"), (5, "x\n", "told\n"))
         self.assertEqual(self.calls_of_rt(), calls)
         (self.folder / "crates" / "low" / "src" / "lib.rt").write_text("fn two()\n")
-        self.assertIn("unproved", self.run_script("x")[2])
+        self.assertIn("unproved", self.run_script("session", "x")[2])
         (self.folder / "crates" / "low" / "src" / "lib.rt").write_text("fn one()\n")
         self.assertEqual(self.run_script("x"), (5, "x\n", "told\n"))
 
@@ -86,19 +117,19 @@ class Script(unittest.TestCase):
         time.sleep(1.2)
         file.write_text("fn two()\n")
         os.utime(file, (before, before))
-        self.assertIn("unproved", self.run_script("x")[2])
+        self.assertIn("unproved", self.run_script("session", "x")[2])
 
     def test_another_program_in_its_place_is_not_run(self):
         self.run_script("prove")
         program = self.folder / "crates" / "aclc" / "out" / "aclc"
         program.write_text("#!/bin/bash\necho another\n")
-        self.assertIn("unproved", self.run_script("x")[2])
+        self.assertIn("unproved", self.run_script("session", "x")[2])
 
     def test_a_failed_proof_ends_with_101(self):
         code, lines, said = self.run_script("prove", BROKEN="1")
         self.assertEqual((code, lines), (101, ""))
         self.assertIn("the proof failed", said)
-        self.assertEqual(self.run_script("x", BROKEN="1")[0], 101)
+        self.assertEqual(self.run_script("session", "x", BROKEN="1")[0], 101)
 
     def test_without_rt_it_says_so_in_one_line(self):
         for words in (["prove"], ["classify", "a", "b"]):
@@ -124,6 +155,15 @@ class Script(unittest.TestCase):
             code, lines, _ = self.run_script(word)
             self.assertEqual(code, 0)
             self.assertIn("classify", lines)
+
+    def test_help_without_man_has_no_marks(self):
+        (self.folder / "bin" / "sed").symlink_to(shutil.which("sed"))
+        for name in ("readlink", "dirname", "bash", "env"):
+            (self.folder / "bin" / name).symlink_to(shutil.which(name))
+        code, lines, _ = self.run_script("help", PATH=str(self.folder / "bin"))
+        self.assertEqual(code, 0)
+        self.assertIn("refused layout  K , or  K F\n", lines)
+        self.assertNotRegex(lines, r"(?m)\\f[A-Z]|^\.[A-Z]")
 
 
 if __name__ == "__main__":
