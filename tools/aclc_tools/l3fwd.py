@@ -67,6 +67,9 @@ def read(place, text):
     wanted = COLUMNS + (text[0] == "R")
     if len(words) < wanted:
         raise CantSay(f"{wanted} words follow the first letter", place, text)
+    given = next((word for word in words[COLUMNS:] if "=" in word), None)
+    if given:
+        raise CantSay(f"{given} is an attribute of aclc's rule files, which a list of l3fwd doesn't have")
     (family, source), (other, destination) = network(words[0]), network(words[1])
     if family != other:
         raise CantSay("source and destination are of different families")

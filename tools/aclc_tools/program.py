@@ -33,6 +33,21 @@ def run(*words, path=None):
     return Ran(done.returncode, done.stdout, done.stderr.decode(errors="replace"))
 
 
+def start(*words):
+    """Starts the program with these words; its lines are read while it runs."""
+    try:
+        return subprocess.Popen([program(), *map(str, words)], stdout=subprocess.PIPE, text=True)
+    except OSError as error:
+        return leave(f"{program()}: {error.strerror}: ACLC names no program", 101)
+
+
+def tell_help(text):
+    """Where a word asks for help: prints what the tool does, and ends it."""
+    if {"--help", "-h"} & set(sys.argv[1:]):
+        print(text.strip())
+        sys.exit(0)
+
+
 def leave(message, code=1):
     """Ends the tool with a line on standard error."""
     print(f"{Path(sys.argv[0]).name}: {message}", file=sys.stderr)

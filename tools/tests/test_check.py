@@ -125,6 +125,13 @@ class Check(unittest.TestCase):
         self.assertIn(f"{rules}:2: bad address", lines)
         self.assertIn("the program says: aclc: rules: line 1: bad ports", lines)
 
+    def test_its_words_are_told(self):
+        for words, code in ((["--help"], 0), (["-h"], 0), (["--other", "x"], 2)):
+            done = subprocess.run([str(CHECK), *words], stdout=subprocess.PIPE, stderr=subprocess.PIPE, text=True)
+            self.assertEqual(done.returncode, code)
+            self.assertTrue((done.stderr if code else done.stdout).startswith("Tells what is wrong"))
+            self.assertEqual(done.stdout if code else done.stderr, "")
+
     def test_codes(self):
         for words, code in (([EXAMPLES / "office.rules"], 0), ([EXAMPLES / "guide.rules", EXAMPLES / "office.rules"], 5),
                             ([EXAMPLES / "guide.pcap"], 3), (["none"], 7), ([], 2)):

@@ -58,6 +58,8 @@ REFUSED = [
     ("cisco", "ipv6 access-list A\n permit tcp any any eq 80\n", "two types of ICMP"),
     ("l3fwd", "@10.0.0.0/8 0.0.0.0/0 0:65535 0:65535 6/0xff\n", "9 words"),
     ("l3fwd", "@10.0.0.0/8 0.0.0.0/0 0 : 65535 0 : 65536 6/0xff\n", "65536 is above 65535"),
+    ("l3fwd", "@10.0.0.0/8 0.0.0.0/0 0 : 65535 0 : 65535 6/0xff pri=20 data=101\n", "pri=20 is an attribute of aclc's"),
+    ("l3fwd", "R10.0.0.0/8 0.0.0.0/0 0 : 65535 0 : 65535 6/0xff data=101\n", "data=101 is an attribute of aclc's"),
 ]
 
 
@@ -152,12 +154,21 @@ class Convert(unittest.TestCase):
         self.assertIn("# left out, an interface: line 3: -A INPUT -i lo -j ACCEPT", text)
         self.assertEqual([rule.userdata for rule in rule_file.read_rules(text.encode())[0]], [4, 2])
 
+    def test_the_tool_tells_its_forms(self):
+        for words, code in ((["--help"], 0), (["l3fwd", "-h"], 0), ([], 2)):
+            done = subprocess.run([str(CONVERT), *words], stdout=subprocess.PIPE, stderr=subprocess.PIPE, text=True)
+            self.assertEqual(done.returncode, code)
+            self.assertIn("convert classbench-trace", done.stderr if code else done.stdout)
+
     def test_the_command_writes_and_refuses(self):
         for words, code, said in ((["iptables", "--chain", "FORWARD", "gateway.iptables-save"], 0, ""),
                                   (["cisco", "--list", "WITH-STATE", "edge.cisco"], 1, "edge.cisco:30: TCP flags"),
                                   (["cisco", "--lenient", "--list", "WITH-STATE", "edge.cisco"], 0,
                                    "edge.cisco:31: left out: a type of ICMP"),
                                   (["classbench-trace", "sample.trace"], 0, ""),
+                                  (["l3fwd", str(TOP / "examples" / "office.rules")], 1, "office.rules:2: pri=20 is an attribute"),
+                                  (["l3fwd", "--lenient", str(TOP / "examples" / "office.rules")], 0,
+                                   "office.rules:3: left out: pri=10 is an attribute"),
                                   (["l3fwd", "none"], 7, "No such file"), (["other", "x"], 2, "")):
             done = subprocess.run([str(CONVERT), *words], cwd=DATA, stdout=subprocess.PIPE, stderr=subprocess.PIPE)
             self.assertEqual(done.returncode, code, done.stderr)

@@ -11,9 +11,9 @@ HITS = TOP / "tools" / "hits"
 EXAMPLES = TOP / "examples"
 
 
-def hits(*words):
+def hits(*words, path=None):
     done = subprocess.run([str(HITS), *map(str, words)], stdout=subprocess.PIPE, stderr=subprocess.PIPE, text=True,
-                          env={**os.environ, "ACLC": str(built_program())})
+                          env={**os.environ, "ACLC": str(path or built_program())})
     return done.returncode, done.stdout, done.stderr
 
 
@@ -41,6 +41,18 @@ class Hits(unittest.TestCase):
         self.assertEqual(hits(*names, "max-words=1")[0], 4)
         self.assertEqual(hits("--category", "15", *names)[1], hits(*names)[1])
         self.assertEqual(hits(names[0], names[0])[0], 5)
+
+    def test_a_program_that_is_not_there_is_told(self):
+        code, lines, said = hits(EXAMPLES / "office.rules", EXAMPLES / "office.pcap", path="/nosuch")
+        self.assertEqual((code, lines, said), (101, "", "hits: /nosuch: No such file or directory: ACLC names no program\n"))
+
+    def test_its_words_are_told(self):
+        code, lines, said = hits("--help")
+        self.assertEqual((code, said), (0, ""))
+        self.assertIn("RULES CAPTURE [max-words=W]", lines)
+        code, lines, said = hits()
+        self.assertEqual((code, lines), (2, ""))
+        self.assertTrue(said.endswith("required: RULES, CAPTURE\n"), said)
 
     def test_a_faulty_list_is_told(self):
         code, _, said = hits(EXAMPLES / "office.pcap", EXAMPLES / "office.pcap")

@@ -51,6 +51,15 @@ class PacketOfKey(unittest.TestCase):
             self.assertEqual(got, code)
             self.assertIn(message, said)
 
+    def test_a_capture_that_cannot_be_written_is_told_alone(self):
+        code, told, said = packet_of_key(KEYS[1][0], "/nosuch/x.pcap")
+        self.assertEqual((code, told, said), (8, "", "packet_of_key: /nosuch/x.pcap: No such file or directory\n"))
+
+    def test_help_is_told(self):
+        code, told, said = packet_of_key("--help")
+        self.assertEqual((code, said), (0, ""))
+        self.assertIn("packet_of_key KEY [CAPTURE]", told)
+
     @unittest.skipUnless(built_program(), "the program isn't built")
     def test_the_program_reads_the_key_back(self):
         with tempfile.TemporaryDirectory() as folder:
