@@ -1,4 +1,6 @@
 """What is lawful in a rule file and likely not what was meant."""
+import re
+
 from aclc_tools.advice import shown
 
 PORTED = (6, 17, 132)
@@ -56,6 +58,24 @@ def of_attributes(rule):
         yield "cat", "Only the low 16 bits are categories, and the others are ignored."
     if rule.given.get("data") == 0:
         yield "data", "Userdata 0 looks like the answer of a packet that no rule matches; marks=on tells them apart."
+
+
+def of_zeros(rule):
+    """Warnings on numbers of IPv4 addresses that begin with 0."""
+    for name in ("source", "destination"):
+        start, end = rule.places[name]
+        if re.search(rb"(?<![0-9a-fA-F:])0[0-9]+\.|\.0[0-9]", rule.text[start:end]):
+            text = network_text(rule, getattr(rule, name))
+            yield name, f"A number with a 0 before it is decimal here, where other tools read octal: this is {text}"
+
+
+def of_line_ends(lines):
+    """A warning on the first CR within a comment: what follows it belongs to the comment."""
+    for number, line in enumerate(lines, 1):
+        if b"\r" in line and line.lstrip(b" \t")[:1] == b"#":
+            said = f"In line {number} CR alone ends no line, so what follows it is a comment: save the file with LF or CR LF."
+            yield "ends", None, None, said
+            return
 
 
 def of_rule(rule):
@@ -124,13 +144,16 @@ def of_order(rules):
         yield given[-1], "pri", "The greatest priority wins, so the lines decide from the last one to the first."
 
 
-def of_file(rules):
+def of_file(rules, lines=()):
     """All warnings on a file: what it is about, a rule or None, a part of it or None, and a sentence."""
+    yield from of_line_ends(lines)
     if not rules:
         yield "empty", None, None, "There is no rule, so that the answer is 0 for each packet."
     for rule in rules:
         for part, said in of_rule(rule):
             yield part, rule, part, said
+        for part, said in of_zeros(rule):
+            yield "zeros", rule, part, said
     for rule, winner in dead(rules):
         text = " ".join(shown(winner.text).split())
         yield "dead", rule, None, f"This rule never decides: line {winner.line} matches all that it matches, and wins: {text}"

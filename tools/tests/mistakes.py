@@ -19,6 +19,7 @@ RULES = [
     ("bad start", "the @ is missing", LINE[1:], "begins with @"),
     ("bad start", "a comment begins with //", b"// web servers", "A comment begins with #"),
     ("bad address", "`any` in place of a network", b"@any 0.0.0.0/0 0:65535 80:80 6/0xFF", "0.0.0.0/0"),
+    ("bad start", "columns of CSV", LINE[1:].replace(b" ", b","), "blanks stand between"),
     ("bad address", "a number of the address is missing", b"@10.0.0/8 0.0.0.0/0 0:65535 80:80 6/0xFF", "four numbers"),
     ("bad address", "a number is above 255", b"@10.0.0.256/32 0.0.0.0/0 0:65535 80:80 6/0xFF", "at most 255"),
     ("bad address", "the name of a host", b"@server/32 0.0.0.0/0 0:65535 80:80 6/0xFF", "names aren't looked up"),
@@ -32,6 +33,12 @@ RULES = [
     ("bad prefix", "a mask in place of the prefix length", b"@10.0.0.0/255.0.0.0 0.0.0.0/0 0:65535 80:80 6/0xFF", "10.0.0.0/8"),
     ("bad prefix", "a wildcard mask", b"@10.0.0.0/0.255.255.255 0.0.0.0/0 0:65535 80:80 6/0xFF", "10.0.0.0/8"),
     ("bad prefix", "more bits than the address has", b"@10.0.0.0/33 0.0.0.0/0 0:65535 80:80 6/0xFF", "at most 32"),
+    ("bad prefix", "two networks, or the columns of CSV, with a comma between them",
+     b"@10.0.0.0/8,192.168.0.0/16 0.0.0.0/0 0:65535 80:80 6/0xFF", "a rule for each network"),
+    ("bad prefix", "two networks, or the columns of CSV, with a comma between them", b"@" + LINE[1:].replace(b" ", b","),
+     "blanks between columns"),
+    ("bad prefix", "a no-break space or another character that only looks like a blank",
+     NETWORKS.replace(b"8 ", b"8\xc2\xa0"), "no-break"),
     ("mixed families", "anywhere of the other family", b"@10.0.0.0/8 ::/0 0:65535 80:80 6/0xFF", "both IPv4 or both IPv6"),
     ("bad ports", "a dash in place of the colon", NETWORKS + b"0:65535 80-90 6/0xFF", "80 : 90"),
     ("bad ports", "the name of a service", NETWORKS + b"0:65535 http 6/0xFF", "80 : 80"),
@@ -46,11 +53,16 @@ RULES = [
     ("bad protocol", "a number without its mask", NETWORKS + b"0:65535 80:80 6", "6/0xFF"),
     ("bad protocol", "a number or mask above 255", NETWORKS + b"0:65535 80:80 6/0x1FF", "at most 255"),
     ("bad protocol", "the line ends after the ports", NETWORKS + b"0:65535 80:80", "The line ends"),
+    ("bad protocol", "lines that end with CR alone", LINE + b"\r@11.0.0.0/8 0.0.0.0/0 0:65535 80:80 6/0xFF\r", "CR alone"),
     ("bad flags", "a flag by its name, or a number above 65535", LINE + b" SYN/SYN", "at most 65535"),
     ("bad attribute", "a name or another attribute that rules don't have", LINE + b" name=web", "pri=, cat= and data="),
     ("bad attribute", "a negative priority", LINE + b" pri=-1", "without a sign"),
     ("bad attribute", "an attribute twice", LINE + b" pri=5 pri=6", "given before"),
     ("bad attribute", "no number after the sign", LINE + b" data=", "stands right after"),
+    ("bad attribute", "a word as userdata, as in `data=permit`, or a number from 2^32 on",
+     LINE + b" data=permit", "below 2\\^32, .*1 for permit"),
+    ("bad attribute", "a word as userdata, as in `data=permit`, or a number from 2^32 on",
+     LINE + b" data=99999999999", "below 2\\^32"),
     ("tail left", "a comment after a rule", LINE + b" # web", "line of its own"),
     ("tail left", "`accept` or another action", LINE + b" accept", "attributes alone"),
     ("tail left", "blanks around the sign", LINE + b" pri = 5", "without blanks"),
@@ -81,10 +93,21 @@ R, C = "guide.rules", "guide.pcap"
 WORDS = [
     ("word 1: missing command", "no words at all", []),
     ("word 1: unknown command", "`--version`, or another word that is no command", ["--version"]),
+    ("word 1: unknown command", "`--help`, `-h` or `help`", ["--help"]),
+    ("word 1: unknown command", "`--help`, `-h` or `help`", ["-h"]),
+    ("word 1: unknown command", "`--help`, `-h` or `help`", ["help"]),
     ("word 3: missing name", "the capture isn't named", ["classify", R]),
+    ("word 3: missing name", "a name of `build`, `compare`, `audit` or `session` is missing", ["build", R]),
+    ("word 3: missing name", "a name of `build`, `compare`, `audit` or `session` is missing", ["compare", R]),
+    ("word 2: missing name", "a name of `build`, `compare`, `audit` or `session` is missing", ["audit"]),
+    ("word 2: missing name", "a name of `build`, `compare`, `audit` or `session` is missing", ["session"]),
     ("word 4: unknown option", "an option before the names", ["classify", "stats=on", R, C]),
     ("word 4: unknown option", "dashes before an option", ["classify", R, C, "--stats"]),
     ("word 4: unknown option", "a third file", ["classify", R, C, C]),
+    ("word 4: unknown option", "a blank in a name that isn't quoted", ["classify", "my", "list.rules", C]),
+    ("word 4: unknown option", "blanks around the sign, as in `stats = on`", ["classify", R, C, "stats", "=", "on"]),
+    ("word 3: unknown option", "`walk=`, `stats=` or `marks=` for `audit`", ["audit", R, "walk=lanes"]),
+    ("word 4: unknown option", "`categories=` for `compare`", ["compare", R, R, "categories=16"]),
     ("word 4: bad value", "`stats=yes`", ["classify", R, C, "stats=yes"]),
     ("word 4: bad value", "`categories=2`", ["classify", R, C, "categories=2"]),
     ("word 4: bad value", "`max-words=16M`", ["classify", R, C, "max-words=16M"]),
@@ -95,7 +118,12 @@ WORDS = [
 FILES = [
     ("read fault", "a file that isn't there", ["classify", R, "none.pcap"]),
     ("read fault", "a folder in place of a file", ["classify", ".", C]),
+    ("read fault", "`-` for standard input", ["classify", R, "-"]),
 ]
+# Images that can't be made.
+IMAGES = [["build", R, "."], ["build", R, "none/r.image"]]
+# A file that may not be read, where the tests aren't run by the administrator.
+CLOSED = "a file that you may not read"
 
 # Lawful rule files that are likely mistakes, and what tools/check says of them.
 WARNED = [
@@ -104,7 +132,9 @@ WARNED = [
     ("a protocol whose mask is 0", NETWORKS + b"0:65535 80:80 6/0", "any protocol matches"),
     ("ports of a protocol that has none", NETWORKS + b"0:65535 80:80 1/0xFF", "can't match"),
     ("userdata 0", LINE + b" data=0", "marks=on"),
+    ("a number with a 0 before it, as in `010.0.0.0/8`", b"@010.0.0.0/8 0.0.0.0/0 0:65535 80:80 6/0xFF", "this is 10.0.0.0/8"),
     ("a list without rules", b"# nothing yet", "no rule"),
+    ("a comment whose line ends with CR alone", b"# web\r" + LINE, "what follows it is a comment"),
     ("a rule after one that matches as much", NETWORKS + b"0:65535 0:65535 0/0\n" + LINE, "never decides"),
     ("`pri=` on some rules alone", LINE + b" pri=9\n" + NETWORKS + b"0:65535 0:65535 0/0", "above this one"),
     ("`pri=` that rises from line to line", LINE + b" pri=1\n" + NETWORKS + b"0:65535 90:90 6/0xFF pri=2",

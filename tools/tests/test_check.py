@@ -95,13 +95,24 @@ class Check(unittest.TestCase):
             self.program_says(f"aclc: usage: {said}\n", 2, *words)
         for said, _, words in mistakes.FILES:
             self.program_says(f"aclc: {said}\n", 7, *words)
+        for words in mistakes.IMAGES:
+            self.program_says("aclc: write fault\n", 8, *words)
+
+    @unittest.skipIf(os.geteuid() == 0, "the administrator may read every file")
+    def test_a_file_that_may_not_be_read(self):
+        rules = self.write("closed.rules", mistakes.GUIDE)
+        rules.chmod(0)
+        self.program_says("aclc: read fault\n", 7, "classify", rules, EXAMPLES / "guide.pcap")
+        self.program_says("aclc: write fault\n", 8, "build", EXAMPLES / "guide.rules", rules)
+        done = subprocess.run([str(CHECK), str(rules)], stdout=subprocess.PIPE, stderr=subprocess.PIPE, text=True)
+        self.assertEqual((done.returncode, done.stderr), (7, f"check: {rules}: Permission denied\n"))
 
     def test_likely_mistakes_are_warned_of(self):
         for title, content, said in mistakes.WARNED:
             with self.subTest(title=title):
                 rules, faults = rule_file.read_rules(content)
                 self.assertEqual(faults, [])
-                self.assertIn(said, " ".join(sentence for _, _, _, sentence in warnings.of_file(rules)))
+                self.assertIn(said, " ".join(it[3] for it in warnings.of_file(rules, rule_file.lines_of(content))))
         rules, _ = rule_file.read_rules((EXAMPLES / "mixed.rules").read_bytes())
         self.assertEqual(list(warnings.of_file(rules)), [])
 
@@ -109,7 +120,7 @@ class Check(unittest.TestCase):
         page = PAGE.read_text(encoding="utf-8")
         rows = re.findall(r"(?m)^\| ([^|]+) \| ", page)
         titles = [it[1] for it in mistakes.RULES + mistakes.CAPTURES + mistakes.WORDS + mistakes.FILES]
-        titles += [it[0] for it in mistakes.WARNED]
+        titles += [it[0] for it in mistakes.WARNED] + [mistakes.CLOSED]
         for title in titles:
             self.assertIn(title, rows)
         for kind in {it[0] for it in mistakes.RULES} | {it[0].split(": ")[-1] for it in mistakes.CAPTURES + mistakes.WORDS}:
@@ -124,6 +135,17 @@ class Check(unittest.TestCase):
         self.assertEqual(lines[1][lines[2].index("^"):lines[2].rindex("^") + 1], "80-90")
         self.assertIn(f"{rules}:2: bad address", lines)
         self.assertIn("the program says: aclc: rules: line 1: bad ports", lines)
+
+    def test_swapped_names_are_told_once(self):
+        for kind in ("pcap", "pcapng"):
+            names = EXAMPLES / f"mixed.{kind}", EXAMPLES / "mixed.rules"
+            done = subprocess.run([str(CHECK), *map(str, names)], stdout=subprocess.PIPE, text=True)
+            self.assertEqual(done.returncode, 3)
+            self.assertEqual(done.stdout.count("the rule file is named first"), 2)
+            self.assertNotIn("UTF-16", done.stdout)
+            told = [line for line in done.stdout.splitlines() if line.startswith("the program says: ")]
+            self.assertEqual(len(told), 1)
+            self.program_says(told[0].partition(": ")[2] + "\n", 3, "classify", *names)
 
     def test_its_words_are_told(self):
         for words, code in ((["--help"], 0), (["-h"], 0), (["--other", "x"], 2)):

@@ -33,6 +33,11 @@ class Session(unittest.TestCase):
         done = subprocess.run([str(built_program()), "session", str(SCRIPT)], stdout=subprocess.PIPE, stderr=subprocess.PIPE)
         self.assertEqual((done.returncode, done.stdout, done.stderr), (0, REPLIES.read_bytes(), b""))
 
+    @unittest.skipUnless(built_program(), "the program isn't built")
+    def test_a_rule_file_has_a_bad_line_for_each_rule(self):
+        done = subprocess.run([str(built_program()), "session", str(TOP / "examples" / "office.rules")], stdout=subprocess.PIPE)
+        self.assertEqual((done.returncode, done.stdout), (0, b"bad line\n" * 3))
+
 
 if __name__ == "__main__":
     unittest.main()
