@@ -2,6 +2,7 @@
 import os
 import shutil
 import subprocess
+import sys
 import tempfile
 import unittest
 from pathlib import Path
@@ -24,8 +25,7 @@ class AgainstTcpdump(unittest.TestCase):
     def test_without_tcpdump_nothing_else_is_begun(self):
         # The path has python alone, and the program isn't there.
         with tempfile.TemporaryDirectory() as folder:
-            for name in ("python3", "env"):
-                (Path(folder) / name).symlink_to(shutil.which(name))
+            (Path(folder) / "python3").symlink_to(sys.executable)
             if shutil.which("tcpdump", path="/usr/sbin:/sbin"):
                 self.skipTest("tcpdump is where it is looked for besides the path")
             code, lines, said = script("against_tcpdump", *self.NAMES, PATH=folder, ACLC="/nosuch")

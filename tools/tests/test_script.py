@@ -67,6 +67,7 @@ class Script(unittest.TestCase):
             self.assertIn("./aclc prove", said)
 
     def test_a_trial_run_that_lasts_gives_signs_of_life(self):
+        self.assertNotIn("still compiling", self.run_script("session", "a")[2])
         script = self.folder / "aclc"
         text = script.read_text()
         self.assertIn("read -r -t 60 line", text)
@@ -75,7 +76,6 @@ class Script(unittest.TestCase):
         self.assertEqual((code, lines), (5, "session a\n"))
         self.assertIn("aclc: still compiling (0 min)\n", said)
         self.assertTrue(said.endswith("min)\na part of a line\ntold\n"), said)
-        self.assertNotIn("still compiling", self.run_script("session", "a")[2])
 
     def test_files_named_like_other_words_change_nothing(self):
         for name in ("classify", "bench", "stats=on", "42", "a=b.rules"):
