@@ -51,6 +51,9 @@ fn span_of(value: &FieldValue, size: u8) -> Span {
 
 /// How two values of a field stand to one another.
 fn compare_values(size: u8, one: &FieldValue, other: &FieldValue) -> Ordering {
+    if one == other {
+        return Ordering::Equal;
+    }
     let one = span_of(one, size);
     let other = span_of(other, size);
     match one.is_bounded.cmp(&other.is_bounded) {
