@@ -3,10 +3,9 @@ use Rattle.std.proofs.Common.{◌≡◌, ℕ, zero, suc, ◌<◌, length, ◌≤
 use Rattle.std.proofs.Common.{true≢false, Option, Some, None, refl, sym, ◌∙◌, ap, inl, inr, arith}
 use Rattle.std.specs.List.{filter_map, cons_option, list_any, Contains}
 use Rattle.std.specs.List.Sorted.{IsPermutation}
-use Rattle.std.proofs.lemmas.List.Sorted.{IsPermutation-sym, Contains-permutation}
+use Rattle.std.proofs.lemmas.List.Sorted.{list_any-IsPermutation}
 use Rattle.shared_parts.specs.declared.target.Target.{Target}
 use Rattle.trie_merge.specs.Started.{IsStarted}
-use Rattle.trie_merge.proofs.StateNumbers.{both_ways}
 use Rattle.std.proofs.lemmas.Bool.{cases_eq, eq-eqb, ne_eqb, or_right}
 use Rattle.std.proofs.lemmas.List.{ext_get_or}
 use Rattle.shared_parts.specs.declared.rows.Ranked.{Ranked}
@@ -32,31 +31,6 @@ here first x xs is = ap (λ b. b || list_any (λ y. y == x) xs) (eq-eqb first x 
 abbrev IsInside : List ℕ → List ℕ → Type 0
 IsInside xs ys = (x : ℕ) → list_any (λ y. y == x) xs ≡ true → list_any (λ y. y == x) ys ≡ true
 
--- what is in a list, by its places
-any_contains : (xs : List ℕ) (x : ℕ) → list_any (λ y. y == x) xs ≡ true → Contains xs x
-any_contains [] x there = absurd (true≢false (sym there))
-any_contains (y ∷ ys) x there = elim (cases_eq y x) [
-  | inl same ↦ (0, omega arith, same)
-  | inr other ↦
-      let rest = any_contains ys x (after_first y x ys other there) in
-      (suc rest.0, omega (arith, rest.1), rest.2)
-]
-
-contains_any : (xs : List ℕ) (x k : ℕ) → k < length xs → get_or xs k x ≡ x → list_any (λ y. y == x) xs ≡ true
-contains_any [] x k below is = absurd (omega (arith, below))
-contains_any (y ∷ ys) x zero below is = here y x ys is
-contains_any (y ∷ ys) x (suc k) below is = or_right (y == x) _ (contains_any ys x k (omega (arith, below)) is)
-
--- another order has the same elements
-members_same : (xs ys : List ℕ) → IsPermutation xs ys → (x : ℕ)
-    → list_any (λ y. y == x) ys ≡ list_any (λ y. y == x) xs
-members_same xs ys order x =
-    both_ways (list_any (λ y. y == x) ys) (list_any (λ y. y == x) xs)
-    (λ there. (let its = Contains-permutation ys xs x (IsPermutation-sym xs ys order) (any_contains ys x there) in
-    contains_any xs x its.0 its.1 its.2))
-    (λ there. (let its = Contains-permutation xs ys x order (any_contains xs x there) in
-    contains_any ys x its.0 its.1 its.2))
-
 -- the states of a group may begin with another order of its rules
 pub started_in_order : (group order : List ℕ) (target : Target) (numbers : List ℕ) → IsPermutation group order
     → IsStarted order target numbers → IsStarted group target numbers
@@ -67,7 +41,7 @@ started_in_order group order target numbers moved start = record {
   one = start.one;
   within = start.within;
   order = start.order;
-  same = λ rule. start.same rule ∙ members_same group order moved rule;
+  same = λ rule. start.same rule ∙ sym (list_any-IsPermutation (λ r. r == rule) group order moved);
   all = start.all;
   entries = start.entries;
 }
