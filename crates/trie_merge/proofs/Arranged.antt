@@ -1,7 +1,7 @@
 -- The rules of a group in another order: the same entries, the same row, the same cuts.
-use Rattle.std.proofs.Common.{◌≡◌, ℕ, zero, suc, ◌<◌, length, ◌≤◌, ◌==◌, ◌||◌, List, [], ◌∷◌, get_or, Bool, true, false}
+use Rattle.std.proofs.Common.{◌≡◌, ℕ, ◌≤◌, ◌==◌, ◌||◌, List, [], ◌∷◌, get_or, Bool, true, false}
 use Rattle.std.proofs.Common.{true≢false, Option, Some, None, refl, sym, ◌∙◌, ap, inl, inr, arith}
-use Rattle.std.specs.List.{filter_map, cons_option, list_any, Contains}
+use Rattle.std.specs.List.{filter_map, cons_option, list_any}
 use Rattle.std.specs.List.Sorted.{IsPermutation}
 use Rattle.std.proofs.lemmas.List.Sorted.{list_any-IsPermutation}
 use Rattle.shared_parts.specs.declared.target.Target.{Target}
