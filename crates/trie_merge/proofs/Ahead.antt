@@ -213,7 +213,7 @@ module _ (set : RuleSetView) (column : ColumnView) (found : List (List ℕ)) (en
 
 -- ---- all that the states of a place lead to is found
 
-all_of_parts : {X Y : Type 0} (P : Y → Type 0) (f : X → List Y) (xs : List X) → AllByRecursion P (flat_map f xs) →
+pub all_of_parts : {X Y : Type 0} (P : Y → Type 0) (f : X → List Y) (xs : List X) → AllByRecursion P (flat_map f xs) →
     AllByRecursion (λ x. AllByRecursion P (f x)) xs
 all_of_parts P f [] all = tt
 all_of_parts P f (x ∷ xs) all =

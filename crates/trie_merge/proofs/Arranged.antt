@@ -1,13 +1,12 @@
 -- The rules of a group in another order: the same entries, the same row, the same cuts.
-use Rattle.std.proofs.Common.{◌≡◌, ℕ, zero, suc, ◌<◌, length, ◌≤◌, ◌==◌, ◌||◌, List, [], ◌∷◌, get_or, Bool, true, false}
+use Rattle.std.proofs.Common.{◌≡◌, ℕ, ◌≤◌, ◌==◌, ◌||◌, List, [], ◌∷◌, get_or, Bool, true, false}
 use Rattle.std.proofs.Common.{true≢false, Option, Some, None, refl, sym, ◌∙◌, ap, inl, inr, arith}
-use Rattle.std.specs.List.{filter_map, cons_option, list_any, Contains}
+use Rattle.std.specs.List.{filter_map, cons_option, list_any}
 use Rattle.std.specs.List.Sorted.{IsPermutation}
-use Rattle.std.proofs.lemmas.List.Sorted.{IsPermutation-sym, Contains-permutation}
+use Rattle.std.proofs.lemmas.List.Sorted.{list_any-IsPermutation}
 use Rattle.shared_parts.specs.declared.target.Target.{Target}
 use Rattle.trie_merge.specs.Started.{IsStarted}
-use Rattle.trie_merge.proofs.StateNumbers.{both_ways}
-use Rattle.std.proofs.lemmas.Bool.{cases_eq, eq-eqb, ne_eqb}
+use Rattle.std.proofs.lemmas.Bool.{cases_eq, eq-eqb, ne_eqb, or_right}
 use Rattle.std.proofs.lemmas.List.{ext_get_or}
 use Rattle.shared_parts.specs.declared.rows.Ranked.{Ranked}
 use Rattle.shared_parts.specs.Rows.{row_of_entry, best_row}
@@ -19,10 +18,6 @@ use Rattle.trie_merge.specs.Entry.{ColumnView, number_in, is_entry_cut}
 use Rattle.trie_merge.specs.Shared.{RuleTree, AreOwn}
 use Rattle.trie_merge.proofs.Reached.{all_weaker}
 use Rattle.trie_merge.proofs.RowNumbers.{length_best}
-
-later : (a : Bool) {b : Bool} → b ≡ true → (a || b) ≡ true
-later true is = refl
-later false is = is
 
 -- what is in a list of which the first element is another
 after_first : (first x : ℕ) (xs : List ℕ) → ((first ≡ x) → ⊥) → list_any (λ y. y == x) (first ∷ xs) ≡ true
@@ -36,31 +31,6 @@ here first x xs is = ap (λ b. b || list_any (λ y. y == x) xs) (eq-eqb first x 
 abbrev IsInside : List ℕ → List ℕ → Type 0
 IsInside xs ys = (x : ℕ) → list_any (λ y. y == x) xs ≡ true → list_any (λ y. y == x) ys ≡ true
 
--- what is in a list, by its places
-any_contains : (xs : List ℕ) (x : ℕ) → list_any (λ y. y == x) xs ≡ true → Contains xs x
-any_contains [] x there = absurd (true≢false (sym there))
-any_contains (y ∷ ys) x there = elim (cases_eq y x) [
-  | inl same ↦ (0, omega arith, same)
-  | inr other ↦
-      let rest = any_contains ys x (after_first y x ys other there) in
-      (suc rest.0, omega (arith, rest.1), rest.2)
-]
-
-contains_any : (xs : List ℕ) (x k : ℕ) → k < length xs → get_or xs k x ≡ x → list_any (λ y. y == x) xs ≡ true
-contains_any [] x k below is = absurd (omega (arith, below))
-contains_any (y ∷ ys) x zero below is = here y x ys is
-contains_any (y ∷ ys) x (suc k) below is = later (y == x) (contains_any ys x k (omega (arith, below)) is)
-
--- another order has the same elements
-members_same : (xs ys : List ℕ) → IsPermutation xs ys → (x : ℕ)
-    → list_any (λ y. y == x) ys ≡ list_any (λ y. y == x) xs
-members_same xs ys order x =
-    both_ways (list_any (λ y. y == x) ys) (list_any (λ y. y == x) xs)
-    (λ there. (let its = Contains-permutation ys xs x (IsPermutation-sym xs ys order) (any_contains ys x there) in
-    contains_any xs x its.0 its.1 its.2))
-    (λ there. (let its = Contains-permutation xs ys x order (any_contains xs x there) in
-    contains_any ys x its.0 its.1 its.2))
-
 -- the states of a group may begin with another order of its rules
 pub started_in_order : (group order : List ℕ) (target : Target) (numbers : List ℕ) → IsPermutation group order
     → IsStarted order target numbers → IsStarted group target numbers
@@ -71,7 +41,7 @@ started_in_order group order target numbers moved start = record {
   one = start.one;
   within = start.within;
   order = start.order;
-  same = λ rule. start.same rule ∙ members_same group order moved rule;
+  same = λ rule. start.same rule ∙ sym (list_any-IsPermutation (λ r. r == rule) group order moved);
   all = start.all;
   entries = start.entries;
 }
@@ -87,7 +57,7 @@ module _ (f : ℕ → Option ℕ) (own : AreOwn f) where
     where
       further : (list_any (λ r. r == number_in entry) rules ≡ true) × (f (number_in entry) ≡ Some entry)
           → (list_any (λ r. r == number_in entry) (rule ∷ rules) ≡ true) × (f (number_in entry) ≡ Some entry)
-      further (among, is) = (later (rule == number_in entry) among, is)
+      further (among, is) = (or_right (rule == number_in entry) _ among, is)
 
       by : (list_any (λ e. e == entry) (filter_map f rules) ≡ true
           → (list_any (λ r. r == number_in entry) rules ≡ true) × (f (number_in entry) ≡ Some entry))
@@ -116,7 +86,7 @@ module _ (f : ℕ → Option ℕ) (own : AreOwn f) where
       further : (found : Option ℕ) → list_any (λ e. e == entry) (filter_map f rules) ≡ true
           → list_any (λ e. e == entry) (cons_option found (filter_map f rules)) ≡ true
       further None there = there
-      further (Some e) there = later (e == entry) there
+      further (Some e) there = or_right (e == entry) _ there
 
   -- so the same rules have the same entries
   inside : (xs ys : List ℕ) → ((rule : ℕ) → list_any (λ r. r == rule) xs ≡ list_any (λ r. r == rule) ys)
@@ -151,7 +121,7 @@ module _ (ranked : List Ranked) where
         arith,
         get-join-any (row_of_entry ranked e) (best_row ranked es) category,
         each e (here e e es refl),
-        least category es most (λ entry there. each entry (later (e == entry) there)),
+        least category es most (λ entry there. each entry (or_right (e == entry) _ there)),
       )
 
   row_same : (xs ys : List ℕ) → IsInside xs ys → IsInside ys xs → best_row ranked xs ≡ best_row ranked ys
@@ -189,14 +159,14 @@ module _ (tree : RuleTree) where
           → (b : Bool) → p x ≡ b → (b || list_any p xs) ≡ true
           → (z : ℕ) × (list_any (λ y. y == z) (x ∷ xs) ≡ true) × (p z ≡ true)
       by further true is any = (x, here x x xs refl, is)
-      by further false is any = let rest = further any in (rest.0, later (x == rest.0) rest.1, rest.2)
+      by further false is any = let rest = further any in (rest.0, or_right (x == rest.0) _ rest.1, rest.2)
 
   passes_inside : (p : ℕ → Bool) (xs : List ℕ) (x : ℕ) → list_any (λ y. y == x) xs ≡ true → p x ≡ true
       → list_any p xs ≡ true
   passes_inside p [] x there is = absurd (true≢false (sym there))
   passes_inside p (y ∷ ys) x there is = elim (cases_eq y x) [
     | inl same ↦ ap (λ b. b || list_any p ys) (ap p same ∙ is)
-    | inr other ↦ later (p y) (passes_inside p ys x (after_first y x ys other there) is)
+    | inr other ↦ or_right (p y) _ (passes_inside p ys x (after_first y x ys other there) is)
   ]
 
   pub known_arranged : (column : ColumnView) (f : ℕ → Option ℕ) → AreOwn f → (cuts : Cuts)

@@ -5,11 +5,11 @@ use Rattle.std.proofs.Common.{sym, ◌∙◌, ap, subst, inl, inr, arith, length
 use Rattle.std.specs.Prelude.{nat_le}
 use Rattle.std.specs.List.{list_any, AllByRecursion, range_with_len, filter_map, cons_option}
 use Rattle.std.specs.Str.{bytes_eq}
-use Rattle.std.proofs.lemmas.Bool.{cases_eq, cases_lt, eq-eqb, ne_eqb, eqb-true, le-leb, lt-leb}
+use Rattle.std.proofs.lemmas.Bool.{cases_eq, cases_lt, eq-eqb, ne_eqb, eqb-true, le-leb, lt-leb, or_right, or_parts}
 use Rattle.std.proofs.lemmas.List.{get_or_append_left, get_or-take}
 use Rattle.std.proofs.Math.Seq.{get_or-append_seam}
 use Rattle.std.proofs.lemmas.List.Folds.{list_any-append}
-use Rattle.std.proofs.lemmas.List.Elements.{filter_map-append}
+use Rattle.std.proofs.lemmas.List.Elements.{filter_map-append, All-get_or, All-from_recursion}
 use Rattle.shared_parts.specs.Keys.{same_pair}
 use Rattle.shared_parts.specs.Tree.{Tree, leaves, IsLeaf, Stands}
 use Rattle.shared_parts.specs.Tree.Tree.{Leaf, Node}
@@ -21,6 +21,7 @@ use Rattle.table_sizes.specs.Sizes.{cost_of, few_runs, full_len}
 use Rattle.trie_merge.specs.Lists.{is_change, cost_ahead, RisesFrom}
 use Rattle.trie_merge.specs.Cuts.{IsCutAt, AreApart, Knows, no_cuts, IsBuilt, AreBuilt}
 use Rattle.trie_merge.proofs.Ahead.{marked_where_changed}
+use Rattle.trie_merge.proofs.Reached.{all_weaker, all-append}
 
 -- ---- bytes that are known
 
@@ -28,31 +29,17 @@ push_apart : (bytes : List ℕ) (byte : ℕ) → AreApart bytes → list_any (λ
     → AreApart (bytes ++ byte ∷ [])
 push_apart [] byte apart new = (refl, tt)
 push_apart (b ∷ bs) byte apart new =
-    let differ = left (b == byte) (list_any (λ other. other == byte) bs) new in
-    let rest = right (b == byte) (list_any (λ other. other == byte) bs) new in (
+    let parts = or_parts (b == byte) (list_any (λ other. other == byte) bs) new in (
       list_any-append (λ other. other == b) bs (byte ∷ [])
-          ∙ (λ i. apart.0 i || (turned b byte differ i || false)),
-      push_apart bs byte apart.1 rest,
+          ∙ (λ i. apart.0 i || (turned b byte parts.0 i || false)),
+      push_apart bs byte apart.1 parts.1,
     )
   where
-    left : (x y : Bool) → (x || y) ≡ false → x ≡ false
-    left true y h = absurd (true≢false h)
-    left false y h = refl
-
-    right : (x y : Bool) → (x || y) ≡ false → y ≡ false
-    right true y h = absurd (true≢false h)
-    right false y h = h
-
     turned : (m n : ℕ) → (m == n) ≡ false → (n == m) ≡ false
     turned m n h = elim (cases_eq n m) [
       | inl e ↦ absurd (true≢false (sym (eq-eqb m n (sym e)) ∙ h))
       | inr other ↦ ne_eqb n m other
     ]
-
-all_pushed : {X : Type 0} (P : X → Type 0) (xs : List X) (x : X) → AllByRecursion P xs → P x
-    → AllByRecursion P (xs ++ x ∷ [])
-all_pushed P [] x all p = (p, tt)
-all_pushed P (y ∷ ys) x all p = (all.0, all_pushed P ys x all.1 p)
 
 module _ (column : ColumnView) (entries : List ℕ) (cuts : Cuts) (byte : ℕ) (knows : Knows column entries cuts)
     (is : IsCutAt column entries byte) (few : cuts.count ≤ 4)
@@ -68,7 +55,7 @@ module _ (column : ColumnView) (entries : List ℕ) (cuts : Cuts) (byte : ℕ) (
     long = length-append knows.bytes (byte ∷ []) ∙ ap (λ n. n + 1) knows.long;
     listed = λ low. ap (λ bs. bs ++ byte ∷ []) (knows.listed few) ∙ sym put;
     apart = push_apart knows.bytes byte knows.apart fresh;
-    cut = all_pushed (IsCutAt column entries) knows.bytes byte knows.cut is;
+    cut = all-append (IsCutAt column entries) knows.bytes (byte ∷ []) knows.cut (is, tt);
   }
 
   -- or is only counted
@@ -78,7 +65,7 @@ module _ (column : ColumnView) (entries : List ℕ) (cuts : Cuts) (byte : ℕ) (
     long = length-append knows.bytes (byte ∷ []) ∙ omega (arith, knows.long, four);
     listed = λ low. absurd (omega (arith, low));
     apart = push_apart knows.bytes byte knows.apart fresh;
-    cut = all_pushed (IsCutAt column entries) knows.bytes byte knows.cut is;
+    cut = all-append (IsCutAt column entries) knows.bytes (byte ∷ []) knows.cut (is, tt);
   }
 
 -- ---- cuts of more entries
@@ -98,16 +85,8 @@ cut_after column left right byte is = record {
   some = is.some;
   small = is.small;
   cut = list_any-append (λ entry. is_entry_cut column entry byte) left right
-      ∙ later (list_any (λ entry. is_entry_cut column entry byte) left) is.cut;
+      ∙ or_right (list_any (λ entry. is_entry_cut column entry byte) left) _ is.cut;
 }
-  where
-    later : (a : Bool) {b : Bool} → b ≡ true → (a || b) ≡ true
-    later true h = refl
-    later false h = h
-
-weaken : (P Q : ℕ → Type 0) (xs : List ℕ) → ((x : ℕ) → P x → Q x) → AllByRecursion P xs → AllByRecursion Q xs
-weaken P Q [] w all = tt
-weaken P Q (x ∷ xs) w all = (w x all.0, weaken P Q xs w all.1)
 
 pub known_before : (column : ColumnView) (left right : List ℕ) (cuts : Cuts) → Knows column left cuts
     → Knows column (left ++ right) cuts
@@ -116,7 +95,8 @@ known_before column left right cuts knows = record {
   long = knows.long;
   listed = knows.listed;
   apart = knows.apart;
-  cut = weaken (IsCutAt column left) (IsCutAt column (left ++ right)) knows.bytes (cut_before column left right) knows.cut;
+  cut = all_weaker (IsCutAt column left) (IsCutAt column (left ++ right)) knows.bytes (cut_before column left right)
+      knows.cut;
 }
 
 pub known_after : (column : ColumnView) (left right : List ℕ) (cuts : Cuts) → Knows column right cuts
@@ -126,7 +106,8 @@ known_after column left right cuts knows = record {
   long = knows.long;
   listed = knows.listed;
   apart = knows.apart;
-  cut = weaken (IsCutAt column right) (IsCutAt column (left ++ right)) knows.bytes (cut_after column left right) knows.cut;
+  cut = all_weaker (IsCutAt column right) (IsCutAt column (left ++ right)) knows.bytes (cut_after column left right)
+      knows.cut;
 }
 
 -- a byte that is kept is a cut
@@ -135,13 +116,8 @@ pub kept_cut : (column : ColumnView) (entries : List ℕ) (cuts : Cuts) (k : ℕ
 kept_cut column entries cuts k few below knows =
     subst (IsCutAt column entries)
     (ap (λ bs. get_or bs k 0) (knows.listed few) ∙ get_or-take cuts.count cuts.bytes k 0 below)
-    (at_place knows.bytes k (omega (arith, below, knows.long)) knows.cut)
-  where
-    at_place : (bs : List ℕ) (j : ℕ) → j < length bs → AllByRecursion (IsCutAt column entries) bs
-        → IsCutAt column entries (get_or bs j 0)
-    at_place [] j h all = absurd (omega (arith, h))
-    at_place (b ∷ bs) zero h all = all.0
-    at_place (b ∷ bs) (suc j) h all = at_place bs j (omega (arith, h)) all.1
+    (All-get_or (IsCutAt column entries) knows.bytes k 0 (omega (arith, below, knows.long))
+    (All-from_recursion (IsCutAt column entries) knows.bytes knows.cut))
 
 -- ---- cuts of parts
 
@@ -250,7 +226,7 @@ one_more_passes q b (x ∷ xs) none there = elim (cases_eq b x) [
       let right : length (filter (λ y. (b == y) || q y) (x ∷ xs)) ≡ 1 + length (filter (λ y. (b == y) || q y) xs) =
       ap (λ t. length (cond (t || q x) (x ∷ filter (λ y. (b == y) || q y) xs) (filter (λ y. (b == y) || q y) xs)))
       (eq-eqb b x e) ∙ omega arith in
-      omega (arith, left, right, fewer q (λ y. (b == y) || q y) xs (λ y h. passes (b == y) h))
+      omega (arith, left, right, fewer q (λ y. (b == y) || q y) xs (λ y h. or_right (b == y) _ h))
   | inr other ↦
       let rest = one_more_passes q b xs none
       (sym (ap (λ t. t || list_any (λ y. y == b) xs) (ne_eqb x b (λ e. other (sym e)))) ∙ there) in
@@ -261,10 +237,6 @@ one_more_passes q b (x ∷ xs) none there = elim (cases_eq b x) [
       by (q x) (filter q xs) (filter (λ y. (b == y) || q y) xs) rest same
 ]
   where
-    passes : (a : Bool) {c : Bool} → c ≡ true → (a || c) ≡ true
-    passes true h = refl
-    passes false h = h
-
     by : (t : Bool) (l r : List ℕ) {n : ℕ} → 1 + length l ≤ length r → n ≡ length (cond t (x ∷ r) r)
         → 1 + length (cond t (x ∷ l) l) ≤ n
     by true l r h e = omega (arith, h, e)
@@ -364,11 +336,7 @@ module _ (column : ColumnView) (entries : List ℕ) (rise : RisesFrom 0 entries)
       ≡ true =
       sym (marked_where_changed column entries (byte - 1) rise)
       ∙ ap (λ b. list_any (λ entry. is_entry_cut column entry b) entries) e ∙ is.cut in
-      later (byte - 1 == 255) changed
-    where
-      later : (a : Bool) {b : Bool} → b ≡ true → (a || b) ≡ true
-      later true h = refl
-      later false h = h
+      or_right (byte - 1 == 255) _ changed
 
   last_change : is_change column entries (256 - 1) ≡ true
   unfolding is_change

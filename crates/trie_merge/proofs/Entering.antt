@@ -1,10 +1,11 @@
 -- The entries that are numbered at a place are what bytes leave of rules of the group.
-use Rattle.std.proofs.Common.{◌≡◌, ℕ, zero, suc, ◌+◌, ◌<◌, ◌≤◌, ◌==◌, ◌||◌, ◌&&◌, List, [], ◌∷◌, length, map, get_or}
-use Rattle.std.proofs.Common.{replicate, Bool, true, false, true≢false, Option, Some, refl, sym, ◌∙◌, ap, subst, inl}
+use Rattle.std.proofs.lemmas.List.Elements.{All-contains, All-from_recursion}
+use Rattle.std.proofs.Common.{◌≡◌, ℕ, ◌+◌, ◌<◌, ◌≤◌, ◌==◌, ◌||◌, ◌&&◌, List, [], ◌∷◌, length, map}
+use Rattle.std.proofs.Common.{replicate, Bool, true, true≢false, Option, Some, refl, sym, ◌∙◌, ap, subst, inl}
 use Rattle.std.proofs.Common.{inr, arith}
 use Rattle.std.specs.Option.{option_map}
 use Rattle.std.specs.List.{AllByRecursion, list_any, list_all, filter_map, cons_option, Contains}
-use Rattle.std.proofs.lemmas.Bool.{cases_eq, eq-eqb, ne_eqb, and_parts}
+use Rattle.std.proofs.lemmas.Bool.{cases_eq, eq-eqb, ne_eqb, and_parts, or_right}
 use Rattle.std.proofs.lemmas.List.{length-replicate}
 use Rattle.node_expand.specs.declared.edge.Edge.TheVariants.{Free}
 use Rattle.field_defs.specs.Layout.{key_len_of}
@@ -117,26 +118,17 @@ module _ (set : RuleSetView) (group : List ℕ) (held : AllByRecursion (IsHeld s
   start_entries_of (rule ∷ rules) inside =
       let member = inside rule (ap (λ b. b || list_any (λ r. r == rule) rules) (eq-eqb rule rule refl)) in (
         start_entry rule (at_entry (IsHeld set) group rule member held) member,
-        start_entries_of rules (λ r there. inside r (later (rule == r) there)),
+        start_entries_of rules (λ r there. inside r (or_right (rule == r) _ there)),
       )
-    where
-      later : (a : Bool) {b : Bool} → b ≡ true → (a || b) ≡ true
-      later true is = refl
-      later false is = is
 
   -- the entries of all rules are such
   pub start_entries_are : (rules : List ℕ)
       → ((rule : ℕ) → list_any (λ r. r == rule) rules ≡ true → list_any (λ r. r == rule) group ≡ true)
       → (entry : ℕ) → Contains (map (λ rule. entry_of rule Free) rules) entry → EntryOf set group place entry
-  start_entries_are rules inside entry (k, below, is) =
-      subst (EntryOf set group place) is
-      (at_place (map (λ rule. entry_of rule Free) rules) k below (start_entries_of rules inside))
-    where
-      at_place : (es : List ℕ) (j : ℕ) → j < length es → AllByRecursion (EntryOf set group place) es
-          → EntryOf set group place (get_or es j entry)
-      at_place [] j below all = absurd (omega (arith, below))
-      at_place (e ∷ es) zero below all = all.0
-      at_place (e ∷ es) (suc j) below all = at_place es j (omega (arith, below)) all.1
+  start_entries_are rules inside entry =
+      All-contains (EntryOf set group place) (map (λ rule. entry_of rule Free) rules) entry
+      (All-from_recursion (EntryOf set group place) (map (λ rule. entry_of rule Free) rules)
+      (start_entries_of rules inside))
 
 -- the entries of all rules are a state
 abbrev pub start_of : ℕ → Option ℕ

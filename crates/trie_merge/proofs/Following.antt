@@ -1,13 +1,14 @@
 -- The runs lead to the row of the matching rules.
+use Rattle.trie_merge.proofs.Ahead.{all_of_parts}
 use Rattle.std.proofs.Common.{◌≡◌, ◌≢◌, ℕ, zero, suc, ◌+◌, ◌-◌, ◌<◌, ◌≤◌, ◌==◌, List, [], ◌∷◌, ◌++◌, length, map, fold}
 use Rattle.std.proofs.Common.{filter, take, drop, get_or, slice_get, Bool, true, false, cond, leb, not, ◌&&◌, ◌||◌}
-use Rattle.std.proofs.Common.{true≢false, Some, None, refl, sym, ◌∙◌, ap, subst, inl, inr, ◌⊎◌, arith, length-append}
+use Rattle.std.proofs.Common.{true≢false, Some, None, refl, sym, ◌∙◌, ap, subst, inl, inr, ◌⊎◌, arith}
 use Rattle.std.specs.List.{AllByRecursion, range_with_len, flat_map, find, list_any, position_or_len, cons_option}
 use Rattle.std.specs.Option.{option_map, option_map_or}
-use Rattle.std.proofs.lemmas.Bool.{cases_Bool, cases_eq, eqb-true, eq-eqb, le-leb, lt-leb, not-false}
+use Rattle.std.proofs.lemmas.Bool.{cases_Bool, cases_eq, eqb-true, eq-eqb, le-leb, lt-leb, not-false, or_parts}
 use Rattle.std.specs.Str.{bytes_eq}
-use Rattle.std.proofs.lemmas.List.Elements.{recursion_from_All}
-use Rattle.std.proofs.lemmas.List.{take_more, take_all, length-take-le, length-drop, append-nil, append_assoc}
+use Rattle.std.proofs.lemmas.List.Elements.{recursion_from_All, All-get_or, All-from_recursion}
+use Rattle.std.proofs.lemmas.List.{take_more, take_all, length-take-le, length-drop}
 use Rattle.std.proofs.lemmas.List.{take-append-drop, length-map}
 use Rattle.field_defs.specs.Layout.{key_len_of}
 use Rattle.field_defs.proofs.Offered.{short_keys}
@@ -32,10 +33,10 @@ use Rattle.trie_merge.specs.Laws.{RunsLeadToTheRowOfTheMatchingRules}
 use Rattle.trie_merge.proofs.Finds.{is_new, none_new_once_found}
 use Rattle.trie_merge.proofs.Numbers.{bytes_eq_refl, bytes_eq_sound}
 use Rattle.trie_merge.proofs.Packed.{AreBytes, bytes_after}
-use Rattle.trie_merge.proofs.PackedState.{IsHeld, packed_state, packed_state_steps, packed_state_wild}
+use Rattle.trie_merge.proofs.PackedState.{IsHeld, packed_state, packed_state_steps}
 use Rattle.trie_merge.proofs.PackedState.{packed_state_start, decoded, state_is, same_state-Decides}
 use Rattle.trie_merge.proofs.RestSteps.{state_goes_through}
-use Rattle.trie_merge.proofs.Reached.{IsGap, states_are, reached_is, all-append}
+use Rattle.trie_merge.proofs.Reached.{IsGap, states_are, reached_is, bytes_on}
 use Rattle.trie_merge.proofs.Gaps.{Gaps, HasFirst, kept_places_first}
 use Rattle.trie_merge.proofs.Walk.{packed_start}
 use Rattle.trie_merge.proofs.Categories.{length-categories}
@@ -77,7 +78,7 @@ module _ (succ : ℕ → Succ) (byte : ℕ) where
         (find (λ (run : Run). leb byte run.last)
         (map run_at (filter (is_end succ) (range_with_len (first + 1) count))))) Dead) (le-leb byte first from)
     | inr goes ↦
-        let parts = both (first == 255) (not (same_succ (succ first) (succ (first + 1)))) goes in
+        let parts = or_parts (first == 255) (not (same_succ (succ first) (succ (first + 1)))) goes in
         let not_last : first ≢ 255 = λ e. true≢false (sym (eq-eqb first 255 e) ∙ parts.0) in
         ap (λ b. option_map_or (λ (run : Run). run.to)
         (find (λ (run : Run). leb byte run.last)
@@ -86,10 +87,6 @@ module _ (succ : ℕ → Succ) (byte : ℕ) where
         ∙ run_on (first + 1) count (omega (arith, whole)) (omega (arith, whole, not_last)) (omega arith)
         ∙ sym (same_is (succ first) (succ (first + 1)) (not-false _ parts.1))
   ]
-    where
-      both : (a b : Bool) → (a || b) ≡ false → (a ≡ false) × (b ≡ false)
-      both true b h = absurd (true≢false h)
-      both false b h = (refl, h)
 
   -- up to the byte no run that ends is its
   run_until : (first count : ℕ) → first + count ≡ 256 → first ≤ byte → byte < 256
@@ -149,26 +146,14 @@ each_of P f first (suc count) byte from below all = elim (cases_eq first byte) [
   | inr other ↦ each_of P f (first + 1) count byte (omega (arith, other)) (omega arith) all.1
 ]
 
-split_all : {X : Type 0} (P : X → Type 0) (xs ys : List X) → AllByRecursion P (xs ++ ys)
-    → AllByRecursion P xs × AllByRecursion P ys
-split_all P [] ys all = (tt, all)
-split_all P (x ∷ xs) ys all = (let rest = split_all P xs ys all.1 in ((all.0, rest.0), rest.1))
-
-of_flat_map : {X Y : Type 0} (P : Y → Type 0) (f : X → List Y) (xs : List X) → AllByRecursion P (flat_map f xs)
-    → AllByRecursion (λ x. AllByRecursion P (f x)) xs
-of_flat_map P f [] all = tt
-of_flat_map P f (x ∷ xs) all =
-    (let parts = split_all P (f x) (flat_map f xs) all in (parts.0, of_flat_map P f xs parts.1))
-
 of_map : {X Y : Type 0} (P : Y → Type 0) (f : X → Y) (xs : List X) → AllByRecursion P (map f xs)
     → AllByRecursion (λ x. P (f x)) xs
 of_map P f [] all = tt
 of_map P f (x ∷ xs) all = (all.0, of_map P f xs all.1)
 
 small_at : (bytes : List ℕ) (k : ℕ) → AreBytes bytes → k < length bytes → get_or bytes k 0 < 256
-small_at [] k small within = absurd (omega arith)
-small_at (b ∷ bs) zero small within = small.0
-small_at (b ∷ bs) (suc k) small within = small_at bs k small.1 (omega arith)
+small_at bytes k small within =
+    All-get_or (λ byte. byte < 256) bytes k 0 within (All-from_recursion (λ byte. byte < 256) bytes small)
 
 bytes_before : (n : ℕ) (bytes : List ℕ) → AreBytes bytes → AreBytes (take n bytes)
 bytes_before zero bytes small = tt
@@ -194,7 +179,7 @@ unfolding prefixes all_bytes
 each_prefix zero P all [] small long = all.0
 each_prefix zero P all (k ∷ ks) small long = absurd (omega arith)
 each_prefix (suc place) P all key small long =
-    let inner = of_flat_map P (λ before. flat_map (λ byte. (before ++ byte ∷ []) ∷ []) (range_with_len 0 256))
+    let inner = all_of_parts P (λ before. flat_map (λ byte. (before ++ byte ∷ []) ∷ []) (range_with_len 0 256))
     (prefixes place) all in
     let shorter : length (take place key) ≡ place = length-take-le place key (omega arith) in
     let one = each_prefix place
@@ -276,23 +261,6 @@ module _ (set : RuleSetView) (group : List ℕ) (held : AllByRecursion (IsHeld s
       ∙ (λ i. state_through set (shorter i) (dead i) (drop place key))
       ∙ dead_on set place (drop place key))
 
-  -- bytes at places at which all rules are wild leave the entries as they are
-  bytes_on : (start bytes : List ℕ) → AreBytes start → AreBytes bytes
-      → length start + length bytes ≤ key_len_of set.layout →
-      ((gap : ℕ) → gap < length bytes → is_wild_place set group (length start + gap) ≡ true)
-      → packed_state set group (start ++ bytes) ≡ packed_state set group start
-  bytes_on start [] are more within wild = ap (packed_state set group) (append-nil start)
-  bytes_on start (byte ∷ bytes) are more within wild =
-      let longer : length (start ++ byte ∷ []) ≡ length start + 1 = length-append start (byte ∷ []) in
-      ap (packed_state set group) (sym (append_assoc start (byte ∷ []) bytes))
-      ∙ bytes_on (start ++ byte ∷ []) bytes (all-append (λ b. b < 256) start (byte ∷ []) are (more.0, tt)) more.1
-      (omega (arith, longer))
-      (λ gap below. (let e : length (start ++ byte ∷ []) + gap ≡ length start + suc gap = omega (arith, longer) in
-      ap (is_wild_place set group) e ∙ wild (suc gap) (omega arith)))
-      ∙ packed_state_wild set group start byte held are more.0 (omega arith)
-      ((let e : length start + 0 ≡ length start = omega arith in ap (is_wild_place set group) (sym e))
-      ∙ wild 0 (omega arith))
-
   -- what the state of the key's first bytes reaches is the state of more of them
   reach_key : (place next : ℕ) (gap : IsGap set group place next)
       → reached set place next (state set group (take place key)) (get_or key place 0) ≡ state set group (take next key)
@@ -319,7 +287,7 @@ module _ (set : RuleSetView) (group : List ℕ) (held : AllByRecursion (IsHeld s
       ap (λ n. entries_step (column_at set n) (packed_state set group start) byte) (sym here)
       ∙ sym (packed_state_steps set group start byte held (omega (arith, here, gap.rises, gap.within)) below)
       ∙ ap (packed_state set group) (sym one)
-      ∙ sym (bytes_on (take (place + 1) key) rest (bytes_before (place + 1) key small)
+      ∙ sym (bytes_on set group held (take (place + 1) key) rest (bytes_before (place + 1) key small)
       (bytes_before (next - place - 1) (drop (place + 1) key) (bytes_after (place + 1) key small))
       (omega (arith, one_long, rest_long, gap.rises, gap.within))
       (λ g under. gap.wild (length (take (place + 1) key) + g) (omega (arith, one_long))
@@ -445,7 +413,7 @@ module _ (set : RuleSetView) (group : List ℕ) (held : AllByRecursion (IsHeld s
       let shorter : length (take place key) ≡ place = length-take-le place key (omega (arith, long)) in
       let start : List ℕ = map (λ number. entry_of number Free) group in
       let entries : packed_state set group (take place key) ≡ start =
-      bytes_on [] (take place key) tt (bytes_before place key small) (omega (arith, shorter))
+      bytes_on set group held [] (take place key) tt (bytes_before place key small) (omega (arith, shorter))
       (λ gap below. ap (is_wild_place set group) (omega arith) ∙ wild gap (omega (arith, shorter)))
       ∙ packed_state_start set group held in
       ap (λ states. slice_get states 0)

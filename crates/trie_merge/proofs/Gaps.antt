@@ -3,10 +3,11 @@ use Rattle.std.proofs.Common.{◌≡◌, ◌≢◌, ℕ, zero, suc, ◌+◌, ◌
 use Rattle.std.proofs.Common.{true, false, cond, not, ◌&&◌, ◌||◌, true≢false, refl, sym, ◌∙◌, ap, subst, inl, inr, ◌⊎◌}
 use Rattle.std.proofs.Common.{arith}
 use Rattle.std.specs.List.{range_with_len, list_all}
-use Rattle.std.proofs.lemmas.Bool.{cases_Bool, cases_eq, eq-eqb, and_parts}
+use Rattle.std.proofs.lemmas.Bool.{cases_Bool, cases_eq, eq-eqb, and_parts, or_parts, or_right, not-false}
 use Rattle.field_defs.specs.Layout.{key_len_of}
 use Rattle.rule_set.specs.Rule.{RuleSetView}
 use Rattle.trie_merge.specs.Kept.{group_of, is_wild_place, is_idle, is_kept, key_places, kept_places}
+use Rattle.trie_merge.proofs.Counting.{not_all_numbers}
 use Rattle.trie_merge.proofs.Reached.{IsGap}
 
 -- what holds of all numbers of a range holds of each
@@ -104,22 +105,23 @@ module _ (set : RuleSetView) (group : List ℕ) where
         (one.0, omega (arith, one.1, other), omega (arith, one.2), one.3))
   ]
 
-  -- a place of a group that isn't kept is wild
-  left_out_is_wild : (place : ℕ) → place < key_len_of set.layout → is_kept set group (group_of place) ≡ false
+  -- a place of an idle group is wild
+  pub idle_is_wild : (place : ℕ) → place < key_len_of set.layout → is_idle set group (group_of place) ≡ true
       → is_wild_place set group place ≡ true
-  unfolding is_kept is_idle
-  left_out_is_wild place within left_out =
-      let idle : list_all (λ k. not (group_of k == group_of place) || is_wild_place set group k) (key_places set)
-      ≡ true =
-      of_or (list_all (λ k. not (group_of k == group_of place) || is_wild_place set group k) (key_places set))
-      (group_of place == 0 && list_all (is_wild_place set group) (key_places set)) left_out in
+  unfolding is_idle
+  idle_is_wild place within idle =
       let here = each (λ k. not (group_of k == group_of place) || is_wild_place set group k) 0 (key_len_of set.layout)
       idle place (omega arith) (omega arith) in
       sym (ap (λ b. not b || is_wild_place set group place) (eq-eqb (group_of place) (group_of place) refl)) ∙ here
-    where
-      of_or : (a b : Bool) → (not a || b) ≡ false → a ≡ true
-      of_or true b h = refl
-      of_or false b h = absurd (true≢false h)
+
+  -- and so is one of a group that isn't kept
+  left_out_is_wild : (place : ℕ) → place < key_len_of set.layout → is_kept set group (group_of place) ≡ false
+      → is_wild_place set group place ≡ true
+  unfolding is_kept
+  left_out_is_wild place within left_out =
+      let parts = or_parts (not (is_idle set group (group_of place)))
+      (group_of place == 0 && list_all (is_wild_place set group) (key_places set)) left_out in
+      idle_is_wild place within (not-false _ parts.0)
 
   -- some place is kept
   some_kept : 0 < key_len_of set.layout
@@ -132,7 +134,7 @@ module _ (set : RuleSetView) (group : List ℕ) where
       omega arith,
       ap (λ b. not (list_all (λ k. not (group_of k == 0) || is_wild_place set group k) (key_places set)) || (true && b))
           all
-          ∙ or_true (not (list_all (λ k. not (group_of k == 0) || is_wild_place set group k) (key_places set))),
+          ∙ or_right (not (list_all (λ k. not (group_of k == 0) || is_wild_place set group k) (key_places set))) true refl,
     )
     | inr one ↦ (
       one.0,
@@ -140,23 +142,12 @@ module _ (set : RuleSetView) (group : List ℕ) where
       one.2,
       (let not_idle : list_all (λ k. not (group_of k == group_of one.0) || is_wild_place set group k) (key_places set)
           ≡ false =
-          not_all (λ k. not (group_of k == group_of one.0) || is_wild_place set group k) 0 (key_len_of set.layout) one.0
-          one.1 one.2
+          not_all_numbers (λ k. not (group_of k == group_of one.0) || is_wild_place set group k)
+          (key_len_of set.layout) one.0 (omega (arith, one.2))
           (ap (λ b. not b || is_wild_place set group one.0) (eq-eqb (group_of one.0) (group_of one.0) refl) ∙ one.3) in
           ap (λ b. not b || (group_of one.0 == 0 && list_all (is_wild_place set group) (key_places set))) not_idle),
     )
   ]
-    where
-      or_true : (a : Bool) → (a || true) ≡ true
-      or_true true = refl
-      or_true false = refl
-
-      not_all : (p : ℕ → Bool) (first count k : ℕ) → first ≤ k → k < first + count → p k ≡ false
-          → list_all p (range_with_len first count) ≡ false
-      not_all p first count k from below fails = elim (cases_Bool (list_all p (range_with_len first count))) [
-        | inl all ↦ absurd (true≢false (sym (each p first count all k from below) ∙ fails))
-        | inr h ↦ h
-      ]
 
   pub kept_places_first : 0 < key_len_of set.layout → HasFirst (kept_places set group)
   unfolding kept_places

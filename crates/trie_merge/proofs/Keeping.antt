@@ -1,12 +1,9 @@
 -- Entries that every byte of a place leaves as they are.
-use Rattle.std.proofs.Common.{◌≡◌, ℕ, ◌-◌, ◌%◌, ◌<◌, Bool, true, false, not, ltb, Some, refl}
-use Rattle.std.proofs.Common.{List, length, map, get_or, sym, ◌∙◌, ap, subst, inl, inr, arith}
+use Rattle.std.proofs.Common.{◌≡◌, ℕ, ◌-◌, ◌%◌, ◌<◌, true, false, not, ltb, Some, refl}
+use Rattle.std.proofs.Common.{sym, ◌∙◌, ap, inl, inr, arith}
 use Rattle.std.specs.Option.{option_map}
 use Rattle.std.proofs.Math.Bool.{or-false}
 use Rattle.std.proofs.lemmas.Bool.{and_parts, and_right, cases_Bool, cases_eq, ne_eqb}
-use Rattle.std.proofs.lemmas.List.{get_or-map}
-use Rattle.field_defs.specs.declared.field.FieldValue.{FieldValue}
-use Rattle.field_defs.specs.declared.field.FieldValue.TheVariants.{Mask}
 use Rattle.field_defs.specs.FieldMatch.{is_wild}
 use Rattle.node_expand.specs.declared.edge.Edge.TheVariants.{Free}
 use Rattle.node_expand.specs.Edges.{edge_after, edge_step, is_change, is_cut, is_bitmask}
@@ -53,15 +50,3 @@ module _ (column : ColumnView) (entry : ℕ) (can : CanStep column entry) (free 
   unfolding is_entry_cut is_cut is_change
   uncut byte below =
       rw (each_step byte below, each_step (byte - 1) (omega arith)) (and_right (ltb 0 byte) false refl)
-
--- what is kept of an entry's rule says so of its value
-pub told_by_number : (values : List FieldValue) (told : List Bool) (size place : ℕ) (column : ColumnView) (entry : ℕ)
-    (d : Bool) → record { values = values; size = size; place = place } ≡ column →
-    told ≡ map (stays_free size place) values → number_in entry < length column.values →
-    get_or told (number_in entry) d ≡ true → stays_free column.size column.place (value_in column entry) ≡ true
-told_by_number values told size place column entry d view all within is =
-    subst (λ (c : ColumnView). number_in entry < length c.values →
-    stays_free c.size c.place (value_in c entry) ≡ true) view
-    (λ inside. sym (get_or-map (stays_free size place) values (number_in entry) (Mask 0 0) d inside)
-    ∙ ap (λ (bs : List Bool). get_or bs (number_in entry) d) (sym all) ∙ is)
-    within

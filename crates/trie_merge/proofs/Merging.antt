@@ -17,7 +17,7 @@ use Rattle.shared_parts.proofs.Offered.{count_grows, grows_on}
 use Rattle.trie_merge.specs.Laws.{IsGrouped}
 use Rattle.trie_merge.specs.Led.{AllLed}
 use Rattle.trie_merge.specs.Levels.{runs_of}
-use Rattle.trie_merge.specs.Merged.{StateMerged}
+use Rattle.trie_merge.specs.Merged.{StateMerged, StateAdded}
 use Rattle.trie_merge.specs.Numbers.{is_some_number, numbers_with, succ_of}
 use Rattle.trie_merge.specs.Shared.{RuleTree, IsState, IsIn, AreIn, IsFor, ArePlaced}
 use Rattle.trie_merge.proofs.Ahead.{each_of_bytes}
@@ -50,7 +50,7 @@ use Rattle.trie_merge.proofs.Finds.{found_grows}
 use Rattle.trie_merge.proofs.Successors.{length-all_bytes}
 
 -- a list takes a word at least, and no more than 256
-cost_some : (count : ℕ) → (0 < cost_of count) × (cost_of count ≤ 256)
+pub cost_some : (count : ℕ) → (0 < cost_of count) × (cost_of count ≤ 256)
 cost_some count = by (count == 1) (nat_le count few_runs)
   where
     by : (a b : Bool) → (0 < cond a 1 (cond b few_runs full_len)) × (cond a 1 (cond b few_runs full_len) ≤ 256)
@@ -73,19 +73,6 @@ pub least_cost_one : (next : Option ColumnView) (is_last : Bool) (list : List �
     least_cost next is_last (list ∷ []) ≡ price next is_last list
 unfolding least_cost
 least_cost_one next is_last list = sum_by-cons (price next is_last) list [] ∙ omega arith
-
-pub least_cost_some : (next : Option ColumnView) (is_last : Bool) (lists : List (List ℕ))
-    → length lists ≤ least_cost next is_last lists
-unfolding least_cost
-least_cost_some next is_last [] = omega arith
-least_cost_some next is_last (list ∷ lists) =
-    omega (
-      arith,
-      sum_by-cons (price next is_last) list lists,
-      price_some next is_last list,
-      least_cost_some next
-          is_last lists,
-    )
 
 -- with a place after, it is the words of the states there
 pub least_cost_known : (next : ColumnView) (is_last : Bool) (lists : List (List ℕ)) →
@@ -306,15 +293,11 @@ module _ (column : ColumnView) (next : Option ColumnView) (is_last : Bool) (befo
       nothing_found set c l = none_found set c l
 
   module _ (order : RanksOrderRules) (law : TheBestHasTheGreatestRank) (now new : Target) (done : List ℕ)
-      (steps steps' : List (List Piece)) (found found' : List ℕ) (runs runs' : List (List Run)) (words least : ℕ)
+      (steps steps' : List (List Piece)) (found found' : List ℕ) (runs runs' : List (List Run))
+      (words words' least least' : ℕ)
       (so_far : SoFar column next is_last before pairs old now done steps found runs words least)
-      (state cost price : ℕ) (led : AllLed column pairs now new steps')
-      (merged : StateMerged column is_last pairs new found found' runs runs' state cost)
-      (priced : (set : RuleSetView) (tree : RuleTree) (lists : List (List ℕ)) → IsStrictlyIncreasing tree.rules
-      → AreIn set new tree lists found'
-      → least_cost next is_last (take (length found) lists) + price ≤ least_cost next is_last lists)
-      (some : length found' ≤ length found + price)
-      (its_rows : is_last ≡ true → row_len * length found' ≤ row_len * length found + price) where
+      (state : ℕ) (led : AllLed column pairs now new steps')
+      (added : StateAdded column next is_last pairs new found found' runs runs' state words words' least least') where
     all_led : AllLed column pairs old new steps'
     all_led = record {
       grows = grows_on old now new so_far.led.grows led.grows;
@@ -349,16 +332,16 @@ module _ (column : ColumnView) (next : Option ColumnView) (is_last : Bool) (befo
           (map (successor set column is_last list) all_bytes)
 
       byte_leads : (byte : ℕ) → byte < 256
-          → IsIn set new tree (successor set column is_last list byte) (number_at merged.pieces byte)
+          → IsIn set new tree (successor set column is_last list byte) (number_at added.merged.pieces byte)
       byte_leads byte below =
-          state_leads set column is_last pairs new tree list state byte (number_at merged.pieces byte)
-          (for_grows set is_last old new all_led.grows for) is (merged.leads byte below)
+          state_leads set column is_last pairs new tree list state byte (number_at added.merged.pieces byte)
+          (for_grows set is_last old new all_led.grows for) is (added.merged.leads byte below)
 
       found_after : AreIn set new tree after_lists found'
       found_after =
-          subst (AreIn set new tree after_lists) (sym merged.finds)
+          subst (AreIn set new tree after_lists) (sym added.merged.finds)
           (finds_alike set order law tree rise inside new (successor set column is_last list)
-          (number_at merged.pieces) all_bytes before_lists found
+          (number_at added.merged.pieces) all_bytes before_lists found
           (all_weaker (λ byte. byte < 256) _ all_bytes byte_leads bytes_below)
           (are_grown set now new tree before_lists found led.grows was.finds))
 
@@ -372,13 +355,13 @@ module _ (column : ColumnView) (next : Option ColumnView) (is_last : Bool) (befo
           (map (successor set column is_last list) all_bytes))
 
       runs_here : (more : List (List ℕ))
-          → runs_of (λ byte. succ_of is_last found' (number_at merged.pieces byte))
+          → runs_of (λ byte. succ_of is_last found' (number_at added.merged.pieces byte))
           ≡ state_runs set column is_last (after_lists ++ more) list
       runs_here more =
           same_runs _ _ (λ byte below.
           sym (succ_stays is_last (successor set column is_last list byte) after_lists more (known byte below)
           ∙ succ_alike set order law tree rise inside new is_last (successor set column is_last list byte)
-          (number_at merged.pieces byte) after_lists found' (byte_leads byte below) found_after))
+          (number_at added.merged.pieces byte) after_lists found' (byte_leads byte below) found_after))
 
       runs_before : (more : List (List ℕ)) → runs ≡ map (state_runs set column is_last (after_lists ++ more)) lists
       runs_before more =
@@ -392,14 +375,14 @@ module _ (column : ColumnView) (next : Option ColumnView) (is_last : Bool) (befo
           ap (take (length found)) grown.1 ∙ ap (λ n. take n (before_lists ++ grown.0)) (sym long)
           ∙ take-append_seam before_lists grown.0
 
-      pub one_more_list : ListsSoFar set column next is_last tree new found' runs' (least + price) (lists ++ list ∷ [])
+      pub one_more_list : ListsSoFar set column next is_last tree new found' runs' least' (lists ++ list ∷ [])
       one_more_list =
           let all : level_found set column is_last (lists ++ list ∷ []) ≡ after_lists =
           found_more set column next is_last lists list in
           record {
             finds = subst (λ ls. AreIn set new tree ls found') (sym all) found_after;
             its_runs = λ more.
-                merged.its_runs
+                added.merged.its_runs
                 ∙ (λ i. runs_before more i ++ runs_here more i ∷ [])
                 ∙ sym (map_push (state_runs set column is_last (after_lists ++ more)) lists list)
                 ∙ ap (λ f. map (state_runs set column is_last (f ++ more)) (lists ++ list ∷ [])) (sym all);
@@ -407,31 +390,33 @@ module _ (column : ColumnView) (next : Option ColumnView) (is_last : Bool) (befo
                 omega (
                   arith,
                   was.priced,
-                  priced set tree after_lists ascending found_after,
+                  added.priced set tree after_lists ascending found_after,
+                  added.its_least,
                   ap (least_cost next is_last) taken,
                   ap (least_cost next is_last) all,
                 );
           }
 
     -- one more state
-    pub one_more_state : SoFar column next is_last before pairs old new (done ++ state ∷ []) steps' found' runs'
-        (words + cost) (least + price)
+    pub one_more_state : SoFar column next is_last before pairs old new (done ++ state ∷ []) steps' found' runs' words'
+        least'
     one_more_state =
-        let its : List Run = runs_of (λ byte. succ_of is_last found' (number_at merged.pieces byte)) in
-        let more : states_words runs' ≡ states_words runs + cost =
-        ap states_words merged.its_runs
+        let its : List Run = runs_of (λ byte. succ_of is_last found' (number_at added.merged.pieces byte)) in
+        let more : states_words runs' ≡ states_words runs + added.cost =
+        ap states_words added.merged.its_runs
         ∙ sum_by-append (λ (rs : List Run). cost_of (length rs)) runs (its ∷ [])
         ∙ ap (λ n. states_words runs + n)
-        (sum_by-cons (λ (rs : List Run). cost_of (length rs)) its [] ∙ omega (arith, merged.its_cost)) in
+        (sum_by-cons (λ (rs : List Run). cost_of (length rs)) its [] ∙ omega (arith, added.merged.its_cost)) in
         record {
           led = all_led;
-          sum = omega (arith, so_far.sum, more);
-          few = omega (arith, so_far.few, some);
-          inside = found_inside column is_last pairs now new steps' found found' runs runs' state cost so_far.inside led merged;
-          rows = λ last. omega (arith, so_far.rows last, its_rows last);
+          sum = omega (arith, so_far.sum, more, added.its_words);
+          few = omega (arith, so_far.few, added.some, added.its_least);
+          inside = found_inside column is_last pairs now new steps' found found' runs runs' state added.cost so_far.inside
+              led added.merged;
+          rows = λ last. omega (arith, so_far.rows last, added.rows last, added.its_least);
           lists = λ set group tree lists for placed.
               (let ends = split_last set (Parts pairs) tree lists done state placed.each in
-              subst (ListsSoFar set column next is_last tree new found' runs' (least + price)) (sym ends.2)
+              subst (ListsSoFar set column next is_last tree new found' runs' least') (sym ends.2)
               (one_more_list set group tree ends.0 ends.1 for placed.grouped placed.rules ends.3 ends.4));
         }
 

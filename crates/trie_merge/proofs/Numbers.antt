@@ -24,17 +24,15 @@ bytes_eq_refl xs = (bytes_eq-Decides xs xs).1 refl
 pub bytes_eq_sound : (xs ys : List ℕ) → bytes_eq xs ys ≡ true → xs ≡ ys
 bytes_eq_sound xs ys = (bytes_eq-Decides xs ys).0
 
--- the place of a list stays when others are found after
-pub place_stays : (list : List ℕ) (found more : List (List ℕ)) → list_any (bytes_eq list) found ≡ true
-    → position_or_len (bytes_eq list) (found ++ more) ≡ position_or_len (bytes_eq list) found
-place_stays list [] more there = absurd (true≢false (sym there))
-place_stays list (x ∷ xs) more there = by (bytes_eq list x) (place_stays list xs more) there
+-- the place of an element stays when others are found after
+place_stays : {X : Type 0} (same : X → X → Bool) (x : X) (found more : List X) → list_any (same x) found ≡ true
+    → position_or_len (same x) (found ++ more) ≡ position_or_len (same x) found
+place_stays same x [] more there = absurd (true≢false (sym there))
+place_stays same x (y ∷ ys) more there = by (same x y) (place_stays same x ys more) there
   where
-    by : (b : Bool) → (list_any (bytes_eq list) xs ≡ true
-        → position_or_len (bytes_eq list) (xs ++ more) ≡ position_or_len (bytes_eq list) xs)
-        → (b || list_any (bytes_eq list) xs) ≡ true
-        → cond (not b) (1 + position_or_len (bytes_eq list) (xs ++ more)) 0
-        ≡ cond (not b) (1 + position_or_len (bytes_eq list) xs) 0
+    by : (b : Bool) → (list_any (same x) ys ≡ true → position_or_len (same x) (ys ++ more) ≡ position_or_len (same x) ys)
+        → (b || list_any (same x) ys) ≡ true
+        → cond (not b) (1 + position_or_len (same x) (ys ++ more)) 0 ≡ cond (not b) (1 + position_or_len (same x) ys) 0
     by true rest is = refl
     by false rest is = ap (λ n. 1 + n) (rest is)
 
@@ -44,27 +42,13 @@ pub succ_stays : (is_last : Bool) (list : List ℕ) (found more : List (List ℕ
 succ_stays is_last [] found more old = refl
 succ_stays is_last (x ∷ xs) found more old =
     let there : list_any (bytes_eq (x ∷ xs)) found ≡ true = not-false _ old in
-    ap (λ n. cond is_last (Row n) (State n)) (place_stays (x ∷ xs) found more there)
-
--- ---- numbers of numbers
-
-nat_place_stays : (n : ℕ) (found more : List ℕ) → list_any (nat_eq n) found ≡ true
-    → position_or_len (nat_eq n) (found ++ more) ≡ position_or_len (nat_eq n) found
-nat_place_stays n [] more there = absurd (true≢false (sym there))
-nat_place_stays n (x ∷ xs) more there = by (nat_eq n x) (nat_place_stays n xs more) there
-  where
-    by : (b : Bool) → (list_any (nat_eq n) xs ≡ true
-        → position_or_len (nat_eq n) (xs ++ more) ≡ position_or_len (nat_eq n) xs)
-        → (b || list_any (nat_eq n) xs) ≡ true
-        → cond (not b) (1 + position_or_len (nat_eq n) (xs ++ more)) 0
-        ≡ cond (not b) (1 + position_or_len (nat_eq n) xs) 0
-    by true rest is = refl
-    by false rest is = ap (λ k. 1 + k) (rest is)
+    ap (λ n. cond is_last (Row n) (State n)) (place_stays bytes_eq (x ∷ xs) found more there)
 
 -- what a number is reached as stays when others are found after
 pub number_stays : (is_last : Bool) (n : ℕ) (found more : List ℕ)
     → is_new nat_eq is_some_number found n ≡ false → succ_of is_last (found ++ more) n ≡ succ_of is_last found n
-number_stays is_last n found more old = by (is_some_number n) (list_any (nat_eq n) found) old (nat_place_stays n found more)
+number_stays is_last n found more old = by (is_some_number n) (list_any (nat_eq n) found) old
+    (place_stays nat_eq n found more)
   where
     by : (some there : Bool) → (some && not there) ≡ false
         → (there ≡ true → position_or_len (nat_eq n) (found ++ more) ≡ position_or_len (nat_eq n) found)

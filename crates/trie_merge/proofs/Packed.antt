@@ -45,7 +45,7 @@ packed_edge (def ∷ defs) [] key = None
 pub number_push : (bytes : List ℕ) (byte : ℕ) → number_of (bytes ++ byte ∷ []) ≡ number_of bytes * 256 + byte
 number_push bytes byte = fold-append (λ n b. n * 256 + b) 0 bytes (byte ∷ [])
 
-length_one_more : (bytes : List ℕ) (byte : ℕ) → length (bytes ++ byte ∷ []) ≡ length bytes + 1
+pub length_one_more : (bytes : List ℕ) (byte : ℕ) → length (bytes ++ byte ∷ []) ≡ length bytes + 1
 length_one_more bytes byte = length-append bytes (byte ∷ [])
 
 -- bytes spell a number of so many bytes
@@ -304,6 +304,11 @@ bytes_after zero bytes small = small
 bytes_after (suc n) [] small = tt
 bytes_after (suc n) (byte ∷ bytes) small = bytes_after n bytes small.1
 
+-- the edge of the fields after one that matches
+through : (b : Bool) (found : Option Edge) (edge : Edge) → cond b found None ≡ Some edge → found ≡ Some edge
+through true found edge h = h
+through false found edge h = absurd cc
+
 pub packed_stands : (defs : List FieldDef) (values : List FieldValue) (key : List ℕ) (edge : Edge)
     → AllZip IsLawfulValue defs values → AreBytes key → length key < key_len_of defs →
     packed_edge defs values key ≡ Some edge → Stands values (field_at defs (length key)) edge
@@ -323,7 +328,7 @@ packed_stands (def ∷ defs) (value ∷ values) key edge lawful small within is 
       let rest : List ℕ = drop def.size key in
       let long : length rest ≡ length key - def.size = length-drop def.size key in
       let rest_is : packed_edge defs values rest ≡ Some edge =
-      through (field_match value def.size (number_of (take def.size key))) (packed_edge defs values rest)
+      through (field_match value def.size (number_of (take def.size key))) (packed_edge defs values rest) edge
       (sym (packed_after def defs value values key after) ∙ is) in
       let there = packed_stands defs values rest edge lawful.1 (bytes_after def.size key small)
       (omega (arith, long, within, sum_by-cons (λ (d : FieldDef). d.size) def defs)) rest_is in
@@ -339,10 +344,6 @@ packed_stands (def ∷ defs) (value ∷ values) key edge lawful small within is 
             here.stands;
       })
 ]
-  where
-    through : (b : Bool) (found : Option Edge) → cond b found None ≡ Some edge → found ≡ Some edge
-    through true found h = h
-    through false found h = absurd cc
 
 -- ---- the rest of the edge kept
 
@@ -473,10 +474,6 @@ packed_apart (def ∷ defs) (value ∷ values) one other edge another small othe
           ∙ same ∙ cond-false _ _ _ no_more
           ∙ sym (ap (λ n. rest_at defs values n another) rest_long))
     ]
-  where
-    through : (b : Bool) (found : Option Edge) (e : Edge) → cond b found None ≡ Some e → found ≡ Some e
-    through true found e h = h
-    through false found e h = absurd cc
 
 -- ---- places at which a rule is wild
 

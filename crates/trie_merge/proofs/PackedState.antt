@@ -28,7 +28,7 @@ use Rattle.node_expand.proofs.Offered.{rests_compared}
 use Rattle.trie_merge.specs.RuleRest.{values_of, values_rest, rule_rest}
 use Rattle.trie_merge.specs.State.{Held, state, same_state, is_live}
 use Rattle.trie_merge.specs.Kept.{is_wild_at, is_wild_place}
-use Rattle.trie_merge.specs.Entry.{FieldPlace, entry_of, number_in, edge_in, edge_coded, value_in, edge_before}
+use Rattle.trie_merge.specs.Entry.{entry_of, number_in, edge_in, edge_coded, value_in, edge_before}
 use Rattle.trie_merge.specs.Entry.{field_at, column_at, entry_step, entries_step, CanStep}
 use Rattle.trie_merge.proofs.Uncut.{number_in-entry_of}
 use Rattle.trie_merge.proofs.Numbers.{bytes_eq-Decides}
@@ -96,9 +96,6 @@ length-column set place =
     length-map set.rules (λ (r : RuleView). get_or r.fields (field_at set.layout place).field (Mask 0 0))
 
 module _ (set : RuleSetView) (place number : ℕ) (held : IsHeld set number) (edge : Edge) where
-  at_column : FieldPlace
-  at_column = field_at set.layout place
-
   value_is : value_in (column_at set place) (entry_of number edge)
       ≡ get_or (values_of set number) (field_at set.layout place).field (Mask 0 0)
   value_is = ap (λ n. get_or (column_at set place).values n (Mask 0 0)) (number_in-entry_of number edge)

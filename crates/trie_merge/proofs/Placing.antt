@@ -1,6 +1,6 @@
 -- All kept places of a group, one after the other.
 use Rattle.std.proofs.Common.{◌≡◌, ℕ, ◌+◌, ◌<◌, ◌≤◌, ◌==◌, List, [], ◌∷◌, ◌++◌, length, map, get_or, true, false}
-use Rattle.std.proofs.Common.{cond, true≢false, Option, Some, None, refl, sym, ◌∙◌, ap, subst, inl, inr, arith}
+use Rattle.std.proofs.Common.{Bool, cond, true≢false, Option, Some, None, refl, sym, ◌∙◌, ap, subst, inl, inr, arith}
 use Rattle.std.specs.Prelude.{All}
 use Rattle.std.specs.List.{AllByRecursion}
 use Rattle.std.proofs.lemmas.Bool.{cases_lt, eq-eqb, ne_eqb, lt-ltb, le-ltb, ltb-true}
@@ -11,7 +11,6 @@ use Rattle.shared_parts.specs.declared.pieces.Piece.{Piece}
 use Rattle.shared_parts.specs.declared.target.Target.{Target}
 use Rattle.shared_parts.specs.declared.target.Target.TheVariants.{Parts, Rows}
 use Rattle.shared_parts.specs.RowsView.{RowsView}
-use Rattle.shared_parts.specs.Keys.{has_entry}
 use Rattle.shared_parts.specs.Target.{count, HasEntry}
 use Rattle.trie_merge.specs.declared.run.Run.{Run}
 use Rattle.trie_merge.specs.Cuts.{CanAsk, CanGoOn}
@@ -21,6 +20,7 @@ use Rattle.trie_merge.specs.Laws.{IsGrouped}
 use Rattle.trie_merge.specs.Led.{AllLed, ComesFrom}
 use Rattle.trie_merge.specs.Levels.{levels_of}
 use Rattle.trie_merge.specs.Lists.{level_found, least_words, IsMergedWithin}
+use Rattle.trie_merge.specs.Merged.{PlaceMerged}
 use Rattle.trie_merge.specs.Shared.{RuleTree, AreIn, ArePlaced, IsFor}
 use Rattle.trie_merge.specs.State.{is_live}
 use Rattle.trie_merge.specs.Started.{IsStarted, AreRows}
@@ -51,6 +51,45 @@ pub none_asked : (next : Option ColumnView) (target : Target) → ((entry : ℕ)
     → CanAsk next target
 none_asked None target none = tt
 none_asked (Some next) target none = λ entry has. absurd (none entry has)
+
+-- the parts that a call lends are those that there are
+same_parts : (target : Target) (pairs lent : List (ℕ × ℕ)) → target ≡ Parts pairs → target ≡ Parts lent → lent ≡ pairs
+same_parts target pairs lent is of = (let same : Parts lent ≡ Parts pairs = sym of ∙ is in cc)
+
+-- what merging the states of a place gives
+pub merged_place : (set : RuleSetView) (column : ColumnView) (is_last : Bool) (cap before : ℕ) (target : Target)
+    (pairs lent : List (ℕ × ℕ)) → target ≡ Parts pairs → target ≡ Parts lent → (states : List ℕ) (old new : Target)
+    (found : List ℕ) (runs : List (List Run)) (words : ℕ) → IsFor set is_last old → ((entry : ℕ) → HasEntry old entry → ⊥)
+    → (steps : List (List Piece)) → AllLed column lent old new steps
+    → ((group : List ℕ) (tree : RuleTree) (lists : List (List ℕ)) → IsFor set is_last old
+    → ArePlaced set group tree lent lists states
+    → IsMergedWithin set column is_last cap before lists runs words
+    × AreIn set new tree (level_found set column is_last lists) found) → All (λ n. (0 < n) × (n ≤ count new)) found
+    → PlaceMerged set column is_last cap before pairs states new found runs words
+merged_place set column is_last cap before target pairs lent is of states old new found runs words kind none steps led
+    merged inside =
+    subst (λ ps. PlaceMerged set column is_last cap before ps states new found runs words)
+    (same_parts target pairs lent is of)
+    (record {
+      old = old;
+      kind = kind;
+      none = none;
+      steps = steps;
+      led = led;
+      merged = λ group tree lists placed. merged group tree lists kind placed;
+      inside = inside;
+    })
+
+pub over_place : (set : RuleSetView) (column : ColumnView) (next : Option ColumnView) (is_last : Bool) (cap before : ℕ)
+    (target : Target) (pairs lent : List (ℕ × ℕ)) → target ≡ Parts pairs → target ≡ Parts lent → (states : List ℕ)
+    (old : Target) → IsFor set is_last old
+    → ((group : List ℕ) (tree : RuleTree) (lists : List (List ℕ)) → IsFor set is_last old
+    → ArePlaced set group tree lent lists states → cap < least_words set column next is_last before lists)
+    → (group : List ℕ) (tree : RuleTree) (lists : List (List ℕ)) → ArePlaced set group tree pairs lists states
+    → cap < least_words set column next is_last before lists
+over_place set column next is_last cap before target pairs lent is of states old kind past group tree lists placed =
+    past group tree lists kind
+    (subst (λ ps. ArePlaced set group tree ps lists states) (sym (same_parts target pairs lent is of)) placed)
 
 module _ (set : RuleSetView) (group : List ℕ) (held : AllByRecursion (IsHeld set) group) (some : 0 < length group)
     (key : 0 < key_len_of set.layout) where
@@ -90,104 +129,89 @@ module _ (set : RuleSetView) (group : List ℕ) (held : AllByRecursion (IsHeld s
       live_of (rule ∷ rules) h = refl
 
   module _ (cap place : ℕ) (levels : List (List (List Run))) (target : Target) (numbers : List ℕ) (words : ℕ)
-      (so_far : Placed set group cap place levels target numbers words) (below : place < length places)
-      (pairs : List (ℕ × ℕ)) (is : target ≡ Parts pairs) (grouped : IsGrouped set group) where
+      (so_far : Placed set group cap place levels target numbers words) (below : place < length places) where
     abbrev here : ℕ
     here = get_or places place 0
 
-    its_entry : (entry : ℕ) → has_entry pairs entry ≡ true → EntryOf set group here entry
-    its_entry entry has =
-        so_far.entries below entry (subst (λ t. HasEntry t entry) (sym is) has)
-
     -- the entries can be asked
-    pub parts_can_step : (entry : ℕ) → has_entry pairs entry ≡ true → CanStep (column_at set here) entry
+    pub parts_can_step : (entry : ℕ) → HasEntry target entry → CanStep (column_at set here) entry
     parts_can_step entry has =
-        entry_can_ask set here entry (place_inside set group held some key place below) (its_entry entry has).at
+        entry_can_ask set here entry (place_inside set group held some key place below) (so_far.entries below entry has).at
 
-    -- and what they become at the next place
-    next_entry : place + 1 < length places → (entry : ℕ) → ComesFrom (column_at set here) pairs entry
-        → EntryOf set group (get_or places (place + 1) 0) entry
-    next_entry more entry (before, has, after) =
-        entry_after set group here (get_or places (place + 1) 0) (gap_next set group held some key place below more)
-        before entry (its_entry before has) after
+    module _ (pairs : List (ℕ × ℕ)) (is : target ≡ Parts pairs) where
+      -- and what they become at the next place
+      next_entry : place + 1 < length places → (entry : ℕ) → ComesFrom (column_at set here) pairs entry
+          → EntryOf set group (get_or places (place + 1) 0) entry
+      next_entry more entry (before, has, after) =
+          entry_after set group here (get_or places (place + 1) 0) (gap_next set group held some key place below more)
+          before entry (so_far.entries below before (subst (λ t. HasEntry t before) (sym is) has)) after
 
-    pub parts_go_on : CanGoOn (next_of set places place) (column_at set here) pairs
-    parts_go_on = elim (cases_lt (place + 2) (length places)) [
-      | inl more ↦
-          subst (λ next. CanGoOn next (column_at set here) pairs)
-          (sym (ap (λ b. cond b (Some (column_at set (get_or places (place + 1) 0))) None)
-          (lt-ltb (place + 2) (length places) more)))
-          (λ entry comes. entry_can_ask set (get_or places (place + 1) 0) entry
-          (place_inside set group held some key (place + 1) (omega (arith, more)))
-          (next_entry (omega (arith, more)) entry comes).at)
-      | inr end ↦
-          subst (λ next. CanGoOn next (column_at set here) pairs)
-          (sym (ap (λ b. cond b (Some (column_at set (get_or places (place + 1) 0))) None)
-          (le-ltb (place + 2) (length places) end))) tt
-    ]
+      pub parts_go_on : CanGoOn (next_of set places place) (column_at set here) pairs
+      parts_go_on = elim (cases_lt (place + 2) (length places)) [
+        | inl more ↦
+            subst (λ next. CanGoOn next (column_at set here) pairs)
+            (sym (ap (λ b. cond b (Some (column_at set (get_or places (place + 1) 0))) None)
+            (lt-ltb (place + 2) (length places) more)))
+            (λ entry comes. entry_can_ask set (get_or places (place + 1) 0) entry
+            (place_inside set group held some key (place + 1) (omega (arith, more)))
+            (next_entry (omega (arith, more)) entry comes).at)
+        | inr end ↦
+            subst (λ next. CanGoOn next (column_at set here) pairs)
+            (sym (ap (λ b. cond b (Some (column_at set (get_or places (place + 1) 0))) None)
+            (le-ltb (place + 2) (length places) end))) tt
+      ]
 
-    pub its_numbers : All (λ n. (0 < n) × (n ≤ length pairs)) numbers
-    its_numbers = subst (λ t. All (λ n. (0 < n) × (n ≤ count t)) numbers) is so_far.inside
-
-    placed : ArePlaced set group so_far.tree pairs so_far.lists numbers
-    placed = record {
-      grouped = grouped;
-      rules = so_far.rules;
-      each = subst (λ t. AreIn set t so_far.tree so_far.lists numbers) is so_far.each;
-    }
-
-    -- the next place
-    pub placed_on : (old new : Target) (steps : List (List Piece)) (its_runs : List (List Run)) (found : List ℕ)
-        (words' : ℕ) → IsFor set (place + 1 == length places) old → ((entry : ℕ) → HasEntry old entry → ⊥)
-        → AllLed (column_at set (get_or places place 0)) pairs old new steps
-        → ((s : RuleSetView) (g : List ℕ) (tree : RuleTree) (lists : List (List ℕ))
-        → IsFor s (place + 1 == length places) old → ArePlaced s g tree pairs lists numbers
-        → IsMergedWithin s (column_at set (get_or places place 0)) (place + 1 == length places) cap words lists its_runs
-        words'
-        × AreIn s new tree (level_found s (column_at set (get_or places place 0)) (place + 1 == length places) lists)
-        found) → All (λ n. (0 < n) × (n ≤ count new)) found
-        → Placed set group cap (place + 1) (levels ++ its_runs ∷ []) new found words'
-    placed_on old new steps its_runs found words' for none led merged inside =
-        let both = merged set group so_far.tree so_far.lists for placed in
-        let kind : IsFor set (place + 1 == length places) new =
-        for_grows set (place + 1 == length places) old new led.grows for in
-        record {
-          lists = level_found set (column_at set (get_or places place 0)) (place + 1 == length places) so_far.lists;
-          tree = so_far.tree;
+      module _ (grouped : IsGrouped set group) where
+        placed : ArePlaced set group so_far.tree pairs so_far.lists numbers
+        placed = record {
+          grouped = grouped;
           rules = so_far.rules;
-          walked = walk_on set group held some key cap place levels so_far.lists words so_far.walked below its_runs
-              words' both.0;
-          each = both.1;
-          inside = inside;
-          parts = λ more. parts_of new kind (ne_eqb (place + 1) (length places) (λ e. omega (arith, e, more)));
-          entries = λ more entry has. elim (led.entries entry has) [
-            | inl was ↦ absurd (none entry was)
-            | inr comes ↦ next_entry more entry comes
-          ];
-          rows = λ end. rows_of_kind new kind (eq-eqb (place + 1) (length places) (omega (arith, end, below)));
+          each = subst (λ t. AreIn set t so_far.tree so_far.lists numbers) is so_far.each;
         }
-      where
-        parts_of : (t : Target) → IsFor set (place + 1 == length places) t → (place + 1 == length places) ≡ false
-            → (ps : List (ℕ × ℕ)) × (t ≡ Parts ps)
-        parts_of (Parts ps) k last = (ps, refl)
-        parts_of (Rows rows) k last = absurd (true≢false (sym k.0 ∙ last))
 
-        rows_of_kind : (t : Target) → IsFor set (place + 1 == length places) t → (place + 1 == length places) ≡ true
-            → (rows : RowsView) × (t ≡ Rows rows)
-        rows_of_kind (Parts ps) k last = absurd (true≢false (sym last ∙ k))
-        rows_of_kind (Rows rows) k last = (rows, refl)
+        -- the next place
+        pub placed_on : (new : Target) (its_runs : List (List Run)) (found : List ℕ) (words' : ℕ)
+            → PlaceMerged set (column_at set (get_or places place 0)) (place + 1 == length places) cap words pairs numbers
+            new found its_runs words'
+            → Placed set group cap (place + 1) (levels ++ its_runs ∷ []) new found words'
+        placed_on new its_runs found words' its =
+            let both = its.merged group so_far.tree so_far.lists placed in
+            let kind : IsFor set (place + 1 == length places) new =
+            for_grows set (place + 1 == length places) its.old new its.led.grows its.kind in
+            record {
+              lists = level_found set (column_at set (get_or places place 0)) (place + 1 == length places) so_far.lists;
+              tree = so_far.tree;
+              rules = so_far.rules;
+              walked = walk_on set group held some key cap place levels so_far.lists words so_far.walked below its_runs
+                  words' both.0;
+              each = both.1;
+              inside = its.inside;
+              parts = λ more. parts_of new kind (ne_eqb (place + 1) (length places) (λ e. omega (arith, e, more)));
+              entries = λ more entry has. elim (its.led.entries entry has) [
+                | inl was ↦ absurd (its.none entry was)
+                | inr comes ↦ next_entry more entry comes
+              ];
+              rows = λ end. rows_of_kind new kind (eq-eqb (place + 1) (length places) (omega (arith, end, below)));
+            }
+          where
+            parts_of : (t : Target) → IsFor set (place + 1 == length places) t → (place + 1 == length places) ≡ false
+                → (ps : List (ℕ × ℕ)) × (t ≡ Parts ps)
+            parts_of (Parts ps) k last = (ps, refl)
+            parts_of (Rows rows) k last = absurd (true≢false (sym k.0 ∙ last))
 
-    -- or too many words
-    pub placed_over : (old : Target) → IsFor set (place + 1 == length places) old
-        → ((s : RuleSetView) (g : List ℕ) (tree : RuleTree) (lists : List (List ℕ))
-        → IsFor s (place + 1 == length places) old → ArePlaced s g tree pairs lists numbers
-        → cap < least_words s (column_at set (get_or places place 0)) (next_of set places place)
-        (place + 1 == length places) words lists)
-        → cap < (levels_of set group).words
-    unfolding levels_of
-    placed_over old for over =
-        walk_over set group held some key cap place levels so_far.lists words so_far.walked below
-        (over set group so_far.tree so_far.lists for placed)
+            rows_of_kind : (t : Target) → IsFor set (place + 1 == length places) t → (place + 1 == length places) ≡ true
+                → (rows : RowsView) × (t ≡ Rows rows)
+            rows_of_kind (Parts ps) k last = absurd (true≢false (sym last ∙ k))
+            rows_of_kind (Rows rows) k last = (rows, refl)
+
+        -- or too many words
+        pub placed_over : ((g : List ℕ) (tree : RuleTree) (lists : List (List ℕ)) → ArePlaced set g tree pairs lists numbers
+            → cap < least_words set (column_at set (get_or places place 0)) (next_of set places place)
+            (place + 1 == length places) words lists) → cap < (levels_of set group).words
+        unfolding levels_of
+        placed_over over =
+            walk_over set group held some key cap place levels so_far.lists words so_far.walked below
+            (over group so_far.tree so_far.lists placed)
 
   pub placed_end : (cap place : ℕ) (levels : List (List (List Run))) (target : Target) (numbers : List ℕ) (words : ℕ)
       → Placed set group cap place levels target numbers words → length places ≤ place

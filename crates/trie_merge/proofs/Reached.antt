@@ -275,24 +275,54 @@ pub record IsGap (set : RuleSetView) (group : List ℕ) (place next : ℕ) : Typ
   pub wild : (between : ℕ) → place < between → between < next → is_wild_place set group between ≡ true
 
 module _ (set : RuleSetView) (group : List ℕ) (held : AllByRecursion (IsHeld set) group) where
-  -- bytes 0 at places at which all rules are wild leave the entries as they are
+  -- bytes at places at which all rules are wild leave the entries as they are
+  pub bytes_on : (start bytes : List ℕ) → AreBytes start → AreBytes bytes
+      → length start + length bytes ≤ key_len_of set.layout →
+      ((gap : ℕ) → gap < length bytes → is_wild_place set group (length start + gap) ≡ true)
+      → packed_state set group (start ++ bytes) ≡ packed_state set group start
+  bytes_on start [] are more within wild = ap (packed_state set group) (append-nil start)
+  bytes_on start (byte ∷ bytes) are more within wild =
+      let longer : length (start ++ byte ∷ []) ≡ length start + 1 = length-append start (byte ∷ []) in
+      ap (packed_state set group) (sym (append_assoc start (byte ∷ []) bytes))
+      ∙ bytes_on (start ++ byte ∷ []) bytes (bytes_push start byte are more.0) more.1 (omega (arith, longer))
+      (λ gap below. (let e : length (start ++ byte ∷ []) + gap ≡ length start + suc gap = omega (arith, longer) in
+      ap (is_wild_place set group) e ∙ wild (suc gap) (omega arith)))
+      ∙ packed_state_wild set group start byte held are more.0 (omega arith)
+      ((let e : length start + 0 ≡ length start = omega arith in ap (is_wild_place set group) (sym e))
+      ∙ wild 0 (omega arith))
+
+  -- and so do some bytes 0
   pub zeros_on : (key : List ℕ) (count : ℕ) → AreBytes key → length key + count ≤ key_len_of set.layout →
       ((gap : ℕ) → gap < count → is_wild_place set group (length key + gap) ≡ true)
       → packed_state set group (key ++ replicate count 0) ≡ packed_state set group key
-  zeros_on key zero small within wild = ap (packed_state set group) (append-nil key)
-  zeros_on key (suc count) small within wild =
-      let long : length (key ++ 0 ∷ []) ≡ length key + 1 = length-append key (0 ∷ []) in
-      ap (packed_state set group) (sym (append_assoc key (0 ∷ []) (replicate count 0)))
-      ∙ zeros_on (key ++ 0 ∷ []) count (bytes_push key 0 small (omega arith)) (omega (arith, long))
-      (λ gap below. (let e : length (key ++ 0 ∷ []) + gap ≡ length key + suc gap = omega (arith, long) in
-      ap (is_wild_place set group) e ∙ wild (suc gap) (omega arith)))
-      ∙ packed_state_wild set group key 0 held small (omega arith) (omega arith)
-      ((let e : length key + 0 ≡ length key = omega arith in ap (is_wild_place set group) (sym e))
-      ∙ wild 0 (omega arith))
+  zeros_on key count small within wild =
+      let long : length (replicate count 0) ≡ count = length-replicate {A = ℕ} count 0 in
+      bytes_on key (replicate count 0) small (zeros_small count) (omega (arith, within, long))
+      (λ gap below. wild gap (omega (arith, below, long)))
 
   module _ (place next : ℕ) (gap : IsGap set group place next) where
-    gap_len : ℕ
-    gap_len = next - place - 1
+    abbrev zeros : List ℕ
+    zeros = replicate (next - place - 1) 0
+
+    zeros_long : length zeros ≡ next - place - 1
+    zeros_long = length-replicate {A = ℕ} (next - place - 1) 0
+
+    -- a byte and bytes 0 after a prefix of the place make one of the next place
+    all_long : (key : List ℕ) (byte : ℕ) → IsPrefix place key → byte < 256 → length ((key ++ byte ∷ []) ++ zeros) ≡ next
+    all_long key byte is below =
+        length-append (key ++ byte ∷ []) zeros
+        ∙ omega (arith, (prefix_push place key byte is below).1, zeros_long, gap.rises)
+
+    -- with the entries after the byte
+    same_entries : (key : List ℕ) (byte : ℕ) → IsPrefix place key → byte < 256
+        → packed_state set group ((key ++ byte ∷ []) ++ zeros)
+        ≡ entries_step (column_at set place) (packed_state set group key) byte
+    same_entries key byte is below =
+        let more = prefix_push place key byte is below in
+        zeros_on (key ++ byte ∷ []) (next - place - 1) more.0 (omega (arith, more.1, gap.rises, gap.within))
+        (λ g under. gap.wild (length (key ++ byte ∷ []) + g) (omega (arith, more.1)) (omega (arith, more.1)))
+        ∙ packed_state_steps set group key byte held (omega (arith, is.1, gap.rises, gap.within)) below
+        ∙ ap (λ n. entries_step (column_at set n) (packed_state set group key) byte) is.1
 
     -- the entries after a byte at the place stand for what its state reaches
     pub reached_is : (key : List ℕ) (byte : ℕ) → IsPrefix place key → byte < 256 →
@@ -300,25 +330,13 @@ module _ (set : RuleSetView) (group : List ℕ) (held : AllByRecursion (IsHeld s
         ≡ map (decoded set next) (entries_step (column_at set place) (packed_state set group key) byte)
     unfolding reached
     reached_is key byte is below =
-        let zeros : List ℕ = replicate (next - place - 1) 0 in
-        let longer : List ℕ = key ++ byte ∷ [] in
-        let long : length longer ≡ place + 1 = (prefix_push place key byte is below).1 in
-        let whole : length (longer ++ zeros) ≡ next = length-append longer zeros
-        ∙ omega (arith, long, length-replicate {A = ℕ} (next - place - 1) 0, gap.rises) in
         let end : length key + length (byte ∷ zeros) ≤ key_len_of set.layout =
-        omega (arith, is.1, length-replicate {A = ℕ} (next - place - 1) 0, gap.rises, gap.within) in
-        let same : packed_state set group (longer ++ zeros)
-        ≡ entries_step (column_at set place) (packed_state set group key) byte =
-        zeros_on longer (next - place - 1) (prefix_push place key byte is below).0
-        (omega (arith, long, gap.rises, gap.within))
-        (λ g under. gap.wild (length longer + g) (omega (arith, long)) (omega (arith, long)))
-        ∙ packed_state_steps set group key byte held (omega (arith, is.1, gap.rises, gap.within)) below
-        ∙ ap (λ n. entries_step (column_at set n) (packed_state set group key) byte) is.1 in
+        omega (arith, is.1, zeros_long, gap.rises, gap.within) in
         (λ i. state_through set (sym is.1 i) (start key is i) (byte ∷ zeros))
         ∙ sym (state_goes_through set group key (byte ∷ zeros) held (below, zeros_small (next - place - 1)) end)
         ∙ ap (state set group) (sym (append_assoc key (byte ∷ []) zeros))
-        ∙ state_is set group (longer ++ zeros) held
-        ∙ (λ i. map (decoded set (whole i)) (same i))
+        ∙ state_is set group ((key ++ byte ∷ []) ++ zeros) held
+        ∙ (λ i. map (decoded set (all_long key byte is below i)) (same_entries key byte is below i))
       where
         start : (k : List ℕ) → IsPrefix place k → map (decoded set place) (packed_state set group k) ≡ state set group k
         start k is = sym (state_is set group k held ∙ ap (λ n. map (decoded set n) (packed_state set group k)) is.1)
@@ -327,22 +345,11 @@ module _ (set : RuleSetView) (group : List ℕ) (held : AllByRecursion (IsHeld s
     pub entries_next : (key : List ℕ) (byte : ℕ) → IsPrefix place key → byte < 256
         → AllByRecursion (IsEntryAt set next) (entries_step (column_at set place) (packed_state set group key) byte)
     entries_next key byte is below =
-        let zeros : List ℕ = replicate (next - place - 1) 0 in
-        let longer : List ℕ = key ++ byte ∷ [] in
-        let long : length longer ≡ place + 1 = (prefix_push place key byte is below).1 in
-        let whole : length (longer ++ zeros) ≡ next = length-append longer zeros
-        ∙ omega (arith, long, length-replicate {A = ℕ} (next - place - 1) 0, gap.rises) in
-        let same : packed_state set group (longer ++ zeros)
-        ≡ entries_step (column_at set place) (packed_state set group key) byte =
-        zeros_on longer (next - place - 1) (prefix_push place key byte is below).0
-        (omega (arith, long, gap.rises, gap.within))
-        (λ g under. gap.wild (length longer + g) (omega (arith, long)) (omega (arith, long)))
-        ∙ packed_state_steps set group key byte held (omega (arith, is.1, gap.rises, gap.within)) below
-        ∙ ap (λ n. entries_step (column_at set n) (packed_state set group key) byte) is.1 in
-        subst (AllByRecursion (IsEntryAt set next)) same
-        (subst (λ n. AllByRecursion (IsEntryAt set n) (packed_state set group (longer ++ zeros))) whole
-        (packed_entries set group (longer ++ zeros) held
-        (all-append (λ b. b < 256) longer zeros (prefix_push place key byte is below).0
+        subst (AllByRecursion (IsEntryAt set next)) (same_entries key byte is below)
+        (subst (λ n. AllByRecursion (IsEntryAt set n) (packed_state set group ((key ++ byte ∷ []) ++ zeros)))
+        (all_long key byte is below)
+        (packed_entries set group ((key ++ byte ∷ []) ++ zeros) held
+        (all-append (λ b. b < 256) (key ++ byte ∷ []) zeros (prefix_push place key byte is below).0
         (zeros_small (next - place - 1)))))
 
     -- the entries of the next kept place are found from those of the place

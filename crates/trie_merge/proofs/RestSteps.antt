@@ -1,7 +1,6 @@
 -- The rest of a whole rule goes step by step, and so does the state of a group.
 use Rattle.std.proofs.Common.{◌≡◌, ℕ, ◌+◌, ◌-◌, ◌*◌, ◌<◌, ◌≤◌, List, [], ◌∷◌, ◌++◌, length, take, drop, Bool, true}
 use Rattle.std.proofs.Common.{false, cond, ltb, eqb, Option, Some, None, refl, sym, ◌∙◌, ap, inl, inr, arith}
-use Rattle.std.proofs.Common.{length-append}
 use Rattle.std.specs.Option.{option_map, option_and_then}
 use Rattle.std.specs.List.{AllZip, AllByRecursion, cons_option}
 use Rattle.std.proofs.lemmas.List.{length-drop, drop-append-le, take-append-le, take_all, drop_all, append_assoc}
@@ -19,11 +18,8 @@ use Rattle.node_expand.specs.Rest.{Rest, live_where, rest_after, rest_step}
 use Rattle.node_expand.proofs.Offered.{rest_whole, rest_steps}
 use Rattle.trie_merge.specs.RuleRest.{values_rest, values_step, values_of, rule_rest, rule_step}
 use Rattle.trie_merge.specs.State.{Held, state, state_step, state_through}
-use Rattle.trie_merge.proofs.Packed.{AreBytes, number_push}
+use Rattle.trie_merge.proofs.Packed.{AreBytes, number_push, length_one_more}
 use Rattle.trie_merge.proofs.PackedState.{IsHeld}
-
-length_one_more : (bytes : List ℕ) (byte : ℕ) → length (bytes ++ byte ∷ []) ≡ length bytes + 1
-length_one_more bytes byte = length-append bytes (byte ∷ [])
 
 module _ (def : FieldDef) (defs : List FieldDef) (value : FieldValue) (values : List FieldValue) (key : List ℕ) where
   rest_in : length key < def.size

@@ -6,7 +6,7 @@ use Rattle.std.specs.List.{list_any, AllByRecursion, range_with_len, Contains}
 use Rattle.std.specs.List.Sorted.{IsStrictlyIncreasing}
 use Rattle.std.specs.Option.{option_map_or}
 use Rattle.std.specs.Str.{bytes_eq}
-use Rattle.std.proofs.lemmas.Bool.{cases_Bool, cases_eq, cases_lt, eq-eqb, ne_eqb}
+use Rattle.std.proofs.lemmas.Bool.{cases_Bool, cases_eq, cases_lt, eq-eqb, ne_eqb, or_right}
 use Rattle.std.proofs.lemmas.List.{length-map, ext_get_or}
 use Rattle.std.proofs.lemmas.List.FromFn.{get_or-map-range_with_len}
 use Rattle.std.proofs.lemmas.Option.{slice_get-get_or}
@@ -92,14 +92,10 @@ module _ (set : RuleSetView) where
               upper = (omega (arith, more), rest.upper);
               reached = elim rest.reached [
                 | inl none ↦ inl none
-                | inr one ↦ inr (one.0, later (e == one.0) one.1, one.2, one.3)
+                | inr one ↦ inr (one.0, or_right (e == one.0) _ one.1, one.2, one.3)
               ];
             }))
       ])
-    where
-      later : (a : Bool) {b : Bool} → b ≡ true → (a || b) ≡ true
-      later true is = refl
-      later false is = is
 
 -- ---- the rule of greatest rank wins
 

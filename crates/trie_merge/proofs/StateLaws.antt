@@ -1,9 +1,9 @@
 -- The laws of states.
-use Rattle.std.proofs.Common.{◌≡◌, ℕ, ◌+◌, ◌<◌, ◌==◌, List, [], ◌∷◌, ◌++◌, length, map, take, drop, get_or, Bool, true}
-use Rattle.std.proofs.Common.{false, cond, not, replicate, ◌-◌, ◌&&◌, ◌||◌, Some, None, refl, sym, ◌∙◌, ap, subst, arith, length-append}
+use Rattle.std.proofs.Common.{◌≡◌, ℕ, ◌+◌, ◌<◌, List, [], ◌∷◌, ◌++◌, length, map, take, drop, get_or, Bool, true}
+use Rattle.std.proofs.Common.{false, cond, replicate, ◌-◌, ◌&&◌, Some, None, refl, sym, ◌∙◌, ap, subst, arith, length-append}
 use Rattle.std.specs.List.{AllByRecursion, flat_map}
 use Rattle.std.specs.Str.{bytes_eq}
-use Rattle.std.proofs.lemmas.Bool.{cond-false, le-ltb, eq-eqb}
+use Rattle.std.proofs.lemmas.Bool.{cond-false, le-ltb}
 use Rattle.std.proofs.lemmas.List.{length-drop, drop_more}
 use Rattle.std.proofs.lemmas.List.Folds.{flat_map-map}
 use Rattle.std.proofs.lemmas.List.Elements.{All-from_recursion}
@@ -19,7 +19,7 @@ use Rattle.node_expand.specs.Rest.{Live}
 use Rattle.trie_merge.specs.RuleRest.{values_rest}
 use Rattle.trie_merge.specs.State.{Held, state, state_step, state_through, same_state, is_live}
 use Rattle.trie_merge.specs.Found.{found_in, all_bytes}
-use Rattle.trie_merge.specs.Kept.{group_of, is_wild_place, is_idle, kept_places}
+use Rattle.trie_merge.specs.Kept.{is_wild_place, kept_places}
 use Rattle.trie_merge.specs.Levels.{states_at, reached}
 use Rattle.trie_merge.specs.Entry.{column_at, entries_step}
 use Rattle.trie_merge.specs.Lists.{level_found, successor}
@@ -32,7 +32,7 @@ use Rattle.trie_merge.proofs.RestSteps.{state_goes_on}
 use Rattle.trie_merge.proofs.Reached.{IsGap, IsPrefix, packed_at, packed_next, states_are, all_packed, all_weaker}
 use Rattle.trie_merge.proofs.Reached.{all-map, all-flat_map, map_same, flat_map_same, map-map, map-flat_map}
 use Rattle.trie_merge.proofs.Reached.{bytes_below, reached_is, entries_next}
-use Rattle.trie_merge.proofs.Gaps.{Gaps, each, kept_places_first}
+use Rattle.trie_merge.proofs.Gaps.{Gaps, idle_is_wild, kept_places_first}
 use Rattle.trie_merge.proofs.Walk.{group_held, gaps_after}
 
 pub whole_keys_are_live_where_they_match : WholeKeysAreLiveWhereTheyMatch
@@ -124,15 +124,6 @@ states_of_each_place_lead_on set group place is within =
     ∙ ap (λ count. found_in same_state is_live
     (flat_map (λ before. map (λ byte. state_through set place before (byte ∷ replicate count 0)) all_bytes)
     (states_at set group place))) none
-
--- a place of an idle group is wild
-idle_is_wild : (set : RuleSetView) (group : List ℕ) (place : ℕ) → place < key_len_of set.layout
-    → is_idle set group (group_of place) ≡ true → is_wild_place set group place ≡ true
-unfolding is_idle
-idle_is_wild set group place within idle =
-    let here = each (λ k. not (group_of k == group_of place) || is_wild_place set group k) 0 (key_len_of set.layout)
-    idle place (omega arith) (omega arith) in
-    sym (ap (λ b. not b || is_wild_place set group place) (eq-eqb (group_of place) (group_of place) refl)) ∙ here
 
 pub idle_bytes_lead_to_one_state : IdleBytesLeadToOneState
 idle_bytes_lead_to_one_state set group place one other is within idle one_below other_below =

@@ -6,7 +6,7 @@ use Rattle.std.specs.Prelude.{nat_eq}
 use Rattle.std.specs.List.{filter_map, cons_option, find, list_any}
 use Rattle.std.specs.Option.{option_and_then}
 use Rattle.std.specs.Str.{bytes_eq}
-use Rattle.std.proofs.lemmas.Bool.{cases_eq, eq-eqb, ne_eqb, eqb-true, lt-ltb, le-ltb}
+use Rattle.std.proofs.lemmas.Bool.{cases_eq, eq-eqb, ne_eqb, eqb-true, lt-ltb, le-ltb, or_right}
 use Rattle.std.proofs.lemmas.List.Folds.{list_any-append}
 use Rattle.shared_parts.specs.Tree.{Tree, leaves, Stands, stepped}
 use Rattle.shared_parts.specs.Tree.Tree.{Leaf, Node}
@@ -61,12 +61,8 @@ same_on (Node left right) f g same = (
       ∙ ap (λ b. b || list_any (λ r. r == rule) (leaves right)) there)),
   same_on right f g (λ rule there. same rule
       (list_any-append (λ r. r == rule) (leaves left) (leaves right)
-      ∙ after (list_any (λ r. r == rule) (leaves left)) there)),
+      ∙ or_right (list_any (λ r. r == rule) (leaves left)) _ there)),
 )
-  where
-    after : (a : Bool) {b : Bool} → b ≡ true → (a || b) ≡ true
-    after true is = refl
-    after false is = is
 
 -- equal entries of the rules make equal lists
 same_listed : (f g : ℕ → Option ℕ) (rules : List ℕ)
@@ -74,11 +70,7 @@ same_listed : (f g : ℕ → Option ℕ) (rules : List ℕ)
 same_listed f g [] same = refl
 same_listed f g (rule ∷ rules) same = λ i.
     cons_option (same rule (ap (λ b. b || list_any (λ r. r == rule) rules) (eq-eqb rule rule refl)) i)
-    (same_listed f g rules (λ other there. same other (later (rule == other) there)) i)
-  where
-    later : (a : Bool) {b : Bool} → b ≡ true → (a || b) ≡ true
-    later true is = refl
-    later false is = is
+    (same_listed f g rules (λ other there. same other (or_right (rule == other) _ there)) i)
 
 module _ (f g : ℕ → Option ℕ) (own_f : AreOwn f) (own_g : AreOwn g) where
   -- and equal lists are of equal entries

@@ -7,7 +7,7 @@ use Rattle.std.proofs.lemmas.List.{length-append}
 use Rattle.std.proofs.lemmas.List.FromFn.{length-range_with_len, get_or-range_with_len}
 use Rattle.std.proofs.lemmas.List.Sums.{fold-append}
 use Rattle.std.proofs.lemmas.List.Elements.{filter-append}
-use Rattle.std.proofs.lemmas.Bool.{cases_Bool, cases_eq, ne_eqb, eq-eqb}
+use Rattle.std.proofs.lemmas.Bool.{cases_Bool, cases_eq, ne_eqb, eq-eqb, or_right}
 use Rattle.trie_merge.specs.declared.run.Run.{Run}
 use Rattle.trie_merge.specs.declared.run.Succ.{Succ}
 use Rattle.trie_merge.specs.declared.run.Succ.TheVariants.{Dead, State, Row}
@@ -84,11 +84,7 @@ no_end succ byte below same =
     (λ i. ne_eqb byte 255 (omega arith) i || not (same i))
 
 an_end : (succ : ℕ → Succ) (byte : ℕ) → same_succ (succ byte) (succ (byte + 1)) ≡ false → is_end succ byte ≡ true
-an_end succ byte other = ap (λ b. byte == 255 || not b) other ∙ or_true (byte == 255)
-  where
-    or_true : (a : Bool) → (a || true) ≡ true
-    or_true true = refl
-    or_true false = refl
+an_end succ byte other = ap (λ b. byte == 255 || not b) other ∙ or_right (byte == 255) true refl
 
 -- a run more where the next byte has another successor, and else none
 one_more_run : (f : ℕ → Succ) (old_runs runs : List Run) (byte : ℕ) (succ : Succ) (same : Bool) → byte < 255 →

@@ -1,6 +1,7 @@
 -- Bytes of one interval make the same of a state.
+use Rattle.std.proofs.lemmas.Bool.{or_parts}
 use Rattle.std.proofs.Common.{◌≡◌, ℕ, ◌+◌, ◌-◌, List, [], ◌∷◌}
-use Rattle.std.proofs.Common.{Bool, true, false, ◌||◌, true≢false, refl, ◌∙◌}
+use Rattle.std.proofs.Common.{false, refl, ◌∙◌}
 use Rattle.std.proofs.Common.{ap, arith}
 use Rattle.std.specs.List.{list_any, cons_option}
 use Rattle.std.specs.Option.{option_map}
@@ -40,19 +41,9 @@ pub entries_uncut : (column : ColumnView) (entries : List ℕ) (byte : ℕ)
 unfolding entries_step
 entries_uncut column [] byte uncut = refl
 entries_uncut column (entry ∷ entries) byte uncut =
-    let here : is_entry_cut column entry (byte + 1) ≡ false =
-    left (is_entry_cut column entry (byte + 1)) (list_any (λ e. is_entry_cut column e (byte + 1)) entries) uncut in
-    let rest : list_any (λ e. is_entry_cut column e (byte + 1)) entries ≡ false =
-    right (is_entry_cut column entry (byte + 1)) (list_any (λ e. is_entry_cut column e (byte + 1)) entries) uncut in
-    λ i. cons_option (entry_uncut column entry byte here i) (entries_uncut column entries byte rest i)
-  where
-    left : (a b : Bool) → (a || b) ≡ false → a ≡ false
-    left true b h = absurd (true≢false h)
-    left false b h = refl
-
-    right : (a b : Bool) → (a || b) ≡ false → b ≡ false
-    right true b h = absurd (true≢false h)
-    right false b h = h
+    let parts = or_parts (is_entry_cut column entry (byte + 1))
+    (list_any (λ e. is_entry_cut column e (byte + 1)) entries) uncut in
+    λ i. cons_option (entry_uncut column entry byte parts.0 i) (entries_uncut column entries byte parts.1 i)
 
 -- the number of an entry
 pub number_in-entry_of : (number : ℕ) (edge : Edge) → number_in (entry_of number edge) ≡ number

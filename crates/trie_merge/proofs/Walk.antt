@@ -2,7 +2,7 @@
 use Rattle.std.proofs.Common.{◌≡◌, ℕ, zero, suc, ◌+◌, ◌-◌, ◌*◌, ◌<◌, ◌≤◌, ◌==◌, List, [], ◌∷◌, ◌++◌, length, map, drop}
 use Rattle.std.proofs.Common.{get_or, Bool, true, false, cond, Some, None, true≢false, refl, sym, ◌∙◌, ap}
 use Rattle.std.proofs.Common.{subst, inl, inr, arith}
-use Rattle.std.specs.Prelude.{All, nat_le}
+use Rattle.std.specs.Prelude.{All}
 use Rattle.std.specs.List.{AllByRecursion}
 use Rattle.std.specs.Str.{bytes_eq}
 use Rattle.std.proofs.lemmas.Bool.{cases_eq, eq-eqb, ne_eqb, lt-ltb, le-ltb}
@@ -20,20 +20,18 @@ use Rattle.trie_merge.specs.State.{Held, state, is_live}
 use Rattle.trie_merge.specs.Found.{found_with, found_in, prefixes}
 use Rattle.trie_merge.specs.Kept.{is_wild_place, kept_places}
 use Rattle.trie_merge.specs.Row.{row_of, final_row, rows_of}
-use Rattle.table_sizes.specs.Sizes.{cost_of, few_runs, full_len, row_len}
+use Rattle.table_sizes.specs.Sizes.{cost_of, row_len}
 use Rattle.trie_merge.specs.Levels.{states_at, level_runs, words_of, levels_of}
 use Rattle.trie_merge.specs.Walk.{next_of, IsWalk}
-use Rattle.trie_merge.specs.RuleRest.{values_of}
-use Rattle.trie_merge.specs.Entry.{ColumnView, entry_of, field_at, column_at, CanStep}
+use Rattle.trie_merge.specs.Entry.{entry_of, column_at}
 use Rattle.trie_merge.specs.Lists.{level_found, state_runs, states_words, least_cost, least_words}
 use Rattle.trie_merge.specs.Lists.{IsMergedWithin}
 use Rattle.trie_merge.proofs.Ahead.{words_are_ahead}
-use Rattle.trie_merge.proofs.Merging.{least_cost_flat, least_cost_known}
-use Rattle.trie_merge.proofs.Packed.{Stands, packed_stands}
-use Rattle.trie_merge.proofs.PackedState.{IsHeld, IsEntryAt, packed_state, packed_state_start, packed_entries, decoded}
-use Rattle.trie_merge.proofs.PackedState.{is_held, entry_can_step}
+use Rattle.trie_merge.proofs.Merging.{cost_some, least_cost_flat, least_cost_known}
+use Rattle.trie_merge.proofs.PackedState.{IsHeld, packed_state, packed_state_start, decoded}
+use Rattle.trie_merge.proofs.PackedState.{is_held}
 use Rattle.trie_merge.proofs.Reached.{IsPrefix, packed_at, packed_next, packed_past_all, runs_next, runs_last, rows_are}
-use Rattle.trie_merge.proofs.Reached.{states_are, all_packed, all_weaker, all-map, prefixes_are}
+use Rattle.trie_merge.proofs.Reached.{states_are, all_weaker, all-map, prefixes_are}
 use Rattle.trie_merge.proofs.Finds.{All-found_in}
 use Rattle.trie_merge.proofs.Categories.{length-categories}
 use Rattle.trie_merge.proofs.Reached.{IsGap}
@@ -47,28 +45,6 @@ group_held set group held layout within =
     (recursion_from_All (λ number. number < length set.rules) group within)
 
 module _ (set : RuleSetView) (group : List ℕ) (held : AllByRecursion (IsHeld set) group) where
-  -- all entries after a prefix of a place can be asked about its bytes
-  key_can_step : (place : ℕ) → place < key_len_of set.layout → (key : List ℕ) → IsPrefix place key →
-      AllByRecursion (CanStep (column_at set place)) (packed_state set group key)
-  key_can_step place within key is =
-      all_weaker (IsEntryAt set place) (CanStep (column_at set place)) (packed_state set group key) one
-      (subst (λ n. AllByRecursion (IsEntryAt set n) (packed_state set group key)) is.1
-      (packed_entries set group key held is.0))
-    where
-      one : (entry : ℕ) → IsEntryAt set place entry → CanStep (column_at set place) entry
-      one entry at =
-          subst (CanStep (column_at set place)) (sym at.is)
-          (entry_can_step set place at.number at.held at.edge
-          (subst (λ n. Stands (values_of set at.number) (field_at set.layout n) at.edge) at.long
-          (packed_stands set.layout (values_of set at.number) at.key at.edge at.held.lawful at.bytes
-          (omega (arith, at.long, within)) at.packed)))
-
-  -- so can all of the place's states
-  pub all_can_step : (place : ℕ) → place < key_len_of set.layout
-      → AllByRecursion (AllByRecursion (CanStep (column_at set place))) (packed_at set group place)
-  all_can_step place within =
-      all_packed set group place (AllByRecursion (CanStep (column_at set place))) (key_can_step place within)
-
   packed_at_zero : (entry : ℕ) (entries : List ℕ) → packed_state set group [] ≡ entry ∷ entries
       → packed_at set group 0 ≡ (entry ∷ entries) ∷ []
   unfolding packed_at found_in prefixes
@@ -129,22 +105,13 @@ module _ (set : RuleSetView) (group : List ℕ) (held : AllByRecursion (IsHeld s
         rows = λ h. absurd (omega arith);
       })
 
--- a state takes a word at least
-cost_some : (count : ℕ) → 0 < cost_of count
-cost_some count = by (count == 1) (nat_le count few_runs)
-  where
-    by : (a b : Bool) → 0 < cond a 1 (cond b few_runs full_len)
-    by true b = omega arith
-    by false true = omega arith
-    by false false = omega arith
-
 states_some : (states : List (List Run)) → length states ≤ states_words states
 states_some [] = omega arith
 states_some (runs ∷ states) =
     omega (
       arith,
       states_some states,
-      cost_some (length runs),
+      (cost_some (length runs)).0,
       sum_by-cons (λ (r : List Run). cost_of (length r)) runs
           states,
     )
@@ -260,9 +227,6 @@ module _ (set : RuleSetView) (group : List ℕ) (held : AllByRecursion (IsHeld s
         ∙ sum
 
   module _ (place : ℕ) (below : place < length places) where
-    abbrev column_here : ColumnView
-    column_here = column_at set (get_or places place 0)
-
     abbrev next_place : ℕ
     next_place = get_or places (place + 1) 0
 
@@ -357,9 +321,6 @@ module _ (set : RuleSetView) (group : List ℕ) (held : AllByRecursion (IsHeld s
 
   module _ (cap place : ℕ) (levels : List (List (List Run))) (lists : List (List ℕ)) (words : ℕ)
       (so_far : Walked set group cap place levels lists words) (below : place < length places) where
-    pub place_within : get_or places place 0 < key_len_of set.layout
-    place_within = place_inside place below
-
     -- what is found at the place
     abbrev pub found_lists : List (List ℕ)
     found_lists = level_found set (column_at set (get_or places place 0)) (place + 1 == length places) lists

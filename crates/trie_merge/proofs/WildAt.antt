@@ -1,5 +1,6 @@
 -- The value of the field that has a place.
-use Rattle.std.proofs.Common.{◌≡◌, ℕ, suc, ◌-◌, ◌<◌, List, [], ◌∷◌, length, get_or, refl, sym, ◌∙◌, ap, subst, inl, inr}
+use Rattle.list_lemmas.proofs.Elements.{length-AllZip}
+use Rattle.std.proofs.Common.{◌≡◌, ℕ, ◌-◌, ◌<◌, List, [], ◌∷◌, length, get_or, sym, ◌∙◌, ap, subst, inl, inr}
 use Rattle.std.proofs.Common.{None, arith}
 use Rattle.std.specs.List.{AllZip}
 use Rattle.std.proofs.lemmas.List.Sums.{sum_by-cons}
@@ -21,10 +22,7 @@ use Rattle.trie_merge.proofs.Packed.{field_at_in, field_at_after, further_value}
 -- there are as many values as fields
 pub length-zipped : (defs : List FieldDef) (values : List FieldValue) → AllZip IsLawfulValue defs values
     → length values ≡ length defs
-length-zipped [] [] lawful = refl
-length-zipped [] (v ∷ vs) lawful = absurd lawful
-length-zipped (d ∷ ds) [] lawful = absurd lawful
-length-zipped (d ∷ ds) (v ∷ vs) lawful = ap suc (length-zipped ds vs lawful.1)
+length-zipped defs values lawful = length-AllZip IsLawfulValue defs values lawful
 
 -- The value can be asked about the numbers of its field's size, and whether it is wild says so of the place.
 pub record IsValueAt (defs : List FieldDef) (values : List FieldValue) (place : ℕ) (at : FieldPlace) : Type 0 where

@@ -1,6 +1,7 @@
 -- The kept groups by the places that are wild.
-use Rattle.std.proofs.Common.{◌≡◌, ℕ, zero, suc, ◌+◌, ◌-◌, ◌^◌, ◌<◌, ◌≤◌, ◌==◌, List, [], ◌∷◌, length, map, filter}
-use Rattle.std.proofs.Common.{get_or, Bool, true, cond, not, ◌&&◌, ◌||◌, refl, ◌∙◌, ap, arith}
+use Rattle.std.proofs.lemmas.List.Elements.{filter_agree}
+use Rattle.std.proofs.Common.{◌≡◌, ℕ, zero, suc, ◌+◌, ◌-◌, ◌^◌, ◌<◌, ◌≤◌, ◌==◌, List, length, map, filter}
+use Rattle.std.proofs.Common.{get_or, Bool, true, not, ◌&&◌, ◌||◌, refl, ◌∙◌, ap, arith}
 use Rattle.std.specs.List.{range_with_len, list_all, sum_by}
 use Rattle.std.proofs.lemmas.List.{length-map}
 use Rattle.std.proofs.lemmas.List.Folds.{list_all-map}
@@ -16,10 +17,6 @@ all_alike p q first zero same = refl
 all_alike p q first (suc count) same =
     λ i. same first (omega arith) (omega arith) i && all_alike p q (first + 1) count
     (λ k from below. same k (omega arith) (omega arith)) i
-
-filter_alike : {X : Type 0} (p q : X → Bool) → ((x : X) → p x ≡ q x) → (xs : List X) → filter p xs ≡ filter q xs
-filter_alike p q same [] = refl
-filter_alike p q same (x ∷ xs) = λ i. cond (same x i) (x ∷ filter_alike p q same xs i) (filter_alike p q same xs i)
 
 module _ (set : RuleSetView) (group : List ℕ) where
   abbrev wild : List Bool
@@ -48,7 +45,7 @@ module _ (set : RuleSetView) (group : List ℕ) where
   unfolding places_by kept_places
   places_say =
       ap (λ n. filter (λ place. is_kept_by wild (group_of place)) (range_with_len 0 n)) length-wild
-      ∙ filter_alike (λ place. is_kept_by wild (group_of place)) (λ place. is_kept set group (group_of place))
+      ∙ filter_agree (λ place. is_kept_by wild (group_of place)) (λ place. is_kept set group (group_of place))
       (λ place. kept_says (group_of place)) (key_places set)
 
   pub bits_say : bits_by wild ≡ kept_bits set group
@@ -57,5 +54,5 @@ module _ (set : RuleSetView) (group : List ℕ) where
       ap (λ n. sum_by (λ input. 2 ^ input) (filter (is_kept_by wild) (range_with_len 0 (1 + group_of (n - 1)))))
       length-wild
       ∙ ap (sum_by (λ input. 2 ^ input))
-      (filter_alike (is_kept_by wild) (is_kept set group) kept_says
+      (filter_agree (is_kept_by wild) (is_kept set group) kept_says
       (range_with_len 0 (1 + group_of (key_len_of set.layout - 1))))

@@ -12,15 +12,19 @@ ghost use Rattle.trie_merge.specs.Levels.{IsGroup, levels_of};
 ghost use Rattle.trie_merge.specs.Row.{rows_of};
 ghost use Rattle.trie_merge.specs.Walk.{next_of, IsWalk};
 ghost use Rattle.trie_merge.specs.Started.{IsStarted, AreRows};
-ghost use Rattle.trie_merge.specs.Shared.{IsFor};
-ghost use Rattle.shared_parts.specs.Target.{HasEntry};
+ghost use Rattle.trie_merge.specs.Shared.{RuleTree, ArePlaced, IsFor};
+ghost use Rattle.shared_parts.specs.Target.{count, HasEntry};
+ghost use Rattle.trie_merge.specs.Cuts.{CanGoOn};
+ghost use Rattle.trie_merge.specs.Entry.{CanStep};
+ghost use Rattle.trie_merge.specs.Lists.{least_words};
+ghost use Rattle.trie_merge.specs.Merged.{PlaceMerged};
 ghost use Rattle.shared_parts.specs.Slices.{pieces_of, IsPieces};
 
 use crate::column::Column;
 use crate::entry::entry_of;
 use crate::kept::Kept;
 use crate::levels::{Level, Levels};
-use crate::merge::{Budget, MergeFault, Pieces, Place, Reached, merge_states};
+use crate::merge::{Budget, MergeFault, Merged, Place, Reached, merge_states};
 use crate::names::{name_rows, names_of, rank_rules};
 use crate::order::order_rules;
 use indexmap::IndexSet;
@@ -67,6 +71,34 @@ struct Walked {
     levels: Vec<Level>,
     reached: Reached,
     words: u64,
+}
+
+impl Walked {
+    ghost use Rattle.std.specs.Prelude.{◌≡◌, ◌++◌, ◌∷◌, [], length, OnOk};
+    ghost use Rattle.shared_parts.specs.Slices.{pieces_of, IsPieces};
+
+    /// Goes on to what the states of one more place come to.
+    fn push(&mut self, merged: Merged) -> Result<(), AllocError>
+        requires { IsPieces 0 merged.pieces.ends.items (length merged.pieces.runs.items) }
+        ensures levels { OnOk result (self.new.levels.items ≡ self.old.levels.items
+            ++ pieces_of merged.pieces.runs.items 0 merged.pieces.ends.items ∷ []) }
+        ensures target { OnOk result (self.new.reached.target ≡ merged.reached.target) }
+        ensures found { OnOk result
+            (self.new.reached.found.keys ≡ merged.reached.found.keys) }
+        ensures words { OnOk result (self.new.words ≡ merged.words) }
+    {
+        self.reached = merged.reached;
+        self.words = merged.words;
+        self.levels.push(Level::new(merged.pieces))?;
+        Ok(())
+    }
+
+    /// The runs of the states of the places.
+    fn into_levels(self) -> Vec<Level>
+        ensures { result.items ≡ self.levels.items }
+    {
+        self.levels
+    }
 }
 
 /// The next kept place, where that isn't the last one.
@@ -121,14 +153,51 @@ fn start_target(alloc: Global, rules: &RuleSet, is_last: bool) -> Result<Target,
     Ok(Target::Parts(Parts::new(alloc)))
 }
 
-/// Puts the level of the pieces after the others.
-fn push_level(levels: &mut Vec<Level>, pieces: Pieces) -> Result<(), AllocError>
-    requires { IsPieces 0 pieces.ends.items (length pieces.runs.items) }
-    ensures { OnOk result (levels.new.items
-        ≡ levels.old.items ++ pieces_of pieces.runs.items 0 pieces.ends.items ∷ []) }
+/// Merges the states of the kept place of that number.
+fn merge_place(
+    alloc: Global,
+    rules: &RuleSet,
+    places: &[usize],
+    j: usize,
+    budget: Budget,
+    reached: &Reached,
+) -> Result<Merged, MergeFault>
+    requires places { (k : ℕ) → k < length places.now
+        → slice_index_or places.now k 0 < key_len_of rules.now.layout }
+    requires j { j < length places.now }
+    requires cap { budget.cap ≤ max_words }
+    requires before { budget.before ≤ budget.cap }
+    requires parts { (pairs : List (ℕ × ℕ)) × (reached.now.target ≡ Target.Parts pairs) }
+    requires states { All (λ state. (0 < state) × (state ≤ count reached.now.target))
+        reached.now.found.keys }
+    requires can { (entry : ℕ) → HasEntry reached.now.target entry →
+        CanStep (column_at rules.now (slice_index_or places.now j 0)) entry }
+    requires go_on { (pairs : List (ℕ × ℕ)) → reached.now.target ≡ Target.Parts pairs →
+        CanGoOn (next_of rules.now places.now j)
+        (column_at rules.now (slice_index_or places.now j 0)) pairs }
+    ensures merged { IfOk result (λ merged. (pairs : List (ℕ × ℕ)) →
+        reached.now.target ≡ Target.Parts pairs →
+        PlaceMerged rules.now (column_at rules.now (slice_index_or places.now j 0))
+        (j + 1 == length places.now) budget.cap budget.before pairs reached.now.found.keys
+        merged.reached.target merged.reached.found.keys
+        (pieces_of merged.pieces.runs.items 0 merged.pieces.ends.items) merged.words) }
+    ensures pieces { IfOk result
+        (λ merged. IsPieces 0 merged.pieces.ends.items (length merged.pieces.runs.items)) }
+    ensures over { (result ≡ Err MergeFault.OverCap) → (pairs : List (ℕ × ℕ)) →
+        reached.now.target ≡ Target.Parts pairs →
+        (group : List ℕ) (tree : RuleTree) (lists : List (List ℕ)) →
+        ArePlaced rules.now group tree pairs lists reached.now.found.keys →
+        budget.cap < least_words rules.now
+        (column_at rules.now (slice_index_or places.now j 0)) (next_of rules.now places.now j)
+        (j + 1 == length places.now) budget.before lists }
 {
-    levels.push(Level::new(pieces))?;
-    Ok(())
+    let place = place_at(alloc, rules, places, j)?;
+    let target = start_target(alloc, rules, place.is_last)?;
+    let states = reached.found.as_slice();
+    match merge_states(alloc, &place, budget, reached.parts(), states, target) {
+        Ok(merged) => Ok(merged),
+        Err(fault) => Err(fault),
+    }
 }
 
 /// Merges the states of the places, one place after the other.
@@ -149,28 +218,41 @@ fn merge_places(
         (λ its. AreRows rules.now group.now its.reached.target its.reached.found.keys) }
     ensures over { (result ≡ Err MergeFault.OverCap) → cap < (levels_of rules.now group.now).words }
 {
-    let mut levels = Vec::new(alloc);
-    let mut reached = start;
-    let mut words = 0;
+    let mut walked = Walked {
+        levels: Vec::new(alloc),
+        reached: start,
+        words: 0,
+    };
     for j in 0..places.len() {
-        let place = place_at(alloc, rules, places, j)?;
-        let target = start_target(alloc, rules, place.is_last)?;
-        let budget = Budget { cap, before: words };
-        let states = reached.found.as_slice();
-        let parts = reached.parts();
-        let merged = match merge_states(alloc, &place, budget, parts, states, target) {
+        let before = walked.words;
+        let budget = Budget { cap, before };
+        let merged = match merge_place(alloc, rules, places, j, budget, &walked.reached) {
             Ok(merged) => merged,
             Err(fault) => return Err(fault),
         };
-        words = merged.words;
-        reached = merged.reached;
-        push_level(&mut levels, merged.pieces)?;
+        walked.push(merged)?;
     }
-    Ok(Walked {
-        levels,
-        reached,
-        words,
-    })
+    Ok(walked)
+}
+
+/// Merges the states of the places, from the one before the first byte on.
+fn walk(
+    alloc: Global,
+    rules: &RuleSet,
+    group: &[u32],
+    cap: u64,
+    places: &[usize],
+) -> Result<Walked, MergeFault>
+    requires group { IsGrouped rules.now group.now }
+    requires cap { cap ≤ max_words }
+    requires places { places.now ≡ kept_places rules.now group.now }
+    ensures walk { IfOk result (λ its. IsWalk rules.now group.now cap its.levels.items its.words) }
+    ensures rows { IfOk result
+        (λ its. AreRows rules.now group.now its.reached.target its.reached.found.keys) }
+    ensures over { (result ≡ Err MergeFault.OverCap) → cap < (levels_of rules.now group.now).words }
+{
+    let start = start(alloc, rules, group)?;
+    merge_places(alloc, rules, group, cap, places, start)
 }
 
 impl Levels {
@@ -198,50 +280,75 @@ impl Levels {
         ensures over { (result ≡ Err MergeFault.OverCap)
             → cap < (levels_of rules.now group.now).words }
     {
-        let prepared = prepare(alloc, rules, group)?;
-        let kept = prepared.kept;
+        let kept = keep(alloc, rules, group)?;
         let places = kept.places.as_slice();
-        let walked = match merge_places(alloc, rules, group, cap, places, prepared.start) {
+        let walked = match walk(alloc, rules, group, cap, places) {
             Ok(walked) => walked,
             Err(fault) => return Err(fault),
         };
-        let rows = finish_rows(alloc, rules, group, &walked.reached)?;
-        let mut members = Vec::with_capacity(alloc, group.len())?;
-        members.extend_from_slice(group)?;
-        let words = walked.words + (ROW_LEN * rows.len()) as u64;
-        Ok(Levels {
-            kept: kept.bits,
-            group: members,
-            levels: walked.levels,
-            rows,
-            words,
-        })
+        let levels = finish(alloc, rules, group, kept.bits, walked)?;
+        Ok(levels)
     }
 }
 
-/// What is made before the first place is merged.
-#[derive(Drop)]
-struct Prepared {
-    kept: Kept,
-    start: Reached,
-}
-
-/// The kept places, and the state before the first byte.
-fn prepare(alloc: Global, rules: &RuleSet, group: &[u32]) -> Result<Prepared, AllocError>
+/// The kept places of the group.
+fn keep(alloc: Global, rules: &RuleSet, group: &[u32]) -> Result<Kept, AllocError>
     requires { IsGroup rules.now group.now }
     ensures group { IsGrouped rules.now group.now }
-    ensures places { IfOk result
-        (λ prepared. prepared.kept.places.items ≡ kept_places rules.now group.now) }
-    ensures bits { IfOk result (λ prepared. prepared.kept.bits ≡ kept_bits rules.now group.now) }
-    ensures start { IfOk result
-        (λ prepared. IsStarted group.now prepared.start.target prepared.start.found.keys) }
+    ensures places { IfOk result (λ kept. kept.places.items ≡ kept_places rules.now group.now) }
+    ensures bits { IfOk result (λ kept. kept.bits ≡ kept_bits rules.now group.now) }
 {
     let _rules = rules.all();
     let _fields = rules.layout().fields();
     let kept = Kept::new(alloc, rules, group)?;
+    Ok(kept)
+}
+
+/// The state before the first byte.
+fn start(alloc: Global, rules: &RuleSet, group: &[u32]) -> Result<Reached, AllocError>
+    requires { IsGrouped rules.now group.now }
+    ensures { IfOk result
+        (λ reached. IsStarted group.now reached.target reached.found.keys) }
+{
+    let _rules = rules.all();
     let order = order_rules(alloc, rules, group)?;
     let start = start_states(alloc, order.as_slice())?;
-    Ok(Prepared { kept, start })
+    Ok(start)
+}
+
+/// The merged states, once all places are merged.
+fn finish(
+    alloc: Global,
+    rules: &RuleSet,
+    group: &[u32],
+    kept: u128,
+    walked: Walked,
+) -> Result<Levels, AllocError>
+    requires group { IsGrouped rules.now group.now }
+    requires kept { kept ≡ kept_bits rules.now group.now }
+    requires walk { IsWalk rules.now group.now max_words walked.levels.items walked.words }
+    requires rows { AreRows rules.now group.now walked.reached.target walked.reached.found.keys }
+    ensures { IfOk result (λ levels. levels ≡ levels_of rules.now group.now) }
+{
+    let rows = finish_rows(alloc, rules, group, &walked.reached)?;
+    let members = copied(alloc, group)?;
+    let words = walked.words + (ROW_LEN * rows.len()) as u64;
+    Ok(Levels {
+        kept,
+        group: members,
+        levels: walked.into_levels(),
+        rows,
+        words,
+    })
+}
+
+/// The numbers as a list of their own.
+fn copied(alloc: Global, numbers: &[u32]) -> Result<Vec<u32>, AllocError>
+    ensures { IfOk result (λ copy. copy.items ≡ numbers.now) }
+{
+    let mut copy = Vec::with_capacity(alloc, numbers.len())?;
+    copy.extend_from_slice(numbers)?;
+    Ok(copy)
 }
 
 /// The rows that are found at the end.

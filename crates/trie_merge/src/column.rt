@@ -17,8 +17,6 @@ use std::marker::Model;
 #[derive(Drop)]
 pub(crate) struct Column {
     values: Vec<FieldValue>,
-    /// Whether a free rest of each of them stays free, which tells the most of the entries.
-    stay_free: Vec<bool>,
     size: u8,
     place: u8,
 }
@@ -55,23 +53,20 @@ pub(crate) fn field_at(defs: &[FieldDef], place: usize) -> FieldPlace
 }
 
 /// Whether a free rest of the value, of which no end is inner, stays free after each byte at the
-/// place.
-fn stays_free(value: &FieldValue, at: FieldPlace) -> bool
-    requires { CanMatch value.now at.size }
-    ensures { result ≡ stays_free at.size at.place value.now }
+/// place of a field of that size.
+fn stays_free(value: &FieldValue, size: u8, place: u8) -> bool
+    requires { CanMatch value.now size }
+    ensures { result ≡ stays_free size place value.now }
 {
-    is_wild(value, at.size) || (at.place > 0 && value.kind() != FieldKind::Bitmask)
+    is_wild(value, size) || (place > 0 && value.kind() != FieldKind::Bitmask)
 }
 
 impl Model for Column {
-    ghost use Rattle.std.specs.Prelude.{◌≡◌, map};
-    ghost use Rattle.trie_merge.specs.Entry.{ColumnView, stays_free};
+    ghost use Rattle.trie_merge.specs.Entry.{ColumnView};
 
     ghost Value = { ColumnView };
 
     ghost view = { λ c. record { values = c.values.items; size = c.size; place = c.place } };
-
-    ghost invariant = { λ c. c.stay_free.items ≡ map (stays_free c.size c.place) c.values.items };
 }
 
 impl Column {
@@ -83,7 +78,7 @@ impl Column {
 
     /// What the place of the key has of each rule.
     ///
-    /// It takes memory for a value and a truth value of each rule.
+    /// It takes memory for a value of each rule.
     #[tactic(auto, unfolding(crate::specs::Entry::column_at))]
     pub(crate) fn new(alloc: Global, rules: &RuleSet, place: usize) -> Result<Self, AllocError>
         requires { place < key_len_of rules.now.layout }
@@ -91,15 +86,11 @@ impl Column {
     {
         let at = field_at(rules.layout().fields(), place);
         let mut values = Vec::with_capacity(alloc, rules.len())?;
-        let mut stay_free = Vec::with_capacity(alloc, rules.len())?;
         for i in 0..rules.len() {
-            let value = rules.at(i).fields()[at.field];
-            stay_free.push(stays_free(&value, at))?;
-            values.push(value)?;
+            values.push(rules.at(i).fields()[at.field])?;
         }
         Ok(Column {
             values,
-            stay_free,
             size: at.size,
             place: at.place,
         })
@@ -148,7 +139,7 @@ impl Column {
         ensures uncut { result ≡ true → (byte : ℕ) → byte < 256
             → is_entry_cut self.now entry byte ≡ false }
     {
-        is_free(entry) && self.stay_free[number_in(entry) as usize]
+        is_free(entry) && stays_free(self.value(entry), self.size, self.place)
     }
 
     /// The last byte up to which the entry becomes what it becomes after the byte: the one before

@@ -15,7 +15,7 @@ ghost use Rattle.rule_set.specs.Rule.{RuleSetView};
 ghost use Rattle.trie_merge.specs.Led.{StepsLed, AllLed};
 ghost use Rattle.table_sizes.specs.Sizes.{cost_of, max_words, row_len};
 ghost use Rattle.trie_merge.specs.Lists.{level_found, price, least_cost, least_words, IsMergedWithin};
-ghost use Rattle.trie_merge.specs.Merged.{StateMerged};
+ghost use Rattle.trie_merge.specs.Merged.{StateMerged, StateAdded};
 ghost use Rattle.shared_parts.specs.Slices.{pieces_of, IsPieces};
 ghost use Rattle.trie_merge.specs.Shared.{RuleTree, IsIn, AreIn, ArePlaced, IsFor};
 
@@ -271,6 +271,127 @@ fn price_all(
     Ok(words)
 }
 
+/// What the states of one place come to so far.
+#[derive(Drop)]
+struct Progress {
+    work: Work,
+    pieces: Pieces,
+    /// The words before the place, and those of its states so far.
+    words: u64,
+    /// How many words what they lead to takes at least.
+    least: u64,
+}
+
+impl Progress {
+    ghost use Rattle.std.specs.Prelude.{◌≡◌, [], length};
+
+    /// Before the first state.
+    fn new(alloc: Global, target: Target, before: u64) -> Self
+        ensures steps { result.work.steps ≡ [] }
+        ensures target { result.work.target ≡ target }
+        ensures found { length result.work.found.keys ≡ 0 }
+        ensures cuts { result.work.cuts.items ≡ [] }
+        ensures runs { result.pieces.runs.items ≡ [] }
+        ensures ends { result.pieces.ends.items ≡ [] }
+        ensures words { result.words ≡ before }
+        ensures least { result.least ≡ 0 }
+    {
+        Progress {
+            work: Work {
+                steps: Steps::new(alloc),
+                target,
+                found: IndexSet::new(alloc),
+                cuts: Vec::new(alloc),
+                buffer: Vec::new(alloc),
+            },
+            pieces: Pieces {
+                runs: Vec::new(alloc),
+                ends: Vec::new(alloc),
+            },
+            words: before,
+            least: 0,
+        }
+    }
+
+    /// After the last state.
+    fn finish(self) -> Merged
+        ensures runs { result.pieces.runs.items ≡ self.pieces.runs.items }
+        ensures ends { result.pieces.ends.items ≡ self.pieces.ends.items }
+        ensures target { result.reached.target ≡ self.work.target }
+        ensures found { result.reached.found.keys ≡ self.work.found.keys }
+        ensures words { result.words ≡ self.words }
+    {
+        let work = self.work;
+        Merged {
+            pieces: self.pieces,
+            reached: Reached {
+                target: work.target,
+                found: work.found,
+            },
+            words: self.words,
+        }
+    }
+}
+
+/// Merges one more state, and counts its words and the least that what it leads to takes.
+fn merge_next(
+    place: &Place,
+    parts: &Parts,
+    state: u32,
+    progress: &mut Progress,
+) -> Result<(), AllocError>
+    requires some { 0 < state }
+    requires state { state ≤ length parts.now }
+    requires can { (entry : ℕ) → has_entry parts.now entry ≡ true → CanStep place.now.column entry }
+    requires led { StepsLed place.now.column parts.now progress.old.work.target
+        progress.old.work.steps }
+    requires room { length progress.old.work.found.keys + 256 < 2 ^ 32 }
+    requires pieces { IsPieces 0 progress.old.pieces.ends.items
+        (length progress.old.pieces.runs.items) }
+    requires inside { All (λ number. (0 < number) × (number ≤ count progress.old.work.target))
+        progress.old.work.found.keys }
+    requires last { place.now.is_last ≡ true → place.now.next ≡ None }
+    requires go_on { CanGoOn place.now.next place.now.column parts.now }
+    requires ask { CanAsk place.now.next progress.old.work.target }
+    requires cuts { CutsFor place.now.next progress.old.work.target progress.old.work.cuts.items }
+    requires bound { progress.old.words + progress.old.least ≤ max_words }
+    ensures led { OnOk result (AllLed place.now.column parts.now progress.old.work.target
+        progress.new.work.target progress.new.work.steps) }
+    ensures added { OnOk result (StateAdded place.now.column place.now.next place.now.is_last
+        parts.now progress.new.work.target progress.old.work.found.keys
+        progress.new.work.found.keys
+        (pieces_of progress.old.pieces.runs.items 0 progress.old.pieces.ends.items)
+        (pieces_of progress.new.pieces.runs.items 0 progress.new.pieces.ends.items) state
+        progress.old.words progress.new.words progress.old.least progress.new.least) }
+    ensures pieces { OnOk result (IsPieces 0 progress.new.pieces.ends.items
+        (length progress.new.pieces.runs.items)) }
+    ensures bound { OnOk result (progress.new.words + progress.new.least
+        ≤ progress.old.words + progress.old.least + 65792) }
+    ensures ask { OnOk result (CanAsk place.now.next progress.new.work.target) }
+    ensures cuts { OnOk result
+        (CutsFor place.now.next progress.new.work.target progress.new.work.cuts.items) }
+{
+    let seen = progress.work.found.len();
+    let cost = merge_state(
+        place,
+        parts,
+        state,
+        &mut progress.work,
+        &mut progress.pieces,
+    )?;
+    let work = &mut progress.work;
+    let more = price_all(
+        place,
+        &work.target,
+        &mut work.cuts,
+        work.found.as_slice(),
+        seen,
+    )?;
+    progress.words += cost;
+    progress.least += more;
+    Ok(())
+}
+
 /// Merges the states of one place.
 ///
 /// It ends as soon as the words so far, and what is found takes at least, exceed the cap.
@@ -311,36 +432,12 @@ pub(crate) fn merge_states(
 {
     rule_set::laws::ranks_order_rules();
     rule_set::laws::the_best_has_the_greatest_rank();
-    let mut work = Work {
-        steps: Steps::new(alloc),
-        target,
-        found: IndexSet::new(alloc),
-        cuts: Vec::new(alloc),
-        buffer: Vec::new(alloc),
-    };
-    let mut pieces = Pieces {
-        runs: Vec::new(alloc),
-        ends: Vec::new(alloc),
-    };
-    let mut words = budget.before;
-    let mut least = 0;
+    let mut progress = Progress::new(alloc, target, budget.before);
     for state in states {
-        let seen = work.found.len();
-        let cost = merge_state(place, parts, *state, &mut work, &mut pieces)?;
-        words += cost;
-        let found = work.found.as_slice();
-        let more = price_all(place, &work.target, &mut work.cuts, found, seen)?;
-        least += more;
-        if words + least > budget.cap {
+        merge_next(place, parts, *state, &mut progress)?;
+        if progress.words + progress.least > budget.cap {
             return Err(MergeFault::OverCap);
         }
     }
-    Ok(Merged {
-        pieces,
-        reached: Reached {
-            target: work.target,
-            found: work.found,
-        },
-        words,
-    })
+    Ok(progress.finish())
 }

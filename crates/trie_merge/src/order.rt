@@ -2,24 +2,17 @@
 //!
 //! Every order gives the same states. Where rules that let the same bytes through stand side by
 //! side, a part of the tree has few different rests, and more states share it. So rules go by their
-//! fields, one after the other: wild values first, then by the least number that a value lets
-//! through, and where that is one, the wider value first.
+//! fields, one after the other: by the least number that a value lets through, and where that is
+//! one, the wider value first. Wild values come first of all.
 
-ghost use Rattle.std.specs.Prelude.{IfOk};
+ghost use Rattle.std.specs.Prelude.{◌≡◌, map, IfOk};
 ghost use Rattle.std.specs.List.Sorted.{IsPermutation};
+ghost use Rattle.trie_merge.specs.declared.order.Keyed.{Keyed};
 
 use field_defs::{FieldDef, FieldValue};
 use rule_set::RuleSet;
 use std::alloc::{AllocError, Global};
 use std::cmp::Ordering;
-
-/// The least and the greatest number of a value, and whether there are numbers outside of them.
-#[derive(Clone, Copy)]
-struct Span {
-    is_bounded: bool,
-    low: u64,
-    high: u64,
-}
 
 /// The greatest number of so many bytes.
 fn greatest(size: u8) -> u64 {
@@ -31,42 +24,86 @@ fn greatest(size: u8) -> u64 {
     }
 }
 
-/// What the value lets through, from its least to its greatest number.
-fn span_of(value: &FieldValue, size: u8) -> Span {
+/// The least and the greatest number that the value lets through.
+fn span_of(value: &FieldValue, size: u8) -> (u64, u64) {
     let all = greatest(size);
-    let (low, high) = match *value {
+    match *value {
         FieldValue::Mask { value, bits } => {
             let free = all.checked_shr(u32::from(bits)).unwrap_or(0);
             (value & !free, value | free)
         }
         FieldValue::Range { low, high } => (low, high),
         FieldValue::Bitmask { value, mask } => (value & mask, value | (all & !mask)),
-    };
-    Span {
-        is_bounded: low > 0 || high < all,
-        low,
-        high,
     }
 }
 
-/// How two values of a field stand to one another.
-fn compare_values(size: u8, one: &FieldValue, other: &FieldValue) -> Ordering {
-    let one = span_of(one, size);
-    let other = span_of(other, size);
-    match one.is_bounded.cmp(&other.is_bounded) {
-        Ordering::Equal => {}
-        differs => return differs,
+/// The value as a number that says where it stands in the order.
+fn key_of(value: &FieldValue, size: u8) -> u128 {
+    let (low, high) = span_of(value, size);
+    u128::from(low) << 64 | u128::from(!high)
+}
+
+/// A rule, and where the keys of its values begin.
+#[derive(Clone, Copy)]
+struct Keyed {
+    number: u32,
+    first: usize,
+}
+
+/// The rules of a group in their own order, and the keys of all their values.
+#[derive(Drop)]
+struct Keys {
+    rules: Vec<Keyed>,
+    keys: Vec<u128>,
+}
+
+/// Puts the keys of a rule's values after those of others.
+fn push_keys(
+    defs: &[FieldDef],
+    values: &[FieldValue],
+    keys: &mut Vec<u128>,
+) -> Result<(), AllocError> {
+    for (def, value) in defs.iter().zip(values) {
+        keys.push(key_of(value, def.size))?;
     }
-    match one.low.cmp(&other.low) {
-        Ordering::Equal => other.high.cmp(&one.high),
-        differs => differs,
+    Ok(())
+}
+
+/// The keys of the rules of the group.
+fn keys_of(alloc: Global, rules: &RuleSet, group: &[u32]) -> Result<Keys, AllocError>
+    ensures { IfOk result
+        (λ keys. map (λ (keyed : Keyed). keyed.number) keys.rules.items ≡ group.now) }
+{
+    let defs = rules.layout().fields();
+    let mut keyed = Vec::with_capacity(alloc, group.len())?;
+    let mut keys = Vec::new(alloc);
+    for number in group {
+        let first = keys.len();
+        keyed.push(Keyed {
+            number: *number,
+            first,
+        })?;
+        if (*number as usize) < rules.len() {
+            push_keys(defs, rules.at(*number as usize).fields(), &mut keys)?;
+        }
+    }
+    Ok(Keys { rules: keyed, keys })
+}
+
+/// The key of that place, or 0.
+#[inline]
+fn key_at(keys: &[u128], place: usize) -> u128 {
+    match keys.get(place) {
+        Some(key) => *key,
+        None => 0,
     }
 }
 
-/// How the values of two rules stand to one another, by the first field that tells.
-fn compare_rules(defs: &[FieldDef], one: &[FieldValue], other: &[FieldValue]) -> Ordering {
-    for ((def, one), other) in defs.iter().zip(one).zip(other) {
-        match compare_values(def.size, one, other) {
+/// How two rules stand to one another, by the first of so many keys that tells.
+fn compare(keys: &[u128], count: usize, one: Keyed, other: Keyed) -> Ordering {
+    for k in 0..count {
+        let its = key_at(keys, one.first.wrapping_add(k));
+        match its.cmp(&key_at(keys, other.first.wrapping_add(k))) {
             Ordering::Equal => {}
             differs => return differs,
         }
@@ -74,18 +111,16 @@ fn compare_rules(defs: &[FieldDef], one: &[FieldValue], other: &[FieldValue]) ->
     Ordering::Equal
 }
 
-/// How two rules of the set stand to one another, by their numbers.
-fn compare(rules: &RuleSet, one: u32, other: u32) -> Ordering {
-    let one = one as usize;
-    let other = other as usize;
-    if one >= rules.len() || other >= rules.len() {
-        return one.cmp(&other);
+/// The numbers of the rules.
+fn numbers_of(alloc: Global, rules: &[Keyed]) -> Result<Vec<u32>, AllocError>
+    ensures { IfOk result
+        (λ numbers. numbers.items ≡ map (λ (keyed : Keyed). keyed.number) rules.now) }
+{
+    let mut numbers = Vec::with_capacity(alloc, rules.len())?;
+    for keyed in rules {
+        numbers.push(keyed.number)?;
     }
-    compare_rules(
-        rules.layout().fields(),
-        rules.at(one).fields(),
-        rules.at(other).fields(),
-    )
+    Ok(numbers)
 }
 
 /// The rules of the group in the order of the leaves.
@@ -96,8 +131,11 @@ pub(crate) fn order_rules(
 ) -> Result<Vec<u32>, AllocError>
     ensures { IfOk result (λ order. IsPermutation group.now order.items) }
 {
-    let mut order = Vec::with_capacity(alloc, group.len())?;
-    order.extend_from_slice(group)?;
-    order.sort_unstable_by(|one, other| compare(rules, *one, *other));
-    Ok(order)
+    let count = rules.layout().fields().len();
+    let keys = keys_of(alloc, rules, group)?;
+    let mut keyed = keys.rules;
+    let all = keys.keys.as_slice();
+    keyed.sort_unstable_by(|one, other| compare(all, count, *one, *other));
+    let numbers = numbers_of(alloc, keyed.as_slice())?;
+    Ok(numbers)
 }

@@ -1,19 +1,17 @@
-use Rattle.std.proofs.Common.{◌≡◌, ◌%◌, true, sym, ◌∙◌, ap, get_or}
+use Rattle.std.proofs.Common.{◌≡◌, ◌%◌, true, sym, ◌∙◌, rules}
 use Rattle.std.proofs.lemmas.Bool.{eqb-true}
 use Rattle.trie_merge.specs.Entry.{stays_free, value_in}
-use Rattle.trie_merge.proofs.Keeping.{kept, uncut, told_by_number}
+use Rattle.trie_merge.proofs.Keeping.{kept, uncut}
 use Rattle.trie_merge.proofs.column.Column.keeps.Goals as goal
 
-stays : (c : goal.After-index) → c.index.result.now ≡ true →
+stays : (c : goal.After-stays_free) → c.stays_free.result ≡ true →
     stays_free c.args.self.now.size c.args.self.now.place (value_in c.args.self.now c.args.entry) ≡ true
 stays c is =
-    let its = c.self.inside in
-    told_by_number its.values.items its.stay_free.items its.size its.place c.args.self.now c.args.entry
-    c.index.result.now c.self.view_is c.self.invariant c.requires.number
-    (ap (λ k. get_or its.stay_free.items k c.index.result.now) (sym c.number_in.ensures)
-    ∙ sym c.index.ensures ∙ is)
+    let size : c.self.inside.size ≡ c.args.self.now.size = search rules in
+    let place : c.self.inside.place ≡ c.args.self.now.place = search rules in
+    sym (λ i. stays_free (size i) (place i) (c.value.ensures i)) ∙ sym c.stays_free.ensures ∙ is
 
-free : (c : goal.After-index) → c.args.entry % 4 ≡ 0
+free : (c : goal.After-stays_free) → c.args.entry % 4 ≡ 0
 free c = eqb-true (c.args.entry % 4) 0 (sym c.is_free.ensures ∙ c.if-is_free.true)
 
 pub returns-then-is_free-clause-step : goal.returns-then-is_free-clause-step

@@ -5,7 +5,7 @@ use Rattle.field_defs.specs.declared.field.FieldValue.{FieldValue}
 use Rattle.field_defs.specs.declared.field.FieldValue.TheVariants.{Mask}
 use Rattle.field_defs.specs.Lawful.{IsLayout}
 use Rattle.rule_set.specs.Rule.{RuleView}
-use Rattle.trie_merge.specs.Entry.{field_at, stays_free}
+use Rattle.trie_merge.specs.Entry.{field_at}
 use Rattle.trie_merge.proofs.WildAt.{value_of_rule}
 use Rattle.trie_merge.proofs.column.Column.new.Goals as goal
 
@@ -18,33 +18,16 @@ bounds-fields-at c =
     at in
     rw c.fields-in-loop-i.ensures its.within
 
-pub stays_free-requires : goal.stays_free-requires
-stays_free-requires c =
-    let layout = c.fields.ensures.fields ∙ c.layout.ensures in
-    let lawful = subst IsLayout c.layout.ensures c.fields.ensures.lawful in
-    let at = c.field_at-at.ensures.at ∙ ap (λ defs. field_at defs c.args.place) layout in
-    let its = value_of_rule c.args.rules.now.layout c.at.result.now c.args.place _ lawful c.at.ensures.lawful c.requires
-    at in
-    rw c.fields-in-loop-i.ensures its.can
-
 pub loop-i-preserved : goal.loop-i-preserved
 loop-i-preserved c =
     let rule = c.at.result.now in
     let at = c.field_at-at.result in
     let rules = c.args.rules.now.rules in
     let f : RuleView → FieldValue = λ r. get_or r.fields at.field (Mask 0 0) in
-    let value : FieldValue = get_or c.fields-in-loop-i.result.now at.field (Mask 0 0) in
     let more : take (c.loop-i.i + 1) rules ≡ take c.loop-i.i rules ++ rule ∷ [] =
     take_more rules c.loop-i.i rule (omega arith)
     ∙ ap (λ r. take c.loop-i.i rules ++ r ∷ [])
     (get_or_from_slice_get rules c.loop-i.i rule rule c.at.ensures.rule) in
-    let pushed : c.push-in-loop-i.new.self.items ≡ c.loop-i.values.items ++ value ∷ [] =
-    c.in_ok-push-2.ensures.items in (
-      pushed
-          ∙ (λ i. c.loop-i.invariant.0 i ++ get_or (c.fields-in-loop-i.ensures i) at.field (Mask 0 0) ∷ [])
-          ∙ sym (ap (map f) more ∙ map_push f (take c.loop-i.i rules) rule),
-      c.in_ok-push.ensures.items
-          ∙ (λ i. c.loop-i.invariant.1 i ++ c.stays_free.ensures i ∷ [])
-          ∙ sym (ap (map (stays_free at.size at.place)) pushed
-          ∙ map_push (stays_free at.size at.place) c.loop-i.values.items value),
-    )
+    c.in_ok-push.ensures.items
+    ∙ (λ i. c.loop-i.invariant i ++ get_or (c.fields-in-loop-i.ensures i) at.field (Mask 0 0) ∷ [])
+    ∙ sym (ap (map f) more ∙ map_push f (take c.loop-i.i rules) rule)
