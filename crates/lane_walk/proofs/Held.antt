@@ -39,10 +39,6 @@ pub no_flights : (flight : Flight) → held_in flight ≡ None → (n : ℕ) →
 no_flights flight none zero = refl
 no_flights flight none (suc n) = λ i. none i ∷ no_flights flight none n i
 
--- the flight of no lane
-abbrev pub no_one : Flight
-no_one = record { key = 0; trie = 0; depth = 0; word = 0 }
-
 -- ---- one lane
 
 one_busy : (slots : List (Option Flight)) (lane : ℕ) → lane < length slots →
@@ -99,13 +95,15 @@ nothing : (held : Option Flight) → is_busy held ≡ false → held ≡ None
 nothing None empty = refl
 nothing (Some flight) empty = absurd (cc empty)
 
-on_of : (flight : Flight) → is_busy (held_in flight) ≡ true → is_match flight.word ≡ false
+-- a lane that is busy keeps no match
+pub on_of : (flight : Flight) → is_busy (held_in flight) ≡ true → is_match flight.word ≡ false
 on_of flight busy = elim (cases_Bool (is_match flight.word)) [
   | inl match ↦ absurd (cc (busy, ap is_busy (held_none flight match)))
   | inr on ↦ on
 ]
 
-slot_is : {jobs given : ℕ} (flights : List Flight) {before : Machine} → seen jobs given flights ≡ before → (lane : ℕ) →
+-- what callers see of a lane
+pub slot_is : {jobs given : ℕ} (flights : List Flight) {before : Machine} → seen jobs given flights ≡ before → (lane : ℕ) →
     lane < length flights → (d : Flight) → get_or before.slots lane None ≡ held_in (get_or flights lane d)
 slot_is flights is lane within d =
     ap (λ (machine : Machine). get_or machine.slots lane None) (sym is)

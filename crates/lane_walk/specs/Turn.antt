@@ -1,13 +1,13 @@
 -- A turn of all slots of a flow machine, which a walk by lanes takes at once.
 use Rattle.std.specs.Prelude.{◌≡◌, ℕ, ◌+◌, ◌<◌, ◌⊎◌, List, count_by, not, Option, Some, None, Bool, IfSome}
-use Rattle.std.specs.Prelude.{length, take, drop, if◌then◌else◌, true, false, slice_index_or}
+use Rattle.std.specs.Prelude.{length, take, drop, if◌then◌else◌, true, false, slice_index, slice_index_or}
 use Rattle.std.specs.List.{range_with_len}
 use Rattle.flat_table.specs.Table.{TableView}
 use Rattle.flow_core.specs.declared.flight.Flight.{Flight}
 use Rattle.flat_table.specs.Word.{is_match, is_node, next_place}
 use Rattle.flat_table.specs.Batch.{keys_in}
 use Rattle.flow_core.specs.Machine.{Machine, FlowState, state_of, flow_run, is_empty, byte_of}
-use Rattle.flow_core.specs.Standing.{StandsOver}
+use Rattle.flow_core.specs.Standing.{StandsOver, rows_after}
 
 -- how many lanes there may be
 abbrev pub IsLanes : ℕ → Type 0
@@ -35,6 +35,10 @@ held_in flight = if is_match flight.word then None else Some flight
 abbrev pub EndsOrLeads : Flight → Type 0
 EndsOrLeads flight = is_match flight.word ≡ false → is_node flight.word ≡ true
 
+-- the flight of no lane
+abbrev pub no_one : Flight
+no_one = record { key = 0; trie = 0; depth = 0; word = 0 }
+
 -- four slots hold a flight each, from one on
 abbrev pub AreBusy : Machine → ℕ → Type 0
 AreBusy machine first =
@@ -49,6 +53,15 @@ GoesBy table keys held word byte =
 abbrev pub IsPlaceOf : TableView → List ℕ → Option Flight → ℕ → Type 0
 IsPlaceOf table keys held place =
     IfSome held (λ flight. place ≡ next_place flight.word (byte_of table keys flight))
+
+-- the rows after four flights, from one on and in order, came to their words
+abbrev pub rows_after_four :
+    TableView → List Flight → ℕ → List ℕ → List (List ℕ) → List (List ℕ)
+rows_after_four table flights first words rows =
+    rows_after table (slice_index_or flights (first + 3) no_one) (slice_index words 3)
+    (rows_after table (slice_index_or flights (first + 2) no_one) (slice_index words 2)
+    (rows_after table (slice_index_or flights (first + 1) no_one) (slice_index words 1)
+    (rows_after table (slice_index_or flights first no_one) (slice_index words 0) rows)))
 
 -- so many slots were stepped, from one on and in order, and the later ones hold what they held
 pub record StepsLanes (table : TableView) (keys : List ℕ) (before : Machine) (old : List (List ℕ))

@@ -7,11 +7,12 @@ ghost use Rattle.flat_table.specs.Groups.{longest_key};
 ghost use Rattle.flat_table.specs.Batch.{keys_in};
 ghost use Rattle.flat_table.specs.Word.{index_of, is_match, is_node};
 ghost use Rattle.flow_core.specs.Rows.{cleared, joined_into};
-ghost use Rattle.flow_core.specs.Machine.{Machine, state_of, first_state, is_done};
+ghost use Rattle.flow_core.specs.Machine.{Machine, state_of, first_state, is_done, moved_to};
 ghost use Rattle.flow_core.specs.Standing.{BatchFits, StandsOver, LeadsOnward};
 ghost use Rattle.flow_core.specs.Standing.{held_after, rows_after};
 ghost use Rattle.lane_walk.specs.Turn.{IsLanes, is_busy, busy_slots, flow_turn, held_in};
 ghost use Rattle.lane_walk.specs.Turn.{AreBusy, EndsOrLeads, GoesBy, IsPlaceOf, StepsLanes};
+ghost use Rattle.lane_walk.specs.Turn.{no_one, rows_after_four};
 
 use flat_table::{MATCH, Table, index_of, is_match, kind_of};
 use flow_core::laws::stay_in;
@@ -66,6 +67,16 @@ fn is_end(word: u64) -> bool
     kind_of(word) >= MATCH
 }
 
+/// Whether the word of a lane ends a walk. Of a lane that is known to be busy it isn't asked.
+#[inline]
+fn is_at_end<const BUSY: bool>(word: u64) -> bool
+    requires node { is_match word ≡ false → is_node word ≡ true }
+    requires busy { BUSY ≡ true → is_match word ≡ false }
+    ensures { result ≡ is_match word }
+{
+    !BUSY && is_end(word)
+}
+
 /// What a lane keeps whose slot is empty.
 #[inline]
 fn no_flight() -> Flight
@@ -87,18 +98,18 @@ fn are_empty(flights: &[Flight]) -> bool
     flights.iter().all(|flight| is_match(flight.word))
 }
 
-/// Joins the row that the flight's word names, which is a match, into that of its key.
+/// Joins the row that the word names, which is a match, into that of the flight's key.
 ///
 /// It is not inlined, so that what stands around it stays small, for few words are a match. It
 /// reads the key itself, so that no one keeps it until then.
 #[inline(never)]
-fn join_match(table: &Table, scratch: &mut Scratch, flight: &Flight)
-    requires row { index_of flight.now.word < length table.now.rows }
+fn join_match(table: &Table, scratch: &mut Scratch, flight: &Flight, word: u64)
+    requires row { index_of word < length table.now.rows }
     requires key { flight.now.key < length scratch.old }
     ensures { scratch.new ≡ joined_into flight.now.key
-        (slice_index_or table.now.rows (index_of flight.now.word) []) scratch.old }
+        (slice_index_or table.now.rows (index_of word) []) scratch.old }
 {
-    let (key, word) = (flight.key, flight.word);
+    let key = flight.key;
     scratch.join(key, table.row(index_of(word)));
 }
 
@@ -116,6 +127,29 @@ fn of_trie<const ONE: bool>(flight: Flight) -> Flight
     }
 }
 
+/// Joins the row that the flight's next word names into that of its key, if the word is a match.
+#[inline]
+fn join_ended(table: &Table, scratch: &mut Scratch, flight: &Flight, word: u64)
+    requires onward { LeadsOnward table.now flight.now word }
+    requires key { flight.now.key < length scratch.old }
+    ensures rows { scratch.new ≡ rows_after table.now flight.now word scratch.old }
+    ensures len { length scratch.new ≡ length scratch.old }
+{
+    if is_end(word) {
+        join_match(table, scratch, flight, word);
+    }
+}
+
+/// The flight at its next word.
+#[inline]
+fn go_on(flight: &mut Flight, word: u64)
+    requires { flight.old.depth < longest_key }
+    ensures { flight.new ≡ moved_to word flight.old }
+{
+    flight.depth += 1;
+    flight.word = word;
+}
+
 /// The next word of a flight. After a match the row that it names is joined into that of the
 /// flight's key.
 #[inline]
@@ -127,12 +161,62 @@ fn land(table: &Table, scratch: &mut Scratch, flight: &mut Flight, word: u64)
     ensures lawful { EndsOrLeads flight.new }
     ensures rows { scratch.new ≡ rows_after table.now flight.old word scratch.old }
 {
-    flight.depth += 1;
-    flight.word = word;
-    if !is_end(word) {
+    join_ended(table, scratch, flight, word);
+    go_on(flight, word);
+}
+
+/// The words at four places.
+#[inline]
+fn words_at(words: &[u64], places: &[u32; AT_ONCE]) -> [u64; AT_ONCE]
+    requires { (k : ℕ) → k < AT_ONCE → slice_index places.now k < length words.now }
+    ensures { (k : ℕ) → k < AT_ONCE →
+        slice_index result k ≡ slice_index words.now (slice_index places.now k) }
+{
+    [
+        words[places[0] as usize],
+        words[places[1] as usize],
+        words[places[2] as usize],
+        words[places[3] as usize],
+    ]
+}
+
+/// Whether one of four words ends a walk.
+#[inline]
+fn has_end(words: &[u64; AT_ONCE]) -> bool
+    requires { (k : ℕ) → k < AT_ONCE →
+        is_match (slice_index words.now k) ≡ false → is_node (slice_index words.now k) ≡ true }
+    ensures { result ≡ false → (k : ℕ) → k < AT_ONCE →
+        is_match (slice_index words.now k) ≡ false }
+{
+    // All four are asked at once, since one test of the words together takes fewer steps.
+    is_end(words[0]) | is_end(words[1]) | is_end(words[2]) | is_end(words[3])
+}
+
+/// Joins the rows at which four flights end, from one on, by their next words.
+#[inline]
+fn join_four(
+    table: &Table,
+    scratch: &mut Scratch,
+    flights: &[Flight],
+    first: usize,
+    words: &[u64; AT_ONCE],
+)
+    requires room { first + AT_ONCE ≤ length flights.now }
+    requires onward { (k : ℕ) → k < AT_ONCE → LeadsOnward table.now
+        (slice_index_or flights.now (first + k) no_one) (slice_index words.now k) }
+    requires keys { (k : ℕ) → k < AT_ONCE →
+        (slice_index_or flights.now (first + k) no_one).key < length scratch.old }
+    ensures { scratch.new
+        ≡ rows_after_four table.now flights.now first words.now scratch.old }
+{
+    // Mostly none of them ends, and then none is asked for itself.
+    if !has_end(words) {
         return;
     }
-    join_match(table, scratch, flight);
+    join_ended(table, scratch, &flights[first], words[0]);
+    join_ended(table, scratch, &flights[first + 1], words[1]);
+    join_ended(table, scratch, &flights[first + 2], words[2]);
+    join_ended(table, scratch, &flights[first + 3], words[3]);
 }
 
 impl<const W: usize> LaneFlows<W> {
@@ -182,23 +266,30 @@ impl<const W: usize> LaneFlows<W> {
 
     /// The word and the key byte by which the lane goes on, or any byte where it is empty.
     #[inline]
-    fn read_lane<const ONE: bool>(&self, table: &Table, keys: &[u8], lane: usize) -> (u64, u8)
+    fn read_lane<const ONE: bool, const BUSY: bool>(
+        &self,
+        table: &Table,
+        keys: &[u8],
+        lane: usize,
+    ) -> (u64, u8)
         requires one { ONE ≡ true → length table.now.roots ≡ 1 }
         requires lane { lane < W }
+        requires busy { BUSY ≡ true → is_busy (slice_index_or self.now.slots lane None) ≡ true }
         requires stands { (rows : ℕ) × StandsOver table.now keys.now self.now rows }
         ensures { GoesBy table.now keys.now (slice_index_or self.now.slots lane None) result.0
             result.1 }
     {
         let flight = self.flights[lane];
-        if is_end(flight.word) {
+        if is_at_end::<BUSY>(flight.word) {
             return (flight.word, 0);
         }
         (flight.word, byte_of(table, keys, of_trie::<ONE>(flight)))
     }
 
-    /// The places of the words that four lanes take next, from one on.
+    /// The places of the words that four lanes take next, from one on, which may be known to be
+    /// busy.
     #[inline]
-    fn places_from<const ONE: bool>(
+    fn places_from<const ONE: bool, const BUSY: bool>(
         &self,
         table: &Table,
         keys: &[u8],
@@ -206,14 +297,15 @@ impl<const W: usize> LaneFlows<W> {
     ) -> [u32; AT_ONCE]
         requires one { ONE ≡ true → length table.now.roots ≡ 1 }
         requires first { first + AT_ONCE ≤ W }
+        requires busy { BUSY ≡ true → AreBusy self.now first }
         requires stands { (rows : ℕ) × StandsOver table.now keys.now self.now rows }
         ensures { (k : ℕ) → k < AT_ONCE → IsPlaceOf table.now keys.now
             (slice_index_or self.now.slots (first + k) None) (slice_index result k) }
     {
-        let one = self.read_lane::<ONE>(table, keys, first);
-        let two = self.read_lane::<ONE>(table, keys, first + 1);
-        let three = self.read_lane::<ONE>(table, keys, first + 2);
-        let four = self.read_lane::<ONE>(table, keys, first + 3);
+        let one = self.read_lane::<ONE, BUSY>(table, keys, first);
+        let two = self.read_lane::<ONE, BUSY>(table, keys, first + 1);
+        let three = self.read_lane::<ONE, BUSY>(table, keys, first + 2);
+        let four = self.read_lane::<ONE, BUSY>(table, keys, first + 3);
         four_places(
             &[one.0, two.0, three.0, four.0],
             &[one.1, two.1, three.1, four.1],
@@ -306,10 +398,14 @@ impl<const W: usize> LaneFlows<W> {
         ensures { StepsLanes table.now keys.now self.old scratch.old first AT_ONCE self.new
             scratch.new AT_ONCE }
     {
-        let places = self.places_from::<ONE>(table, keys, first);
-        for k in 0..AT_ONCE {
-            self.land_lane(table, keys, scratch, first + k, places[k] as usize);
-        }
+        stay_in(table);
+        let places = self.places_from::<ONE, true>(table, keys, first);
+        let words = words_at(table.words(), &places);
+        join_four(table, scratch, &self.flights, first, &words);
+        go_on(&mut self.flights[first], words[0]);
+        go_on(&mut self.flights[first + 1], words[1]);
+        go_on(&mut self.flights[first + 2], words[2]);
+        go_on(&mut self.flights[first + 3], words[3]);
     }
 
     /// A step of each of four lanes, from one on and in order, and how many of them were busy
@@ -329,7 +425,7 @@ impl<const W: usize> LaneFlows<W> {
         ensures { StepsLanes table.now keys.now self.old scratch.old first AT_ONCE self.new
             scratch.new result }
     {
-        let places = self.places_from::<ONE>(table, keys, first);
+        let places = self.places_from::<ONE, false>(table, keys, first);
         let mut busy = 0;
         for k in 0..AT_ONCE {
             busy += self.step_lane(table, keys, scratch, first + k, places[k] as usize);
@@ -366,6 +462,7 @@ impl<const W: usize> LaneFlows<W> {
     ///
     /// Four lanes at a time work out at once which words they take. The table, the keys and the
     /// scratch are those that the machine began with. It refuses nothing and takes no memory.
+    #[inline]
     pub fn turn(&mut self, table: &Table, keys: &[u8], scratch: &mut Scratch) -> u32
         requires lanes { IsLanes W }
         requires stands { StandsOver table.now keys.now self.old (length scratch.old) }
