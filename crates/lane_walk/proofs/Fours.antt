@@ -1,7 +1,8 @@
 -- Four busy lanes that go on at once.
 use Rattle.std.proofs.Common.{◌≡◌, ℕ, ◌+◌, ◌<◌, ◌≤◌, List, sym, ap, ◌∙◌, refl, arith, lit<, length, subst, true, false}
-use Rattle.std.proofs.Common.{get_or, set, map, length-set, get_or-set_other}
-use Rattle.std.specs.Prelude.{slice_index, slice_index_or, None, Some, Option}
+use Rattle.std.proofs.Common.{get_or, set, map, length-set, get_or-set_other, get_or-set_same}
+use Rattle.std.proofs.lemmas.List.Elements.{All-set}
+use Rattle.std.specs.Prelude.{All, slice_index, slice_index_or, None, Some}
 use Rattle.std.proofs.lemmas.List.{get_or-map}
 use Rattle.flat_table.proofs.Offered.{places_bound}
 use Rattle.flat_table.specs.Groups.{longest_key}
@@ -12,10 +13,10 @@ use Rattle.flat_table.specs.Word.{is_match, is_node}
 use Rattle.flow_core.specs.declared.flight.Flight.{Flight}
 use Rattle.flow_core.specs.Machine.{Machine, moved_to, word_of}
 use Rattle.flow_core.specs.Standing.{LeadsOnward, StandsOver, IsOnWay, held_after, rows_after}
-use Rattle.flow_core.proofs.Offered.{key_of_flight, lent}
-use Rattle.lane_walk.specs.Turn.{AreBusy, EndsOrLeads, IsPlaceOf, StepsLanes, held_in, is_busy, no_one, rows_after_four}
+use Rattle.flow_core.proofs.Offered.{key_of_flight}
+use Rattle.lane_walk.specs.Turn.{AreBusy, EndsOrLeads, HasCome, IsPlaceOf, StepsLanes, held_in, is_busy, no_one, rows_after_four}
 use Rattle.lane_walk.proofs.Held.{BusyLane, busy_lane, held_busy, landed, lane_lent, on_of, seen}
-use Rattle.lane_walk.proofs.Landing.{Lands, lands, node_of, place_there, word_is, word_leads}
+use Rattle.lane_walk.proofs.Landing.{Lands, each_of_four, lands, node_of, place_there, word_is, word_leads}
 use Rattle.lane_walk.proofs.Turns.{and_then}
 
 -- a flight and its next word
@@ -33,7 +34,7 @@ leads {table = table} {flight = flight} {word = word} onward on =
     node_of table flight.trie (flight.depth + 1) word (onward.level on)
 
 -- so a lane may keep it
-pub lawful : {table : TableView} {flight next : Flight} {word : ℕ} (before : Flight) → LeadsOnward table flight word →
+lawful : {table : TableView} {flight next : Flight} {word : ℕ} (before : Flight) → LeadsOnward table flight word →
     next ≡ moved_to word before → EndsOrLeads next
 lawful before onward is =
     subst EndsOrLeads (sym is) (λ on. leads onward on)
@@ -44,25 +45,33 @@ pub depth_below : {table : TableView} {keys : List ℕ} {flight : Flight} {word 
 depth_below {table = table} {flight = flight} g short =
     omega (arith, g.on_way.depth, places_bound table flight.trie, short)
 
--- ---- the rows
+-- a flight that has come to its next word
+pub come : {table : TableView} {word : ℕ} (before : Flight) {next : Flight} {rows : ℕ} → LeadsOnward table before word →
+    before.key < rows → next ≡ moved_to word before → HasCome table next rows
+come {table = table} before {rows = rows} onward key is = subst (λ (flight : Flight). HasCome table flight rows) (sym is)
+    record {
+      lawful = λ on. leads onward on;
+      row = onward.row;
+      key = key;
+    }
 
-module _ (table : TableView) (flights : List Flight) (first : ℕ) (words : List ℕ) where
-  -- none of four words is a match
-  pub none_end : (rows : List (List ℕ)) → ((k : ℕ) → k < 4 → is_match (slice_index words k) ≡ false) →
-      rows ≡ rows_after_four table flights first words rows
-  none_end rows on = rw (on 0 (lit< tt), on 1 (lit< tt), on 2 (lit< tt), on 3 (lit< tt)) refl
+-- with as many rows it has come still
+pub still : {table : TableView} {flight : Flight} {rows new : ℕ} → HasCome table flight rows → new ≡ rows →
+    HasCome table flight new
+still {table = table} {flight = flight} has is = subst (λ (n : ℕ). HasCome table flight n) (sym is) has
 
-  -- each of the four was asked
-  pub four_joined : (rows : List (List ℕ)) {one two three four : List (List ℕ)} →
-      one ≡ rows_after table (get_or flights first no_one) (slice_index words 0) rows →
-      two ≡ rows_after table (get_or flights (first + 1) no_one) (slice_index words 1) one →
-      three ≡ rows_after table (get_or flights (first + 2) no_one) (slice_index words 2) two →
-      four ≡ rows_after table (get_or flights (first + 3) no_one) (slice_index words 3) three →
-      four ≡ rows_after_four table flights first words rows
-  four_joined rows is_one is_two is_three is_four =
-      let after = λ (k : ℕ) (them : List (List ℕ)).
-      rows_after table (get_or flights (first + k) no_one) (slice_index words k) them in
-      is_four ∙ ap (after 3) (is_three ∙ ap (after 2) (is_two ∙ ap (after 1) is_one))
+-- each of four was asked
+pub four_joined : (table : TableView) (flights : List Flight) (first : ℕ) (rows : List (List ℕ))
+    {one two three four : List (List ℕ)} →
+    one ≡ rows_after table (get_or flights first no_one) (get_or flights first no_one).word rows →
+    two ≡ rows_after table (get_or flights (first + 1) no_one) (get_or flights (first + 1) no_one).word one →
+    three ≡ rows_after table (get_or flights (first + 2) no_one) (get_or flights (first + 2) no_one).word two →
+    four ≡ rows_after table (get_or flights (first + 3) no_one) (get_or flights (first + 3) no_one).word three →
+    four ≡ rows_after_four table flights first rows
+four_joined table flights first rows is_one is_two is_three is_four =
+    let after = λ (k : ℕ) (them : List (List ℕ)).
+    rows_after table (get_or flights (first + k) no_one) (get_or flights (first + k) no_one).word them in
+    is_four ∙ ap (after 3) (is_three ∙ ap (after 2) (is_two ∙ ap (after 1) is_one))
 
 -- ---- one lane
 
@@ -169,38 +178,124 @@ module _ {table : TableView} {keys : List ℕ} {jobs given : ℕ} (flights : Lis
   pub four_keys : (k : ℕ) → k < 4 → (get_or flights (first + k) no_one).key < length rows
   four_keys k h = omega (arith, key_of_flight (lands_at k h).on_way, a.stands.fits.room)
 
-  -- and when they have gone on, each was stepped
-  pub four_go : (words : List ℕ) →
-      ((k : ℕ) → k < 4 → Goes table keys (get_or flights (first + k) no_one) (slice_index words k)) →
-      {one two three four : Flight} → one ≡ moved_to (slice_index words 0) (get_or flights first no_one) →
-      two ≡ moved_to (slice_index words 1) (get_or (set flights first one) (first + 1) no_one) →
-      three ≡ moved_to (slice_index words 2) (get_or (set (set flights first one) (first + 1) two) (first + 2) no_one) →
-      four ≡ moved_to (slice_index words 3)
-      (get_or (set (set (set flights first one) (first + 1) two) (first + 2) three) (first + 3) no_one) →
-      {new : List (List ℕ)} → new ≡ rows_after_four table flights first words rows →
-      StepsLanes table keys before rows first 4 (seen jobs given
-      (set (set (set (set flights first one) (first + 1) two) (first + 2) three) (first + 3) four)) new 4
-  four_go words goes {one = one} {two = two} {three = three} {four = four} is_one is_two is_three is_four
-      {new = new} new_is =
-      let here : first + 0 ≡ first = omega arith in
-      let f1 : List Flight = set flights first one in
-      let f2 : List Flight = set f1 (first + 1) two in
-      let f3 : List Flight = set f2 (first + 2) three in
-      let f4 : List Flight = set f3 (first + 3) four in
-      let n1 = length-set flights first one in
-      let n2 = length-set f1 (first + 1) two in
-      let n3 = length-set f2 (first + 2) three in
-      let stands : StandsOver table keys (seen jobs given flights) (length rows) =
-      subst (λ (machine : Machine). StandsOver table keys machine (length rows)) (sym a.view) a.stands in
-      let goes_first : Goes table keys (get_or flights first no_one) (slice_index words 0) =
-      subst (λ (lane : ℕ). Goes table keys (get_or flights lane no_one) (slice_index words 0)) here (goes 0 (lit< tt)) in
-      let s1 = one_goes flights first stands (omega (arith, a.room)) refl goes_first is_one in
-      let s2 = and_then s1 (one_goes f1 (first + 1) s1.stands (omega (arith, a.room, n1))
-      (second_is flights first one two three) (goes 1 (lit< tt)) is_two) in
-      let s3 = and_then s2 (one_goes f2 (first + 2) s2.stands (omega (arith, a.room, n1, n2))
-      (third_is flights first one two three) (goes 2 (lit< tt)) is_three) in
-      let s4 = and_then s3 (one_goes f3 (first + 3) s3.stands (omega (arith, a.room, n1, n2, n3))
-      (fourth_is flights first one two three) (goes 3 (lit< tt)) is_four) in
-      subst (λ (them : List (List ℕ)). StepsLanes table keys before rows first 4 (seen jobs given f4) them 4) (sym new_is)
-      (subst (λ (machine : Machine). StepsLanes table keys machine rows first 4 (seen jobs given f4)
-      (rows_after_four table flights first words rows) 4) a.view s4)
+  -- ---- when they have gone on
+  module _ (words : List ℕ)
+      (goes : (k : ℕ) → k < 4 → Goes table keys (get_or flights (first + k) no_one) (slice_index words k))
+      {one two three four : Flight} (is_one : one ≡ moved_to (slice_index words 0) (get_or flights first no_one))
+      (is_two : two ≡ moved_to (slice_index words 1) (get_or (set flights first one) (first + 1) no_one))
+      (is_three : three
+      ≡ moved_to (slice_index words 2) (get_or (set (set flights first one) (first + 1) two) (first + 2) no_one))
+      (is_four : four ≡ moved_to (slice_index words 3)
+      (get_or (set (set (set flights first one) (first + 1) two) (first + 2) three) (first + 3) no_one)) where
+    abbrev f1 : List Flight
+    f1 = set flights first one
+
+    abbrev f2 : List Flight
+    f2 = set f1 (first + 1) two
+
+    abbrev f3 : List Flight
+    f3 = set f2 (first + 2) three
+
+    abbrev f4 : List Flight
+    f4 = set f3 (first + 3) four
+
+    n1 : length f1 ≡ length flights
+    n1 = length-set flights first one
+
+    n2 : length f2 ≡ length flights
+    n2 = length-set f1 (first + 1) two ∙ n1
+
+    n3 : length f3 ≡ length flights
+    n3 = length-set f2 (first + 2) three ∙ n2
+
+    -- a lane keeps what it came to
+    first_at : get_or f4 first no_one ≡ moved_to (slice_index words 0) (get_or flights first no_one)
+    first_at =
+        get_or-set_other f3 (first + 3) first four no_one (omega arith)
+        ∙ get_or-set_other f2 (first + 2) first three no_one (omega arith)
+        ∙ get_or-set_other f1 (first + 1) first two no_one (omega arith)
+        ∙ get_or-set_same flights first one no_one (omega (arith, a.room)) ∙ is_one
+
+    second_at : get_or f4 (first + 1) no_one ≡ moved_to (slice_index words 1) (get_or flights (first + 1) no_one)
+    second_at =
+        get_or-set_other f3 (first + 3) (first + 1) four no_one (omega arith)
+        ∙ get_or-set_other f2 (first + 2) (first + 1) three no_one (omega arith)
+        ∙ get_or-set_same f1 (first + 1) two no_one (omega (arith, a.room, n1)) ∙ is_two
+        ∙ ap (λ (f : Flight). moved_to (slice_index words 1) f) (second_is flights first one two three)
+
+    third_at : get_or f4 (first + 2) no_one ≡ moved_to (slice_index words 2) (get_or flights (first + 2) no_one)
+    third_at =
+        get_or-set_other f3 (first + 3) (first + 2) four no_one (omega arith)
+        ∙ get_or-set_same f2 (first + 2) three no_one (omega (arith, a.room, n2)) ∙ is_three
+        ∙ ap (λ (f : Flight). moved_to (slice_index words 2) f) (third_is flights first one two three)
+
+    fourth_at : get_or f4 (first + 3) no_one ≡ moved_to (slice_index words 3) (get_or flights (first + 3) no_one)
+    fourth_at =
+        get_or-set_same f3 (first + 3) four no_one (omega (arith, a.room, n3)) ∙ is_four
+        ∙ ap (λ (f : Flight). moved_to (slice_index words 3) f) (fourth_is flights first one two three)
+
+    four_at : (k : ℕ) → k < 4 →
+        get_or f4 (first + k) no_one ≡ moved_to (slice_index words k) (get_or flights (first + k) no_one)
+    four_at =
+        let here : first ≡ first + 0 = omega arith in
+        each_of_four
+        (λ k. get_or f4 (first + k) no_one ≡ moved_to (slice_index words k) (get_or flights (first + k) no_one))
+        (subst (λ (lane : ℕ). get_or f4 lane no_one ≡ moved_to (slice_index words 0) (get_or flights lane no_one)) here
+        first_at) second_at third_at fourth_at
+
+    -- which is what a lane may keep
+    pub four_lawful : All EndsOrLeads flights → All EndsOrLeads f4
+    four_lawful all =
+        All-set EndsOrLeads f3 (first + 3) four
+        (lawful (get_or f3 (first + 3) no_one) (goes 3 (lit< tt)).onward is_four)
+        (All-set EndsOrLeads f2 (first + 2) three
+        (lawful (get_or f2 (first + 2) no_one) (goes 2 (lit< tt)).onward is_three)
+        (All-set EndsOrLeads f1 (first + 1) two
+        (lawful (get_or f1 (first + 1) no_one) (goes 1 (lit< tt)).onward is_two)
+        (All-set EndsOrLeads flights first one
+        (lawful (get_or flights first no_one) (goes 0 (lit< tt)).onward is_one) all)))
+
+    pub four_come : (k : ℕ) → k < 4 → HasCome table (get_or f4 (first + k) no_one) (length rows)
+    four_come k h = come (get_or flights (first + k) no_one) (goes k h).onward (four_keys k h) (four_at k h)
+
+    -- where none of them came to a match, the rows stay
+    pub none_end : ((k : ℕ) → k < 4 → is_match (slice_index words k) ≡ false) →
+        rows ≡ rows_after_four table f4 first rows
+    none_end none =
+        let at = λ (w : Flight). is_match w.word in
+        let on1 : is_match (get_or f4 first no_one).word ≡ false = ap at first_at ∙ none 0 (lit< tt) in
+        let on2 : is_match (get_or f4 (first + 1) no_one).word ≡ false = ap at second_at ∙ none 1 (lit< tt) in
+        let on3 : is_match (get_or f4 (first + 2) no_one).word ≡ false = ap at third_at ∙ none 2 (lit< tt) in
+        let on4 : is_match (get_or f4 (first + 3) no_one).word ≡ false = ap at fourth_at ∙ none 3 (lit< tt) in
+        rw (on1, on2, on3, on4) refl
+
+    -- and each was stepped
+    pub four_go : {new : List (List ℕ)} → new ≡ rows_after_four table f4 first rows →
+        StepsLanes table keys before rows first 4 (seen jobs given f4) new 4
+    four_go {new = new} new_is =
+        let here : first + 0 ≡ first = omega arith in
+        let came = λ (flight : Flight) (them : List (List ℕ)). rows_after table flight flight.word them in
+        let stands : StandsOver table keys (seen jobs given flights) (length rows) =
+        subst (λ (machine : Machine). StandsOver table keys machine (length rows)) (sym a.view) a.stands in
+        let goes_first : Goes table keys (get_or flights first no_one) (slice_index words 0) =
+        subst (λ (lane : ℕ). Goes table keys (get_or flights lane no_one) (slice_index words 0)) here (goes 0 (lit< tt)) in
+        let r1 : List (List ℕ) = rows_after table (get_or flights first no_one) (slice_index words 0) rows in
+        let r2 : List (List ℕ) = rows_after table (get_or flights (first + 1) no_one) (slice_index words 1) r1 in
+        let r3 : List (List ℕ) = rows_after table (get_or flights (first + 2) no_one) (slice_index words 2) r2 in
+        let r4 : List (List ℕ) = rows_after table (get_or flights (first + 3) no_one) (slice_index words 3) r3 in
+        let s1 : StepsLanes table keys (seen jobs given flights) rows first 1 (seen jobs given f1) r1 1 =
+        one_goes flights first stands (omega (arith, a.room)) refl goes_first is_one in
+        let s2 : StepsLanes table keys (seen jobs given flights) rows first 2 (seen jobs given f2) r2 2 =
+        and_then s1 (one_goes f1 (first + 1) s1.stands (omega (arith, a.room, n1))
+        (second_is flights first one two three) (goes 1 (lit< tt)) is_two) in
+        let s3 : StepsLanes table keys (seen jobs given flights) rows first 3 (seen jobs given f3) r3 3 =
+        and_then s2 (one_goes f2 (first + 2) s2.stands (omega (arith, a.room, n2))
+        (third_is flights first one two three) (goes 2 (lit< tt)) is_three) in
+        let s4 : StepsLanes table keys (seen jobs given flights) rows first 4 (seen jobs given f4) r4 4 =
+        and_then s3 (one_goes f3 (first + 3) s3.stands (omega (arith, a.room, n3))
+        (fourth_is flights first one two three) (goes 3 (lit< tt)) is_four) in
+        let all : rows_after_four table f4 first rows ≡ r4 =
+        λ i. came (fourth_at i) (came (third_at i) (came (second_at i) (came (first_at i) rows))) in
+        subst (λ (them : List (List ℕ)). StepsLanes table keys before rows first 4 (seen jobs given f4) them 4)
+        (sym (new_is ∙ all))
+        (subst (λ (machine : Machine). StepsLanes table keys machine rows first 4 (seen jobs given f4) r4 4) a.view s4)

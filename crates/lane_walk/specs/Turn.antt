@@ -1,10 +1,10 @@
 -- A turn of all slots of a flow machine, which a walk by lanes takes at once.
 use Rattle.std.specs.Prelude.{◌≡◌, ℕ, ◌+◌, ◌<◌, ◌⊎◌, List, count_by, not, Option, Some, None, Bool, IfSome}
-use Rattle.std.specs.Prelude.{length, take, drop, if◌then◌else◌, true, false, slice_index, slice_index_or}
+use Rattle.std.specs.Prelude.{length, take, drop, if◌then◌else◌, true, false, slice_index_or}
 use Rattle.std.specs.List.{range_with_len}
 use Rattle.flat_table.specs.Table.{TableView}
 use Rattle.flow_core.specs.declared.flight.Flight.{Flight}
-use Rattle.flat_table.specs.Word.{is_match, is_node, next_place}
+use Rattle.flat_table.specs.Word.{index_of, is_match, is_node, next_place}
 use Rattle.flat_table.specs.Batch.{keys_in}
 use Rattle.flow_core.specs.Machine.{Machine, FlowState, state_of, flow_run, is_empty, byte_of}
 use Rattle.flow_core.specs.Standing.{StandsOver, rows_after}
@@ -54,14 +54,21 @@ abbrev pub IsPlaceOf : TableView → List ℕ → Option Flight → ℕ → Type
 IsPlaceOf table keys held place =
     IfSome held (λ flight. place ≡ next_place flight.word (byte_of table keys flight))
 
+-- the flight came to a word that a lane may keep, and there is a row for a match and for its key
+pub record HasCome (table : TableView) (flight : Flight) (rows : ℕ) : Type 0 where
+  pub lawful : EndsOrLeads flight
+  pub row : is_match flight.word ≡ true → index_of flight.word < length table.rows
+  pub key : flight.key < rows
+
 -- the rows after four flights, from one on and in order, came to their words
-abbrev pub rows_after_four :
-    TableView → List Flight → ℕ → List ℕ → List (List ℕ) → List (List ℕ)
-rows_after_four table flights first words rows =
-    rows_after table (slice_index_or flights (first + 3) no_one) (slice_index words 3)
-    (rows_after table (slice_index_or flights (first + 2) no_one) (slice_index words 2)
-    (rows_after table (slice_index_or flights (first + 1) no_one) (slice_index words 1)
-    (rows_after table (slice_index_or flights first no_one) (slice_index words 0) rows)))
+abbrev pub rows_after_four : TableView → List Flight → ℕ → List (List ℕ) → List (List ℕ)
+rows_after_four table flights first rows =
+    let came = λ (flight : Flight) (them : List (List ℕ)).
+    rows_after table flight flight.word them in
+    came (slice_index_or flights (first + 3) no_one)
+    (came (slice_index_or flights (first + 2) no_one)
+    (came (slice_index_or flights (first + 1) no_one)
+    (came (slice_index_or flights first no_one) rows)))
 
 -- so many slots were stepped, from one on and in order, and the later ones hold what they held
 pub record StepsLanes (table : TableView) (keys : List ℕ) (before : Machine) (old : List (List ℕ))

@@ -12,7 +12,7 @@ ghost use Rattle.flow_core.specs.Standing.{BatchFits, StandsOver, LeadsOnward};
 ghost use Rattle.flow_core.specs.Standing.{held_after, rows_after};
 ghost use Rattle.lane_walk.specs.Turn.{IsLanes, is_busy, busy_slots, flow_turn, held_in};
 ghost use Rattle.lane_walk.specs.Turn.{AreBusy, EndsOrLeads, GoesBy, IsPlaceOf, StepsLanes};
-ghost use Rattle.lane_walk.specs.Turn.{no_one, rows_after_four};
+ghost use Rattle.lane_walk.specs.Turn.{HasCome, no_one, rows_after_four};
 
 use flat_table::{MATCH, Table, index_of, is_match, kind_of};
 use flow_core::laws::stay_in;
@@ -98,18 +98,15 @@ fn are_empty(flights: &[Flight]) -> bool
     flights.iter().all(|flight| is_match(flight.word))
 }
 
-/// Joins the row that the word names, which is a match, into that of the flight's key.
-///
-/// It is not inlined, so that what stands around it stays small, for few words are a match. It
-/// reads the key itself, so that no one keeps it until then.
-#[inline(never)]
-fn join_match(table: &Table, scratch: &mut Scratch, flight: &Flight, word: u64)
-    requires row { index_of word < length table.now.rows }
+/// Joins the row that the flight's word names, which is a match, into that of its key.
+#[inline]
+fn join_match(table: &Table, scratch: &mut Scratch, flight: &Flight)
+    requires row { index_of flight.now.word < length table.now.rows }
     requires key { flight.now.key < length scratch.old }
     ensures { scratch.new ≡ joined_into flight.now.key
-        (slice_index_or table.now.rows (index_of word) []) scratch.old }
+        (slice_index_or table.now.rows (index_of flight.now.word) []) scratch.old }
 {
-    let key = flight.key;
+    let (key, word) = (flight.key, flight.word);
     scratch.join(key, table.row(index_of(word)));
 }
 
@@ -127,16 +124,15 @@ fn of_trie<const ONE: bool>(flight: Flight) -> Flight
     }
 }
 
-/// Joins the row that the flight's next word names into that of its key, if the word is a match.
+/// Where the flight came to a match, the row that it names is joined into that of its key.
 #[inline]
-fn join_ended(table: &Table, scratch: &mut Scratch, flight: &Flight, word: u64)
-    requires onward { LeadsOnward table.now flight.now word }
-    requires key { flight.now.key < length scratch.old }
-    ensures rows { scratch.new ≡ rows_after table.now flight.now word scratch.old }
+fn join_ended(table: &Table, scratch: &mut Scratch, flight: &Flight)
+    requires { HasCome table.now flight.now (length scratch.old) }
+    ensures rows { scratch.new ≡ rows_after table.now flight.now flight.now.word scratch.old }
     ensures len { length scratch.new ≡ length scratch.old }
 {
-    if is_end(word) {
-        join_match(table, scratch, flight, word);
+    if is_end(flight.word) {
+        join_match(table, scratch, flight);
     }
 }
 
@@ -161,8 +157,8 @@ fn land(table: &Table, scratch: &mut Scratch, flight: &mut Flight, word: u64)
     ensures lawful { EndsOrLeads flight.new }
     ensures rows { scratch.new ≡ rows_after table.now flight.old word scratch.old }
 {
-    join_ended(table, scratch, flight, word);
     go_on(flight, word);
+    join_ended(table, scratch, flight);
 }
 
 /// The words at four places.
@@ -192,31 +188,21 @@ fn has_end(words: &[u64; AT_ONCE]) -> bool
     is_end(words[0]) | is_end(words[1]) | is_end(words[2]) | is_end(words[3])
 }
 
-/// Joins the rows at which four flights end, from one on, by their next words.
-#[inline]
-fn join_four(
-    table: &Table,
-    scratch: &mut Scratch,
-    flights: &[Flight],
-    first: usize,
-    words: &[u64; AT_ONCE],
-)
+/// Joins the rows of those of four flights, from one on and in order, that came to a match.
+///
+/// It is not inlined, so that what stands around it stays small, for few words are a match. It
+/// reads the flights itself, so that no one keeps them until then.
+#[inline(never)]
+fn join_each(table: &Table, scratch: &mut Scratch, flights: &[Flight], first: usize)
     requires room { first + AT_ONCE ≤ length flights.now }
-    requires onward { (k : ℕ) → k < AT_ONCE → LeadsOnward table.now
-        (slice_index_or flights.now (first + k) no_one) (slice_index words.now k) }
-    requires keys { (k : ℕ) → k < AT_ONCE →
-        (slice_index_or flights.now (first + k) no_one).key < length scratch.old }
-    ensures { scratch.new
-        ≡ rows_after_four table.now flights.now first words.now scratch.old }
+    requires come { (k : ℕ) → k < AT_ONCE → HasCome table.now
+        (slice_index_or flights.now (first + k) no_one) (length scratch.old) }
+    ensures { scratch.new ≡ rows_after_four table.now flights.now first scratch.old }
 {
-    // Mostly none of them ends, and then none is asked for itself.
-    if !has_end(words) {
-        return;
-    }
-    join_ended(table, scratch, &flights[first], words[0]);
-    join_ended(table, scratch, &flights[first + 1], words[1]);
-    join_ended(table, scratch, &flights[first + 2], words[2]);
-    join_ended(table, scratch, &flights[first + 3], words[3]);
+    join_ended(table, scratch, &flights[first]);
+    join_ended(table, scratch, &flights[first + 1]);
+    join_ended(table, scratch, &flights[first + 2]);
+    join_ended(table, scratch, &flights[first + 3]);
 }
 
 impl<const W: usize> LaneFlows<W> {
@@ -401,16 +387,19 @@ impl<const W: usize> LaneFlows<W> {
         stay_in(table);
         let places = self.places_from::<ONE, true>(table, keys, first);
         let words = words_at(table.words(), &places);
-        join_four(table, scratch, &self.flights, first, &words);
         go_on(&mut self.flights[first], words[0]);
         go_on(&mut self.flights[first + 1], words[1]);
         go_on(&mut self.flights[first + 2], words[2]);
         go_on(&mut self.flights[first + 3], words[3]);
+        if !has_end(&words) {
+            return;
+        }
+        join_each(table, scratch, &self.flights, first);
     }
 
     /// A step of each of four lanes, from one on and in order, and how many of them were busy
-    /// before.
-    #[inline]
+    /// before. It is not inlined, for mostly all four are busy.
+    #[inline(never)]
     fn step_each<const ONE: bool>(
         &mut self,
         table: &Table,

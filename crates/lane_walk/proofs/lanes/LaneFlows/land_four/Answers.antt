@@ -1,9 +1,9 @@
-use Rattle.std.proofs.Common.{◌≡◌, ℕ, ◌+◌, ◌<◌, arith, lit<, get_or, set, subst, sym, List}
+use Rattle.std.proofs.Common.{◌≡◌, ℕ, ◌+◌, ◌<◌, arith, lit<, get_or, subst, sym}
 use Rattle.std.specs.Prelude.{slice_index}
-use Rattle.std.proofs.lemmas.List.Elements.{All-set}
 use Rattle.flow_core.specs.declared.flight.Flight.{Flight}
-use Rattle.lane_walk.specs.Turn.{EndsOrLeads, no_one}
-use Rattle.lane_walk.proofs.Fours.{at_once, depth_below, four_go, four_goes, four_keys, four_there, fourth_is, lawful}
+use Rattle.lane_walk.specs.Turn.{no_one}
+use Rattle.lane_walk.proofs.Fours.{at_once, depth_below, four_come, four_go, four_goes, four_there, fourth_is}
+use Rattle.lane_walk.proofs.Fours.{four_lawful, leads, none_end}
 use Rattle.lane_walk.proofs.Fours.{second_is, third_is}
 use Rattle.flat_table.specs.Groups.{longest_key}
 use Rattle.lane_walk.proofs.lanes.LaneFlows.land_four.Goals as goal
@@ -16,25 +16,27 @@ words_at-words-requires g c k h =
     c.places_from-places.ensures c.stay_in.ensures.stay c.stay_in.ensures.sound bytes in
     four_there flights a c.words.ensures k h
 
-pub join_four-requires-clause-room : goal.join_four-requires-clause-room
-join_four-requires-clause-room g c = omega (arith, c.requires.first, c.self.told)
-
-pub join_four-requires-clause-onward : goal.join_four-requires-clause-onward
-join_four-requires-clause-onward g c k h =
+pub has_end-requires : goal.has_end-requires
+has_end-requires g c k h =
     let flights = c.self.inside.flights in
     let bytes : (i : ℕ) → slice_index c.args.keys.now i < 256 = λ i. omega (arith, c.type_inv.keys i) in
     let a = at_once c.self.view_is c.requires.stands c.requires.first c.self.told c.requires.busy
     c.places_from-places.ensures c.stay_in.ensures.stay c.stay_in.ensures.sound bytes in
     let goes = four_goes flights a c.words_at-words.result c.words.ensures c.words_at-words.ensures in
-    (goes k h).onward
+    leads (goes k h).onward
 
-pub join_four-requires-clause-keys : goal.join_four-requires-clause-keys
-join_four-requires-clause-keys g c k h =
+pub join_each-requires-clause-room : goal.join_each-requires-clause-room
+join_each-requires-clause-room g c = omega (arith, c.requires.first, c.self.told)
+
+pub join_each-requires-clause-come : goal.join_each-requires-clause-come
+join_each-requires-clause-come g c k h =
     let flights = c.self.inside.flights in
     let bytes : (i : ℕ) → slice_index c.args.keys.now i < 256 = λ i. omega (arith, c.type_inv.keys i) in
     let a = at_once c.self.view_is c.requires.stands c.requires.first c.self.told c.requires.busy
     c.places_from-places.ensures c.stay_in.ensures.stay c.stay_in.ensures.sound bytes in
-    four_keys flights a k h
+    let goes = four_goes flights a c.words_at-words.result c.words.ensures c.words_at-words.ensures in
+    four_come flights a c.words_at-words.result goes c.go_on.ensures c.go_on-2.ensures c.go_on-3.ensures
+    c.go_on-4.ensures k h
 
 pub returns : goal.returns
 returns g c =
@@ -43,7 +45,20 @@ returns g c =
     let a = at_once c.self.view_is c.requires.stands c.requires.first c.self.told c.requires.busy
     c.places_from-places.ensures c.stay_in.ensures.stay c.stay_in.ensures.sound bytes in
     let goes = four_goes flights a c.words_at-words.result c.words.ensures c.words_at-words.ensures in
-    four_go flights a c.words_at-words.result goes c.go_on.ensures c.go_on-2.ensures c.go_on-3.ensures c.go_on-4.ensures c.join_four.ensures
+    four_go flights a c.words_at-words.result goes c.go_on.ensures c.go_on-2.ensures c.go_on-3.ensures
+    c.go_on-4.ensures c.join_each.ensures
+
+pub returns-then-not-has_end : goal.returns-then-not-has_end
+returns-then-not-has_end g c =
+    let flights = c.self.inside.flights in
+    let bytes : (i : ℕ) → slice_index c.args.keys.now i < 256 = λ i. omega (arith, c.type_inv.keys i) in
+    let a = at_once c.self.view_is c.requires.stands c.requires.first c.self.told c.requires.busy
+    c.places_from-places.ensures c.stay_in.ensures.stay c.stay_in.ensures.sound bytes in
+    let goes = four_goes flights a c.words_at-words.result c.words.ensures c.words_at-words.ensures in
+    let none = c.has_end.ensures c.if-not-has_end.true in
+    four_go flights a c.words_at-words.result goes c.go_on.ensures c.go_on-2.ensures c.go_on-3.ensures
+    c.go_on-4.ensures (none_end flights a c.words_at-words.result goes c.go_on.ensures c.go_on-2.ensures c.go_on-3.ensures
+    c.go_on-4.ensures none)
 
 pub go_on-requires : goal.go_on-requires
 go_on-requires g c =
@@ -96,15 +111,15 @@ invariant_of-self g c =
     let a = at_once c.self.view_is c.requires.stands c.requires.first c.self.told c.requires.busy
     c.places_from-places.ensures c.stay_in.ensures.stay c.stay_in.ensures.sound bytes in
     let goes = four_goes flights a c.words_at-words.result c.words.ensures c.words_at-words.ensures in
-    let first : ℕ = c.args.first in
-    let f1 : List Flight = set flights first c.go_on.new.flight in
-    let f2 : List Flight = set f1 (first + 1) c.go_on-2.new.flight in
-    let f3 : List Flight = set f2 (first + 2) c.go_on-3.new.flight in
-    All-set EndsOrLeads f3 (first + 3) c.go_on-4.new.flight
-    (lawful (get_or f3 (first + 3) no_one) (goes 3 (lit< tt)).onward c.go_on-4.ensures)
-    (All-set EndsOrLeads f2 (first + 2) c.go_on-3.new.flight
-    (lawful (get_or f2 (first + 2) no_one) (goes 2 (lit< tt)).onward c.go_on-3.ensures)
-    (All-set EndsOrLeads f1 (first + 1) c.go_on-2.new.flight
-    (lawful (get_or f1 (first + 1) no_one) (goes 1 (lit< tt)).onward c.go_on-2.ensures)
-    (All-set EndsOrLeads flights first c.go_on.new.flight
-    (lawful (get_or flights first no_one) (goes 0 (lit< tt)).onward c.go_on.ensures) c.self.invariant)))
+    four_lawful flights a c.words_at-words.result goes c.go_on.ensures c.go_on-2.ensures c.go_on-3.ensures
+    c.go_on-4.ensures c.self.invariant
+
+pub invariant_of-self-2 : goal.invariant_of-self-2
+invariant_of-self-2 g c =
+    let flights = c.self.inside.flights in
+    let bytes : (i : ℕ) → slice_index c.args.keys.now i < 256 = λ i. omega (arith, c.type_inv.keys i) in
+    let a = at_once c.self.view_is c.requires.stands c.requires.first c.self.told c.requires.busy
+    c.places_from-places.ensures c.stay_in.ensures.stay c.stay_in.ensures.sound bytes in
+    let goes = four_goes flights a c.words_at-words.result c.words.ensures c.words_at-words.ensures in
+    four_lawful flights a c.words_at-words.result goes c.go_on.ensures c.go_on-2.ensures c.go_on-3.ensures
+    c.go_on-4.ensures c.self.invariant
