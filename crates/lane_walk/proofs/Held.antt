@@ -1,6 +1,6 @@
 -- What lanes keep, as slots.
 use Rattle.std.proofs.Common.{◌≡◌, ℕ, zero, suc, ◌+◌, ◌<◌, ◌≤◌, ◌&&◌, List, [], ◌∷◌, sym, ap, ◌∙◌, refl, arith}
-use Rattle.std.proofs.Common.{get_or, map, set, replicate, cond, true, false, inl, inr, length, take, drop, subst}
+use Rattle.std.proofs.Common.{get_or, map, set, replicate, cond, true, false, not, Bool, inl, inr, length, take, drop, subst}
 use Rattle.std.proofs.Common.{get_or-set_same, length-set}
 use Rattle.std.specs.Prelude.{None, Some, Option, count_by, All, IfSome}
 use Rattle.std.specs.List.{list_all}
@@ -26,6 +26,11 @@ held_busy flight on = rw on refl
 -- and one whose word is a match holds nothing
 pub held_none : (flight : Flight) → is_match flight.word ≡ true → held_in flight ≡ None
 held_none flight match = rw match refl
+
+-- what isn't so is false
+pub not_true : (test : Bool) → not test ≡ true → test ≡ false
+not_true true is = absurd (cc is)
+not_true false is = refl
 
 -- a slot is empty where the word is a match
 pub empty_is : (flight : Flight) → is_empty (held_in flight) ≡ is_match flight.word

@@ -44,6 +44,11 @@ abbrev pub AreBusy : Machine → ℕ → Type 0
 AreBusy machine first =
     (k : ℕ) → k < 4 → is_busy (slice_index_or machine.slots (first + k) None) ≡ true
 
+-- four slots are empty, from one on
+abbrev pub AreIdle : Machine → ℕ → Type 0
+AreIdle machine first =
+    (k : ℕ) → k < 4 → is_busy (slice_index_or machine.slots (first + k) None) ≡ false
+
 -- the word and the byte are those by which the slot goes on, if it is busy
 abbrev pub GoesBy : TableView → List ℕ → Option Flight → ℕ → ℕ → Type 0
 GoesBy table keys held word byte =

@@ -12,7 +12,7 @@ ghost use Rattle.flow_core.specs.Standing.{BatchFits, StandsOver, LeadsOnward};
 ghost use Rattle.flow_core.specs.Standing.{held_after, rows_after};
 ghost use Rattle.lane_walk.specs.Turn.{IsLanes, is_busy, busy_slots, flow_turn, held_in};
 ghost use Rattle.lane_walk.specs.Turn.{AreBusy, EndsOrLeads, GoesBy, IsPlaceOf, StepsLanes};
-ghost use Rattle.lane_walk.specs.Turn.{HasCome, no_one, rows_after_four};
+ghost use Rattle.lane_walk.specs.Turn.{AreIdle, HasCome, no_one, rows_after_four};
 
 use flat_table::{MATCH, Table, index_of, is_match, kind_of};
 use flow_core::laws::stay_in;
@@ -99,7 +99,9 @@ fn are_empty(flights: &[Flight]) -> bool
 }
 
 /// Joins the row that the flight's word names, which is a match, into that of its key.
-#[inline]
+///
+/// It is not inlined, so that what stands around it stays small, for few words are a match.
+#[inline(never)]
 fn join_match(table: &Table, scratch: &mut Scratch, flight: &Flight)
     requires row { index_of flight.now.word < length table.now.rows }
     requires key { flight.now.key < length scratch.old }
@@ -190,8 +192,7 @@ fn has_end(words: &[u64; AT_ONCE]) -> bool
 
 /// Joins the rows of those of four flights, from one on and in order, that came to a match.
 ///
-/// It is not inlined, so that what stands around it stays small, for few words are a match. It
-/// reads the flights itself, so that no one keeps them until then.
+/// It is not inlined, and reads the flights itself, so that no one keeps them until then.
 #[inline(never)]
 fn join_each(table: &Table, scratch: &mut Scratch, flights: &[Flight], first: usize)
     requires room { first + AT_ONCE ≤ length flights.now }
@@ -248,6 +249,18 @@ impl<const W: usize> LaneFlows<W> {
             & self.is_busy(first + 1)
             & self.is_busy(first + 2)
             & self.is_busy(first + 3)
+    }
+
+    /// Whether the slots of four lanes, from one on, are all empty.
+    #[inline]
+    fn are_idle(&self, first: usize) -> bool
+        requires { first + AT_ONCE ≤ W }
+        ensures { result ≡ true → AreIdle self.now first }
+    {
+        !(self.is_busy(first)
+            | self.is_busy(first + 1)
+            | self.is_busy(first + 2)
+            | self.is_busy(first + 3))
     }
 
     /// The word and the key byte by which the lane goes on, or any byte where it is empty.
@@ -367,6 +380,21 @@ impl<const W: usize> LaneFlows<W> {
         0
     }
 
+    /// A step of each of four empty lanes, from one on and in order.
+    #[inline]
+    fn begin_four(&mut self, table: &Table, keys: &[u8], scratch: &Scratch, first: usize)
+        requires width { W ≤ 16 }
+        requires first { first + AT_ONCE ≤ W }
+        requires stands { StandsOver table.now keys.now self.old (length scratch.now) }
+        requires idle { AreIdle self.old first }
+        ensures { StepsLanes table.now keys.now self.old scratch.now first AT_ONCE self.new
+            scratch.now 0 }
+    {
+        for k in 0..AT_ONCE {
+            self.begin_job(table, keys, scratch, first + k);
+        }
+    }
+
     /// A step of each of four busy lanes, from one on and in order.
     #[inline]
     fn land_four<const ONE: bool>(
@@ -414,6 +442,11 @@ impl<const W: usize> LaneFlows<W> {
         ensures { StepsLanes table.now keys.now self.old scratch.old first AT_ONCE self.new
             scratch.new result }
     {
+        // Walks of one length begin together and end together.
+        if self.are_idle(first) {
+            self.begin_four(table, keys, scratch, first);
+            return 0;
+        }
         let places = self.places_from::<ONE, false>(table, keys, first);
         let mut busy = 0;
         for k in 0..AT_ONCE {
