@@ -2,7 +2,7 @@ use Rattle.std.proofs.Common.{◌≡◌, ℕ, ◌+◌, arith, lit<, length, subs
 use Rattle.std.specs.Prelude.{slice_index_or}
 use Rattle.lane_walk.specs.Turn.{HasCome, no_one}
 use Rattle.lane_walk.proofs.Fours.{four_joined, still}
-use Rattle.lane_walk.proofs.lanes.join_each.Goals as goal
+use Rattle.lane_walk.proofs.flights.join_each.Goals as goal
 
 pub join_ended-requires : goal.join_ended-requires
 join_ended-requires c =

@@ -3,7 +3,7 @@ use Rattle.std.specs.Prelude.{slice_index}
 use Rattle.std.proofs.lemmas.Bool.{or_parts}
 use Rattle.flat_table.specs.Word.{is_match}
 use Rattle.lane_walk.proofs.Landing.{each_of_four}
-use Rattle.lane_walk.proofs.lanes.has_end.Goals as goal
+use Rattle.lane_walk.proofs.flights.has_end.Goals as goal
 
 pub is_end-requires : goal.is_end-requires
 is_end-requires c = c.requires 0 (lit< tt)

@@ -2,7 +2,7 @@ use Rattle.std.proofs.Common.{ap, ◌∙◌}
 use Rattle.flow_core.specs.declared.flight.Flight.{Flight}
 use Rattle.flow_core.specs.Standing.{rows_after}
 use Rattle.lane_walk.proofs.Fours.{come}
-use Rattle.lane_walk.proofs.lanes.land.Goals as goal
+use Rattle.lane_walk.proofs.flights.land.Goals as goal
 
 pub join_ended-requires : goal.join_ended-requires
 join_ended-requires c = come c.args.flight.now c.requires.onward c.requires.key c.go_on.ensures
