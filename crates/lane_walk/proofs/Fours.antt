@@ -48,8 +48,8 @@ depth_below {table = table} {flight = flight} g short =
 -- a flight that has come to its next word
 pub come : {table : TableView} {word : ℕ} (before : Flight) {next : Flight} {rows : ℕ} → LeadsOnward table before word →
     before.key < rows → next ≡ moved_to word before → HasCome table next rows
-come {table = table} before {rows = rows} onward key is = subst (λ (flight : Flight). HasCome table flight rows) (sym is)
-    record {
+come {table = table} before {rows = rows} onward key is =
+    subst (λ (flight : Flight). HasCome table flight rows) (sym is) record {
       lawful = λ on. leads onward on;
       row = onward.row;
       key = key;
@@ -78,8 +78,8 @@ four_joined table flights first rows is_one is_two is_three is_four =
 module _ {table : TableView} {keys : List ℕ} {jobs given : ℕ} where
   -- a lane goes on to its word
   one_goes : (flights : List Flight) {rows : List (List ℕ)} (lane : ℕ) →
-      StandsOver table keys (seen jobs given flights) (length rows) → lane < length flights → {flight : Flight} {word : ℕ} →
-      get_or flights lane no_one ≡ flight → Goes table keys flight word → {next : Flight} →
+      StandsOver table keys (seen jobs given flights) (length rows) → lane < length flights →
+      {flight : Flight} {word : ℕ} → get_or flights lane no_one ≡ flight → Goes table keys flight word → {next : Flight} →
       next ≡ moved_to word (get_or flights lane no_one) →
       StepsLanes table keys (seen jobs given flights) rows lane 1 (seen jobs given (set flights lane next))
       (rows_after table flight word rows) 1
@@ -149,7 +149,8 @@ module _ {table : TableView} {keys : List ℕ} {jobs given : ℕ} (flights : Lis
     (a : AtOnce table keys jobs given flights before rows first places) where
   lane_at : (k : ℕ) → k < 4 →
       BusyLane table keys jobs given flights before rows (first + k) (get_or flights (first + k) no_one)
-  lane_at k h = busy_lane flights {width = length flights} a.view a.stands (omega (arith, a.room, h)) refl (a.busy k h) no_one
+  lane_at k h = busy_lane flights {width = length flights} a.view a.stands (omega (arith, a.room, h)) refl (a.busy k h)
+      no_one
 
   lands_at : (k : ℕ) → k < 4 → Lands table keys (get_or flights (first + k) no_one) (slice_index places k)
   lands_at k h = lands (lane_at k h).lent (lane_at k h).holds a.stay a.sound a.bytes (a.are k h)
@@ -278,7 +279,8 @@ module _ {table : TableView} {keys : List ℕ} {jobs given : ℕ} (flights : Lis
         let stands : StandsOver table keys (seen jobs given flights) (length rows) =
         subst (λ (machine : Machine). StandsOver table keys machine (length rows)) (sym a.view) a.stands in
         let goes_first : Goes table keys (get_or flights first no_one) (slice_index words 0) =
-        subst (λ (lane : ℕ). Goes table keys (get_or flights lane no_one) (slice_index words 0)) here (goes 0 (lit< tt)) in
+        subst (λ (lane : ℕ). Goes table keys (get_or flights lane no_one) (slice_index words 0)) here
+        (goes 0 (lit< tt)) in
         let r1 : List (List ℕ) = rows_after table (get_or flights first no_one) (slice_index words 0) rows in
         let r2 : List (List ℕ) = rows_after table (get_or flights (first + 1) no_one) (slice_index words 1) r1 in
         let r3 : List (List ℕ) = rows_after table (get_or flights (first + 2) no_one) (slice_index words 2) r2 in

@@ -108,8 +108,8 @@ on_of flight busy = elim (cases_Bool (is_match flight.word)) [
 ]
 
 -- what callers see of a lane
-pub slot_is : {jobs given : ℕ} (flights : List Flight) {before : Machine} → seen jobs given flights ≡ before → (lane : ℕ) →
-    lane < length flights → (d : Flight) → get_or before.slots lane None ≡ held_in (get_or flights lane d)
+pub slot_is : {jobs given : ℕ} (flights : List Flight) {before : Machine} → seen jobs given flights ≡ before →
+    (lane : ℕ) → lane < length flights → (d : Flight) → get_or before.slots lane None ≡ held_in (get_or flights lane d)
 slot_is flights is lane within d =
     ap (λ (machine : Machine). get_or machine.slots lane None) (sym is)
     ∙ get_or-map held_in flights lane d None within

@@ -57,7 +57,8 @@ returns-then-not-has_end g c =
     let goes = four_goes flights a c.words_at-words.result c.words.ensures c.words_at-words.ensures in
     let none = c.has_end.ensures c.if-not-has_end.true in
     four_go flights a c.words_at-words.result goes c.go_on.ensures c.go_on-2.ensures c.go_on-3.ensures
-    c.go_on-4.ensures (none_end flights a c.words_at-words.result goes c.go_on.ensures c.go_on-2.ensures c.go_on-3.ensures
+    c.go_on-4.ensures
+    (none_end flights a c.words_at-words.result goes c.go_on.ensures c.go_on-2.ensures c.go_on-3.ensures
     c.go_on-4.ensures none)
 
 pub go_on-requires : goal.go_on-requires
