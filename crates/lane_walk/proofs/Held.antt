@@ -1,6 +1,6 @@
 -- What lanes keep, as slots.
 use Rattle.std.proofs.Common.{◌≡◌, ℕ, zero, suc, ◌+◌, ◌<◌, ◌≤◌, ◌&&◌, List, [], ◌∷◌, sym, ap, ◌∙◌, refl, arith}
-use Rattle.std.proofs.Common.{get_or, map, set, replicate, cond, true, false, inl, inr, length, take, drop, subst}
+use Rattle.std.proofs.Common.{get_or, map, set, replicate, cond, true, false, not, Bool, inl, inr, length, take, drop, subst}
 use Rattle.std.proofs.Common.{get_or-set_same, length-set}
 use Rattle.std.specs.Prelude.{None, Some, Option, count_by, All, IfSome}
 use Rattle.std.specs.List.{list_all}
@@ -27,6 +27,11 @@ held_busy flight on = rw on refl
 pub held_none : (flight : Flight) → is_match flight.word ≡ true → held_in flight ≡ None
 held_none flight match = rw match refl
 
+-- what isn't so is false
+pub not_true : (test : Bool) → not test ≡ true → test ≡ false
+not_true true is = absurd (cc is)
+not_true false is = refl
+
 -- a slot is empty where the word is a match
 pub empty_is : (flight : Flight) → is_empty (held_in flight) ≡ is_match flight.word
 empty_is flight = elim (cases_Bool (is_match flight.word)) [
@@ -38,10 +43,6 @@ pub no_flights : (flight : Flight) → held_in flight ≡ None → (n : ℕ) →
     map held_in (replicate n flight) ≡ replicate n None
 no_flights flight none zero = refl
 no_flights flight none (suc n) = λ i. none i ∷ no_flights flight none n i
-
--- the flight of no lane
-abbrev pub no_one : Flight
-no_one = record { key = 0; trie = 0; depth = 0; word = 0 }
 
 -- ---- one lane
 
@@ -99,14 +100,16 @@ nothing : (held : Option Flight) → is_busy held ≡ false → held ≡ None
 nothing None empty = refl
 nothing (Some flight) empty = absurd (cc empty)
 
-on_of : (flight : Flight) → is_busy (held_in flight) ≡ true → is_match flight.word ≡ false
+-- a lane that is busy keeps no match
+pub on_of : (flight : Flight) → is_busy (held_in flight) ≡ true → is_match flight.word ≡ false
 on_of flight busy = elim (cases_Bool (is_match flight.word)) [
   | inl match ↦ absurd (cc (busy, ap is_busy (held_none flight match)))
   | inr on ↦ on
 ]
 
-slot_is : {jobs given : ℕ} (flights : List Flight) {before : Machine} → seen jobs given flights ≡ before → (lane : ℕ) →
-    lane < length flights → (d : Flight) → get_or before.slots lane None ≡ held_in (get_or flights lane d)
+-- what callers see of a lane
+pub slot_is : {jobs given : ℕ} (flights : List Flight) {before : Machine} → seen jobs given flights ≡ before →
+    (lane : ℕ) → lane < length flights → (d : Flight) → get_or before.slots lane None ≡ held_in (get_or flights lane d)
 slot_is flights is lane within d =
     ap (λ (machine : Machine). get_or machine.slots lane None) (sym is)
     ∙ get_or-map held_in flights lane d None within

@@ -4,10 +4,10 @@ use Rattle.std.specs.Prelude.{length, take, drop, if◌then◌else◌, true, fal
 use Rattle.std.specs.List.{range_with_len}
 use Rattle.flat_table.specs.Table.{TableView}
 use Rattle.flow_core.specs.declared.flight.Flight.{Flight}
-use Rattle.flat_table.specs.Word.{is_match, is_node, next_place}
+use Rattle.flat_table.specs.Word.{index_of, is_match, is_node, next_place}
 use Rattle.flat_table.specs.Batch.{keys_in}
 use Rattle.flow_core.specs.Machine.{Machine, FlowState, state_of, flow_run, is_empty, byte_of}
-use Rattle.flow_core.specs.Standing.{StandsOver}
+use Rattle.flow_core.specs.Standing.{StandsOver, rows_after}
 
 -- how many lanes there may be
 abbrev pub IsLanes : ℕ → Type 0
@@ -35,10 +35,19 @@ held_in flight = if is_match flight.word then None else Some flight
 abbrev pub EndsOrLeads : Flight → Type 0
 EndsOrLeads flight = is_match flight.word ≡ false → is_node flight.word ≡ true
 
+-- the flight of no lane
+abbrev pub no_one : Flight
+no_one = record { key = 0; trie = 0; depth = 0; word = 0 }
+
 -- four slots hold a flight each, from one on
 abbrev pub AreBusy : Machine → ℕ → Type 0
 AreBusy machine first =
     (k : ℕ) → k < 4 → is_busy (slice_index_or machine.slots (first + k) None) ≡ true
+
+-- four slots are empty, from one on
+abbrev pub AreIdle : Machine → ℕ → Type 0
+AreIdle machine first =
+    (k : ℕ) → k < 4 → is_busy (slice_index_or machine.slots (first + k) None) ≡ false
 
 -- the word and the byte are those by which the slot goes on, if it is busy
 abbrev pub GoesBy : TableView → List ℕ → Option Flight → ℕ → ℕ → Type 0
@@ -49,6 +58,22 @@ GoesBy table keys held word byte =
 abbrev pub IsPlaceOf : TableView → List ℕ → Option Flight → ℕ → Type 0
 IsPlaceOf table keys held place =
     IfSome held (λ flight. place ≡ next_place flight.word (byte_of table keys flight))
+
+-- the flight came to a word that a lane may keep, and there is a row for a match and for its key
+pub record HasCome (table : TableView) (flight : Flight) (rows : ℕ) : Type 0 where
+  pub lawful : EndsOrLeads flight
+  pub row : is_match flight.word ≡ true → index_of flight.word < length table.rows
+  pub key : flight.key < rows
+
+-- the rows after four flights, from one on and in order, came to their words
+abbrev pub rows_after_four : TableView → List Flight → ℕ → List (List ℕ) → List (List ℕ)
+rows_after_four table flights first rows =
+    let came = λ (flight : Flight) (them : List (List ℕ)).
+    rows_after table flight flight.word them in
+    came (slice_index_or flights (first + 3) no_one)
+    (came (slice_index_or flights (first + 2) no_one)
+    (came (slice_index_or flights (first + 1) no_one)
+    (came (slice_index_or flights first no_one) rows)))
 
 -- so many slots were stepped, from one on and in order, and the later ones hold what they held
 pub record StepsLanes (table : TableView) (keys : List ℕ) (before : Machine) (old : List (List ℕ))

@@ -7,23 +7,22 @@ ghost use Rattle.flat_table.specs.Groups.{longest_key};
 ghost use Rattle.flat_table.specs.Batch.{keys_in};
 ghost use Rattle.flat_table.specs.Word.{index_of, is_match, is_node};
 ghost use Rattle.flow_core.specs.Rows.{cleared, joined_into};
-ghost use Rattle.flow_core.specs.Machine.{Machine, state_of, first_state, is_done};
+ghost use Rattle.flow_core.specs.Machine.{Machine, state_of, first_state, is_done, moved_to};
 ghost use Rattle.flow_core.specs.Standing.{BatchFits, StandsOver, LeadsOnward};
 ghost use Rattle.flow_core.specs.Standing.{held_after, rows_after};
 ghost use Rattle.lane_walk.specs.Turn.{IsLanes, is_busy, busy_slots, flow_turn, held_in};
 ghost use Rattle.lane_walk.specs.Turn.{AreBusy, EndsOrLeads, GoesBy, IsPlaceOf, StepsLanes};
+ghost use Rattle.lane_walk.specs.Turn.{AreIdle, HasCome, no_one, rows_after_four};
 
-use flat_table::{MATCH, Table, index_of, is_match, kind_of};
+use crate::flights::{
+    AT_ONCE, are_empty, go_on, has_end, is_at_end, is_end, join_each, land, no_flight, of_trie,
+    words_at,
+};
+use flat_table::Table;
 use flow_core::laws::stay_in;
 use flow_core::{Flight, Scratch, byte_of, flight_of};
 use scalar_walk::four_places;
 use std::marker::Model;
-
-/// How many lanes are stepped at once.
-const AT_ONCE: usize = 4;
-
-/// How many bits of a word are the index.
-const INDEX_BITS: u32 = 29;
 
 /// A flow machine of `W` slots, 4, 8 or 16, which are stepped in turns. Contracts see it as they
 /// see `Flows` of `flow_core`: how many jobs there are, how many of them were given out, and what
@@ -55,84 +54,6 @@ impl<const W: usize> Model for LaneFlows<W> {
     } };
 
     ghost invariant = { λ lanes. All EndsOrLeads lanes.flights };
-}
-
-/// Whether the word ends a walk. It is a match or leads to a node, and no node has as great a kind.
-#[inline]
-fn is_end(word: u64) -> bool
-    requires { is_match word ≡ false → is_node word ≡ true }
-    ensures { result ≡ is_match word }
-{
-    kind_of(word) >= MATCH
-}
-
-/// What a lane keeps whose slot is empty.
-#[inline]
-fn no_flight() -> Flight
-    ensures held { held_in result ≡ None }
-    ensures lawful { EndsOrLeads result }
-{
-    Flight {
-        key: 0,
-        trie: 0,
-        depth: 0,
-        word: MATCH << INDEX_BITS,
-    }
-}
-
-/// Whether every slot is empty.
-fn are_empty(flights: &[Flight]) -> bool
-    ensures { result ≡ list_all (λ flight. is_match flight.word) flights.now }
-{
-    flights.iter().all(|flight| is_match(flight.word))
-}
-
-/// Joins the row that the flight's word names, which is a match, into that of its key.
-///
-/// It is not inlined, so that what stands around it stays small, for few words are a match. It
-/// reads the key itself, so that no one keeps it until then.
-#[inline(never)]
-fn join_match(table: &Table, scratch: &mut Scratch, flight: &Flight)
-    requires row { index_of flight.now.word < length table.now.rows }
-    requires key { flight.now.key < length scratch.old }
-    ensures { scratch.new ≡ joined_into flight.now.key
-        (slice_index_or table.now.rows (index_of flight.now.word) []) scratch.old }
-{
-    let (key, word) = (flight.key, flight.word);
-    scratch.join(key, table.row(index_of(word)));
-}
-
-/// The flight as it is. Where the table has one trie, its flights are of that one, and it is no
-/// longer read where its places lie.
-#[inline]
-fn of_trie<const ONE: bool>(flight: Flight) -> Flight
-    requires { ONE ≡ true → flight.trie ≡ 0 }
-    ensures { result ≡ flight }
-{
-    if ONE {
-        Flight { trie: 0, ..flight }
-    } else {
-        flight
-    }
-}
-
-/// The next word of a flight. After a match the row that it names is joined into that of the
-/// flight's key.
-#[inline]
-fn land(table: &Table, scratch: &mut Scratch, flight: &mut Flight, word: u64)
-    requires onward { LeadsOnward table.now flight.old word }
-    requires depth { flight.old.depth < longest_key }
-    requires key { flight.old.key < length scratch.old }
-    ensures held { held_in flight.new ≡ held_after flight.old word }
-    ensures lawful { EndsOrLeads flight.new }
-    ensures rows { scratch.new ≡ rows_after table.now flight.old word scratch.old }
-{
-    flight.depth += 1;
-    flight.word = word;
-    if !is_end(word) {
-        return;
-    }
-    join_match(table, scratch, flight);
 }
 
 impl<const W: usize> LaneFlows<W> {
@@ -180,25 +101,44 @@ impl<const W: usize> LaneFlows<W> {
             & self.is_busy(first + 3)
     }
 
+    /// Whether the slots of four lanes, from one on, are all empty.
+    #[inline]
+    fn are_idle(&self, first: usize) -> bool
+        requires { first + AT_ONCE ≤ W }
+        ensures { result ≡ true → AreIdle self.now first }
+    {
+        !(self.is_busy(first)
+            | self.is_busy(first + 1)
+            | self.is_busy(first + 2)
+            | self.is_busy(first + 3))
+    }
+
     /// The word and the key byte by which the lane goes on, or any byte where it is empty.
     #[inline]
-    fn read_lane<const ONE: bool>(&self, table: &Table, keys: &[u8], lane: usize) -> (u64, u8)
+    fn read_lane<const ONE: bool, const BUSY: bool>(
+        &self,
+        table: &Table,
+        keys: &[u8],
+        lane: usize,
+    ) -> (u64, u8)
         requires one { ONE ≡ true → length table.now.roots ≡ 1 }
         requires lane { lane < W }
+        requires busy { BUSY ≡ true → is_busy (slice_index_or self.now.slots lane None) ≡ true }
         requires stands { (rows : ℕ) × StandsOver table.now keys.now self.now rows }
         ensures { GoesBy table.now keys.now (slice_index_or self.now.slots lane None) result.0
             result.1 }
     {
         let flight = self.flights[lane];
-        if is_end(flight.word) {
+        if is_at_end::<BUSY>(flight.word) {
             return (flight.word, 0);
         }
         (flight.word, byte_of(table, keys, of_trie::<ONE>(flight)))
     }
 
-    /// The places of the words that four lanes take next, from one on.
+    /// The places of the words that four lanes take next, from one on, which may be known to be
+    /// busy.
     #[inline]
-    fn places_from<const ONE: bool>(
+    fn places_from<const ONE: bool, const BUSY: bool>(
         &self,
         table: &Table,
         keys: &[u8],
@@ -206,14 +146,15 @@ impl<const W: usize> LaneFlows<W> {
     ) -> [u32; AT_ONCE]
         requires one { ONE ≡ true → length table.now.roots ≡ 1 }
         requires first { first + AT_ONCE ≤ W }
+        requires busy { BUSY ≡ true → AreBusy self.now first }
         requires stands { (rows : ℕ) × StandsOver table.now keys.now self.now rows }
         ensures { (k : ℕ) → k < AT_ONCE → IsPlaceOf table.now keys.now
             (slice_index_or self.now.slots (first + k) None) (slice_index result k) }
     {
-        let one = self.read_lane::<ONE>(table, keys, first);
-        let two = self.read_lane::<ONE>(table, keys, first + 1);
-        let three = self.read_lane::<ONE>(table, keys, first + 2);
-        let four = self.read_lane::<ONE>(table, keys, first + 3);
+        let one = self.read_lane::<ONE, BUSY>(table, keys, first);
+        let two = self.read_lane::<ONE, BUSY>(table, keys, first + 1);
+        let three = self.read_lane::<ONE, BUSY>(table, keys, first + 2);
+        let four = self.read_lane::<ONE, BUSY>(table, keys, first + 3);
         four_places(
             &[one.0, two.0, three.0, four.0],
             &[one.1, two.1, three.1, four.1],
@@ -289,6 +230,21 @@ impl<const W: usize> LaneFlows<W> {
         0
     }
 
+    /// A step of each of four empty lanes, from one on and in order.
+    #[inline]
+    fn begin_four(&mut self, table: &Table, keys: &[u8], scratch: &Scratch, first: usize)
+        requires width { W ≤ 16 }
+        requires first { first + AT_ONCE ≤ W }
+        requires stands { StandsOver table.now keys.now self.old (length scratch.now) }
+        requires idle { AreIdle self.old first }
+        ensures { StepsLanes table.now keys.now self.old scratch.now first AT_ONCE self.new
+            scratch.now 0 }
+    {
+        for k in 0..AT_ONCE {
+            self.begin_job(table, keys, scratch, first + k);
+        }
+    }
+
     /// A step of each of four busy lanes, from one on and in order.
     #[inline]
     fn land_four<const ONE: bool>(
@@ -306,15 +262,22 @@ impl<const W: usize> LaneFlows<W> {
         ensures { StepsLanes table.now keys.now self.old scratch.old first AT_ONCE self.new
             scratch.new AT_ONCE }
     {
-        let places = self.places_from::<ONE>(table, keys, first);
-        for k in 0..AT_ONCE {
-            self.land_lane(table, keys, scratch, first + k, places[k] as usize);
+        stay_in(table);
+        let places = self.places_from::<ONE, true>(table, keys, first);
+        let words = words_at(table.words(), &places);
+        go_on(&mut self.flights[first], words[0]);
+        go_on(&mut self.flights[first + 1], words[1]);
+        go_on(&mut self.flights[first + 2], words[2]);
+        go_on(&mut self.flights[first + 3], words[3]);
+        if !has_end(&words) {
+            return;
         }
+        join_each(table, scratch, &self.flights, first);
     }
 
     /// A step of each of four lanes, from one on and in order, and how many of them were busy
-    /// before.
-    #[inline]
+    /// before. It is not inlined, for mostly all four are busy.
+    #[inline(never)]
     fn step_each<const ONE: bool>(
         &mut self,
         table: &Table,
@@ -329,7 +292,12 @@ impl<const W: usize> LaneFlows<W> {
         ensures { StepsLanes table.now keys.now self.old scratch.old first AT_ONCE self.new
             scratch.new result }
     {
-        let places = self.places_from::<ONE>(table, keys, first);
+        // Walks of one length begin together and end together.
+        if self.are_idle(first) {
+            self.begin_four(table, keys, scratch, first);
+            return 0;
+        }
+        let places = self.places_from::<ONE, false>(table, keys, first);
         let mut busy = 0;
         for k in 0..AT_ONCE {
             busy += self.step_lane(table, keys, scratch, first + k, places[k] as usize);
@@ -366,6 +334,7 @@ impl<const W: usize> LaneFlows<W> {
     ///
     /// Four lanes at a time work out at once which words they take. The table, the keys and the
     /// scratch are those that the machine began with. It refuses nothing and takes no memory.
+    #[inline]
     pub fn turn(&mut self, table: &Table, keys: &[u8], scratch: &mut Scratch) -> u32
         requires lanes { IsLanes W }
         requires stands { StandsOver table.now keys.now self.old (length scratch.old) }

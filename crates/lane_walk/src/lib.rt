@@ -5,6 +5,7 @@
 //! key byte, the places of the words that the four take are worked out at once, by a vector, and
 //! then they take their words, or their next jobs.
 //!
+//! - `flights`: what lanes keep, and how it goes on.
 //! - `lanes`: the machine and its turn.
 //! - `classify`: turns until the machine is done, and the verdicts of a batch.
 //! - `walk`: which walk is asked for, one key for itself or many by lanes.
@@ -15,6 +16,7 @@
 
 mod classify;
 mod either;
+mod flights;
 mod lanes;
 mod walk;
 

@@ -1,23 +1,126 @@
-use Rattle.std.proofs.Common.{◌+◌, ap, ◌∙◌, arith, sym, subst}
-use Rattle.std.specs.Prelude.{Option, slice_index}
+use Rattle.std.proofs.Common.{◌≡◌, ℕ, ◌+◌, ◌<◌, arith, lit<, get_or, subst, sym}
+use Rattle.std.specs.Prelude.{slice_index}
 use Rattle.flow_core.specs.declared.flight.Flight.{Flight}
-use Rattle.lane_walk.specs.Turn.{IsPlaceOf, is_busy}
-use Rattle.lane_walk.proofs.Turns.{and_then, holds_as_before}
+use Rattle.lane_walk.specs.Turn.{no_one}
+use Rattle.lane_walk.proofs.Fours.{at_once, depth_below, four_come, four_go, four_goes, four_there, fourth_is}
+use Rattle.lane_walk.proofs.Fours.{four_lawful, leads, none_end}
+use Rattle.lane_walk.proofs.Fours.{second_is, third_is}
+use Rattle.flat_table.specs.Groups.{longest_key}
 use Rattle.lane_walk.proofs.lanes.LaneFlows.land_four.Goals as goal
 
-pub land_lane-requires : goal.land_lane-requires
-land_lane-requires g c =
-    let k = c.loop-k.k in
-    let same = holds_as_before c.loop-k.invariant (c.args.first + k) (omega arith) in
-    let place = subst (λ (held : Option Flight). IsPlaceOf c.args.table.now c.args.keys.now held
-    (slice_index c.places_from-places.result k)) (sym same) (c.places_from-places.ensures k c.loop-k-test.true) in
-    let busy = ap is_busy same ∙ c.requires.busy k c.loop-k-test.true in (
-      omega (arith, c.requires.width),
-      (
-        c.requires.width,
-        (omega (arith, c.requires.first, c.loop-k-test.true), (c.loop-k.invariant.stands, (busy, place))),
-      ),
-    )
+pub words_at-words-requires : goal.words_at-words-requires
+words_at-words-requires g c k h =
+    let flights = c.self.inside.flights in
+    let bytes : (i : ℕ) → slice_index c.args.keys.now i < 256 = λ i. omega (arith, c.type_inv.keys i) in
+    let a = at_once c.self.view_is c.requires.stands c.requires.first c.self.told c.requires.busy
+    c.places_from-places.ensures c.stay_in.ensures.stay c.stay_in.ensures.sound bytes in
+    four_there flights a c.words.ensures k h
 
-pub loop-k-preserved : goal.loop-k-preserved
-loop-k-preserved g c = and_then c.loop-k.invariant c.land_lane.ensures
+pub has_end-requires : goal.has_end-requires
+has_end-requires g c k h =
+    let flights = c.self.inside.flights in
+    let bytes : (i : ℕ) → slice_index c.args.keys.now i < 256 = λ i. omega (arith, c.type_inv.keys i) in
+    let a = at_once c.self.view_is c.requires.stands c.requires.first c.self.told c.requires.busy
+    c.places_from-places.ensures c.stay_in.ensures.stay c.stay_in.ensures.sound bytes in
+    let goes = four_goes flights a c.words_at-words.result c.words.ensures c.words_at-words.ensures in
+    leads (goes k h).onward
+
+pub join_each-requires-clause-room : goal.join_each-requires-clause-room
+join_each-requires-clause-room g c = omega (arith, c.requires.first, c.self.told)
+
+pub join_each-requires-clause-come : goal.join_each-requires-clause-come
+join_each-requires-clause-come g c k h =
+    let flights = c.self.inside.flights in
+    let bytes : (i : ℕ) → slice_index c.args.keys.now i < 256 = λ i. omega (arith, c.type_inv.keys i) in
+    let a = at_once c.self.view_is c.requires.stands c.requires.first c.self.told c.requires.busy
+    c.places_from-places.ensures c.stay_in.ensures.stay c.stay_in.ensures.sound bytes in
+    let goes = four_goes flights a c.words_at-words.result c.words.ensures c.words_at-words.ensures in
+    four_come flights a c.words_at-words.result goes c.go_on.ensures c.go_on-2.ensures c.go_on-3.ensures
+    c.go_on-4.ensures k h
+
+pub returns : goal.returns
+returns g c =
+    let flights = c.self.inside.flights in
+    let bytes : (i : ℕ) → slice_index c.args.keys.now i < 256 = λ i. omega (arith, c.type_inv.keys i) in
+    let a = at_once c.self.view_is c.requires.stands c.requires.first c.self.told c.requires.busy
+    c.places_from-places.ensures c.stay_in.ensures.stay c.stay_in.ensures.sound bytes in
+    let goes = four_goes flights a c.words_at-words.result c.words.ensures c.words_at-words.ensures in
+    four_go flights a c.words_at-words.result goes c.go_on.ensures c.go_on-2.ensures c.go_on-3.ensures
+    c.go_on-4.ensures c.join_each.ensures
+
+pub returns-then-not-has_end : goal.returns-then-not-has_end
+returns-then-not-has_end g c =
+    let flights = c.self.inside.flights in
+    let bytes : (i : ℕ) → slice_index c.args.keys.now i < 256 = λ i. omega (arith, c.type_inv.keys i) in
+    let a = at_once c.self.view_is c.requires.stands c.requires.first c.self.told c.requires.busy
+    c.places_from-places.ensures c.stay_in.ensures.stay c.stay_in.ensures.sound bytes in
+    let goes = four_goes flights a c.words_at-words.result c.words.ensures c.words_at-words.ensures in
+    let none = c.has_end.ensures c.if-not-has_end.true in
+    four_go flights a c.words_at-words.result goes c.go_on.ensures c.go_on-2.ensures c.go_on-3.ensures
+    c.go_on-4.ensures
+    (none_end flights a c.words_at-words.result goes c.go_on.ensures c.go_on-2.ensures c.go_on-3.ensures
+    c.go_on-4.ensures none)
+
+pub go_on-requires : goal.go_on-requires
+go_on-requires g c =
+    let flights = c.self.inside.flights in
+    let bytes : (i : ℕ) → slice_index c.args.keys.now i < 256 = λ i. omega (arith, c.type_inv.keys i) in
+    let a = at_once c.self.view_is c.requires.stands c.requires.first c.self.told c.requires.busy
+    c.places_from-places.ensures c.stay_in.ensures.stay c.stay_in.ensures.sound bytes in
+    let goes = four_goes flights a c.words_at-words.result c.words.ensures c.words_at-words.ensures in
+    let here : c.args.first + 0 ≡ c.args.first = omega arith in
+    subst (λ (lane : ℕ). (get_or flights lane no_one).depth < longest_key) here
+    (depth_below (goes 0 (lit< tt)) c.stay_in.ensures.short)
+
+pub go_on-requires-2 : goal.go_on-requires-2
+go_on-requires-2 g c =
+    let flights = c.self.inside.flights in
+    let bytes : (i : ℕ) → slice_index c.args.keys.now i < 256 = λ i. omega (arith, c.type_inv.keys i) in
+    let a = at_once c.self.view_is c.requires.stands c.requires.first c.self.told c.requires.busy
+    c.places_from-places.ensures c.stay_in.ensures.stay c.stay_in.ensures.sound bytes in
+    let goes = four_goes flights a c.words_at-words.result c.words.ensures c.words_at-words.ensures in
+    subst (λ (flight : Flight). flight.depth < longest_key)
+    (sym (second_is flights c.args.first c.go_on.new.flight c.go_on.new.flight c.go_on.new.flight))
+    (depth_below (goes 1 (lit< tt)) c.stay_in.ensures.short)
+
+pub go_on-requires-3 : goal.go_on-requires-3
+go_on-requires-3 g c =
+    let flights = c.self.inside.flights in
+    let bytes : (i : ℕ) → slice_index c.args.keys.now i < 256 = λ i. omega (arith, c.type_inv.keys i) in
+    let a = at_once c.self.view_is c.requires.stands c.requires.first c.self.told c.requires.busy
+    c.places_from-places.ensures c.stay_in.ensures.stay c.stay_in.ensures.sound bytes in
+    let goes = four_goes flights a c.words_at-words.result c.words.ensures c.words_at-words.ensures in
+    subst (λ (flight : Flight). flight.depth < longest_key)
+    (sym (third_is flights c.args.first c.go_on.new.flight c.go_on-2.new.flight c.go_on.new.flight))
+    (depth_below (goes 2 (lit< tt)) c.stay_in.ensures.short)
+
+pub go_on-requires-4 : goal.go_on-requires-4
+go_on-requires-4 g c =
+    let flights = c.self.inside.flights in
+    let bytes : (i : ℕ) → slice_index c.args.keys.now i < 256 = λ i. omega (arith, c.type_inv.keys i) in
+    let a = at_once c.self.view_is c.requires.stands c.requires.first c.self.told c.requires.busy
+    c.places_from-places.ensures c.stay_in.ensures.stay c.stay_in.ensures.sound bytes in
+    let goes = four_goes flights a c.words_at-words.result c.words.ensures c.words_at-words.ensures in
+    subst (λ (flight : Flight). flight.depth < longest_key)
+    (sym (fourth_is flights c.args.first c.go_on.new.flight c.go_on-2.new.flight c.go_on-3.new.flight))
+    (depth_below (goes 3 (lit< tt)) c.stay_in.ensures.short)
+
+pub invariant_of-self : goal.invariant_of-self
+invariant_of-self g c =
+    let flights = c.self.inside.flights in
+    let bytes : (i : ℕ) → slice_index c.args.keys.now i < 256 = λ i. omega (arith, c.type_inv.keys i) in
+    let a = at_once c.self.view_is c.requires.stands c.requires.first c.self.told c.requires.busy
+    c.places_from-places.ensures c.stay_in.ensures.stay c.stay_in.ensures.sound bytes in
+    let goes = four_goes flights a c.words_at-words.result c.words.ensures c.words_at-words.ensures in
+    four_lawful flights a c.words_at-words.result goes c.go_on.ensures c.go_on-2.ensures c.go_on-3.ensures
+    c.go_on-4.ensures c.self.invariant
+
+pub invariant_of-self-2 : goal.invariant_of-self-2
+invariant_of-self-2 g c =
+    let flights = c.self.inside.flights in
+    let bytes : (i : ℕ) → slice_index c.args.keys.now i < 256 = λ i. omega (arith, c.type_inv.keys i) in
+    let a = at_once c.self.view_is c.requires.stands c.requires.first c.self.told c.requires.busy
+    c.places_from-places.ensures c.stay_in.ensures.stay c.stay_in.ensures.sound bytes in
+    let goes = four_goes flights a c.words_at-words.result c.words.ensures c.words_at-words.ensures in
+    four_lawful flights a c.words_at-words.result goes c.go_on.ensures c.go_on-2.ensures c.go_on-3.ensures
+    c.go_on-4.ensures c.self.invariant

@@ -6,7 +6,8 @@ use Rattle.flow_core.specs.declared.flight.Flight.{Flight}
 use Rattle.flow_core.specs.Standing.{held_after, rows_after, LeadsOnward}
 use Rattle.flow_core.proofs.Offered.{key_of_flight}
 use Rattle.lane_walk.specs.Turn.{EndsOrLeads}
-use Rattle.lane_walk.proofs.Held.{busy_lane, landed, no_one}
+use Rattle.lane_walk.specs.Turn.{no_one}
+use Rattle.lane_walk.proofs.Held.{busy_lane, landed}
 use Rattle.lane_walk.proofs.Landing.{lands, place_there, word_leads, word_is}
 use Rattle.lane_walk.proofs.lanes.LaneFlows.land_lane.Goals as goal
 

@@ -1,0 +1,303 @@
+-- Four busy lanes that go on at once.
+use Rattle.std.proofs.Common.{◌≡◌, ℕ, ◌+◌, ◌<◌, ◌≤◌, List, sym, ap, ◌∙◌, refl, arith, lit<, length, subst, true, false}
+use Rattle.std.proofs.Common.{get_or, set, map, length-set, get_or-set_other, get_or-set_same}
+use Rattle.std.proofs.lemmas.List.Elements.{All-set}
+use Rattle.std.specs.Prelude.{All, slice_index, slice_index_or, None, Some}
+use Rattle.std.proofs.lemmas.List.{get_or-map}
+use Rattle.flat_table.proofs.Offered.{places_bound}
+use Rattle.flat_table.specs.Groups.{longest_key}
+use Rattle.flat_table.specs.Laws.{WalksStay}
+use Rattle.flat_table.specs.Sound.{sound_fault}
+use Rattle.flat_table.specs.Table.{TableView}
+use Rattle.flat_table.specs.Word.{is_match, is_node}
+use Rattle.flow_core.specs.declared.flight.Flight.{Flight}
+use Rattle.flow_core.specs.Machine.{Machine, moved_to, word_of}
+use Rattle.flow_core.specs.Standing.{LeadsOnward, StandsOver, IsOnWay, held_after, rows_after}
+use Rattle.flow_core.proofs.Offered.{key_of_flight}
+use Rattle.lane_walk.specs.Turn.{AreBusy, EndsOrLeads, HasCome, IsPlaceOf, StepsLanes, held_in, is_busy, no_one, rows_after_four}
+use Rattle.lane_walk.proofs.Held.{BusyLane, busy_lane, held_busy, landed, lane_lent, on_of, seen}
+use Rattle.lane_walk.proofs.Landing.{Lands, each_of_four, lands, node_of, place_there, word_is, word_leads}
+use Rattle.lane_walk.proofs.Turns.{and_then}
+
+-- a flight and its next word
+pub record Goes (table : TableView) (keys : List ℕ) (flight : Flight) (word : ℕ) : Type 0 where
+  pub on : is_match flight.word ≡ false
+  pub given : ℕ
+  pub on_way : IsOnWay table keys given flight
+  pub word_is : word ≡ word_of table keys flight
+  pub onward : LeadsOnward table flight word
+
+-- a word to which a flight goes on is no match, or leads to a node
+pub leads : {table : TableView} {flight : Flight} {word : ℕ} → LeadsOnward table flight word →
+    is_match word ≡ false → is_node word ≡ true
+leads {table = table} {flight = flight} {word = word} onward on =
+    node_of table flight.trie (flight.depth + 1) word (onward.level on)
+
+-- so a lane may keep it
+lawful : {table : TableView} {flight next : Flight} {word : ℕ} (before : Flight) → LeadsOnward table flight word →
+    next ≡ moved_to word before → EndsOrLeads next
+lawful before onward is =
+    subst EndsOrLeads (sym is) (λ on. leads onward on)
+
+-- the depth of a flight on its way is below the greatest length of a key
+pub depth_below : {table : TableView} {keys : List ℕ} {flight : Flight} {word : ℕ} → Goes table keys flight word →
+    table.key_len ≤ longest_key → flight.depth < longest_key
+depth_below {table = table} {flight = flight} g short =
+    omega (arith, g.on_way.depth, places_bound table flight.trie, short)
+
+-- a flight that has come to its next word
+pub come : {table : TableView} {word : ℕ} (before : Flight) {next : Flight} {rows : ℕ} → LeadsOnward table before word →
+    before.key < rows → next ≡ moved_to word before → HasCome table next rows
+come {table = table} before {rows = rows} onward key is =
+    subst (λ (flight : Flight). HasCome table flight rows) (sym is) record {
+      lawful = λ on. leads onward on;
+      row = onward.row;
+      key = key;
+    }
+
+-- with as many rows it has come still
+pub still : {table : TableView} {flight : Flight} {rows new : ℕ} → HasCome table flight rows → new ≡ rows →
+    HasCome table flight new
+still {table = table} {flight = flight} has is = subst (λ (n : ℕ). HasCome table flight n) (sym is) has
+
+-- each of four was asked
+pub four_joined : (table : TableView) (flights : List Flight) (first : ℕ) (rows : List (List ℕ))
+    {one two three four : List (List ℕ)} →
+    one ≡ rows_after table (get_or flights first no_one) (get_or flights first no_one).word rows →
+    two ≡ rows_after table (get_or flights (first + 1) no_one) (get_or flights (first + 1) no_one).word one →
+    three ≡ rows_after table (get_or flights (first + 2) no_one) (get_or flights (first + 2) no_one).word two →
+    four ≡ rows_after table (get_or flights (first + 3) no_one) (get_or flights (first + 3) no_one).word three →
+    four ≡ rows_after_four table flights first rows
+four_joined table flights first rows is_one is_two is_three is_four =
+    let after = λ (k : ℕ) (them : List (List ℕ)).
+    rows_after table (get_or flights (first + k) no_one) (get_or flights (first + k) no_one).word them in
+    is_four ∙ ap (after 3) (is_three ∙ ap (after 2) (is_two ∙ ap (after 1) is_one))
+
+-- ---- one lane
+
+module _ {table : TableView} {keys : List ℕ} {jobs given : ℕ} where
+  -- a lane goes on to its word
+  one_goes : (flights : List Flight) {rows : List (List ℕ)} (lane : ℕ) →
+      StandsOver table keys (seen jobs given flights) (length rows) → lane < length flights →
+      {flight : Flight} {word : ℕ} → get_or flights lane no_one ≡ flight → Goes table keys flight word → {next : Flight} →
+      next ≡ moved_to word (get_or flights lane no_one) →
+      StepsLanes table keys (seen jobs given flights) rows lane 1 (seen jobs given (set flights lane next))
+      (rows_after table flight word rows) 1
+  one_goes flights {rows = rows} lane stands there {flight = flight} {word = word} same g {next = next} next_is =
+      let holds : get_or (map held_in flights) lane None ≡ Some flight =
+      get_or-map held_in flights lane no_one None there ∙ ap held_in same ∙ held_busy flight g.on in
+      let at : next ≡ moved_to word flight = next_is ∙ ap (λ (f : Flight). moved_to word f) same in
+      landed flights (lane_lent flights {before = seen jobs given flights} refl stands there refl) next holds
+      (ap is_busy holds)
+      (ap held_in at ∙ ap (λ (w : ℕ). held_after flight w) g.word_is)
+      (ap (λ (w : ℕ). rows_after table flight w rows) g.word_is)
+      (subst (LeadsOnward table flight) g.word_is g.onward)
+
+-- ---- four lanes
+
+-- what a lane keeps, after those before it were changed
+module _ (flights : List Flight) (first : ℕ) (one two three : Flight) where
+  pub second_is : get_or (set flights first one) (first + 1) no_one ≡ get_or flights (first + 1) no_one
+  second_is = get_or-set_other flights first (first + 1) one no_one (omega arith)
+
+  pub third_is : get_or (set (set flights first one) (first + 1) two) (first + 2) no_one
+      ≡ get_or flights (first + 2) no_one
+  third_is =
+      get_or-set_other (set flights first one) (first + 1) (first + 2) two no_one (omega arith)
+      ∙ get_or-set_other flights first (first + 2) one no_one (omega arith)
+
+  pub fourth_is : get_or (set (set (set flights first one) (first + 1) two) (first + 2) three) (first + 3) no_one
+      ≡ get_or flights (first + 3) no_one
+  fourth_is =
+      get_or-set_other (set (set flights first one) (first + 1) two) (first + 2) (first + 3) three no_one (omega arith)
+      ∙ get_or-set_other (set flights first one) (first + 1) (first + 3) two no_one (omega arith)
+      ∙ get_or-set_other flights first (first + 3) one no_one (omega arith)
+
+-- four lanes from one on, which are busy, with the places of their next words
+pub record AtOnce (table : TableView) (keys : List ℕ) (jobs given : ℕ) (flights : List Flight) (before : Machine)
+    (rows : List (List ℕ)) (first : ℕ) (places : List ℕ) : Type 0 where
+  pub view : seen jobs given flights ≡ before
+  pub stands : StandsOver table keys before (length rows)
+  pub room : first + 4 ≤ length flights
+  pub busy : AreBusy before first
+  pub are : (k : ℕ) → k < 4 →
+      IsPlaceOf table keys (slice_index_or before.slots (first + k) None) (slice_index places k)
+  pub stay : WalksStay
+  pub sound : sound_fault table ≡ None
+  pub bytes : (i : ℕ) → slice_index keys i < 256
+
+-- of a machine of so many slots
+pub at_once : {table : TableView} {keys : List ℕ} {jobs given width : ℕ} {flights : List Flight} {before : Machine}
+    {rows : List (List ℕ)} {first : ℕ} {places : List ℕ} → seen jobs given flights ≡ before →
+    StandsOver table keys before (length rows) → first + 4 ≤ width → length flights ≡ width → AreBusy before first →
+    ((k : ℕ) → k < 4 → IsPlaceOf table keys (slice_index_or before.slots (first + k) None) (slice_index places k)) →
+    WalksStay → sound_fault table ≡ None → ((i : ℕ) → slice_index keys i < 256) →
+    AtOnce table keys jobs given flights before rows first places
+at_once view stands room told busy are stay sound bytes = record {
+  view = view;
+  stands = stands;
+  room = omega (arith, room, told);
+  busy = busy;
+  are = are;
+  stay = stay;
+  sound = sound;
+  bytes = bytes;
+}
+
+module _ {table : TableView} {keys : List ℕ} {jobs given : ℕ} (flights : List Flight) {before : Machine}
+    {rows : List (List ℕ)} {first : ℕ} {places : List ℕ}
+    (a : AtOnce table keys jobs given flights before rows first places) where
+  lane_at : (k : ℕ) → k < 4 →
+      BusyLane table keys jobs given flights before rows (first + k) (get_or flights (first + k) no_one)
+  lane_at k h = busy_lane flights {width = length flights} a.view a.stands (omega (arith, a.room, h)) refl (a.busy k h)
+      no_one
+
+  lands_at : (k : ℕ) → k < 4 → Lands table keys (get_or flights (first + k) no_one) (slice_index places k)
+  lands_at k h = lands (lane_at k h).lent (lane_at k h).holds a.stay a.sound a.bytes (a.are k h)
+
+  -- each place is one of the table
+  pub four_there : {words : List ℕ} → words ≡ table.words → (k : ℕ) → k < 4 → slice_index places k < length words
+  four_there is k h = omega (arith, place_there (lands_at k h), ap (λ (xs : List ℕ). length xs) is)
+
+  -- and its word is where the flight goes on to
+  pub four_goes : (words : List ℕ) {all : List ℕ} → all ≡ table.words →
+      ((k : ℕ) → k < 4 → slice_index words k ≡ slice_index all (slice_index places k)) →
+      (k : ℕ) → k < 4 → Goes table keys (get_or flights (first + k) no_one) (slice_index words k)
+  four_goes words is read k h =
+      let l = lands_at k h in
+      let flight : Flight = get_or flights (first + k) no_one in
+      record {
+        on = on_of flight (ap is_busy (sym
+            (get_or-map held_in flights (first + k) no_one None (omega (arith, a.room, h))) ∙ (lane_at k h).holds));
+        given = l.given;
+        on_way = l.on_way;
+        word_is = read k h ∙ word_is l is;
+        onward = subst (LeadsOnward table flight) (sym (read k h)) (word_leads l is);
+      }
+
+  -- its key has a row
+  pub four_keys : (k : ℕ) → k < 4 → (get_or flights (first + k) no_one).key < length rows
+  four_keys k h = omega (arith, key_of_flight (lands_at k h).on_way, a.stands.fits.room)
+
+  -- ---- when they have gone on
+  module _ (words : List ℕ)
+      (goes : (k : ℕ) → k < 4 → Goes table keys (get_or flights (first + k) no_one) (slice_index words k))
+      {one two three four : Flight} (is_one : one ≡ moved_to (slice_index words 0) (get_or flights first no_one))
+      (is_two : two ≡ moved_to (slice_index words 1) (get_or (set flights first one) (first + 1) no_one))
+      (is_three : three
+      ≡ moved_to (slice_index words 2) (get_or (set (set flights first one) (first + 1) two) (first + 2) no_one))
+      (is_four : four ≡ moved_to (slice_index words 3)
+      (get_or (set (set (set flights first one) (first + 1) two) (first + 2) three) (first + 3) no_one)) where
+    abbrev f1 : List Flight
+    f1 = set flights first one
+
+    abbrev f2 : List Flight
+    f2 = set f1 (first + 1) two
+
+    abbrev f3 : List Flight
+    f3 = set f2 (first + 2) three
+
+    abbrev f4 : List Flight
+    f4 = set f3 (first + 3) four
+
+    n1 : length f1 ≡ length flights
+    n1 = length-set flights first one
+
+    n2 : length f2 ≡ length flights
+    n2 = length-set f1 (first + 1) two ∙ n1
+
+    n3 : length f3 ≡ length flights
+    n3 = length-set f2 (first + 2) three ∙ n2
+
+    -- a lane keeps what it came to
+    first_at : get_or f4 first no_one ≡ moved_to (slice_index words 0) (get_or flights first no_one)
+    first_at =
+        get_or-set_other f3 (first + 3) first four no_one (omega arith)
+        ∙ get_or-set_other f2 (first + 2) first three no_one (omega arith)
+        ∙ get_or-set_other f1 (first + 1) first two no_one (omega arith)
+        ∙ get_or-set_same flights first one no_one (omega (arith, a.room)) ∙ is_one
+
+    second_at : get_or f4 (first + 1) no_one ≡ moved_to (slice_index words 1) (get_or flights (first + 1) no_one)
+    second_at =
+        get_or-set_other f3 (first + 3) (first + 1) four no_one (omega arith)
+        ∙ get_or-set_other f2 (first + 2) (first + 1) three no_one (omega arith)
+        ∙ get_or-set_same f1 (first + 1) two no_one (omega (arith, a.room, n1)) ∙ is_two
+        ∙ ap (λ (f : Flight). moved_to (slice_index words 1) f) (second_is flights first one two three)
+
+    third_at : get_or f4 (first + 2) no_one ≡ moved_to (slice_index words 2) (get_or flights (first + 2) no_one)
+    third_at =
+        get_or-set_other f3 (first + 3) (first + 2) four no_one (omega arith)
+        ∙ get_or-set_same f2 (first + 2) three no_one (omega (arith, a.room, n2)) ∙ is_three
+        ∙ ap (λ (f : Flight). moved_to (slice_index words 2) f) (third_is flights first one two three)
+
+    fourth_at : get_or f4 (first + 3) no_one ≡ moved_to (slice_index words 3) (get_or flights (first + 3) no_one)
+    fourth_at =
+        get_or-set_same f3 (first + 3) four no_one (omega (arith, a.room, n3)) ∙ is_four
+        ∙ ap (λ (f : Flight). moved_to (slice_index words 3) f) (fourth_is flights first one two three)
+
+    four_at : (k : ℕ) → k < 4 →
+        get_or f4 (first + k) no_one ≡ moved_to (slice_index words k) (get_or flights (first + k) no_one)
+    four_at =
+        let here : first ≡ first + 0 = omega arith in
+        each_of_four
+        (λ k. get_or f4 (first + k) no_one ≡ moved_to (slice_index words k) (get_or flights (first + k) no_one))
+        (subst (λ (lane : ℕ). get_or f4 lane no_one ≡ moved_to (slice_index words 0) (get_or flights lane no_one)) here
+        first_at) second_at third_at fourth_at
+
+    -- which is what a lane may keep
+    pub four_lawful : All EndsOrLeads flights → All EndsOrLeads f4
+    four_lawful all =
+        All-set EndsOrLeads f3 (first + 3) four
+        (lawful (get_or f3 (first + 3) no_one) (goes 3 (lit< tt)).onward is_four)
+        (All-set EndsOrLeads f2 (first + 2) three
+        (lawful (get_or f2 (first + 2) no_one) (goes 2 (lit< tt)).onward is_three)
+        (All-set EndsOrLeads f1 (first + 1) two
+        (lawful (get_or f1 (first + 1) no_one) (goes 1 (lit< tt)).onward is_two)
+        (All-set EndsOrLeads flights first one
+        (lawful (get_or flights first no_one) (goes 0 (lit< tt)).onward is_one) all)))
+
+    pub four_come : (k : ℕ) → k < 4 → HasCome table (get_or f4 (first + k) no_one) (length rows)
+    four_come k h = come (get_or flights (first + k) no_one) (goes k h).onward (four_keys k h) (four_at k h)
+
+    -- where none of them came to a match, the rows stay
+    pub none_end : ((k : ℕ) → k < 4 → is_match (slice_index words k) ≡ false) →
+        rows ≡ rows_after_four table f4 first rows
+    none_end none =
+        let at = λ (w : Flight). is_match w.word in
+        let on1 : is_match (get_or f4 first no_one).word ≡ false = ap at first_at ∙ none 0 (lit< tt) in
+        let on2 : is_match (get_or f4 (first + 1) no_one).word ≡ false = ap at second_at ∙ none 1 (lit< tt) in
+        let on3 : is_match (get_or f4 (first + 2) no_one).word ≡ false = ap at third_at ∙ none 2 (lit< tt) in
+        let on4 : is_match (get_or f4 (first + 3) no_one).word ≡ false = ap at fourth_at ∙ none 3 (lit< tt) in
+        rw (on1, on2, on3, on4) refl
+
+    -- and each was stepped
+    pub four_go : {new : List (List ℕ)} → new ≡ rows_after_four table f4 first rows →
+        StepsLanes table keys before rows first 4 (seen jobs given f4) new 4
+    four_go {new = new} new_is =
+        let here : first + 0 ≡ first = omega arith in
+        let came = λ (flight : Flight) (them : List (List ℕ)). rows_after table flight flight.word them in
+        let stands : StandsOver table keys (seen jobs given flights) (length rows) =
+        subst (λ (machine : Machine). StandsOver table keys machine (length rows)) (sym a.view) a.stands in
+        let goes_first : Goes table keys (get_or flights first no_one) (slice_index words 0) =
+        subst (λ (lane : ℕ). Goes table keys (get_or flights lane no_one) (slice_index words 0)) here
+        (goes 0 (lit< tt)) in
+        let r1 : List (List ℕ) = rows_after table (get_or flights first no_one) (slice_index words 0) rows in
+        let r2 : List (List ℕ) = rows_after table (get_or flights (first + 1) no_one) (slice_index words 1) r1 in
+        let r3 : List (List ℕ) = rows_after table (get_or flights (first + 2) no_one) (slice_index words 2) r2 in
+        let r4 : List (List ℕ) = rows_after table (get_or flights (first + 3) no_one) (slice_index words 3) r3 in
+        let s1 : StepsLanes table keys (seen jobs given flights) rows first 1 (seen jobs given f1) r1 1 =
+        one_goes flights first stands (omega (arith, a.room)) refl goes_first is_one in
+        let s2 : StepsLanes table keys (seen jobs given flights) rows first 2 (seen jobs given f2) r2 2 =
+        and_then s1 (one_goes f1 (first + 1) s1.stands (omega (arith, a.room, n1))
+        (second_is flights first one two three) (goes 1 (lit< tt)) is_two) in
+        let s3 : StepsLanes table keys (seen jobs given flights) rows first 3 (seen jobs given f3) r3 3 =
+        and_then s2 (one_goes f2 (first + 2) s2.stands (omega (arith, a.room, n2))
+        (third_is flights first one two three) (goes 2 (lit< tt)) is_three) in
+        let s4 : StepsLanes table keys (seen jobs given flights) rows first 4 (seen jobs given f4) r4 4 =
+        and_then s3 (one_goes f3 (first + 3) s3.stands (omega (arith, a.room, n3))
+        (fourth_is flights first one two three) (goes 3 (lit< tt)) is_four) in
+        let all : rows_after_four table f4 first rows ≡ r4 =
+        λ i. came (fourth_at i) (came (third_at i) (came (second_at i) (came (first_at i) rows))) in
+        subst (λ (them : List (List ℕ)). StepsLanes table keys before rows first 4 (seen jobs given f4) them 4)
+        (sym (new_is ∙ all))
+        (subst (λ (machine : Machine). StepsLanes table keys machine rows first 4 (seen jobs given f4) r4 4) a.view s4)

@@ -1,0 +1,19 @@
+use Rattle.std.proofs.Common.{◌+◌, ap, ◌∙◌, arith}
+use Rattle.lane_walk.specs.Turn.{is_busy}
+use Rattle.lane_walk.proofs.Turns.{and_then, holds_as_before}
+use Rattle.lane_walk.proofs.lanes.LaneFlows.begin_four.Goals as goal
+
+pub begin_job-requires : goal.begin_job-requires
+begin_job-requires g c =
+    let k = c.loop-k.k in
+    let same = holds_as_before c.loop-k.invariant (c.args.first + k) (omega arith) in
+    let empty = ap is_busy same ∙ c.requires.idle k c.loop-k-test.true in (
+      omega (arith, c.requires.width),
+      (
+        c.requires.width,
+        (omega (arith, c.requires.first, c.loop-k-test.true), (c.loop-k.invariant.stands, empty)),
+      ),
+    )
+
+pub loop-k-preserved : goal.loop-k-preserved
+loop-k-preserved g c = and_then c.loop-k.invariant c.begin_job.ensures

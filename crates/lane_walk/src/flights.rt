@@ -1,0 +1,168 @@
+//! What lanes keep: flights, of which those whose word is a match stand for empty slots.
+
+ghost use Rattle.std.specs.Prelude.{◌≡◌, ℕ, ◌+◌, ◌<◌, ◌≤◌, length, true, false, None, []};
+ghost use Rattle.std.specs.Prelude.{slice_index, slice_index_or};
+ghost use Rattle.std.specs.List.{list_all};
+ghost use Rattle.flat_table.specs.Groups.{longest_key};
+ghost use Rattle.flat_table.specs.Word.{index_of, is_match, is_node};
+ghost use Rattle.flow_core.specs.Rows.{joined_into};
+ghost use Rattle.flow_core.specs.Machine.{moved_to};
+ghost use Rattle.flow_core.specs.Standing.{LeadsOnward, held_after, rows_after};
+ghost use Rattle.lane_walk.specs.Turn.{EndsOrLeads, HasCome, held_in, no_one, rows_after_four};
+
+use flat_table::{MATCH, Table, index_of, is_match, kind_of};
+use flow_core::{Flight, Scratch};
+
+/// How many lanes are stepped at once.
+pub(crate) const AT_ONCE: usize = 4;
+
+/// How many bits of a word are the index.
+const INDEX_BITS: u32 = 29;
+
+/// Whether the word ends a walk. It is a match or leads to a node, and no node has as great a kind.
+#[inline]
+pub(crate) fn is_end(word: u64) -> bool
+    requires { is_match word ≡ false → is_node word ≡ true }
+    ensures { result ≡ is_match word }
+{
+    kind_of(word) >= MATCH
+}
+
+/// Whether the word of a lane ends a walk. Of a lane that is known to be busy it isn't asked.
+#[inline]
+pub(crate) fn is_at_end<const BUSY: bool>(word: u64) -> bool
+    requires node { is_match word ≡ false → is_node word ≡ true }
+    requires busy { BUSY ≡ true → is_match word ≡ false }
+    ensures { result ≡ is_match word }
+{
+    !BUSY && is_end(word)
+}
+
+/// What a lane keeps whose slot is empty.
+#[inline]
+pub(crate) fn no_flight() -> Flight
+    ensures held { held_in result ≡ None }
+    ensures lawful { EndsOrLeads result }
+{
+    Flight {
+        key: 0,
+        trie: 0,
+        depth: 0,
+        word: MATCH << INDEX_BITS,
+    }
+}
+
+/// Whether every slot is empty.
+pub(crate) fn are_empty(flights: &[Flight]) -> bool
+    ensures { result ≡ list_all (λ flight. is_match flight.word) flights.now }
+{
+    flights.iter().all(|flight| is_match(flight.word))
+}
+
+/// Joins the row that the flight's word names, which is a match, into that of its key.
+///
+/// It is not inlined, so that what stands around it stays small, for few words are a match.
+#[inline(never)]
+pub(crate) fn join_match(table: &Table, scratch: &mut Scratch, flight: &Flight)
+    requires row { index_of flight.now.word < length table.now.rows }
+    requires key { flight.now.key < length scratch.old }
+    ensures { scratch.new ≡ joined_into flight.now.key
+        (slice_index_or table.now.rows (index_of flight.now.word) []) scratch.old }
+{
+    let (key, word) = (flight.key, flight.word);
+    scratch.join(key, table.row(index_of(word)));
+}
+
+/// The flight as it is. Where the table has one trie, its flights are of that one, and it is no
+/// longer read where its places lie.
+#[inline]
+pub(crate) fn of_trie<const ONE: bool>(flight: Flight) -> Flight
+    requires { ONE ≡ true → flight.trie ≡ 0 }
+    ensures { result ≡ flight }
+{
+    if ONE {
+        Flight { trie: 0, ..flight }
+    } else {
+        flight
+    }
+}
+
+/// Where the flight came to a match, the row that it names is joined into that of its key.
+#[inline]
+pub(crate) fn join_ended(table: &Table, scratch: &mut Scratch, flight: &Flight)
+    requires { HasCome table.now flight.now (length scratch.old) }
+    ensures rows { scratch.new ≡ rows_after table.now flight.now flight.now.word scratch.old }
+    ensures len { length scratch.new ≡ length scratch.old }
+{
+    if is_end(flight.word) {
+        join_match(table, scratch, flight);
+    }
+}
+
+/// The flight at its next word.
+#[inline]
+pub(crate) fn go_on(flight: &mut Flight, word: u64)
+    requires { flight.old.depth < longest_key }
+    ensures { flight.new ≡ moved_to word flight.old }
+{
+    flight.depth += 1;
+    flight.word = word;
+}
+
+/// The next word of a flight. After a match the row that it names is joined into that of the
+/// flight's key.
+#[inline]
+pub(crate) fn land(table: &Table, scratch: &mut Scratch, flight: &mut Flight, word: u64)
+    requires onward { LeadsOnward table.now flight.old word }
+    requires depth { flight.old.depth < longest_key }
+    requires key { flight.old.key < length scratch.old }
+    ensures held { held_in flight.new ≡ held_after flight.old word }
+    ensures lawful { EndsOrLeads flight.new }
+    ensures rows { scratch.new ≡ rows_after table.now flight.old word scratch.old }
+{
+    go_on(flight, word);
+    join_ended(table, scratch, flight);
+}
+
+/// The words at four places.
+#[inline]
+pub(crate) fn words_at(words: &[u64], places: &[u32; AT_ONCE]) -> [u64; AT_ONCE]
+    requires { (k : ℕ) → k < AT_ONCE → slice_index places.now k < length words.now }
+    ensures { (k : ℕ) → k < AT_ONCE →
+        slice_index result k ≡ slice_index words.now (slice_index places.now k) }
+{
+    [
+        words[places[0] as usize],
+        words[places[1] as usize],
+        words[places[2] as usize],
+        words[places[3] as usize],
+    ]
+}
+
+/// Whether one of four words ends a walk.
+#[inline]
+pub(crate) fn has_end(words: &[u64; AT_ONCE]) -> bool
+    requires { (k : ℕ) → k < AT_ONCE →
+        is_match (slice_index words.now k) ≡ false → is_node (slice_index words.now k) ≡ true }
+    ensures { result ≡ false → (k : ℕ) → k < AT_ONCE →
+        is_match (slice_index words.now k) ≡ false }
+{
+    // All four are asked at once, since one test of the words together takes fewer steps.
+    is_end(words[0]) | is_end(words[1]) | is_end(words[2]) | is_end(words[3])
+}
+
+/// Joins the rows of those of four flights, from one on and in order, that came to a match.
+///
+/// It is not inlined, and reads the flights itself, so that no one keeps them until then.
+#[inline(never)]
+pub(crate) fn join_each(table: &Table, scratch: &mut Scratch, flights: &[Flight], first: usize)
+    requires room { first + AT_ONCE ≤ length flights.now }
+    requires come { (k : ℕ) → k < AT_ONCE → HasCome table.now
+        (slice_index_or flights.now (first + k) no_one) (length scratch.old) }
+    ensures { scratch.new ≡ rows_after_four table.now flights.now first scratch.old }
+{
+    join_ended(table, scratch, &flights[first]);
+    join_ended(table, scratch, &flights[first + 1]);
+    join_ended(table, scratch, &flights[first + 2]);
+    join_ended(table, scratch, &flights[first + 3]);
+}
