@@ -64,6 +64,20 @@ const IP6: u16 = 0x86DD;
 pub fn extract(link: Link, frame: &[u8], key: &mut KeyBuf) -> Class
     ensures { Extracts (frame_class link frame.now) key.old.bytes key.new.bytes result }
 {
+    // Most captures are of Ethernet, whose frames meet no jump by the link type.
+    match link {
+        Link::Ethernet => extract_typed(ETHERNET_HEADER, ETHERNET_TYPE, frame, key),
+        Link::Raw | Link::Cooked | Link::CookedV2 | Link::Ip4 | Link::Ip6 => {
+            extract_by_link(link, frame, key)
+        }
+    }
+}
+
+/// The same for any link type.
+#[inline(never)]
+fn extract_by_link(link: Link, frame: &[u8], key: &mut KeyBuf) -> Class
+    ensures { Extracts (frame_class link frame.now) key.old.bytes key.new.bytes result }
+{
     match link {
         Link::Ethernet => extract_typed(ETHERNET_HEADER, ETHERNET_TYPE, frame, key),
         Link::Cooked => extract_typed(COOKED_HEADER, COOKED_TYPE, frame, key),

@@ -70,6 +70,7 @@ pub record HasFront (state : BlockState) (bytes : List ℕ) (front : Front) : Ty
   pub there : front_len ≤ length bytes
   pub total : front.total ≡ number_in front.order bytes 4 4
   pub least : least_len front.kind ≤ front.total
+  pub multiple : front.total % 4 ≡ 0
 
 not_less : (a b : ℕ) → nat_lt a b ≡ false → b ≤ a
 not_less a b is = elim (cases_lt a b) [
@@ -80,6 +81,17 @@ not_less a b is = elim (cases_lt a b) [
 or_right : (a b : Bool) → (a || b) ≡ false → b ≡ false
 or_right true b is = absurd (false≢true (sym is))
 or_right false b is = is
+
+or_left : (a b : Bool) → (a || b) ≡ false → a ≡ false
+or_left true b is = absurd (false≢true (sym is))
+or_left false b is = refl
+
+-- a test that a number is no multiple of 4 failed
+multiple_of_4 : (n : ℕ) → not (n % 4 == 0) ≡ false → n % 4 ≡ 0
+multiple_of_4 n is = elim (cases_eq (n % 4) 0) [
+  | inl multiple ↦ multiple
+  | inr other ↦ absurd (false≢true (sym is ∙ ap not (ne_eqb (n % 4) 0 other)))
+]
 
 pub HasFront-from : (state : BlockState) (bytes : List ℕ) (front : Front) → front_of state bytes ≡ Ok front →
     HasFront state bytes front
@@ -100,6 +112,9 @@ HasFront-from state bytes front is =
       total = refl;
       least = not_less total (least_len kind)
           (or_right (not (total % 4 == 0)) (nat_lt total (least_len kind))
+          (refuse_ok (is_no_len kind total) (PngLength (state.count + 1)) long.0 long.1));
+      multiple = multiple_of_4 total
+          (or_left (not (total % 4 == 0)) (nat_lt total (least_len kind))
           (refuse_ok (is_no_len kind total) (PngLength (state.count + 1)) long.0 long.1));
     }
 

@@ -1,5 +1,7 @@
 -- What the front of a block comes to.
-use Rattle.std.proofs.Common.{◌≡◌, ℕ, ◌+◌, ◌<◌, ◌≤◌, List, [], ◌++◌, length, take, drop, Result, Ok, Err}
+use Rattle.std.proofs.Common.{◌≡◌, ℕ, ◌+◌, ◌%◌, ◌<◌, ◌≤◌, List, [], ◌++◌, length, take, drop, Some, Result, Ok, Err}
+use Rattle.std.specs.Prelude.{slice_get}
+use Rattle.std.proofs.lemmas.Bool.{le-ltb}
 use Rattle.std.proofs.Common.{false, inl}
 use Rattle.std.proofs.Common.{refl, sym, ap, ◌∙◌, length-drop, arith}
 use Rattle.std.proofs.lemmas.List.{take-append-le, drop-append-le}
@@ -8,7 +10,12 @@ use Rattle.acl_outside.specs.Heard.{GoesOn, Ended}
 use Rattle.pcap_reader.specs.declared.fault.CaptureFault.{CaptureFault}
 use Rattle.pcap_reader.specs.declared.fault.CaptureFault.TheVariants.{PngCut, PngLength, ReadFault}
 use Rattle.pcap_reader.specs.Headers.{number_in}
+use Rattle.pcap_reader.specs.declared.link.Link.{Link}
+use Rattle.pcap_reader.specs.Capture.{max_captured}
 use Rattle.pcapng_reader.specs.Block.{BlockState, End, Fault, Given, front_of, front_len, is_last, is_no_len, kind_of}
+use Rattle.pcapng_reader.specs.Block.{captured_in, least_len, packet_said, padded}
+use Rattle.pcapng_reader.specs.declared.front.Front.{Front}
+use Rattle.pcapng_reader.specs.declared.said.Said.TheVariants as said
 use Rattle.pcapng_reader.specs.declared.kind.Kind.TheVariants.{Packet}
 use Rattle.pcapng_reader.specs.declared.blocks.BlockRead.{BlockRead}
 use Rattle.pcapng_reader.specs.declared.blocks.BlockRead.TheVariants as read
@@ -79,3 +86,15 @@ within-more small large (Ok read.End) more within = tt
 within-more small large (Ok read.Passed) more within = tt
 within-more small large (Ok (read.Given place)) more within = omega (arith, more, within)
 within-more small large (Err fault) more within = tt
+
+-- a packet isn't refused whose captured bytes have room before the last four bytes
+pub packet-says : (state : BlockState) (front : Front) (block : List ℕ) (link : Link) →
+    slice_get state.interfaces (number_in front.order block 8 4) ≡ Some (Some link) →
+    captured_in front block + 32 ≤ front.total → front.total % 4 ≡ 0 → front.total ≤ max_captured →
+    packet_said state front block ≡ Ok (said.Packet link (captured_in front block))
+packet-says state front block link found fits multiple room =
+    rw (
+      found,
+      le-ltb max_captured (captured_in front block) (omega (arith, fits, room)),
+      le-ltb front.total (padded (captured_in front block) + least_len Packet) (omega (arith, fits, multiple)),
+    ) refl

@@ -1,8 +1,9 @@
 -- What was read of a block, part by part.
 use Rattle.std.specs.Prelude.{◌≡◌, ℕ, ◌+◌, ◌-◌, ◌<◌, ◌≤◌, List, [], ◌++◌, length, take, drop, ⊤}
-use Rattle.std.specs.Prelude.{◌⊎◌}
+use Rattle.std.specs.Prelude.{◌⊎◌, false}
 use Rattle.std.specs.Prelude.{Result, Ok, Err}
 use Rattle.acl_outside.specs.Fault.{Rose}
+use Rattle.acl_outside.specs.declared.desk.Failed.{Failed}
 use Rattle.acl_outside.specs.Desk.{DeskView}
 use Rattle.acl_outside.specs.Heard.{Heard, Ending, NotOpened, GoesOn, Ended, BrokenOff, with_ending}
 use Rattle.acl_outside.specs.Reading.{ReadsOn, and_goes_on}
@@ -11,12 +12,12 @@ use Rattle.pcap_reader.specs.declared.fault.CaptureFault.TheVariants.{HeaderCut,
 use Rattle.pcap_reader.specs.declared.fault.CaptureFault.TheVariants.{PngCut, ReadFault}
 use Rattle.pcap_reader.specs.declared.start.Order.{Order}
 use Rattle.pcap_reader.specs.Capture.{max_captured}
-use Rattle.pcap_reader.specs.Fill.{KeepsReading, IsAtEnd}
+use Rattle.pcap_reader.specs.Fill.{Fills, KeepsReading, IsAtEnd}
 use Rattle.pcap_reader.specs.Headers.{number_in}
 use Rattle.pcap_reader.specs.State.{CaptureRecord}
 use Rattle.pcapng_reader.specs.Block.{Block, End, Passed, Given, Fault}
 use Rattle.pcapng_reader.specs.Block.{BlockState, block_of, front_of, least_len, max_interfaces}
-use Rattle.pcapng_reader.specs.Block.{said_by}
+use Rattle.pcapng_reader.specs.Block.{front_len, has_other_end, packet_said, said_by}
 use Rattle.pcapng_reader.specs.declared.blocks.BlockRead.{BlockRead}
 use Rattle.pcapng_reader.specs.declared.blocks.BlockRead.TheVariants as read
 use Rattle.pcapng_reader.specs.declared.blocks.Place.{Place}
@@ -65,6 +66,16 @@ ReadsPart state part old new (Ok len) =
     (len ≤ length part) × (len ≡ length part → HasRead state part GoesOn old new)
     × (len < length part → HasRead state (take len part) Ended old new)
 ReadsPart state part old new (Err fault) = HasBroken state state.first (length part) old new
+
+-- The front of a block was read, and after it so many bytes of the rest: all that it has, or fewer
+-- where the file ended. `before` stood in its place.
+pub record HasRest (state : BlockState) (block : List ℕ) (count : ℕ) (old new : DeskView) :
+    Type 0 where
+  pub mid : DeskView
+  pub before : List ℕ
+  pub room : length before ≡ length block - front_len
+  pub front : HasRead state (take front_len block) GoesOn old mid
+  pub rest : Fills {E = Failed} before (drop front_len block) mid new (Ok count)
 
 -- Bytes more were read of the next block, of which `Are` holds, or fewer than so many where the
 -- block is cut, or a read failed.
@@ -158,6 +169,16 @@ read_of (said.Packet link captured) at =
 read_of said.Section at = read.Passed
 read_of (said.Interface link) at = read.Passed
 read_of said.Other at = read.Passed
+
+-- A packet stands at a place of a block, of which so many bytes were read: all of them. It isn't
+-- refused, and ends in its length.
+pub record IsPacketAt (state : BlockState) (front : Front) (block : List ℕ) (len : ℕ)
+    (place : Place) : Type 0 where
+  pub whole : len ≡ length block
+  pub says : packet_said state front block ≡ Ok (said.Packet place.link place.len)
+  pub ends : has_other_end front block ≡ false
+  pub start : place.at ≡ 28
+  pub within : place.at + place.len ≤ length block
 
 -- how many captured bytes a block says that it has
 abbrev pub captured_by : Said → ℕ

@@ -8,7 +8,8 @@
 //! |---|---|
 //! | `any` | the way in: `begin`, which tells the format, and `next` for each record |
 //! | `packets` | the next packet of a pcapng file, over all blocks before it |
-//! | `blocks` | a block, into a buffer or piece by piece |
+//! | `blocks` | a block, into a buffer |
+//! | `long` | the rest of a block that has no room there, piece by piece |
 //! | `reader` | what a block says, and what a reader knows after it |
 //! | `interfaces` | the link types of the interfaces of a section |
 //! | `front` | what the first twelve bytes of a block say |
@@ -35,6 +36,7 @@ mod front;
 mod interfaces;
 mod kind;
 pub mod laws;
+mod long;
 mod number;
 mod packets;
 mod reader;

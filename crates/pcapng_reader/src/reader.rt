@@ -1,14 +1,15 @@
 //! What a reader of blocks knows, and what a block says to it.
 
-ghost use Rattle.std.specs.Prelude.{◌≡◌, ◌-◌, ◌≤◌, IfOk, IfSome, Ok, false, length};
+ghost use Rattle.std.specs.Prelude.{[], ◌≡◌, ◌+◌, ◌-◌, ◌%◌, ◌≤◌, IfOk, IfSome, Ok, false, length};
 ghost use Rattle.pcapng_reader.specs.Block.{front_len, front_of, is_last, is_no_len, least_len};
 ghost use Rattle.pcapng_reader.specs.Block.{magic_order, order_in, said_by};
 ghost use Rattle.pcapng_reader.specs.Block.{interface_said, packet_said, section_said, state_said};
 ghost use Rattle.pcap_reader.specs.Capture.{max_captured};
 ghost use Rattle.pcap_reader.specs.State.{has_ended};
 ghost use Rattle.pcapng_reader.specs.Capture.{begun_blocks, section_bytes};
-ghost use Rattle.pcapng_reader.specs.Reading.{HasRoom};
+ghost use Rattle.pcapng_reader.specs.Reading.{HasRoom, IsPacketAt};
 
+use crate::blocks::{CAPTURED_AT, Place};
 use crate::front::Front;
 use crate::interfaces::Interfaces;
 use crate::kind::Kind;
@@ -216,6 +217,71 @@ impl Reader {
             return Err(CaptureFault::PngLength(number));
         }
         Ok(Said::Packet(link, captured))
+    }
+
+    /// Where a packet stands whose block was read in full and isn't refused. `None`: that isn't so,
+    /// or only looks so. Of the block so many bytes were read.
+    #[inline(always)]
+    pub fn packet_at(&self, front: &Front, block: &[u8], len: usize) -> Option<Place>
+        requires there { least_len front.now.kind ≤ length block.now }
+        requires multiple { front.now.total % 4 ≡ 0 }
+        requires total { length block.now ≡ front.now.total }
+        requires fits { front.now.total ≤ max_captured }
+        requires within { len ≤ length block.now }
+        ensures { IfSome result (λ place. (front.now.kind ≡ Kind.Packet)
+            × IsPacketAt self.now front.now block.now len place) }
+    {
+        match front.kind {
+            Kind::Packet => self.whole_packet(front, block, len),
+            Kind::Section | Kind::Interface | Kind::Other => None,
+        }
+    }
+
+    /// The same, where the block is that of a packet.
+    #[inline(always)]
+    fn whole_packet(&self, front: &Front, block: &[u8], len: usize) -> Option<Place>
+        requires there { least_len Kind.Packet ≤ length block.now }
+        requires multiple { front.now.total % 4 ≡ 0 }
+        requires total { length block.now ≡ front.now.total }
+        requires fits { front.now.total ≤ max_captured }
+        requires within { len ≤ length block.now }
+        ensures { IfSome result (IsPacketAt self.now front.now block.now len) }
+    {
+        if len < block.len() {
+            return None;
+        }
+        let link = match self.interfaces.get(u32_in(front.order, block, 8)) {
+            Some(Some(link)) => link,
+            Some(None) | None => return None,
+        };
+        // As the length is a multiple of 4, there is room for the padding too.
+        let captured = u32_in(front.order, block, 20) as usize;
+        if captured > block.len() - 32 {
+            return None;
+        }
+        if u32_in(front.order, block, block.len() - 4) != front.total {
+            return None;
+        }
+        Some(Place {
+            link,
+            at: CAPTURED_AT,
+            len: captured,
+        })
+    }
+
+    /// Counts a packet's block.
+    #[inline(always)]
+    pub fn count_packet(&mut self)
+        requires { is_last self.old ≡ false }
+        ensures { self.new ≡ record self.old {
+          first = [];
+          count = self.old.count + 1;
+          blocks = self.old.blocks + 1;
+        } }
+    {
+        self.type_read = false;
+        self.count += 1;
+        self.blocks += 1;
     }
 
     /// Knows what a block said.

@@ -19,33 +19,33 @@ twelve buffer into room fits = omega (arith, room, fits, length-take 12 buffer)
 pub returns-in-Ok-eq0-clause-block : goal.returns-in-Ok-eq0-clause-block
 returns-in-Ok-eq0-clause-block g c =
     let n = c.in-Ok-eq0.field-0 in
-    let len = twelve c.args.buffer.now c.read_front.new.into c.requires.room c.read_front.auto.into in
-    front-end c.args.reader.now (take n c.read_front.new.into) (g.D.Desk.view c.args.desk.now)
-    (g.D.Desk.view c.read_front.new.desk)
-    (omega (arith, c.in-Ok-eq0.field-0-test, length-take n c.read_front.new.into))
+    let len = twelve c.args.buffer.now c.read_more.new.into c.requires.room c.read_more.auto.into in
+    front-end c.args.reader.now (take n c.read_more.new.into) (g.D.Desk.view c.args.desk.now)
+    (g.D.Desk.view c.read_more.new.desk)
+    (omega (arith, c.in-Ok-eq0.field-0-test, length-take n c.read_more.new.into))
     (c.in-Ok-eq0.ensures.2 (omega (arith, c.in-Ok-eq0.field-0-test, len)))
 
 pub returns-in-Ok-clause-block : goal.returns-in-Ok-clause-block
 returns-in-Ok-clause-block g c =
     let state = c.args.reader.now in
     let n = c.in-Ok.field-0 in
-    let new = g.D.Desk.view c.read_front.new.desk in
-    let len = twelve c.args.buffer.now c.read_front.new.into c.requires.room c.read_front.auto.into in
-    let less : n < length c.read_front.new.into =
+    let new = g.D.Desk.view c.read_more.new.desk in
+    let len = twelve c.args.buffer.now c.read_more.new.into c.requires.room c.read_more.auto.into in
+    let less : n < length c.read_more.new.into =
     omega (arith, c.in-Ok.ensures.0, c.in-Ok.field-0-test.0.1, len) in
     subst (λ k. ReadsBlock state (g.D.Desk.view c.args.desk.now) new (Fault (PngCut (k + 1))))
     (sym (ap (λ s. s.count) c.reader.view_is))
-    (front-short state (take n c.read_front.new.into) (g.D.Desk.view c.args.desk.now) new
+    (front-short state (take n c.read_more.new.into) (g.D.Desk.view c.args.desk.now) new
     (sym c.if-is_last.ensures)
-    (omega (arith, c.in-Ok.field-0-test.1, less, length-take n c.read_front.new.into))
-    (omega (arith, less, len, length-take n c.read_front.new.into))
+    (omega (arith, c.in-Ok.field-0-test.1, less, length-take n c.read_more.new.into))
+    (omega (arith, less, len, length-take n c.read_more.new.into))
     (c.in-Ok.ensures.2 less))
 
 pub returns-in-Err-clause-block : goal.returns-in-Err-clause-block
 returns-in-Err-clause-block g c =
-    front-broken c.args.reader.now (length c.read_front.new.into) (g.D.Desk.view c.args.desk.now)
-    (g.D.Desk.view c.read_front.new.desk)
-    (twelve c.args.buffer.now c.read_front.new.into c.requires.room c.read_front.auto.into) c.in-Err.ensures
+    front-broken c.args.reader.now (length c.read_more.new.into) (g.D.Desk.view c.args.desk.now)
+    (g.D.Desk.view c.read_more.new.desk)
+    (twelve c.args.buffer.now c.read_more.new.into c.requires.room c.read_more.auto.into) c.in-Err.ensures
 
 -- the front of the buffer was read, where as many bytes were read as it has
 front_read : (state : BlockState) (buffer into : List ℕ) (old new : DeskView) → length into ≡ 12 →
@@ -56,9 +56,9 @@ front_read state buffer into old new len read =
 pub returns-in-Big-clause-block : goal.returns-in-Big-clause-block
 returns-in-Big-clause-block g c =
     let old = g.D.Desk.view c.args.desk.now in
-    let new = g.D.Desk.view c.read_front.new.desk in
-    let into = c.read_front.new.into in
-    let len = twelve c.args.buffer.now into c.requires.room c.read_front.auto.into in
+    let new = g.D.Desk.view c.read_more.new.desk in
+    let into = c.read_more.new.into in
+    let len = twelve c.args.buffer.now into c.requires.room c.read_more.auto.into in
     c.read_rest.ensures.block old
     (front_read c.args.reader.now c.args.buffer.now into old new len
     (c.in-Ok-eq12.ensures.1 (c.in-Ok-eq12.field-0-test ∙ sym len)))
@@ -66,9 +66,9 @@ returns-in-Big-clause-block g c =
 pub returns-in-Little-clause-block : goal.returns-in-Little-clause-block
 returns-in-Little-clause-block g c =
     let old = g.D.Desk.view c.args.desk.now in
-    let new = g.D.Desk.view c.read_front.new.desk in
-    let into = c.read_front.new.into in
-    let len = twelve c.args.buffer.now into c.requires.room c.read_front.auto.into in
+    let new = g.D.Desk.view c.read_more.new.desk in
+    let into = c.read_more.new.into in
+    let len = twelve c.args.buffer.now into c.requires.room c.read_more.auto.into in
     c.read_rest-in-Little.ensures.block old
     (front_read c.args.reader.now c.args.buffer.now into old new len
     (c.in-Ok-eq12.ensures.1 (c.in-Ok-eq12.field-0-test ∙ sym len)))

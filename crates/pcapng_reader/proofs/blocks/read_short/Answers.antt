@@ -1,16 +1,18 @@
--- The rest of the block was read after its front, in full or not.
+-- The rest of the block was read after its front: it is a whole packet, or is looked at again.
 use Rattle.std.proofs.Common.{◌≡◌, ℕ, ◌+◌, ◌-◌, ◌≤◌, List, ◌++◌, length, take, drop, Ok, sym, subst, ap, ◌∙◌}
 use Rattle.std.proofs.Common.{arith, length-append, length-take, length-drop}
+use Rattle.std.proofs.lemmas.List.{take_at, drop_at}
+use borrow.Rule.Slice.PartMut.{put_mid}
+use Rattle.acl_outside.specs.Heard.{GoesOn}
 use Rattle.acl_outside.specs.declared.desk.Failed.{Failed}
-use Rattle.pcap_reader.specs.declared.fault.CaptureFault.TheVariants.{PngCut, PngLength}
-use Rattle.pcapng_reader.specs.Block.{BlockState, Fault, front_of, least_len, state_said}
+use Rattle.pcapng_reader.specs.Block.{BlockState, front_of, has_other_end, least_len, said_by, state_said}
 use Rattle.pcapng_reader.specs.declared.front.Front.{Front}
-use Rattle.pcapng_reader.specs.Reading.{ReadsBlock, block_read, read_of}
-use Rattle.pcapng_reader.specs.declared.blocks.BlockRead.{BlockRead}
-use Rattle.acl_outside.specs.Desk.{DeskView}
+use Rattle.pcapng_reader.specs.declared.said.Said.TheVariants as said
+use Rattle.pcapng_reader.specs.declared.blocks.BlockRead.TheVariants as read
+use Rattle.pcap_reader.specs.Fill.{Fills}
+use Rattle.pcapng_reader.specs.Reading.{HasRead, StandsWithin, read_of}
 use Rattle.pcapng_reader.proofs.BlockLaws.{HasFront-from}
-use Rattle.pcapng_reader.proofs.ShortLaws.{block-filled, short-broken, short-cut_head, short-refused, short-cut}
-use Rattle.pcapng_reader.proofs.ShortLaws.{other_end, same_end, short-other_end, short-whole}
+use Rattle.pcapng_reader.proofs.ShortLaws.{block-filled, short-broken, short-whole, as_read}
 use Rattle.pcapng_reader.proofs.blocks.read_short.Goals as goal
 
 -- A block whose front was read has twelve bytes and as many more as its length says.
@@ -34,6 +36,25 @@ cut state front block is total =
       least = facts.least;
     }
 
+-- The rest was read into its place.
+record IsFilled (block rest now : List ℕ) : Type 0 where
+  parts : now ≡ take 12 block ++ rest
+  first : take 12 now ≡ take 12 block
+  rest_is : drop 12 now ≡ rest
+  len : length now ≡ length block
+
+is_filled : (block rest : List ℕ) → 12 ≤ length block → length rest ≡ length block - 12 →
+    IsFilled block rest (put_mid 12 (length block - 12) block rest)
+is_filled block rest there fits =
+    let parts = block-filled 12 block rest there fits in
+    let first : length (take 12 block) ≡ 12 = omega (arith, there, length-take 12 block) in
+    record {
+      parts = parts;
+      first = ap (take 12) parts ∙ take_at (take 12 block) rest 12 first;
+      rest_is = ap (drop 12) parts ∙ drop_at (take 12 block) rest 12 first;
+      len = ap length parts ∙ omega (arith, there, fits, first, length-append (take 12 block) rest);
+    }
+
 pub returns-in-Err-clause-block : goal.returns-in-Err-clause-block
 returns-in-Err-clause-block g c before h =
     let state = c.args.reader.now in
@@ -43,103 +64,96 @@ returns-in-Err-clause-block g c before h =
     (g.D.Desk.view c.fill.new.desk) c.requires.front is.first c.fill.auto.into is.total h c.in-Err.field-0
     c.in-Err.ensures
 
-pub returns-then-len-least_len-clause-block : goal.returns-then-len-least_len-clause-block
-returns-then-len-least_len-clause-block g c before h =
-    let state = c.args.reader.now in
-    let block = c.args.block.now in
-    let new = g.D.Desk.view c.fill.new.desk in
-    let is = cut state c.args.front.now block c.requires.front c.requires.total in
-    subst (λ n. ReadsBlock state before new (Fault (PngCut (n + 1)))) (sym (ap (λ s. s.count) c.reader.view_is))
-    (short-cut_head state c.args.front.now (take 12 block) _ c.fill.new.into before (g.D.Desk.view c.args.desk.now)
-    new c.requires.front is.first c.fill.auto.into is.total h c.in-Ok.len c.in-Ok.ensures
-    (omega (arith, c.if-len-least_len.true, c.least_len.ensures)) is.least)
+pub packet_at-requires-clause-there : goal.packet_at-requires-clause-there
+packet_at-requires-clause-there g c =
+    let is = cut c.args.reader.now c.args.front.now c.args.block.now c.requires.front c.requires.total in
+    let now = is_filled c.args.block.now c.fill.new.into is.there (c.fill.auto.into ∙ is.rest) in
+    omega (arith, is.least, now.len, c.requires.total)
 
-pub returns-in-Err-said-clause-block : goal.returns-in-Err-said-clause-block
-returns-in-Err-said-clause-block g c before h =
-    let state = c.args.reader.now in
-    let block = c.args.block.now in
-    let is = cut state c.args.front.now block c.requires.front c.requires.total in
-    short-refused state c.args.front.now (take 12 block) _ c.fill.new.into before (g.D.Desk.view c.args.desk.now)
-    (g.D.Desk.view c.fill.new.desk) c.requires.front is.first c.fill.auto.into is.total h c.in-Ok.len
-    c.in-Err-said.fault c.in-Ok.ensures (omega (arith, c.if-len-least_len.false, c.least_len.ensures))
-    c.in-Ok.ensures.within
-    (rw (block-filled 12 block c.fill.new.into is.there (c.fill.auto.into ∙ is.rest)) at
-    (sym c.said.ensures.said ∙ c.in-Err-said.is))
+pub packet_at-requires-clause-multiple : goal.packet_at-requires-clause-multiple
+packet_at-requires-clause-multiple g c =
+    (HasFront-from c.args.reader.now (take 12 c.args.block.now) c.args.front.now c.requires.front).multiple
 
-pub returns-then-len-block-clause-block : goal.returns-then-len-block-clause-block
-returns-then-len-block-clause-block g c before h =
-    let state = c.args.reader.now in
-    let block = c.args.block.now in
-    let new = g.D.Desk.view c.fill.new.desk in
-    let is = cut state c.args.front.now block c.requires.front c.requires.total in
-    subst (λ n. ReadsBlock state before new (Fault (PngCut (n + 1)))) (sym (ap (λ s. s.count) c.reader.view_is))
-    (short-cut state c.args.front.now (take 12 block) _ c.fill.new.into before (g.D.Desk.view c.args.desk.now) new
-    c.requires.front is.first c.fill.auto.into is.total h c.in-Ok.len c.in-Ok-said.said c.in-Ok.ensures
-    (omega (arith, c.if-len-least_len.false, c.least_len.ensures))
-    (omega (
-      arith,
-      rw (block-filled 12 block c.fill.new.into is.there (c.fill.auto.into ∙ is.rest)) at c.if-len-block.true,
-      is.first,
-      c.fill.auto.into,
-      length-append (take 12 block) c.fill.new.into,
-    ))
-    (rw (block-filled 12 block c.fill.new.into is.there (c.fill.auto.into ∙ is.rest)) at
-    (sym c.said.ensures.said ∙ c.in-Ok-said.is)))
+pub packet_at-requires-clause-total : goal.packet_at-requires-clause-total
+packet_at-requires-clause-total g c =
+    let is = cut c.args.reader.now c.args.front.now c.args.block.now c.requires.front c.requires.total in
+    let now = is_filled c.args.block.now c.fill.new.into is.there (c.fill.auto.into ∙ is.rest) in
+    now.len ∙ c.requires.total
 
--- as many bytes were read as the block has
-all_read : (block rest before : List ℕ) (count : ℕ) → length (take 12 block) ≡ 12 → length rest ≡ length before →
-    count ≤ length before → length (take 12 block ++ rest) ≤ 12 + count → count ≡ length before
-all_read block rest before count first fits within all =
-    omega (arith, first, fits, within, all, length-append (take 12 block) rest)
+pub packet_at-requires-clause-within : goal.packet_at-requires-clause-within
+packet_at-requires-clause-within g c =
+    let is = cut c.args.reader.now c.args.front.now c.args.block.now c.requires.front c.requires.total in
+    let now = is_filled c.args.block.now c.fill.new.into is.there (c.fill.auto.into ∙ is.rest) in
+    omega (arith, c.in-Ok.ensures.within, is.rest, now.len, is.there)
 
-pub returns-then-u32_in-front-clause-block : goal.returns-then-u32_in-front-clause-block
-returns-then-u32_in-front-clause-block g c before h =
+pub settle_apart-requires-clause-front : goal.settle_apart-requires-clause-front
+settle_apart-requires-clause-front g c =
+    let is = cut c.args.reader.now c.args.front.now c.args.block.now c.requires.front c.requires.total in
+    let now = is_filled c.args.block.now c.fill.new.into is.there (c.fill.auto.into ∙ is.rest) in
+    ap (front_of c.args.reader.now) now.first ∙ c.requires.front
+
+pub settle_apart-requires-clause-total : goal.settle_apart-requires-clause-total
+settle_apart-requires-clause-total g c =
+    let is = cut c.args.reader.now c.args.front.now c.args.block.now c.requires.front c.requires.total in
+    let now = is_filled c.args.block.now c.fill.new.into is.there (c.fill.auto.into ∙ is.rest) in
+    now.len ∙ c.requires.total
+
+pub settle_apart-requires-clause-within : goal.settle_apart-requires-clause-within
+settle_apart-requires-clause-within g c =
+    let is = cut c.args.reader.now c.args.front.now c.args.block.now c.requires.front c.requires.total in
+    let now = is_filled c.args.block.now c.fill.new.into is.there (c.fill.auto.into ∙ is.rest) in
+    omega (arith, c.in-Ok.ensures.within, is.rest, now.len, is.there)
+
+pub returns-in-Some-clause-block : goal.returns-in-Some-clause-block
+returns-in-Some-clause-block g c since h =
     let state = c.args.reader.now in
     let front = c.args.front.now in
     let block = c.args.block.now in
+    let place = c.in-Some.place in
     let new = g.D.Desk.view c.fill.new.desk in
     let is = cut state front block c.requires.front c.requires.total in
-    let filled = block-filled 12 block c.fill.new.into is.there (c.fill.auto.into ∙ is.rest) in
-    let all = all_read block c.fill.new.into _ c.in-Ok.len is.first c.fill.auto.into c.in-Ok.ensures.within
-    (rw filled at c.if-len-block.false) in
-    let len : length (take 12 block ++ c.fill.new.into) ≡ front.total =
-    omega (arith, is.total, is.first, c.fill.auto.into, length-append (take 12 block) c.fill.new.into) in
-    subst (λ n. ReadsBlock state before new (Fault (PngLength (n + 1)))) (sym (ap (λ s. s.count) c.reader.view_is))
-    (short-other_end state front (take 12 block) _ c.fill.new.into before
-    (g.D.Desk.view c.args.desk.now) new c.requires.front is.first c.fill.auto.into is.total h {E = Failed}
-    c.in-Ok-said.said
+    let now = is_filled block c.fill.new.into is.there (c.fill.auto.into ∙ is.rest) in
+    let kind = c.in-Some.ensures.0 in
+    let packet = c.in-Some.ensures.1 in
+    let all : c.in-Ok.count ≡ length (take (length block - 12) (drop 12 block)) =
+    omega (arith, packet.whole, now.len, is.rest, is.there) in
+    as_read state since new (take 12 block ++ c.fill.new.into) _
+    (state_said state front (said.Packet place.link place.len)) c.count_packet.new.self
+    (read_of (said.Packet place.link place.len) 28) (read.Given place) now.parts c.count_packet.ensures
+    (ap (λ n. read.Given (record { link = place.link; at = n; len = place.len })) packet.start)
+    (short-whole state front (take 12 block) _ c.fill.new.into since (g.D.Desk.view c.args.desk.now) new
+    c.requires.front is.first c.fill.auto.into is.total h {E = Failed} (said.Packet place.link place.len)
     (rw all at c.in-Ok.ensures) (omega (arith, is.least))
-    (rw filled at (sym c.said.ensures.said ∙ c.in-Ok-said.is))
-    (other_end front (take 12 block ++ c.fill.new.into) c.u32_in.result len (rw filled at c.u32_in.ensures)
-    c.if-u32_in-front.true))
+    (ap (said_by front.kind state front) (sym now.parts)
+    ∙ ap (λ k. said_by k state front (put_mid 12 (length block - 12) block c.fill.new.into)) kind ∙ packet.says)
+    (ap (has_other_end front) (sym now.parts) ∙ packet.ends))
 
--- the block by what the code has in place of it
-as_read : (state : BlockState) (before new : DeskView) (bytes buffer : List ℕ) (says now : BlockState)
-    (r s : BlockRead) → buffer ≡ bytes → now ≡ says → s ≡ r →
-    ReadsBlock state before new (block_read says bytes (Ok r)) →
-    ReadsBlock state before new (block_read now buffer (Ok s))
-as_read state before new bytes buffer says now r s is_bytes is_said is_read reads =
-    subst (λ b. ReadsBlock state before new (block_read now b (Ok s))) (sym is_bytes)
-    (subst (λ x. ReadsBlock state before new (block_read x bytes (Ok s))) (sym is_said)
-    (subst (λ x. ReadsBlock state before new (block_read says bytes (Ok x))) (sym is_read) reads))
+pub returns-in-Some-clause-within : goal.returns-in-Some-clause-within
+returns-in-Some-clause-within g c =
+    let is = cut c.args.reader.now c.args.front.now c.args.block.now c.requires.front c.requires.total in
+    let now = is_filled c.args.block.now c.fill.new.into is.there (c.fill.auto.into ∙ is.rest) in
+    omega (arith, c.in-Some.ensures.1.within, now.len)
 
-pub returns-clause-block : goal.returns-clause-block
-returns-clause-block g c before h =
+pub returns-in-None-clause-block : goal.returns-in-None-clause-block
+returns-in-None-clause-block g c since h =
     let state = c.args.reader.now in
-    let front = c.args.front.now in
     let block = c.args.block.now in
+    let old = g.D.Desk.view c.args.desk.now in
     let new = g.D.Desk.view c.fill.new.desk in
-    let is = cut state front block c.requires.front c.requires.total in
-    let filled = block-filled 12 block c.fill.new.into is.there (c.fill.auto.into ∙ is.rest) in
-    let all = all_read block c.fill.new.into _ c.in-Ok.len is.first c.fill.auto.into c.in-Ok.ensures.within
-    (rw filled at c.if-len-block.false) in
-    let len : length (take 12 block ++ c.fill.new.into) ≡ front.total =
-    omega (arith, is.total, is.first, c.fill.auto.into, length-append (take 12 block) c.fill.new.into) in
-    as_read state before new (take 12 block ++ c.fill.new.into) _ (state_said state front c.in-Ok-said.said)
-    c.learn.new.self (read_of c.in-Ok-said.said 28) c.read_of.result filled c.learn.ensures c.read_of.ensures
-    (short-whole state front (take 12 block) _ c.fill.new.into before
-    (g.D.Desk.view c.args.desk.now) new c.requires.front is.first c.fill.auto.into is.total h {E = Failed}
-    c.in-Ok-said.said (rw all at c.in-Ok.ensures) (omega (arith, is.least))
-    (rw filled at (sym c.said.ensures.said ∙ c.in-Ok-said.is))
-    (same_end front (take 12 block ++ c.fill.new.into) c.u32_in.result len (rw filled at c.u32_in.ensures)
-    c.if-u32_in-front.false))
+    let is = cut state c.args.front.now block c.requires.front c.requires.total in
+    let now = is_filled block c.fill.new.into is.there (c.fill.auto.into ∙ is.rest) in
+    c.settle_apart.ensures.block since new
+    (record {
+      mid = old;
+      before = take (length block - 12) (drop 12 block);
+      room = omega (arith, is.rest, now.len);
+      front = subst (λ l. HasRead state l GoesOn since old) (sym now.first) h;
+      rest = subst (λ l. Fills {E = Failed} (take (length block - 12) (drop 12 block)) l old new (Ok c.in-Ok.count))
+          (sym now.rest_is) c.in-Ok.ensures;
+    })
+
+pub returns-in-None-clause-within : goal.returns-in-None-clause-within
+returns-in-None-clause-within g c =
+    let is = cut c.args.reader.now c.args.front.now c.args.block.now c.requires.front c.requires.total in
+    let now = is_filled c.args.block.now c.fill.new.into is.there (c.fill.auto.into ∙ is.rest) in
+    subst (λ n. StandsWithin n c.settle_apart.result) now.len c.settle_apart.ensures.within

@@ -2,7 +2,7 @@
 use Rattle.std.proofs.Common.{◌≡◌, ◌<◌, length, take, refl, ◌∙◌, arith, length-take}
 use Rattle.acl_outside.specs.declared.desk.Failed.{Failed}
 use Rattle.pcapng_reader.proofs.ReadLaws.{HasRead-full, HasRead-short, HasBroken-from}
-use Rattle.pcapng_reader.proofs.blocks.fill_part.Goals as goal
+use Rattle.pcapng_reader.proofs.long.fill_part.Goals as goal
 
 pub returns-in-Ok-clause-more : goal.returns-in-Ok-clause-more
 returns-in-Ok-clause-more g c state part before h =

@@ -6,7 +6,7 @@ use Rattle.acl_outside.specs.Heard.{GoesOn}
 use Rattle.pcapng_reader.specs.Block.{BlockState}
 use Rattle.pcapng_reader.specs.Reading.{HasRead}
 use Rattle.pcapng_reader.proofs.ReadLaws.{Passes}
-use Rattle.pcapng_reader.proofs.blocks.pass_over.Given as goal
+use Rattle.pcapng_reader.proofs.long.pass_over.Given as goal
 
 abbrev pub invariant-pieces : goal.invariant-pieces
 invariant-pieces g l =

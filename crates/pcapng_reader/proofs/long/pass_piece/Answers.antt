@@ -1,7 +1,7 @@
 -- The piece is as long as is asked.
 use Rattle.std.proofs.Common.{◌≡◌, ℕ, ◌≤◌, List, length, take, replicate, refl, ap, ◌∙◌, arith, length-take}
 use Rattle.pcapng_reader.proofs.ReadLaws.{ReadsMore-weaker}
-use Rattle.pcapng_reader.proofs.blocks.pass_piece.Goals as goal
+use Rattle.pcapng_reader.proofs.long.pass_piece.Goals as goal
 
 -- the bytes of a piece
 abbrev zeros : List ℕ

@@ -10,7 +10,7 @@ use Rattle.pcapng_reader.specs.declared.blocks.BlockRead.{BlockRead}
 use Rattle.pcapng_reader.specs.Reading.{EndIn, ReadsBlock, block_read, captured_by, read_of}
 use Rattle.pcapng_reader.proofs.LongLaws.{head-more, long-broken, long-cut, long-other_end, long-whole}
 use Rattle.pcapng_reader.proofs.ReadLaws.{ReadsMore-refused}
-use Rattle.pcapng_reader.proofs.blocks.read_captured.Goals as goal
+use Rattle.pcapng_reader.proofs.long.read_captured.Goals as goal
 
 pub returns-in-Err-clause-block : goal.returns-in-Err-clause-block
 returns-in-Err-clause-block g c before part head h =

@@ -6,7 +6,7 @@ use Rattle.acl_outside.specs.Heard.{GoesOn}
 use Rattle.pcap_reader.specs.Headers.{number_in}
 use Rattle.pcapng_reader.specs.Reading.{EndIn, HasRead}
 use Rattle.pcapng_reader.proofs.ReadLaws.{ReadsMore-later}
-use Rattle.pcapng_reader.proofs.blocks.pass_over.Goals as goal
+use Rattle.pcapng_reader.proofs.long.pass_over.Goals as goal
 
 pub pieces-init : goal.pieces-init
 pieces-init g c = record {

@@ -12,7 +12,7 @@ use Rattle.pcapng_reader.proofs.BlockLaws.{HasFront-from, front-append}
 use Rattle.pcapng_reader.proofs.LongLaws.{head_cut, head_enough, head_most, head_packet, long-broken, long-cut_head}
 use Rattle.pcapng_reader.proofs.LongLaws.{long-refused, room_left}
 use Rattle.pcapng_reader.proofs.ReadLaws.{ReadsMore-refused}
-use Rattle.pcapng_reader.proofs.blocks.read_long.Goals as goal
+use Rattle.pcapng_reader.proofs.long.read_long.Goals as goal
 
 -- a front has twelve bytes
 front_bytes : (buffer : List ℕ) → length buffer ≡ max_captured → length (take 12 buffer) ≡ 12

@@ -1,0 +1,103 @@
+-- The block was read after its front, in full or not.
+use Rattle.std.proofs.Common.{◌≡◌, ℕ, ◌+◌, ◌≤◌, List, ◌++◌, length, take, drop, Ok, sym, subst, ap, ◌∙◌}
+use Rattle.std.proofs.Common.{arith, length-take, length-drop}
+use Rattle.std.proofs.lemmas.List.{take-append-drop}
+use Rattle.acl_outside.specs.declared.desk.Failed.{Failed}
+use Rattle.acl_outside.specs.Desk.{DeskView}
+use Rattle.pcap_reader.specs.declared.fault.CaptureFault.TheVariants.{PngCut, PngLength}
+use Rattle.pcapng_reader.specs.Block.{BlockState, Fault, front_of, has_other_end, least_len}
+use Rattle.pcapng_reader.specs.Block.{said_by, state_said}
+use Rattle.pcapng_reader.specs.declared.front.Front.{Front}
+use Rattle.pcapng_reader.specs.Reading.{HasRest, ReadsBlock, read_of}
+use Rattle.pcapng_reader.proofs.BlockLaws.{HasFront-from}
+use Rattle.pcapng_reader.proofs.ShortLaws.{short-cut_head, short-refused, short-cut, other_end, same_end}
+use Rattle.pcapng_reader.proofs.ShortLaws.{short-other_end, short-whole, as_read}
+use Rattle.pcapng_reader.proofs.blocks.settle.Goals as goal
+
+-- A block whose front was read has twelve bytes and as many more as its length says.
+record IsCut (state : BlockState) (front : Front) (block before : List ℕ) : Type 0 where
+  first : length (take 12 block) ≡ 12
+  rest : length (drop 12 block) ≡ length before
+  total : 12 + length before ≡ front.total
+  parts : take 12 block ++ drop 12 block ≡ block
+  least : least_len front.kind ≤ front.total
+
+cut : (state : BlockState) (front : Front) (block : List ℕ) (count : ℕ) (old new : DeskView) →
+    front_of state (take 12 block) ≡ Ok front → length block ≡ front.total →
+    (read : HasRest state block count old new) → IsCut state front block read.before
+cut state front block count old new is total read =
+    let facts = HasFront-from state (take 12 block) front is in
+    let there : 12 ≤ length block = omega (arith, facts.there, length-take 12 block) in
+    record {
+      first = omega (arith, there, length-take 12 block);
+      rest = omega (arith, there, read.room, length-drop 12 block);
+      total = omega (arith, there, total, read.room);
+      parts = take-append-drop 12 block;
+      least = facts.least;
+    }
+
+pub returns-then-len-least_len-clause-block : goal.returns-then-len-least_len-clause-block
+returns-then-len-least_len-clause-block c before after h =
+    let state = c.args.reader.now in
+    let block = c.args.block.now in
+    let is = cut state c.args.front block c.args.count before after c.requires.front c.requires.total h in
+    subst (λ n. ReadsBlock state before after (Fault (PngCut (n + 1)))) (sym (ap (λ s. s.count) c.reader.view_is))
+    (short-cut_head state c.args.front (take 12 block) h.before (drop 12 block) before h.mid after c.requires.front
+    is.first is.rest is.total h.front c.args.count h.rest
+    (omega (arith, c.if-len-least_len.true, c.least_len.ensures)) is.least)
+
+pub returns-in-Err-clause-block : goal.returns-in-Err-clause-block
+returns-in-Err-clause-block c before after h =
+    let state = c.args.reader.now in
+    let front = c.args.front in
+    let block = c.args.block.now in
+    let is = cut state front block c.args.count before after c.requires.front c.requires.total h in
+    short-refused state front (take 12 block) h.before (drop 12 block) before h.mid after c.requires.front is.first
+    is.rest is.total h.front c.args.count c.in-Err.fault h.rest
+    (omega (arith, c.if-len-least_len.false, c.least_len.ensures))
+    (omega (arith, c.requires.within, c.requires.total, is.total))
+    (ap (said_by front.kind state front) is.parts ∙ sym c.said.ensures.said ∙ c.in-Err.is)
+
+pub returns-then-len-block-clause-block : goal.returns-then-len-block-clause-block
+returns-then-len-block-clause-block c before after h =
+    let state = c.args.reader.now in
+    let front = c.args.front in
+    let block = c.args.block.now in
+    let is = cut state front block c.args.count before after c.requires.front c.requires.total h in
+    subst (λ n. ReadsBlock state before after (Fault (PngCut (n + 1)))) (sym (ap (λ s. s.count) c.reader.view_is))
+    (short-cut state front (take 12 block) h.before (drop 12 block) before h.mid after c.requires.front is.first
+    is.rest is.total h.front c.args.count c.in-Ok.said h.rest
+    (omega (arith, c.if-len-least_len.false, c.least_len.ensures))
+    (omega (arith, c.if-len-block.true, c.requires.total, is.total))
+    (ap (said_by front.kind state front) is.parts ∙ sym c.said.ensures.said ∙ c.in-Ok.is))
+
+pub returns-then-u32_in-front-clause-block : goal.returns-then-u32_in-front-clause-block
+returns-then-u32_in-front-clause-block c before after h =
+    let state = c.args.reader.now in
+    let front = c.args.front in
+    let block = c.args.block.now in
+    let is = cut state front block c.args.count before after c.requires.front c.requires.total h in
+    let all : c.args.count ≡ length h.before =
+    omega (arith, c.if-len-block.false, c.requires.within, c.requires.total, is.total) in
+    subst (λ n. ReadsBlock state before after (Fault (PngLength (n + 1)))) (sym (ap (λ s. s.count) c.reader.view_is))
+    (short-other_end state front (take 12 block) h.before (drop 12 block) before h.mid after c.requires.front is.first
+    is.rest is.total h.front {E = Failed} c.in-Ok.said (rw all at h.rest) (omega (arith, is.least))
+    (ap (said_by front.kind state front) is.parts ∙ sym c.said.ensures.said ∙ c.in-Ok.is)
+    (ap (has_other_end front) is.parts
+    ∙ other_end front block c.u32_in.result c.requires.total c.u32_in.ensures c.if-u32_in-front.true))
+
+pub returns-clause-block : goal.returns-clause-block
+returns-clause-block c before after h =
+    let state = c.args.reader.now in
+    let front = c.args.front in
+    let block = c.args.block.now in
+    let is = cut state front block c.args.count before after c.requires.front c.requires.total h in
+    let all : c.args.count ≡ length h.before =
+    omega (arith, c.if-len-block.false, c.requires.within, c.requires.total, is.total) in
+    as_read state before after (take 12 block ++ drop 12 block) block (state_said state front c.in-Ok.said)
+    c.learn.new.self (read_of c.in-Ok.said 28) c.read_of.result (sym is.parts) c.learn.ensures c.read_of.ensures
+    (short-whole state front (take 12 block) h.before (drop 12 block) before h.mid after c.requires.front is.first
+    is.rest is.total h.front {E = Failed} c.in-Ok.said (rw all at h.rest) (omega (arith, is.least))
+    (ap (said_by front.kind state front) is.parts ∙ sym c.said.ensures.said ∙ c.in-Ok.is)
+    (ap (has_other_end front) is.parts
+    ∙ same_end front block c.u32_in.result c.requires.total c.u32_in.ensures c.if-u32_in-front.false))
