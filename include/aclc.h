@@ -33,8 +33,8 @@
  *     - No call is made from a signal handler, or from the forked child of a process with threads.
  *
  * THREADS
- *     One call at a time on each handle. A handle of a context stays on the thread that filled it. A
- *     handle of a table may go to another thread, where a lock, a start or join of a thread, or a
+ *     One call at a time on each handle. A handle of a context stays on the thread that filled it.
+ *     A handle of a table may go to another thread, where a lock, a start or join of a thread, or a
  *     sequentially consistent atomic orders the calls. Calls on different handles may run at the
  *     same time, also where the handles share a table (aclc_table_share).
  *
@@ -241,8 +241,8 @@ aclc_code aclc_lanes(struct aclc_context *context, uint32_t keys);
  * walk: ACLC_WALK_SCALAR or ACLC_WALK_LANES.
  * verdicts, verdicts_len: categories verdicts for each key: those of the first key in categories 0,
  * 1, and so on, then those of the second. verdicts_len counts verdicts, and fits exactly. A verdict
- * is the userdata of the winner, and 0 where no rule wins: give no rule a userdata of 0 where both
- * have to be told apart.
+ * is the userdata of the winner, and 0 where no rule wins. Where a rule has userdata 0, aclc_marks
+ * tells the two apart.
  * transitions: how many words of the table the walks read.
  *
  * ACLC_EMPTY: the handle is empty.
@@ -257,6 +257,27 @@ aclc_code aclc_lanes(struct aclc_context *context, uint32_t keys);
 aclc_code aclc_classify(struct aclc_context *context, const uint8_t *keys, size_t keys_len,
                         uint32_t categories, uint32_t walk, uint32_t *verdicts,
                         size_t verdicts_len, uint64_t *transitions);
+
+/*
+ * aclc_marks - marks the categories of keys that no rule of the table of the last build wins.
+ *
+ * keys, keys_len, categories: as for aclc_classify.
+ * marks, marks_len: categories marks for each key, in the order of the verdicts of aclc_classify.
+ * marks_len counts them, and fits exactly. A mark is 1 where no rule wins, and 0 where one does,
+ * also where its userdata is 0.
+ *
+ * It walks the keys anew, one after the other, and so takes longer than aclc_classify.
+ *
+ * ACLC_EMPTY: the handle is empty.
+ * ACLC_NOT_BUILT: no build succeeded since the context was made or reset.
+ * ACLC_BAD_CATEGORIES: the number is none.
+ * ACLC_BAD_LENGTH: keys_len is no whole number of keys.
+ * ACLC_TOO_MANY_KEYS: there are more than ACLC_MAX_KEYS.
+ * ACLC_BAD_LENGTH: marks_len doesn't fit.
+ * It takes no memory.
+ */
+aclc_code aclc_marks(struct aclc_context *context, const uint8_t *keys, size_t keys_len,
+                     uint32_t categories, uint8_t *marks, size_t marks_len);
 
 /*
  * aclc_sizes - tells how many rules the context holds, how many bytes a key has, and how many words
@@ -325,6 +346,12 @@ aclc_code aclc_table_lanes(struct aclc_table *table, uint32_t keys);
 aclc_code aclc_table_classify(struct aclc_table *table, const uint8_t *keys, size_t keys_len,
                               uint32_t categories, uint32_t walk, uint32_t *verdicts,
                               size_t verdicts_len, uint64_t *transitions);
+
+/*
+ * aclc_table_marks - as aclc_marks, without ACLC_NOT_BUILT.
+ */
+aclc_code aclc_table_marks(struct aclc_table *table, const uint8_t *keys, size_t keys_len,
+                           uint32_t categories, uint8_t *marks, size_t marks_len);
 
 /*
  * aclc_table_sizes - tells of how many rules the table was made, how many bytes a key has, and how

@@ -1,7 +1,8 @@
 mod Adding
 mod AsBox
 mod AsTableBox
+mod Crossing
 mod Lengths
+mod Marking
 mod Rows
 mod Serving
-mod Crossing

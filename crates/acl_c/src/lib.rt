@@ -16,6 +16,7 @@
 //! - `given`, `rules`, `batch`: definitions, rules and keys as C gives them
 //! - `context`, `create`: what a handle of a context leads to, and the calls on it
 //! - `copy`, `shared`: what a handle of a table leads to, and the calls on it
+//! - `marks`: which categories of keys no rule wins
 //! - `parts`, `slot`, `handle`: a box behind a pointer that C holds
 //! - `table_slot`, `table_handle`: the same for a table
 //! - `exports`, `table_exports`: the calls of `aclc.h`
@@ -29,6 +30,7 @@ mod create;
 mod exports;
 mod given;
 mod handle;
+mod marks;
 mod parts;
 mod rules;
 mod shared;
