@@ -87,6 +87,8 @@ enum {
     ACLC_NOT_BUILT = 11,     /* the context has no table */
     ACLC_FULL = 12,          /* with these rules the context would hold more than it may */
     ACLC_TOO_LARGE = 13,     /* the table needs more words than the budget */
+    ACLC_NO_IMAGE = 15,      /* the keys haven't 13 bytes in one table and 37 in the other */
+    ACLC_NO_ROOM = 16,       /* the image has more bytes than there is room for */
     /* of field definitions */
     ACLC_TOO_MANY_FIELDS = 32,    /* more than ACLC_MAX_FIELDS */
     ACLC_BAD_KIND = 33,           /* the number is none of a kind of field */
@@ -103,7 +105,17 @@ enum {
     ACLC_PRIORITY_RANGE = 49, /* the priority is below 0 or above ACLC_MAX_PRIORITY */
     ACLC_FIELD_TOO_WIDE = 50, /* a number of the value is wider than the field */
     ACLC_MASK_TOO_LONG = 51,  /* the mask has more bits than the field */
-    ACLC_EMPTY_RANGE = 52     /* the low end of the range is above the high end */
+    ACLC_EMPTY_RANGE = 52,    /* the low end of the range is above the high end */
+    /* of an image; the place that is told is that of the first byte of the field */
+    ACLC_IMAGE_MAGIC = 64,       /* the first field isn't "ACLT" */
+    ACLC_IMAGE_VERSION = 65,     /* the version is neither 1 nor 2 */
+    ACLC_IMAGE_FAMILY = 66,      /* the family of the first table isn't 4, or of the second 6 */
+    ACLC_IMAGE_LENGTH = 67,      /* the bytes end within the field, or before it */
+    ACLC_IMAGE_TOO_MANY = 68,    /* more rules, tries or words than a table may have */
+    ACLC_IMAGE_UNSOUND = 69,     /* the root or the word leads to no node and no row */
+    ACLC_IMAGE_ROW_FORM = 70,    /* the word of a row names no rule */
+    ACLC_IMAGE_TRAILING = 71,    /* a byte stands after the last field */
+    ACLC_IMAGE_KEPT_GROUPS = 72  /* the trie reads no byte of a key, or one that keys don't have */
 };
 
 /* How a rule bounds a field. */
@@ -369,6 +381,45 @@ aclc_code aclc_table_sizes(struct aclc_table *table, size_t *rules, size_t *key_
  * An empty handle stays empty. It refuses nothing.
  */
 void aclc_table_free(struct aclc_table *table);
+
+/*
+ * aclc_save - writes the image of two tables, of which aclc_load makes the same tables again.
+ *
+ * An image is a pair: the keys of ip4 have 13 bytes and those of ip6 37, as the five fields of an
+ * IPv4 and of an IPv6 packet do; any layout of so many bytes serves. A program that has one of them
+ * alone makes the other of a context without rules. An image is the same on every machine, and
+ * `aclc` reads it. It has the words and the rows, and neither the layouts nor the rules.
+ *
+ * image, room: where the image is written, from the first byte on, and how many bytes there are.
+ * Those after the image stay.
+ * image_len: on ACLC_OK and ACLC_NO_ROOM how many bytes the image has; else it stays. So a call
+ * with no room asks for it. It takes 8 bytes for each word, 128 for each row, and less than 2 KiB.
+ *
+ * ACLC_EMPTY: one of the handles is empty.
+ * ACLC_NO_IMAGE: the keys of ip4 haven't 13 bytes, or those of ip6 haven't 37.
+ * ACLC_NO_ROOM: the image has more bytes. Nothing is written of it.
+ * ACLC_NO_MEMORY. It takes memory for the image, and gives that back.
+ */
+aclc_code aclc_save(struct aclc_table *ip4, struct aclc_table *ip6, uint8_t *image, size_t room,
+                    size_t *image_len);
+
+/*
+ * aclc_load - fills two handles with the tables of an image, as aclc_save or `aclc` wrote it.
+ *
+ * What isn't the image of any two tables is refused, whatever its bytes: a table that is loaded can
+ * be walked by every key. The tables have room for no keys by lanes.
+ *
+ * image, image_len: the bytes of the image, all of them.
+ * place: is written where a fault of the image is answered, and else stays: the place of the field
+ * that fails first, in bytes from 0.
+ *
+ * ACLC_TAKEN: one of the handles isn't empty.
+ * ACLC_IMAGE_MAGIC to ACLC_IMAGE_KEPT_GROUPS: of the first field that fails its check.
+ * ACLC_NO_MEMORY. It takes memory for the tables, and never for words that aren't there: of bytes
+ * that are no image some 8 KiB more than they are.
+ */
+aclc_code aclc_load(struct aclc_table *ip4, struct aclc_table *ip6, const uint8_t *image,
+                    size_t image_len, uint64_t *place);
 
 #ifdef __cplusplus
 }

@@ -3,6 +3,8 @@ mod AsBox
 mod AsTableBox
 mod Crossing
 mod Lengths
+mod Loading
 mod Marking
 mod Rows
+mod Saving
 mod Serving
