@@ -21,10 +21,15 @@
  *     Where several answers fit, the one that the comment lists first is given; ACLC_NO_MEMORY
  *     comes at any place of the order, as memory runs out.
  *
+ * NULL
+ *     A pointer that is null is answered by ACLC_NULL, before anything else is looked at. One that
+ *     has a length may be null where the length is 0. aclc_free and aclc_table_free ignore null.
+ *     The functions at the end of this header see to that: the library's own take no null, and a
+ *     program that calls those without this header has to keep it.
+ *
  * WHAT ONLY THE CALLER CAN KEEP
- *     - No pointer is null, and each is aligned as its type asks for. A pointer with a length leads
- *       to so many elements, also where the length is 0, when any aligned pointer that isn't null
- *       serves. A length of bytes is below 2 to the 63rd.
+ *     - Each pointer is aligned as its type asks for. A pointer with a length leads to so many
+ *       elements. A length of bytes is below 2 to the 63rd.
  *     - What the pointers of one call lead to doesn't overlap, unless the call only reads it. So
  *       one handle isn't given twice in a call.
  *     - A handle is zeros, or as the last call on it left it.
@@ -87,6 +92,7 @@ enum {
     ACLC_NOT_BUILT = 11,     /* the context has no table */
     ACLC_FULL = 12,          /* with these rules the context would hold more than it may */
     ACLC_TOO_LARGE = 13,     /* the table needs more words than the budget */
+    ACLC_NULL = 14,          /* a pointer is null */
     ACLC_NO_IMAGE = 15,      /* the keys haven't 13 bytes in one table and 37 in the other */
     ACLC_NO_ROOM = 16,       /* the image has more bytes than there is room for */
     /* of field definitions */
@@ -420,6 +426,8 @@ aclc_code aclc_save(struct aclc_table *ip4, struct aclc_table *ip6, uint8_t *ima
  */
 aclc_code aclc_load(struct aclc_table *ip4, struct aclc_table *ip6, const uint8_t *image,
                     size_t image_len, uint64_t *place);
+
+#include "aclc_null.h"
 
 #ifdef __cplusplus
 }
