@@ -1,6 +1,6 @@
 -- Marks of keys: those of one key by its winners, and those of a batch key by key.
-use Rattle.std.proofs.Common.{◌≡◌, ℕ, zero, suc, ◌+◌, ◌-◌, ◌*◌, ◌≤◌, ◌==◌, List, [], ◌∷◌, ◌++◌, Bool, true, false, not}
-use Rattle.std.proofs.Common.{map, take, drop, length, refl, ap, ◌∙◌, sym, subst, add-one, append-nil, length-append}
+use Rattle.std.proofs.Common.{◌≡◌, ℕ, ◌+◌, ◌-◌, ◌*◌, ◌≤◌, ◌==◌, List, [], ◌∷◌, ◌++◌, Bool, true, false, not}
+use Rattle.std.proofs.Common.{map, take, drop, length, refl, ap, ◌∙◌, append-nil}
 use Rattle.std.proofs.Common.{arith}
 use Rattle.std.specs.Prelude.{flat_map, if◌then◌else◌}
 use Rattle.std.specs.List.{range_with_len}

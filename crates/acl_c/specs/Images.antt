@@ -1,5 +1,5 @@
 -- Tables that are saved to bytes and loaded from them.
-use Rattle.std.specs.Prelude.{◌≡◌, ℕ, ◌<◌, ◌≤◌, ◌==◌, ◌&&◌, ◌++◌, nat_le, List, take, drop, length}
+use Rattle.std.specs.Prelude.{◌≡◌, ℕ, ◌<◌, ◌≤◌, ◌==◌, ◌&&◌, ◌++◌, nat_le, List, drop, length}
 use Rattle.std.specs.Prelude.{Bool, true, false}
 use Rattle.std.specs.Prelude.{Option, Some, None, Ok, Err, ◌⊎◌}
 use Rattle.std.specs.List.{list_all}
