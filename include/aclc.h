@@ -21,10 +21,15 @@
  *     Where several answers fit, the one that the comment lists first is given; ACLC_NO_MEMORY
  *     comes at any place of the order, as memory runs out.
  *
+ * NULL
+ *     A pointer that is null is answered by ACLC_NULL, before anything else is looked at. One that
+ *     has a length may be null where the length is 0. aclc_free and aclc_table_free ignore null.
+ *     The functions at the end of this header see to that: the library's own take no null, and a
+ *     program that calls those without this header has to keep it.
+ *
  * WHAT ONLY THE CALLER CAN KEEP
- *     - No pointer is null, and each is aligned as its type asks for. A pointer with a length leads
- *       to so many elements, also where the length is 0, when any aligned pointer that isn't null
- *       serves. A length of bytes is below 2 to the 63rd.
+ *     - Each pointer is aligned as its type asks for. A pointer with a length leads to so many
+ *       elements. A length of bytes is below 2 to the 63rd.
  *     - What the pointers of one call lead to doesn't overlap, unless the call only reads it. So
  *       one handle isn't given twice in a call.
  *     - A handle is zeros, or as the last call on it left it.
@@ -33,8 +38,8 @@
  *     - No call is made from a signal handler, or from the forked child of a process with threads.
  *
  * THREADS
- *     One call at a time on each handle. A handle of a context stays on the thread that filled it. A
- *     handle of a table may go to another thread, where a lock, a start or join of a thread, or a
+ *     One call at a time on each handle. A handle of a context stays on the thread that filled it.
+ *     A handle of a table may go to another thread, where a lock, a start or join of a thread, or a
  *     sequentially consistent atomic orders the calls. Calls on different handles may run at the
  *     same time, also where the handles share a table (aclc_table_share).
  *
@@ -87,6 +92,9 @@ enum {
     ACLC_NOT_BUILT = 11,     /* the context has no table */
     ACLC_FULL = 12,          /* with these rules the context would hold more than it may */
     ACLC_TOO_LARGE = 13,     /* the table needs more words than the budget */
+    ACLC_NULL = 14,          /* a pointer is null */
+    ACLC_NO_IMAGE = 15,      /* the keys haven't 13 bytes in one table and 37 in the other */
+    ACLC_NO_ROOM = 16,       /* the image has more bytes than there is room for */
     /* of field definitions */
     ACLC_TOO_MANY_FIELDS = 32,    /* more than ACLC_MAX_FIELDS */
     ACLC_BAD_KIND = 33,           /* the number is none of a kind of field */
@@ -103,7 +111,17 @@ enum {
     ACLC_PRIORITY_RANGE = 49, /* the priority is below 0 or above ACLC_MAX_PRIORITY */
     ACLC_FIELD_TOO_WIDE = 50, /* a number of the value is wider than the field */
     ACLC_MASK_TOO_LONG = 51,  /* the mask has more bits than the field */
-    ACLC_EMPTY_RANGE = 52     /* the low end of the range is above the high end */
+    ACLC_EMPTY_RANGE = 52,    /* the low end of the range is above the high end */
+    /* of an image; the place that is told is that of the first byte of the field */
+    ACLC_IMAGE_MAGIC = 64,       /* the first field isn't "ACLT" */
+    ACLC_IMAGE_VERSION = 65,     /* the version is neither 1 nor 2 */
+    ACLC_IMAGE_FAMILY = 66,      /* the family of the first table isn't 4, or of the second 6 */
+    ACLC_IMAGE_LENGTH = 67,      /* the bytes end within the field, or before it */
+    ACLC_IMAGE_TOO_MANY = 68,    /* more rules, tries or words than a table may have */
+    ACLC_IMAGE_UNSOUND = 69,     /* the root or the word leads to no node and no row */
+    ACLC_IMAGE_ROW_FORM = 70,    /* the word of a row names no rule */
+    ACLC_IMAGE_TRAILING = 71,    /* a byte stands after the last field */
+    ACLC_IMAGE_KEPT_GROUPS = 72  /* the trie reads no byte of a key, or one that keys don't have */
 };
 
 /* How a rule bounds a field. */
@@ -241,8 +259,8 @@ aclc_code aclc_lanes(struct aclc_context *context, uint32_t keys);
  * walk: ACLC_WALK_SCALAR or ACLC_WALK_LANES.
  * verdicts, verdicts_len: categories verdicts for each key: those of the first key in categories 0,
  * 1, and so on, then those of the second. verdicts_len counts verdicts, and fits exactly. A verdict
- * is the userdata of the winner, and 0 where no rule wins: give no rule a userdata of 0 where both
- * have to be told apart.
+ * is the userdata of the winner, and 0 where no rule wins. Where a rule has userdata 0, aclc_marks
+ * tells the two apart.
  * transitions: how many words of the table the walks read.
  *
  * ACLC_EMPTY: the handle is empty.
@@ -257,6 +275,27 @@ aclc_code aclc_lanes(struct aclc_context *context, uint32_t keys);
 aclc_code aclc_classify(struct aclc_context *context, const uint8_t *keys, size_t keys_len,
                         uint32_t categories, uint32_t walk, uint32_t *verdicts,
                         size_t verdicts_len, uint64_t *transitions);
+
+/*
+ * aclc_marks - marks the categories of keys that no rule of the table of the last build wins.
+ *
+ * keys, keys_len, categories: as for aclc_classify.
+ * marks, marks_len: categories marks for each key, in the order of the verdicts of aclc_classify.
+ * marks_len counts them, and fits exactly. A mark is 1 where no rule wins, and 0 where one does,
+ * also where its userdata is 0.
+ *
+ * It walks the keys anew, one after the other, and so takes longer than aclc_classify.
+ *
+ * ACLC_EMPTY: the handle is empty.
+ * ACLC_NOT_BUILT: no build succeeded since the context was made or reset.
+ * ACLC_BAD_CATEGORIES: the number is none.
+ * ACLC_BAD_LENGTH: keys_len is no whole number of keys.
+ * ACLC_TOO_MANY_KEYS: there are more than ACLC_MAX_KEYS.
+ * ACLC_BAD_LENGTH: marks_len doesn't fit.
+ * It takes no memory.
+ */
+aclc_code aclc_marks(struct aclc_context *context, const uint8_t *keys, size_t keys_len,
+                     uint32_t categories, uint8_t *marks, size_t marks_len);
 
 /*
  * aclc_sizes - tells how many rules the context holds, how many bytes a key has, and how many words
@@ -327,6 +366,12 @@ aclc_code aclc_table_classify(struct aclc_table *table, const uint8_t *keys, siz
                               size_t verdicts_len, uint64_t *transitions);
 
 /*
+ * aclc_table_marks - as aclc_marks, without ACLC_NOT_BUILT.
+ */
+aclc_code aclc_table_marks(struct aclc_table *table, const uint8_t *keys, size_t keys_len,
+                           uint32_t categories, uint8_t *marks, size_t marks_len);
+
+/*
  * aclc_table_sizes - tells of how many rules the table was made, how many bytes a key has, and how
  * many words the table has.
  *
@@ -342,6 +387,47 @@ aclc_code aclc_table_sizes(struct aclc_table *table, size_t *rules, size_t *key_
  * An empty handle stays empty. It refuses nothing.
  */
 void aclc_table_free(struct aclc_table *table);
+
+/*
+ * aclc_save - writes the image of two tables, of which aclc_load makes the same tables again.
+ *
+ * An image is a pair: the keys of ip4 have 13 bytes and those of ip6 37, as the five fields of an
+ * IPv4 and of an IPv6 packet do; any layout of so many bytes serves. A program that has one of them
+ * alone makes the other of a context without rules. An image is the same on every machine, and
+ * `aclc` reads it. It has the words and the rows, and neither the layouts nor the rules.
+ *
+ * image, room: where the image is written, from the first byte on, and how many bytes there are.
+ * Those after the image stay.
+ * image_len: on ACLC_OK and ACLC_NO_ROOM how many bytes the image has; else it stays. So a call
+ * with no room asks for it. It takes 8 bytes for each word, 128 for each row, and less than 2 KiB.
+ *
+ * ACLC_EMPTY: one of the handles is empty.
+ * ACLC_NO_IMAGE: the keys of ip4 haven't 13 bytes, or those of ip6 haven't 37.
+ * ACLC_NO_ROOM: the image has more bytes. Nothing is written of it.
+ * ACLC_NO_MEMORY. It takes memory for the image, and gives that back.
+ */
+aclc_code aclc_save(struct aclc_table *ip4, struct aclc_table *ip6, uint8_t *image, size_t room,
+                    size_t *image_len);
+
+/*
+ * aclc_load - fills two handles with the tables of an image, as aclc_save or `aclc` wrote it.
+ *
+ * What isn't the image of any two tables is refused, whatever its bytes: a table that is loaded can
+ * be walked by every key. The tables have room for no keys by lanes.
+ *
+ * image, image_len: the bytes of the image, all of them.
+ * place: is written where a fault of the image is answered, and else stays: the place of the field
+ * that fails first, in bytes from 0.
+ *
+ * ACLC_TAKEN: one of the handles isn't empty.
+ * ACLC_IMAGE_MAGIC to ACLC_IMAGE_KEPT_GROUPS: of the first field that fails its check.
+ * ACLC_NO_MEMORY. It takes memory for the tables, and never for words that aren't there: of bytes
+ * that are no image some 8 KiB more than they are.
+ */
+aclc_code aclc_load(struct aclc_table *ip4, struct aclc_table *ip6, const uint8_t *image,
+                    size_t image_len, uint64_t *place);
+
+#include "aclc_null.h"
 
 #ifdef __cplusplus
 }

@@ -82,7 +82,7 @@ static void add(struct aclc_context *context, struct expected *is) {
     for (uint32_t i = 0; i < count; i++) {
         rules[i].category_mask = 1 + below(15);
         rules[i].priority = (int32_t)below(6);
-        rules[i].userdata = 1 + below(1000);
+        rules[i].userdata = below(1000);
         values[i][0].value = below(4);
         values[i][0].mask_range = 3 + below(4);
         values[i][1].value = (uint64_t)below(4) << 30;
@@ -159,8 +159,8 @@ static void lanes(struct aclc_context *context, struct aclc_table *table, struct
     is->lanes = keys;
 }
 
-/* The userdata of the winner by one pass over the rules. */
-static uint32_t plain(const struct expected *is, const uint8_t *key, uint32_t category) {
+/* The winner by one pass over the rules, if there is one. */
+static const struct aclc_rule *plain(const struct expected *is, const uint8_t *key, uint32_t category) {
     uint32_t number = (uint32_t)key[1] << 24 | (uint32_t)key[2] << 16 | (uint32_t)key[3] << 8 | key[4];
     const struct aclc_rule *best = NULL;
     for (size_t i = 0; i < is->built_rules; i++) {
@@ -174,7 +174,7 @@ static uint32_t plain(const struct expected *is, const uint8_t *key, uint32_t ca
         if (best == NULL || rule->priority > best->priority)
             best = rule;
     }
-    return best == NULL ? 0 : best->userdata;
+    return best;
 }
 
 /* By a context, or by a table where one is given. */
@@ -210,13 +210,91 @@ static void classify(struct aclc_context *context, struct aclc_table *table, str
     expect("aclc_classify", code, wanted);
     for (size_t i = 0; i < room; i++) {
         uint32_t verdict = 0xa5a5a5a5;
-        if (wanted == ACLC_OK)
-            verdict = plain(is, keys + i / categories * KEY_LEN, (uint32_t)(i % categories));
+        if (wanted == ACLC_OK) {
+            const struct aclc_rule *rule = plain(is, keys + i / categories * KEY_LEN, (uint32_t)(i % categories));
+            verdict = rule == NULL ? 0 : rule->userdata;
+        }
         if (verdicts[i] != verdict)
             fail("aclc_classify writes another verdict");
     }
     if (wanted != ACLC_OK && transitions != 77)
         fail("aclc_classify counts where it refuses");
+}
+
+/* By a context, or by a table where one is given. */
+static void marks(struct aclc_context *context, struct aclc_table *table, const struct expected *is) {
+    static const uint32_t COUNTS[] = {1, 4, 3, 0, 17};
+    uint8_t keys[KEYS * KEY_LEN + 1], found[KEYS * CATEGORIES + 1];
+    uint32_t count = below(KEYS + 1), categories = COUNTS[below(8) ? below(2) : 2 + below(3)];
+    size_t length = (size_t)count * KEY_LEN + (below(10) == 0);
+    size_t room = (size_t)count * (categories > 4 ? 4 : categories) + (below(10) == 0);
+    for (size_t i = 0; i < sizeof keys; i++)
+        keys[i] = (uint8_t)(i % KEY_LEN == 1 ? below(4) << 6 : below(8));
+    memset(found, 0xa5, sizeof found);
+    aclc_code wanted = ACLC_OK;
+    if (!is->held)
+        wanted = ACLC_EMPTY;
+    else if (!is->built)
+        wanted = ACLC_NOT_BUILT;
+    else if (categories != 1 && categories != 4)
+        wanted = ACLC_BAD_CATEGORIES;
+    else if (length % KEY_LEN != 0 || room != (size_t)count * categories)
+        wanted = ACLC_BAD_LENGTH;
+    aclc_code code = table != NULL ? aclc_table_marks(table, keys, length, categories, found, room)
+                                   : aclc_marks(context, keys, length, categories, found, room);
+    expect("aclc_marks", code, wanted);
+    for (size_t i = 0; i < room; i++) {
+        uint8_t mark = 0xa5;
+        if (wanted == ACLC_OK)
+            mark = plain(is, keys + i / categories * KEY_LEN, (uint32_t)(i % categories)) == NULL;
+        if (found[i] != mark)
+            fail("aclc_marks writes another mark");
+    }
+}
+
+/* Each pointer that is null is told, and nothing changes: what comes after finds all as it was. */
+static void null(struct aclc_context *context, struct aclc_table *table) {
+    struct aclc_rule rule = {1, 1, 1};
+    struct aclc_value value = {0, 0};
+    uint8_t byte = 7;
+    uint32_t number = 7;
+    uint64_t wide = 7;
+    size_t len = 7;
+    aclc_code codes[] = {
+        aclc_create(NULL, LAYOUT, FIELDS, 1, &number), aclc_create(context, NULL, 1, 1, &number),
+        aclc_create(context, LAYOUT, FIELDS, 1, NULL),
+        aclc_add_rules(NULL, &rule, 1, &value, 1, &number, &number),
+        aclc_add_rules(context, NULL, 1, &value, 1, &number, &number),
+        aclc_add_rules(context, &rule, 1, NULL, 1, &number, &number),
+        aclc_add_rules(context, &rule, 1, &value, 1, NULL, &number),
+        aclc_add_rules(context, &rule, 1, &value, 1, &number, NULL),
+        aclc_build(NULL, 1, &wide), aclc_build(context, 1, NULL), aclc_lanes(NULL, 1),
+        aclc_classify(NULL, &byte, 1, 1, 0, &number, 1, &wide),
+        aclc_classify(context, NULL, 1, 1, 0, &number, 1, &wide),
+        aclc_classify(context, &byte, 1, 1, 0, NULL, 1, &wide),
+        aclc_classify(context, &byte, 1, 1, 0, &number, 1, NULL),
+        aclc_marks(NULL, &byte, 1, 1, &byte, 1), aclc_marks(context, NULL, 1, 1, &byte, 1),
+        aclc_marks(context, &byte, 1, 1, NULL, 1),
+        aclc_sizes(NULL, &len, &len, &wide), aclc_sizes(context, NULL, &len, &wide),
+        aclc_sizes(context, &len, NULL, &wide), aclc_sizes(context, &len, &len, NULL),
+        aclc_reset_rules(NULL), aclc_reset(NULL),
+        aclc_table_copy(NULL, table), aclc_table_copy(context, NULL),
+        aclc_table_share(NULL, table), aclc_table_share(table, NULL), aclc_table_lanes(NULL, 1),
+        aclc_table_classify(NULL, &byte, 1, 1, 0, &number, 1, &wide),
+        aclc_table_classify(table, NULL, 1, 1, 0, &number, 1, &wide),
+        aclc_table_classify(table, &byte, 1, 1, 0, NULL, 1, &wide),
+        aclc_table_classify(table, &byte, 1, 1, 0, &number, 1, NULL),
+        aclc_table_marks(NULL, &byte, 1, 1, &byte, 1), aclc_table_marks(table, NULL, 1, 1, &byte, 1),
+        aclc_table_marks(table, &byte, 1, 1, NULL, 1),
+        aclc_table_sizes(NULL, &len, &len, &wide), aclc_table_sizes(table, NULL, &len, &wide),
+        aclc_table_sizes(table, &len, NULL, &wide), aclc_table_sizes(table, &len, &len, NULL),
+    };
+    aclc_free(NULL);
+    aclc_table_free(NULL);
+    for (size_t i = 0; i < sizeof codes / sizeof codes[0]; i++)
+        expect("a call of null", codes[i], ACLC_NULL);
+    if (byte != 7 || number != 7 || wide != 7 || len != 7)
+        fail("a call of null writes");
 }
 
 static void sizes(struct aclc_context *context, struct expected *is) {
@@ -279,12 +357,14 @@ static void table_call(struct aclc_context *context, const struct expected *is,
                        struct aclc_table tables[2], struct expected are[2]) {
     uint32_t one = below(2);
     struct aclc_table *table = &tables[one];
-    switch (below(8)) {
+    switch (below(10)) {
     case 0: case 1: copy(context, is, table, &are[one]); break;
     case 2: share(table, &are[one], &tables[1 - one], &are[1 - one]); break;
     case 3: lanes(NULL, table, &are[one]); break;
     case 4: case 5: classify(NULL, table, &are[one]); break;
     case 6: table_sizes(table, &are[one]); break;
+    case 7: marks(NULL, table, &are[one]); break;
+    case 8: null(context, table); break;
     default:
         aclc_table_free(table);
         are[one].held = 0;
@@ -306,13 +386,14 @@ int main(int count, char **words) {
                 table_call(&context, &is, tables, are);
                 continue;
             }
-            switch (below(10)) {
+            switch (below(11)) {
             case 0: case 1: create(&context, &is); break;
             case 2: case 3: add(&context, &is); break;
             case 4: build(&context, &is); break;
             case 5: lanes(&context, NULL, &is); break;
             case 6: case 7: classify(&context, NULL, &is); break;
             case 8: sizes(&context, &is); break;
+            case 9: marks(&context, NULL, &is); break;
             default:
                 if (below(3) != 0) {
                     reset(&context, &is);

@@ -1,13 +1,17 @@
 /*
  * Eight threads that classify by one table, each through a handle of its own.
  *
+ *     threads [SECONDS]    each makes 1,000 batches, or as many as it can in so many seconds
+ *
  * The table is made once, and shared: nothing of it is copied. Each thread starts after its handle is
  * filled and is joined before the handle is freed, which orders the calls as aclc.h asks for.
  */
 #include <inttypes.h>
 #include <pthread.h>
 #include <stdio.h>
+#include <stdlib.h>
 #include <string.h>
+#include <time.h>
 
 #include "aclc.h"
 
@@ -29,18 +33,20 @@ static const struct aclc_value VALUES[RULES][2] = {
 
 static uint8_t keys[KEYS * KEY_LEN];
 static uint32_t wanted[KEYS];
+/* When the threads end, or 0 where they make so many batches. */
+static time_t end;
 
 struct worker {
     pthread_t thread;
     struct aclc_table table;
-    uint64_t wrong;
+    uint64_t batches, wrong;
 };
 
 static void *work(void *given) {
     struct worker *worker = given;
     uint32_t verdicts[KEYS];
     uint64_t transitions;
-    for (int batch = 0; batch < BATCHES; batch++) {
+    for (; end ? time(NULL) < end : worker->batches < BATCHES; worker->batches++) {
         memset(verdicts, 0, sizeof verdicts);
         if (aclc_table_classify(&worker->table, keys, sizeof keys, 1, ACLC_WALK_SCALAR, verdicts,
                                 KEYS, &transitions) != ACLC_OK ||
@@ -69,10 +75,10 @@ static aclc_code make_table(struct aclc_table *table) {
     return code;
 }
 
-int main(void) {
+int main(int count, char **words) {
     static struct worker workers[THREADS];
     struct aclc_table table = {0};
-    uint64_t wrong = 0;
+    uint64_t batches = 0, wrong = 0;
     for (int at = 0; at < KEYS; at++) {
         static const uint8_t NETS[] = {10, 192, 11};
         uint8_t *key = keys + at * KEY_LEN;
@@ -89,14 +95,17 @@ int main(void) {
         fprintf(stderr, "threads: %" PRIu32 "\n", code);
         return 1;
     }
+    if (count > 1)
+        end = time(NULL) + strtol(words[1], NULL, 10);
     for (int at = 0; at < THREADS; at++)
         if (pthread_create(&workers[at].thread, NULL, work, &workers[at]) != 0)
             return 1;
     for (int at = 0; at < THREADS; at++) {
         pthread_join(workers[at].thread, NULL);
         aclc_table_free(&workers[at].table);
+        batches += workers[at].batches;
         wrong += workers[at].wrong;
     }
-    printf("%d threads, %d batches each: %" PRIu64 " wrong\n", THREADS, BATCHES, wrong);
+    printf("%d threads, %" PRIu64 " batches: %" PRIu64 " wrong\n", THREADS, batches, wrong);
     return wrong != 0;
 }

@@ -11,7 +11,7 @@ use Rattle.acl_context.specs.Add.{Adds}
 use Rattle.acl_c.specs.declared.context.Context.{Context}
 use Rattle.acl_c.specs.declared.rules.Place.{Place}
 use Rattle.acl_c.specs.Codes.{rule_code}
-use Rattle.acl_c.specs.Calls.{code_of, told_of, AddsStored}
+use Rattle.acl_c.specs.Calls.{code_of, told_of, IsTold, AddsStored}
 
 -- no fault of a rule has the code of success
 refuses : (fault : RuleFault) → (rule_code fault).0 ≡ 0 → ⊥
@@ -22,6 +22,13 @@ refuses rule_faults.PriorityRange is = omega (arith, is)
 refuses (rule_faults.FieldTooWide place) is = omega (arith, is)
 refuses (rule_faults.MaskTooLong place) is = omega (arith, is)
 refuses (rule_faults.EmptyRange place) is = omega (arith, is)
+
+-- a fault that is the answer is told as the answer is
+is_told : (fault other : AddFault) (before : Place) → fault ≡ other →
+    IsTold other before (told_of before (Err fault)) (code_of (Err fault))
+is_told fault other before same =
+    subst (λ (one : AddFault). (code_of (Err fault) ≡ code_of (Err one))
+    × (told_of before (Err fault) ≡ told_of before (Err one))) same (refl, refl)
 
 -- the code and the place that are told are those of the answer of the context
 pub adds_stored : (given : List RuleView) (old : Context) (new : ContextView) (before : Place)
@@ -36,18 +43,18 @@ adds_stored given old new before (Ok done) adds = record {
 adds_stored given old new before (Err Full) adds = record {
   added = λ wrong. absurd (omega (arith, wrong));
   kept = λ _. ap (λ (acl : ContextView). record old { acl = acl }) adds.kept;
-  refused = λ fault is. let same : Full ≡ fault = cc (adds.refused fault is) in subst (λ (other : AddFault). (code_of (Err Full) ≡ code_of (Err other)) × (told_of before (Err Full) ≡ told_of before (Err other))) same (refl, refl);
+  refused = λ fault is. is_told Full fault before (cc (adds.refused fault is));
   lawful = λ none. absurd (cc (adds.lawful none));
 }
 adds_stored given old new before (Err (RuleRefused place fault)) adds = record {
   added = λ wrong. absurd (refuses fault wrong);
   kept = λ _. ap (λ (acl : ContextView). record old { acl = acl }) adds.kept;
-  refused = λ other is. let same : RuleRefused place fault ≡ other = cc (adds.refused other is) in subst (λ (given : AddFault). (code_of (Err (RuleRefused place fault)) ≡ code_of (Err given)) × (told_of before (Err (RuleRefused place fault)) ≡ told_of before (Err given))) same (refl, refl);
+  refused = λ other is. is_told (RuleRefused place fault) other before (cc (adds.refused other is));
   lawful = λ none. absurd (cc (adds.lawful none));
 }
 adds_stored given old new before (Err OutOfMemory) adds = record {
   added = λ wrong. absurd (omega (arith, wrong));
   kept = λ _. ap (λ (acl : ContextView). record old { acl = acl }) adds.kept;
-  refused = λ fault is. let same : OutOfMemory ≡ fault = cc (adds.refused fault is) in subst (λ (other : AddFault). (code_of (Err OutOfMemory) ≡ code_of (Err other)) × (told_of before (Err OutOfMemory) ≡ told_of before (Err other))) same (refl, refl);
+  refused = λ fault is. is_told OutOfMemory fault before (cc (adds.refused fault is));
   lawful = λ none. (inr refl, refl);
 }

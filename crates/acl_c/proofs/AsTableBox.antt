@@ -13,7 +13,11 @@ use Rattle.acl_c.specs.contracts.table_slot.TableSlot as slot
 
 -- a box of a table with the allocator of the system
 abbrev pub E : Bx
-E = record { row = held.the_row; laws = held_laws.the_row_laws; al = record { row = Heap.the_row; laws = heap.the_row_laws; g = ghosts; d = dict; drops = impl [] tnil dnil } }
+E = record {
+  row = held.the_row;
+  laws = held_laws.the_row_laws;
+  al = record { row = Heap.the_row; laws = heap.the_row_laws; g = ghosts; d = dict; drops = impl [] tnil dnil };
+}
 
 -- the parameters of the functions of a slot
 abbrev pub FromParts : Slot 0

@@ -1,5 +1,5 @@
--- What a handle of a table leads to may go to another thread: it is plain data that is counted by threads, and so is what
--- frees its blocks.
+-- What a handle of a table leads to may go to another thread: it is plain data that is counted by threads, and so is
+-- what frees its blocks.
 use base.Shift.{Keyless}
 use mir.Raw.{raw}
 use denote.Memory.{lone}
@@ -28,7 +28,8 @@ shared_send = search (sendable, crosses) depth 40
 -- what a slot owns beside its fields
 inside : (alloc : Global) (at : Ptr) (inside : Option shared.the_row.Denot) → Keyless (table_slot_owns alloc at inside)
 inside alloc at None = tt
-inside alloc at (Some x) = (lies shared.the_row shared_send at x, heap.frees.frees alloc (raw (lone shared.the_row.mir)) at)
+inside alloc at (Some x) =
+    (lies shared.the_row shared_send at x, heap.frees.frees alloc (raw (lone shared.the_row.mir)) at)
 
 -- a slot that leads to a table, or to nothing
 pub table_slot_send : IsSend table_slot.the_row

@@ -1,6 +1,8 @@
 -- Lengths that have no fault fit.
-use Rattle.std.proofs.Common.{◌≡◌, ℕ, ◌*◌, ◌/◌, ◌%◌, ◌==◌, ◌&&◌, nat_lt, Bool, true, false, not, List, length, refl, subst, arith}
+use Rattle.std.proofs.Common.{◌≡◌, ℕ, ◌*◌, ◌/◌, ◌%◌, ◌==◌, ◌&&◌, nat_lt, Bool, true, false, not, List, length, refl}
+use Rattle.std.proofs.Common.{subst, arith}
 use Rattle.std.specs.Prelude.{if◌then◌else◌}
+use Rattle.std.proofs.lemmas.Bool.{and_parts}
 use Rattle.std.proofs.lemmas.Bool.Decides.{nat_tests}
 use Rattle.std.proofs.lemmas.Nat.{div-add-mod'}
 use Rattle.flat_table.specs.Batch.{KeysFit}
@@ -19,6 +21,7 @@ product n times whole none same =
     let is : whole / n ≡ times = grind (arith, nat_tests, same) in
     subst (λ (k : ℕ). whole ≡ k * n) is (omega (arith, parts, zero))
 
+-- none of three tests fails
 opened : (whole many room : Bool) →
     (if not whole then bad_length else (if many then too_many_keys else (if room then ok else bad_length))) ≡ ok →
     (whole ≡ true) × (many ≡ false) × (room ≡ true)
@@ -27,19 +30,13 @@ opened false many room none = let wrong : bad_length ≡ ok = none in absurd (om
 opened true true room none = let wrong : too_many_keys ≡ ok = none in absurd (omega (arith, wrong))
 opened true false false none = let wrong : bad_length ≡ ok = none in absurd (omega (arith, wrong))
 
-both : (one other : Bool) → (one && other) ≡ true → (one ≡ true) × (other ≡ true)
-both true true is = (refl, refl)
-both true false is = (refl, is)
-both false true is = (is, refl)
-both false false is = (is, is)
-
 -- the lengths of a batch without a fault are those of whole keys and of the room for their verdicts
 pub fits : (key_len : ℕ) (keys : List ℕ) (count room : ℕ) →
     lengths_code key_len (length keys) count room ≡ 0 → KeysFit key_len keys count room
 fits key_len keys count room none =
     let (whole, many, rest) = opened (length keys % key_len == 0) (nat_lt 65536 (length keys / key_len))
     (room % count == 0 && room / count == length keys / key_len) none in
-    let (even, same) = both (room % count == 0) (room / count == length keys / key_len) rest in
+    let (even, same) = and_parts (room % count == 0) (room / count == length keys / key_len) rest in
     record {
       whole = product key_len (length keys / key_len) (length keys) whole (grind (arith, nat_tests));
       few = grind (arith, nat_tests, many);
@@ -50,7 +47,7 @@ fits key_len keys count room none =
 pub whole_product : (defs : List FieldDef) (tags : List Tag) (values : List Value) →
     are_whole defs tags values ≡ true → length values ≡ length tags * length defs
 whole_product defs tags values whole =
-    let (some, same) = both (not (length defs == 0) && length values % length defs == 0)
+    let (some, same) = and_parts (not (length defs == 0) && length values % length defs == 0)
     (length values / length defs == length tags) whole in
-    let (few, even) = both (not (length defs == 0)) (length values % length defs == 0) some in
+    let (few, even) = and_parts (not (length defs == 0)) (length values % length defs == 0) some in
     product (length defs) (length tags) (length values) even same

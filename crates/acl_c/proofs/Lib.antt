@@ -1,7 +1,10 @@
 mod Adding
 mod AsBox
 mod AsTableBox
-mod Lengths
-mod Rows
-mod Serving
 mod Crossing
+mod Lengths
+mod Loading
+mod Marking
+mod Rows
+mod Saving
+mod Serving

@@ -66,6 +66,14 @@ full = 12
 abbrev pub too_large : ℕ
 too_large = 13
 
+-- no image may have the tables
+abbrev pub no_image : ℕ
+no_image = 15
+
+-- the room is less than the image needs
+abbrev pub no_room : ℕ
+no_room = 16
+
 -- there are too many field definitions
 abbrev pub too_many_fields : ℕ
 too_many_fields = 32

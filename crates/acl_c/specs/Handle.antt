@@ -14,6 +14,7 @@ abbrev pub slot_owns : Global → Ptr → Option the_row.Denot → Fml
 slot_owns alloc at None = ftrue
 slot_owns alloc at (Some inside) = box_owns (ghosts.dealloc_token alloc) the_row at inside
 
+-- how memory holds that a pointer leads to a context, or to nothing
 abbrev pub context_coded : Coded (Option the_row.Denot)
 context_coded = (option.the_row the_row).coded
 

@@ -3,6 +3,8 @@ pub mod Calls
 pub mod Codes
 pub mod Given
 pub mod Handle
+pub mod Images
+pub mod Marks
 pub mod Rules
 pub mod Shared
 pub mod TableHandle

@@ -1,5 +1,6 @@
 -- Rules as C gives them: what each is for, and beside them the values of all, rule after rule.
-use Rattle.std.specs.Prelude.{ℕ, pos, ◌*◌, ◌/◌, ◌%◌, ◌==◌, ◌&&◌, nat_le, List, map, drop, length, Bool, not}
+use Rattle.std.specs.Prelude.{ℕ, pos, ◌*◌, ◌/◌, ◌%◌, ◌==◌, ◌&&◌, nat_le, List, map, drop, length}
+use Rattle.std.specs.Prelude.{Bool, not}
 use Rattle.std.specs.Prelude.{slice_index_or, if◌then◌else◌}
 use Rattle.std.specs.List.{range_with_len}
 use Rattle.field_defs.specs.declared.field.FieldKind.{FieldKind}

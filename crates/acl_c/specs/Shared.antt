@@ -1,5 +1,6 @@
 -- Tables that handles share, and what the calls on them do.
-use Rattle.std.specs.Prelude.{◌≡◌, ℕ, ◌<◌, ◌≤◌, ◌⊎◌, ◌==◌, List, [], length, Option, IsSome, IfSome, false}
+use Rattle.std.specs.Prelude.{◌≡◌, ℕ, ◌<◌, ◌≤◌, ◌⊎◌, ◌==◌, List, [], length, Option, IsSome, IfSome}
+use Rattle.std.specs.Prelude.{false}
 use Rattle.rule_set.specs.Rule.{RuleSetView}
 use Rattle.flat_table.specs.Table.{TableView}
 use Rattle.flat_table.specs.Batch.{most_keys, batch_verdicts, batch_transitions}

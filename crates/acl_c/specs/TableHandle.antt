@@ -14,5 +14,6 @@ abbrev pub table_slot_owns : Global → Ptr → Option the_row.Denot → Fml
 table_slot_owns alloc at None = ftrue
 table_slot_owns alloc at (Some inside) = box_owns (ghosts.dealloc_token alloc) the_row at inside
 
+-- how memory holds that a pointer leads to a table, or to nothing
 abbrev pub shared_coded : Coded (Option the_row.Denot)
 shared_coded = (option.the_row the_row).coded

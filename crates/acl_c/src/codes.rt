@@ -34,6 +34,10 @@ pub(crate) const FULL: u32 = 12;
 
 pub(crate) const TOO_LARGE: u32 = 13;
 
+pub(crate) const NO_IMAGE: u32 = 15;
+
+pub(crate) const NO_ROOM: u32 = 16;
+
 pub(crate) const TOO_MANY_FIELDS: u32 = 32;
 
 pub(crate) const BAD_KIND: u32 = 33;

@@ -13,11 +13,13 @@ ghost use Rattle.acl_c.specs.Codes.{ok, no_memory, not_built, bad_budget, too_la
 ghost use Rattle.acl_c.specs.Shared.{without_lanes};
 ghost use Rattle.acl_c.specs.Calls.{is_budget, with_table, without_rules, without_all, words_in, is_among};
 ghost use Rattle.acl_c.specs.Calls.{context_code, code_of, told_of, AddsStored, AddsGiven};
+ghost use Rattle.acl_c.specs.Marks.{Marks};
 
 use crate::batch::{MAX_KEYS, ask, walk_keys};
 use crate::codes::{
     BAD_BUDGET, BAD_LENGTH, FULL, NO_MEMORY, NOT_BUILT, OK, TOO_LARGE, TOO_MANY_KEYS, rule_code,
 };
+use crate::marks::mark;
 use crate::rules::{Place, Tag, Value, are_whole, rules_from};
 use crate::shared::Shared;
 use acl_context::{AclContext, AddFault, BuildFault, Scratch};
@@ -172,6 +174,16 @@ impl Context {
         let lanes = &mut self.lanes;
         *transitions = walk_keys::<Brand>(Blank::new(1), &self.acl, lanes, keys, asked, verdicts);
         OK
+    }
+
+    /// Marks the categories of keys that no rule of the table wins.
+    pub(crate) fn mark(&self, keys: &[u8], categories: u32, marks: &mut [u8]) -> u32
+        ensures { Marks self.now.acl.table keys.now categories marks.old marks.new result }
+    {
+        match self.acl.table() {
+            Some(table) => mark(table, keys, categories, marks),
+            None => NOT_BUILT,
+        }
     }
 
     /// Adds stored rules, all or none, or tells the first that is refused.

@@ -8,6 +8,7 @@ ghost use Rattle.acl_c.specs.Codes.{ok, no_memory, empty_handle, taken_handle, b
 ghost use Rattle.acl_c.specs.Given.{def_of, fields_fault};
 ghost use Rattle.acl_c.specs.Calls.{new_context, without_rules, without_all, words_in, Builds};
 ghost use Rattle.acl_c.specs.Calls.{IfHeld, place_of, AddsGiven, Classifies, Reserves};
+ghost use Rattle.acl_c.specs.Marks.{Marks};
 
 use crate::codes::{EMPTY, OK, TAKEN};
 use crate::create::create;
@@ -151,6 +152,30 @@ pub extern "C" fn aclc_classify(
     }
     let mut held = context.take(alloc);
     let code = held.classify(keys, categories, walk, verdicts, transitions);
+    context.put(held);
+    code
+}
+
+/// Marks the categories of keys that no rule of the table of the last build wins.
+#[unsafe(no_mangle)]
+pub extern "C" fn aclc_marks(
+    alloc: Global,
+    context: &mut Handle,
+    keys: &[u8],
+    categories: u32,
+    marks: &mut [u8],
+) -> u32
+    ensures empty { context.old.slot.inside ≡ None → (result ≡ empty_handle)
+        × (context.new.slot.inside ≡ None) × (marks.new ≡ marks.old) }
+    ensures held { (old : Context) → context.old.slot.inside ≡ Some old →
+        (context.new.slot.inside ≡ Some old)
+        × Marks old.acl.table keys.now categories marks.old marks.new result }
+{
+    if !context.is_held() {
+        return EMPTY;
+    }
+    let held = context.take(alloc);
+    let code = held.mark(keys, categories, marks);
     context.put(held);
     code
 }

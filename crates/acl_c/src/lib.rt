@@ -16,9 +16,11 @@
 //! - `given`, `rules`, `batch`: definitions, rules and keys as C gives them
 //! - `context`, `create`: what a handle of a context leads to, and the calls on it
 //! - `copy`, `shared`: what a handle of a table leads to, and the calls on it
+//! - `marks`: which categories of keys no rule wins
+//! - `images`: tables that are saved to bytes, and loaded from them
 //! - `parts`, `slot`, `handle`: a box behind a pointer that C holds
 //! - `table_slot`, `table_handle`: the same for a table
-//! - `exports`, `table_exports`: the calls of `aclc.h`
+//! - `exports`, `table_exports`, `image_exports`: the calls of `aclc.h`
 #![tactic(auto)]
 
 mod batch;
@@ -29,6 +31,9 @@ mod create;
 mod exports;
 mod given;
 mod handle;
+mod image_exports;
+mod images;
+mod marks;
 mod parts;
 mod rules;
 mod shared;

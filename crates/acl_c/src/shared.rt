@@ -40,12 +40,18 @@ impl Shared {
         Ok(Box::new(alloc, Shared { table, lanes })?)
     }
 
+    /// The table, to be shared, with room for no keys by lanes.
+    pub(crate) fn of(alloc: Global, table: Table) -> Result<Box<Shared, Global>, AllocError>
+        ensures { IfOk result (λ shared. shared.value ≡ without_lanes table) }
+    {
+        Shared::boxed(alloc, Arc::new(alloc, table)?)
+    }
+
     /// A copy of the table, with room for no keys by lanes.
     pub(crate) fn copied(alloc: Global, table: &Table) -> Result<Box<Shared, Global>, AllocError>
         ensures { IfOk result (λ shared. shared.value ≡ without_lanes table.now) }
     {
-        let table = Arc::new(alloc, copy_of(alloc, table)?)?;
-        Shared::boxed(alloc, table)
+        Shared::of(alloc, copy_of(alloc, table)?)
     }
 
     /// The same table for another handle, with room for no keys by lanes.

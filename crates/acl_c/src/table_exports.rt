@@ -6,9 +6,11 @@ ghost use Rattle.acl_c.specs.declared.context.Context.{Context};
 ghost use Rattle.acl_c.specs.Codes.{ok, no_memory, empty_handle, taken_handle, not_built};
 ghost use Rattle.acl_c.specs.Shared.{SharedView, without_lanes, IfShared};
 ghost use Rattle.acl_c.specs.Shared.{MakesRoom, ClassifiesShared};
+ghost use Rattle.acl_c.specs.Marks.{Marks};
 
 use crate::codes::{EMPTY, NO_MEMORY, OK, TAKEN};
 use crate::handle::Handle;
+use crate::marks::mark;
 use crate::table_handle::TableHandle;
 use std::alloc::{AllocError, Global};
 
@@ -130,6 +132,30 @@ pub extern "C" fn aclc_table_classify(
     }
     let mut held = table.take(alloc);
     let code = held.classify(keys, categories, walk, verdicts, transitions);
+    table.put(held);
+    code
+}
+
+/// Marks the categories of keys that no rule of the table wins.
+#[unsafe(no_mangle)]
+pub extern "C" fn aclc_table_marks(
+    alloc: Global,
+    table: &mut TableHandle,
+    keys: &[u8],
+    categories: u32,
+    marks: &mut [u8],
+) -> u32
+    ensures empty { table.old.slot.inside ≡ None → (result ≡ empty_handle)
+        × (table.new.slot.inside ≡ None) × (marks.new ≡ marks.old) }
+    ensures held { (old : SharedView) → table.old.slot.inside ≡ Some old →
+        (table.new.slot.inside ≡ Some old)
+        × Marks (Some old.table) keys.now categories marks.old marks.new result }
+{
+    if !table.is_held() {
+        return EMPTY;
+    }
+    let held = table.take(alloc);
+    let code = mark(held.table(), keys, categories, marks);
     table.put(held);
     code
 }

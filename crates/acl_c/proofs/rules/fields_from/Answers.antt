@@ -17,7 +17,8 @@ loop-place-preserved c =
     let one = c.value_of.ensures ∙ one_value defs values l.place _ _ here there in
     record {
       fields = c.push.ensures.items ∙ (λ i. l.invariant.fields i ++ one i ∷ [])
-          ∙ sym (map-range_with_len_more (λ (k : ℕ). value_of (def_at defs k).kind (value_at values k)) 0 l.place l.place from_0);
+          ∙ sym (map-range_with_len_more (λ (k : ℕ). value_of (def_at defs k).kind (value_at values k)) 0 l.place
+          l.place from_0);
       len = ap length c.push.ensures.items ∙ length_push l.fields.items c.value_of.result
           ∙ ap (λ (n : ℕ). n + 1) l.invariant.len;
     }
