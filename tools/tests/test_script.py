@@ -20,8 +20,11 @@ case $1 in
 try) shift; [ -z "$BROKEN" ] || { echo refused >&2; exit 1; }
     while [ "$1" != -- ]; do shift; done
     shift; echo "$@"; printf 'told\\nchecked: ended status=5\\nrun=ended status=5 runners=1 proved=no\\n' >&2; exit 5 ;;
-all) [ -z "$BROKEN" ] || exit 1; for crate in low aclc; do printf '== %s\\nlogic=proved functions=1\\n' $crate; done; echo '== summary' ;;
-run) mkdir -p out; echo "$program" > out/aclc; chmod +x out/aclc; shift 2; out/aclc "$@" ;;
+ci) [ -z "$BROKEN" ] || exit 1
+    [ "$(ls crates | tr '\\n' ' ')" = 'aclc low ' ] && [ ! -e crates/low/must-fail ] && [ -e HANDLES ] || exit 1
+    [ "$(cat crates.txt)" = $'low: std\\naclc: low' ] || exit 1
+    echo 'rt: low is kept: an earlier run proved it'; printf '== aclc\\nlogic=proved functions=1\\nrt: aclc proved\\n'
+    mkdir -p crates/aclc/out; echo "$program" > crates/aclc/out/aclc; chmod +x crates/aclc/out/aclc ;;
 esac
 """
 
@@ -34,10 +37,11 @@ class Script(unittest.TestCase):
             target = self.folder / name
             target.parent.mkdir(parents=True, exist_ok=True)
             (shutil.copytree if (TOP / name).is_dir() else shutil.copy)(TOP / name, target)
-        (self.folder / "crates.txt").write_text("low:\naclc: low\nother: low\n")
+        (self.folder / "crates.txt").write_text("low: std\naclc: low\nother: low\n")
         for crate in ("low", "aclc", "other"):
             (self.folder / "crates" / crate / "src").mkdir(parents=True)
             (self.folder / "crates" / crate / "src" / "lib.rt").write_text("fn one()\n")
+        (self.folder / "crates" / "low" / "must-fail").mkdir()
         (self.folder / "bin").mkdir()
         (self.folder / "bin" / "rt").write_text(RT)
         (self.folder / "bin" / "rt").chmod(0o755)
