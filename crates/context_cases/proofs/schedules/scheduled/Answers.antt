@@ -1,6 +1,6 @@
 use Rattle.std.proofs.Common.{◌<◌, arith, length}
 use Rattle.std.proofs.lemmas.List.Elements.{All-from_all_within, AllWithin-upto}
-use Rattle.lane_cases.proofs.schedules.scheduled.Goals as goal
+use Rattle.context_cases.proofs.schedules.scheduled.Goals as goal
 
 pub run_schedule-requires-clause-slots : goal.run_schedule-requires-clause-slots
 run_schedule-requires-clause-slots g c =
