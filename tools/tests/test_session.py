@@ -7,7 +7,7 @@ from aclc_tools.program import TOP, built_program
 
 SCRIPT = TOP / "examples" / "own_layout.script"
 REPLIES = TOP / "examples" / "own_layout.replies"
-RUN = TOP / "crates" / "session_run"
+RUN = TOP / "crates" / "commands_run"
 
 
 def calls():
@@ -18,7 +18,7 @@ def calls():
 class Session(unittest.TestCase):
     def test_the_gate_runs_the_example(self):
         self.assertEqual((RUN / "data" / SCRIPT.name).read_bytes(), SCRIPT.read_bytes())
-        self.assertEqual((RUN / "stdout").read_bytes(), REPLIES.read_bytes())
+        self.assertTrue((RUN / "stdout").read_bytes().endswith(b")\n" + REPLIES.read_bytes() + b"ExitCode(unix_exit_status(0))\n"))
 
     def test_the_page_has_each_line_beside_its_reply(self):
         replies = REPLIES.read_text().splitlines()

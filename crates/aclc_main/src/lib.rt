@@ -16,4 +16,4 @@ mod program;
 mod tests;
 mod words;
 
-pub use program::{exit_code, run_program};
+pub use program::{exit_code, run_program, run_words};

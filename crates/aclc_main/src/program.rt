@@ -29,8 +29,13 @@ const NO_WORDS: u8 = 1;
 ///
 /// Streams that are closed are held meanwhile. It takes the memory of the words and of the command.
 pub fn run_program(rt: &HostRuntime) -> ExitCode {
+    run_words(rt, system_words(rt))
+}
+
+/// Runs the command that these words are, of which the first is the program's name, as
+/// [`run_program`] runs that of the system's words. The exit code is 1 where there are no words.
+pub fn run_words(rt: &HostRuntime, words: Option<Vec<String>>) -> ExitCode {
     let held = HeldStreams::new(rt);
-    let words = system_words(rt);
     run_over_streams(&held, rt, rt.alloc(), words, rt.stdout(), rt.stderr())
 }
 

@@ -9,8 +9,10 @@
 //! | `adding` | rules that are added to a context in two calls |
 //! | `asking` | a context's answers to a batch, for the tests of contexts |
 //! | `contexts` | contexts from their first rule to their reset |
+//! | `lanes` | batches walked by 4, 8 and 16 lanes: words, turns and verdicts |
 //! | `layouts` | contexts whose layouts have two and nine fields, and keys of 5 and 25 bytes |
 //! | `messages` | what each fault says |
+//! | `schedules` | tables made by hand, walked by lists of slots |
 //! | `sizes` | a context of 1,024 rules, split into eight tries, in 1 to 16 categories |
 //! | `walks` | tables made by hand, walked and classified |
 //! | `workloads` | the first rules and keys of seed 42 |
@@ -23,9 +25,13 @@ mod asking;
 #[cfg(test)]
 mod contexts;
 #[cfg(test)]
+mod lanes;
+#[cfg(test)]
 mod layouts;
 #[cfg(test)]
 mod messages;
+#[cfg(test)]
+mod schedules;
 #[cfg(test)]
 mod sizes;
 #[cfg(test)]

@@ -6,6 +6,8 @@
 //!
 //! | module | what it tests |
 //! |---|---|
+//! | `audits` | least keys, against all keys of few distinct bytes |
+//! | `comparisons` | where two lists differ, against all keys of few distinct bytes |
 //! | `edges` | what bytes leave of a value, worked out by hand |
 //! | `filled` | tables whose words were worked out by hand |
 //! | `groups` | states whose words were worked out by hand |
@@ -17,6 +19,10 @@
 //! | `splits` | lists that are split under budgets around their words |
 #![tactic(auto)]
 
+#[cfg(test)]
+mod audits;
+#[cfg(test)]
+mod comparisons;
 #[cfg(test)]
 mod edges;
 #[cfg(test)]

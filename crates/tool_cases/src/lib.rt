@@ -7,10 +7,25 @@
 //! | module | what it tests |
 //! |---|---|
 //! | `bench` | the command that compares rules and table over a workload |
+//! | `blocks` | pcapng captures in both orders, whole, cut and refused, also byte by byte |
 //! | `commands` | reports, refusals, tables, and images that are made and replayed |
+//! | `faults` | read faults, write faults and faults of the message, of each command |
+//! | `files` | the files and the texts of the worked example of 17 packets, and of a script |
+//! | `scripts` | scripts → the replies to their lines, worked out by hand |
+//! | `turns` | a run with one fault, and what is compared of it |
 #![tactic(auto)]
 
 #[cfg(test)]
 mod bench;
 #[cfg(test)]
+mod blocks;
+#[cfg(test)]
 mod commands;
+#[cfg(test)]
+mod faults;
+#[cfg(test)]
+mod files;
+#[cfg(test)]
+mod scripts;
+#[cfg(test)]
+mod turns;
