@@ -14,6 +14,7 @@
 //! | `layouts` | layouts and the keys of their buffers |
 //! | `lines` | the lines of a report |
 //! | `messages` | what each fault says |
+//! | `numbers` | numbers that bytes spell in either order |
 //! | `ranks` | ranks by priorities and places |
 //! | `rule_files` | rule files as people write them, and printed rules |
 //! | `stored` | rules that are stored |
@@ -35,6 +36,8 @@ mod layouts;
 mod lines;
 #[cfg(test)]
 mod messages;
+#[cfg(test)]
+mod numbers;
 #[cfg(test)]
 mod ranks;
 #[cfg(test)]
