@@ -1,4 +1,5 @@
-//! tests alone: files, rules, rule files, captures, frames and lines as the public sources have them
+//! tests alone: files, rules, rule files, captures, frames and lines as the public sources have
+//! them
 //!
 //! No crate stands on this one. Its tests see the public calls of the crates that read and write
 //! files succeed, over the examples of RFCs, of the libpcap format and of the DPDK Programmer's

@@ -1,7 +1,9 @@
 //! Numbers that bytes spell in either order.
 
-use byte_numbers::{mirrored_u16_at, mirrored_u32_at, mirrored_u64_at};
-use byte_numbers::{network_number, network_u16_at, network_u32_at, network_u64_at};
+use byte_numbers::{
+    mirrored_u16_at, mirrored_u32_at, mirrored_u64_at, network_number, network_u16_at,
+    network_u32_at, network_u64_at,
+};
 
 #[test]
 fn eight_bytes_spell_a_number_in_either_order(rt: HostRuntime) {
