@@ -50,7 +50,8 @@ counted_to digits last n there fits is below =
     omega (arith, size, ap length both, length_push (take last digits) x, length_push front b) in
     let same : take last digits ≡ front =
     sym (take_at (take last digits) (x ∷ []) last size) ∙ ap (take last) both ∙ take_at front (b ∷ []) last short in
-    let byte : x ≡ b = ap (λ (l : List ℕ). get_or l 0 0) (append_cancel_left front (x ∷ []) (b ∷ []) (rw same at both)) in
+    let byte : x ≡ b =
+    ap (λ (l : List ℕ). get_or l 0 0) (append_cancel_left front (x ∷ []) (b ∷ []) (rw same at both)) in
     take_more_set digits last (x + 1) there
     ∙ ap (λ (l : List ℕ). l ++ (x + 1) ∷ []) same
     ∙ ap (λ (y : ℕ). front ++ (y + 1) ∷ []) byte

@@ -68,8 +68,8 @@ abbrev pub Keeps : Option (List ℕ) → DeskView → DeskView → Type 0
 Keeps None old new = KeepsFiles old new
 Keeps (Some name) old new = KeepsOthers name old new
 
--- The file was made, whole, and nothing else. It is finished, and it holds its bytes where the files
--- are told.
+-- The file was made, whole, and nothing else. It is finished, and it holds its bytes where the
+-- files are told.
 pub record MakesFile (file : File) (old new : DeskView) : Type 0 where
   pub made : made_of new
       ≡ record { name = file.name; bytes = file.bytes; standing = Finished } ∷ made_of old
@@ -102,8 +102,8 @@ abbrev pub MakesPart : Option File → DeskView → DeskView → Type 0
 MakesPart None old new = KeepsFiles old new
 MakesPart (Some file) old new = MakesPrefix file old new
 
--- The named file was made of these bytes, or a prefix of it where the desk couldn't write. All other
--- files are as before, and no file was opened or read.
+-- The named file was made of these bytes, or a prefix of it where the desk couldn't write. All
+-- other files are as before, and no file was opened or read.
 pub record MakesAll {T E : Type 0} (name bytes : List ℕ) (old new : DeskView)
     (result : Result T E) : Type 0 where
   pub whole : OnOk result (MakesFile (record { name = name; bytes = bytes }) old new)

@@ -10,7 +10,14 @@ use std::process::ExitCode;
 /// The words of the commands, of which the first is the program's name.
 const COMMANDS: [&[&str]; 4] = [
     &["aclc", "classify", "guide.rules", "ports.pcap", "stats=on"],
-    &["aclc", "classify", "large.rules", "large.pcap", "categories=12", "marks=on"],
+    &[
+        "aclc",
+        "classify",
+        "large.rules",
+        "large.pcap",
+        "categories=12",
+        "marks=on",
+    ],
     &["aclc", "bench", "42", "256", "1000"],
     &["aclc", "session", "own_layout.script"],
 ];

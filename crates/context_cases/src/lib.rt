@@ -1,8 +1,8 @@
 //! tests alone: rules → contexts, and their answers by either walk
 //!
 //! No crate stands on this one. Its tests see each call that may run out of memory succeed, some at
-//! sizes of real lists, and what only shows where the crates of tables work together. They stand here
-//! and not in those crates, since a crate with tests is proved once more for them.
+//! sizes of real lists, and what only shows where the crates of tables work together. They stand
+//! here and not in those crates, since a crate with tests is proved once more for them.
 //!
 //! | module | what it tests |
 //! |---|---|

@@ -6,7 +6,7 @@ ghost use Rattle.field_defs.specs.FieldMatch.{kind_of, is_size, is_within_size, 
 ghost use Rattle.field_defs.specs.FieldMatch.{is_range_filled};
 
 /// How a rule bounds a field (DPDK Programmer's Guide, ACL field types).
-#[derive(Clone, Copy, Debug, PartialEq, Eq, Hash)]
+#[derive(Clone, Copy, Debug, PartialEq, Eq)]
 pub enum FieldKind {
     /// A value and the number of leading bits that have to be equal to it.
     Mask,
@@ -17,7 +17,7 @@ pub enum FieldKind {
 }
 
 /// Where a field lies and how it is bounded.
-#[derive(Clone, Copy, Debug, PartialEq, Eq, Hash)]
+#[derive(Clone, Copy, Debug, PartialEq, Eq)]
 pub struct FieldDef {
     pub kind: FieldKind,
     /// The field's length in bytes: 1, 2, 4 or 8.
@@ -32,7 +32,7 @@ pub struct FieldDef {
 }
 
 /// The value of a rule for one field. Numbers are in host order. None of its calls takes memory.
-#[derive(Clone, Copy, Debug, PartialEq, Eq, Hash)]
+#[derive(Clone, Copy, Debug, PartialEq, Eq)]
 pub enum FieldValue {
     /// Matches numbers whose first `bits` bits, from the most significant on, are those of `value`.
     Mask { value: u64, bits: u8 },
@@ -113,7 +113,7 @@ fn is_number_of(number: u64, size: u8) -> bool
 }
 
 /// The version of the Internet Protocol that a packet, a rule or a table is of.
-#[derive(Clone, Copy, Debug, PartialEq, Eq, Hash)]
+#[derive(Clone, Copy, Debug, PartialEq, Eq)]
 pub enum Family {
     Ip4,
     Ip6,

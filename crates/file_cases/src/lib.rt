@@ -1,4 +1,5 @@
-//! tests alone: files, rules, rule files, captures, frames and lines as the public sources have them
+//! tests alone: files, rules, rule files, captures, frames and lines as the public sources have
+//! them
 //!
 //! No crate stands on this one. Its tests see the public calls of the crates that read and write
 //! files succeed, over the examples of RFCs, of the libpcap format and of the DPDK Programmer's
@@ -14,6 +15,7 @@
 //! | `layouts` | layouts and the keys of their buffers |
 //! | `lines` | the lines of a report |
 //! | `messages` | what each fault says |
+//! | `numbers` | numbers that bytes spell in either order |
 //! | `ranks` | ranks by priorities and places |
 //! | `rule_files` | rule files as people write them, and printed rules |
 //! | `stored` | rules that are stored |
@@ -35,6 +37,8 @@ mod layouts;
 mod lines;
 #[cfg(test)]
 mod messages;
+#[cfg(test)]
+mod numbers;
 #[cfg(test)]
 mod ranks;
 #[cfg(test)]

@@ -1,6 +1,6 @@
 -- How many elements of a list pass a test, and lists over ranges of numbers.
 use Rattle.std.proofs.Common.{cond, Bool, List, ◌≡◌, ◌+◌, [], ◌∷◌, suc, arith, get_or, zero, false, ℕ, length, true}
-use Rattle.std.proofs.Common.{◌<◌, ◌≤◌, ◌∙◌, refl, ap, add-zero, ◌++◌, inl, inr, map, sym}
+use Rattle.std.proofs.Common.{◌<◌, ◌≤◌, ◌∙◌, refl, inl, inr, map, sym}
 use Rattle.std.specs.List.{count_by, range_with_len}
 use Rattle.std.proofs.lemmas.List.Sums.{sum_by-cons}
 use Rattle.std.proofs.lemmas.Bool.{cases_Bool}

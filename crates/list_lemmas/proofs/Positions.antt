@@ -1,11 +1,11 @@
 -- Ranges of numbers, and lists that stand in others from a place on.
-use Rattle.std.proofs.Common.{◌≡◌, ℕ, zero, suc, ◌+◌, ◌-◌, ◌*◌, ◌<◌, Bool, cond, List, [], ◌∷◌, ◌++◌, filter, length}
+use Rattle.std.proofs.Common.{◌≡◌, ℕ, zero, suc, ◌+◌, ◌-◌, ◌<◌, Bool, cond, List, [], ◌∷◌, ◌++◌, filter, length}
 use Rattle.std.proofs.Common.{take, drop, get_or, sym, ap, ◌∙◌, inl, inr, arith, append_assoc, length-append}
 use Rattle.std.specs.List.{range_with_len}
 use Rattle.std.proofs.lemmas.Bool.{cases_Bool}
-use Rattle.std.proofs.lemmas.List.{drop-drop, drop_all, take_at, drop_at, get_or_append_left, get_or-append-add}
+use Rattle.std.proofs.lemmas.List.{drop-drop, take_at, drop_at, get_or_append_left, get_or-append-add}
 use Rattle.std.proofs.lemmas.List.Elements.{filter-append}
-use borrow.Rule.Slice.PartMut.{put_mid, post_of}
+use borrow.Rule.Slice.PartMut.{put_mid}
 
 -- a range goes on where another ends
 pub range-append : (first count more : ℕ) →
@@ -89,20 +89,3 @@ piece_written {old = old} {front = front} {out = out} {at = at} w piece end e =
           ∙ ap (λ (xs : List ℕ). (front ++ piece) ++ xs) (drop-drop n at old ∙ ap (λ (k : ℕ). drop k old) last);
       len = omega (arith, length-append front piece, w.len, e);
     }
-
--- four pieces of one length that are written one after the other
-pub four_written : (old : List ℕ) (piece : ℕ → List ℕ) (count : ℕ) → length old ≡ 4 * count →
-    ((i : ℕ) → length (piece i) ≡ count) →
-    put_mid (3 * count) (4 * count - 3 * count) (put_mid (2 * count) (3 * count - 2 * count)
-    (put_mid count (2 * count - count) (piece 0 ++ post_of 0 (count - 0) old) (piece 1)) (piece 2)) (piece 3)
-    ≡ piece 0 ++ (piece 1 ++ (piece 2 ++ (piece 3 ++ [])))
-four_written old piece count room len =
-    let first : WrittenTo old count (piece 0) (piece 0 ++ post_of 0 (count - 0) old) =
-    record { is = ap (λ (n : ℕ). piece 0 ++ drop n old) (omega arith); len = len 0 } in
-    let second = piece_written first (piece 1) (2 * count) (omega (arith, len 1)) in
-    let third = piece_written second (piece 2) (3 * count) (omega (arith, len 2)) in
-    let fourth = piece_written third (piece 3) (4 * count) (omega (arith, len 3)) in
-    fourth.is
-    ∙ ap (λ (xs : List ℕ). (((piece 0 ++ piece 1) ++ piece 2) ++ piece 3) ++ xs)
-    (drop_all (4 * count) old (omega (arith, room)))
-    ∙ simp append_assoc

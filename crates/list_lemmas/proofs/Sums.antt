@@ -1,5 +1,5 @@
 -- Sums over lists, and the bits of sums of powers of 2.
-use Rattle.std.proofs.Common.{◌≡◌, ◌≢◌, ℕ, zero, suc, ◌+◌, ◌-◌, ◌^◌, ◌<◌, ◌≤◌, Bool, true, false, cond, List, [], ◌∷◌}
+use Rattle.std.proofs.Common.{◌≡◌, ℕ, zero, suc, ◌+◌, ◌-◌, ◌^◌, ◌<◌, ◌≤◌, Bool, true, false, cond, List, [], ◌∷◌}
 use Rattle.std.proofs.Common.{map, filter, refl, sym, ap, ◌∙◌, inl, inr, arith, add-one}
 use Rattle.std.specs.Int.{bit_at}
 use Rattle.std.specs.List.{range_with_len, sum_by}
@@ -14,19 +14,6 @@ pub sum_by-map : {A B : Type 0} (f : B → ℕ) (g : A → B) (xs : List A) → 
 sum_by-map f g [] = refl
 sum_by-map f g (x ∷ xs) = sum_by-cons f (g x) (map g xs) ∙ ap (λ (n : ℕ). f (g x) + n) (sum_by-map f g xs)
     ∙ sym (sum_by-cons (λ y. f (g y)) x xs)
-
--- a sum of four grows as one of its numbers does
-pub one_of_four_grows : (old new : ℕ → ℕ) (j more : ℕ) → j < 4 → new j ≡ old j + more →
-    ((i : ℕ) → i ≢ j → new i ≡ old i) → new 0 + new 1 + new 2 + new 3 ≡ old 0 + old 1 + old 2 + old 3 + more
-one_of_four_grows old new zero more few grows same =
-    omega (arith, same 1 (omega arith), same 2 (omega arith), same 3 (omega arith))
-one_of_four_grows old new (suc zero) more few grows same =
-    omega (arith, same 0 (omega arith), same 2 (omega arith), same 3 (omega arith))
-one_of_four_grows old new (suc (suc zero)) more few grows same =
-    omega (arith, same 0 (omega arith), same 1 (omega arith), same 3 (omega arith))
-one_of_four_grows old new (suc (suc (suc zero))) more few grows same =
-    omega (arith, same 0 (omega arith), same 1 (omega arith), same 2 (omega arith))
-one_of_four_grows old new (suc (suc (suc (suc j)))) more few grows same = absurd (omega (arith, few))
 
 -- ---- the numbers below n that pass a test, as bits of one number
 

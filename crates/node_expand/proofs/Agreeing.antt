@@ -86,6 +86,7 @@ pub no_mask : (value byte : ℕ) → byte < 256 → AnswersAlike (answer_of (Agr
 unfolding answer_of
 no_mask value byte below = record {
   ordered = omega (arith, below);
-  alike = λ other above at_most. ap (λ n. cond (eqb n value) (Some Free) None) (and_zero_r other ∙ sym (and_zero_r byte));
+  alike = λ other above at_most.
+      ap (λ n. cond (eqb n value) (Some Free) None) (and_zero_r other ∙ sym (and_zero_r byte));
   change = λ more. absurd (omega (arith, more));
 }

@@ -318,7 +318,8 @@ stays_alike answer other first last same below alike = record {
 -- what the bytes from one on answer, by where it lies between two ends
 module _ (low high byte : ℕ) (low_inner high_inner : Bool) (filled : low ≤ high) (fits : high < 256) where
   change_is : (other : ℕ) → other < 256
-      → is_change (answer_of (Between low high low_inner high_inner)) other ≡ is_marked low high low_inner high_inner other
+      → is_change (answer_of (Between low high low_inner high_inner)) other
+      ≡ is_marked low high low_inner high_inner other
   change_is other below = between_changes low high other low_inner high_inner filled below
 
   pub alike_before : byte < low → AnswersAlike (answer_of (Between low high low_inner high_inner)) byte (low - 1)

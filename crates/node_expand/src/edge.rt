@@ -6,7 +6,7 @@
 /// An end is inner where it isn't the outermost number: a lower end above 0, an upper end below the
 /// greatest number of that many bytes. What a bitmask leaves is no interval, and its edge is
 /// `Free`, as is that of a field with no byte left.
-#[derive(Clone, Copy, Debug, PartialEq, Eq, Hash)]
+#[derive(Clone, Copy, Debug, PartialEq, Eq)]
 pub enum Edge {
     /// Neither end is inner.
     Free,

@@ -262,8 +262,8 @@ impl Split {
         self.total
     }
 
-    /// Whether the total is within the budget, and else `TooLarge` with both. No memory is taken, so
-    /// want of it can't stand in for this refusal.
+    /// Whether the total is within the budget, and else `TooLarge` with both. No memory is taken,
+    /// so want of it can't stand in for this refusal.
     pub fn check(&self) -> Result<(), PlanFault>
         ensures fits { OnOk result (self.now.total ≤ self.now.budget) }
         ensures over { OnErr result (self.now.budget < self.now.total) }

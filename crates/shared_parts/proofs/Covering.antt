@@ -102,7 +102,8 @@ abbrev pub no_piece : Piece
 no_piece = record { last = 0; to = 0 }
 
 -- there is a piece before the end
-pub rest_some : (pieces : List Piece) (place first : ℕ) → first < 256 → RestIs pieces place first → place < length pieces
+pub rest_some : (pieces : List Piece) (place first : ℕ) → first < 256 → RestIs pieces place first →
+    place < length pieces
 rest_some pieces place first below rest = elim (cases_lt place (length pieces)) [
   | inl within ↦ within
   | inr past ↦
@@ -210,7 +211,8 @@ module _ (old now new : Target) (one other pieces pieces' : List Piece) (i j fir
   pub one_merged : (last to : ℕ) → first ≤ last → last ≤ mine.last → last ≤ its.last → Grows now new →
       ((entry : ℕ) → HasEntry new entry → HasEntry now entry) →
       JoinsIn new mine.to its.to to → to ≤ count new → Pushed pieces pieces' last to →
-      Merged old new one other pieces' (cond (mine.last == last) (i + 1) i) (cond (its.last == last) (j + 1) j) (last + 1)
+      Merged old new one other pieces' (cond (mine.last == last) (i + 1) i) (cond (its.last == last) (j + 1) j)
+      (last + 1)
   one_merged last to from in_mine in_its grows entries joins within pushed = record {
     grows = grows_on old now new so_far.grows grows;
     entries = λ entry has. so_far.entries entry (entries entry has);

@@ -212,11 +212,13 @@ module _ (step : ℕ → Option ℕ) (pairs : List (ℕ × ℕ)) (target : Targe
   pair_leads one other mine its at some more a b joins (Node left right) entries (x, y, sl, sr, inl (none, is)) =
       only_right left right (stepped step entries) target number
       (nothing_after step left entries (nothing pairs left entries (subst (Stands pairs left entries) none sl)))
-      (pair_leads one other mine its at some more a b joins right entries (subst (Stands pairs right entries) (sym is) sr))
+      (pair_leads one other mine its at some more a b joins right entries
+      (subst (Stands pairs right entries) (sym is) sr))
   pair_leads one other mine its at some more a b joins (Node left right) entries (x, y, sl, sr, inr (inl (none, is))) =
       only_left left right (stepped step entries) target number
       (nothing_after step right entries (nothing pairs right entries (subst (Stands pairs right entries) none sr)))
-      (pair_leads one other mine its at some more a b joins left entries (subst (Stands pairs left entries) (sym is) sl))
+      (pair_leads one other mine its at some more a b joins left entries
+      (subst (Stands pairs left entries) (sym is) sl))
   pair_leads one other mine its at some more a b joins (Node left right) entries
       (x, y, sl, sr, inr (inr (some', more', to))) =
       let same = key_is same_pair pair_sound pairs (x, y) (one, other) part to at in

@@ -11,7 +11,8 @@ use Rattle.shared_parts.specs.Keys.{KeyAt, same_pair, AreLower, AreDistinct}
 use Rattle.shared_parts.proofs.Keys.{key_grows}
 
 same_itself : (pair : ℕ × ℕ) → same_pair pair pair ≡ true
-same_itself pair = and_from (pair.0 == pair.0) (pair.1 == pair.1) (eq-eqb pair.0 pair.0 refl) (eq-eqb pair.1 pair.1 refl)
+same_itself pair =
+    and_from (pair.0 == pair.0) (pair.1 == pair.1) (eq-eqb pair.0 pair.0 refl) (eq-eqb pair.1 pair.1 refl)
 
 -- a pair that isn't among the others has the next number
 new_at : (pairs : List (ℕ × ℕ)) (pair : ℕ × ℕ) → list_any (same_pair pair) pairs ≡ false
@@ -38,7 +39,8 @@ distinct_push : (pairs : List (ℕ × ℕ)) (pair : ℕ × ℕ) → list_any (sa
     → AreDistinct (pairs ++ pair ∷ [])
 distinct_push pairs pair none distinct k below = elim (cases_lt k (length pairs)) [
   | inl old ↦
-      subst (λ p. KeyAt same_pair (pairs ++ pair ∷ []) p (k + 1)) (sym (get_or_append_left pairs (pair ∷ []) (0, 0) k old))
+      subst (λ p. KeyAt same_pair (pairs ++ pair ∷ []) p (k + 1))
+      (sym (get_or_append_left pairs (pair ∷ []) (0, 0) k old))
       (key_grows same_pair pairs (pair ∷ []) (get_or pairs k (0, 0)) (k + 1) (distinct k old))
   | inr late ↦
       let e : k ≡ length pairs = omega (arith, late, below, length-append pairs (pair ∷ [])) in

@@ -33,7 +33,8 @@ get-join (x ∷ xs) (y ∷ ys) zero same below = refl
 get-join (x ∷ xs) (y ∷ ys) (suc i) same below = get-join xs ys i (omega (arith, same)) (omega arith)
 
 -- the rank of a category in two rows as one, where either may be missing
-pub get-join-any : (one other : List ℕ) (i : ℕ) → get_or (join_rows one other) i 0 ≡ max (get_or one i 0) (get_or other i 0)
+pub get-join-any : (one other : List ℕ) (i : ℕ) →
+    get_or (join_rows one other) i 0 ≡ max (get_or one i 0) (get_or other i 0)
 get-join-any [] other i = omega arith
 get-join-any (x ∷ xs) [] i = omega arith
 get-join-any (x ∷ xs) (y ∷ ys) zero = refl
@@ -119,7 +120,8 @@ set_done row f k v within is before c below = elim (cases_eq c k) [
 
 pub set_left : (row : List ℕ) (f : ℕ → ℕ) (k v : ℕ) → ((c : ℕ) → k ≤ c → get_or row c 0 ≡ f c)
     → (c : ℕ) → k + 1 ≤ c → get_or (set row k v) c 0 ≡ f c
-set_left row f k v after c above = get_or-set_other row k c v 0 (λ e. omega (arith, above, e)) ∙ after c (omega (arith, above))
+set_left row f k v after c above =
+    get_or-set_other row k c v 0 (λ e. omega (arith, above, e)) ∙ after c (omega (arith, above))
 
 pub stay_done : (row : List ℕ) (f : ℕ → ℕ) (k : ℕ) → get_or row k 0 ≡ f k
     → ((c : ℕ) → c < k → get_or row c 0 ≡ f c) → (c : ℕ) → c < k + 1 → get_or row c 0 ≡ f c

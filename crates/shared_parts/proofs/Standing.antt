@@ -108,7 +108,8 @@ module _ (pairs : List (ℕ × ℕ)) where
   stands_alone (Node left right) f g one other same (x, y, a, b, joins) (x', y', a', b', joins') =
       let e : x ≡ x' = stands_alone left f g x x' same.0 a a' in
       let d : y ≡ y' = stands_alone right f g y y' same.1 b b' in
-      joins_alone x' y' one other (subst (λ l. Joins pairs l y' one) e (subst (λ r. Joins pairs x r one) d joins)) joins'
+      joins_alone x' y' one other
+      (subst (λ l. Joins pairs l y' one) e (subst (λ r. Joins pairs x r one) d joins)) joins'
 
   one_key : (one other : ℕ × ℕ) (number : ℕ) → KeyAt same_pair pairs one number → KeyAt same_pair pairs other number
       → (one.0 ≡ other.0) × (one.1 ≡ other.1)

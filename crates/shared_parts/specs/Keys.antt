@@ -1,5 +1,5 @@
--- Keys that are numbered in the order in which they come. Number 0 stands for nothing, and the first
--- key has number 1.
+-- Keys that are numbered in the order in which they come. Number 0 stands for nothing, and the
+-- first key has number 1.
 use Rattle.std.specs.Prelude.{◌≡◌, ℕ, ◌+◌, ◌<◌, ◌≤◌, ◌==◌, ◌&&◌, List, length, slice_index_or}
 use Rattle.std.specs.Prelude.{Bool, true}
 use Rattle.std.specs.List.{list_any, position_or_len}

@@ -1,5 +1,5 @@
--- The rules of a group as the leaves of a tree, and the number that stands for the edges of a tree's
--- rules.
+-- The rules of a group as the leaves of a tree, and the number that stands for the edges of a
+-- tree's rules.
 use Rattle.std.specs.Prelude.{◌≡◌, ℕ, ◌<◌, List, [], ◌∷◌, ◌++◌, Option, Some, None, ◌⊎◌}
 use Rattle.std.specs.Option.{option_and_then}
 use Rattle.shared_parts.specs.Keys.{KeyAt, same_pair}
@@ -14,8 +14,8 @@ abbrev pub leaves : Tree → List ℕ
 leaves (Leaf rule) = rule ∷ []
 leaves (Node left right) = leaves left ++ leaves right
 
--- The number stands for both parts: it is the number of their pair, or where one part is nothing the
--- other part's.
+-- The number stands for both parts: it is the number of their pair, or where one part is nothing
+-- the other part's.
 abbrev pub Joins : List (ℕ × ℕ) → ℕ → ℕ → ℕ → Type 0
 Joins pairs left right number =
     ((left ≡ 0) × (number ≡ right)) ⊎ (((right ≡ 0) × (number ≡ left))

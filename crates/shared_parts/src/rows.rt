@@ -9,8 +9,8 @@ use std::alloc::{AllocError, Global};
 use std::marker::Model;
 use table_sizes::ROW_LEN;
 
-/// What decides whether a rule wins: the categories that it takes part in, bit c for category c, and
-/// its rank, which is greater than that of each rule that it wins over.
+/// What decides whether a rule wins: the categories that it takes part in, bit c for category c,
+/// and its rank, which is greater than that of each rule that it wins over.
 #[derive(Clone, Copy, Debug)]
 pub struct Ranked {
     pub mask: u32,

@@ -12,8 +12,8 @@ use std::test::Fail;
 /// first put that isn't made. Where no capture is read the first two are one.
 type Command = (&'static [&'static str], &'static str, [u64; 3]);
 
-/// An opening and four reads are for a rule file. An opening and two reads begin the capture, one for
-/// the bytes that tell its format and one for the rest of the file header. Three reads give a
+/// An opening and four reads are for a rule file. An opening and two reads begin the capture, one
+/// for the bytes that tell its format and one for the rest of the file header. Three reads give a
 /// record, and one finds the end.
 const CLASSIFY: Command = (&["classify", "r", "c"], SEVENTEEN, [9, 61, 24]);
 
@@ -24,8 +24,8 @@ const AUDIT: Command = (&["audit", "r"], AUDITED, [6, 6, 11]);
 
 const COMPARE: Command = (&["compare", "r", "s"], COMPARED, [11, 11, 11]);
 
-/// An opening and five reads are for the script, of which the last finds its end. Seven puts take the
-/// replies.
+/// An opening and five reads are for the script, of which the last finds its end. Seven puts take
+/// the replies.
 const SESSION: Command = (&["session", "t"], ANSWERED, [7, 7, 8]);
 
 const BENCH: Command = (&["bench", "1", "0", "3"], MEASURED, [1, 1, 11]);

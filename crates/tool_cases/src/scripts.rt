@@ -243,8 +243,8 @@ fn a_field_and_a_value_too_many_are_refused(rt: HostRuntime) -> Result<(), Fail>
     Ok(())
 }
 
-/// The lines of 64 fields in 65 bytes: a byte, 15 groups of four bytes, and a group of two bytes and
-/// two of one.
+/// The lines of 64 fields in 65 bytes: a byte, 15 groups of four bytes, and a group of two bytes
+/// and two of one.
 fn add_fields<R: AllocGlobal>(rt: &R, script: &mut Vec<u8>) -> Result<(), AllocError> {
     script.extend_from_slice(b"field mask 1 0 0\n")?;
     for place in 0..60u32 {

@@ -34,7 +34,8 @@ loop-first-preserved c =
     c.loop-first.pieces.items c.push_piece.new.pieces.items c.loop-first.i c.loop-first.j c.loop-first.first
     c.loop-first-test.true c.loop-first.invariant mine its refl refl c.min-last.result c.in_ok-to.to
     (omega (arith, c.min-last.ensures, from_mine, from_its)) (omega (arith, c.min-last.ensures))
-    (omega (arith, c.min-last.ensures)) c.in_ok-to.ensures.grows c.in_ok-to.ensures.entries c.in_ok-to.ensures.joins c.in_ok-to.ensures.within
+    (omega (arith, c.min-last.ensures)) c.in_ok-to.ensures.grows c.in_ok-to.ensures.entries
+    c.in_ok-to.ensures.joins c.in_ok-to.ensures.within
     c.in_ok-push_piece.ensures)
 
 pub returns : goal.returns
