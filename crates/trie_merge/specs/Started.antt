@@ -13,6 +13,13 @@ use Rattle.trie_merge.specs.Entry.{entry_of}
 use Rattle.trie_merge.specs.Row.{rows_of}
 use Rattle.trie_merge.specs.Shared.{RuleTree, AreIn}
 
+-- The number stands for the entries of all rules before the first byte, and there are no others.
+pub record AreJoined (rules : List ℕ) (pairs : List (ℕ × ℕ)) (number : ℕ) : Type 0 where
+  pub within : number ≤ length pairs
+  pub all : IsAll pairs (map (λ rule. entry_of rule Free) rules) number
+  pub entries : (entry : ℕ) → has_entry pairs entry ≡ true →
+      Contains (map (λ rule. entry_of rule Free) rules) entry
+
 -- There is one number, and it stands for the entries of all rules of the group, in some order.
 pub record IsStarted (group : List ℕ) (target : Target) (numbers : List ℕ) : Type 0 where
   pub pairs : List (ℕ × ℕ)

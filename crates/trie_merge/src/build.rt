@@ -1,24 +1,20 @@
 //! From the rules of a group to its merged states.
 
-ghost use Rattle.std.specs.Prelude.{◌≡◌, ℕ, ◌<◌, ◌≤◌, ◌^◌, ◌+◌, ◌*◌, ◌==◌, ◌∷◌, [], ◌++◌, ◌≢◌, min};
-ghost use Rattle.std.specs.Prelude.{map, length, slice_index_or, true, None, All, OnOk, IfOk, List};
+ghost use Rattle.std.specs.Prelude.{◌≡◌, ℕ, ◌<◌, ◌≤◌, ◌^◌, ◌+◌, ◌==◌, []};
+ghost use Rattle.std.specs.Prelude.{map, length, slice_index_or, true, None, min, All, OnOk, IfOk};
 ghost use Rattle.node_expand.specs.declared.edge.Edge.TheVariants.{Free};
 ghost use Rattle.field_defs.specs.Layout.{key_len_of};
+ghost use Rattle.shared_parts.specs.Target.{HasEntry};
+ghost use Rattle.table_sizes.specs.Sizes.{max_words};
 ghost use Rattle.trie_merge.specs.Entry.{entry_of, column_at};
-ghost use Rattle.trie_merge.specs.Laws.{IsGrouped};
 ghost use Rattle.trie_merge.specs.Kept.{kept_places, kept_bits};
-ghost use Rattle.table_sizes.specs.Sizes.{max_words, row_len};
+ghost use Rattle.trie_merge.specs.Laws.{IsGrouped};
 ghost use Rattle.trie_merge.specs.Levels.{IsGroup, levels_of};
+ghost use Rattle.trie_merge.specs.Merged.{ArePieces};
 ghost use Rattle.trie_merge.specs.Row.{rows_of};
-ghost use Rattle.trie_merge.specs.Walk.{next_of, IsWalk};
-ghost use Rattle.trie_merge.specs.Started.{IsStarted, AreRows};
-ghost use Rattle.trie_merge.specs.Shared.{RuleTree, ArePlaced, IsFor};
-ghost use Rattle.shared_parts.specs.Target.{count, HasEntry};
-ghost use Rattle.trie_merge.specs.Cuts.{CanGoOn};
-ghost use Rattle.trie_merge.specs.Entry.{CanStep};
-ghost use Rattle.trie_merge.specs.Lists.{least_words};
-ghost use Rattle.trie_merge.specs.Merged.{PlaceMerged};
-ghost use Rattle.shared_parts.specs.Slices.{pieces_of, IsPieces};
+ghost use Rattle.trie_merge.specs.Shared.{IsFor};
+ghost use Rattle.trie_merge.specs.Started.{AreJoined, IsStarted, AreRows};
+ghost use Rattle.trie_merge.specs.Walk.{next_of, AreStates, IsPlaceMerged, IsPlaceOver, IsWalk};
 
 use crate::column::Column;
 use crate::entry::entry_of;
@@ -47,21 +43,32 @@ fn start_entries(alloc: Global, group: &[u32]) -> Result<Vec<u32>, AllocError>
     Ok(entries)
 }
 
+/// Joins the entries of all rules of the group before the first byte, and gives their number.
+fn join_entries(alloc: Global, group: &[u32], parts: &mut Parts) -> Result<u32, AllocError>
+    requires some { 0 < length group.now }
+    requires few { All (λ number. number < 2 ^ 30) group.now }
+    requires none { parts.old ≡ [] }
+    ensures { IfOk result (λ number. AreJoined group.now parts.new number) }
+{
+    let entries = start_entries(alloc, group)?;
+    let number = parts.join_all(entries.as_slice())?;
+    Ok(number)
+}
+
 /// The one state before the first byte.
 fn start_states(alloc: Global, group: &[u32]) -> Result<Reached, AllocError>
     requires some { 0 < length group.now }
     requires few { All (λ number. number < 2 ^ 30) group.now }
     ensures { IfOk result (λ reached. IsStarted group.now reached.target reached.found.keys) }
 {
-    let entries = start_entries(alloc, group)?;
     let mut parts = Parts::new(alloc);
-    let number = parts.join_all(entries.as_slice())?;
-    let mut found = IndexSet::new(alloc);
-    found.insert_full(number)?;
-    Ok(Reached {
+    let number = join_entries(alloc, group, &mut parts)?;
+    let mut reached = Reached {
         target: Target::Parts(parts),
-        found,
-    })
+        found: IndexSet::new(alloc),
+    };
+    reached.found.insert_full(number)?;
+    Ok(reached)
 }
 
 /// What the kept places come to: the runs of their states, the rows at the end and the words of the
@@ -74,14 +81,14 @@ struct Walked {
 }
 
 impl Walked {
-    ghost use Rattle.std.specs.Prelude.{◌≡◌, ◌++◌, ◌∷◌, [], length, OnOk};
-    ghost use Rattle.shared_parts.specs.Slices.{pieces_of, IsPieces};
+    ghost use Rattle.std.specs.Prelude.{◌≡◌, ◌++◌, ◌∷◌, [], OnOk};
+    ghost use Rattle.trie_merge.specs.Merged.{ArePieces, runs_in};
 
     /// Goes on to what the states of one more place come to.
     fn push(&mut self, merged: Merged) -> Result<(), AllocError>
-        requires { IsPieces 0 merged.pieces.ends.items (length merged.pieces.runs.items) }
-        ensures levels { OnOk result (self.new.levels.items ≡ self.old.levels.items
-            ++ pieces_of merged.pieces.runs.items 0 merged.pieces.ends.items ∷ []) }
+        requires { ArePieces merged }
+        ensures levels { OnOk result
+            (self.new.levels.items ≡ self.old.levels.items ++ runs_in merged ∷ []) }
         ensures target { OnOk result (self.new.reached.target ≡ merged.reached.target) }
         ensures found { OnOk result
             (self.new.reached.found.keys ≡ merged.reached.found.keys) }
@@ -167,29 +174,12 @@ fn merge_place(
     requires j { j < length places.now }
     requires cap { budget.cap ≤ max_words }
     requires before { budget.before ≤ budget.cap }
-    requires parts { (pairs : List (ℕ × ℕ)) × (reached.now.target ≡ Target.Parts pairs) }
-    requires states { All (λ state. (0 < state) × (state ≤ count reached.now.target))
-        reached.now.found.keys }
-    requires can { (entry : ℕ) → HasEntry reached.now.target entry →
-        CanStep (column_at rules.now (slice_index_or places.now j 0)) entry }
-    requires go_on { (pairs : List (ℕ × ℕ)) → reached.now.target ≡ Target.Parts pairs →
-        CanGoOn (next_of rules.now places.now j)
-        (column_at rules.now (slice_index_or places.now j 0)) pairs }
-    ensures merged { IfOk result (λ merged. (pairs : List (ℕ × ℕ)) →
-        reached.now.target ≡ Target.Parts pairs →
-        PlaceMerged rules.now (column_at rules.now (slice_index_or places.now j 0))
-        (j + 1 == length places.now) budget.cap budget.before pairs reached.now.found.keys
-        merged.reached.target merged.reached.found.keys
-        (pieces_of merged.pieces.runs.items 0 merged.pieces.ends.items) merged.words) }
-    ensures pieces { IfOk result
-        (λ merged. IsPieces 0 merged.pieces.ends.items (length merged.pieces.runs.items)) }
-    ensures over { (result ≡ Err MergeFault.OverCap) → (pairs : List (ℕ × ℕ)) →
-        reached.now.target ≡ Target.Parts pairs →
-        (group : List ℕ) (tree : RuleTree) (lists : List (List ℕ)) →
-        ArePlaced rules.now group tree pairs lists reached.now.found.keys →
-        budget.cap < least_words rules.now
-        (column_at rules.now (slice_index_or places.now j 0)) (next_of rules.now places.now j)
-        (j + 1 == length places.now) budget.before lists }
+    requires states { AreStates rules.now places.now j reached.now }
+    ensures merged { IfOk result
+        (λ merged. IsPlaceMerged rules.now places.now j budget reached.now merged) }
+    ensures pieces { IfOk result (λ merged. ArePieces merged) }
+    ensures over { (result ≡ Err MergeFault.OverCap) →
+        IsPlaceOver rules.now places.now j budget reached.now }
 {
     let place = place_at(alloc, rules, places, j)?;
     let target = start_target(alloc, rules, place.is_last)?;
@@ -207,22 +197,20 @@ fn merge_places(
     group: &[u32],
     cap: u64,
     places: &[usize],
-    start: Reached,
-) -> Result<Walked, MergeFault>
+    walked: &mut Walked,
+) -> Result<(), MergeFault>
     requires group { IsGrouped rules.now group.now }
     requires cap { cap ≤ max_words }
     requires places { places.now ≡ kept_places rules.now group.now }
-    requires start { IsStarted group.now start.target start.found.keys }
-    ensures walk { IfOk result (λ its. IsWalk rules.now group.now cap its.levels.items its.words) }
-    ensures rows { IfOk result
-        (λ its. AreRows rules.now group.now its.reached.target its.reached.found.keys) }
+    requires start { IsStarted group.now walked.old.reached.target walked.old.reached.found.keys }
+    requires levels { walked.old.levels.items ≡ [] }
+    requires words { walked.old.words ≡ 0 }
+    ensures walk { OnOk result
+        (IsWalk rules.now group.now cap walked.new.levels.items walked.new.words) }
+    ensures rows { OnOk result
+        (AreRows rules.now group.now walked.new.reached.target walked.new.reached.found.keys) }
     ensures over { (result ≡ Err MergeFault.OverCap) → cap < (levels_of rules.now group.now).words }
 {
-    let mut walked = Walked {
-        levels: Vec::new(alloc),
-        reached: start,
-        words: 0,
-    };
     for j in 0..places.len() {
         let before = walked.words;
         let budget = Budget { cap, before };
@@ -232,7 +220,7 @@ fn merge_places(
         };
         walked.push(merged)?;
     }
-    Ok(walked)
+    Ok(())
 }
 
 /// Merges the states of the places, from the one before the first byte on.
@@ -251,8 +239,16 @@ fn walk(
         (λ its. AreRows rules.now group.now its.reached.target its.reached.found.keys) }
     ensures over { (result ≡ Err MergeFault.OverCap) → cap < (levels_of rules.now group.now).words }
 {
-    let start = start(alloc, rules, group)?;
-    merge_places(alloc, rules, group, cap, places, start)
+    let reached = start(alloc, rules, group)?;
+    let mut walked = Walked {
+        levels: Vec::new(alloc),
+        reached,
+        words: 0,
+    };
+    match merge_places(alloc, rules, group, cap, places, &mut walked) {
+        Ok(()) => Ok(walked),
+        Err(fault) => Err(fault),
+    }
 }
 
 impl Levels {

@@ -5,7 +5,7 @@
 //! fields, one after the other: by the least number that a value lets through, and where that is
 //! one, the wider value first. Wild values come first of all.
 
-ghost use Rattle.std.specs.Prelude.{◌≡◌, map, IfOk};
+ghost use Rattle.std.specs.Prelude.{◌≡◌, ◌<◌, map, length, All, IfOk};
 ghost use Rattle.std.specs.List.Sorted.{IsPermutation};
 ghost use Rattle.trie_merge.specs.declared.order.Keyed.{Keyed};
 
@@ -57,6 +57,24 @@ struct Keys {
     keys: Vec<u128>,
 }
 
+impl Keys {
+    ghost use Rattle.std.specs.Prelude.{◌≡◌, ◌<◌, ◌++◌, ◌∷◌, [], map, length, OnOk};
+    ghost use Rattle.trie_merge.specs.declared.order.Keyed.{Keyed};
+
+    /// Puts a rule and the keys of its values after the others.
+    fn push(&mut self, rules: &RuleSet, number: u32) -> Result<(), AllocError>
+        requires { number < length rules.now.rules }
+        ensures { OnOk result (map (λ (keyed : Keyed). keyed.number) self.new.rules.items
+            ≡ map (λ (keyed : Keyed). keyed.number) self.old.rules.items ++ number ∷ []) }
+    {
+        let first = self.keys.len();
+        self.rules.push(Keyed { number, first })?;
+        let defs = rules.layout().fields();
+        push_keys(defs, rules.at(number as usize).fields(), &mut self.keys)?;
+        Ok(())
+    }
+}
+
 /// Puts the keys of a rule's values after those of others.
 fn push_keys(
     defs: &[FieldDef],
@@ -71,23 +89,18 @@ fn push_keys(
 
 /// The keys of the rules of the group.
 fn keys_of(alloc: Global, rules: &RuleSet, group: &[u32]) -> Result<Keys, AllocError>
+    requires { All (λ number. number < length rules.now.rules) group.now }
     ensures { IfOk result
         (λ keys. map (λ (keyed : Keyed). keyed.number) keys.rules.items ≡ group.now) }
 {
-    let defs = rules.layout().fields();
-    let mut keyed = Vec::with_capacity(alloc, group.len())?;
-    let mut keys = Vec::new(alloc);
+    let mut keys = Keys {
+        rules: Vec::with_capacity(alloc, group.len())?,
+        keys: Vec::new(alloc),
+    };
     for number in group {
-        let first = keys.len();
-        keyed.push(Keyed {
-            number: *number,
-            first,
-        })?;
-        if (*number as usize) < rules.len() {
-            push_keys(defs, rules.at(*number as usize).fields(), &mut keys)?;
-        }
+        keys.push(rules, *number)?;
     }
-    Ok(Keys { rules: keyed, keys })
+    Ok(keys)
 }
 
 /// The key of that place, or 0.
@@ -129,6 +142,7 @@ pub(crate) fn order_rules(
     rules: &RuleSet,
     group: &[u32],
 ) -> Result<Vec<u32>, AllocError>
+    requires { All (λ number. number < length rules.now.rules) group.now }
     ensures { IfOk result (λ order. IsPermutation group.now order.items) }
 {
     let count = rules.layout().fields().len();

@@ -8,16 +8,18 @@ use Rattle.trie_merge.proofs.build.merge_place.Goals as goal
 pub merge_states-requires-clause-states : goal.merge_states-requires-clause-states
 merge_states-requires-clause-states c =
     rw c.as_slice-states.ensures.keys
-    (subst (λ t. All (λ n. (0 < n) × (n ≤ count t)) c.args.reached.now.found.keys) c.parts.ensures c.requires.states)
+    (subst (λ t. All (λ n. (0 < n) × (n ≤ count t)) c.args.reached.now.found.keys) c.parts.ensures
+    c.requires.states.inside)
 
 pub merge_states-requires-clause-can : goal.merge_states-requires-clause-can
-merge_states-requires-clause-can c = λ entry has.
-    rw c.in_ok-place.ensures.column
-    (c.requires.can entry (subst (λ t. HasEntry t entry) (sym c.parts.ensures) has))
-
-pub merge_states-requires-clause-go_on : goal.merge_states-requires-clause-go_on
-merge_states-requires-clause-go_on c =
-    rw (c.in_ok-place.ensures.column, c.in_ok-place.ensures.next) (c.requires.go_on c.parts.result.now c.parts.ensures)
+merge_states-requires-clause-can c = record {
+  step = λ entry has.
+      rw c.in_ok-place.ensures.column
+      (c.requires.states.step entry (subst (λ t. HasEntry t entry) (sym c.parts.ensures) has));
+  last = c.in_ok-place.ensures.last;
+  go_on = rw (c.in_ok-place.ensures.column, c.in_ok-place.ensures.next)
+      (c.requires.states.go_on c.parts.result.now c.parts.ensures);
+}
 
 pub merge_states-requires-clause-ask : goal.merge_states-requires-clause-ask
 merge_states-requires-clause-ask c =
@@ -25,14 +27,18 @@ merge_states-requires-clause-ask c =
 
 pub returns-in-Ok-clause-merged : goal.returns-in-Ok-clause-merged
 returns-in-Ok-clause-merged c = λ pairs is.
-    let led = rw c.in_ok-place.ensures.column at c.in-Ok.ensures.led in
+    let its = c.in-Ok.ensures.merged in
+    let led = rw c.in_ok-place.ensures.column at its.led in
     let kind = rw c.in_ok-place.ensures.is_last at c.in_ok-target.ensures.kind in
-    let merged = rw (c.as_slice-states.ensures.keys, c.in_ok-place.ensures.column, c.in_ok-place.ensures.is_last) at
-    c.in-Ok.ensures.merged in
+    let each = rw (c.as_slice-states.ensures.keys, c.in_ok-place.ensures.column, c.in_ok-place.ensures.is_last) at
+    its.each in
     merged_place c.args.rules.now _ _ c.args.budget.cap c.args.budget.before c.args.reached.now.target pairs
     c.parts.result.now is c.parts.ensures c.args.reached.now.found.keys c.in_ok-target.target
     c.in-Ok.merged.reached.target c.in-Ok.merged.reached.found.keys _ c.in-Ok.merged.words kind
-    c.in_ok-target.ensures.none led.0 led.1 (merged c.args.rules.now) c.in-Ok.ensures.inside
+    c.in_ok-target.ensures.none its.steps led (each c.args.rules.now) its.inside
+
+pub returns-in-Ok-clause-pieces : goal.returns-in-Ok-clause-pieces
+returns-in-Ok-clause-pieces c = c.in-Ok.ensures.merged.pieces
 
 pub returns-clause-over : goal.returns-clause-over
 returns-clause-over c = λ over pairs is.

@@ -27,3 +27,6 @@ returns c =
     c.in_ok-start.start.found.keys c.in_ok-order.ensures
     (subst (λ order. IsStarted order c.in_ok-start.start.target c.in_ok-start.start.found.keys) c.as_slice.ensures.value
     c.in_ok-start.ensures)
+
+pub order_rules-requires : goal.order_rules-requires
+order_rules-requires c = c.requires.group.within

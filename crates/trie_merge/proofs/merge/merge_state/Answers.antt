@@ -24,7 +24,7 @@ runs_stand is_last found pieces old new is =
 
 pub overflow_sub-end : goal.overflow_sub-end
 overflow_sub-end c =
-    let old : List Run = c.args.pieces.now.runs.items in
+    let old : List Run = c.args.merged.now.pieces.runs.items in
     let its : List Run = runs_by c.args.place.now.is_last c.join_runs.new.found.keys c.pieces-its.result.now in
     let are = runs_stand c.args.place.now.is_last c.join_runs.new.found.keys c.pieces-its.result.now old
     c.join_runs.new.runs.items c.in_ok-join_runs.ensures.runs in
@@ -32,7 +32,7 @@ overflow_sub-end c =
       arith,
       c.len-start.ensures,
       c.len-end.ensures,
-      c.args.pieces.now.runs.ok,
+      c.args.merged.now.pieces.runs.ok,
       c.join_runs.new.runs.ok,
       ap length are,
       length-append old its,
@@ -40,8 +40,8 @@ overflow_sub-end c =
 
 pub returns-clause-merged : goal.returns-clause-merged
 returns-clause-merged c =
-    let old : List Run = c.args.pieces.now.runs.items in
-    let ends : List ℕ = c.args.pieces.now.ends.items in
+    let old : List Run = c.args.merged.now.pieces.runs.items in
+    let ends : List ℕ = c.args.merged.now.pieces.ends.items in
     let state : ℕ = c.args.state in
     let its : List Run = runs_by c.args.place.now.is_last c.join_runs.new.found.keys c.pieces-its.result.now in
     let are = runs_stand c.args.place.now.is_last c.join_runs.new.found.keys c.pieces-its.result.now old
@@ -65,13 +65,13 @@ returns-clause-merged c =
           c.cost_of.ensures.cost
           ∙ ap cost_of
           (let e : c.len-end.result - c.len-start.result ≡ length its =
-          omega (arith, end, c.len-start.ensures, c.args.pieces.now.runs.ok) in e);
+          omega (arith, end, c.len-start.ensures, c.args.merged.now.pieces.runs.ok) in e);
     }
 
 pub returns-clause-pieces : goal.returns-clause-pieces
 returns-clause-pieces c =
-    let old : List Run = c.args.pieces.now.runs.items in
-    let ends : List ℕ = c.args.pieces.now.ends.items in
+    let old : List Run = c.args.merged.now.pieces.runs.items in
+    let ends : List ℕ = c.args.merged.now.pieces.ends.items in
     let its : List Run = runs_by c.args.place.now.is_last c.join_runs.new.found.keys c.pieces-its.result.now in
     let are = runs_stand c.args.place.now.is_last c.join_runs.new.found.keys c.pieces-its.result.now old
     c.join_runs.new.runs.items c.in_ok-join_runs.ensures.runs in
