@@ -13,7 +13,8 @@ ghost use Rattle.trie_merge.specs.Levels.{IsGroup, levels_of};
 ghost use Rattle.trie_merge.specs.Merged.{ArePieces};
 ghost use Rattle.trie_merge.specs.Row.{rows_of};
 ghost use Rattle.trie_merge.specs.Shared.{IsFor};
-ghost use Rattle.trie_merge.specs.Started.{AreJoined, IsStarted, AreRows};
+ghost use Rattle.trie_merge.specs.Started.{numbers_in, AreJoined, IsStarted, AreRows};
+ghost use Rattle.trie_merge.specs.declared.order.Keyed.{Keyed};
 ghost use Rattle.trie_merge.specs.Walk.{next_of, AreStates, IsPlaceMerged, IsPlaceOver, IsWalk};
 
 use crate::column::Column;
@@ -22,7 +23,7 @@ use crate::kept::Kept;
 use crate::levels::{Level, Levels};
 use crate::merge::{Budget, MergeFault, Merged, Place, Reached, merge_states};
 use crate::names::{name_rows, names_of, rank_rules};
-use crate::order::order_rules;
+use crate::order::{Keyed, order_rules};
 use indexmap::IndexSet;
 use node_expand::Edge;
 use rule_set::RuleSet;
@@ -30,39 +31,40 @@ use shared_parts::{Parts, Rows, Target};
 use std::alloc::{AllocError, Global};
 use table_sizes::ROW_LEN;
 
-/// The entries of all rules of the group before the first byte.
-fn start_entries(alloc: Global, group: &[u32]) -> Result<Vec<u32>, AllocError>
-    requires { All (λ number. number < 2 ^ 30) group.now }
+/// The entries of the rules before the first byte.
+fn start_entries(alloc: Global, order: &[Keyed]) -> Result<Vec<u32>, AllocError>
+    requires { All (λ (keyed : Keyed). keyed.number < 2 ^ 30) order.now }
     ensures { IfOk result (λ entries. entries.items
-        ≡ map (λ number. entry_of number Free) group.now) }
+        ≡ map (λ number. entry_of number Free) (numbers_in order.now)) }
 {
-    let mut entries = Vec::with_capacity(alloc, group.len())?;
-    for number in group {
-        entries.push(entry_of(*number, Edge::Free))?;
+    let mut entries = Vec::with_capacity(alloc, order.len())?;
+    for keyed in order {
+        entries.push(entry_of(keyed.number, Edge::Free))?;
     }
     Ok(entries)
 }
 
-/// Joins the entries of all rules of the group before the first byte, and gives their number.
-fn join_entries(alloc: Global, group: &[u32], parts: &mut Parts) -> Result<u32, AllocError>
-    requires some { 0 < length group.now }
-    requires few { All (λ number. number < 2 ^ 30) group.now }
+/// Joins the entries of the rules before the first byte, and gives their number.
+fn join_entries(alloc: Global, order: &[Keyed], parts: &mut Parts) -> Result<u32, AllocError>
+    requires some { 0 < length order.now }
+    requires few { All (λ (keyed : Keyed). keyed.number < 2 ^ 30) order.now }
     requires none { parts.old ≡ [] }
-    ensures { IfOk result (λ number. AreJoined group.now parts.new number) }
+    ensures { IfOk result (λ number. AreJoined (numbers_in order.now) parts.new number) }
 {
-    let entries = start_entries(alloc, group)?;
+    let entries = start_entries(alloc, order)?;
     let number = parts.join_all(entries.as_slice())?;
     Ok(number)
 }
 
 /// The one state before the first byte.
-fn start_states(alloc: Global, group: &[u32]) -> Result<Reached, AllocError>
-    requires some { 0 < length group.now }
-    requires few { All (λ number. number < 2 ^ 30) group.now }
-    ensures { IfOk result (λ reached. IsStarted group.now reached.target reached.found.keys) }
+fn start_states(alloc: Global, order: &[Keyed]) -> Result<Reached, AllocError>
+    requires some { 0 < length order.now }
+    requires few { All (λ (keyed : Keyed). keyed.number < 2 ^ 30) order.now }
+    ensures { IfOk result
+        (λ reached. IsStarted (numbers_in order.now) reached.target reached.found.keys) }
 {
     let mut parts = Parts::new(alloc);
-    let number = join_entries(alloc, group, &mut parts)?;
+    let number = join_entries(alloc, order, &mut parts)?;
     let mut reached = Reached {
         target: Target::Parts(parts),
         found: IndexSet::new(alloc),
@@ -327,7 +329,7 @@ fn finish(
     ensures { IfOk result (λ levels. levels ≡ levels_of rules.now group.now) }
 {
     let rows = finish_rows(alloc, rules, group, &walked.reached)?;
-    let members = copied(alloc, group)?;
+    let members = Vec::from_slice(alloc, group)?;
     let words = walked.words + (ROW_LEN * rows.len()) as u64;
     Ok(Levels {
         kept,
@@ -336,15 +338,6 @@ fn finish(
         rows,
         words,
     })
-}
-
-/// The numbers as a list of their own.
-fn copied(alloc: Global, numbers: &[u32]) -> Result<Vec<u32>, AllocError>
-    ensures { IfOk result (λ copy. copy.items ≡ numbers.now) }
-{
-    let mut copy = Vec::with_capacity(alloc, numbers.len())?;
-    copy.extend_from_slice(numbers)?;
-    Ok(copy)
 }
 
 /// The rows that are found at the end.

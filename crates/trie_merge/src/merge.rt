@@ -90,9 +90,10 @@ pub(crate) struct Reached {
 /// place where one ends.
 impl Drop for Reached {
     fn drop(self) {
-        let Reached { target, found } = self;
-        drop(target);
-        drop(found);
+        let Reached {
+            target: _,
+            found: _,
+        } = self;
     }
 }
 

@@ -3,11 +3,12 @@ use Rattle.node_expand.specs.declared.edge.Edge.TheVariants.{Free}
 use Rattle.shared_parts.specs.Joined.{IsAll}
 use Rattle.shared_parts.specs.Keys.{has_entry}
 use Rattle.trie_merge.specs.Entry.{entry_of}
+use Rattle.trie_merge.specs.Started.{numbers_in}
 use Rattle.trie_merge.proofs.build.join_entries.Goals as goal
 
 pub returns : goal.returns
 returns c =
-    let entries : List ℕ = map (λ rule. entry_of rule Free) c.args.group.now in
+    let entries : List ℕ = map (λ rule. entry_of rule Free) (numbers_in c.args.order.now) in
     let number : ℕ = c.in_ok-number.number in
     let pairs = c.join_all.new.self in
     let its = c.as_slice.ensures.value ∙ c.in_ok-entries.ensures in

@@ -1,6 +1,7 @@
 use Rattle.std.proofs.Common.{◌≡◌, ℕ, List, [], ◌∷◌, length, refl, ◌∙◌, ap, arith}
 use Rattle.std.specs.Prelude.{nat_eq}
 use Rattle.indexmap.specs.IndexSet.{insert_key}
+use Rattle.trie_merge.specs.Started.{numbers_in}
 use Rattle.trie_merge.proofs.build.start_states.Goals as goal
 
 -- a new set has no keys
@@ -19,7 +20,7 @@ returns c =
       one = c.in_ok-insert_full.ensures.keys
           ∙ ap (λ keys. insert_key nat_eq keys number) (no_keys c.new.result.keys c.new.ensures.len);
       within = its.within;
-      order = c.args.group.now;
+      order = numbers_in c.args.order.now;
       same = λ rule. refl;
       all = its.all;
       entries = its.entries;
