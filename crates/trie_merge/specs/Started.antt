@@ -19,7 +19,9 @@ abbrev pub numbers_in : List Keyed → List ℕ
 numbers_in order = map (λ (keyed : Keyed). keyed.number) order
 
 -- The number stands for the entries of all rules before the first byte, and there are no others.
-pub record AreJoined (rules : List ℕ) (pairs : List (ℕ × ℕ)) (number : ℕ) : Type 0 where
+pub record AreJoined (rules : List ℕ) (target : Target) (number : ℕ) : Type 0 where
+  pub pairs : List (ℕ × ℕ)
+  pub parts : target ≡ Parts pairs
   pub within : number ≤ length pairs
   pub all : IsAll pairs (map (λ rule. entry_of rule Free) rules) number
   pub entries : (entry : ℕ) → has_entry pairs entry ≡ true →

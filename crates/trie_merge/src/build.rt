@@ -45,15 +45,20 @@ fn start_entries(alloc: Global, order: &[Keyed]) -> Result<Vec<u32>, AllocError>
 }
 
 /// Joins the entries of the rules before the first byte, and gives their number.
-fn join_entries(alloc: Global, order: &[Keyed], parts: &mut Parts) -> Result<u32, AllocError>
+fn join_entries(alloc: Global, order: &[Keyed], target: &mut Target) -> Result<u32, AllocError>
     requires some { 0 < length order.now }
     requires few { All (λ (keyed : Keyed). keyed.number < 2 ^ 30) order.now }
-    requires none { parts.old ≡ [] }
-    ensures { IfOk result (λ number. AreJoined (numbers_in order.now) parts.new number) }
+    requires none { target.old ≡ Target.Parts [] }
+    ensures { IfOk result (λ number. AreJoined (numbers_in order.now) target.new number) }
 {
     let entries = start_entries(alloc, order)?;
-    let number = parts.join_all(entries.as_slice())?;
-    Ok(number)
+    match target {
+        Target::Parts(parts) => {
+            let number = parts.join_all(entries.as_slice())?;
+            Ok(number)
+        }
+        Target::Rows(_) => unreachable!(),
+    }
 }
 
 /// The one state before the first byte.
@@ -63,12 +68,11 @@ fn start_states(alloc: Global, order: &[Keyed]) -> Result<Reached, AllocError>
     ensures { IfOk result
         (λ reached. IsStarted (numbers_in order.now) reached.target reached.found.keys) }
 {
-    let mut parts = Parts::new(alloc);
-    let number = join_entries(alloc, order, &mut parts)?;
     let mut reached = Reached {
-        target: Target::Parts(parts),
+        target: Target::Parts(Parts::new(alloc)),
         found: IndexSet::new(alloc),
     };
+    let number = join_entries(alloc, order, &mut reached.target)?;
     reached.found.insert_full(number)?;
     Ok(reached)
 }
@@ -186,10 +190,7 @@ fn merge_place(
     let place = place_at(alloc, rules, places, j)?;
     let target = start_target(alloc, rules, place.is_last)?;
     let states = reached.found.as_slice();
-    match merge_states(alloc, &place, budget, reached.parts(), states, target) {
-        Ok(merged) => Ok(merged),
-        Err(fault) => Err(fault),
-    }
+    merge_states(alloc, &place, budget, reached.parts(), states, target)
 }
 
 /// Merges the states of the places, one place after the other.
@@ -298,8 +299,7 @@ fn keep(alloc: Global, rules: &RuleSet, group: &[u32]) -> Result<Kept, AllocErro
 {
     let _rules = rules.all();
     let _fields = rules.layout().fields();
-    let kept = Kept::new(alloc, rules, group)?;
-    Ok(kept)
+    Kept::new(alloc, rules, group)
 }
 
 /// The state before the first byte.
@@ -310,8 +310,7 @@ fn start(alloc: Global, rules: &RuleSet, group: &[u32]) -> Result<Reached, Alloc
 {
     let _rules = rules.all();
     let order = order_rules(alloc, rules, group)?;
-    let start = start_states(alloc, order.as_slice())?;
-    Ok(start)
+    start_states(alloc, order.as_slice())
 }
 
 /// The merged states, once all places are merged.
@@ -355,8 +354,7 @@ fn finish_rows(
     rule_set::laws::the_best_has_the_greatest_rank();
     let names = names_of(alloc, rules)?;
     let found = reached.found.as_slice();
-    let named = name_rows(alloc, reached.rows(), names.as_slice(), found)?;
-    Ok(named)
+    name_rows(alloc, reached.rows(), names.as_slice(), found)
 }
 
 /// How many words the merged states of the group take, or the cap plus 1 where that is less.

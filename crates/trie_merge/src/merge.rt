@@ -1,8 +1,8 @@
 //! The states of one kept place, one after the other: their runs, their words, and the states or
 //! rows that they lead to.
 
-ghost use Rattle.std.specs.Prelude.{◌≡◌, ℕ, ◌<◌, ◌+◌, ◌*◌, ◌^◌, ◌≤◌, List, length, true, false, Some, None};
-ghost use Rattle.std.specs.Prelude.{take, All, OnOk, IfOk};
+ghost use Rattle.std.specs.Prelude.{◌≡◌, ℕ, ◌<◌, ◌+◌, ◌*◌, ◌^◌, ◌≤◌, List, length, take, All};
+ghost use Rattle.std.specs.Prelude.{true, false, Some, None, OnOk, IfOk};
 ghost use Rattle.std.specs.List.Sorted.{IsStrictlyIncreasing};
 ghost use Rattle.rule_set.specs.Rule.{RuleSetView};
 ghost use Rattle.shared_parts.specs.Keys.{has_entry};
@@ -12,8 +12,8 @@ ghost use Rattle.trie_merge.specs.Cuts.{CanAsk, CutsFor};
 ghost use Rattle.trie_merge.specs.Entry.{CanStep};
 ghost use Rattle.trie_merge.specs.Led.{StepsLed, AllLed};
 ghost use Rattle.trie_merge.specs.Lists.{price, least_cost};
-ghost use Rattle.trie_merge.specs.Merged.{ArePieces, IsStateMerged, IsStateAdded, CanMerge, IsFirst};
-ghost use Rattle.trie_merge.specs.Merged.{IsReady, AreMerged, AreOver};
+ghost use Rattle.trie_merge.specs.Merged.{ArePieces, IsStateMerged, IsStateAdded, CanMerge};
+ghost use Rattle.trie_merge.specs.Merged.{IsFirst, IsReady, AreMerged, AreOver};
 ghost use Rattle.trie_merge.specs.Shared.{RuleTree, IsIn, AreIn};
 
 use crate::column::Column;
@@ -153,8 +153,7 @@ fn merge_state(
     work: &mut Work,
     merged: &mut Merged,
 ) -> Result<u64, AllocError>
-    requires some { 0 < state }
-    requires state { state ≤ length parts.now }
+    requires state { (0 < state) × (state ≤ length parts.now) }
     requires can { (entry : ℕ) → has_entry parts.now entry ≡ true → CanStep place.now.column entry }
     requires led { StepsLed place.now.column parts.now merged.old.reached.target work.old.steps }
     requires room { length merged.old.reached.found.keys + 256 < 2 ^ 32 }
@@ -169,23 +168,19 @@ fn merge_state(
     ensures bound { IfOk result (λ cost. (0 < cost) × (cost ≤ 256)) }
 {
     let until = state as usize;
+    let reached = &mut merged.reached;
+    let pieces = &mut merged.pieces;
     lead_parts(
         &place.column,
         parts,
         &mut work.steps,
-        &mut merged.reached.target,
+        &mut reached.target,
         until,
         &mut work.buffer,
     )?;
-    let pieces = &mut merged.pieces;
     let start = pieces.runs.len();
     let its = work.steps.pieces(until - 1);
-    join_runs(
-        place.is_last,
-        its,
-        &mut merged.reached.found,
-        &mut pieces.runs,
-    )?;
+    join_runs(place.is_last, its, &mut reached.found, &mut pieces.runs)?;
     let end = pieces.runs.len();
     pieces.ends.push(end)?;
     Ok(cost_of(end - start))
@@ -241,10 +236,7 @@ fn price(
         return Ok(ROW_LEN as u64);
     }
     match &place.next {
-        Some(next) => {
-            let words = price_ahead(next, target, cuts, number)?;
-            Ok(words)
-        }
+        Some(next) => price_ahead(next, target, cuts, number),
         None => Ok(1),
     }
 }
@@ -264,7 +256,8 @@ fn price_all(
     requires seen { seen ≤ length found.now }
     requires few { length found.now ≤ seen + 256 }
     ensures cuts { OnOk result (CutsFor place.now.next target.now cuts.new.items) }
-    ensures price { IfOk result (λ words. (set : RuleSetView) (tree : RuleTree) (lists : List (List ℕ)) →
+    ensures price { IfOk result
+        (λ words. (set : RuleSetView) (tree : RuleTree) (lists : List (List ℕ)) →
         IsStrictlyIncreasing tree.rules → AreIn set target.now tree lists found.now →
         least_cost place.now.next place.now.is_last (take seen lists) + words
         ≤ least_cost place.now.next place.now.is_last lists) }

@@ -1,5 +1,6 @@
-use Rattle.std.proofs.Common.{ℕ, ◌<◌, List, length, get_or, ap, subst, arith}
+use Rattle.std.proofs.Common.{ℕ, ◌<◌, List, length, ap, subst, arith}
 use Rattle.std.proofs.lemmas.List.{get_or-map, length-map}
+use Rattle.std.proofs.lemmas.Result.{IfOk-weaker}
 use Rattle.std.proofs.lemmas.List.Sorted.{All-permutation, length_permutation}
 use Rattle.trie_merge.specs.declared.order.Keyed.{Keyed}
 use Rattle.trie_merge.specs.Started.{numbers_in, IsStarted}
@@ -38,7 +39,9 @@ start_states-requires-clause-few c =
 
 pub returns : goal.returns
 returns c =
-    started_in_order c.args.group.now (numbers_in c.in_ok-order.order.items) c.in_ok-start.start.target
-    c.in_ok-start.start.found.keys c.in_ok-order.ensures
-    (subst (λ order. IsStarted (numbers_in order) c.in_ok-start.start.target c.in_ok-start.start.found.keys)
-    c.as_slice.ensures.value c.in_ok-start.ensures)
+    let order : List Keyed = c.in_ok-order.order.items in
+    IfOk-weaker c.start_states.result _ (λ reached. IsStarted c.args.group.now reached.target reached.found.keys)
+    (λ reached its. started_in_order c.args.group.now (numbers_in order) reached.target reached.found.keys
+    c.in_ok-order.ensures
+    (subst (λ ns. IsStarted (numbers_in ns) reached.target reached.found.keys) c.as_slice.ensures.value its))
+    c.start_states.ensures

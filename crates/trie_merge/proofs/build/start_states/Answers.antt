@@ -14,11 +14,11 @@ returns c =
     let number : ℕ = c.in_ok-number.number in
     let its = c.in_ok-number.ensures in
     record {
-      pairs = c.join_entries.new.parts;
+      pairs = its.pairs;
       number = number;
-      parts = refl;
+      parts = its.parts;
       one = c.in_ok-insert_full.ensures.keys
-          ∙ ap (λ keys. insert_key nat_eq keys number) (no_keys c.new.result.keys c.new.ensures.len);
+          ∙ ap (λ keys. insert_key nat_eq keys number) (no_keys c.new-2.result.keys c.new-2.ensures.len);
       within = its.within;
       order = numbers_in c.args.order.now;
       same = λ rule. refl;

@@ -1,4 +1,5 @@
-use Rattle.std.proofs.Common.{◌≡◌, ℕ, Bool, List, ◌+◌, ◌-◌, ◌<◌, ◌++◌, ◌∷◌, [], length, get_or, sym, ◌∙◌, ap, subst, arith, length-append}
+use Rattle.std.proofs.Common.{◌≡◌, ℕ, Bool, List, ◌+◌, ◌-◌, ◌<◌, ◌++◌, ◌∷◌, []}
+use Rattle.std.proofs.Common.{length, get_or, sym, ◌∙◌, ap, subst, arith, length-append}
 use Rattle.std.proofs.lemmas.List.{append-nil}
 use Rattle.shared_parts.specs.declared.pieces.Piece.{Piece}
 use Rattle.shared_parts.specs.Pieces.{number_at, PiecesLead}
@@ -50,8 +51,8 @@ returns-clause-merged c =
     omega (arith, c.len-end.ensures, c.join_runs.new.runs.ok, ap length are, length-append old its) in
     let led = c.in_ok-lead_parts.ensures.led.led in
     let within : state - 1 < length c.lead_parts.new.steps =
-    omega (arith, c.requires.some, c.in_ok-lead_parts.ensures.far) in
-    let back : state - 1 + 1 ≡ state = omega (arith, c.requires.some) in
+    omega (arith, c.requires.state.0, c.in_ok-lead_parts.ensures.far) in
+    let back : state - 1 + 1 ≡ state = omega (arith, c.requires.state.0) in
     let ended = c.in_ok-push.ensures.items ∙ ap (λ n. ends ++ n ∷ []) end in
     record {
       pieces = c.pieces-its.result.now;

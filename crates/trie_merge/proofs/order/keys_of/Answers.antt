@@ -1,4 +1,4 @@
-use Rattle.std.proofs.Common.{◌≡◌, ℕ, ◌++◌, ◌∷◌, [], List, get_or, take, sym, ◌∙◌, ap}
+use Rattle.std.proofs.Common.{ℕ, ◌++◌, ◌∷◌, [], List, get_or, sym, ◌∙◌, ap}
 use Rattle.std.proofs.lemmas.List.{take_more, take_all}
 use Rattle.trie_merge.proofs.order.keys_of.Goals as goal
 
