@@ -11,7 +11,8 @@ use Rattle.trie_merge.specs.Led.{StepsLed}
 use Rattle.trie_merge.specs.Merged.{runs_in, IsFirst, IsReady}
 use Rattle.trie_merge.proofs.Merging.{SoFar, none_so_far, no_cuts_yet}
 
-no_numbers : (numbers : List ℕ) → length numbers ≡ 0 → numbers ≡ []
+-- a list that is as long as none
+pub no_numbers : (numbers : List ℕ) → length numbers ≡ 0 → numbers ≡ []
 no_numbers [] none = refl
 no_numbers (number ∷ numbers) none = absurd (omega (arith, none))
 

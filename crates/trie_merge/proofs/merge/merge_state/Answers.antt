@@ -1,8 +1,8 @@
 use Rattle.std.proofs.Common.{◌≡◌, ℕ, Bool, List, ◌+◌, ◌-◌, ◌<◌, ◌++◌, ◌∷◌, []}
-use Rattle.std.proofs.Common.{length, get_or, sym, ◌∙◌, ap, subst, arith, length-append}
+use Rattle.std.proofs.Common.{length, get_or, refl, sym, ◌∙◌, ap, subst, arith, length-append}
 use Rattle.std.proofs.lemmas.List.{append-nil}
 use Rattle.shared_parts.specs.declared.pieces.Piece.{Piece}
-use Rattle.shared_parts.specs.Pieces.{number_at, PiecesLead}
+use Rattle.shared_parts.specs.Pieces.{number_at, Covers, PiecesLead}
 use Rattle.trie_merge.specs.declared.run.Run.{Run}
 use Rattle.trie_merge.specs.Led.{step_of}
 use Rattle.table_sizes.specs.Sizes.{cost_of}
@@ -81,3 +81,23 @@ returns-clause-pieces c =
     let ended = c.in_ok-push.ensures.items ∙ ap (λ n. ends ++ n ∷ []) end in
     subst (λ rs. IsPieces 0 c.push.new.self.items (length rs)) (sym are)
     (subst (λ es. IsPieces 0 es (length (old ++ its))) (sym ended) (IsPieces-push old its 0 ends c.requires.pieces))
+
+pub join_runs-requires-clause-pieces : goal.join_runs-requires-clause-pieces
+join_runs-requires-clause-pieces c =
+    let state : ℕ = c.args.state in
+    let within : state - 1 < length c.lead_parts.new.steps =
+    omega (arith, c.requires.state.0, c.in_ok-lead_parts.ensures.far) in
+    subst (λ pieces. Covers 0 pieces 256) (sym c.pieces-its.ensures)
+    (c.in_ok-lead_parts.ensures.led.led.covers (state - 1) within)
+
+pub returns-clause-led : goal.returns-clause-led
+returns-clause-led c = c.in_ok-lead_parts.ensures.led
+
+pub returns-clause-cuts : goal.returns-clause-cuts
+returns-clause-cuts c = refl
+
+pub returns-clause-words : goal.returns-clause-words
+returns-clause-words c = refl
+
+pub returns-clause-bound : goal.returns-clause-bound
+returns-clause-bound c = c.cost_of.ensures.bound
