@@ -23,7 +23,9 @@ pub mod Arranged
 pub mod RowNumbers
 pub mod Zipped
 pub mod Rising
+pub mod Mapped
 pub mod Merging
+pub mod FirstState
 pub mod NamesLaws
 pub mod Entering
 pub mod CutLaws

@@ -1,6 +1,7 @@
 -- Merging the states of a place, one after the other.
 use Rattle.std.proofs.Common.{zero, suc, inl, inr}
-use Rattle.std.proofs.lemmas.List.Elements.{recursion_from_All}
+use Rattle.std.proofs.lemmas.List.Elements.{All-from_recursion, recursion_from_All}
+use Rattle.std.specs.Prelude.{All}
 use Rattle.rule_set.specs.Laws.{RanksOrderRules, TheBestHasTheGreatestRank}
 use Rattle.shared_parts.specs.declared.pieces.Piece.{Piece}
 use Rattle.shared_parts.specs.declared.target.Target.{Target}
@@ -223,6 +224,16 @@ found_inside column is_last pairs now new steps found found' runs runs' state co
     → (0 < number_at merged.pieces byte) × (number_at merged.pieces byte ≤ count new)) all_bytes
     (λ byte below live. (ltb-true 0 (number_at merged.pieces byte) live, (merged.leads byte below).within))
     bytes_below)))
+
+pub inside_grows : (column : ColumnView) (is_last : Bool) (pairs : List (ℕ × ℕ)) (now new : Target)
+    (steps : List (List Piece)) (found found' : List ℕ) (runs runs' : List (List Run)) (state cost : ℕ)
+    → All (λ n. (0 < n) × (n ≤ count now)) found → AllLed column pairs now new steps
+    → StateMerged column is_last pairs new found found' runs runs' state cost
+    → All (λ n. (0 < n) × (n ≤ count new)) found'
+inside_grows column is_last pairs now new steps found found' runs runs' state cost inside led merged =
+    All-from_recursion (λ n. (0 < n) × (n ≤ count new)) found'
+    (found_inside column is_last pairs now new steps found found' runs runs' state cost
+    (recursion_from_All (λ n. (0 < n) × (n ≤ count now)) found inside) led merged)
 
 -- there are no more of them than one for each byte
 fold_long : (found numbers : List ℕ) → length (fold numbers_with found numbers) ≤ length found + length numbers

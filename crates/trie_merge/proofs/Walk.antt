@@ -177,9 +177,6 @@ module _ (set : RuleSetView) (group : List ℕ) (held : AllByRecursion (IsHeld s
   gap_within place (q ∷ ps) gaps = omega (arith, gaps.0.rises, gaps.0.within)
 
   module _ (place : ℕ) (below : place < length places) where
-    at_place : ℕ
-    at_place = get_or places place 0
-
     rest_is : drop place places ≡ get_or places place 0 ∷ drop (place + 1) places
     rest_is = drop_more places place 0 below
 

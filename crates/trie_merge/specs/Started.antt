@@ -9,9 +9,23 @@ use Rattle.shared_parts.specs.RowsView.{RowsView}
 use Rattle.shared_parts.specs.Keys.{has_entry}
 use Rattle.shared_parts.specs.Joined.{IsAll}
 use Rattle.shared_parts.specs.Target.{count}
+use Rattle.trie_merge.specs.declared.order.Keyed.{Keyed}
 use Rattle.trie_merge.specs.Entry.{entry_of}
 use Rattle.trie_merge.specs.Row.{rows_of}
 use Rattle.trie_merge.specs.Shared.{RuleTree, AreIn}
+
+-- the numbers of rules in their order
+abbrev pub numbers_in : List Keyed → List ℕ
+numbers_in order = map (λ (keyed : Keyed). keyed.number) order
+
+-- The number stands for the entries of all rules before the first byte, and there are no others.
+pub record AreJoined (rules : List ℕ) (target : Target) (number : ℕ) : Type 0 where
+  pub pairs : List (ℕ × ℕ)
+  pub parts : target ≡ Parts pairs
+  pub within : number ≤ length pairs
+  pub all : IsAll pairs (map (λ rule. entry_of rule Free) rules) number
+  pub entries : (entry : ℕ) → has_entry pairs entry ≡ true →
+      Contains (map (λ rule. entry_of rule Free) rules) entry
 
 -- There is one number, and it stands for the entries of all rules of the group, in some order.
 pub record IsStarted (group : List ℕ) (target : Target) (numbers : List ℕ) : Type 0 where

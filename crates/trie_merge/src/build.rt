@@ -1,24 +1,21 @@
 //! From the rules of a group to its merged states.
 
-ghost use Rattle.std.specs.Prelude.{◌≡◌, ℕ, ◌<◌, ◌≤◌, ◌^◌, ◌+◌, ◌*◌, ◌==◌, ◌∷◌, [], ◌++◌, ◌≢◌, min};
-ghost use Rattle.std.specs.Prelude.{map, length, slice_index_or, true, None, All, OnOk, IfOk, List};
+ghost use Rattle.std.specs.Prelude.{◌≡◌, ℕ, ◌<◌, ◌≤◌, ◌^◌, ◌+◌, ◌==◌, []};
+ghost use Rattle.std.specs.Prelude.{map, length, slice_index_or, true, None, min, All, OnOk, IfOk};
 ghost use Rattle.node_expand.specs.declared.edge.Edge.TheVariants.{Free};
 ghost use Rattle.field_defs.specs.Layout.{key_len_of};
+ghost use Rattle.shared_parts.specs.Target.{HasEntry};
+ghost use Rattle.table_sizes.specs.Sizes.{max_words};
 ghost use Rattle.trie_merge.specs.Entry.{entry_of, column_at};
-ghost use Rattle.trie_merge.specs.Laws.{IsGrouped};
 ghost use Rattle.trie_merge.specs.Kept.{kept_places, kept_bits};
-ghost use Rattle.table_sizes.specs.Sizes.{max_words, row_len};
+ghost use Rattle.trie_merge.specs.Laws.{IsGrouped};
 ghost use Rattle.trie_merge.specs.Levels.{IsGroup, levels_of};
+ghost use Rattle.trie_merge.specs.Merged.{ArePieces};
 ghost use Rattle.trie_merge.specs.Row.{rows_of};
-ghost use Rattle.trie_merge.specs.Walk.{next_of, IsWalk};
-ghost use Rattle.trie_merge.specs.Started.{IsStarted, AreRows};
-ghost use Rattle.trie_merge.specs.Shared.{RuleTree, ArePlaced, IsFor};
-ghost use Rattle.shared_parts.specs.Target.{count, HasEntry};
-ghost use Rattle.trie_merge.specs.Cuts.{CanGoOn};
-ghost use Rattle.trie_merge.specs.Entry.{CanStep};
-ghost use Rattle.trie_merge.specs.Lists.{least_words};
-ghost use Rattle.trie_merge.specs.Merged.{PlaceMerged};
-ghost use Rattle.shared_parts.specs.Slices.{pieces_of, IsPieces};
+ghost use Rattle.trie_merge.specs.Shared.{IsFor};
+ghost use Rattle.trie_merge.specs.Started.{numbers_in, AreJoined, IsStarted, AreRows};
+ghost use Rattle.trie_merge.specs.declared.order.Keyed.{Keyed};
+ghost use Rattle.trie_merge.specs.Walk.{next_of, AreStates, IsPlaceMerged, IsPlaceOver, IsWalk};
 
 use crate::column::Column;
 use crate::entry::entry_of;
@@ -26,7 +23,7 @@ use crate::kept::Kept;
 use crate::levels::{Level, Levels};
 use crate::merge::{Budget, MergeFault, Merged, Place, Reached, merge_states};
 use crate::names::{name_rows, names_of, rank_rules};
-use crate::order::order_rules;
+use crate::order::{Keyed, order_rules};
 use indexmap::IndexSet;
 use node_expand::Edge;
 use rule_set::RuleSet;
@@ -34,34 +31,50 @@ use shared_parts::{Parts, Rows, Target};
 use std::alloc::{AllocError, Global};
 use table_sizes::ROW_LEN;
 
-/// The entries of all rules of the group before the first byte.
-fn start_entries(alloc: Global, group: &[u32]) -> Result<Vec<u32>, AllocError>
-    requires { All (λ number. number < 2 ^ 30) group.now }
+/// The entries of the rules before the first byte.
+fn start_entries(alloc: Global, order: &[Keyed]) -> Result<Vec<u32>, AllocError>
+    requires { All (λ (keyed : Keyed). keyed.number < 2 ^ 30) order.now }
     ensures { IfOk result (λ entries. entries.items
-        ≡ map (λ number. entry_of number Free) group.now) }
+        ≡ map (λ number. entry_of number Free) (numbers_in order.now)) }
 {
-    let mut entries = Vec::with_capacity(alloc, group.len())?;
-    for number in group {
-        entries.push(entry_of(*number, Edge::Free))?;
+    let mut entries = Vec::with_capacity(alloc, order.len())?;
+    for keyed in order {
+        entries.push(entry_of(keyed.number, Edge::Free))?;
     }
     Ok(entries)
 }
 
-/// The one state before the first byte.
-fn start_states(alloc: Global, group: &[u32]) -> Result<Reached, AllocError>
-    requires some { 0 < length group.now }
-    requires few { All (λ number. number < 2 ^ 30) group.now }
-    ensures { IfOk result (λ reached. IsStarted group.now reached.target reached.found.keys) }
+/// Joins the entries of the rules before the first byte, and gives their number.
+fn join_entries(alloc: Global, order: &[Keyed], target: &mut Target) -> Result<u32, AllocError>
+    requires some { 0 < length order.now }
+    requires few { All (λ (keyed : Keyed). keyed.number < 2 ^ 30) order.now }
+    requires none { target.old ≡ Target.Parts [] }
+    ensures { IfOk result (λ number. AreJoined (numbers_in order.now) target.new number) }
 {
-    let entries = start_entries(alloc, group)?;
-    let mut parts = Parts::new(alloc);
-    let number = parts.join_all(entries.as_slice())?;
-    let mut found = IndexSet::new(alloc);
-    found.insert_full(number)?;
-    Ok(Reached {
-        target: Target::Parts(parts),
-        found,
-    })
+    let entries = start_entries(alloc, order)?;
+    match target {
+        Target::Parts(parts) => {
+            let number = parts.join_all(entries.as_slice())?;
+            Ok(number)
+        }
+        Target::Rows(_) => unreachable!(),
+    }
+}
+
+/// The one state before the first byte.
+fn start_states(alloc: Global, order: &[Keyed]) -> Result<Reached, AllocError>
+    requires some { 0 < length order.now }
+    requires few { All (λ (keyed : Keyed). keyed.number < 2 ^ 30) order.now }
+    ensures { IfOk result
+        (λ reached. IsStarted (numbers_in order.now) reached.target reached.found.keys) }
+{
+    let mut reached = Reached {
+        target: Target::Parts(Parts::new(alloc)),
+        found: IndexSet::new(alloc),
+    };
+    let number = join_entries(alloc, order, &mut reached.target)?;
+    reached.found.insert_full(number)?;
+    Ok(reached)
 }
 
 /// What the kept places come to: the runs of their states, the rows at the end and the words of the
@@ -74,14 +87,14 @@ struct Walked {
 }
 
 impl Walked {
-    ghost use Rattle.std.specs.Prelude.{◌≡◌, ◌++◌, ◌∷◌, [], length, OnOk};
-    ghost use Rattle.shared_parts.specs.Slices.{pieces_of, IsPieces};
+    ghost use Rattle.std.specs.Prelude.{◌≡◌, ◌++◌, ◌∷◌, [], OnOk};
+    ghost use Rattle.trie_merge.specs.Merged.{ArePieces, runs_in};
 
     /// Goes on to what the states of one more place come to.
     fn push(&mut self, merged: Merged) -> Result<(), AllocError>
-        requires { IsPieces 0 merged.pieces.ends.items (length merged.pieces.runs.items) }
-        ensures levels { OnOk result (self.new.levels.items ≡ self.old.levels.items
-            ++ pieces_of merged.pieces.runs.items 0 merged.pieces.ends.items ∷ []) }
+        requires { ArePieces merged }
+        ensures levels { OnOk result
+            (self.new.levels.items ≡ self.old.levels.items ++ runs_in merged ∷ []) }
         ensures target { OnOk result (self.new.reached.target ≡ merged.reached.target) }
         ensures found { OnOk result
             (self.new.reached.found.keys ≡ merged.reached.found.keys) }
@@ -167,37 +180,17 @@ fn merge_place(
     requires j { j < length places.now }
     requires cap { budget.cap ≤ max_words }
     requires before { budget.before ≤ budget.cap }
-    requires parts { (pairs : List (ℕ × ℕ)) × (reached.now.target ≡ Target.Parts pairs) }
-    requires states { All (λ state. (0 < state) × (state ≤ count reached.now.target))
-        reached.now.found.keys }
-    requires can { (entry : ℕ) → HasEntry reached.now.target entry →
-        CanStep (column_at rules.now (slice_index_or places.now j 0)) entry }
-    requires go_on { (pairs : List (ℕ × ℕ)) → reached.now.target ≡ Target.Parts pairs →
-        CanGoOn (next_of rules.now places.now j)
-        (column_at rules.now (slice_index_or places.now j 0)) pairs }
-    ensures merged { IfOk result (λ merged. (pairs : List (ℕ × ℕ)) →
-        reached.now.target ≡ Target.Parts pairs →
-        PlaceMerged rules.now (column_at rules.now (slice_index_or places.now j 0))
-        (j + 1 == length places.now) budget.cap budget.before pairs reached.now.found.keys
-        merged.reached.target merged.reached.found.keys
-        (pieces_of merged.pieces.runs.items 0 merged.pieces.ends.items) merged.words) }
-    ensures pieces { IfOk result
-        (λ merged. IsPieces 0 merged.pieces.ends.items (length merged.pieces.runs.items)) }
-    ensures over { (result ≡ Err MergeFault.OverCap) → (pairs : List (ℕ × ℕ)) →
-        reached.now.target ≡ Target.Parts pairs →
-        (group : List ℕ) (tree : RuleTree) (lists : List (List ℕ)) →
-        ArePlaced rules.now group tree pairs lists reached.now.found.keys →
-        budget.cap < least_words rules.now
-        (column_at rules.now (slice_index_or places.now j 0)) (next_of rules.now places.now j)
-        (j + 1 == length places.now) budget.before lists }
+    requires states { AreStates rules.now places.now j reached.now }
+    ensures merged { IfOk result
+        (λ merged. IsPlaceMerged rules.now places.now j budget reached.now merged) }
+    ensures pieces { IfOk result (λ merged. ArePieces merged) }
+    ensures over { (result ≡ Err MergeFault.OverCap) →
+        IsPlaceOver rules.now places.now j budget reached.now }
 {
     let place = place_at(alloc, rules, places, j)?;
     let target = start_target(alloc, rules, place.is_last)?;
     let states = reached.found.as_slice();
-    match merge_states(alloc, &place, budget, reached.parts(), states, target) {
-        Ok(merged) => Ok(merged),
-        Err(fault) => Err(fault),
-    }
+    merge_states(alloc, &place, budget, reached.parts(), states, target)
 }
 
 /// Merges the states of the places, one place after the other.
@@ -207,22 +200,20 @@ fn merge_places(
     group: &[u32],
     cap: u64,
     places: &[usize],
-    start: Reached,
-) -> Result<Walked, MergeFault>
+    walked: &mut Walked,
+) -> Result<(), MergeFault>
     requires group { IsGrouped rules.now group.now }
     requires cap { cap ≤ max_words }
     requires places { places.now ≡ kept_places rules.now group.now }
-    requires start { IsStarted group.now start.target start.found.keys }
-    ensures walk { IfOk result (λ its. IsWalk rules.now group.now cap its.levels.items its.words) }
-    ensures rows { IfOk result
-        (λ its. AreRows rules.now group.now its.reached.target its.reached.found.keys) }
+    requires start { IsStarted group.now walked.old.reached.target walked.old.reached.found.keys }
+    requires levels { walked.old.levels.items ≡ [] }
+    requires words { walked.old.words ≡ 0 }
+    ensures walk { OnOk result
+        (IsWalk rules.now group.now cap walked.new.levels.items walked.new.words) }
+    ensures rows { OnOk result
+        (AreRows rules.now group.now walked.new.reached.target walked.new.reached.found.keys) }
     ensures over { (result ≡ Err MergeFault.OverCap) → cap < (levels_of rules.now group.now).words }
 {
-    let mut walked = Walked {
-        levels: Vec::new(alloc),
-        reached: start,
-        words: 0,
-    };
     for j in 0..places.len() {
         let before = walked.words;
         let budget = Budget { cap, before };
@@ -232,7 +223,7 @@ fn merge_places(
         };
         walked.push(merged)?;
     }
-    Ok(walked)
+    Ok(())
 }
 
 /// Merges the states of the places, from the one before the first byte on.
@@ -251,8 +242,16 @@ fn walk(
         (λ its. AreRows rules.now group.now its.reached.target its.reached.found.keys) }
     ensures over { (result ≡ Err MergeFault.OverCap) → cap < (levels_of rules.now group.now).words }
 {
-    let start = start(alloc, rules, group)?;
-    merge_places(alloc, rules, group, cap, places, start)
+    let reached = start(alloc, rules, group)?;
+    let mut walked = Walked {
+        levels: Vec::new(alloc),
+        reached,
+        words: 0,
+    };
+    match merge_places(alloc, rules, group, cap, places, &mut walked) {
+        Ok(()) => Ok(walked),
+        Err(fault) => Err(fault),
+    }
 }
 
 impl Levels {
@@ -300,8 +299,7 @@ fn keep(alloc: Global, rules: &RuleSet, group: &[u32]) -> Result<Kept, AllocErro
 {
     let _rules = rules.all();
     let _fields = rules.layout().fields();
-    let kept = Kept::new(alloc, rules, group)?;
-    Ok(kept)
+    Kept::new(alloc, rules, group)
 }
 
 /// The state before the first byte.
@@ -312,8 +310,7 @@ fn start(alloc: Global, rules: &RuleSet, group: &[u32]) -> Result<Reached, Alloc
 {
     let _rules = rules.all();
     let order = order_rules(alloc, rules, group)?;
-    let start = start_states(alloc, order.as_slice())?;
-    Ok(start)
+    start_states(alloc, order.as_slice())
 }
 
 /// The merged states, once all places are merged.
@@ -331,7 +328,7 @@ fn finish(
     ensures { IfOk result (λ levels. levels ≡ levels_of rules.now group.now) }
 {
     let rows = finish_rows(alloc, rules, group, &walked.reached)?;
-    let members = copied(alloc, group)?;
+    let members = Vec::from_slice(alloc, group)?;
     let words = walked.words + (ROW_LEN * rows.len()) as u64;
     Ok(Levels {
         kept,
@@ -340,15 +337,6 @@ fn finish(
         rows,
         words,
     })
-}
-
-/// The numbers as a list of their own.
-fn copied(alloc: Global, numbers: &[u32]) -> Result<Vec<u32>, AllocError>
-    ensures { IfOk result (λ copy. copy.items ≡ numbers.now) }
-{
-    let mut copy = Vec::with_capacity(alloc, numbers.len())?;
-    copy.extend_from_slice(numbers)?;
-    Ok(copy)
 }
 
 /// The rows that are found at the end.
@@ -366,8 +354,7 @@ fn finish_rows(
     rule_set::laws::the_best_has_the_greatest_rank();
     let names = names_of(alloc, rules)?;
     let found = reached.found.as_slice();
-    let named = name_rows(alloc, reached.rows(), names.as_slice(), found)?;
-    Ok(named)
+    name_rows(alloc, reached.rows(), names.as_slice(), found)
 }
 
 /// How many words the merged states of the group take, or the cap plus 1 where that is less.

@@ -4,8 +4,8 @@
 //! more. The bytes of a part are those of its two parts together. Since a node takes the same words
 //! from six runs on, up to four bytes are kept, and else that there are more.
 
-ghost use Rattle.std.specs.Prelude.{◌≡◌, ℕ, ◌+◌, ◌-◌, ◌<◌, ◌≤◌, ◌==◌, ◌++◌, ◌∷◌, [], List, length, take};
-ghost use Rattle.std.specs.Prelude.{slice_index_or, true, OnOk, IfOk};
+ghost use Rattle.std.specs.Prelude.{◌≡◌, ℕ, ◌+◌, ◌-◌, ◌<◌, ◌≤◌, ◌==◌, ◌++◌, ◌∷◌, [], List};
+ghost use Rattle.std.specs.Prelude.{length, take, slice_index_or, true, OnOk, IfOk};
 ghost use Rattle.std.specs.List.{list_any};
 ghost use Rattle.shared_parts.specs.Keys.{has_entry};
 ghost use Rattle.trie_merge.specs.Cuts.{IsCutAt, Knows, AreBuilt, IsBuilt, no_cuts};

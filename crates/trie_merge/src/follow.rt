@@ -1,6 +1,7 @@
 //! Where the parts of states lead from one place.
 
-ghost use Rattle.std.specs.Prelude.{◌≡◌, ℕ, ◌+◌, ◌<◌, ◌≤◌, ◌⊎◌, true, length, OnOk, IfOk, Some, None};
+ghost use Rattle.std.specs.Prelude.{◌≡◌, ℕ, ◌+◌, ◌<◌, ◌≤◌, ◌⊎◌, true, length};
+ghost use Rattle.std.specs.Prelude.{OnOk, IfOk, Some, None};
 ghost use Rattle.shared_parts.specs.Keys.{has_entry};
 ghost use Rattle.shared_parts.specs.Target.{count, Grows, HasEntry, IsFoundIn};
 ghost use Rattle.trie_merge.specs.Entry.{entry_step, CanStep};
@@ -20,10 +21,7 @@ fn number_of(target: &mut Target, found: Option<u32>) -> Result<u32, AllocError>
 {
     match found {
         None => Ok(0),
-        Some(entry) => {
-            let number = target.entry(entry)?;
-            Ok(number)
-        }
+        Some(entry) => target.entry(entry),
     }
 }
 
@@ -69,13 +67,11 @@ fn lead_part(
 {
     let (left, right) = parts.pair(index);
     if left == 0 {
-        lead_entry(column, right, target, pieces)?;
-        return Ok(());
+        return lead_entry(column, right, target, pieces);
     }
     let one = steps.pieces(left as usize - 1);
     let other = steps.pieces(right as usize - 1);
-    merge(target, one, other, pieces)?;
-    Ok(())
+    merge(target, one, other, pieces)
 }
 
 /// Works out where further parts lead, up to that of the number `until`, in the order of their

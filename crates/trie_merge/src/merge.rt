@@ -1,23 +1,20 @@
 //! The states of one kept place, one after the other: their runs, their words, and the states or
 //! rows that they lead to.
 
-ghost use Rattle.std.specs.Prelude.{◌≡◌, ℕ, ◌<◌, ◌+◌, ◌*◌, ◌^◌, ◌≤◌, ◌++◌, ◌∷◌, [], List, length};
+ghost use Rattle.std.specs.Prelude.{◌≡◌, ℕ, ◌<◌, ◌+◌, ◌*◌, ◌^◌, ◌≤◌, List, length, take, All};
+ghost use Rattle.std.specs.Prelude.{true, false, Some, None, OnOk, IfOk};
 ghost use Rattle.std.specs.List.Sorted.{IsStrictlyIncreasing};
-ghost use Rattle.std.specs.Prelude.{true, false, Some, None, take, All, OnOk, IfOk, if◌then◌else◌};
+ghost use Rattle.rule_set.specs.Rule.{RuleSetView};
 ghost use Rattle.shared_parts.specs.Keys.{has_entry};
 ghost use Rattle.shared_parts.specs.Target.{count};
-ghost use Rattle.trie_merge.specs.Cuts.{CanAsk, CanGoOn, CutsFor};
-ghost use Rattle.shared_parts.specs.declared.target.Target.{Target};
-ghost use Rattle.shared_parts.specs.declared.pieces.Piece.{Piece};
-ghost use Rattle.trie_merge.specs.Entry.{CanStep};
-ghost use Rattle.trie_merge.specs.Laws.{IsGrouped};
-ghost use Rattle.rule_set.specs.Rule.{RuleSetView};
-ghost use Rattle.trie_merge.specs.Led.{StepsLed, AllLed};
 ghost use Rattle.table_sizes.specs.Sizes.{cost_of, max_words, row_len};
-ghost use Rattle.trie_merge.specs.Lists.{level_found, price, least_cost, least_words, IsMergedWithin};
-ghost use Rattle.trie_merge.specs.Merged.{StateMerged, StateAdded};
-ghost use Rattle.shared_parts.specs.Slices.{pieces_of, IsPieces};
-ghost use Rattle.trie_merge.specs.Shared.{RuleTree, IsIn, AreIn, ArePlaced, IsFor};
+ghost use Rattle.trie_merge.specs.Cuts.{CanAsk, CutsFor};
+ghost use Rattle.trie_merge.specs.Entry.{CanStep};
+ghost use Rattle.trie_merge.specs.Led.{StepsLed, AllLed};
+ghost use Rattle.trie_merge.specs.Lists.{price, least_cost};
+ghost use Rattle.trie_merge.specs.Merged.{ArePieces, IsStateMerged, IsStateAdded, CanMerge};
+ghost use Rattle.trie_merge.specs.Merged.{IsFirst, IsReady, AreMerged, AreOver};
+ghost use Rattle.trie_merge.specs.Shared.{RuleTree, IsIn, AreIn};
 
 use crate::column::Column;
 use crate::cuts::{Cuts, fill_cuts, words_of};
@@ -83,64 +80,21 @@ pub(crate) struct Budget {
     pub(crate) before: u64,
 }
 
-/// What is known of a place: where its parts lead, what that is numbered in, the numbers that its
-/// states lead to in the order in which they are found, and what tells their words.
-#[derive(Drop)]
-struct Work {
-    steps: Steps,
-    target: Target,
-    found: IndexSet<u32>,
-    cuts: Vec<Cuts>,
-    buffer: Vec<Piece>,
-}
-
-/// Merges what one state leads to into the others, and gives the state's words.
-fn merge_state(
-    place: &Place,
-    parts: &Parts,
-    state: u32,
-    work: &mut Work,
-    pieces: &mut Pieces,
-) -> Result<u64, AllocError>
-    requires some { 0 < state }
-    requires state { state ≤ length parts.now }
-    requires can { (entry : ℕ) → has_entry parts.now entry ≡ true → CanStep place.now.column entry }
-    requires led { StepsLed place.now.column parts.now work.old.target work.old.steps }
-    requires room { length work.old.found.keys + 256 < 2 ^ 32 }
-    requires pieces { IsPieces 0 pieces.old.ends.items (length pieces.old.runs.items) }
-    ensures led { OnOk result
-        (AllLed place.now.column parts.now work.old.target work.new.target work.new.steps) }
-    ensures merged { IfOk result (λ cost.
-        StateMerged place.now.column place.now.is_last parts.now work.new.target work.old.found.keys
-        work.new.found.keys (pieces_of pieces.old.runs.items 0 pieces.old.ends.items)
-        (pieces_of pieces.new.runs.items 0 pieces.new.ends.items) state cost) }
-    ensures cuts { OnOk result (work.new.cuts.items ≡ work.old.cuts.items) }
-    ensures pieces { OnOk result (IsPieces 0 pieces.new.ends.items (length pieces.new.runs.items)) }
-    ensures bound { IfOk result (λ cost. (0 < cost) × (cost ≤ 256)) }
-{
-    let until = state as usize;
-    let buffer = &mut work.buffer;
-    lead_parts(
-        &place.column,
-        parts,
-        &mut work.steps,
-        &mut work.target,
-        until,
-        buffer,
-    )?;
-    let start = pieces.runs.len();
-    let its = work.steps.pieces(until - 1);
-    join_runs(place.is_last, its, &mut work.found, &mut pieces.runs)?;
-    let end = pieces.runs.len();
-    pieces.ends.push(end)?;
-    Ok(cost_of(end - start))
-}
-
 /// What the bytes of a place lead to, and the numbers of what its states lead to.
-#[derive(Drop)]
 pub(crate) struct Reached {
     pub(crate) target: Target,
     pub(crate) found: IndexSet<u32>,
+}
+
+/// It is written out so that letting go is one call, and not the steps of its two sets at each
+/// place where one ends.
+impl Drop for Reached {
+    fn drop(self) {
+        let Reached {
+            target: _,
+            found: _,
+        } = self;
+    }
 }
 
 impl Reached {
@@ -175,10 +129,61 @@ impl Reached {
 pub(crate) struct Merged {
     /// Their runs.
     pub(crate) pieces: Pieces,
-    /// The states that they lead to, or at the last place the rows.
+    /// The states that they lead to, or at the last place the rows, in the order in which they are
+    /// found.
     pub(crate) reached: Reached,
     /// The words before them and their own.
     pub(crate) words: u64,
+}
+
+/// What is known of a place: where its parts lead, what tells the words of what its states lead to,
+/// and room for the pieces of a part.
+#[derive(Drop)]
+struct Work {
+    steps: Steps,
+    cuts: Vec<Cuts>,
+    buffer: Vec<Piece>,
+}
+
+/// Merges what one state leads to into the others, and gives the state's words.
+fn merge_state(
+    place: &Place,
+    parts: &Parts,
+    state: u32,
+    work: &mut Work,
+    merged: &mut Merged,
+) -> Result<u64, AllocError>
+    requires state { (0 < state) × (state ≤ length parts.now) }
+    requires can { (entry : ℕ) → has_entry parts.now entry ≡ true → CanStep place.now.column entry }
+    requires led { StepsLed place.now.column parts.now merged.old.reached.target work.old.steps }
+    requires room { length merged.old.reached.found.keys + 256 < 2 ^ 32 }
+    requires pieces { ArePieces merged.old }
+    ensures led { OnOk result (AllLed place.now.column parts.now merged.old.reached.target
+        merged.new.reached.target work.new.steps) }
+    ensures merged { IfOk result (λ cost. IsStateMerged place.now parts.now state merged.old
+        merged.new cost) }
+    ensures cuts { OnOk result (work.new.cuts.items ≡ work.old.cuts.items) }
+    ensures words { OnOk result (merged.new.words ≡ merged.old.words) }
+    ensures pieces { OnOk result (ArePieces merged.new) }
+    ensures bound { IfOk result (λ cost. (0 < cost) × (cost ≤ 256)) }
+{
+    let until = state as usize;
+    let reached = &mut merged.reached;
+    let pieces = &mut merged.pieces;
+    lead_parts(
+        &place.column,
+        parts,
+        &mut work.steps,
+        &mut reached.target,
+        until,
+        &mut work.buffer,
+    )?;
+    let start = pieces.runs.len();
+    let its = work.steps.pieces(until - 1);
+    join_runs(place.is_last, its, &mut reached.found, &mut pieces.runs)?;
+    let end = pieces.runs.len();
+    pieces.ends.push(end)?;
+    Ok(cost_of(end - start))
 }
 
 /// How many words a state that is found takes at least, by the bytes at which its part changes what
@@ -231,10 +236,7 @@ fn price(
         return Ok(ROW_LEN as u64);
     }
     match &place.next {
-        Some(next) => {
-            let words = price_ahead(next, target, cuts, number)?;
-            Ok(words)
-        }
+        Some(next) => price_ahead(next, target, cuts, number),
         None => Ok(1),
     }
 }
@@ -254,7 +256,8 @@ fn price_all(
     requires seen { seen ≤ length found.now }
     requires few { length found.now ≤ seen + 256 }
     ensures cuts { OnOk result (CutsFor place.now.next target.now cuts.new.items) }
-    ensures price { IfOk result (λ words. (set : RuleSetView) (tree : RuleTree) (lists : List (List ℕ)) →
+    ensures price { IfOk result
+        (λ words. (set : RuleSetView) (tree : RuleTree) (lists : List (List ℕ)) →
         IsStrictlyIncreasing tree.rules → AreIn set target.now tree lists found.now →
         least_cost place.now.next place.now.is_last (take seen lists) + words
         ≤ least_cost place.now.next place.now.is_last lists) }
@@ -275,60 +278,36 @@ fn price_all(
 #[derive(Drop)]
 struct Progress {
     work: Work,
-    pieces: Pieces,
-    /// The words before the place, and those of its states so far.
-    words: u64,
+    merged: Merged,
     /// How many words what they lead to takes at least.
     least: u64,
 }
 
 impl Progress {
-    ghost use Rattle.std.specs.Prelude.{◌≡◌, [], length};
+    ghost use Rattle.trie_merge.specs.Merged.{IsFirst};
 
     /// Before the first state.
     fn new(alloc: Global, target: Target, before: u64) -> Self
-        ensures steps { result.work.steps ≡ [] }
-        ensures target { result.work.target ≡ target }
-        ensures found { length result.work.found.keys ≡ 0 }
-        ensures cuts { result.work.cuts.items ≡ [] }
-        ensures runs { result.pieces.runs.items ≡ [] }
-        ensures ends { result.pieces.ends.items ≡ [] }
-        ensures words { result.words ≡ before }
-        ensures least { result.least ≡ 0 }
+        ensures { IsFirst target before result }
     {
         Progress {
             work: Work {
                 steps: Steps::new(alloc),
-                target,
-                found: IndexSet::new(alloc),
                 cuts: Vec::new(alloc),
                 buffer: Vec::new(alloc),
             },
-            pieces: Pieces {
-                runs: Vec::new(alloc),
-                ends: Vec::new(alloc),
+            merged: Merged {
+                pieces: Pieces {
+                    runs: Vec::new(alloc),
+                    ends: Vec::new(alloc),
+                },
+                reached: Reached {
+                    target,
+                    found: IndexSet::new(alloc),
+                },
+                words: before,
             },
-            words: before,
             least: 0,
-        }
-    }
-
-    /// After the last state.
-    fn finish(self) -> Merged
-        ensures runs { result.pieces.runs.items ≡ self.pieces.runs.items }
-        ensures ends { result.pieces.ends.items ≡ self.pieces.ends.items }
-        ensures target { result.reached.target ≡ self.work.target }
-        ensures found { result.reached.found.keys ≡ self.work.found.keys }
-        ensures words { result.words ≡ self.words }
-    {
-        let work = self.work;
-        Merged {
-            pieces: self.pieces,
-            reached: Reached {
-                target: work.target,
-                found: work.found,
-            },
-            words: self.words,
         }
     }
 }
@@ -342,59 +321,64 @@ fn merge_next(
 ) -> Result<(), AllocError>
     requires some { 0 < state }
     requires state { state ≤ length parts.now }
-    requires can { (entry : ℕ) → has_entry parts.now entry ≡ true → CanStep place.now.column entry }
-    requires led { StepsLed place.now.column parts.now progress.old.work.target
-        progress.old.work.steps }
-    requires room { length progress.old.work.found.keys + 256 < 2 ^ 32 }
-    requires pieces { IsPieces 0 progress.old.pieces.ends.items
-        (length progress.old.pieces.runs.items) }
-    requires inside { All (λ number. (0 < number) × (number ≤ count progress.old.work.target))
-        progress.old.work.found.keys }
-    requires last { place.now.is_last ≡ true → place.now.next ≡ None }
-    requires go_on { CanGoOn place.now.next place.now.column parts.now }
-    requires ask { CanAsk place.now.next progress.old.work.target }
-    requires cuts { CutsFor place.now.next progress.old.work.target progress.old.work.cuts.items }
-    requires bound { progress.old.words + progress.old.least ≤ max_words }
-    ensures led { OnOk result (AllLed place.now.column parts.now progress.old.work.target
-        progress.new.work.target progress.new.work.steps) }
-    ensures added { OnOk result (StateAdded place.now.column place.now.next place.now.is_last
-        parts.now progress.new.work.target progress.old.work.found.keys
-        progress.new.work.found.keys
-        (pieces_of progress.old.pieces.runs.items 0 progress.old.pieces.ends.items)
-        (pieces_of progress.new.pieces.runs.items 0 progress.new.pieces.ends.items) state
-        progress.old.words progress.new.words progress.old.least progress.new.least) }
-    ensures pieces { OnOk result (IsPieces 0 progress.new.pieces.ends.items
-        (length progress.new.pieces.runs.items)) }
-    ensures bound { OnOk result (progress.new.words + progress.new.least
-        ≤ progress.old.words + progress.old.least + 65792) }
-    ensures ask { OnOk result (CanAsk place.now.next progress.new.work.target) }
-    ensures cuts { OnOk result
-        (CutsFor place.now.next progress.new.work.target progress.new.work.cuts.items) }
+    requires can { CanMerge place.now parts.now }
+    requires ready { IsReady place.now parts.now progress.old }
+    requires room { length progress.old.merged.reached.found.keys + 256 < 2 ^ 32 }
+    requires bound { progress.old.merged.words + progress.old.least ≤ max_words }
+    ensures led { OnOk result (AllLed place.now.column parts.now
+        progress.old.merged.reached.target progress.new.merged.reached.target
+        progress.new.work.steps) }
+    ensures added { OnOk result
+        (IsStateAdded place.now parts.now state progress.old progress.new) }
+    ensures ready { OnOk result (IsReady place.now parts.now progress.new) }
+    ensures bound { OnOk result (progress.new.merged.words + progress.new.least
+        ≤ progress.old.merged.words + progress.old.least + 65792) }
 {
-    let seen = progress.work.found.len();
-    let cost = merge_state(
-        place,
-        parts,
-        state,
-        &mut progress.work,
-        &mut progress.pieces,
-    )?;
     let work = &mut progress.work;
-    let more = price_all(
-        place,
-        &work.target,
-        &mut work.cuts,
-        work.found.as_slice(),
-        seen,
-    )?;
-    progress.words += cost;
+    let merged = &mut progress.merged;
+    let seen = merged.reached.found.len();
+    let cost = merge_state(place, parts, state, work, merged)?;
+    let reached = &merged.reached;
+    let found = reached.found.as_slice();
+    let more = price_all(place, &reached.target, &mut work.cuts, found, seen)?;
+    merged.words += cost;
     progress.least += more;
     Ok(())
 }
 
-/// Merges the states of one place.
+/// Merges the states of one place, one after the other.
 ///
 /// It ends as soon as the words so far, and what is found takes at least, exceed the cap.
+fn merge_all(
+    place: &Place,
+    budget: Budget,
+    parts: &Parts,
+    states: &[u32],
+    progress: &mut Progress,
+) -> Result<(), MergeFault>
+    requires states { All (λ state. (0 < state) × (state ≤ length parts.now)) states.now }
+    requires can { CanMerge place.now parts.now }
+    requires ask { CanAsk place.now.next progress.old.merged.reached.target }
+    requires cap { budget.cap ≤ max_words }
+    requires before { budget.before ≤ budget.cap }
+    requires first { IsFirst progress.old.merged.reached.target budget.before progress.old }
+    ensures merged { OnOk result (AreMerged place.now budget parts.now states.now
+        progress.old.merged.reached.target progress.new.merged) }
+    ensures over { (result ≡ Err MergeFault.OverCap) →
+        AreOver place.now budget parts.now states.now progress.old.merged.reached.target }
+{
+    rule_set::laws::ranks_order_rules();
+    rule_set::laws::the_best_has_the_greatest_rank();
+    for state in states {
+        merge_next(place, parts, *state, progress)?;
+        if progress.merged.words + progress.least > budget.cap {
+            return Err(MergeFault::OverCap);
+        }
+    }
+    Ok(())
+}
+
+/// Merges the states of one place.
 pub(crate) fn merge_states(
     alloc: Global,
     place: &Place,
@@ -404,40 +388,18 @@ pub(crate) fn merge_states(
     target: Target,
 ) -> Result<Merged, MergeFault>
     requires states { All (λ state. (0 < state) × (state ≤ length parts.now)) states.now }
-    requires can { (entry : ℕ) → has_entry parts.now entry ≡ true → CanStep place.now.column entry }
-    requires last { place.now.is_last ≡ true → place.now.next ≡ None }
-    requires go_on { CanGoOn place.now.next place.now.column parts.now }
+    requires can { CanMerge place.now parts.now }
     requires ask { CanAsk place.now.next target }
     requires cap { budget.cap ≤ max_words }
     requires before { budget.before ≤ budget.cap }
-    ensures led { IfOk result (λ merged. (steps : List (List Piece)) ×
-        AllLed place.now.column parts.now target merged.reached.target steps) }
     ensures merged { IfOk result
-        (λ merged. (set : RuleSetView) (group : List ℕ) (tree : RuleTree) (lists : List (List ℕ)) →
-        IsFor set place.now.is_last target → ArePlaced set group tree parts.now lists states.now →
-        IsMergedWithin set place.now.column place.now.is_last budget.cap budget.before lists
-        (pieces_of merged.pieces.runs.items 0 merged.pieces.ends.items) merged.words
-        × AreIn set merged.reached.target tree
-        (level_found set place.now.column place.now.is_last lists) merged.reached.found.keys) }
-    ensures inside { IfOk result (λ merged. All
-        (λ number. (0 < number) × (number ≤ count merged.reached.target))
-        merged.reached.found.keys) }
-    ensures pieces { IfOk result
-        (λ merged. IsPieces 0 merged.pieces.ends.items (length merged.pieces.runs.items)) }
+        (λ merged. AreMerged place.now budget parts.now states.now target merged) }
     ensures over { (result ≡ Err MergeFault.OverCap) →
-        (set : RuleSetView) (group : List ℕ) (tree : RuleTree) (lists : List (List ℕ)) →
-        IsFor set place.now.is_last target → ArePlaced set group tree parts.now lists states.now →
-        budget.cap < least_words set place.now.column place.now.next place.now.is_last budget.before
-        lists }
+        AreOver place.now budget parts.now states.now target }
 {
-    rule_set::laws::ranks_order_rules();
-    rule_set::laws::the_best_has_the_greatest_rank();
     let mut progress = Progress::new(alloc, target, budget.before);
-    for state in states {
-        merge_next(place, parts, *state, &mut progress)?;
-        if progress.words + progress.least > budget.cap {
-            return Err(MergeFault::OverCap);
-        }
+    match merge_all(place, budget, parts, states, &mut progress) {
+        Ok(()) => Ok(progress.merged),
+        Err(fault) => Err(fault),
     }
-    Ok(progress.finish())
 }

@@ -5,9 +5,9 @@
 //! fields, one after the other: by the least number that a value lets through, and where that is
 //! one, the wider value first. Wild values come first of all.
 
-ghost use Rattle.std.specs.Prelude.{◌≡◌, map, IfOk};
+ghost use Rattle.std.specs.Prelude.{◌≡◌, ◌<◌, length, All, IfOk};
 ghost use Rattle.std.specs.List.Sorted.{IsPermutation};
-ghost use Rattle.trie_merge.specs.declared.order.Keyed.{Keyed};
+ghost use Rattle.trie_merge.specs.Started.{numbers_in};
 
 use field_defs::{FieldDef, FieldValue};
 use rule_set::RuleSet;
@@ -45,8 +45,8 @@ fn key_of(value: &FieldValue, size: u8) -> u128 {
 
 /// A rule, and where the keys of its values begin.
 #[derive(Clone, Copy)]
-struct Keyed {
-    number: u32,
+pub(crate) struct Keyed {
+    pub(crate) number: u32,
     first: usize,
 }
 
@@ -57,37 +57,51 @@ struct Keys {
     keys: Vec<u128>,
 }
 
+impl Keys {
+    ghost use Rattle.std.specs.Prelude.{◌≡◌, ◌<◌, ◌++◌, ◌∷◌, [], length, OnOk};
+    ghost use Rattle.trie_merge.specs.Started.{numbers_in};
+
+    /// Puts a rule and the keys of its values after the others.
+    fn push(&mut self, rules: &RuleSet, number: u32) -> Result<(), AllocError>
+        requires { number < length rules.now.rules }
+        ensures { OnOk result
+            (numbers_in self.new.rules.items ≡ numbers_in self.old.rules.items ++ number ∷ []) }
+    {
+        let first = self.keys.len();
+        self.rules.push(Keyed { number, first })?;
+        let defs = rules.layout().fields();
+        push_keys(defs, rules.at(number as usize).fields(), &mut self.keys)?;
+        Ok(())
+    }
+}
+
 /// Puts the keys of a rule's values after those of others.
 fn push_keys(
     defs: &[FieldDef],
     values: &[FieldValue],
     keys: &mut Vec<u128>,
 ) -> Result<(), AllocError> {
-    for (def, value) in defs.iter().zip(values) {
-        keys.push(key_of(value, def.size))?;
+    for k in 0..defs.len() {
+        if let Some(value) = values.get(k) {
+            keys.push(key_of(value, defs[k].size))?;
+        }
     }
     Ok(())
 }
 
 /// The keys of the rules of the group.
 fn keys_of(alloc: Global, rules: &RuleSet, group: &[u32]) -> Result<Keys, AllocError>
-    ensures { IfOk result
-        (λ keys. map (λ (keyed : Keyed). keyed.number) keys.rules.items ≡ group.now) }
+    requires { All (λ number. number < length rules.now.rules) group.now }
+    ensures { IfOk result (λ keys. numbers_in keys.rules.items ≡ group.now) }
 {
-    let defs = rules.layout().fields();
-    let mut keyed = Vec::with_capacity(alloc, group.len())?;
-    let mut keys = Vec::new(alloc);
+    let mut keys = Keys {
+        rules: Vec::with_capacity(alloc, group.len())?,
+        keys: Vec::new(alloc),
+    };
     for number in group {
-        let first = keys.len();
-        keyed.push(Keyed {
-            number: *number,
-            first,
-        })?;
-        if (*number as usize) < rules.len() {
-            push_keys(defs, rules.at(*number as usize).fields(), &mut keys)?;
-        }
+        keys.push(rules, *number)?;
     }
-    Ok(Keys { rules: keyed, keys })
+    Ok(keys)
 }
 
 /// The key of that place, or 0.
@@ -111,31 +125,19 @@ fn compare(keys: &[u128], count: usize, one: Keyed, other: Keyed) -> Ordering {
     Ordering::Equal
 }
 
-/// The numbers of the rules.
-fn numbers_of(alloc: Global, rules: &[Keyed]) -> Result<Vec<u32>, AllocError>
-    ensures { IfOk result
-        (λ numbers. numbers.items ≡ map (λ (keyed : Keyed). keyed.number) rules.now) }
-{
-    let mut numbers = Vec::with_capacity(alloc, rules.len())?;
-    for keyed in rules {
-        numbers.push(keyed.number)?;
-    }
-    Ok(numbers)
-}
-
 /// The rules of the group in the order of the leaves.
 pub(crate) fn order_rules(
     alloc: Global,
     rules: &RuleSet,
     group: &[u32],
-) -> Result<Vec<u32>, AllocError>
-    ensures { IfOk result (λ order. IsPermutation group.now order.items) }
+) -> Result<Vec<Keyed>, AllocError>
+    requires { All (λ number. number < length rules.now.rules) group.now }
+    ensures { IfOk result (λ order. IsPermutation group.now (numbers_in order.items)) }
 {
     let count = rules.layout().fields().len();
     let keys = keys_of(alloc, rules, group)?;
-    let mut keyed = keys.rules;
+    let mut order = keys.rules;
     let all = keys.keys.as_slice();
-    keyed.sort_unstable_by(|one, other| compare(all, count, *one, *other));
-    let numbers = numbers_of(alloc, keyed.as_slice())?;
-    Ok(numbers)
+    order.sort_unstable_by(|one, other| compare(all, count, *one, *other));
+    Ok(order)
 }

@@ -16,7 +16,7 @@ returns c =
     let words = ap (λ n. c.args.walked.words + row_len * n) count ∙ c.requires.walk.sum in
     λ i. record {
       kept = c.requires.kept i;
-      group = c.in_ok-members.ensures i;
+      group = c.in_ok-members.ensures.items i;
       levels = (c.into_levels.ensures ∙ c.requires.walk.runs) i;
       rows = c.in_ok-rows.ensures i;
       words = words i;

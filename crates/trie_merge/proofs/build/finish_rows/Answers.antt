@@ -1,6 +1,7 @@
-use Rattle.std.proofs.Common.{ℕ, ◌<◌, ◌≤◌, List, length, map, sym, ◌∙◌, subst}
+use Rattle.std.proofs.Common.{◌≡◌, ℕ, ◌<◌, ◌≤◌, List, length, map, sym, ◌∙◌, subst}
 use Rattle.std.specs.Prelude.{All}
 use Rattle.std.specs.List.{AllByRecursion}
+use Rattle.std.proofs.lemmas.Result.{IfOk-weaker}
 use Rattle.std.proofs.lemmas.List.Elements.{recursion_from_All}
 use Rattle.shared_parts.specs.Target.{count}
 use Rattle.trie_merge.specs.Names.{row_named}
@@ -17,7 +18,8 @@ rows-requires c = c.requires.rows.rows
 pub name_rows-requires : goal.name_rows-requires
 name_rows-requires c =
     rw c.as_slice-found.ensures.keys
-    (subst (λ t. All (λ n. (0 < n) × (n ≤ count t)) c.args.reached.now.found.keys) c.rows.ensures c.requires.rows.inside)
+    (subst (λ t. All (λ n. (0 < n) × (n ≤ count t)) c.args.reached.now.found.keys) c.rows.ensures
+    c.requires.rows.inside)
 
 pub returns : goal.returns
 returns c =
@@ -26,11 +28,12 @@ returns c =
     let its = c.requires.rows in
     let tree = its.tree in
     let names : List ℕ = c.in_ok-names.names.items in
-    c.in_ok-named.ensures
-    ∙ (λ i. map (row_named c.rows.result.now (c.as_slice.ensures.value i)) (c.as_slice-found.ensures.keys i))
+    let named = (λ i. map (row_named c.rows.result.now (c.as_slice.ensures.value i)) (c.as_slice-found.ensures.keys i))
     ∙ all_named_are set c.ranks_order_rules.ensures c.the_best_has_the_greatest_rank.ensures names c.in_ok-names.ensures
     tree (subst (NumbersRise 0) (sym its.rules) (numbers_rise group c.requires.group.group.ascending))
     (subst (AllByRecursion (λ rule. rule < length set.rules)) (sym its.rules)
     (recursion_from_All (λ rule. rule < length set.rules) group c.requires.group.group.within))
     c.rows.result.now (rows_of set group) c.args.reached.now.found.keys (rows_long set group)
-    (subst (λ t. AreIn set t tree (rows_of set group) c.args.reached.now.found.keys) c.rows.ensures its.each)
+    (subst (λ t. AreIn set t tree (rows_of set group) c.args.reached.now.found.keys) c.rows.ensures its.each) in
+    IfOk-weaker c.name_rows.result _ (λ found. found.items ≡ rows_of set group) (λ found is. is ∙ named)
+    c.name_rows.ensures

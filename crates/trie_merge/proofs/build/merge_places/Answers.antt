@@ -11,9 +11,10 @@ loop-j-init c =
     let set = c.args.rules.now in
     let group = c.args.group.now in
     let its = c.requires.group in
-    rw c.new.ensures.items
+    let reached = c.args.walked.now.reached in
+    rw (c.requires.levels, c.requires.words)
     (placed_start set group (group_held set group its.rules its.layout its.group.within) its.group.some
-    (short_keys set.layout its.layout).0 c.args.cap c.args.start.target c.args.start.found.keys c.requires.start)
+    (short_keys set.layout its.layout).0 c.args.cap reached.target reached.found.keys c.requires.start)
 
 pub merge_place-requires-clause-places : goal.merge_place-requires-clause-places
 merge_place-requires-clause-places c = λ k below.
@@ -27,38 +28,25 @@ merge_place-requires-clause-places c = λ k below.
 pub merge_place-requires-clause-before : goal.merge_place-requires-clause-before
 merge_place-requires-clause-before c = c.loop-j.invariant.walked.within
 
-pub merge_place-requires-clause-parts : goal.merge_place-requires-clause-parts
-merge_place-requires-clause-parts c =
-    let below : c.loop-j.j < length (kept_places c.args.rules.now c.args.group.now) =
-    rw (← c.requires.places) c.loop-j-test.true in
-    c.loop-j.invariant.parts below
-
 pub merge_place-requires-clause-states : goal.merge_place-requires-clause-states
-merge_place-requires-clause-states c = c.loop-j.invariant.inside
-
-pub merge_place-requires-clause-can : goal.merge_place-requires-clause-can
-merge_place-requires-clause-can c = λ entry has.
+merge_place-requires-clause-states c =
     let set = c.args.rules.now in
     let group = c.args.group.now in
     let its = c.requires.group in
+    let held = group_held set group its.rules its.layout its.group.within in
+    let key = (short_keys set.layout its.layout).0 in
     let l = c.loop-j in
+    let reached = l.walked.reached in
     let below : l.j < length (kept_places set group) = rw (← c.requires.places) c.loop-j-test.true in
     rw c.requires.places
-    (parts_can_step set group (group_held set group its.rules its.layout its.group.within) its.group.some
-    (short_keys set.layout its.layout).0 c.args.cap l.j l.walked.levels.items l.walked.reached.target
-    l.walked.reached.found.keys l.walked.words l.invariant below entry has)
-
-pub merge_place-requires-clause-go_on : goal.merge_place-requires-clause-go_on
-merge_place-requires-clause-go_on c = λ pairs is.
-    let set = c.args.rules.now in
-    let group = c.args.group.now in
-    let its = c.requires.group in
-    let l = c.loop-j in
-    let below : l.j < length (kept_places set group) = rw (← c.requires.places) c.loop-j-test.true in
-    rw c.requires.places
-    (parts_go_on set group (group_held set group its.rules its.layout its.group.within) its.group.some
-    (short_keys set.layout its.layout).0 c.args.cap l.j l.walked.levels.items l.walked.reached.target
-    l.walked.reached.found.keys l.walked.words l.invariant below pairs is)
+    (record {
+      parts = l.invariant.parts below;
+      inside = l.invariant.inside;
+      step = parts_can_step set group held its.group.some key c.args.cap l.j l.walked.levels.items reached.target
+          reached.found.keys l.walked.words l.invariant below;
+      go_on = parts_go_on set group held its.group.some key c.args.cap l.j l.walked.levels.items reached.target
+          reached.found.keys l.walked.words l.invariant below;
+    })
 
 pub loop-j-preserved : goal.loop-j-preserved
 loop-j-preserved c =

@@ -1,5 +1,6 @@
 use Rattle.std.proofs.Common.{ℕ, ◌+◌, ◌-◌, ◌<◌, [], get_or, subst, arith}
 use Rattle.shared_parts.specs.Keys.{KeyAt, same_pair}
+use Rattle.std.proofs.lemmas.Result.{on_ok_weaker}
 use Rattle.shared_parts.specs.Pieces.{Merges}
 use Rattle.trie_merge.proofs.Leads.{entry_part, pair_part}
 use Rattle.trie_merge.proofs.follow.lead_part.Goals as goal
@@ -8,10 +9,11 @@ pub returns-then-left-eq0 : goal.returns-then-left-eq0
 returns-then-left-eq0 c =
     let pairs = c.args.parts.now in
     let right : ℕ = c.pair-left.result.1 in
-    entry_part c.args.column.now pairs right (c.args.index + 1) c.args.target.now c.lead_entry.new.target
+    on_ok_weaker c.lead_entry.result
+    (entry_part c.args.column.now pairs right (c.args.index + 1) c.args.target.now c.lead_entry.new.target
     c.lead_entry.new.pieces.items
-    (subst (λ l. KeyAt same_pair pairs (l, right) (c.args.index + 1)) c.if-left-eq0.true c.pair-left.ensures.part)
-    c.in_ok-lead_entry.ensures
+    (subst (λ l. KeyAt same_pair pairs (l, right) (c.args.index + 1)) c.if-left-eq0.true c.pair-left.ensures.part))
+    c.lead_entry.ensures
 
 pub returns : goal.returns
 returns c =
@@ -21,10 +23,14 @@ returns c =
     let right : ℕ = c.pair-left.result.1 in
     let some : 0 < left = omega (arith, c.if-left-eq0.false) in
     let lower = c.pair-left.ensures.lower some in
-    pair_part c.args.column.now pairs c.args.target.now steps c.requires.steps left right (c.args.index + 1)
-    c.merge.new.target c.merge.new.pieces.items c.pair-left.ensures.part some lower.1
+    let new = c.merge.new.target in
+    let pieces = c.merge.new.pieces.items in
+    on_ok_weaker c.merge.result
+    (λ merged. pair_part c.args.column.now pairs c.args.target.now steps c.requires.steps left right (c.args.index + 1)
+    new pieces c.pair-left.ensures.part some lower.1
     (omega (arith, lower.0, c.requires.next)) (omega (arith, lower.2, c.requires.next))
-    (subst (λ one. Merges c.args.target.now c.merge.new.target one (get_or steps (right - 1) []) c.merge.new.pieces.items)
+    (subst (λ one. Merges c.args.target.now new one (get_or steps (right - 1) []) pieces)
     c.pieces-one.ensures
-    (subst (λ other. Merges c.args.target.now c.merge.new.target c.pieces-one.result.now other
-    c.merge.new.pieces.items) c.pieces-other.ensures c.in_ok-merge.ensures))
+    (subst (λ other. Merges c.args.target.now new c.pieces-one.result.now other pieces) c.pieces-other.ensures
+    merged)))
+    c.merge.ensures

@@ -1,7 +1,8 @@
-use Rattle.std.proofs.Common.{◌≡◌, ℕ, Bool, List, ◌+◌, ◌-◌, ◌<◌, ◌++◌, ◌∷◌, [], length, get_or, sym, ◌∙◌, ap, subst, arith, length-append}
+use Rattle.std.proofs.Common.{◌≡◌, ℕ, Bool, List, ◌+◌, ◌-◌, ◌<◌, ◌++◌, ◌∷◌, []}
+use Rattle.std.proofs.Common.{length, get_or, refl, sym, ◌∙◌, ap, subst, arith, length-append}
 use Rattle.std.proofs.lemmas.List.{append-nil}
 use Rattle.shared_parts.specs.declared.pieces.Piece.{Piece}
-use Rattle.shared_parts.specs.Pieces.{number_at, PiecesLead}
+use Rattle.shared_parts.specs.Pieces.{number_at, Covers, PiecesLead}
 use Rattle.trie_merge.specs.declared.run.Run.{Run}
 use Rattle.trie_merge.specs.Led.{step_of}
 use Rattle.table_sizes.specs.Sizes.{cost_of}
@@ -24,7 +25,7 @@ runs_stand is_last found pieces old new is =
 
 pub overflow_sub-end : goal.overflow_sub-end
 overflow_sub-end c =
-    let old : List Run = c.args.pieces.now.runs.items in
+    let old : List Run = c.args.merged.now.pieces.runs.items in
     let its : List Run = runs_by c.args.place.now.is_last c.join_runs.new.found.keys c.pieces-its.result.now in
     let are = runs_stand c.args.place.now.is_last c.join_runs.new.found.keys c.pieces-its.result.now old
     c.join_runs.new.runs.items c.in_ok-join_runs.ensures.runs in
@@ -32,7 +33,7 @@ overflow_sub-end c =
       arith,
       c.len-start.ensures,
       c.len-end.ensures,
-      c.args.pieces.now.runs.ok,
+      c.args.merged.now.pieces.runs.ok,
       c.join_runs.new.runs.ok,
       ap length are,
       length-append old its,
@@ -40,8 +41,8 @@ overflow_sub-end c =
 
 pub returns-clause-merged : goal.returns-clause-merged
 returns-clause-merged c =
-    let old : List Run = c.args.pieces.now.runs.items in
-    let ends : List ℕ = c.args.pieces.now.ends.items in
+    let old : List Run = c.args.merged.now.pieces.runs.items in
+    let ends : List ℕ = c.args.merged.now.pieces.ends.items in
     let state : ℕ = c.args.state in
     let its : List Run = runs_by c.args.place.now.is_last c.join_runs.new.found.keys c.pieces-its.result.now in
     let are = runs_stand c.args.place.now.is_last c.join_runs.new.found.keys c.pieces-its.result.now old
@@ -50,8 +51,8 @@ returns-clause-merged c =
     omega (arith, c.len-end.ensures, c.join_runs.new.runs.ok, ap length are, length-append old its) in
     let led = c.in_ok-lead_parts.ensures.led.led in
     let within : state - 1 < length c.lead_parts.new.steps =
-    omega (arith, c.requires.some, c.in_ok-lead_parts.ensures.far) in
-    let back : state - 1 + 1 ≡ state = omega (arith, c.requires.some) in
+    omega (arith, c.requires.state.0, c.in_ok-lead_parts.ensures.far) in
+    let back : state - 1 + 1 ≡ state = omega (arith, c.requires.state.0) in
     let ended = c.in_ok-push.ensures.items ∙ ap (λ n. ends ++ n ∷ []) end in
     record {
       pieces = c.pieces-its.result.now;
@@ -65,13 +66,13 @@ returns-clause-merged c =
           c.cost_of.ensures.cost
           ∙ ap cost_of
           (let e : c.len-end.result - c.len-start.result ≡ length its =
-          omega (arith, end, c.len-start.ensures, c.args.pieces.now.runs.ok) in e);
+          omega (arith, end, c.len-start.ensures, c.args.merged.now.pieces.runs.ok) in e);
     }
 
 pub returns-clause-pieces : goal.returns-clause-pieces
 returns-clause-pieces c =
-    let old : List Run = c.args.pieces.now.runs.items in
-    let ends : List ℕ = c.args.pieces.now.ends.items in
+    let old : List Run = c.args.merged.now.pieces.runs.items in
+    let ends : List ℕ = c.args.merged.now.pieces.ends.items in
     let its : List Run = runs_by c.args.place.now.is_last c.join_runs.new.found.keys c.pieces-its.result.now in
     let are = runs_stand c.args.place.now.is_last c.join_runs.new.found.keys c.pieces-its.result.now old
     c.join_runs.new.runs.items c.in_ok-join_runs.ensures.runs in
@@ -80,3 +81,23 @@ returns-clause-pieces c =
     let ended = c.in_ok-push.ensures.items ∙ ap (λ n. ends ++ n ∷ []) end in
     subst (λ rs. IsPieces 0 c.push.new.self.items (length rs)) (sym are)
     (subst (λ es. IsPieces 0 es (length (old ++ its))) (sym ended) (IsPieces-push old its 0 ends c.requires.pieces))
+
+pub join_runs-requires-clause-pieces : goal.join_runs-requires-clause-pieces
+join_runs-requires-clause-pieces c =
+    let state : ℕ = c.args.state in
+    let within : state - 1 < length c.lead_parts.new.steps =
+    omega (arith, c.requires.state.0, c.in_ok-lead_parts.ensures.far) in
+    subst (λ pieces. Covers 0 pieces 256) (sym c.pieces-its.ensures)
+    (c.in_ok-lead_parts.ensures.led.led.covers (state - 1) within)
+
+pub returns-clause-led : goal.returns-clause-led
+returns-clause-led c = c.in_ok-lead_parts.ensures.led
+
+pub returns-clause-cuts : goal.returns-clause-cuts
+returns-clause-cuts c = refl
+
+pub returns-clause-words : goal.returns-clause-words
+returns-clause-words c = refl
+
+pub returns-clause-bound : goal.returns-clause-bound
+returns-clause-bound c = c.cost_of.ensures.bound

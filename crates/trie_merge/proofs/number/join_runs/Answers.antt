@@ -1,4 +1,5 @@
-use Rattle.std.proofs.Common.{◌≡◌, ℕ, ◌+◌, ◌-◌, ◌<◌, ◌++◌, ◌∷◌, [], List, length, get_or, cond, refl, sym, ◌∙◌, ap, subst, arith}
+use Rattle.std.proofs.Common.{◌≡◌, ℕ, ◌+◌, ◌-◌, ◌<◌, ◌++◌, ◌∷◌, [], List, length}
+use Rattle.std.proofs.Common.{get_or, cond, refl, sym, ◌∙◌, ap, subst, arith}
 use Rattle.shared_parts.specs.declared.pieces.Piece.{Piece}
 use Rattle.shared_parts.specs.Pieces.{number_at}
 use Rattle.shared_parts.proofs.Offered.{RestIs, no_piece, rest_all, rest_some, rest_below, rest_end, piece_from, piece_at}

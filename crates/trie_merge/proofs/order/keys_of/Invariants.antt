@@ -1,6 +1,6 @@
-use Rattle.std.proofs.Common.{◌≡◌, map, take}
-use Rattle.trie_merge.specs.declared.order.Keyed.{Keyed}
+use Rattle.std.proofs.Common.{◌≡◌, take}
+use Rattle.trie_merge.specs.Started.{numbers_in}
 use Rattle.trie_merge.proofs.order.keys_of.Given as goal
 
 abbrev pub invariant-loop-number : goal.invariant-loop-number
-invariant-loop-number l = map (λ (keyed : Keyed). keyed.number) l.keyed.items ≡ take l.number-index l.group
+invariant-loop-number l = numbers_in l.keys.rules.items ≡ take l.number-index l.group
