@@ -32,7 +32,7 @@ use Rattle.classbench_reader.specs.Joined.{PortTexts, SpellsRange}
 use Rattle.classbench_reader.specs.Lawful.{is_lawful, IsLawfulLine}
 use Rattle.classbench_reader.specs.Line.{rule_line_of}
 use Rattle.classbench_reader.proofs.NetworkBounds.{network_lawful, was_there}
-use Rattle.classbench_reader.proofs.SplitParts.{read_lines_are_joined_parts}
+use Rattle.classbench_reader.proofs.SplitLines.{read_lines_are_joined_parts}
 
 -- ports are numbers of 16 bits, in order
 ports_lawful : (ports : PortTexts) (value : FieldValue) → SpellsRange ports value →

@@ -210,10 +210,20 @@ protocol_of-text value mask small masked =
     let cut = cut_at-append slash (byte_text value) (byte_text mask) lacks in
     ap protocol_at cut ∙ rw ((reads_back value small).number, (reads_back mask masked).number) refl
 
--- the pieces of a line, written one after the other
-pub pieces_joined : (from to ports others proto its_tag : List ℕ)
-    → ((((((((((((([] ++ 64 ∷ []) ++ from) ++ tab ∷ []) ++ to) ++ tab ∷ []) ++ ports) ++ tab ∷ []) ++ others) ++
-    tab ∷ []) ++ proto)
-    ++ tab ∷ []) ++ its_tag) ++ line_feed ∷ [])
-    ≡ (64 ∷ (from ++ tab ∷ (to ++ tab ∷ (ports ++ tab ∷ (others ++ tab ∷ (proto ++ tab ∷ its_tag)))))) ++ line_feed ∷ []
-pieces_joined from to ports others proto its_tag = simp append_assoc
+-- the networks of a line, written piece by piece after a text
+pub networks_joined : (old from to : List ℕ)
+    → (((old ++ 64 ∷ []) ++ from) ++ tab ∷ []) ++ to ≡ old ++ 64 ∷ (from ++ tab ∷ to)
+networks_joined old from to = simp append_assoc
+
+-- and its columns
+pub columns_joined : (old ports others proto its_tag : List ℕ)
+    → (((((((old ++ tab ∷ []) ++ ports) ++ tab ∷ []) ++ others) ++ tab ∷ []) ++ proto) ++ tab ∷ []) ++ its_tag
+    ≡ old ++ tab ∷ (ports ++ tab ∷ (others ++ tab ∷ (proto ++ tab ∷ its_tag)))
+columns_joined old ports others proto its_tag = simp append_assoc
+
+-- both and the end of the line
+pub line_joined : (from to columns : List ℕ)
+    → (([] ++ 64 ∷ (from ++ tab ∷ to)) ++ tab ∷ columns) ++ line_feed ∷ []
+    ≡ (64 ∷ (from ++ tab ∷ (to ++ tab ∷ columns))) ++ line_feed ∷ []
+line_joined from to columns =
+    ap (λ text. 64 ∷ (text ++ line_feed ∷ [])) (append_assoc from (tab ∷ to) (tab ∷ columns))

@@ -1,4 +1,4 @@
--- A line that is read, split into its parts.
+-- The words and the ports of a line that is read, split off one by one.
 use Rattle.std.proofs.Common.{◌≡◌, ℕ, suc, ◌+◌, ◌<◌, ◌≤◌, Bool, true, false, not, ◌&&◌, ◌||◌, eqb, nat_le, List, [], ◌∷◌, ◌++◌, length}
 use Rattle.std.proofs.Common.{take, drop, Some, Result, Ok, Err, refl, sym, ap, subst, ◌∙◌, arith, append_assoc, append-nil, inl, inr}
 use Rattle.std.specs.List.{list_all, take_while, prefix_len}
@@ -11,27 +11,18 @@ use Rattle.list_lemmas.proofs.Elements.{prefix_len-whole}
 use Rattle.list_lemmas.proofs.Tests.{and_false}
 use Rattle.field_defs.specs.declared.field.FieldValue.{FieldValue}
 use Rattle.field_defs.specs.declared.field.FieldValue.TheVariants.{Range}
-use Rattle.text_scan.specs.Parts.{colon, is_blank, after_blanks, first_word, after_word, words_of}
+use Rattle.text_scan.specs.Parts.{colon, is_blank, after_blanks, first_word, after_word}
 use Rattle.text_scan.specs.Digits.{run_of, place_value}
 use Rattle.text_scan.specs.Numeral.{whole_number, begins_numeral, begins_hexadecimal, numeral_len, numeral_value, digits_of}
 use Rattle.text_scan.proofs.Offered.{whole_number-spelled}
 use Rattle.classbench_reader.specs.declared.network.Network.{Network}
-use Rattle.classbench_reader.specs.declared.line.RuleLine.{RuleLine}
-use Rattle.classbench_reader.specs.declared.attributes.Attributes.{Attributes}
-use Rattle.rule_set.specs.declared.rule.RuleTag.{RuleTag}
 use Rattle.classbench_reader.specs.declared.fault.LineKind.{LineKind}
-use Rattle.classbench_reader.specs.Limits.{max_port, at_sign}
+use Rattle.classbench_reader.specs.Limits.{max_port}
 use Rattle.classbench_reader.specs.Reading.{◌>>=◌, Read, read_of}
-use Rattle.classbench_reader.specs.Network.{network_of, family_of}
-use Rattle.classbench_reader.specs.Columns.{port_of, after_colon_of, range_of, ports_of, protocol_of, after_flags}
-use Rattle.classbench_reader.specs.Attributes.{attributes_of, tag_of}
-use Rattle.classbench_reader.specs.Line.{after_at_sign, next_network, beside_source, next_protocol, same_family}
-use Rattle.classbench_reader.specs.Line.{rule_line_of}
+use Rattle.classbench_reader.specs.Network.{network_of}
+use Rattle.classbench_reader.specs.Columns.{port_of, after_colon_of, range_of, ports_of, protocol_of}
 use Rattle.classbench_reader.specs.Joined.{IsBlanks, IsGap, PortTexts, port_text, SpellsRange, EndsTheWord, HasNoBlank}
-use Rattle.classbench_reader.specs.Joined.{IsJoined, ReadLinesAreJoinedParts}
 use Rattle.classbench_reader.proofs.PrintedParts.{after_high, after_colon, after_low}
-use Rattle.classbench_reader.proofs.PrintedLines.{made, with_attributes, with_words, with_protocol, with_others}
-use Rattle.classbench_reader.proofs.PrintedLines.{with_ports, with_destination, with_another, with_source, with_text}
 
 -- what was read first, and what was read of it
 pub bound : {A B K : Type 0} (read : Result A K) (next : A → Result B K) (b : B) → (read >>= next) ≡ Ok b →
@@ -40,10 +31,10 @@ bound (Ok a) next b is = (a, refl, is)
 bound (Err kind) next b is = absurd (cc)
 
 -- the bytes that pass at the beginning of a text, and what is left
-split_again : (p : ℕ → Bool) (text : List ℕ) → take_while p text ++ drop (length (take_while p text)) text ≡ text
+pub split_again : (p : ℕ → Bool) (text : List ℕ) → take_while p text ++ drop (length (take_while p text)) text ≡ text
 split_again p text = rw (length-prefix_len p text) (take-append-drop (prefix_len p text) text)
 
-all_pass : (p : ℕ → Bool) (text : List ℕ) → list_all p (take_while p text) ≡ true
+pub all_pass : (p : ℕ → Bool) (text : List ℕ) → list_all p (take_while p text) ≡ true
 all_pass p [] = refl
 all_pass p (c ∷ cs) = elim (cases_Bool (p c)) [
   | inl passes ↦ let more : 1 + prefix_len p cs ≡ suc (prefix_len p cs) = omega arith in
@@ -81,15 +72,15 @@ gap_of (c ∷ cs) ends some =
     record { blanks = all_pass is_blank (c ∷ cs); some = rw (ends, more) (omega arith) }
 
 -- A text that begins with a word that f reads, after blanks.
-record WordSplit {A : Type 0} (f : List ℕ → Result A LineKind) (text : List ℕ) (read : Read A) : Type 0 where
-  gap : List ℕ
-  word : List ℕ
-  joined : gap ++ (word ++ read.rest) ≡ text
-  blanks : IsBlanks gap
-  spaced : EndsTheWord text → IsGap gap
-  no_blank : HasNoBlank word
-  reads : f word ≡ Ok read.value
-  ends : EndsTheWord read.rest
+pub record WordSplit {A : Type 0} (f : List ℕ → Result A LineKind) (text : List ℕ) (read : Read A) : Type 0 where
+  pub gap : List ℕ
+  pub word : List ℕ
+  pub joined : gap ++ (word ++ read.rest) ≡ text
+  pub blanks : IsBlanks gap
+  pub spaced : EndsTheWord text → IsGap gap
+  pub no_blank : HasNoBlank word
+  pub reads : f word ≡ Ok read.value
+  pub ends : EndsTheWord read.rest
 
 -- a text of which f reads a word isn't empty
 text_some : {A : Type 0} (f : List ℕ → Result A LineKind) (text : List ℕ) (a : A) → (f [] ≡ Ok a → ⊥) →
@@ -97,7 +88,7 @@ text_some : {A : Type 0} (f : List ℕ → Result A LineKind) (text : List ℕ) 
 text_some f [] a none is = absurd (none is)
 text_some f (c ∷ cs) a none is = omega arith
 
-word_split : {A : Type 0} (f : List ℕ → Result A LineKind) (text : List ℕ) (read : Read A) →
+pub word_split : {A : Type 0} (f : List ℕ → Result A LineKind) (text : List ℕ) (read : Read A) →
     ((a : A) → f [] ≡ Ok a → ⊥) →
     (f (first_word (after_blanks text)) >>= (λ a. Ok (read_of a (after_word (after_blanks text))))) ≡ Ok read →
     WordSplit f text read
@@ -118,10 +109,10 @@ word_split {A = A} f text read none is =
       ends = after_word_ends left;
     }
 
-no_network : (network : Network) → network_of [] ≡ Ok network → ⊥
+pub no_network : (network : Network) → network_of [] ≡ Ok network → ⊥
 no_network network read = cc
 
-no_protocol : (value : FieldValue) → protocol_of [] ≡ Ok value → ⊥
+pub no_protocol : (value : FieldValue) → protocol_of [] ≡ Ok value → ⊥
 no_protocol value read = cc
 
 -- a number in hexadecimal, cut after its digits
@@ -259,14 +250,14 @@ range_split low high rest read is = elim (cases_Bool (eqb (length (first_word re
 ]
 
 -- Two ports at the beginning of a text, after blanks.
-record PortsSplit (text : List ℕ) (read : Read FieldValue) : Type 0 where
-  gap : List ℕ
-  ports : PortTexts
-  joined : gap ++ (port_text ports ++ read.rest) ≡ text
-  blanks : IsBlanks gap
-  spaced : EndsTheWord text → IsGap gap
-  spells : SpellsRange ports read.value
-  ends : EndsTheWord read.rest
+pub record PortsSplit (text : List ℕ) (read : Read FieldValue) : Type 0 where
+  pub gap : List ℕ
+  pub ports : PortTexts
+  pub joined : gap ++ (port_text ports ++ read.rest) ≡ text
+  pub blanks : IsBlanks gap
+  pub spaced : EndsTheWord text → IsGap gap
+  pub spells : SpellsRange ports read.value
+  pub ends : EndsTheWord read.rest
 
 -- the ports and what stands around them are the text again
 ports_joined : (text gap : List ℕ) (ports : PortTexts) (low_rest second rest : List ℕ) →
@@ -312,7 +303,7 @@ ports_of_parts text read low second high first colon_is last range =
       ends = range.ends;
     }
 
-ports_split : (text : List ℕ) (read : Read FieldValue) → ports_of text ≡ Ok read → PortsSplit text read
+pub ports_split : (text : List ℕ) (read : Read FieldValue) → ports_of text ≡ Ok read → PortsSplit text read
 ports_split text read is =
     let (low, low_read, after) = bound (port_of text) after_low read is in
     let (second, colon_read, later) = bound (after_colon_of (after_blanks low.rest)) (after_colon low.value) read
@@ -321,161 +312,3 @@ ports_split text read is =
     ports_of_parts text read low second high (port_split text low low_read)
     (colon_split (after_blanks low.rest) second colon_read) (port_split second high high_read)
     (range_split low.value high.value high.rest read last)
-
--- the `@` after blanks
-sign_split : (text after : List ℕ) → after_at_sign text ≡ Ok after → at_sign ∷ after ≡ text
-sign_split [] after is = absurd (cc)
-sign_split (c ∷ rest) after is = elim (cases_Bool (eqb c at_sign)) [
-  | inl same ↦ let found = rw same at is in let rest_is : rest ≡ after = cc in
-      rw (eqb-true c at_sign same, rest_is) refl
-  | inr other ↦ absurd (let fault = rw other at is in cc)
-]
-
--- the destination is of the source's family
-beside_split : (source : Network) (another to : Read Network) → beside_source source another ≡ Ok to →
-    (same_family (family_of source) (family_of another.value) ≡ true) × (another ≡ to)
-beside_split source another to is = elim (cases_Bool (same_family (family_of source) (family_of another.value))) [
-  | inl one ↦ (one, let found = rw one at is in cc)
-  | inr two ↦ absurd (let fault = rw two at is in cc)
-]
-
--- and what is read of it goes on
-beside_first : (ordinal : ℕ) (source : Network) (another : Read Network) (line : RuleLine) →
-    with_another ordinal source another ≡ Ok line →
-    (same_family (family_of source) (family_of another.value) ≡ true)
-    × (with_destination ordinal source another ≡ Ok line)
-beside_first ordinal source another line is =
-    let (to, beside, more) = bound (beside_source source another) (with_destination ordinal source) line is in
-    let split = beside_split source another to beside in
-    (split.0, rw split.1 more)
-
--- What was read of a line, part by part.
-record LineReads (ordinal : ℕ) (text : List ℕ) (line : RuleLine) : Type 0 where
-  after : List ℕ
-  source : Read Network
-  to : Read Network
-  ports : Read FieldValue
-  others : Read FieldValue
-  protocol : Read FieldValue
-  words : List (List ℕ)
-  attributes : Attributes
-  its_tag : RuleTag
-  sign : at_sign ∷ after ≡ after_blanks text
-  source_word : WordSplit network_of after source
-  to_word : WordSplit network_of source.rest to
-  one_family : same_family (family_of source.value) (family_of to.value) ≡ true
-  ports_read : PortsSplit to.rest ports
-  others_read : PortsSplit ports.rest others
-  protocol_word : WordSplit protocol_of others.rest protocol
-  flags : after_flags (words_of protocol.rest) ≡ Ok words
-  attributes_read : attributes_of words ≡ Ok attributes
-  tag : tag_of ordinal attributes ≡ Ok its_tag
-  is : made source.value to.value ports.value others.value protocol.value its_tag ≡ Ok line
-
-line_reads : (ordinal : ℕ) (text : List ℕ) (line : RuleLine) → rule_line_of ordinal text ≡ Ok line →
-    LineReads ordinal text line
-line_reads ordinal text line is =
-    let (after, sign, is1) = bound (after_at_sign (after_blanks text)) (with_text ordinal) line is in
-    let (source, source_read, is2) = bound (next_network after) (with_source ordinal) line is1 in
-    let (another, another_read, is3) = bound (next_network source.rest) (with_another ordinal source.value) line is2 in
-    let (one_family, is4) = beside_first ordinal source.value another line is3 in
-    let (ports, ports_read, is5) = bound (ports_of another.rest) (with_ports ordinal source.value another.value) line
-    is4 in
-    let (others, others_read, is6) = bound (ports_of ports.rest)
-    (with_others ordinal source.value another.value ports.value) line is5 in
-    let (protocol, protocol_read, is7) = bound (next_protocol others.rest)
-    (with_protocol ordinal source.value another.value ports.value others.value) line is6 in
-    let (words, flags, is8) = bound (after_flags (words_of protocol.rest))
-    (with_words ordinal source.value another.value ports.value others.value protocol.value) line is7 in
-    let (attributes, attributes_read, is9) = bound (attributes_of words)
-    (with_attributes ordinal source.value another.value ports.value others.value protocol.value) line is8 in
-    let (its_tag, tag, is10) = bound (tag_of ordinal attributes)
-    (made source.value another.value ports.value others.value protocol.value) line is9 in
-    record {
-      after = after;
-      source = source;
-      to = another;
-      ports = ports;
-      others = others;
-      protocol = protocol;
-      words = words;
-      attributes = attributes;
-      its_tag = its_tag;
-      sign = sign_split (after_blanks text) after sign;
-      source_word = word_split network_of after source no_network source_read;
-      to_word = word_split network_of source.rest another no_network another_read;
-      one_family = one_family;
-      ports_read = ports_split another.rest ports ports_read;
-      others_read = ports_split ports.rest others others_read;
-      protocol_word = word_split protocol_of others.rest protocol no_protocol protocol_read;
-      flags = flags;
-      attributes_read = attributes_read;
-      tag = tag;
-      is = is10;
-    }
-
-joined_of_reads : (ordinal : ℕ) (text : List ℕ) (line : RuleLine) → LineReads ordinal text line →
-    IsJoined ordinal text line
-joined_of_reads ordinal text line reads =
-    let from = reads.source_word in
-    let to = reads.to_word in
-    let ports = reads.ports_read in
-    let others = reads.others_read in
-    let protocol = reads.protocol_word in
-    let said : RuleLine = record {
-      source = reads.source.value;
-      destination = reads.to.value;
-      source_ports = reads.ports.value;
-      destination_ports = reads.others.value;
-      protocol = reads.protocol.value;
-      tag = reads.its_tag;
-    } in
-    let line_is : said ≡ line = let is = reads.is in cc in
-    subst (IsJoined ordinal text) line_is
-    record {
-      parts = record {
-        indent = take_while is_blank text;
-        after_sign = from.gap;
-        source = from.word;
-        first_gap = to.gap;
-        destination = to.word;
-        second_gap = ports.gap;
-        source_ports = ports.ports;
-        third_gap = others.gap;
-        destination_ports = others.ports;
-        fourth_gap = protocol.gap;
-        protocol = protocol.word;
-        tail = reads.protocol.rest;
-      };
-      joined =
-          rw (protocol.joined, others.joined, ports.joined, to.joined, from.joined, reads.sign)
-          (split_again is_blank text);
-      says = record {
-        indent = all_pass is_blank text;
-        after_sign = from.blanks;
-        source_word = from.no_blank;
-        source = from.reads;
-        first_gap = to.spaced from.ends;
-        destination_word = to.no_blank;
-        destination = to.reads;
-        one_family = reads.one_family;
-        second_gap = ports.spaced to.ends;
-        source_ports = ports.spells;
-        third_gap = others.spaced ports.ends;
-        destination_ports = others.spells;
-        fourth_gap = protocol.spaced others.ends;
-        protocol_word = protocol.no_blank;
-        protocol = protocol.reads;
-        tail = protocol.ends;
-        words = reads.words;
-        flags = reads.flags;
-        attributes = reads.attributes;
-        attributes_read = reads.attributes_read;
-        tag = reads.tag;
-      };
-    }
-
--- a line that is read, part by part
-pub read_lines_are_joined_parts : ReadLinesAreJoinedParts
-read_lines_are_joined_parts ordinal text line is =
-    joined_of_reads ordinal text line (line_reads ordinal text line is)

@@ -60,6 +60,24 @@ next_protocol text = do
   protocol ← protocol_of (first_word (after_blanks text))
   Ok (record { value = protocol; rest = after_word (after_blanks text) })
 
+-- what the columns after the addresses say beside these, as the rule of an ordinal
+abbrev pub columns_of : ℕ → Network → Network → List ℕ → Result RuleLine LineKind
+columns_of ordinal source destination text = do
+  source_ports ← ports_of text
+  destination_ports ← ports_of source_ports.rest
+  protocol ← next_protocol destination_ports.rest
+  words ← after_flags (words_of protocol.rest)
+  attributes ← attributes_of words
+  tag ← tag_of ordinal attributes
+  Ok (record {
+    source = source;
+    destination = destination;
+    source_ports = source_ports.value;
+    destination_ports = destination_ports.value;
+    protocol = protocol.value;
+    tag = tag;
+  })
+
 -- what a line says as the rule of an ordinal
 abbrev pub rule_line_of : ℕ → List ℕ → Result RuleLine LineKind
 rule_line_of ordinal line = do

@@ -122,6 +122,16 @@ tag_text its_tag =
     ++ (codes " cat=" ++
     (decimal its_tag.category_mask ++ (codes " data=" ++ decimal its_tag.userdata))))
 
+-- the networks of a line, and its columns after them
+abbrev pub networks_text : RuleLine → List ℕ
+networks_text line =
+    codes "@" ++ (network_text line.source ++ tab ∷ network_text line.destination)
+
+abbrev pub columns_text : RuleLine → List ℕ
+columns_text line =
+    tab ∷ (ports_text line.source_ports ++ tab ∷ (ports_text line.destination_ports
+    ++ tab ∷ (protocol_text line.protocol ++ tab ∷ tag_text line.tag)))
+
 -- the columns of a line, without what ends it
 abbrev pub line_text : RuleLine → List ℕ
 line_text line =

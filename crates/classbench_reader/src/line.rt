@@ -7,7 +7,7 @@ ghost use Rattle.std.specs.Prelude.{IfOk, MatchResult, Ok, Err};
 ghost use Rattle.rule_set.specs.Limits.{max_priority};
 ghost use Rattle.classbench_reader.specs.Reading.{read_of};
 ghost use Rattle.classbench_reader.specs.Network.{family_of, IsLawfulNetwork};
-ghost use Rattle.classbench_reader.specs.Line.{after_at_sign, is_skipped, next_network};
+ghost use Rattle.classbench_reader.specs.Line.{after_at_sign, columns_of, is_skipped, next_network};
 ghost use Rattle.classbench_reader.specs.Line.{next_protocol, rule_line_of, rule_of, same_family};
 ghost use Rattle.classbench_reader.specs.Lawful.{is_lawful, IsLawfulLine};
 
@@ -57,7 +57,24 @@ impl RuleLine {
         if !is_one_family(source.family(), destination.family()) {
             return Err(LineKind::MixedFamilies);
         }
-        let (source_ports, rest) = ports(rest)?;
+        RuleLine::read_columns(source, destination, rest, ordinal)
+    }
+
+    /// What a line says with these addresses, by the columns after them, or their first fault.
+    fn read_columns(
+        source: Network,
+        destination: Network,
+        text: &[u8],
+        ordinal: u32,
+    ) -> Result<RuleLine, LineKind>
+        requires ordinal { ordinal ≤ max_priority }
+        requires source { IsLawfulNetwork source }
+        requires destination { IsLawfulNetwork destination }
+        requires family { same_family (family_of source) (family_of destination) ≡ true }
+        ensures line { result ≡ columns_of ordinal source destination text.now }
+        ensures lawful { IfOk result IsLawfulLine }
+    {
+        let (source_ports, rest) = ports(text)?;
         let (destination_ports, rest) = ports(rest)?;
         let (protocol, rest) = next_protocol(rest)?;
         let tag = Attributes::read(after_flags(rest)?)?.tag(ordinal)?;

@@ -5,10 +5,10 @@ ghost use Rattle.std.specs.Fmt.{digit_glyph};
 ghost use Rattle.rule_set.specs.Lawful.{IsLawfulTag};
 ghost use Rattle.text_scan.specs.Parts.{line_feed};
 ghost use Rattle.classbench_reader.specs.Lawful.{is_lawful, IsLawfulLine};
-ghost use Rattle.classbench_reader.specs.Print.{IsPrintable, address_text, byte_text, ip4_network};
-ghost use Rattle.classbench_reader.specs.Print.{ip6_network, line_of_rule, line_text, network_text};
-ghost use Rattle.classbench_reader.specs.Print.{ports_text, protocol_text, rule_alone, rule_text};
-ghost use Rattle.classbench_reader.specs.Print.{tag_text};
+ghost use Rattle.classbench_reader.specs.Print.{IsPrintable, address_text, byte_text, columns_text};
+ghost use Rattle.classbench_reader.specs.Print.{ip4_network, ip6_network, line_of_rule, line_text};
+ghost use Rattle.classbench_reader.specs.Print.{network_text, networks_text, ports_text};
+ghost use Rattle.classbench_reader.specs.Print.{protocol_text, rule_alone, rule_text, tag_text};
 ghost use Rattle.classbench_reader.specs.RuleFile.{rule_file_of};
 
 use crate::line::RuleLine;
@@ -134,20 +134,35 @@ fn print_line(alloc: Global, line: &RuleLine) -> Result<Vec<u8>, AllocError>
     ensures { IfOk result (λ text. text.items ≡ line_text line.now ++ line_feed ∷ []) }
 {
     let mut text = Vec::new(alloc);
-    text.extend_from_slice(b"@")?;
-    put_network(&mut text, &line.source)?;
-    text.extend_from_slice(b"\t")?;
-    put_network(&mut text, &line.destination)?;
-    text.extend_from_slice(b"\t")?;
-    put_ports(&mut text, &line.source_ports)?;
-    text.extend_from_slice(b"\t")?;
-    put_ports(&mut text, &line.destination_ports)?;
-    text.extend_from_slice(b"\t")?;
-    put_protocol(&mut text, &line.protocol)?;
-    text.extend_from_slice(b"\t")?;
-    put_tag(&mut text, &line.tag)?;
+    put_networks(&mut text, line)?;
+    put_columns(&mut text, line)?;
     text.extend_from_slice(b"\n")?;
     Ok(text)
+}
+
+/// Writes `@` and the two networks of a line after the text.
+fn put_networks(text: &mut Vec<u8>, line: &RuleLine) -> Result<(), AllocError>
+    ensures { OnOk result (text.new.items ≡ text.old.items ++ networks_text line.now) }
+{
+    text.extend_from_slice(b"@")?;
+    put_network(text, &line.source)?;
+    text.extend_from_slice(b"\t")?;
+    put_network(text, &line.destination)
+}
+
+/// Writes the columns after the networks of a line after the text, each behind a tab.
+fn put_columns(text: &mut Vec<u8>, line: &RuleLine) -> Result<(), AllocError>
+    requires { IsLawfulLine line.now }
+    ensures { OnOk result (text.new.items ≡ text.old.items ++ columns_text line.now) }
+{
+    text.extend_from_slice(b"\t")?;
+    put_ports(text, &line.source_ports)?;
+    text.extend_from_slice(b"\t")?;
+    put_ports(text, &line.destination_ports)?;
+    text.extend_from_slice(b"\t")?;
+    put_protocol(text, &line.protocol)?;
+    text.extend_from_slice(b"\t")?;
+    put_tag(text, &line.tag)
 }
 
 /// Writes an address, `/` and its prefix length after the text.

@@ -1,8 +1,8 @@
 -- How a slice is filled part by part.
-use Rattle.std.proofs.Common.{◌≡◌, ℕ, ◌+◌, ◌<◌, ◌≤◌, List, [], ◌++◌, length, take, drop, Option, Some, None, Result, Ok, inl, inr, refl, sym, subst, ap, ◌∙◌, arith, add-zero, append-nil, length-take, length-drop, length-append}
+use Rattle.std.proofs.Common.{◌≡◌, ℕ, eqb, false, ◌+◌, ◌<◌, ◌≤◌, List, [], ◌++◌, length, take, drop, Option, Some, None, Result, Ok, Err, IfOk, OnErr, inl, inr, refl, sym, subst, ap, ◌∙◌, arith, add-zero, append-nil, length-take, length-drop, length-append}
 use Rattle.std.specs.Option.{option_map_or}
 use Rattle.std.proofs.Math.Seq.{take-append-add}
-use Rattle.std.proofs.lemmas.Bool.{lt-ltb, le-ltb}
+use Rattle.std.proofs.lemmas.Bool.{eqb-false, lt-ltb, le-ltb}
 use Rattle.std.proofs.lemmas.List.{length-take-le, take-append-le}
 use borrow.Rule.Slice.PartMut.{put_mid}
 use Rattle.acl_outside.specs.Fault.{Rose}
@@ -10,8 +10,9 @@ use Rattle.acl_outside.specs.Told.{Steps}
 use Rattle.acl_outside.specs.Desk.{Content, DeskView, Gives, ReadsInto}
 use Rattle.acl_outside.specs.Heard.{Ended, with_ending}
 use Rattle.acl_outside.proofs.Offered.{KeepsMade-same, KeepsMade-join, KeepsMade-read, KeepsCounts-same, KeepsCounts-join}
+use Rattle.acl_outside.proofs.Offered.{ReadsOn-none, ReadsOn-given, ReadsOn-ended, ReadsOn-failed}
 use Rattle.acl_outside.specs.Reading.{ReadsOn, and_goes_on}
-use Rattle.pcap_reader.specs.Fill.{KeepsReading, IsAtEnd, after_fill}
+use Rattle.pcap_reader.specs.Fill.{KeepsReading, IsAtEnd, BreaksOff, Fills, FillsOn, after_fill}
 
 -- what was read after the first len bytes stands after them
 pub take-put_mid : (len size count : ℕ) (xs part : List ℕ) → len ≤ length xs → count ≤ length part →
@@ -123,3 +124,89 @@ reads-full room count bytes old new full reads = rw (le-ltb count room full) at 
 pub reads-short : (room count : ℕ) (bytes : List ℕ) (old new : DeskView) → count < room →
     ReadsOn (after_fill room count) bytes old new → ReadsOn (with_ending Ended) bytes old new
 reads-short room count bytes old new less reads = rw (lt-ltb count room less) at reads
+
+-- nothing was asked for a slice with no room
+pub Fills-empty : {E : Type 0} (into : List ℕ) (view : DeskView) → length into ≡ 0 →
+    Fills {E = E} into into view view (Ok 0)
+Fills-empty into view empty = record {
+  within = omega arith;
+  reads = after_fill-full (length into) 0 [] view view (omega (arith, empty)) (ReadsOn-none view);
+  end = λ less. absurd (omega (arith, less, empty));
+  breaks_off = tt;
+  cause = tt;
+  keeps = KeepsReading-same view;
+}
+
+-- a slice that isn't empty has room
+pub some_room : (room : ℕ) → eqb room 0 ≡ false → 0 < room
+some_room room filled = let other = eqb-false room 0 filled in omega (arith, other)
+
+-- one read filled a slice
+pub Fills-full : {E F : Type 0} (into_old into_new : List ℕ) (count : ℕ) (old new : DeskView) → 0 < length into_old →
+    length into_new ≡ length into_old → count ≡ length into_new →
+    ReadsInto {E = E} into_old into_new old new (Ok count) → Fills {E = F} into_old into_new old new (Ok count)
+Fills-full into_old into_new count old new some same full read = record {
+  within = read.within;
+  reads = after_fill-full (length into_old) count (take count into_new) old new (omega (arith, full, same))
+      (ReadsOn-given into_old into_new count old new read
+      (omega (arith, length-take count into_new, full, same, some)));
+  end = λ less. absurd (omega (arith, less, full, same));
+  breaks_off = tt;
+  cause = tt;
+  keeps = KeepsReading-one into_old into_new (Ok count) old new read;
+}
+
+-- one read met the end of the file
+pub Fills-ended : {E F : Type 0} (into_old into_new : List ℕ) (count : ℕ) (old new : DeskView) → 0 < length into_old →
+    count ≡ 0 → ReadsInto {E = E} into_old into_new old new (Ok count) →
+    Fills {E = F} into_old into_new old new (Ok count)
+Fills-ended {E = E} {F = F} into_old into_new count old new some none =
+    subst (λ n. ReadsInto {E = E} into_old into_new old new (Ok n) → Fills {E = F} into_old into_new old new (Ok n))
+    (sym none)
+    (λ read. record {
+      within = read.within;
+      reads = after_fill-short (length into_old) 0 [] old new some
+          (ReadsOn-ended into_old into_new old new read some);
+      end = λ less. IsAtEnd-read into_old into_new old new some read;
+      breaks_off = tt;
+      cause = tt;
+      keeps = KeepsReading-one into_old into_new (Ok 0) old new read;
+    })
+
+-- one read failed
+pub Fills-failed : {E F : Type 0} (into_old into_new : List ℕ) (old new : DeskView) (fault : E) (answer : F) →
+    0 < length into_old →
+    ReadsInto into_old into_new old new (Err fault) → Fills into_old into_new old new (Err answer)
+Fills-failed into_old into_new old new fault answer some read = record {
+  within = tt;
+  reads = tt;
+  end = tt;
+  breaks_off = record { bytes = []; few = some; reads = ReadsOn-failed fault into_old into_new old new read };
+  cause = read.cause;
+  keeps = KeepsReading-one into_old into_new (Err fault) old new read;
+}
+
+-- a slice of the same room
+Fills-room : {E : Type 0} (into_old other into_new : List ℕ) (old new : DeskView) (result : Result ℕ E) →
+    length other ≡ length into_old → Fills other into_new old new result → Fills into_old into_new old new result
+Fills-room into_old other into_new old new result same fills = record {
+  within = subst (λ n. IfOk result (λ count. count ≤ n)) same fills.within;
+  reads = subst (λ n. IfOk result (λ count. ReadsOn (after_fill n count) (take count into_new) old new)) same
+      fills.reads;
+  end = subst (λ n. IfOk result (λ count. count < n → IsAtEnd new)) same fills.end;
+  breaks_off = subst (λ n. OnErr result (BreaksOff n old new)) same fills.breaks_off;
+  cause = fills.cause;
+  keeps = fills.keeps;
+}
+
+-- one read gave some bytes, and the rest was filled after it
+pub Fills-on : {E F : Type 0} (into_old into_mid into_new : List ℕ) (count : ℕ) (old mid new : DeskView)
+    (result : Result ℕ F) → 0 < count → length into_mid ≡ length into_old →
+    ReadsInto {E = E} into_old into_mid old mid (Ok count) → FillsOn count into_mid into_new mid new result →
+    Fills into_old into_new old new result
+Fills-on into_old into_mid into_new count old mid new result some same read on =
+    Fills-room into_old into_mid into_new old new result same
+    (on old
+    (ReadsOn-given into_old into_mid count old mid read
+    (omega (arith, length-take count into_mid, same, some, read.within)))
+    (KeepsReading-one into_old into_mid (Ok count) old mid read))

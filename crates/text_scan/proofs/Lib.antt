@@ -3,7 +3,9 @@ mod AddressBytes
 mod Cuts
 mod Forms
 mod Gaps
+mod Ip4Texts
 mod Ip6Texts
+mod Leading
 mod Numerals
 mod PlaceValues
 mod Powers

@@ -38,3 +38,5 @@ pub use Rattle.text_scan.proofs.AddressBytes.{ip6_spelling-colon}
 -- length-ip4_spelling-le: a printed IPv4 address has at most 15 bytes
 -- length-ip6_spelling-le: and a printed IPv6 address at most 39
 pub use Rattle.text_scan.proofs.Spellings.{length-ip4_spelling-le, length-ip6_spelling-le}
+-- numeral_len-within: a number that a text begins with takes no more bytes than there are
+pub use Rattle.text_scan.proofs.Leading.{numeral_len-within}

@@ -26,6 +26,11 @@ ip4_value text = number_of (map (place_value 10) (parts_of dot text))
 abbrev pub ip4_of : List ℕ → Option ℕ
 ip4_of text = if is_ip4 text then Some (ip4_value text) else None
 
+-- the address that groups spell, where each is one
+abbrev pub address_of : List (List ℕ) → Option ℕ
+address_of groups =
+    if list_all is_ip4_group groups then Some (number_of (map (place_value 10) groups)) else None
+
 -- the four bytes of an address, the most significant first
 abbrev pub ip4_bytes : ℕ → List ℕ
 ip4_bytes value =

@@ -1,8 +1,8 @@
 //! IPv4 addresses in text.
 
-ghost use Rattle.std.specs.Prelude.{◌≡◌, ◌≤◌, if◌then◌else◌, length, take, drop};
+ghost use Rattle.std.specs.Prelude.{◌≡◌, ◌≤◌, [], ◌∷◌, if◌then◌else◌, length, take, drop};
 ghost use Rattle.text_scan.specs.Digits.{place_value};
-ghost use Rattle.text_scan.specs.Ip4.{ip4_of, ip4_spelling, is_ip4_group};
+ghost use Rattle.text_scan.specs.Ip4.{address_of, ip4_of, ip4_spelling, is_ip4_group};
 
 use crate::digits::{group_value, put_groups};
 use crate::parts::{split_in_two, split_once};
@@ -19,6 +19,13 @@ pub fn ip4_text(bytes: &[u8]) -> Option<u32>
     let (first, rest) = split_once(bytes, b'.')?;
     let (second, rest) = split_once(rest, b'.')?;
     let (third, fourth) = split_in_two(rest, b'.')?;
+    address_of(first, second, third, fourth)
+}
+
+/// The address whose bytes four groups spell, the most significant first.
+fn address_of(first: &[u8], second: &[u8], third: &[u8], fourth: &[u8]) -> Option<u32>
+    ensures { result ≡ address_of (first.now ∷ second.now ∷ third.now ∷ fourth.now ∷ []) }
+{
     Some(u32::from_be_bytes([
         group_byte(first)?,
         group_byte(second)?,

@@ -1,5 +1,7 @@
-use Rattle.std.proofs.Common.{◌≡◌, ◌≤◌, ◌<◌, ◌+◌, [], ◌++◌, Some, Ok, Err, length, take, inl, inr, refl, ap, ◌∙◌, append-nil, arith, length-take, length-drop}
+use Rattle.std.proofs.Common.{◌≡◌, ◌≤◌, ◌<◌, ◌+◌, [], ◌++◌, Some, Result, Ok, Err, length, take, inl, inr, refl, ap, ◌∙◌, append-nil, arith, length-take, length-drop}
 use Rattle.std.proofs.lemmas.Result.{err_from_is_err_and}
+use Rattle.acl_outside.specs.declared.reading.ReadAll.{ReadAll}
+use Rattle.acl_outside.specs.declared.reading.ReadAll.TheVariants.{ReadFault, OutOfMemory}
 use Rattle.acl_outside.specs.Desk.{Content, ReadsInto}
 use Rattle.acl_outside.specs.Heard.{Ended, BrokenOff, with_ending}
 use Rattle.acl_outside.specs.Reading.{and_goes_on}
@@ -21,6 +23,13 @@ parts-init g c = record {
   absent = refl;
   counts = KeepsCounts-same (g.D.Desk.view c.args.desk.now);
 }
+
+-- bytes are no fault, and want of memory is no read fault
+not_failed : {A : Type 0} (bytes : A) (fault : ReadAll) → Ok bytes ≡ Err fault → ⊥
+not_failed bytes fault is = cc
+
+no_read_fault : {A : Type 0} (result : Result A ReadAll) → result ≡ Err OutOfMemory → result ≡ Err ReadFault → ⊥
+no_read_fault result want read = cc
 
 pub parts-preserved : goal.parts-preserved
 parts-preserved g c =
@@ -45,11 +54,11 @@ parts-preserved g c =
           c.parts.invariant.read
           (ReadsOn-given _ c.read.new.into c.in-Ok.count (g.D.Desk.view c.parts.desk) (g.D.Desk.view c.read.new.self)
           c.in-Ok.ensures some));
-      reading = cc;
-      writing = cc;
+      reading = c.in-Ok.ensures.reading ∙ c.parts.invariant.reading;
+      writing = c.in-Ok.ensures.writing ∙ c.parts.invariant.writing;
       made = KeepsMade-join _ _ _ c.parts.invariant.made
           (KeepsMade-read _ c.read.new.into (Ok c.in-Ok.count) _ _ c.in-Ok.ensures);
-      absent = cc;
+      absent = c.in-Ok.ensures.absent ∙ c.parts.invariant.absent;
       counts = KeepsCounts-join _ _ _ c.parts.invariant.counts c.in-Ok.ensures.counts;
     }
 
@@ -64,7 +73,7 @@ returns-in_err-make_room g c =
       lost = (take c.parts.len c.parts.bytes.items, c.parts.invariant.read);
       reading = c.parts.invariant.reading;
       writing = c.parts.invariant.writing;
-      read_fault = λ e. absurd (cc);
+      read_fault = λ e. absurd (no_read_fault _ refl e);
       absent = c.parts.invariant.absent;
       made = c.parts.invariant.made;
       counts = c.parts.invariant.counts;
@@ -83,10 +92,10 @@ returns-in-Err g c = record {
         (ReadsOn-failed c.in-Err.field-0 _ c.read.new.into (g.D.Desk.view c.parts.desk) (g.D.Desk.view c.read.new.self)
         c.in-Err.ensures),
   );
-  reading = cc;
-  writing = cc;
+  reading = c.in-Err.ensures.reading ∙ c.parts.invariant.reading;
+  writing = c.in-Err.ensures.writing ∙ c.parts.invariant.writing;
   read_fault = λ e. omega (arith, c.parts.invariant.counts.read_faults, c.in-Err.ensures.cause);
-  absent = cc;
+  absent = c.in-Err.ensures.absent ∙ c.parts.invariant.absent;
   made = KeepsMade-join _ _ _ c.parts.invariant.made
       (KeepsMade-read _ c.read.new.into (Err c.in-Err.field-0) _ _ c.in-Err.ensures);
   counts = KeepsCounts-join _ _ _ c.parts.invariant.counts c.in-Err.ensures.counts;
@@ -110,7 +119,7 @@ returns g c = elim c.parts-test.branch [
         lost = tt;
         reading = c.parts.invariant.reading;
         writing = c.parts.invariant.writing;
-        read_fault = λ e. absurd (cc);
+        read_fault = λ e. absurd (not_failed _ ReadFault e);
         absent = c.parts.invariant.absent;
         made = c.parts.invariant.made;
         counts = c.parts.invariant.counts;
@@ -152,10 +161,10 @@ returns g c = elim c.parts-test.branch [
               few,
             ));
         lost = tt;
-        reading = cc;
-        writing = cc;
-        read_fault = λ e. absurd (cc);
-        absent = cc;
+        reading = read.reading ∙ c.parts.invariant.reading;
+        writing = read.writing ∙ c.parts.invariant.writing;
+        read_fault = λ e. absurd (not_failed _ ReadFault e);
+        absent = read.absent ∙ c.parts.invariant.absent;
         made = KeepsMade-join _ _ _ c.parts.invariant.made (KeepsMade-read _ w.read.new.into (Ok 0) _ _ read);
         counts = KeepsCounts-join _ _ _ c.parts.invariant.counts read.counts;
       }
