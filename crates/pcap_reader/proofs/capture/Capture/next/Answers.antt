@@ -7,8 +7,9 @@ use Rattle.pcap_reader.proofs.capture.Capture.next.Goals as goal
 pub returns-then-eq : goal.returns-then-eq
 returns-then-eq g c =
     let own = c.self.inside.state in
-    let is = ended own.progress c.eq.result c.eq.ensures c.if-eq.true in (
-      (refl, (λ whole. tt), ap (state_of own.start own.count) is ∙ ap (λ state. state_after state (Ok None)) c.self.view_is),
+    let is = ended own.progress c.eq.result c.eq.ensures c.if-eq.true in
+    let shows = ap (λ state. state_after state (Ok None)) c.self.view_is in (
+      (refl, (λ whole. tt), ap (state_of own.start own.count) is ∙ shows),
       record {
         «record» = TakesNext-ended c.args.self.now (g.D.Desk.view c.args.desk.now)
             (sym (ap (λ state. state.progress) c.self.view_is) ∙ is);
