@@ -1,7 +1,7 @@
 -- The rules of the lines that were read, and what the lines that are left say.
 use Rattle.std.proofs.Common.{◌≡◌, ℕ, ◌+◌, ◌<◌, ◌≤◌, false, nat_lt, List, [], ◌∷◌, ◌++◌, length, ◌⊎◌, Result, Ok, Err}
 use Rattle.std.proofs.Common.{refl, sym, ap, ◌∙◌, arith, inl, inr, append_assoc, append-nil, length-append}
-use Rattle.std.proofs.lemmas.Bool.{cases_Bool, ltb-false, le-ltb}
+use Rattle.std.proofs.lemmas.Bool.{cases_Bool, cond-true, ltb-false, le-ltb}
 use Rattle.field_defs.specs.Layout.{ip4_fields, ip6_fields}
 use Rattle.field_defs.specs.declared.field.Family.{Family}
 use Rattle.field_defs.specs.declared.field.Family.TheVariants as family
@@ -9,12 +9,14 @@ use Rattle.rule_set.specs.Limits.{max_rules}
 use Rattle.rule_set.specs.Rule.{RuleView, RuleSetView}
 use Rattle.text_scan.specs.Parts.{lines_of}
 use Rattle.classbench_reader.specs.declared.fault.LineFault.{LineFault}
+use Rattle.classbench_reader.specs.declared.fault.LineKind.{LineKind}
+use Rattle.classbench_reader.specs.declared.fault.LineKind.TheVariants.{TooManyRules}
 use Rattle.classbench_reader.specs.declared.fault.RulesFault.{RulesFault}
 use Rattle.classbench_reader.specs.declared.fault.RulesFault.TheVariants.{Line, OutOfMemory}
 use Rattle.classbench_reader.specs.declared.line.RuleLine.{RuleLine}
 use Rattle.classbench_reader.specs.declared.rule_file.RuleFile.{RuleFile}
 use Rattle.classbench_reader.specs.Limits.{max_rule_file}
-use Rattle.classbench_reader.specs.Line.{is_skipped, rule_of, family_of_line, same_family}
+use Rattle.classbench_reader.specs.Line.{is_skipped, rule_of, rule_line_of, family_of_line, same_family}
 use Rattle.classbench_reader.specs.RuleFile.{numbered_from, counted_line_of, line_then, rule_lines_from}
 use Rattle.classbench_reader.specs.RuleFile.{rules_of_family, rule_file_of}
 use Rattle.classbench_reader.specs.Files.{HoldsRules, HasRoom, file_with, ReadsLine, IsFaulty, RefusesLine}
@@ -74,12 +76,17 @@ pub record IsNextLine (bytes : List ℕ) (file : RuleFile) (number ordinal : ℕ
   pub cut : lines_of left ≡ line ∷ lines_of rest
   pub shorter : length rest < length left
 
+-- a fault is no line
+no_line : (kind : LineKind) (says : RuleLine) → Err kind ≡ Ok says → ⊥
+no_line kind says is = cc
+
 -- there are no more rules than there may be
 pub within_limit : (ordinal : ℕ) (line : List ℕ) (says : RuleLine) → counted_line_of ordinal line ≡ Ok says
     → ordinal ≤ max_rules
 within_limit ordinal line says read =
     elim (cases_Bool (nat_lt max_rules ordinal)) [
-      | inl above ↦ absurd (let refused = rw above at read in cc)
+      | inl above ↦ absurd (no_line TooManyRules says
+          (sym (cond-true (nat_lt max_rules ordinal) (Err TooManyRules) (rule_line_of ordinal line) above) ∙ read))
       | inr within ↦ ltb-false max_rules ordinal within
     ]
 

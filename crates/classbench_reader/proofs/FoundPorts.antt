@@ -1,5 +1,6 @@
 -- The port that a text begins with, by the number that is found after its blanks.
-use Rattle.std.proofs.Common.{◌≡◌, ℕ, ◌≤◌, cond, nat_le, List, length, drop, Some, None, Result, Ok, Err, sym, ap, ◌∙◌, ◌+◌, arith}
+use Rattle.std.proofs.Common.{◌≡◌, ℕ, ◌≤◌, cond, nat_le, List, length, drop, Some, None, Result, Ok, Err}
+use Rattle.std.proofs.Common.{sym, ap, ◌∙◌, ◌+◌, arith}
 use Rattle.std.proofs.lemmas.Bool.{and_parts, cond-true, cond-false, leb-true}
 use Rattle.list_lemmas.proofs.Tests.{test_passed, test_failed}
 use Rattle.text_scan.specs.Parts.{after_blanks}
@@ -14,7 +15,8 @@ use Rattle.classbench_reader.specs.Columns.{port_of}
 -- the port that a text begins with, which has no blanks in front
 abbrev port_at : List ℕ → Result (Read ℕ) LineKind
 port_at rest =
-    cond (begins_numeral max_port rest) (Ok (read_of (numeral_value rest) (drop (numeral_len rest) rest))) (Err BadPorts)
+    cond (begins_numeral max_port rest)
+    (Ok (read_of (numeral_value rest) (drop (numeral_len rest) rest))) (Err BadPorts)
 
 -- A number that is a port stands after the blanks of a text, and ends within it.
 pub record FindsPort (text rest : List ℕ) (port end : ℕ) : Type 0 where
@@ -25,7 +27,8 @@ pub record FindsPort (text rest : List ℕ) (port end : ℕ) : Type 0 where
 pub FindsPort-from : (text rest : List ℕ) (port end : ℕ) → rest ≡ after_blanks text
     → Some (port, end) ≡ numeral_at rest 0 max_port → FindsPort text rest port end
 FindsPort-from text rest port end left found =
-    let passed = test_passed (begins_numeral max_port rest) (numeral_value rest, 0 + numeral_len rest) (port, end) found in
+    let passed = test_passed (begins_numeral max_port rest) (numeral_value rest, 0 + numeral_len rest) (port, end)
+    found in
     let value : port ≡ numeral_value rest = ap (λ (p : ℕ × ℕ). p.0) passed.1 in
     let len : end ≡ numeral_len rest = omega (arith, ap (λ (p : ℕ × ℕ). p.1) passed.1) in
     let small = (and_parts (nat_le 1 (length (digits_of rest))) _ passed.0).1 in

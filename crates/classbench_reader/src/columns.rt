@@ -30,6 +30,18 @@ pub fn ports(text: &[u8]) -> Result<(FieldValue, &[u8]), LineKind>
 {
     let (low, rest) = port(text)?;
     let (high, rest) = port(after_colon(after_blanks(rest))?)?;
+    range(low, high, rest)
+}
+
+/// The range between two ports and the text after it. A blank or nothing follows.
+fn range(low: u64, high: u64, rest: &[u8]) -> Result<(FieldValue, &[u8]), LineKind>
+    requires low { low ≤ MAX_PORT }
+    requires high { high ≤ MAX_PORT }
+    ensures range { MatchResult result
+        (λ read. range_of low high rest.now ≡ Ok (read_of read.0 read.1.now))
+        (λ kind. range_of low high rest.now ≡ Err kind) }
+    ensures lawful { IfOk result (λ read. IsTrue (is_lawful FieldKind.Range 2 read.0)) }
+{
     if !ends_word(rest) {
         return Err(LineKind::BadPorts);
     }
