@@ -1,6 +1,6 @@
 -- The number that a text begins with: its mark, its length, and whether it is within a bound.
-use Rattle.std.proofs.Common.{◌≡◌, ℕ, ◌+◌, ◌-◌, ◌^◌, ◌≤◌, Bool, true, false, ◌&&◌, ◌||◌, cond, eqb, nat_le, List, [], ◌∷◌}
-use Rattle.std.proofs.Common.{length, drop, Option, Some, None, refl, sym, ap, ◌∙◌, inl, inr, arith, length-take}
+use Rattle.std.proofs.Common.{◌≡◌, ℕ, ◌+◌, ◌-◌, ◌^◌, ◌≤◌, Bool, true, false, ◌&&◌, ◌||◌, cond, eqb, nat_le}
+use Rattle.std.proofs.Common.{List, [], ◌∷◌, length, drop, Option, Some, None, refl, sym, ap, ◌∙◌, inl, inr, arith, length-take}
 use Rattle.std.proofs.Common.{length-drop, zero-add}
 use Rattle.std.proofs.lemmas.Bool.{and_cases, and_left, and_right, and_parts, cases_Bool, cond-false, false≢true}
 use Rattle.std.proofs.lemmas.Bool.{leb-false, lt-leb}

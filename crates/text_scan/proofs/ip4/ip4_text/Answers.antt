@@ -10,7 +10,8 @@ returns-in_err-first c =
 
 pub returns-in_err-second : goal.returns-in_err-second
 returns-in_err-second c =
-    let parts = c.in_ok-first.ensures.parts ∙ ap (λ rest. c.in_ok-first.first.now ∷ rest) c.in_err-second.ensures.parts in
+    let first = c.in_ok-first.first.now in
+    let parts = c.in_ok-first.ensures.parts ∙ ap (λ rest. first ∷ rest) c.in_err-second.ensures.parts in
     c.from_residual-in_err-second.ensures ∙ sym (ip4_of-other c.args.bytes.now _ parts refl)
 
 pub returns-in_err-third : goal.returns-in_err-third
@@ -26,7 +27,7 @@ pub returns : goal.returns
 returns c =
     let first = c.in_ok-first.first.now in
     let second = c.in_ok-second.second.now in
-    let parts = c.in_ok-first.ensures.parts
-    ∙ ap (λ rest. first ∷ rest) (c.in_ok-second.ensures.parts ∙ ap (λ rest. second ∷ rest) c.in_ok-third.ensures.parts) in
+    let rest = c.in_ok-second.ensures.parts ∙ ap (λ last. second ∷ last) c.in_ok-third.ensures.parts in
+    let parts = c.in_ok-first.ensures.parts ∙ ap (λ more. first ∷ more) rest in
     c.address_of.ensures
     ∙ sym (ip4_of-four c.args.bytes.now first second c.in_ok-third.third.now c.in_ok-third.fourth.now parts)
