@@ -1,5 +1,5 @@
 -- How `build` ends, link by link.
-use Rattle.std.proofs.Common.{◌≡◌, ◌≤◌, ℕ, List, ◌∷◌, length, false, Option, Some, Ok, Err, inl, inr, refl, sym, subst, ap}
+use Rattle.std.proofs.Common.{◌≡◌, ◌≤◌, ℕ, List, length, false, Option, Some, Ok, Err, inl, inr, refl, sym, subst, ap}
 use Rattle.std.proofs.Common.{◌∙◌, arith}
 use Rattle.std.proofs.lemmas.Bool.{false≢true}
 use Rattle.field_defs.specs.declared.field.Family.TheVariants.{Ip4, Ip6}
@@ -16,7 +16,7 @@ use Rattle.acl_outside.specs.Heard.{Heard}
 use Rattle.classbench_reader.specs.RuleFile.{RuleLists, rule_file_of}
 use Rattle.command_words.specs.Command.{Build}
 use Rattle.command_plan.specs.declared.status.Status.{Status}
-use Rattle.command_plan.specs.declared.status.Status.TheVariants.{Done, OutOfMemory, RulesRefused, WriteFault}
+use Rattle.command_plan.specs.declared.status.Status.TheVariants.{Done, RulesRefused, WriteFault}
 use Rattle.command_plan.specs.Plan.{◌>>=◌, Outcome, Plan, Give, making}
 use Rattle.command_plan.specs.Endings.{is_decided, is_reported, is_usage}
 use Rattle.command_plan.specs.Effects.{Outside, EndsMaking, MakesAll, Takes, files_of, heard_of}

@@ -1,4 +1,3 @@
-use Rattle.std.proofs.Common.{inr}
 use Rattle.capture_report.specs.Classifier.{lists_of}
 use Rattle.acl_tool.proofs.Building.{image_saved, saved_both}
 use Rattle.acl_tool.proofs.build.image_of.Goals as goal

@@ -1,4 +1,4 @@
-use Rattle.std.proofs.Common.{ap, subst}
+use Rattle.std.proofs.Common.{subst}
 use Rattle.rule_set.specs.Rule.{RuleSetView}
 use Rattle.classbench_reader.specs.RuleFile.{RuleLists}
 use Rattle.acl_tool.specs.Built.{IsBuilt}

@@ -1,5 +1,5 @@
 -- Rules and table say the same of the keys.
-use Rattle.std.proofs.Common.{◌≡◌, ◌+◌, ℕ, length, Option, Some, IfSome, ap, subst, ◌∙◌}
+use Rattle.std.proofs.Common.{◌≡◌, ◌+◌, length, Option, Some, IfSome, ap, subst, ◌∙◌}
 use Rattle.std.specs.List.{concat}
 use Rattle.std.specs.Option.{unwrap_or}
 use Rattle.rule_set.specs.Rule.{RuleSetView}

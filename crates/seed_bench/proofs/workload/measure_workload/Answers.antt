@@ -8,7 +8,7 @@ use Rattle.acl_context.specs.Context.{ContextView, built_of}
 use Rattle.workload_gen.specs.Workload.{WorkloadView, keys_of}
 use Rattle.command_words.specs.CommandLine.{numbers_in}
 use Rattle.seed_bench.specs.Tally.{tally_of}
-use Rattle.seed_bench.specs.Bench.{bench_budget, keys_drawn, set_drawn, table_drawn, verdicts_on_keys}
+use Rattle.seed_bench.specs.Bench.{bench_budget, keys_drawn, set_drawn, verdicts_on_keys}
 use Rattle.seed_bench.proofs.Measuring.{length-rules}
 use Rattle.seed_bench.proofs.workload.measure_workload.Goals as goal
 

@@ -1,4 +1,4 @@
-use Rattle.std.proofs.Common.{◌≡◌, ◌+◌, ◌*◌, ◌∙◌, ℕ, List, sym, ap, arith, Ok, sum}
+use Rattle.std.proofs.Common.{◌+◌, ◌*◌, ◌∙◌, ℕ, List, sym, ap, arith, Ok, sum}
 use Rattle.std.proofs.lemmas.List.Sums.{sum_by-append}
 use Rattle.std.proofs.lemmas.Result.{err_from_is_err_and}
 use Rattle.flat_table.specs.Sound.{leads_into, first_level}
