@@ -1,5 +1,5 @@
 -- How `build` ends, link by link.
-use Rattle.std.proofs.Common.{◌≡◌, ◌≤◌, ℕ, List, ◌∷◌, length, false, Option, Some, Ok, Err, inl, inr, refl, sym, subst, ap}
+use Rattle.std.proofs.Common.{◌≡◌, ◌≤◌, ℕ, List, length, false, Option, Some, Ok, Err, inl, inr, refl, sym, subst, ap}
 use Rattle.std.proofs.Common.{◌∙◌, arith}
 use Rattle.std.proofs.lemmas.Bool.{false≢true}
 use Rattle.field_defs.specs.declared.field.Family.TheVariants.{Ip4, Ip6}
@@ -16,7 +16,7 @@ use Rattle.acl_outside.specs.Heard.{Heard}
 use Rattle.classbench_reader.specs.RuleFile.{RuleLists, rule_file_of}
 use Rattle.command_words.specs.Command.{Build}
 use Rattle.command_plan.specs.declared.status.Status.{Status}
-use Rattle.command_plan.specs.declared.status.Status.TheVariants.{Done, OutOfMemory, RulesRefused, WriteFault}
+use Rattle.command_plan.specs.declared.status.Status.TheVariants.{Done, RulesRefused, WriteFault}
 use Rattle.command_plan.specs.Plan.{◌>>=◌, Outcome, Plan, Give, making}
 use Rattle.command_plan.specs.Endings.{is_decided, is_reported, is_usage}
 use Rattle.command_plan.specs.Effects.{Outside, EndsMaking, MakesAll, Takes, files_of, heard_of}
@@ -28,7 +28,7 @@ use Rattle.acl_context.specs.Context.{built_of}
 use Rattle.acl_tool.specs.FamilySet.{set_of}
 use Rattle.acl_tool.specs.Built.{IsBuilt, Refuses, tables_built}
 use Rattle.acl_tool.specs.BuildPlan.{build_plan, image_bytes, pair_of}
-use Rattle.acl_tool.specs.Saved.{IsImageOfRules}
+use Rattle.acl_tool.specs.Saved.{IsImageOfRules, IsSaved}
 use Rattle.acl_tool.specs.Effects.{Answers, HasImage}
 use Rattle.acl_tool.proofs.Answering.{Answers-request}
 use Rattle.acl_tool.proofs.Classifying.{HasRules, rules_heard, with_rules}
@@ -80,17 +80,22 @@ saved_both budget lists ip4 ip6 one two built is_one is_two few =
     )
 
 -- what is saved of them is the image of the tables of the rules
-pub image_of_rules : (budget : ℕ) (lists : RuleLists) (ip4 ip6 : Option TableView) (one two : TableView)
+pub image_saved : (budget : ℕ) (lists : RuleLists) (ip4 ip6 : Option TableView) (one two : TableView)
     (bytes : List ℕ) → IsBuilt budget lists ip4 ip6 → ip4 ≡ Some one → ip6 ≡ Some two →
     bytes ≡ spelled_pair Two (pair_of_tables one two) → IsImage Two bytes (pair_of_tables one two) →
-    IsImageOfRules lists budget
-image_of_rules budget lists ip4 ip6 one two bytes built is_one is_two spelled is = record {
-  image =
-      subst (λ (t : Tables). IsImage Two (image_bytes t) (pair_of t))
-      (tables_are budget lists ip4 ip6 one two built is_one is_two)
-      (subst (λ (b : List ℕ). IsImage Two b (pair_of_tables one two)) spelled is);
-  serve = built.serve;
-}
+    IsSaved budget lists bytes
+image_saved budget lists ip4 ip6 one two bytes built is_one is_two spelled is =
+    let are = tables_are budget lists ip4 ip6 one two built is_one is_two in
+    let spelling : bytes ≡ image_bytes (tables_built lists budget) = spelled ∙ ap image_bytes are in
+    record {
+      within = built.within ∙ ap Give built.are;
+      spelled = spelling;
+      image = record {
+        image = subst (λ (t : Tables). IsImage Two (image_bytes t) (pair_of t)) are
+            (subst (λ (b : List ℕ). IsImage Two b (pair_of_tables one two)) spelled is);
+        serve = built.serve;
+      };
+    }
 
 -- a request that ended so
 answered : (rules image : List ℕ) (max_words : ℕ) (old new : Outside) (status : Status) →
@@ -167,17 +172,6 @@ ended_after rules image max_words seen old new status has tables within rest =
     status has.step
     (subst (λ (plan : Plan Tables).
     EndsMaking (Some image) (plan >>= image_by image) (with_rules rules seen old has) new status) (sym within) rest)
-
--- there is no memory for the image
-pub Build-unsaved : {X : Type 0} (rules image : List ℕ) (max_words : ℕ) (seen : X → RuleLists) (old : Outside)
-    (has : HasRules rules seen old) (tables : Tables) → tables_within max_words (seen has.set) ≡ Give tables →
-    Answers (Ok (Build rules image max_words)) old (with_rules rules seen old has) OutOfMemory
-Build-unsaved rules image max_words seen old has tables within =
-    let view : Outside = with_rules rules seen old has in
-    answered rules image max_words old view OutOfMemory
-    (ended_after rules image max_words seen old view OutOfMemory has tables within
-    (Ends-full (Some image) (image_by image tables) view))
-    refl (undone OutOfMemory refl)
 
 -- the image was made
 pub Build-made : {X T E : Type 0} (rules image : List ℕ) (max_words : ℕ) (seen : X → RuleLists) (old : Outside)

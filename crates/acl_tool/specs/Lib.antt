@@ -1,6 +1,7 @@
 pub mod FamilySet
 pub mod RuleTables
 pub mod Built
+pub mod Held
 pub mod ClassifyPlan
 pub mod BenchPlan
 pub mod BuildPlan

@@ -1,17 +1,23 @@
 //! `build`: the tables of a rule file, saved as an image.
 
-ghost use Rattle.std.specs.Prelude.{ℕ, Ok};
+ghost use Rattle.std.specs.Prelude.{◌≡◌, ◌<◌, ◌≤◌, ℕ, Ok, IfOk, IfErr};
+ghost use Rattle.field_defs.specs.Layout.{ip4_fields, ip6_fields};
+ghost use Rattle.table_sizes.specs.Sizes.{max_words};
 ghost use Rattle.acl_outside.specs.Sink.{SinkView};
 ghost use Rattle.command_words.specs.Command.{Build};
 ghost use Rattle.command_plan.specs.Effects.{outside};
+ghost use Rattle.capture_report.specs.Classifier.{lists_of};
+ghost use Rattle.acl_tool.specs.Built.{Refuses};
 ghost use Rattle.acl_tool.specs.Effects.{Answers};
+ghost use Rattle.acl_tool.specs.Saved.{IsSaved};
 
 use crate::rule_file::{Listing, read_rule_file};
 use crate::tables::{build_tables, table_of};
 use acl_outside::{Desk, Failed};
+use classbench_reader::RuleFile;
 use command_plan::{Status, make_file};
 use command_words::Budget;
-use std::alloc::{AllocError, Global};
+use std::alloc::Global;
 use table_image::save;
 
 /// Makes the named image of the tables of the rules of a file, and prints nothing.
@@ -34,17 +40,28 @@ pub fn build<D: Desk>(
         Ok(rules) => rules,
         Err(status) => return status,
     };
-    let contexts = match build_tables(alloc, rules, max_words.words()) {
-        Ok(contexts) => contexts,
-        Err(status) => return status,
-    };
-    let (ip4, ip6) = (table_of(&contexts.ip4), table_of(&contexts.ip6));
-    let bytes = match save(alloc, ip4, ip6) {
+    let bytes = match image_of(alloc, rules, max_words.words()) {
         Ok(bytes) => bytes,
-        Err(AllocError) => return Status::OutOfMemory,
+        Err(status) => return status,
     };
     match make_file(image, &bytes, desk) {
         Ok(()) => Status::Done,
         Err(Failed) => Status::WriteFault,
     }
+}
+
+/// The image of the tables of the rules, of which each may have `budget` words. It takes all the
+/// memory that `build` needs besides the rules.
+fn image_of(alloc: Global, rules: RuleFile, budget: u64) -> Result<Vec<u8>, Status>
+    requires ip4 { rules.ip4.layout ≡ ip4_fields }
+    requires ip6 { rules.ip6.layout ≡ ip6_fields }
+    requires some { 0 < budget }
+    requires budget { budget ≤ max_words }
+    ensures saved { IfOk result (λ image. IsSaved budget (lists_of rules) image.items) }
+    ensures refused { IfErr result (λ status. Refuses budget (lists_of rules) status) }
+{
+    let contexts = build_tables(alloc, rules, budget)?;
+    let (ip4, ip6) = (table_of(&contexts.ip4), table_of(&contexts.ip6));
+    let image = save(alloc, ip4, ip6)?;
+    Ok(image)
 }

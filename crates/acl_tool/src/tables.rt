@@ -9,6 +9,7 @@ ghost use Rattle.table_fill.specs.Serves.{Serves};
 ghost use Rattle.acl_context.specs.Context.{built_of};
 ghost use Rattle.capture_report.specs.Classifier.{lists_of};
 ghost use Rattle.acl_tool.specs.Built.{IsBuilt, IsTooLarge, Refuses, BuildsTable};
+ghost use Rattle.acl_tool.specs.Held.{lists_held};
 
 use acl_context::{AclContext, BuildFault};
 use classbench_reader::RuleFile;
@@ -42,11 +43,27 @@ pub fn build_tables(alloc: Global, rules: RuleFile, budget: u64) -> Result<Conte
         ((length rules.ip4.rules ≤ max_rules) × (length rules.ip6.rules ≤ max_rules)) }
 {
     let RuleFile { ip4, ip6 } = rules;
-    let mut ip4 = hold(alloc, ip4);
-    let mut ip6 = hold(alloc, ip6);
-    build(&mut ip4, Family::Ip4, budget)?;
-    build(&mut ip6, Family::Ip6, budget)?;
-    Ok(Contexts { ip4, ip6 })
+    let mut contexts = Contexts {
+        ip4: hold(alloc, ip4),
+        ip6: hold(alloc, ip6),
+    };
+    build_both(&mut contexts, budget)?;
+    Ok(contexts)
+}
+
+/// Makes the tables of the rules of both families.
+fn build_both(contexts: &mut Contexts, budget: u64) -> Result<(), Status>
+    requires ip4 { contexts.old.ip4.set.layout ≡ ip4_fields }
+    requires ip6 { contexts.old.ip6.set.layout ≡ ip6_fields }
+    requires some { 0 < budget }
+    requires budget { budget ≤ max_words }
+    ensures built { OnOk result (IsBuilt budget (lists_held contexts.old) contexts.new.ip4.table
+        contexts.new.ip6.table) }
+    ensures refused { IfErr result (λ status. Refuses budget (lists_held contexts.old) status) }
+{
+    build(&mut contexts.ip4, Family::Ip4, budget)?;
+    build(&mut contexts.ip6, Family::Ip6, budget)?;
+    Ok(())
 }
 
 /// A context that holds the rules themselves, and has no table. It takes no memory.

@@ -1,8 +1,10 @@
 //! The words after `bench`: three numbers.
 
 ghost use Rattle.std.specs.Prelude.{◌≡◌, ◌≤◌, IfOk, IfErr, Ok, Err, map, string_bytes};
+ghost use Rattle.std.specs.Prelude.{IfSome, nat_le};
 ghost use Rattle.command_words.specs.BenchWords.{number_at, numbers_of};
 ghost use Rattle.command_words.specs.CommandLine.{numbers_in};
+ghost use Rattle.command_words.specs.Options.{lawful};
 
 use crate::bench_numbers::{BenchNumbers, MAX_PACKETS};
 use crate::fault::{UsageFault, UsageKind};
@@ -45,11 +47,24 @@ fn number_at(words: &[String], place: usize, greatest: u64) -> Result<u64, Usage
             kind: UsageKind::MissingName,
         });
     };
-    match number_in(text.as_bytes()) {
-        Some(number) if number <= greatest => Ok(number),
-        _ => Err(UsageFault {
+    match at_most(greatest, number_in(text.as_bytes())) {
+        Some(number) => Ok(number),
+        None => Err(UsageFault {
             word,
             kind: UsageKind::BadValue,
         }),
+    }
+}
+
+/// The number, where it is at most the greatest.
+fn at_most(greatest: u64, number: Option<u64>) -> Option<u64>
+    ensures number { result ≡ lawful (λ value. nat_le value greatest) number }
+    ensures bound { IfSome result (λ number. number ≤ greatest) }
+{
+    let number = number?;
+    if number <= greatest {
+        Some(number)
+    } else {
+        None
     }
 }

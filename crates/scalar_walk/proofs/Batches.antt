@@ -1,5 +1,5 @@
 -- The verdicts of a batch, some keys after others.
-use Rattle.std.proofs.Common.{◌≡◌, ℕ, zero, suc, ◌+◌, ◌-◌, ◌*◌, ◌<◌, ◌≤◌, List, [], ◌∷◌, ◌++◌, sym, ap, ◌∙◌, arith}
+use Rattle.std.proofs.Common.{◌≡◌, ℕ, zero, suc, ◌+◌, ◌-◌, ◌*◌, ◌/◌, ◌<◌, ◌≤◌, List, [], ◌∷◌, ◌++◌, sym, ap, ◌∙◌, arith}
 use Rattle.std.proofs.Common.{add-one, subst, length, take, drop, fold, append_assoc, append-nil, length-append}
 use Rattle.std.proofs.Common.{length-take, length-drop}
 use Rattle.std.specs.Prelude.{flat_map}
@@ -8,7 +8,7 @@ use Rattle.std.proofs.lemmas.Grind.{flat_map-append}
 use Rattle.std.proofs.lemmas.List.{length-map, drop-drop, drop-take, take-take, take_all}
 use Rattle.std.proofs.lemmas.List.Sums.{fold-append}
 use Rattle.std.proofs.lemmas.List.FromFn.{length-range_with_len}
-use Rattle.std.proofs.Math.Nat.{mul-le-mul_right}
+use Rattle.std.proofs.Math.Nat.{mul-le-mul_right, div-mul-le_self}
 use borrow.Rule.Slice.PartMut.{put_mid}
 use Rattle.list_lemmas.proofs.Positions.{range-push, piece_written}
 use Rattle.flat_table.specs.Groups.{longest_key}
@@ -154,6 +154,31 @@ pub room_of_part : (out : List ℕ) (k m n count : ℕ) → length out ≡ n * c
 room_of_part out k m n count room within =
     let fits : (k + m) * count ≤ n * count = mul-le-mul_right count within in
     omega (arith, fits, room, length-take {A = ℕ}, length-drop {A = ℕ})
+
+-- sixteen keys more, and one key more
+pub next_block : (block n : ℕ) → block < n / 16 → block * 16 + 16 ≤ n
+next_block block n below = omega (arith, below)
+
+pub next_key : (k n : ℕ) → k < n → k + 1 ≤ n
+next_key k n below = omega (arith, below)
+
+-- the bytes of m keys more are there
+pub keys_fit : (bytes len k m : ℕ) → k + m ≤ bytes / len → (k + m) * len ≤ bytes
+keys_fit bytes len k m within =
+    omega (arith, mul-le-mul_right len within, div-mul-le_self bytes len)
+
+-- and there is room for their verdicts
+pub room_fits : (bytes len count out k m : ℕ) {of many old : ℕ} → len ≡ of → count ≡ many → out ≡ old →
+    old ≡ bytes / of * many → k + m ≤ bytes / len → (k + m) * count ≤ out
+room_fits bytes len count out k m is counts same room within =
+    let whole : out ≡ bytes / len * count = same ∙ room ∙ (λ i. bytes / sym is i * sym counts i) in
+    omega (arith, mul-le-mul_right count within, whole)
+
+-- a part of m pieces of the same width
+pub part_len : {X : Type 0} (xs : List X) (k m width : ℕ) → (k + m) * width ≤ length xs →
+    length (take ((k + m) * width - k * width) (drop (k * width) xs)) ≡ m * width
+part_len {X = X} xs k m width fits =
+    omega (arith, fits, length-take ((k + m) * width - k * width) (drop (k * width) xs), length-drop (k * width) xs)
 
 -- one key, as the code cuts it and the room for its verdicts
 pub one_key : {table : TableView} {verdicts : List ℕ} {count len n taken steps new_steps : ℕ} →

@@ -6,12 +6,12 @@ use Rattle.table_image.specs.declared.fault.LoadFault.{LoadFault}
 use Rattle.table_image.specs.declared.fault.LoadFault.TheVariants.{Image, OutOfMemory}
 use Rattle.table_image.specs.declared.version.Version.{Version}
 use Rattle.table_image.specs.Reading.{Reading, ◌>>=◌, checked, field, tested, numbers_after, TriesView, one_trie, tries_after}
-use Rattle.table_image.specs.Reading.{numbers, words_of_levels, words_of_tries, rows_after, row_bytes}
-use Rattle.table_image.specs.Spelling.{long, is_row_word}
-use Rattle.table_image.specs.declared.fault.ImageKind.TheVariants.{Unsound, RowForm}
+use Rattle.table_image.specs.Reading.{numbers, level_fits, trie_of, words_of_levels, words_of_tries, rows_after, row_bytes}
+use Rattle.table_image.specs.Spelling.{short, long, kept_len, is_row_word}
+use Rattle.table_image.specs.declared.fault.ImageKind.TheVariants.{TooMany, Unsound, RowForm}
 use Rattle.table_sizes.specs.Sizes.{row_len}
 use Rattle.flat_table.specs.Table.{levels_from, portions}
-use Rattle.flat_table.specs.Sound.{is_sound_word, first_level}
+use Rattle.flat_table.specs.Sound.{leads_into, is_sound_word, first_level}
 use Rattle.flat_table.proofs.Offered.{levels-take, levels-drop}
 use Rattle.std.proofs.lemmas.List.{drop_more, drop_all, drop-drop}
 use Rattle.std.proofs.lemmas.List.Sums.{sum_by-cons, sum_by-take-drop}
@@ -152,3 +152,31 @@ pub tries_end : (version : Version) (key_len taken : ℕ) (bytes : List ℕ) (co
     tries_after version key_len taken bytes count tries ≡ Ok tries
 unfolding tries_after
 tries_end version key_len taken bytes count tries none = rw none refl
+
+-- one trie more, of which the code knows how many words the levels before it have, and the place after its kept groups
+module _ (version : Version) (taken : ℕ) (bytes : List ℕ) (tries : TriesView) (kept depth words at : ℕ)
+    (before : words ≡ sum tries.level_lens) (place : at ≡ tries.end + kept_len version) where
+  -- the lengths of its levels have a fault
+  pub trie_cut : (fault : LoadFault) →
+      IsFaultOf (numbers TooMany short (level_fits (taken + words)) bytes at depth) fault →
+      IsFaultOf (trie_of version taken bytes tries kept depth) fault
+  trie_cut (Image fault) e = rw (← before, ← place) (rw e refl)
+  trie_cut OutOfMemory e = tt
+
+  module _ (lens : List ℕ) (read : numbers TooMany short (level_fits (taken + words)) bytes at depth ≡ Ok lens) where
+    -- its root has one
+    pub trie_refused : (fault : ImageFault) →
+        tested Unsound long (leads_into (first_level (levels_from words lens))) bytes (at + short * depth) ≡ Err fault →
+        trie_of version taken bytes tries kept depth ≡ Err fault
+    trie_refused fault e = rw (← before, ← place) (rw read (rw e refl))
+
+    -- both were read
+    pub trie_read : (root : ℕ) →
+        tested Unsound long (leads_into (first_level (levels_from words lens))) bytes (at + short * depth) ≡ Ok root →
+        trie_of version taken bytes tries kept depth ≡ Ok (record {
+          kept = tries.kept ++ kept ∷ [];
+          roots = tries.roots ++ root ∷ [];
+          level_lens = tries.level_lens ++ lens;
+          end = at + short * depth + long;
+        })
+    trie_read root e = rw (← before, ← place) (rw read (rw e refl))

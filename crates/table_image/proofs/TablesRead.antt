@@ -1,6 +1,7 @@
 -- A table that was read stands in the bytes as it is spelled, and can be saved.
 use Rattle.std.proofs.Common.{◌≡◌, ℕ, ◌+◌, ◌-◌, ◌*◌, ◌≤◌, List, [], ◌∷◌, ◌++◌, length, drop, sum, map}
-use Rattle.std.proofs.Common.{refl, sym, ap, ◌∙◌, arith, Bool, true, append_assoc, Ok, None}
+use Rattle.std.proofs.Common.{refl, sym, ap, ◌∙◌, arith, Bool, true, append_assoc, subst, Ok, None}
+use Rattle.std.proofs.Math.Nat.{add_assoc}
 use Rattle.std.specs.Prelude.{◌==◌, nat_le}
 use Rattle.std.specs.List.{list_all, flat_map, zip}
 use Rattle.std.proofs.lemmas.List.{append-nil}
@@ -13,10 +14,10 @@ use Rattle.table_image.specs.declared.version.Version.{Version}
 use Rattle.table_image.specs.declared.version.Version.TheVariants.{One, Two}
 use Rattle.table_image.specs.declared.fault.ImageKind.TheVariants.{Family, TooMany}
 use Rattle.table_image.specs.Spelling.{most_rules, short, long, spelled, all_spelled, spelled_tries, spelled_table, is_of_version, is_row_word, is_row, IsSaved}
-use Rattle.table_image.specs.Reading.{◌>>=◌, tested, Counts, counts, TriesView, no_tries, tries_after, words_of_tries, rows_after, row_bytes, no_rule, table_of, TableRead, words_and_rows, table_read}
+use Rattle.table_image.specs.Reading.{Reading, ◌>>=◌, tested, Counts, counts, TriesView, no_tries, tries_after, words_of_tries, rows_after, row_bytes, no_rule, table_of, TableRead, words_and_rows, table_read}
 use Rattle.table_image.proofs.Fields.{AreBytes}
 use Rattle.table_image.proofs.Lists.{joined, of_both}
-use Rattle.table_image.proofs.NumbersRead.{fits, tested_read}
+use Rattle.table_image.proofs.NumbersRead.{fits, FieldAt, tested_read}
 use Rattle.table_image.proofs.WordsRead.{tries_fault, tries_words_read, none_found}
 use Rattle.table_image.proofs.TriesRead.{tries_read}
 use Rattle.table_image.proofs.TriesSound.{root_leads, AreSound, are_sound}
@@ -29,6 +30,28 @@ pub record CountsAt (family : ℕ) (bytes : List ℕ) (at : ℕ) (c : Counts) : 
   pub few_rows : row_len * (c.rows + 1) ≤ max_words
   pub text : drop at bytes ≡ spelled short family ++ (spelled short c.rules ++ (spelled short c.tries
       ++ (spelled short c.rows ++ drop (at + 16) bytes)))
+
+-- a reading gives one value
+only : {A : Type 0} (reading : Reading A) (one other : A) → reading ≡ Ok one → reading ≡ Ok other → one ≡ other
+only reading one other e f = (let same = sym e ∙ f in cc)
+
+-- a field of a number that is known, and the place after it
+field_is : (size : ℕ) (bytes : List ℕ) (at next n m : ℕ) → FieldAt size bytes at n → n ≡ m → at + size ≡ next →
+    drop at bytes ≡ spelled size m ++ drop next bytes
+field_is size bytes at next n m field is place =
+    field.text ∙ (λ i. spelled size (is i) ++ drop (place i) bytes)
+
+-- the four numbers, one after the other
+counts_text : (bytes : List ℕ) (at family : ℕ) (c : Counts) →
+    drop at bytes ≡ spelled short family ++ drop (at + 4) bytes →
+    drop (at + 4) bytes ≡ spelled short c.rules ++ drop (at + 8) bytes →
+    drop (at + 8) bytes ≡ spelled short c.tries ++ drop (at + 12) bytes →
+    drop (at + 12) bytes ≡ spelled short c.rows ++ drop (at + 16) bytes →
+    drop at bytes ≡ spelled short family ++ (spelled short c.rules ++ (spelled short c.tries
+    ++ (spelled short c.rows ++ drop (at + 16) bytes)))
+counts_text bytes at family c one two three four =
+    one ∙ ap (λ xs. spelled short family ++ xs) (two ∙ ap (λ xs. spelled short c.rules ++ xs) (three
+    ∙ ap (λ xs. spelled short c.tries ++ xs) four))
 
 counts_read : (family : ℕ) (bytes : List ℕ) (at : ℕ) (c : Counts) → AreBytes bytes → counts family bytes at ≡ Ok c →
     CountsAt family bytes at c
@@ -52,28 +75,20 @@ counts_read family bytes at c are e =
     let r = tested_read TooMany short few_rules bytes (at + 4) two.0 are two.1 in
     let t = tested_read TooMany short few_tries bytes (at + 8) three.0 are three.1 in
     let w = tested_read TooMany short few_rows bytes (at + 12) four.0 are four.1 in
-    let is : made two.0 three.0 four.0 ≡ c = cc in
+    let is : made two.0 three.0 four.0 ≡ c = only (Ok (made two.0 three.0 four.0)) _ c refl four.2 in
     let rules_is : two.0 ≡ c.rules = ap (λ (x : Counts). x.rules) is in
     let tries_is : three.0 ≡ c.tries = ap (λ (x : Counts). x.tries) is in
     let rows_is : four.0 ≡ c.rows = ap (λ (x : Counts). x.rows) is in
-    let family_is : one.0 ≡ family = eqb-true one.0 family f.1 in
-    let rows_text : drop (at + 12) bytes ≡ spelled short c.rows ++ drop (at + 16) bytes =
-    w.0.text ∙ ap (λ n. spelled short n ++ drop (at + 12 + short) bytes) rows_is
-    ∙ ap (λ k. spelled short c.rows ++ drop k bytes) (omega arith) in
-    let tries_text : drop (at + 8) bytes ≡ spelled short c.tries ++ drop (at + 12) bytes =
-    t.0.text ∙ ap (λ n. spelled short n ++ drop (at + 8 + short) bytes) tries_is
-    ∙ ap (λ k. spelled short c.tries ++ drop k bytes) (omega arith) in
-    let rules_text : drop (at + 4) bytes ≡ spelled short c.rules ++ drop (at + 8) bytes =
-    r.0.text ∙ ap (λ n. spelled short n ++ drop (at + 4 + short) bytes) rules_is
-    ∙ ap (λ k. spelled short c.rules ++ drop k bytes) (omega arith) in
-    let family_text : drop at bytes ≡ spelled short family ++ drop (at + 4) bytes =
-    f.0.text ∙ ap (λ n. spelled short n ++ drop (at + short) bytes) family_is in
     record {
-      few_rules = omega (arith, leb-true two.0 most_rules r.1, rules_is);
-      few_tries = omega (arith, leb-true three.0 most_tries t.1, tries_is);
-      few_rows = omega (arith, leb-true (row_len * (four.0 + 1)) max_words w.1, rows_is);
-      text = family_text ∙ ap (λ xs. spelled short family ++ xs) (rules_text
-          ∙ ap (λ xs. spelled short c.rules ++ xs) (tries_text ∙ ap (λ xs. spelled short c.tries ++ xs) rows_text));
+      few_rules = subst (λ (n : ℕ). n ≤ most_rules) rules_is (leb-true two.0 most_rules r.1);
+      few_tries = subst (λ (n : ℕ). n ≤ most_tries) tries_is (leb-true three.0 most_tries t.1);
+      few_rows = subst (λ (n : ℕ). row_len * (n + 1) ≤ max_words) rows_is
+          (leb-true (row_len * (four.0 + 1)) max_words w.1);
+      text = counts_text bytes at family c
+          (field_is short bytes at (at + 4) one.0 family f.0 (eqb-true one.0 family f.1) refl)
+          (field_is short bytes (at + 4) (at + 8) two.0 c.rules r.0 rules_is (add_assoc at 4 short))
+          (field_is short bytes (at + 8) (at + 12) three.0 c.tries t.0 tries_is (add_assoc at 8 short))
+          (field_is short bytes (at + 12) (at + 16) four.0 c.rows w.0 rows_is (add_assoc at 12 short));
     }
 
 -- row 0 has zeros
@@ -105,6 +120,25 @@ record TailAt (key_len : ℕ) (bytes : List ℕ) (c : Counts) (tries : TriesView
   pub typed : list_all is_row rows ≡ true
   pub text : drop tries.end bytes ≡ (all_spelled long words ++ flat_map (all_spelled long) rows) ++ drop read.end bytes
 
+-- words that were read from a place on, of so many levels, and the place after them
+words_here : (bytes : List ℕ) (from : ℕ) (words more : List ℕ) (n : ℕ) →
+    drop (from + long * 0) bytes ≡ all_spelled long more ++ drop (from + long * (0 + n)) bytes → words ≡ more →
+    length words ≡ n → drop from bytes ≡ all_spelled long words ++ drop (from + long * length words) bytes
+words_here bytes from words more n text are count =
+    let none : from ≡ from + long * 0 = omega arith in
+    let end : from + long * (0 + n) ≡ from + long * length words = omega (arith, count) in
+    ap (λ k. drop k bytes) none ∙ text ∙ (λ i. all_spelled long (sym are i) ++ drop (end i) bytes)
+
+-- and rows
+rows_here : (bytes : List ℕ) (from : ℕ) (rows more : List (List ℕ)) (n : ℕ) →
+    drop (from + row_bytes * 0) bytes ≡ flat_map (all_spelled long) more ++ drop (from + row_bytes * (0 + n)) bytes →
+    rows ≡ more → length rows ≡ n →
+    drop from bytes ≡ flat_map (all_spelled long) rows ++ drop (from + row_bytes * length rows) bytes
+rows_here bytes from rows more n text are count =
+    let none : from ≡ from + row_bytes * 0 = omega arith in
+    let end : from + row_bytes * (0 + n) ≡ from + row_bytes * length rows = omega (arith, count) in
+    ap (λ k. drop k bytes) none ∙ text ∙ (λ i. flat_map (all_spelled long) (sym are i) ++ drop (end i) bytes)
+
 tail_read : (key_len : ℕ) (bytes : List ℕ) (c : Counts) (tries : TriesView) (read : TableRead) → AreBytes bytes →
     length tries.level_lens ≡ sum (map (depth_of key_len) tries.kept) →
     words_and_rows key_len bytes c tries ≡ Ok read → TailAt key_len bytes c tries read
@@ -125,17 +159,11 @@ tail_read key_len bytes c tries read are levels e =
     words are refl
     levels one.1 in
     let r = rows_read c.rules bytes rows_from c.rows [] rows are two.1 in
-    let is : made words rows ≡ read = cc in
+    let is : made words rows ≡ read = only (Ok (made words rows)) _ read refl two.2 in
     let count : length words ≡ sum tries.level_lens = ap length w.are ∙ w.count_is in
     let rows_count : length rows ≡ c.rows = ap length r.are ∙ r.count_is in
-    let words_text : drop tries.end bytes ≡ all_spelled long words ++ drop rows_from bytes =
-    ap (λ k. drop k bytes) (omega arith) ∙ w.text
-    ∙ ap (λ xs. all_spelled long xs ++ drop (tries.end + long * (0 + sum tries.level_lens)) bytes) (sym w.are)
-    ∙ ap (λ k. all_spelled long words ++ drop k bytes) (omega (arith, count)) in
-    let rows_text : drop rows_from bytes ≡ flat_map (all_spelled long) rows ++ drop read.end bytes =
-    ap (λ k. drop k bytes) (omega arith) ∙ r.text
-    ∙ ap (λ xs. flat_map (all_spelled long) xs ++ drop (rows_from + row_bytes * (0 + c.rows)) bytes) (sym r.are)
-    ∙ ap (λ k. flat_map (all_spelled long) rows ++ drop k bytes) (omega (arith, rows_count))
+    let words_text = words_here bytes tries.end words w.more (sum tries.level_lens) w.text w.are count in
+    let rows_text = rows_here bytes rows_from rows r.more c.rows r.text r.are rows_count
     ∙ ap (λ (t : TableRead). flat_map (all_spelled long) rows ++ drop t.end bytes) is in
     record {
       words = words;

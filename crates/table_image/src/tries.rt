@@ -1,6 +1,7 @@
 //! The tries of a table, read field by field.
 
 ghost use Rattle.std.specs.Prelude.{◌≡◌, ◌+◌, ◌*◌, ◌-◌, ◌≤◌, ◌<◌, ◌^◌, length, sum, IfOk, IfErr, OnOk, Ok, Err, nat_le, IsTrue};
+ghost use Rattle.std.specs.Prelude.{[], ◌∷◌, ◌++◌};
 ghost use Rattle.flat_table.specs.Groups.{is_key_len, depth_of};
 ghost use Rattle.flat_table.specs.Sound.{most_tries, leads_into, first_level};
 ghost use Rattle.flat_table.specs.Table.{levels_from};
@@ -15,7 +16,7 @@ use crate::field::{LONG, SHORT, checked, long, short};
 use crate::list::push;
 use crate::version::Version;
 use flat_table::{Level, depth_of, is_kept_word};
-use std::alloc::Global;
+use std::alloc::{AllocError, Global};
 use table_sizes::MAX_WORDS;
 
 /// The longest key of a table that an image has.
@@ -119,6 +120,20 @@ fn level_lens(
     Ok(lens)
 }
 
+/// The root at the place, which leads into the first of levels of these lengths. They come after so
+/// many words.
+fn read_root(words: usize, lens: &[u32], bytes: &[u8], at: usize) -> Result<u64, ImageFault>
+    requires room { words + sum lens.now ≤ max_words }
+    requires inside { at ≤ length bytes.now }
+    ensures root { result ≡ tested Unsound 8
+        (leads_into (first_level (levels_from words lens.now))) bytes.now at }
+    ensures inside { IfOk result (λ _. at + 8 ≤ length bytes.now) }
+{
+    let root = long(bytes, at)?;
+    let level = Level::first(words, lens);
+    checked(root, level.holds_node_of(root), ImageKind::Unsound, at)
+}
+
 impl Tries {
     /// No tries, at the place.
     fn new(alloc: Global, at: usize) -> Tries
@@ -132,6 +147,54 @@ impl Tries {
             words: 0,
             end: at,
         }
+    }
+
+    /// Puts a trie after the others. The field after it stands at the place.
+    fn add(&mut self, kept: u128, root: u64, lens: &[u32], end: usize) -> Result<(), AllocError>
+        requires { self.old.words + sum lens.now ≤ max_words }
+        ensures tries { OnOk result (tries_of self.new ≡ record {
+          kept = self.old.kept.items ++ kept ∷ [];
+          roots = self.old.roots.items ++ root ∷ [];
+          level_lens = self.old.level_lens.items ++ lens.now;
+          end = end;
+        }) }
+        ensures words { OnOk result (self.new.words ≡ self.old.words + sum lens.now) }
+    {
+        push(&mut self.kept, kept)?;
+        push(&mut self.roots, root)?;
+        self.level_lens.extend_from_slice(lens)?;
+        self.words += sum_of(lens);
+        self.end = end;
+        Ok(())
+    }
+
+    /// Reads the levels and the root of a trie that keeps these groups and has so many levels.
+    fn read_kept(
+        &mut self,
+        alloc: Global,
+        version: Version,
+        taken: usize,
+        bytes: &[u8],
+        kept: u128,
+        depth: usize,
+    ) -> Result<(), LoadFault>
+        requires inside { self.old.end + kept_len version ≤ length bytes.now }
+        requires words { self.old.words ≡ sum self.old.level_lens.items }
+        requires room { taken + self.old.words ≤ max_words }
+        ensures trie { OnOk result (trie_of version taken bytes.now (tries_of self.old) kept depth
+            ≡ Ok (tries_of self.new)) }
+        ensures fault { IfErr result
+            (IsFaultOf (trie_of version taken bytes.now (tries_of self.old) kept depth)) }
+        ensures inside { OnOk result (self.new.end ≤ length bytes.now) }
+        ensures words { OnOk result (self.new.words ≡ sum self.new.level_lens.items) }
+        ensures room { OnOk result (taken + self.new.words ≤ max_words) }
+    {
+        let lens_at = after_kept(version, self.end);
+        let lens = level_lens(alloc, taken + self.words, bytes, lens_at, depth)?;
+        let root_at = lens_at + SHORT * depth;
+        let root = read_root(self.words, &lens, bytes, root_at)?;
+        self.add(kept, root, &lens, root_at + LONG)?;
+        Ok(())
     }
 
     /// Reads one trie more, of a table of which the rows take so many words.
@@ -157,18 +220,7 @@ impl Tries {
     {
         let kept = kept_groups(version, key_len, bytes, self.end)?;
         let depth = depth_of(key_len, kept);
-        let lens_at = after_kept(version, self.end);
-        let lens = level_lens(alloc, taken + self.words, bytes, lens_at, depth)?;
-        let root_at = lens_at + SHORT * depth;
-        let root = long(bytes, root_at)?;
-        let level = Level::first(self.words, &lens);
-        let root = checked(root, level.holds_node_of(root), ImageKind::Unsound, root_at)?;
-        push(&mut self.kept, kept)?;
-        push(&mut self.roots, root)?;
-        self.level_lens.extend_from_slice(&lens)?;
-        self.words += sum_of(&lens);
-        self.end = root_at + LONG;
-        Ok(())
+        self.read_kept(alloc, version, taken, bytes, kept, depth)
     }
 
     /// Reads so many tries, of a table of which the rows take so many words.

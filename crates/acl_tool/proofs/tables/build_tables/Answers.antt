@@ -1,17 +1,12 @@
-use Rattle.std.proofs.Common.{subst, ◌∙◌}
-use Rattle.field_defs.specs.Layout.{ip4_fields, ip6_fields}
+use Rattle.std.proofs.Common.{subst}
 use Rattle.rule_set.specs.Rule.{RuleSetView}
-use Rattle.capture_report.specs.Classifier.{lists_of}
-use Rattle.acl_tool.specs.Built.{BuildsTable}
-use Rattle.acl_tool.proofs.Making.{IsBuilt-both, set-is}
+use Rattle.classbench_reader.specs.RuleFile.{RuleLists}
+use Rattle.acl_tool.specs.Built.{IsBuilt}
 use Rattle.acl_tool.proofs.tables.build_tables.Goals as goal
 
 pub returns-clause-built : goal.returns-clause-built
 returns-clause-built c =
-    let ip4 = c.hold-ip4.ensures.set ∙ set-is c.args.rules.ip4 ip4_fields c.requires.ip4 in
-    let ip6 = c.hold-ip6.ensures.set ∙ set-is c.args.rules.ip6 ip6_fields c.requires.ip6 in
-    IsBuilt-both c.args.budget (lists_of c.args.rules) c.build.new.context.table c.build-2.new.context.table
-    (subst (λ (set : RuleSetView). BuildsTable set c.args.budget c.build.new.context.table) ip4
-    c.in_ok-build.ensures.ok)
-    (subst (λ (set : RuleSetView). BuildsTable set c.args.budget c.build-2.new.context.table) ip6
-    c.in_ok-build-2.ensures.ok)
+    let held : RuleSetView → RuleSetView → RuleLists = λ ip4 ip6. record { ip4 = ip4.rules; ip6 = ip6.rules } in
+    subst (λ (lists : RuleLists). IsBuilt c.args.budget lists c.build_both.new.contexts.ip4.table
+    c.build_both.new.contexts.ip6.table) (λ i. held (c.hold.ensures.set i) (c.hold-2.ensures.set i))
+    c.in_ok-build_both.ensures.built
