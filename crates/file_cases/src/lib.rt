@@ -13,6 +13,7 @@
 //! | `frames` | frames of packets, and the keys in them |
 //! | `layouts` | layouts and the keys of their buffers |
 //! | `lines` | the lines of a report |
+//! | `memory` | a desk in memory, for the tests of files and captures |
 //! | `messages` | what each fault says |
 //! | `ranks` | ranks by priorities and places |
 //! | `rule_files` | rule files as people write them, and printed rules |
@@ -33,6 +34,8 @@ mod frames;
 mod layouts;
 #[cfg(test)]
 mod lines;
+#[cfg(test)]
+mod memory;
 #[cfg(test)]
 mod messages;
 #[cfg(test)]
