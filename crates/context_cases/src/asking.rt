@@ -78,7 +78,6 @@ pub(crate) fn classified(
         &mut scratch,
         &mut verdicts,
     );
-    assert!(rt; taken.is_some());
     Ok(Said { verdicts, taken })
 }
 
@@ -93,7 +92,27 @@ pub(crate) fn answered(
 ) -> Result<Vec<u32>, Fail> {
     let scalar = classified(rt, alloc, context, keys, n, count, Walk::Scalar)?;
     let lanes = classified(rt, alloc, context, keys, n, count, Walk::Lanes)?;
-    assert!(rt; scalar.verdicts == lanes.verdicts);
-    assert_eq!(rt; scalar.taken, lanes.taken);
+    assert_alike(rt, &scalar, &lanes);
     Ok(scalar.verdicts)
+}
+
+/// The two walks said the same.
+fn assert_alike(rt: &impl Abort, scalar: &Said, lanes: &Said) {
+    assert!(rt; scalar.taken.is_some());
+    assert_eq!(rt; scalar.taken, lanes.taken);
+    assert!(rt; scalar.verdicts == lanes.verdicts);
+}
+
+/// What the context says of the keys by either walk are these verdicts, of so many categories each.
+pub(crate) fn assert_answers(
+    rt: &impl Abort,
+    alloc: Global,
+    context: &AclContext,
+    keys: &[u8],
+    (n, count): (u32, u32),
+    expected: &[u32],
+) -> Result<(), Fail> {
+    let said = answered(rt, alloc, context, keys, n, count)?;
+    assert_eq!(rt; said.as_slice(), expected);
+    Ok(())
 }

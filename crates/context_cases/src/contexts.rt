@@ -6,6 +6,7 @@ use acl_context::{AclContext, AddFault, BuildFault, Scratch, Walk};
 use field_defs::{FieldValue, ip4_layout};
 use flat_table::Steps;
 use rule_set::{Categories, Rule, RuleFault, RuleSet, RuleTag};
+use std::alloc::Global;
 use std::marker::Brand;
 use std::process::Abort;
 use std::sync::ledger::{Blank, Ledger};
@@ -77,6 +78,16 @@ fn expect(
 fn a_context_answers_by_its_last_build(rt: HostRuntime) -> Result<(), Fail> {
     let mut scratch = Scratch::new(rt.alloc(), 2)?;
     let mut context = AclContext::create(rt.alloc(), ip4_layout(), 1);
+    refuse_rules(&rt, &mut context);
+    context.add_rules(&[wild(1, 7)])?;
+    build_first(&rt, &mut scratch, &mut context)?;
+    keep_first(&rt, &mut scratch, &mut context);
+    build_none(&rt, &mut scratch, &mut context)?;
+    Ok(())
+}
+
+/// A rule more than there may be is refused, and one in no category.
+fn refuse_rules(rt: &impl Abort, context: &mut AclContext) {
     let two = context.add_rules(&[wild(1, 7), wild(1, 8)]);
     assert_eq!(rt; two, Err(AddFault::Full));
     let in_no_category = context.add_rules(&[wild(0x10000, 7)]);
@@ -84,48 +95,84 @@ fn a_context_answers_by_its_last_build(rt: HostRuntime) -> Result<(), Fail> {
         in_no_category,
         Err(AddFault::RuleRefused(0, RuleFault::NoCategory))
     );
-    context.add_rules(&[wild(1, 7)])?;
-    expect(&rt, &mut scratch, &context, None);
+}
+
+/// There is no answer before the first build.
+fn build_first(
+    rt: &impl Abort,
+    scratch: &mut Scratch,
+    context: &mut AclContext,
+) -> Result<(), BuildFault> {
+    expect(rt, scratch, context, None);
     context.build(33)?;
-    expect(&rt, &mut scratch, &context, Some([7, 7]));
+    expect(rt, scratch, context, Some([7, 7]));
+    Ok(())
+}
+
+/// A build above the budget leaves the answers, and so do rules that are gone.
+fn keep_first(rt: &impl Abort, scratch: &mut Scratch, context: &mut AclContext) {
     let too_large = Err(BuildFault::TooLarge {
         words: 33,
         budget: 32,
     });
     assert_eq!(rt; context.build(32), too_large);
-    expect(&rt, &mut scratch, &context, Some([7, 7]));
+    expect(rt, scratch, context, Some([7, 7]));
     context.reset_rules();
-    expect(&rt, &mut scratch, &context, Some([7, 7]));
+    expect(rt, scratch, context, Some([7, 7]));
+}
+
+/// No rule answers, and after a reset there is no answer.
+fn build_none(
+    rt: &impl Abort,
+    scratch: &mut Scratch,
+    context: &mut AclContext,
+) -> Result<(), BuildFault> {
     context.build(16)?;
-    expect(&rt, &mut scratch, &context, Some([0, 0]));
+    expect(rt, scratch, context, Some([0, 0]));
     context.reset();
-    expect(&rt, &mut scratch, &context, None);
+    expect(rt, scratch, context, None);
     Ok(())
 }
 
 #[test]
 fn a_list_that_is_half_refused_leaves_nothing(rt: HostRuntime) -> Result<(), Fail> {
     let mut context = AclContext::create(rt.alloc(), ip4_layout(), 8);
+    refuse_half(&rt, &mut context);
+    add_stored(rt.alloc(), &mut context)?;
+    assert_eq!(rt; context.rules().len(), 1);
+    assert!(rt; context.table().is_none());
+    Ok(())
+}
+
+/// A rule in no category leaves out the one before it too.
+fn refuse_half(rt: &impl Abort, context: &mut AclContext) {
     let half = context.add_rules(&[wild(1, 7), wild(0x10000, 8)]);
     assert_eq!(rt; half, Err(AddFault::RuleRefused(1, RuleFault::NoCategory)));
     assert!(rt; context.rules().is_empty());
-    context.add_stored(&[wild(1, 7).store(rt.alloc())?])?;
-    assert_eq!(rt; context.rules().len(), 1);
-    assert!(rt; context.table().is_none());
+}
+
+/// Adds a stored rule.
+fn add_stored(alloc: Global, context: &mut AclContext) -> Result<(), Fail> {
+    context.add_stored(&[wild(1, 7).store(alloc)?])?;
     Ok(())
 }
 
 #[test]
 fn a_context_made_of_a_set_holds_its_rules(rt: HostRuntime) -> Result<(), Fail> {
     let mut scratch = Scratch::new(rt.alloc(), 2)?;
-    let mut set = RuleSet::new(rt.alloc(), ip4_layout());
-    set.push(wild(1, 7).store(rt.alloc())?)?;
+    let set = set_of_one(rt.alloc())?;
+    assert!(rt; set.len() == 1);
     let mut context = AclContext::holding(rt.alloc(), set, 1);
     assert_eq!(rt; context.add_rules(&[wild(1, 8)]), Err(AddFault::Full));
-    expect(&rt, &mut scratch, &context, None);
-    context.build(33)?;
-    expect(&rt, &mut scratch, &context, Some([7, 7]));
+    build_first(&rt, &mut scratch, &mut context)?;
     context.reset();
     assert!(rt; context.rules().is_empty());
     Ok(())
+}
+
+/// A set of one rule.
+fn set_of_one(alloc: Global) -> Result<RuleSet, Fail> {
+    let mut set = RuleSet::new(alloc, ip4_layout());
+    set.push(wild(1, 7).store(alloc)?)?;
+    Ok(set)
 }

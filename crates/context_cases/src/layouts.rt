@@ -1,9 +1,10 @@
 //! Contexts whose layouts aren't those of packets: other numbers of fields, other lengths of keys.
 
-use crate::asking::answered;
+use crate::asking::assert_answers;
 use acl_context::AclContext;
 use field_defs::{FieldDef, FieldKind, FieldValue, Layout};
 use rule_set::{Rule, RuleTag};
+use std::alloc::Global;
 use std::test::Fail;
 
 /// The definition of a field.
@@ -56,8 +57,8 @@ fn nine() -> [FieldDef; 9] {
     ]
 }
 
-#[test]
-fn rules_of_two_fields_answer_for_keys_of_five_bytes(rt: HostRuntime) -> Result<(), Fail> {
+/// A context of a rule on the byte and of one on the address.
+fn of_two_fields(alloc: Global) -> Result<AclContext, Fail> {
     let few = FieldValue::Range { low: 5, high: 9 };
     let all = FieldValue::Range { low: 0, high: 255 };
     let ten = FieldValue::Mask {
@@ -74,20 +75,26 @@ fn rules_of_two_fields_answer_for_keys_of_five_bytes(rt: HostRuntime) -> Result<
             fields: [all, ten],
         },
     ];
-    let mut context = AclContext::create(rt.alloc(), Layout::new(&two())?, 2);
+    let layout = Layout::new(&two())?;
+    let mut context = AclContext::create(alloc, layout, 2);
     context.add_rules(&rules)?;
     context.build(1000)?;
-    let keys = [
-        5, 11, 0, 0, 0, 5, 10, 1, 2, 3, 200, 9, 255, 255, 255, 200, 10, 0, 0, 1,
-    ];
-    let said = answered(&rt, rt.alloc(), &context, &keys, 4, 4)?;
-    let expected = [50u32, 50, 0, 0, 10, 50, 0, 0, 0, 0, 0, 0, 10, 0, 0, 0];
-    assert_eq!(rt; said.as_slice(), expected.as_slice());
-    Ok(())
+    Ok(context)
 }
 
 #[test]
-fn rules_of_nine_fields_answer_for_keys_of_25_bytes(rt: HostRuntime) -> Result<(), Fail> {
+fn rules_of_two_fields_answer_for_keys_of_five_bytes(rt: HostRuntime) -> Result<(), Fail> {
+    let context = of_two_fields(rt.alloc())?;
+    let keys = [
+        5, 11, 0, 0, 0, 5, 10, 1, 2, 3, 200, 9, 255, 255, 255, 200, 10, 0, 0, 1,
+    ];
+    let expected = [50u32, 50, 0, 0, 10, 50, 0, 0, 0, 0, 0, 0, 10, 0, 0, 0];
+    assert_answers(&rt, rt.alloc(), &context, &keys, (4, 4), &expected)
+}
+
+/// A context of a rule to port 80 by TCP in categories 7 and 11, and of one for all keys in 0 and
+/// 11, of lower priority.
+fn of_nine_fields(alloc: Global) -> Result<AclContext, Fail> {
     let web = FieldValue::Range { low: 80, high: 80 };
     let tcp = FieldValue::Bitmask {
         value: 6,
@@ -105,21 +112,25 @@ fn rules_of_nine_fields_answer_for_keys_of_25_bytes(rt: HostRuntime) -> Result<(
             fields: [every, ANY, ANY, ANY, ANY, p, p, p, p],
         },
     ];
-    let mut context = AclContext::create(rt.alloc(), Layout::new(&nine())?, 2);
+    let layout = Layout::new(&nine())?;
+    let mut context = AclContext::create(alloc, layout, 2);
     context.add_rules(&rules)?;
     context.build(1000)?;
+    Ok(context)
+}
+
+#[test]
+fn rules_of_nine_fields_answer_for_keys_of_25_bytes(rt: HostRuntime) -> Result<(), Fail> {
+    let context = of_nine_fields(rt.alloc())?;
     // To port 80 by TCP, to port 81 by TCP.
     let keys = [
         6, 0, 0, 0, 0, 0, 0, 0, 0, 0, 0, 0, 0, 0, 0, 0, 0, 0, 0, 0, 0, 0, 0, 0, 80, 6, 1, 2, 3, 4,
         5, 6, 7, 8, 9, 10, 11, 12, 13, 14, 15, 16, 17, 18, 19, 20, 21, 22, 0, 81,
     ];
-    let said = answered(&rt, rt.alloc(), &context, &keys, 2, 8)?;
     let expected = [2u32, 0, 0, 0, 0, 0, 0, 1, 2, 0, 0, 0, 0, 0, 0, 0];
-    assert_eq!(rt; said.as_slice(), expected.as_slice());
-    let said = answered(&rt, rt.alloc(), &context, &keys, 2, 12)?;
+    assert_answers(&rt, rt.alloc(), &context, &keys, (2, 8), &expected)?;
     let expected = [
         2u32, 0, 0, 0, 0, 0, 0, 1, 0, 0, 0, 1, 2, 0, 0, 0, 0, 0, 0, 0, 0, 0, 0, 2,
     ];
-    assert_eq!(rt; said.as_slice(), expected.as_slice());
-    Ok(())
+    assert_answers(&rt, rt.alloc(), &context, &keys, (2, 12), &expected)
 }

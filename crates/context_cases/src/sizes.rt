@@ -63,15 +63,53 @@ fn assert_plain(
     drawn: &Drawn,
     count: u32,
 ) -> Result<(), Fail> {
+    let said = answered(rt, alloc, context, &drawn.bytes, KEYS, count)?;
+    are_plain(rt, &said, rules, &drawn.keys, count);
+    Ok(())
+}
+
+/// These are the verdicts of the plain filter over the rules, key by key.
+fn are_plain(rt: &impl Abort, said: &[u32], rules: &RuleSet, keys: &[[u8; KEY_LEN]], count: u32) {
     assert!(rt; count <= 16);
     assert_eq!(rt; rules.layout().key_len(), KEY_LEN);
-    let said = answered(rt, alloc, context, &drawn.bytes, KEYS, count)?;
     let mut said = said.iter();
-    for key in drawn.keys.iter() {
+    for key in keys {
         for category in 0..count {
             let plain = plain_verdict(rules, key, category);
             assert_eq!(rt; said.next().copied(), Some(plain));
         }
+    }
+}
+
+/// A context of the rules, of which the first half is pushed to its set and the second is stored.
+fn context_of(rt: &impl Abort, alloc: Global, rules: &RuleSet) -> Result<AclContext, Fail> {
+    let (first, second) = rules.all().split_at(rules.len() / 2);
+    let half = pushed(rt, alloc, first)?;
+    assert!(rt; half.len() <= RULES as usize);
+    let mut context = AclContext::holding(alloc, half, RULES);
+    context.add_stored(second)?;
+    context.build(BUDGET)?;
+    Ok(context)
+}
+
+/// The context's table has eight tries and the words that were counted.
+fn is_split(rt: &impl Abort, context: &AclContext) {
+    let table = context.table().expect(rt, "a table");
+    assert_eq!(rt; table.tries(), 8usize);
+    assert_eq!(rt; table.total_words(), WORDS);
+}
+
+/// A context of the rules answers as the plain filter in any number of categories.
+fn answers_plainly(
+    rt: &impl Abort,
+    alloc: Global,
+    rules: &RuleSet,
+    drawn: &Drawn,
+) -> Result<(), Fail> {
+    let context = context_of(rt, alloc, rules)?;
+    is_split(rt, &context);
+    for count in [1, 4, 8, 12, 16u32] {
+        assert_plain(rt, alloc, &context, rules, drawn, count)?;
     }
     Ok(())
 }
@@ -82,21 +120,7 @@ fn a_context_of_1024_rules_answers_as_the_plain_filter(rt: HostRuntime) -> Resul
     let drawn = draw(rt.alloc(), &mut workload)?;
     let rules = workload.rules();
     assert_eq!(rt; rules.len(), RULES as usize);
-    let (first, second) = rules.all().split_at(rules.len() / 2);
-    let half = pushed(&rt, rt.alloc(), first)?;
-    assert!(rt; half.len() <= RULES as usize);
-    let mut context = AclContext::holding(rt.alloc(), half, RULES);
-    context.add_stored(second)?;
-    context.build(BUDGET)?;
-    let Some(table) = context.table() else {
-        return Err(Fail::new("no table"));
-    };
-    assert_eq!(rt; table.tries(), 8usize);
-    assert_eq!(rt; table.total_words(), WORDS);
-    for count in [1, 4, 8, 12, 16u32].iter() {
-        assert_plain(&rt, rt.alloc(), &context, rules, &drawn, *count)?;
-    }
-    Ok(())
+    answers_plainly(&rt, rt.alloc(), rules, &drawn)
 }
 
 #[test]

@@ -5,7 +5,7 @@ ghost use Rattle.std.specs.Prelude.{◌≡◌, ◌<◌};
 use flat_table::{Parts, Steps, Table};
 use rule_set::Categories;
 use scalar_walk::{classify_scalar, winners};
-use std::alloc::Global;
+use std::alloc::{AllocError, Global};
 use std::marker::Brand;
 use std::process::Abort;
 use std::sync::ledger::{Blank, Ledger};
@@ -23,16 +23,48 @@ fn table(
     level_lens: &[u32],
     words: &[u64],
 ) -> Result<Table, Fail> {
-    let parts = Parts {
+    let mut parts = Parts {
         key_len: 13,
         rules: 1,
-        kept: Vec::from_slice(alloc, &[kept])?,
-        roots: Vec::from_slice(alloc, &[root])?,
-        level_lens: Vec::from_slice(alloc, level_lens)?,
-        words: Vec::from_slice(alloc, words)?,
-        rows: Vec::from_slice(alloc, &[[0; 16], [0x1_0000_0001; 16]])?,
+        kept: Vec::new(alloc),
+        roots: Vec::new(alloc),
+        level_lens: Vec::new(alloc),
+        words: Vec::new(alloc),
+        rows: Vec::new(alloc),
     };
+    add_trie(&mut parts, kept, root, level_lens, words)?;
     Ok(Table::from_parts(parts)?)
+}
+
+/// Adds a trie and the rows of no rule and of the rule.
+fn add_trie(
+    parts: &mut Parts,
+    kept: u128,
+    root: u64,
+    level_lens: &[u32],
+    words: &[u64],
+) -> Result<(), AllocError> {
+    parts.kept.extend_from_slice(&[kept])?;
+    parts.roots.extend_from_slice(&[root])?;
+    parts.level_lens.extend_from_slice(level_lens)?;
+    parts.words.extend_from_slice(words)?;
+    parts
+        .rows
+        .extend_from_slice(&[[0; 16], [0x1_0000_0001; 16]])
+}
+
+/// Checks the table of one trie.
+fn check(
+    rt: &impl Abort,
+    alloc: Global,
+    (kept, root): (u128, u64),
+    level_lens: &[u32],
+    words: &[u64],
+    (expected, taken): ([u32; 5], u64),
+) -> Result<(), Fail> {
+    let table = table(alloc, kept, root, level_lens, words)?;
+    expect(rt, &table, &expected, taken);
+    Ok(())
 }
 
 /// The verdicts of the keys in category 0 and how many words their walks took, or nothing where the
@@ -73,8 +105,7 @@ fn expect(rt: &impl Abort, table: &Table, expected: &[u32; 5], taken: u64) {
 fn runs_of_bytes_are_walked(rt: HostRuntime) -> Result<(), Fail> {
     let alloc = rt.alloc();
     // Every key, by a node of one word.
-    let wild = table(alloc, 1, 0x2000_0000, &[1], &[RULE])?;
-    expect(&rt, &wild, &[1, 1, 1, 1, 1], 5);
+    check(&rt, alloc, (1, 0x2000_0000), &[1], &[RULE], ([1; 5], 5))?;
     // From 10.0.0.0/8, by runs of the bytes up to 9, of 10, and from 11 on.
     let source = [
         NO_RULE,
@@ -86,8 +117,9 @@ fn runs_of_bytes_are_walked(rt: HostRuntime) -> Result<(), Fail> {
         0x2000_0007,
         RULE,
     ];
-    let source = table(alloc, 2, 0xFFFF_0A09_6000_0000, &[5, 1, 1, 1], &source)?;
-    expect(&rt, &source, &[1, 0, 1, 1, 1], 17);
+    let root = 0xFFFF_0A09_6000_0000;
+    let want = ([1, 0, 1, 1, 1], 17);
+    check(&rt, alloc, (2, root), &[5, 1, 1, 1], &source, want)?;
     // To ports from 1024 on, by runs of the high bytes up to 3, and from 4 on.
     let port = [
         0x2000_0001,
@@ -99,26 +131,34 @@ fn runs_of_bytes_are_walked(rt: HostRuntime) -> Result<(), Fail> {
         NO_RULE,
         RULE,
     ];
-    let port = table(alloc, 8, 0x2000_0000, &[1, 1, 5, 1], &port)?;
-    expect(&rt, &port, &[0, 0, 0, 1, 1], 17);
-    Ok(())
+    let want = ([0, 0, 0, 1, 1], 17);
+    check(&rt, alloc, (8, 0x2000_0000), &[1, 1, 5, 1], &port, want)
 }
 
 #[test]
 fn a_word_for_each_byte_is_walked(rt: HostRuntime) -> Result<(), Fail> {
     let alloc = rt.alloc();
-    // Of an odd protocol, by a word for each byte.
-    let mut bits = Vec::new(alloc);
-    for _ in 0..128 {
-        bits.push(NO_RULE)?;
-        bits.push(RULE)?;
-    }
+    let bits = odd_bytes(alloc)?;
     let odd = table(alloc, 1, 0, &[256], &bits)?;
     expect(&rt, &odd, &[0, 0, 1, 1, 1], 5);
+    wins_nowhere(&rt, &odd);
+    Ok(())
+}
+
+/// The words of a node that an odd protocol passes, one for each byte.
+fn odd_bytes(alloc: Global) -> Result<Vec<u64>, AllocError> {
+    let mut bits = Vec::new(alloc);
+    for _ in 0..128 {
+        bits.extend_from_slice(&[NO_RULE, RULE])?;
+    }
+    Ok(bits)
+}
+
+/// No category of a packet of protocol 6 has a winner.
+fn wins_nowhere(rt: &impl Abort, table: &Table) {
     let mut won = [false; 16];
     let key = [6, 10, 0, 0, 1, 5, 6, 7, 8, 0, 9, 0, 10];
-    assert!(rt; odd.key_len() == key.len());
-    winners(&odd, &key, &mut won);
+    assert!(rt; table.key_len() == key.len());
+    winners(table, &key, &mut won);
     assert_eq!(rt; won, [false; 16]);
-    Ok(())
 }

@@ -1,6 +1,8 @@
 //! The first rules and keys of seed 42, whose words are printed by the demo of PCG's C library.
 
 use field_defs::FieldValue;
+use rule_set::StoredRule;
+use std::process::Abort;
 use std::test::Fail;
 use workload_gen::{KEY_LEN, make_rules};
 
@@ -29,12 +31,17 @@ fn the_first_rule_of_seed_42_has_its_six_words(rt: HostRuntime) -> Result<(), Fa
     ];
     assert_eq!(rt; rules.len(), 1);
     for rule in rules {
-        assert_eq!(rt; rule.fields(), fields.as_slice());
-        assert_eq!(rt; rule.tag().priority, 955);
-        assert_eq!(rt; rule.tag().category_mask, 11357);
-        assert_eq!(rt; rule.tag().userdata, 1);
+        is_first(&rt, rule, &fields);
     }
     Ok(())
+}
+
+/// Asserts that the rule has these values, and the tag of the first rule.
+fn is_first(rt: &impl Abort, rule: &StoredRule, fields: &[FieldValue]) {
+    assert_eq!(rt; rule.fields(), fields);
+    assert_eq!(rt; rule.tag().priority, 955);
+    assert_eq!(rt; rule.tag().category_mask, 11357);
+    assert_eq!(rt; rule.tag().userdata, 1);
 }
 
 #[test]

@@ -1,8 +1,9 @@
 //! A pcapng capture of two sections that is whole, cut or can't be read on, over a desk in memory.
 
-ghost use Rattle.std.specs.Prelude.{◌<◌, IsTrue};
+ghost use Rattle.std.specs.Prelude.{IsTrue};
 
-use acl_outside::{Desk, MemDesk, MemFile};
+use crate::memory::desk_over;
+use acl_outside::{Desk, MemDesk};
 use pcap_reader::{BeginFault, CaptureFault, Link};
 use pcapng_reader::AnyCapture;
 use std::alloc::AllocError;
@@ -39,21 +40,49 @@ const ENDS: [(usize, usize, u64); 7] = [
 
 /// A desk with the first bytes of that capture, which gives some bytes a call and fails at one of
 /// them.
-fn desk_of<R: AllocGlobal>(
+fn desk_of<R: Abort + AllocGlobal>(
     rt: &R,
     len: usize,
     piece: usize,
     failing: u64,
-) -> Result<MemDesk, AllocError>
-    requires { 0 < piece }
+) -> Result<MemDesk, AllocError> {
+    let file = ("capture", &CAPTURE[..len.min(CAPTURE.len())]);
+    desk_over(rt, rt.alloc(), file, piece, (failing, 0))
+}
+
+/// Asserts that the next record is this one, or none, or that the capture can't be read on.
+fn gives<D: Desk>(
+    rt: &impl Abort,
+    desk: &mut D,
+    capture: &mut AnyCapture,
+    want: Result<Option<(Link, &[u8])>, CaptureFault>,
+)
+    requires { IsTrue (D.view desk.old).reading }
+    ensures { IsTrue (D.view desk.new).reading }
 {
-    let alloc = rt.alloc();
-    let file = MemFile {
-        name: String::from_str(alloc, "capture")?,
-        bytes: Vec::from_slice(alloc, &CAPTURE[..len.min(CAPTURE.len())])?,
-    };
-    let (files, failing) = (vec![in alloc; file]?, vec![in alloc; failing]?);
-    MemDesk::new(alloc, files, piece, 0, failing, Vec::new(alloc))
+    assert!(rt; !capture.failed());
+    assert_eq!(rt; capture.next(desk), want);
+}
+
+/// Asserts that the capture has so many of the records and this ending.
+fn has_records<D: Desk>(
+    rt: &impl Abort,
+    desk: &mut D,
+    capture: &mut AnyCapture,
+    records: usize,
+    ending: Result<(), CaptureFault>,
+)
+    requires { IsTrue (D.view desk.old).reading }
+{
+    for record in RECORDS.iter().take(records) {
+        gives(rt, desk, capture, Ok(Some(*record)));
+    }
+    match ending {
+        Ok(()) => gives(rt, desk, capture, Ok(None)),
+        Err(fault) => gives(rt, desk, capture, Err(fault)),
+    }
+    assert_eq!(rt; capture.failed(), ending.is_err());
+    assert_eq!(rt; capture.count(), records as u64);
 }
 
 /// Asserts that the opened file is a capture with so many of the records and this ending.
@@ -61,35 +90,14 @@ fn shows<R: Abort + AllocGlobal, D: Desk>(
     rt: &R,
     desk: &mut D,
     records: usize,
-    ending: Result<(), BeginFault>,
+    ending: Result<(), CaptureFault>,
 )
     requires { IsTrue (D.view desk.old).reading }
 {
-    let mut capture = match AnyCapture::begin(rt.alloc(), desk) {
-        Ok(capture) => capture,
-        Err(fault) => {
-            assert_eq!(rt; ending, Err(fault));
-            return;
-        }
-    };
-    for record in RECORDS.iter().take(records) {
-        match capture.next(desk) {
-            Ok(found) => assert_eq!(rt; found, Some(*record)),
-            Err(fault) => {
-                assert_eq!(rt; ending, Err(BeginFault::Capture(fault)));
-                return;
-            }
-        }
+    match AnyCapture::begin(rt.alloc(), desk) {
+        Ok(mut capture) => has_records(rt, desk, &mut capture, records, ending),
+        Err(fault) => assert_eq!(rt; ending.map_err(BeginFault::Capture), Err(fault)),
     }
-    match capture.next(desk) {
-        Ok(found) => {
-            assert_eq!(rt; found, None);
-            assert_eq!(rt; ending, Ok(()));
-        }
-        Err(fault) => assert_eq!(rt; ending, Err(BeginFault::Capture(fault))),
-    }
-    assert_eq!(rt; capture.failed(), ending.is_err());
-    assert_eq!(rt; capture.count(), records as u64);
 }
 
 /// How many records the first bytes of the capture have, and their ending.
@@ -109,13 +117,19 @@ fn expected(len: usize) -> (usize, Result<(), CaptureFault>) {
     (before.0, Err(CaptureFault::PngCut(before.1)))
 }
 
+/// Asserts that the first bytes of the capture have their records and their ending.
+fn ends<R: Abort + AllocGlobal>(rt: &R, len: usize) -> Result<(), Fail> {
+    let (records, ending) = expected(len);
+    let mut desk = desk_of(rt, len, 1 + len % 50, 0)?;
+    desk.open_file("capture")?;
+    shows(rt, &mut desk, records, ending);
+    Ok(())
+}
+
 #[test]
 fn each_prefix_of_two_sections_has_its_records_and_its_ending(rt: HostRuntime) -> Result<(), Fail> {
     for len in 0..=CAPTURE.len() {
-        let (records, ending) = expected(len);
-        let mut desk = desk_of(&rt, len, 1 + len % 50, 0)?;
-        desk.open_file("capture")?;
-        shows(&rt, &mut desk, records, ending.map_err(BeginFault::Capture));
+        ends(&rt, len)?;
     }
     Ok(())
 }

@@ -2,8 +2,9 @@
 
 ghost use Rattle.std.specs.Prelude.{◌≡◌, IsTrue, OnOk};
 
+use crate::memory::desk_over;
 use acl_outside::{
-    Desk, Failed, MemDesk, MemFile, MemSink, ReadAll, Sink, StdDesk, StdSink, put_all, read_once,
+    Desk, Failed, MemDesk, MemSink, ReadAll, Sink, StdDesk, StdSink, put_all, read_once,
     read_up_to, write_all,
 };
 use std::alloc::{AllocError, Global};
@@ -18,16 +19,8 @@ fn memory_desk<R: Abort + AllocGlobal>(
     failing_read: u64,
     failing_write: u64,
 ) -> Result<MemDesk, AllocError> {
-    let alloc = rt.alloc();
-    let digits = MemFile {
-        name: String::from_str(alloc, "digits")?,
-        bytes: Vec::from_slice(alloc, b"0123456789")?,
-    };
-    let files = vec![in alloc; digits]?;
-    assert!(rt; MemDesk::has_distinct_names(&files));
-    let reads = vec![in alloc; failing_read]?;
-    let writes = vec![in alloc; failing_write]?;
-    MemDesk::new(alloc, files, 3, 8, reads, writes)
+    let digits: (&str, &[u8]) = ("digits", b"0123456789");
+    desk_over(rt, rt.alloc(), digits, 3, (failing_read, failing_write))
 }
 
 /// Opens the named file. What else a call promises is not used here.
@@ -42,9 +35,15 @@ fn reads<R: Abort + AllocGlobal, D: Desk>(rt: &R, desk: &mut D, cap: usize, want
     requires { IsTrue (D.view desk.old).reading }
     ensures { (D.view desk.new).reading ≡ (D.view desk.old).reading }
 {
-    match read_up_to(rt.alloc(), desk, cap) {
+    let read = read_up_to(rt.alloc(), desk, cap);
+    was_read(rt, &read, want);
+}
+
+/// These bytes were read, or none for a read fault.
+fn was_read(rt: &impl Abort, read: &Result<Vec<u8>, ReadAll>, want: Option<&[u8]>) {
+    match read {
         Ok(bytes) => assert_eq!(rt; Some(bytes.as_slice()), want),
-        Err(fault) => assert_eq!(rt; (fault, want), (ReadAll::ReadFault, None)),
+        Err(fault) => assert_eq!(rt; (*fault, want), (ReadAll::ReadFault, None)),
     }
 }
 
@@ -58,12 +57,24 @@ fn reads_twice<R: Abort + AllocGlobal>(
     second: &[u8],
 ) -> Result<(), Fail> {
     let mut desk = memory_desk(rt, failing, 0)?;
-    assert_eq!(rt; opens(&mut desk, "digit"), Err(Failed));
-    opens(&mut desk, "digits")?;
-    reads(rt, &mut desk, cap, first);
-    reads(rt, &mut desk, 100, Some(second));
-    let faults = (desk.absent_count(), desk.read_fault_count());
-    assert_eq!(rt; faults, (1, u64::from(first.is_none())));
+    reads_digits(rt, &mut desk, cap, first, second)?;
+    assert_eq!(rt; desk.absent_count(), 1);
+    assert_eq!(rt; desk.read_fault_count(), u64::from(first.is_none()));
+    Ok(())
+}
+
+/// Finds no file, opens one and reads it twice.
+fn reads_digits<R: Abort + AllocGlobal, D: Desk>(
+    rt: &R,
+    desk: &mut D,
+    cap: usize,
+    first: Option<&[u8]>,
+    second: &[u8],
+) -> Result<(), Failed> {
+    assert_eq!(rt; opens(desk, "digit"), Err(Failed));
+    opens(desk, "digits")?;
+    reads(rt, desk, cap, first);
+    reads(rt, desk, 100, Some(second));
     Ok(())
 }
 
@@ -94,10 +105,16 @@ fn makes_up_to<R: Abort + AllocGlobal>(
 ) -> Result<(), Fail> {
     let mut desk = memory_desk(rt, 0, failing)?;
     let made = makes(&mut desk, "image", b"01234", second);
-    assert_eq!(rt; (made.is_ok(), desk.file("image")), (succeeds, want));
+    assert_eq!(rt; made.is_ok(), succeeds);
+    has_image(rt, &desk, want, succeeds);
+    Ok(())
+}
+
+/// The made file has these bytes, no fault came but where it didn't succeed, and the digits stay.
+fn has_image(rt: &impl Abort, desk: &MemDesk, want: Option<&[u8]>, succeeds: bool) {
+    assert_eq!(rt; desk.file("image"), want);
     assert_eq!(rt; desk.write_fault_count(), u64::from(!succeeds));
     assert_eq!(rt; desk.file("digits"), Some(b"0123456789".as_slice()));
-    Ok(())
 }
 
 #[test]
@@ -116,12 +133,18 @@ fn puts<R: Abort + AllocGlobal>(
     piece: &[u8],
     want: &[u8],
 ) -> Result<(), Fail> {
-    let failing = vec![in rt.alloc(); failing]?;
+    let failing = Vec::from_slice(rt.alloc(), &[failing])?;
     let mut sink = MemSink::new(rt.alloc(), 8, 3, failing)?;
-    let put = put_all(&mut sink, piece);
-    assert_eq!(rt; (put.is_ok(), sink.bytes()), (piece == want, want));
-    assert_eq!(rt; sink.fault_count(), u64::from(piece != want));
+    takes(rt, &mut sink, piece, want);
     Ok(())
+}
+
+/// The sink takes these bytes of the piece, and fails where they aren't all.
+fn takes(rt: &impl Abort, sink: &mut MemSink, piece: &[u8], want: &[u8]) {
+    let put = put_all(sink, piece);
+    assert_eq!(rt; put.is_ok(), piece == want);
+    assert_eq!(rt; sink.bytes(), want);
+    assert_eq!(rt; sink.fault_count(), u64::from(piece != want));
 }
 
 #[test]
@@ -140,41 +163,64 @@ fn numbers(alloc: Global, count: u32) -> Result<Vec<u8>, AllocError> {
     Ok(bytes)
 }
 
+/// A name keeps its spaces.
+const SPACED: &str = " acl_outside std_desk ";
+
+/// A file that is made twice has what was written last.
+fn makes_anew<R: Abort + AllocGlobal, D: Desk>(rt: &R, desk: &mut D) -> Result<(), Failed> {
+    makes(desk, SPACED, b"earlier and longer", b"")?;
+    makes(desk, SPACED, b"packets", b" and rules")?;
+    opens(desk, SPACED)?;
+    reads(rt, desk, 100, Some(b"packets and rules"));
+    Ok(())
+}
+
+/// These bytes are written and read back.
+fn reads_back<R: Abort + AllocGlobal, D: Desk>(
+    rt: &R,
+    desk: &mut D,
+    long: &[u8],
+) -> Result<(), Failed> {
+    makes(desk, SPACED, b"", long)?;
+    assert_eq!(rt; opens(desk, "acl_outside std_desk"), Err(Failed));
+    opens(desk, SPACED)?;
+    // A few bytes by way of the buffer, the rest of it, and then straight into the list.
+    reads(rt, desk, 24, long.get(..24));
+    reads(rt, desk, 1_000_000, long.get(24..));
+    // An opened file is read from its beginning.
+    opens(desk, SPACED)?;
+    reads(rt, desk, 10, long.get(..10));
+    Ok(())
+}
+
 #[test]
 fn a_file_of_the_system_is_made_and_read_back(rt: HostRuntime) -> Result<(), Fail> {
-    // A name keeps its spaces. 240,000 bytes are more than two buffers and two parts of memory.
-    let path = " acl_outside std_desk ";
-    let mut desk = StdDesk::new(&rt);
-    makes(&mut desk, path, b"earlier and longer", b"")?;
-    makes(&mut desk, path, b"packets", b" and rules")?;
-    opens(&mut desk, path)?;
-    reads(&rt, &mut desk, 100, Some(b"packets and rules"));
-
+    // 240,000 bytes are more than two buffers and two parts of memory.
     let long = numbers(rt.alloc(), 60_000)?;
-    makes(&mut desk, path, b"", &long)?;
-    assert_eq!(rt; opens(&mut desk, "acl_outside std_desk"), Err(Failed));
-    opens(&mut desk, path)?;
-    // A few bytes by way of the buffer, the rest of it, and then straight into the list.
-    reads(&rt, &mut desk, 24, long.get(..24));
-    reads(&rt, &mut desk, 1_000_000, long.get(24..));
-    // An opened file is read from its beginning.
-    opens(&mut desk, path)?;
-    reads(&rt, &mut desk, 10, long.get(..10));
-    fs::remove_file(&rt, path)?;
+    let mut desk = StdDesk::new(&rt);
+    makes_anew(&rt, &mut desk)?;
+    reads_back(&rt, &mut desk, &long)?;
+    fs::remove_file(&rt, SPACED)?;
+    Ok(())
+}
+
+/// The paths name a device, no file, and a folder, which can be opened, and neither be read nor be
+/// written.
+fn takes_paths<R: Abort + AllocGlobal, D: Desk>(rt: &R, desk: &mut D) -> Result<(), Failed> {
+    opens(desk, "/dev/null")?;
+    reads(rt, desk, 10, Some(b""));
+    assert_eq!(rt; opens(desk, "dev/null"), Err(Failed));
+    desk.create_file("/dev/null")?;
+    opens(desk, ".")?;
+    reads(rt, desk, 10, None);
+    assert_eq!(rt; desk.create_file("."), Err(Failed));
     Ok(())
 }
 
 #[test]
 fn a_path_of_the_system_is_taken_as_it_is(rt: HostRuntime) -> Result<(), Fail> {
     let mut desk = StdDesk::new(&rt);
-    opens(&mut desk, "/dev/null")?;
-    reads(&rt, &mut desk, 10, Some(b""));
-    assert_eq!(rt; opens(&mut desk, "dev/null"), Err(Failed));
-    desk.create_file("/dev/null")?;
-    // A folder can be opened, and neither be read nor be written.
-    opens(&mut desk, ".")?;
-    reads(&rt, &mut desk, 10, None);
-    assert_eq!(rt; desk.create_file("."), Err(Failed));
+    takes_paths(&rt, &mut desk)?;
     Ok(())
 }
 
@@ -226,6 +272,23 @@ impl Read for Stubborn<'_> {
     }
 }
 
+/// A put that takes nothing has failed, and so has one of another error.
+fn takes_once<O: Sink>(rt: &impl Abort, sink: &mut O) {
+    assert_eq!(rt; sink.put(b"packets"), Ok(2));
+    assert_eq!(rt; sink.put(b"ckets"), Err(Failed));
+    assert_eq!(rt; put_all(sink, b"ckets"), Err(Failed));
+    assert_eq!(rt; put_all(sink, b""), Ok(()));
+}
+
+/// A read that gives nothing is the end of the file, and one of another error has failed.
+fn gives_once(rt: &impl Abort, file: &mut Stubborn<'_>) {
+    let mut into = [0; 4];
+    assert_eq!(rt; read_once(file, &mut into), Ok(2));
+    assert_eq!(rt; into, *b"pa\0\0");
+    assert_eq!(rt; read_once(file, &mut into), Ok(0));
+    assert_eq!(rt; read_once(file, &mut into), Err(Failed));
+}
+
 #[test]
 fn a_call_is_made_again_where_it_was_interrupted(rt: HostRuntime) {
     let mut taken = [0; 2];
@@ -233,11 +296,7 @@ fn a_call_is_made_again_where_it_was_interrupted(rt: HostRuntime) {
         taken: &mut taken,
         calls: 0,
     });
-    assert_eq!(rt; sink.put(b"packets"), Ok(2));
-    // A put that takes nothing has failed, and so has one of another error.
-    assert_eq!(rt; sink.put(b"ckets"), Err(Failed));
-    assert_eq!(rt; put_all(&mut sink, b"ckets"), Err(Failed));
-    assert_eq!(rt; put_all(&mut sink, b""), Ok(()));
+    takes_once(&rt, &mut sink);
     drop(sink);
     assert_eq!(rt; taken, *b"pa");
 
@@ -245,9 +304,5 @@ fn a_call_is_made_again_where_it_was_interrupted(rt: HostRuntime) {
         taken: &mut taken,
         calls: 0,
     };
-    let mut into = [0; 4];
-    assert_eq!(rt; read_once(&mut file, &mut into), Ok(2));
-    assert_eq!(rt; into, *b"pa\0\0");
-    assert_eq!(rt; read_once(&mut file, &mut into), Ok(0));
-    assert_eq!(rt; read_once(&mut file, &mut into), Err(Failed));
+    gives_once(&rt, &mut file);
 }

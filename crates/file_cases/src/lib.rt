@@ -14,6 +14,7 @@
 //! | `frames` | frames of packets, and the keys in them |
 //! | `layouts` | layouts and the keys of their buffers |
 //! | `lines` | the lines of a report |
+//! | `memory` | a desk in memory, for the tests of files and captures |
 //! | `messages` | what each fault says |
 //! | `numbers` | numbers that bytes spell in either order |
 //! | `ranks` | ranks by priorities and places |
@@ -35,6 +36,8 @@ mod frames;
 mod layouts;
 #[cfg(test)]
 mod lines;
+#[cfg(test)]
+mod memory;
 #[cfg(test)]
 mod messages;
 #[cfg(test)]

@@ -54,21 +54,34 @@ fn a_packet_has_its_number_its_class_and_a_word_for_each_category(rt: HostRuntim
     );
 }
 
-#[test]
-fn counts_and_tables_have_their_lines(rt: HostRuntime) {
-    let mut into = [0; LINE_ROOM];
+/// Counts of two IPv4 packets, one of IPv6 and one that is too short.
+fn four_packets() -> Counts {
     let mut counts = Counts::default();
     counts.add(Class::Ip4);
     counts.add(Class::Ip6);
     counts.add(Class::Ip4);
     counts.add(Class::Short);
-    let len = packets_line(&counts, &mut into);
-    assert_eq!(rt;
-        &into[..len],
-        b"packets 4 ip4 2 ip6 1 other 0 short 1\n".as_slice()
-    );
+    counts
+}
+
+#[test]
+fn counts_have_their_line(rt: HostRuntime) {
+    let mut into = [0; LINE_ROOM];
+    let len = packets_line(&four_packets(), &mut into);
+    let want = b"packets 4 ip4 2 ip6 1 other 0 short 1\n";
+    assert_eq!(rt; &into[..len], want.as_slice());
+}
+
+#[test]
+fn tables_have_their_line(rt: HostRuntime) {
+    let mut into = [0; LINE_ROOM];
     let len = table_line(Family::Ip4, 1, 1, 85, &mut into);
     assert_eq!(rt; &into[..len], b"ip4 rules 1 tries 1 words 85\n".as_slice());
+}
+
+#[test]
+fn transitions_have_their_line(rt: HostRuntime) {
+    let mut into = [0; LINE_ROOM];
     let len = transitions_line(26, &mut into);
     assert_eq!(rt; &into[..len], b"transitions 26\n".as_slice());
 }

@@ -2,6 +2,7 @@
 
 use field_defs::{FieldValue, ip4_layout};
 use rule_set::{RuleSet, RuleTag, StoredRule, ranks};
+use std::alloc::Global;
 use std::process::Abort;
 use std::test::Fail;
 
@@ -31,17 +32,27 @@ fn add<R: Abort + AllocGlobal>(rt: &R, rules: &mut RuleSet, priority: i32) -> Re
     Ok(())
 }
 
+/// Asserts that the rules have these ranks.
+fn ranks_are(rt: &impl Abort, alloc: Global, rules: &RuleSet, want: &[u32]) -> Result<(), Fail> {
+    let ranks = ranks(alloc, rules)?;
+    assert_eq!(rt; ranks.as_slice(), want);
+    Ok(())
+}
+
+/// Asserts that of the ranks at places 0 and 1 the first is 2 and the second 1, and so on.
+fn are_in_pairs(rt: &impl Abort, ranks: &[u32]) {
+    for (place, rank) in ranks.iter().enumerate() {
+        assert_eq!(rt; *rank as usize, (place ^ 1) + 1);
+    }
+}
+
 #[test]
 fn earlier_rules_of_equal_priority_rank_higher(rt: HostRuntime) -> Result<(), Fail> {
     let mut rules = RuleSet::new(rt.alloc(), ip4_layout());
     for priority in [2, 9, 2, 0, 9] {
         add(&rt, &mut rules, priority)?;
     }
-    assert_eq!(rt;
-        ranks(rt.alloc(), &rules)?.as_slice(),
-        [3, 5, 2, 1, 4].as_slice()
-    );
-    Ok(())
+    ranks_are(&rt, rt.alloc(), &rules, &[3, 5, 2, 1, 4])
 }
 
 #[test]
@@ -50,9 +61,7 @@ fn a_thousand_rules_rank_in_pairs(rt: HostRuntime) -> Result<(), Fail> {
     for place in 0..1024 {
         add(&rt, &mut rules, place / 2)?;
     }
-    // Of the rules of places 0 and 1, both of priority 0, the first has rank 2, and so on.
-    for (place, rank) in ranks(rt.alloc(), &rules)?.iter().enumerate() {
-        assert_eq!(rt; *rank as usize, (place ^ 1) + 1);
-    }
+    let ranks = ranks(rt.alloc(), &rules)?;
+    are_in_pairs(&rt, &ranks);
     Ok(())
 }

@@ -2,8 +2,9 @@
 
 use classbench_reader::{LineFault, LineKind, RulesFault, print_rule, read_rules};
 use field_defs::{Family, FieldValue, ip4_layout, ip6_layout};
-use rule_set::{RuleTag, StoredRule, check_rule};
+use rule_set::{RuleSet, RuleTag, StoredRule, check_rule};
 use std::alloc::Global;
+use std::process::Abort;
 use std::test::Fail;
 
 /// A rule list with comments, both families and attributes. Its first rule is the example of the
@@ -13,6 +14,21 @@ const LIST: &str = "# edge filters\r\n\
     \n\
     \t@ 2001:db8::/48 ::/0 0:65535 443:443 6/0xff pri=100 cat=0x3 data=7\n\
     @0.0.0.0/0 0.0.0.0/0 0:65535 0:65535 0/0 data=0";
+
+/// The values of its first rule.
+const GUIDE: [FieldValue; 5] = [
+    UDP,
+    FieldValue::Mask {
+        value: 0xC0A8_0100,
+        bits: 24,
+    },
+    FieldValue::Mask {
+        value: 0xC0A8_021F,
+        bits: 32,
+    },
+    ANY_PORT,
+    PORT_1234,
+];
 
 /// What a rule is for, apart from what it matches.
 fn tag(category_mask: u32, priority: i32, userdata: u32) -> RuleTag {
@@ -26,49 +42,43 @@ fn tag(category_mask: u32, priority: i32, userdata: u32) -> RuleTag {
 #[test]
 fn a_list_of_both_families_is_read(rt: HostRuntime) -> Result<(), Fail> {
     let file = read_rules(rt.alloc(), LIST.as_bytes())?;
-    assert_eq!(rt; (file.ip4.len(), file.ip6.len()), (2, 1));
-    let guide = [
-        FieldValue::Bitmask {
-            value: 17,
-            mask: 255,
-        },
-        FieldValue::Mask {
-            value: 0xC0A8_0100,
-            bits: 24,
-        },
-        FieldValue::Mask {
-            value: 0xC0A8_021F,
-            bits: 32,
-        },
-        FieldValue::Range {
-            low: 0,
-            high: 65535,
-        },
-        FieldValue::Range {
-            low: 1234,
-            high: 1234,
-        },
-    ];
-    assert_eq!(rt; file.ip4.at(0).fields(), guide.as_slice());
-    assert_eq!(rt; file.ip4.at(1).tag(), tag(0xFFFF, 536_870_908, 0));
-    assert_eq!(rt; file.ip6.at(0).tag(), tag(3, 100, 7));
+    are_listed(&rt, &file.ip4, &file.ip6);
     Ok(())
+}
+
+/// Asserts that these are the rules of the list.
+fn are_listed(rt: &impl Abort, ip4: &RuleSet, ip6: &RuleSet) {
+    assert_eq!(rt; ip4.len(), 2);
+    assert_eq!(rt; ip6.len(), 1);
+    assert_eq!(rt; ip4.at(0).fields(), GUIDE.as_slice());
+    assert_eq!(rt; ip4.at(1).tag(), tag(0xFFFF, 536_870_908, 0));
+    assert_eq!(rt; ip6.at(0).tag(), tag(3, 100, 7));
 }
 
 #[test]
 fn a_rule_alone_has_the_first_priority(rt: HostRuntime) -> Result<(), Fail> {
     let text = "# top\r\n\r\n@0.0.0.0/0 0.0.0.0/0 0x0:0xFFFF 53 : 53 17/255 data=9\r\n";
     let file = read_rules(rt.alloc(), text.as_bytes())?;
-    assert_eq!(rt; (file.ip4.len(), file.ip6.len()), (1, 0));
-    assert_eq!(rt; file.ip4.at(0).tag(), tag(0xFFFF, 536_870_910, 9));
+    is_alone(&rt, &file.ip4, &file.ip6);
     Ok(())
+}
+
+/// Asserts that there is one rule, which has the first priority and userdata 9.
+fn is_alone(rt: &impl Abort, ip4: &RuleSet, ip6: &RuleSet) {
+    assert_eq!(rt; ip4.len(), 1);
+    assert_eq!(rt; ip6.len(), 0);
+    assert_eq!(rt; ip4.at(0).tag(), tag(0xFFFF, 536_870_910, 9));
 }
 
 /// Whether the list with one more line has this fault there, its sixth line.
 fn is_refused(alloc: Global, line: &str, kind: LineKind) -> Result<bool, Fail> {
     let text = format!(in alloc; "{LIST}\n{line}\n")?;
-    let sixth = LineFault { line: 6, kind };
-    Ok(read_rules(alloc, text.as_bytes()).err() == Some(RulesFault::Line(sixth)))
+    Ok(has_fault(alloc, &text, LineFault { line: 6, kind }))
+}
+
+/// Whether the text has this first fault.
+fn has_fault(alloc: Global, text: &str, fault: LineFault) -> bool {
+    read_rules(alloc, text.as_bytes()).err() == Some(RulesFault::Line(fault))
 }
 
 #[test]
@@ -94,11 +104,21 @@ fn hundreds_of_rules_are_read(rt: HostRuntime) -> Result<(), Fail> {
     for _ in 0..300 {
         text.extend_from_slice(b"@::/0 ::/0 0:1 0:1 6/0\n#\n@0.0.0.0/0 0.0.0.0/0 0:1 0:1 6/0\n")?;
     }
-    let file = read_rules(rt.alloc(), &text)?;
-    assert_eq!(rt; file.ip4.len(), 300);
-    assert_eq!(rt; file.ip6.len(), 300);
-    assert_eq!(rt; file.ip4.at(299).tag().userdata, 600);
+    has_hundreds(&rt, rt.alloc(), &text)
+}
+
+/// Asserts that the text has 300 rules of each family.
+fn has_hundreds(rt: &impl Abort, alloc: Global, text: &[u8]) -> Result<(), Fail> {
+    let file = read_rules(alloc, text)?;
+    are_hundreds(rt, &file.ip4, &file.ip6);
     Ok(())
+}
+
+/// Asserts that there are 300 rules of each family.
+fn are_hundreds(rt: &impl Abort, ip4: &RuleSet, ip6: &RuleSet) {
+    assert_eq!(rt; ip4.len(), 300);
+    assert_eq!(rt; ip6.len(), 300);
+    assert_eq!(rt; ip4.at(299).tag().userdata, 600);
 }
 
 /// The protocol, and the range of the ports.
@@ -117,27 +137,23 @@ const PORT_1234: FieldValue = FieldValue::Range {
     high: 1234,
 };
 
-#[test]
-fn a_printed_ip4_rule_is_one_line(rt: HostRuntime) -> Result<(), Fail> {
-    let source = FieldValue::Mask {
-        value: 0xC0A8_0100,
-        bits: 24,
-    };
-    let destination = FieldValue::Mask {
-        value: 0xC0A8_021F,
-        bits: 32,
-    };
-    let fields = [UDP, source, destination, ANY_PORT, PORT_1234];
-    let rule = StoredRule::new(rt.alloc(), tag(65535, 536_870_910, 1), &fields)?;
+/// Asserts that the rule is one of IPv4, and has this line.
+fn prints_ip4(rt: &impl Abort, alloc: Global, rule: &StoredRule, want: &[u8]) -> Result<(), Fail> {
     assert_eq!(rt;
         check_rule(&ip4_layout(), &rule.tag(), rule.fields()),
         Ok(())
     );
-    let line = print_rule(rt.alloc(), Family::Ip4, &rule)?;
+    let line = print_rule(alloc, Family::Ip4, rule)?;
+    assert_eq!(rt; line.as_slice(), want);
+    Ok(())
+}
+
+#[test]
+fn a_printed_ip4_rule_is_one_line(rt: HostRuntime) -> Result<(), Fail> {
+    let rule = StoredRule::new(rt.alloc(), tag(65535, 536_870_910, 1), &GUIDE)?;
     let want = b"@192.168.1.0/24\t192.168.2.31/32\t0 : 65535\t1234 : 1234\t0x11/0xFF\t\
         pri=536870910 cat=65535 data=1\n";
-    assert_eq!(rt; line.as_slice(), want.as_slice());
-    Ok(())
+    prints_ip4(&rt, rt.alloc(), &rule, want)
 }
 
 #[test]

@@ -1,7 +1,8 @@
 //! Rules of two and of nine values.
 
 use field_defs::FieldValue;
-use rule_set::{Rule, RuleTag};
+use rule_set::{Rule, RuleTag, StoredRule};
+use std::process::Abort;
 use std::test::Fail;
 
 const TAG: RuleTag = RuleTag {
@@ -10,6 +11,12 @@ const TAG: RuleTag = RuleTag {
     userdata: 0,
 };
 
+/// Asserts that the rule has these values and the tag.
+fn holds(rt: &impl Abort, rule: &StoredRule, fields: &[FieldValue]) {
+    assert_eq!(rt; rule.fields(), fields);
+    assert_eq!(rt; rule.tag(), TAG);
+}
+
 #[test]
 fn a_rule_of_two_values_is_stored(rt: HostRuntime) -> Result<(), Fail> {
     let fields = [
@@ -17,7 +24,7 @@ fn a_rule_of_two_values_is_stored(rt: HostRuntime) -> Result<(), Fail> {
         FieldValue::Mask { value: 6, bits: 7 },
     ];
     let rule = Rule { tag: TAG, fields }.store(rt.alloc())?;
-    assert_eq!(rt; (rule.fields(), rule.tag()), (fields.as_slice(), TAG));
+    holds(&rt, &rule, &fields);
     Ok(())
 }
 
@@ -26,6 +33,6 @@ fn a_rule_of_nine_values_is_stored(rt: HostRuntime) -> Result<(), Fail> {
     let mut fields = [FieldValue::Range { low: 4, high: 5 }; 9];
     fields[8] = FieldValue::Bitmask { value: 6, mask: 7 };
     let rule = Rule { tag: TAG, fields }.store(rt.alloc())?;
-    assert_eq!(rt; (rule.fields(), rule.tag()), (fields.as_slice(), TAG));
+    holds(&rt, &rule, &fields);
     Ok(())
 }

@@ -24,9 +24,28 @@ fn rule(
     Ok(StoredRule::new(alloc, tag, &fields)?)
 }
 
-/// The rules of the example in the DPDK Programmer's Guide, "Packet Classification and Access
+/// Adds the rule for the addresses.
+fn add(
+    rt: &impl Abort,
+    alloc: Global,
+    rules: &mut RuleSet,
+    (category_mask, priority, userdata): (u32, i32, u32),
+    addresses: (FieldValue, FieldValue),
+) -> Result<(), Fail> {
+    let tag = RuleTag {
+        category_mask,
+        priority,
+        userdata,
+    };
+    let (source, destination) = addresses;
+    assert!(rt; !rules.is_full());
+    rules.push(rule(alloc, tag, source, destination)?)?;
+    Ok(())
+}
+
+/// Adds the rules of the example in the DPDK Programmer's Guide, "Packet Classification and Access
 /// Control": one to 192.168.0.0/16, one to 192.168.1.0/24 and one from 10.1.1.1.
-fn guide_rules(rt: &impl Abort, alloc: Global) -> Result<RuleSet, Fail> {
+fn add_guide(rt: &impl Abort, alloc: Global, rules: &mut RuleSet) -> Result<(), Fail> {
     let wide = FieldValue::Mask {
         value: 0xC0A8_0000,
         bits: 16,
@@ -39,27 +58,15 @@ fn guide_rules(rt: &impl Abort, alloc: Global) -> Result<RuleSet, Fail> {
         value: 0x0A01_0101,
         bits: 32,
     };
+    add(rt, alloc, rules, (3, 1, 1), (ANY, wide))?;
+    add(rt, alloc, rules, (1, 2, 2), (ANY, narrow))?;
+    add(rt, alloc, rules, (2, 3, 3), (host, ANY))
+}
+
+/// The rules of that example.
+fn guide_rules(rt: &impl Abort, alloc: Global) -> Result<RuleSet, Fail> {
     let mut rules = RuleSet::new(alloc, ip4_layout());
-    let tag = RuleTag {
-        category_mask: 3,
-        priority: 1,
-        userdata: 1,
-    };
-    rules.push(rule(alloc, tag, ANY, wide)?)?;
-    let tag = RuleTag {
-        category_mask: 1,
-        priority: 2,
-        userdata: 2,
-    };
-    assert!(rt; !rules.is_full());
-    rules.push(rule(alloc, tag, ANY, narrow)?)?;
-    let tag = RuleTag {
-        category_mask: 2,
-        priority: 3,
-        userdata: 3,
-    };
-    assert!(rt; !rules.is_full());
-    rules.push(rule(alloc, tag, host, ANY)?)?;
+    add_guide(rt, alloc, &mut rules)?;
     Ok(rules)
 }
 
@@ -102,13 +109,7 @@ fn the_last_of_three_hundred_rules_is_found(rt: HostRuntime) -> Result<(), Fail>
             value: u64::from(number),
             bits: 32,
         };
-        let tag = RuleTag {
-            category_mask: 1,
-            priority: 4,
-            userdata: number,
-        };
-        assert!(rt; !rules.is_full());
-        rules.push(rule(rt.alloc(), tag, host, ANY)?)?;
+        add(&rt, rt.alloc(), &mut rules, (1, 4, number), (host, ANY))?;
     }
     // 300 is the address 0.0.1.44.
     let key = [17, 0, 0, 1, 44, 201, 212, 111, 12, 0, 1, 0, 2];
@@ -117,7 +118,8 @@ fn the_last_of_three_hundred_rules_is_found(rt: HostRuntime) -> Result<(), Fail>
 }
 
 /// In each of the categories the winner's userdata is 100 plus the category.
-fn each_has_its_own(rt: &impl Abort, rules: &RuleSet, cats: &Categories) {
+fn each_has_its_own(rt: &impl Abort, rules: &RuleSet, count: u32) {
+    let cats = Categories::new(count).expect(rt, "a number of categories");
     let key = [0; 13];
     assert!(rt; key.len() == rules.layout().key_len());
     for category in 0..cats.count() as u32 {
@@ -130,19 +132,11 @@ fn each_category_has_its_own_winner(rt: HostRuntime) -> Result<(), Fail> {
     // A rule for all categories, and one of a greater priority for each.
     let mut rules = guide_rules(&rt, rt.alloc())?;
     for category in 0..MAX_CATEGORIES as u32 {
-        let tag = RuleTag {
-            category_mask: 1 << category,
-            priority: 4,
-            userdata: 100 + category,
-        };
-        assert!(rt; !rules.is_full());
-        rules.push(rule(rt.alloc(), tag, ANY, ANY)?)?;
+        let tag = (1 << category, 4, 100 + category);
+        add(&rt, rt.alloc(), &mut rules, tag, (ANY, ANY))?;
     }
     for n in [1, 4, 8, 12, 16] {
-        match Categories::new(n) {
-            Some(cats) => each_has_its_own(&rt, &rules, &cats),
-            None => assert_eq!(rt; n, 0),
-        }
+        each_has_its_own(&rt, &rules, n);
     }
     Ok(())
 }

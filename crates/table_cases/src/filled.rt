@@ -84,10 +84,15 @@ fn check_one(
     let mut rules = RuleSet::new(alloc, ip4_layout());
     add(rt, alloc, &mut rules, fields)?;
     let table = fill_one(rt, alloc, &rules)?;
+    has_root(rt, &table, words, root);
+    Ok(())
+}
+
+/// The table has so many words, and one trie with this root.
+fn has_root(rt: &impl Abort, table: &Table, words: u64, root: u64) {
     assert_eq!(rt; table.total_words(), words);
     assert!(rt; table.tries() == 1);
     assert_eq!(rt; table.root(0), root);
-    Ok(())
 }
 
 #[test]
@@ -123,35 +128,32 @@ fn tables_of_one_rule_have_the_words_of_their_nodes(rt: HostRuntime) -> Result<(
     Ok(())
 }
 
-#[test]
-fn a_second_trie_stands_after_the_first(rt: HostRuntime) -> Result<(), Fail> {
+/// Adds two rules by their sources, and one by its destination.
+fn add_three(rt: &impl Abort, alloc: Global, rules: &mut RuleSet) -> Result<(), Fail> {
     let any = ports(0, 0xFFFF);
-    let mut rules = RuleSet::new(rt.alloc(), ip4_layout());
-    add(
-        &rt,
-        rt.alloc(),
-        &mut rules,
-        [ANY, net(0x0A00_0000, 8), ALL, any, any],
-    )?;
-    add(
-        &rt,
-        rt.alloc(),
-        &mut rules,
-        [ANY, net(0x1400_0000, 8), ALL, any, any],
-    )?;
-    add(
-        &rt,
-        rt.alloc(),
-        &mut rules,
-        [ANY, ALL, net(0x1E01_0101, 32), any, any],
-    )?;
-    let table = fill_two(&rt, rt.alloc(), &rules, 2)?;
+    let (ten, twenty) = (net(0x0A00_0000, 8), net(0x1400_0000, 8));
+    add(rt, alloc, rules, [ANY, ten, ALL, any, any])?;
+    add(rt, alloc, rules, [ANY, twenty, ALL, any, any])?;
+    let host = net(0x1E01_0101, 32);
+    add(rt, alloc, rules, [ANY, ALL, host, any, any])
+}
+
+/// The table of the first two of those rules, and of the third one in a second trie.
+fn has_second(rt: &impl Abort, table: &Table) {
     assert_eq!(rt; table.total_words(), 95);
     assert!(rt; table.tries() == 2);
     assert_eq!(rt; table.root(1), 0xFFFF_1E1D_6000_000B);
     // The second trie's rows are numbered from 3 on.
     assert!(rt; matches!(table.words().get(27), Some(0x8000_0003)));
     assert!(rt; matches!(table.rows().get(3), Some(row) if row[15] == 0x1_0000_0003));
+}
+
+#[test]
+fn a_second_trie_stands_after_the_first(rt: HostRuntime) -> Result<(), Fail> {
+    let mut rules = RuleSet::new(rt.alloc(), ip4_layout());
+    add_three(&rt, rt.alloc(), &mut rules)?;
+    let table = fill_two(&rt, rt.alloc(), &rules, 2)?;
+    has_second(&rt, &table);
     let table = fill_one(&rt, rt.alloc(), &rules)?;
     assert_eq!(rt; table.total_words(), 136);
     Ok(())

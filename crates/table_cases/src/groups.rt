@@ -59,18 +59,44 @@ fn a_wild_rule_keeps_the_first_place_alone(rt: HostRuntime) -> Result<(), Fail> 
     let mut rules = RuleSet::new(rt.alloc(), ip4_layout());
     add(&rt, rt.alloc(), &mut rules, 1, ANY)?;
     // A node of one run and a row.
-    let (levels, count) = of_all(&rt, rt.alloc(), &rules, 17)?;
+    let levels = within_cap(&rt, rt.alloc(), &rules, 17)?;
+    has_one_place(&rt, &levels);
+    is_over_cap(&rt, rt.alloc(), &rules, 16, 17)
+}
+
+/// The states of all rules, which have as many words as the cap.
+fn within_cap(rt: &impl Abort, alloc: Global, rules: &RuleSet, cap: u64) -> Result<Levels, Fail>
+    requires { cap ≤ max_words }
+{
+    let (levels, count) = of_all(rt, alloc, rules, cap)?;
     let levels = levels?;
-    assert_eq!(rt; count, 17);
-    assert_eq!(rt; levels.words(), 17);
+    assert_eq!(rt; count, cap);
+    assert_eq!(rt; levels.words(), cap);
+    Ok(levels)
+}
+
+/// All rules have more words than the cap: so many, as far as they are counted.
+fn is_over_cap(
+    rt: &impl Abort,
+    alloc: Global,
+    rules: &RuleSet,
+    cap: u64,
+    counted: u64,
+) -> Result<(), Fail>
+    requires { cap ≤ max_words }
+{
+    let (levels, count) = of_all(rt, alloc, rules, cap)?;
+    assert_eq!(rt; count, counted);
+    assert!(rt; matches!(levels, Err(MergeFault::OverCap)));
+    Ok(())
+}
+
+/// The states are of rule 0, at the first place alone, and have one row.
+fn has_one_place(rt: &impl Abort, levels: &Levels) {
     assert_eq!(rt; levels.kept(), 1);
     assert_eq!(rt; levels.group(), [0u32].as_slice());
     assert_eq!(rt; levels.depths(), 1);
     assert_eq!(rt; levels.rows(), 1);
-    let (levels, count) = of_all(&rt, rt.alloc(), &rules, 16)?;
-    assert_eq!(rt; count, 17);
-    assert!(rt; matches!(levels, Err(MergeFault::OverCap)));
-    Ok(())
 }
 
 #[test]
@@ -83,11 +109,6 @@ fn words_are_counted_to_the_cap(rt: HostRuntime) -> Result<(), Fail> {
     add(&rt, rt.alloc(), &mut rules, 1, net)?;
     add(&rt, rt.alloc(), &mut rules, 2, ANY)?;
     // A node of three runs, two nodes of one run at each of three places, and two rows.
-    let (levels, count) = of_all(&rt, rt.alloc(), &rules, 43)?;
-    assert_eq!(rt; count, 43);
-    assert_eq!(rt; levels?.words(), 43);
-    let (levels, count) = of_all(&rt, rt.alloc(), &rules, 42)?;
-    assert_eq!(rt; count, 43);
-    assert!(rt; matches!(levels, Err(MergeFault::OverCap)));
-    Ok(())
+    within_cap(&rt, rt.alloc(), &rules, 43)?;
+    is_over_cap(&rt, rt.alloc(), &rules, 42, 43)
 }

@@ -2,6 +2,7 @@
 //! of them.
 
 use std::alloc::Global;
+use std::process::Abort;
 use std::test::Fail;
 use table_image::{ImageFault, ImageKind, LoadFault, load, save};
 
@@ -148,30 +149,35 @@ fn all_prefixes_refused(alloc: Global, bytes: &[u8]) -> Result<bool, Fail> {
     Ok(true)
 }
 
+/// The image is loaded, its IPv4 table has so many words, and it is saved again.
+fn saved_again(rt: &impl Abort, alloc: Global, image: &[u8], words: u64) -> Result<Vec<u8>, Fail> {
+    let pair = load(alloc, image)?;
+    assert_eq!(rt; pair.ip4.total_words(), words);
+    Ok(save(alloc, &pair.ip4, &pair.ip6)?)
+}
+
 #[test]
-fn an_image_of_either_version_is_loaded_and_saved_as_version_2(
-    rt: HostRuntime,
-) -> Result<(), Fail> {
-    let alloc = rt.alloc();
-    let two = version_2(alloc)?;
+fn an_image_of_version_2_is_loaded_and_saved_as_it_was(rt: HostRuntime) -> Result<(), Fail> {
+    let two = version_2(rt.alloc())?;
     assert_eq!(rt; two.len(), 192);
-    let pair = load(alloc, &two)?;
-    assert_eq!(rt; pair.ip4.total_words(), 33);
-    assert_eq!(rt; save(alloc, &pair.ip4, &pair.ip6)?, two);
-    let one = version_1(alloc)?;
-    assert_eq!(rt; one.len(), 332);
-    let old = load(alloc, &one)?;
-    assert_eq!(rt; old.ip4.total_words(), 45);
-    assert_eq!(rt; save(alloc, &old.ip4, &old.ip6)?.len(), 336);
+    assert_eq!(rt; saved_again(&rt, rt.alloc(), &two, 33)?, two);
     Ok(())
 }
 
 #[test]
-fn a_changed_byte_is_refused_where_its_field_stands(rt: HostRuntime) -> Result<(), Fail> {
-    let alloc = rt.alloc();
-    let one = version_1(alloc)?;
-    let two = version_2(alloc)?;
-    let of_one = [
+fn an_image_of_version_1_is_loaded_and_saved_as_version_2(rt: HostRuntime) -> Result<(), Fail> {
+    let one = version_1(rt.alloc())?;
+    assert_eq!(rt; one.len(), 332);
+    assert_eq!(rt; saved_again(&rt, rt.alloc(), &one, 45)?.len(), 336);
+    Ok(())
+}
+
+#[test]
+fn a_changed_byte_of_version_1_is_refused_where_its_field_stands(
+    rt: HostRuntime,
+) -> Result<(), Fail> {
+    let one = version_1(rt.alloc())?;
+    let changes = [
         (0, 0x42, 0, ImageKind::Magic),
         (7, 3, 4, ImageKind::Version),
         (11, 6, 8, ImageKind::Family),
@@ -181,7 +187,16 @@ fn a_changed_byte_is_refused_where_its_field_stands(rt: HostRuntime) -> Result<(
         (191, 0, 188, ImageKind::RowForm),
         (319, 4, 316, ImageKind::Family),
     ];
-    let of_two = [
+    assert!(rt; all_refused(rt.alloc(), &one, &changes)?);
+    Ok(())
+}
+
+#[test]
+fn a_changed_byte_of_version_2_is_refused_where_its_field_stands(
+    rt: HostRuntime,
+) -> Result<(), Fail> {
+    let two = version_2(rt.alloc())?;
+    let changes = [
         (7, 3, 4, ImageKind::Version),
         (27, 0, 24, ImageKind::KeptGroups),
         (27, 0x11, 24, ImageKind::KeptGroups),
@@ -189,36 +204,35 @@ fn a_changed_byte_is_refused_where_its_field_stands(rt: HostRuntime) -> Result<(
         (51, 0, 48, ImageKind::RowForm),
         (51, 2, 48, ImageKind::RowForm),
     ];
-    assert!(rt; all_refused(alloc, &one, &of_one)?);
-    assert!(rt; all_refused(alloc, &two, &of_two)?);
-    assert_eq!(rt; fault_with(alloc, &two, 55, 0)?, None);
+    assert!(rt; all_refused(rt.alloc(), &two, &changes)?);
+    assert_eq!(rt; fault_with(rt.alloc(), &two, 55, 0)?, None);
+    Ok(())
+}
+
+/// The bytes are refused for this fault.
+fn is_refused(
+    rt: &impl Abort,
+    alloc: Global,
+    bytes: &[u8],
+    place: u64,
+    kind: ImageKind,
+) -> Result<(), Fail> {
+    assert_eq!(rt; fault_of(alloc, bytes)?, Some(ImageFault { place, kind }));
     Ok(())
 }
 
 #[test]
-fn bytes_that_lack_or_that_are_left_are_refused(rt: HostRuntime) -> Result<(), Fail> {
-    let alloc = rt.alloc();
-    let mut one = version_1(alloc)?;
-    let mut two = version_2(alloc)?;
-    assert!(rt; all_prefixes_refused(alloc, &one)?);
-    assert!(rt; all_prefixes_refused(alloc, &two)?);
+fn bytes_that_lack_are_refused(rt: HostRuntime) -> Result<(), Fail> {
+    let mut one = version_1(rt.alloc())?;
+    assert!(rt; all_prefixes_refused(rt.alloc(), &one)?);
     let _last = one.pop();
-    let cut = fault_of(alloc, &one)?;
-    assert_eq!(rt;
-        cut,
-        Some(ImageFault {
-            place: 328,
-            kind: ImageKind::Length
-        })
-    );
+    is_refused(&rt, rt.alloc(), &one, 328, ImageKind::Length)
+}
+
+#[test]
+fn bytes_that_lack_or_that_are_left_are_refused(rt: HostRuntime) -> Result<(), Fail> {
+    let mut two = version_2(rt.alloc())?;
+    assert!(rt; all_prefixes_refused(rt.alloc(), &two)?);
     two.push(0)?;
-    let more = fault_of(alloc, &two)?;
-    assert_eq!(rt;
-        more,
-        Some(ImageFault {
-            place: 192,
-            kind: ImageKind::Trailing
-        })
-    );
-    Ok(())
+    is_refused(&rt, rt.alloc(), &two, 192, ImageKind::Trailing)
 }

@@ -45,61 +45,127 @@ struct Place {
     after: u8,
 }
 
+/// A kept place and the next one, if any.
+#[derive(Clone, Copy, Debug)]
+struct Step {
+    place: Place,
+    next: Option<Place>,
+}
+
 /// The merged states of the group, as it is counted here.
 pub fn recount(alloc: Global, rules: &RuleSet, group: &[u32]) -> Result<Counted, AllocError> {
     let defs = rules.layout().fields();
     let rules = rules.all();
     let kept = kept_groups(rules, defs, group);
     let places = kept_places(alloc, defs, kept)?;
-    let mut states = Vec::new(alloc);
-    states.push(first_state(alloc, rules, group, places.first())?)?;
-    let mut levels = Vec::new(alloc);
-    let mut rows = Vec::new(alloc);
-    for (depth, place) in places.iter().enumerate() {
-        let next = places.get(depth.wrapping_add(1));
-        let mut found = Vec::new(alloc);
-        let mut level = Vec::new(alloc);
-        for state in states.iter() {
-            let state = state.as_slice();
-            let to = successors(alloc, rules, state, place, next, &mut found, &mut rows)?;
-            level.push(runs_of(alloc, to.as_slice())?)?;
-        }
-        levels.push(level)?;
-        states = found;
-    }
-    let words = words_of(levels.as_slice(), rows.len());
+    let mut count = Count {
+        states: Vec::new(alloc),
+        levels: Vec::new(alloc),
+        rows: Vec::new(alloc),
+    };
+    count_levels(alloc, rules, group, &places, &mut count)?;
+    let words = words_of(count.levels.as_slice(), count.rows.len());
     Ok(Counted {
         kept,
-        levels,
-        rows,
+        levels: count.levels,
+        rows: count.rows,
         words,
     })
 }
 
-/// What each byte leads to from a state: a state before the next kept place, or a row after the
-/// last one. Those that are new join the ones found.
+/// How far the count has come: the states before the place that is reached, and the levels and the
+/// rows so far.
+#[derive(Drop)]
+struct Count {
+    states: Vec<Vec<Rest>>,
+    levels: Vec<Vec<Vec<Run>>>,
+    rows: Vec<Vec<u32>>,
+}
+
+/// Counts the states before each kept place, from the first one on.
+fn count_levels(
+    alloc: Global,
+    rules: &[StoredRule],
+    group: &[u32],
+    places: &[Place],
+    count: &mut Count,
+) -> Result<(), AllocError> {
+    let first = first_state(alloc, rules, group, places.first())?;
+    count.states.push(first)?;
+    for (depth, place) in places.iter().enumerate() {
+        let next = places.get(depth.wrapping_add(1)).copied();
+        let step = Step {
+            place: *place,
+            next,
+        };
+        count_level(alloc, rules, step, count)?;
+    }
+    Ok(())
+}
+
+/// Counts the states before a place, and goes on to those after it.
+fn count_level(
+    alloc: Global,
+    rules: &[StoredRule],
+    step: Step,
+    count: &mut Count,
+) -> Result<(), AllocError> {
+    let mut found = Vec::new(alloc);
+    let states = count.states.as_slice();
+    let level = level_of(alloc, rules, step, states, &mut found, &mut count.rows)?;
+    count.levels.push(level)?;
+    count.states = found;
+    Ok(())
+}
+
+/// The runs of each of the states. Those that they lead to join the ones found.
+fn level_of(
+    alloc: Global,
+    rules: &[StoredRule],
+    step: Step,
+    states: &[Vec<Rest>],
+    found: &mut Vec<Vec<Rest>>,
+    rows: &mut Vec<Vec<u32>>,
+) -> Result<Vec<Vec<Run>>, AllocError> {
+    let mut level = Vec::new(alloc);
+    for state in states {
+        let to = successors(alloc, rules, step, state.as_slice(), found, rows)?;
+        level.push(runs_of(alloc, to.as_slice())?)?;
+    }
+    Ok(level)
+}
+
+/// What each byte leads to from a state.
 fn successors(
     alloc: Global,
     rules: &[StoredRule],
+    step: Step,
     state: &[Rest],
-    place: &Place,
-    next: Option<&Place>,
     found: &mut Vec<Vec<Rest>>,
     rows: &mut Vec<Vec<u32>>,
 ) -> Result<Vec<Succ>, AllocError> {
     let mut successors = Vec::new(alloc);
     for byte in 0..=255u8 {
-        let after = state_after(alloc, rules, state, place, next, byte)?;
-        let to = match next {
+        let after = state_after(alloc, rules, step, state, byte)?;
+        let to = match step.next {
             Some(_) => number_in(found, after)?.map_or(Succ::Dead, Succ::State),
-            None => {
-                let row = row_of(alloc, rules, after.as_slice())?;
-                number_in(rows, row)?.map_or(Succ::Dead, Succ::Row)
-            }
+            None => last_successor(alloc, rules, after.as_slice(), rows)?,
         };
         successors.push(to)?;
     }
     Ok(successors)
+}
+
+/// What a state after the last place leads to: a row, which joins those that were found where it is
+/// new.
+fn last_successor(
+    alloc: Global,
+    rules: &[StoredRule],
+    state: &[Rest],
+    rows: &mut Vec<Vec<u32>>,
+) -> Result<Succ, AllocError> {
+    let row = row_of(alloc, rules, state)?;
+    Ok(number_in(rows, row)?.map_or(Succ::Dead, Succ::Row))
 }
 
 /// The value of a rule for a field.
@@ -187,7 +253,7 @@ fn rest_before(rules: &[StoredRule], rule: u32, place: Option<&Place>) -> Option
 }
 
 /// What a value allows after one more byte, or none where it lets no number through any more.
-fn step(value: FieldValue, after: u8, rest: &Rest, byte: u8) -> Option<(u64, u64)> {
+fn allowed_after(value: FieldValue, after: u8, rest: &Rest, byte: u8) -> Option<(u64, u64)> {
     let shift = 8 * u32::from(after);
     if let FieldValue::Bitmask { value, mask } = value {
         let wrong = (value.wrapping_shr(shift) ^ u64::from(byte)) & mask.wrapping_shr(shift) & 0xFF;
@@ -204,17 +270,11 @@ fn step(value: FieldValue, after: u8, rest: &Rest, byte: u8) -> Option<(u64, u64
 }
 
 /// What a rule allows after one more byte, before the next kept place.
-fn rest_after(
-    rules: &[StoredRule],
-    rest: &Rest,
-    place: &Place,
-    next: Option<&Place>,
-    byte: u8,
-) -> Option<Rest> {
-    let value = value_of(rules, rest.rule, place.field)?;
-    let (low, high) = step(value, place.after, rest, byte)?;
-    if place.after == 0 {
-        rest_before(rules, rest.rule, next)
+fn rest_after(rules: &[StoredRule], at: Step, rest: &Rest, byte: u8) -> Option<Rest> {
+    let value = value_of(rules, rest.rule, at.place.field)?;
+    let (low, high) = allowed_after(value, at.place.after, rest, byte)?;
+    if at.place.after == 0 {
+        rest_before(rules, rest.rule, at.next.as_ref())
     } else {
         let rule = rest.rule;
         Some(Rest { rule, low, high })
@@ -241,14 +301,13 @@ fn first_state(
 fn state_after(
     alloc: Global,
     rules: &[StoredRule],
+    step: Step,
     state: &[Rest],
-    place: &Place,
-    next: Option<&Place>,
     byte: u8,
 ) -> Result<Vec<Rest>, AllocError> {
     let mut after = Vec::new(alloc);
     for rest in state {
-        if let Some(rest) = rest_after(rules, rest, place, next, byte) {
+        if let Some(rest) = rest_after(rules, step, rest, byte) {
             after.push(rest)?;
         }
     }

@@ -10,6 +10,7 @@ use std::alloc::Global;
 use std::process::Abort;
 use std::test::Fail;
 use table_sizes::MAX_WORDS;
+use trie_merge::Levels;
 
 const ANY: FieldValue = FieldValue::Mask { value: 0, bits: 0 };
 
@@ -59,14 +60,44 @@ fn split(
     }
 }
 
+/// The rules are split so under the budget.
+fn splits(
+    rt: &impl Abort,
+    alloc: Global,
+    rules: &RuleSet,
+    budget: u64,
+    expected: Result<(usize, u64), u64>,
+) -> Result<(), Fail> {
+    assert_eq!(rt; split(rt, alloc, rules, budget)?, expected);
+    Ok(())
+}
+
 #[test]
-fn rules_are_split_until_their_words_fit(rt: HostRuntime) -> Result<(), Fail> {
+fn no_rule_has_the_words_of_the_empty_row(rt: HostRuntime) -> Result<(), Fail> {
     let none = rules_of(&rt, rt.alloc(), &[])?;
-    // One node of one run and a row.
+    splits(&rt, rt.alloc(), &none, 16, Ok((0, 16)))?;
+    splits(&rt, rt.alloc(), &none, 15, Err(16))
+}
+
+#[test]
+fn a_wild_rule_has_one_node_of_one_run_and_a_row(rt: HostRuntime) -> Result<(), Fail> {
     let wild = rules_of(&rt, rt.alloc(), &[(ANY, ANY)])?;
+    splits(&rt, rt.alloc(), &wild, 33, Ok((1, 33)))?;
+    splits(&rt, rt.alloc(), &wild, 32, Err(33))
+}
+
+#[test]
+fn two_rules_are_split_until_their_words_fit(rt: HostRuntime) -> Result<(), Fail> {
     // Together 43 words, and each by itself 24 and 17.
     let pair = [(ANY, net(0x0A00_0000, 8)), (ANY, ANY)];
     let pair = rules_of(&rt, rt.alloc(), &pair)?;
+    splits(&rt, rt.alloc(), &pair, 59, Ok((1, 59)))?;
+    splits(&rt, rt.alloc(), &pair, 58, Ok((2, 57)))?;
+    splits(&rt, rt.alloc(), &pair, 56, Err(57))
+}
+
+#[test]
+fn three_rules_are_split_until_their_words_fit(rt: HostRuntime) -> Result<(), Fail> {
     // Together 120 words, the two sources 43, the host 36, and a source by itself 24.
     let three = [
         (net(0x0A00_0000, 8), ANY),
@@ -74,22 +105,16 @@ fn rules_are_split_until_their_words_fit(rt: HostRuntime) -> Result<(), Fail> {
         (ANY, net(0x1E01_0101, 32)),
     ];
     let three = rules_of(&rt, rt.alloc(), &three)?;
-    let cases = [
-        (&none, 16, Ok((0, 16))),
-        (&none, 15, Err(16)),
-        (&wild, 33, Ok((1, 33))),
-        (&wild, 32, Err(33)),
-        (&pair, 59, Ok((1, 59))),
-        (&pair, 58, Ok((2, 57))),
-        (&pair, 56, Err(57)),
-        (&three, 136, Ok((1, 136))),
-        (&three, 135, Ok((2, 95))),
-        (&three, 94, Err(100)),
-    ];
-    for (rules, budget, expected) in cases.iter() {
-        assert_eq!(rt; split(&rt, rt.alloc(), rules, *budget)?, *expected);
-    }
-    Ok(())
+    splits(&rt, rt.alloc(), &three, 136, Ok((1, 136)))?;
+    splits(&rt, rt.alloc(), &three, 135, Ok((2, 95)))?;
+    splits(&rt, rt.alloc(), &three, 94, Err(100))
+}
+
+/// There are two groups, of which the first has the second and the third rule.
+fn sources_come_first(rt: &impl Abort, levels: &[Levels]) {
+    assert_eq!(rt; levels.len(), 2);
+    assert_eq!(rt; levels[0].group(), [1u32, 2].as_slice());
+    assert_eq!(rt; levels[1].group(), [0u32].as_slice());
 }
 
 #[test]
@@ -101,9 +126,6 @@ fn rules_that_bound_the_source_come_first(rt: HostRuntime) -> Result<(), Fail> {
     ];
     let rules = rules_of(&rt, rt.alloc(), &rules)?;
     let plan = plan(rt.alloc(), &rules, 135)?;
-    let levels = plan.levels();
-    assert_eq!(rt; levels.len(), 2);
-    assert_eq!(rt; levels[0].group(), [1u32, 2].as_slice());
-    assert_eq!(rt; levels[1].group(), [0u32].as_slice());
+    sources_come_first(&rt, plan.levels());
     Ok(())
 }

@@ -1,13 +1,11 @@
 //! `bench` as a whole command. The hits and the sum of 64 rules were counted by a program of their
 //! own, which reads a workload's words as PCG's C library prints them.
 
-use crate::commands::{FAULTLESS, expect, run_counted};
-use acl_outside::{MemDesk, MemSink};
+use crate::commands::{FAULTLESS, assert_ended, expect, run_words, sink};
+use acl_outside::MemDesk;
 use acl_tool::{Status, UsageFault, UsageKind};
 use std::alloc::AllocError;
-use std::marker::Brand;
 use std::process::Abort;
-use std::sync::ledger::Blank;
 use std::test::Fail;
 
 const NO_SEED: &str = "aclc: usage: word 2: missing name\n";
@@ -17,23 +15,22 @@ const BAD_SEED: &str = "aclc: usage: word 2: bad value\n";
 /// What the words print, without any file.
 fn printed<R: Abort + AllocGlobal>(rt: &R, words: &[&str]) -> Result<Vec<u8>, AllocError> {
     let alloc = rt.alloc();
-    let mut desk = MemDesk::new(
-        alloc,
-        Vec::new(alloc),
-        1,
-        0,
-        Vec::new(alloc),
-        Vec::new(alloc),
-    )?;
-    let mut out = MemSink::new(alloc, 1000, 1000, Vec::new(alloc))?;
-    let mut err = MemSink::new(alloc, 1000, 1000, Vec::new(alloc))?;
-    let mut owned = Vec::new(alloc);
-    for word in words {
-        owned.push(String::from_str(alloc, word)?)?;
-    }
-    let status = run_counted::<Brand>(Blank::new(1), alloc, &owned, &mut desk, &mut out, &mut err);
-    assert_eq!(rt; status, Status::Done);
-    Vec::from_slice(alloc, out.bytes())
+    let (files, none) = (Vec::new(alloc), Vec::new(alloc));
+    let mut desk = MemDesk::new(alloc, files, 1, 0, none, Vec::new(alloc))?;
+    printed_over(rt, words, &mut desk)
+}
+
+/// What the words print over a desk.
+fn printed_over<R: Abort + AllocGlobal>(
+    rt: &R,
+    words: &[&str],
+    desk: &mut MemDesk,
+) -> Result<Vec<u8>, AllocError> {
+    let mut out = sink(rt, 1000, 0)?;
+    let mut err = sink(rt, 1000, 0)?;
+    let status = run_words(rt.alloc(), words, desk, &mut out, &mut err)?;
+    assert_ended(rt, status, Status::Done);
+    Vec::from_slice(rt.alloc(), out.bytes())
 }
 
 #[test]
@@ -54,17 +51,22 @@ fn a_workload_has_four_lines(rt: HostRuntime) -> Result<(), Fail> {
     Ok(())
 }
 
-#[test]
-fn filter_and_table_agree_on_drawn_packets_each_time(rt: HostRuntime) -> Result<(), Fail> {
-    let words: &[&str] = &["bench", "42", "64", "500"];
-    let first = printed(&rt, words)?;
-    let second = printed(&rt, words)?;
+/// The hits and the sum are those that were counted, each time.
+fn assert_alike(rt: &impl Abort, first: &[u8], second: &[u8]) {
     let lines = b"rules 64 packets 500
 plain hits 2881 sum 90856
 table hits 2881 sum 90856
 tries ";
     assert!(rt; first.starts_with(lines));
-    assert_eq!(rt; first.as_slice(), second.as_slice());
+    assert_eq!(rt; first, second);
+}
+
+#[test]
+fn filter_and_table_agree_on_drawn_packets_each_time(rt: HostRuntime) -> Result<(), Fail> {
+    let words: &[&str] = &["bench", "42", "64", "500"];
+    let first = printed(&rt, words)?;
+    let second = printed(&rt, words)?;
+    assert_alike(&rt, &first, &second);
     Ok(())
 }
 

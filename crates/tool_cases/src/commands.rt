@@ -5,6 +5,7 @@ ghost use Rattle.std.specs.Prelude.{◌≡◌, ◌<◌};
 mod audits;
 mod comparisons;
 mod images;
+mod reports;
 mod sessions;
 mod tables;
 
@@ -25,25 +26,9 @@ const GUIDE: &[u8] =
 /// A rule that matches every IPv4 packet.
 const ANY: &[u8] = b"@0.0.0.0/0 0.0.0.0/0 0:65535 0:65535 0x00/0x00";
 
-/// The three rules of that chapter: one to a wide network, one to a narrow one, one from a host.
-const THREE: &[u8] = b"@0.0.0.0/0 192.168.0.0/16 0:65535 0:65535 0x00/0x00 pri=1 cat=3 data=1
-@0.0.0.0/0 192.168.1.0/24 0:65535 0:65535 0x00/0x00 pri=2 cat=1 data=2
-@10.1.1.1/32 0.0.0.0/0 0:65535 0:65535 0x00/0x00 pri=3 cat=2 data=3
-";
-
-/// One rule of each family.
-const BOTH: &[u8] = b"@0.0.0.0/0 0.0.0.0/0 0:65535 80:80 0x06/0xFF
-@::/0 ::/0 0:65535 0:0 0x11/0xFF
-";
-
 /// The file header of a little-endian capture of Ethernet frames, in microseconds.
 const HEADER: &[u8] = &[
     0xD4, 0xC3, 0xB2, 0xA1, 2, 0, 4, 0, 0, 0, 0, 0, 0, 0, 0, 0, 0, 0, 4, 0, 1, 0, 0, 0,
-];
-
-/// The same big-endian, in nanoseconds.
-const BIG_HEADER: &[u8] = &[
-    0xA1, 0xB2, 0x3C, 0x4D, 0, 2, 0, 4, 0, 0, 0, 0, 0, 0, 0, 0, 0, 4, 0, 0, 0, 0, 0, 1,
 ];
 
 /// The start of an Ethernet frame that holds IPv4.
@@ -51,19 +36,6 @@ const IP4_FRAME: &[u8] = &[0, 0, 0, 0, 0, 0, 0, 0, 0, 0, 0, 0, 8, 0];
 
 /// The start of an IPv4 header of UDP, up to the addresses.
 const UDP: &[u8] = &[0x45, 0, 0, 24, 0, 0, 0, 0, 64, 17, 0, 0];
-
-/// TCP after two tags and an option of the IPv4 header, to port 80.
-const TAGGED: &[u8] = &[
-    0, 0, 0, 0, 0, 0, 0, 0, 0, 0, 0, 0, 0x88, 0xA8, 0, 1, 0x81, 0, 0, 2, 8, 0, 0x46, 0, 0, 28, 0,
-    0, 0, 0, 64, 6, 0, 0, 1, 2, 3, 4, 5, 6, 7, 8, 1, 1, 1, 1, 3, 232, 0, 80,
-];
-
-/// A later fragment of UDP over IPv6, after a hop-by-hop header.
-const FRAGMENT: &[u8] = &[
-    0, 0, 0, 0, 0, 0, 0, 0, 0, 0, 0, 0, 0x86, 0xDD, 0x60, 0, 0, 0, 0, 20, 0, 64, 0, 0, 0, 0, 0, 0,
-    0, 0, 0, 0, 0, 0, 0, 0, 0, 1, 0, 0, 0, 0, 0, 0, 0, 0, 0, 0, 0, 0, 0, 0, 0, 2, 44, 0, 0, 0, 0,
-    0, 0, 0, 17, 0, 0, 8, 0, 0, 0, 0, 0, 1, 0, 2,
-];
 
 /// Puts a record of these captured bytes, below 256 of them, at the end of a capture.
 fn add_record(capture: &mut Vec<u8>, captured: &[&[u8]]) -> Result<(), AllocError> {
@@ -88,12 +60,18 @@ fn to_port(port: u8) -> [u8; 12] {
     [192, 168, 1, 5, 192, 168, 2, 31, 19, 136, 4, port]
 }
 
+/// A capture of UDP packets of these addresses and ports.
+fn udp_capture(alloc: Global, all: &[[u8; 12]]) -> Result<Vec<u8>, AllocError> {
+    let mut capture = Vec::from_slice(alloc, HEADER)?;
+    for ends in all {
+        add_udp(&mut capture, ends)?;
+    }
+    Ok(capture)
+}
+
 /// A capture of two UDP packets, to the ports 1234 and 1235.
 fn guide_capture(alloc: Global) -> Result<Vec<u8>, AllocError> {
-    let mut capture = Vec::from_slice(alloc, HEADER)?;
-    add_udp(&mut capture, &to_port(210))?;
-    add_udp(&mut capture, &to_port(211))?;
-    Ok(capture)
+    udp_capture(alloc, &[to_port(210), to_port(211)])
 }
 
 /// How the outside is made for a command: how much a call moves, and the number of the call that
@@ -113,15 +91,21 @@ pub(crate) const FAULTLESS: Outside = Outside {
     failing_put: 0,
 };
 
-fn file(alloc: Global, name: &str, bytes: &[u8]) -> Result<MemFile, AllocError> {
-    Ok(MemFile {
-        name: String::from_str(alloc, name)?,
-        bytes: Vec::from_slice(alloc, bytes)?,
-    })
+/// Adds a file of this name and these bytes.
+pub(crate) fn add_file(
+    alloc: Global,
+    files: &mut Vec<MemFile>,
+    name: &str,
+    bytes: &[u8],
+) -> Result<(), AllocError> {
+    let name = String::from_str(alloc, name)?;
+    let bytes = Vec::from_slice(alloc, bytes)?;
+    files.push(MemFile { name, bytes })?;
+    Ok(())
 }
 
 /// Runs the words with a counter that nobody sees.
-pub(crate) fn run_counted<L: Ledger>(
+fn run_counted<L: Ledger>(
     blank: Blank,
     alloc: Global,
     words: &[String],
@@ -147,156 +131,105 @@ pub(crate) fn expect<R: Abort + AllocGlobal>(
     outside: Outside,
     want: (Status, &str, &str, u64),
 ) -> Result<(), AllocError> {
+    let mut desk = desk_of(rt, rules, capture, outside)?;
+    let puts = (outside.put_piece, outside.failing_put);
+    expect_over(rt, words, &mut desk, puts, (want.0, want.1, want.2))?;
+    assert_eq!(rt; desk.read_fault_count(), want.3);
+    Ok(())
+}
+
+/// The same over a desk, but for its faults, where the output takes so many bytes in a put, and the
+/// put of this number fails.
+fn expect_over<R: Abort + AllocGlobal>(
+    rt: &R,
+    words: &[&str],
+    desk: &mut MemDesk,
+    (put_piece, failing_put): (usize, u64),
+    (status, printed, told): (Status, &str, &str),
+) -> Result<(), AllocError> {
+    let mut out = sink(rt, put_piece, failing_put)?;
+    let mut err = sink(rt, 1000, 0)?;
+    let ended = run_words(rt.alloc(), words, desk, &mut out, &mut err)?;
+    assert_ended(rt, ended, status);
+    assert_printed(rt, &out, &err, printed, told);
+    Ok(())
+}
+
+/// Compares the statuses.
+pub(crate) fn assert_ended(rt: &impl Abort, ended: Status, status: Status) {
+    assert_eq!(rt; ended, status);
+}
+
+/// A desk over the files `r` and `c`.
+fn desk_of<R: Abort + AllocGlobal>(
+    rt: &R,
+    rules: &[u8],
+    capture: &[u8],
+    outside: Outside,
+) -> Result<MemDesk, AllocError> {
     let alloc = rt.alloc();
-    let files = vec![in alloc; file(alloc, "r", rules)?, file(alloc, "c", capture)?]?;
-    assert!(rt;
-        MemDesk::has_distinct_names(&files) && outside.read_piece > 0 && outside.put_piece > 0
-    );
-    let mut desk = MemDesk::new(
+    let mut files = Vec::new(alloc);
+    add_file(alloc, &mut files, "r", rules)?;
+    add_file(alloc, &mut files, "c", capture)?;
+    assert!(rt; outside.read_piece > 0 && MemDesk::has_distinct_names(&files));
+    let failing = Vec::from_slice(alloc, &[outside.failing_read])?;
+    MemDesk::new(
         alloc,
         files,
         outside.read_piece,
         0,
-        vec![in alloc; outside.failing_read]?,
+        failing,
         Vec::new(alloc),
-    )?;
-    let mut out = MemSink::new(
-        alloc,
-        50_000,
-        outside.put_piece,
-        vec![in alloc; outside.failing_put]?,
-    )?;
-    let mut err = MemSink::new(alloc, 1000, 1000, Vec::new(alloc))?;
+    )
+}
+
+/// A sink that takes so many bytes in a put, and whose put of this number fails.
+pub(crate) fn sink<R: Abort + AllocGlobal>(
+    rt: &R,
+    piece: usize,
+    failing: u64,
+) -> Result<MemSink, AllocError> {
+    assert!(rt; piece > 0);
+    let failing = Vec::from_slice(rt.alloc(), &[failing])?;
+    MemSink::new(rt.alloc(), 50_000, piece, failing)
+}
+
+/// Compares what was printed and what was told.
+pub(crate) fn assert_printed(
+    rt: &impl Abort,
+    out: &MemSink,
+    err: &MemSink,
+    printed: &str,
+    told: &str,
+) {
+    assert_eq!(rt; out.bytes(), printed.as_bytes());
+    assert_eq!(rt; err.bytes(), told.as_bytes());
+}
+
+/// Runs one command.
+pub(crate) fn run_words(
+    alloc: Global,
+    words: &[&str],
+    desk: &mut MemDesk,
+    out: &mut MemSink,
+    err: &mut MemSink,
+) -> Result<Status, AllocError> {
+    let owned = owned_words(alloc, words)?;
+    Ok(run_counted::<Brand>(Blank::new(1), alloc, &owned, desk, out, err))
+}
+
+/// The words, each with memory of its own.
+fn owned_words(alloc: Global, words: &[&str]) -> Result<Vec<String>, AllocError> {
     let mut owned = Vec::new(alloc);
     for word in words {
         owned.push(String::from_str(alloc, word)?)?;
     }
-
-    let status = run_counted::<Brand>(Blank::new(1), alloc, &owned, &mut desk, &mut out, &mut err);
-
-    assert_eq!(rt; status, want.0);
-    assert_eq!(rt; out.bytes(), want.1.as_bytes());
-    assert_eq!(rt; err.bytes(), want.2.as_bytes());
-    assert_eq!(rt; desk.read_fault_count(), want.3);
-    Ok(())
+    Ok(owned)
 }
 
 const CLASSIFY: &[&str] = &["classify", "r", "c"];
 
 const TWO_PACKETS: &str = "1 ip4 1\n2 ip4 0\npackets 2 ip4 2 ip6 0 other 0 short 0\n";
-
-#[test]
-fn captures_are_reported_line_by_line(rt: HostRuntime) -> Result<(), Fail> {
-    let alloc = rt.alloc();
-    let guide = guide_capture(alloc)?;
-    let mut cut = guide_capture(alloc)?;
-    add_udp(&mut cut, &to_port(210))?;
-    cut.truncate(cut.len().saturating_sub(1));
-    let mut others = Vec::from_slice(alloc, HEADER)?;
-    add_record(&mut others, &[&[0; 13]])?;
-    add_record(
-        &mut others,
-        &[&[0, 0, 0, 0, 0, 0, 0, 0, 0, 0, 0, 0, 8, 6], &[0; 46]],
-    )?;
-    add_record(&mut others, &[IP4_FRAME, &[0x44], &[0; 45]])?;
-    let mut both = Vec::from_slice(alloc, HEADER)?;
-    add_record(&mut both, &[TAGGED])?;
-    add_record(&mut both, &[FRAGMENT])?;
-    let mut big = Vec::from_slice(alloc, BIG_HEADER)?;
-    for port in [210, 211] {
-        big.extend_from_slice(&[0, 0, 0, 0, 0, 0, 0, 0, 0, 0, 0, 38, 0, 0, 0, 38])?;
-        for part in [IP4_FRAME, UDP, &to_port(port)] {
-            big.extend_from_slice(part)?;
-        }
-    }
-    let tie = [ANY, b" pri=5 data=8\n", ANY, b" pri=5 data=9\n"].concat(alloc)?;
-    let no_packets = "packets 0 ip4 0 ip6 0 other 0 short 0\n";
-    let cases: [(&[u8], &[u8], Status, &str, &str); 8] = [
-        (GUIDE, &guide, Status::Done, TWO_PACKETS, ""),
-        (GUIDE, &big, Status::Done, TWO_PACKETS, ""),
-        // Of two rules of one priority the earlier wins.
-        (
-            &tie,
-            &guide,
-            Status::Done,
-            "1 ip4 8\n2 ip4 8\npackets 2 ip4 2 ip6 0 other 0 short 0\n",
-            "",
-        ),
-        (
-            BOTH,
-            &both,
-            Status::Done,
-            "1 ip4 1\n2 ip6 2\npackets 2 ip4 1 ip6 1 other 0 short 0\n",
-            "",
-        ),
-        (b"", HEADER, Status::Done, no_packets, ""),
-        (
-            GUIDE,
-            &others,
-            Status::Done,
-            "1 short -\n2 other -\n3 other -\npackets 3 ip4 0 ip6 0 other 2 short 1\n",
-            "",
-        ),
-        (
-            GUIDE,
-            &cut,
-            Status::CaptureRefused(CaptureFault::RecordCut(3)),
-            "1 ip4 1\n2 ip4 0\n",
-            "aclc: capture: record 3: cut\n",
-        ),
-        (
-            GUIDE,
-            &HEADER[..23],
-            Status::CaptureRefused(CaptureFault::HeaderCut),
-            "",
-            "aclc: capture: record 0: header cut\n",
-        ),
-    ];
-    for (rules, capture, status, out, err) in cases {
-        expect(
-            &rt,
-            CLASSIFY,
-            rules,
-            capture,
-            FAULTLESS,
-            (status, out, err, 0),
-        )?;
-    }
-    Ok(())
-}
-
-#[test]
-fn each_category_has_a_verdict_of_its_own(rt: HostRuntime) -> Result<(), Fail> {
-    let mut capture = Vec::from_slice(rt.alloc(), HEADER)?;
-    let packets = [
-        [10, 1, 1, 1, 192, 168, 1, 15, 0, 1, 0, 2],
-        [192, 168, 1, 1, 192, 168, 2, 11, 0, 1, 0, 2],
-        [10, 1, 1, 1, 201, 212, 111, 12, 0, 1, 0, 2],
-    ];
-    for ends in packets {
-        add_udp(&mut capture, &ends)?;
-    }
-    let words = &["classify", "r", "c", "categories=4"];
-    let want = (
-        Status::Done,
-        "1 ip4 2 3 0 0\n2 ip4 1 1 0 0\n3 ip4 0 3 0 0\npackets 3 ip4 3 ip6 0 other 0 short 0\n",
-        "",
-        0,
-    );
-    expect(&rt, words, THREE, &capture, FAULTLESS, want)?;
-
-    let mut one = Vec::from_slice(rt.alloc(), HEADER)?;
-    add_udp(&mut one, &to_port(210))?;
-    let words = &["classify", "r", "c", "categories=16"];
-    let want = (
-        Status::Done,
-        "1 ip4 1 1 1 1 1 1 1 1 1 1 1 1 1 1 1 1\npackets 1 ip4 1 ip6 0 other 0 short 0\n",
-        "",
-        0,
-    );
-    expect(&rt, words, ANY, &one, FAULTLESS, want)?;
-    Ok(())
-}
 
 /// The usage fault at a word.
 fn usage(word: u32, kind: UsageKind) -> Status
@@ -469,8 +402,7 @@ fn long_capture(alloc: Global, count: u32) -> Result<Vec<u8>, AllocError> {
 
 #[test]
 fn lines_are_put_before_the_next_batch_is_read(rt: HostRuntime) -> Result<(), Fail> {
-    let alloc = rt.alloc();
-    let mut capture = long_capture(alloc, 131)?;
+    let mut capture = long_capture(rt.alloc(), 131)?;
     capture.truncate(capture.len().saturating_sub(1));
     // Call 1 opens the rule file, calls 2 and 3 read it to its end, call 4 opens the capture and
     // call 5 reads its header. Each record takes two calls more, so that this one is for the 50th
@@ -490,7 +422,7 @@ fn lines_are_put_before_the_next_batch_is_read(rt: HostRuntime) -> Result<(), Fa
         (unput, Status::WriteFault, 64, "aclc: write fault\n", 0),
     ];
     for (outside, status, count, err, read_faults) in cases {
-        let out = lines_of(alloc, count)?;
+        let out = lines_of(rt.alloc(), count)?;
         let want = (status, out.as_str(), err, read_faults);
         expect(&rt, CLASSIFY, GUIDE, &capture, outside, want)?;
     }

@@ -1,12 +1,12 @@
 //! Whole commands over files in memory: images that are made, replayed and refused.
 
-use crate::commands::{ANY, GUIDE, HEADER, add_udp, file, run_counted, to_port};
+use crate::commands::{
+    ANY, GUIDE, HEADER, add_file, add_udp, assert_ended, assert_printed, run_words, sink, to_port,
+};
 use acl_outside::{MemDesk, MemSink};
 use acl_tool::{Family, ImageFault, ImageKind, Status};
 use std::alloc::{AllocError, Global};
-use std::marker::Brand;
 use std::process::Abort;
-use std::sync::ledger::Blank;
 use std::test::Fail;
 
 /// The first bytes of the image of [`ANY`]: magic, version, family, rules, tries, rows, the kept
@@ -43,49 +43,62 @@ fn expect_image<R: Abort + AllocGlobal>(
     failing_write: u64,
     want: Want<'_>,
 ) -> Result<(), AllocError> {
-    let alloc = rt.alloc();
-    let files = vec![in alloc;
-        file(alloc, "r", files.0)?,
-        file(alloc, "c", files.1)?,
-        file(alloc, "i", files.2)?,
-    ]?;
-    assert!(rt; MemDesk::has_distinct_names(&files));
-    let failing_writes = vec![in alloc; failing_write]?;
-    let mut desk = MemDesk::new(
-        alloc,
-        files,
-        100_000,
-        10_000,
-        Vec::new(alloc),
-        failing_writes,
-    )?;
-    let mut out = MemSink::new(alloc, 50_000, 100_000, Vec::new(alloc))?;
-    let mut err = MemSink::new(alloc, 1000, 1000, Vec::new(alloc))?;
-    let mut status = Status::Done;
-    for words in commands {
-        status = run_words(alloc, words, &mut desk, &mut out, &mut err)?;
-    }
-    assert_eq!(rt; status, want.0);
-    assert_eq!(rt; out.bytes(), want.1.as_bytes());
-    assert_eq!(rt; err.bytes(), want.2.as_bytes());
-    assert!(rt; want.3.is_empty() || desk.file("i").unwrap_or(b"") == want.3);
-    assert_eq!(rt; desk.write_fault_count(), want.4);
+    let mut desk = image_desk(rt, files, failing_write)?;
+    expect_over(rt, commands, &mut desk, (want.0, want.1, want.2))?;
+    assert_image(rt, &desk, want.3, want.4);
     Ok(())
 }
 
-/// Runs one command.
-fn run_words(
+/// The same over a desk, but for the file `i` and its faults.
+fn expect_over<R: Abort + AllocGlobal>(
+    rt: &R,
+    commands: &[&[&str]],
+    desk: &mut MemDesk,
+    (status, printed, told): (Status, &str, &str),
+) -> Result<(), AllocError> {
+    let mut out = sink(rt, 100_000, 0)?;
+    let mut err = sink(rt, 1000, 0)?;
+    let ended = run_all(rt.alloc(), commands, desk, &mut out, &mut err)?;
+    assert_ended(rt, ended, status);
+    assert_printed(rt, &out, &err, printed, told);
+    Ok(())
+}
+
+/// A desk over the files `r`, `c` and `i`, whose write-side call of this number fails.
+fn image_desk<R: Abort + AllocGlobal>(
+    rt: &R,
+    (rules, capture, image): (&[u8], &[u8], &[u8]),
+    failing_write: u64,
+) -> Result<MemDesk, AllocError> {
+    let alloc = rt.alloc();
+    let mut files = Vec::new(alloc);
+    add_file(alloc, &mut files, "r", rules)?;
+    add_file(alloc, &mut files, "c", capture)?;
+    add_file(alloc, &mut files, "i", image)?;
+    assert!(rt; MemDesk::has_distinct_names(&files));
+    let failing = Vec::from_slice(alloc, &[failing_write])?;
+    MemDesk::new(alloc, files, 100_000, 10_000, Vec::new(alloc), failing)
+}
+
+/// Compares the file `i`, where it is to be compared, and the count of write faults.
+fn assert_image(rt: &impl Abort, desk: &MemDesk, image: &[u8], faults: u64) {
+    assert!(rt; image.is_empty() || desk.file("i").unwrap_or(b"") == image);
+    assert_eq!(rt; desk.write_fault_count(), faults);
+}
+
+/// Runs the commands one after the other, and gives the last status.
+fn run_all(
     alloc: Global,
-    words: &[&str],
+    commands: &[&[&str]],
     desk: &mut MemDesk,
     out: &mut MemSink,
     err: &mut MemSink,
 ) -> Result<Status, AllocError> {
-    let mut owned = Vec::new(alloc);
-    for word in words {
-        owned.push(String::from_str(alloc, word)?)?;
+    let mut status = Status::Done;
+    for words in commands {
+        status = run_words(alloc, words, desk, out, err)?;
     }
-    Ok(run_counted::<Brand>(Blank::new(1), alloc, &owned, desk, out, err))
+    Ok(status)
 }
 
 const BUILD: &[&str] = &["build", "r", "i"];
@@ -131,6 +144,18 @@ fn changed_image(alloc: Global, len: usize, at: usize, byte: u8) -> Result<Vec<u
     Ok(image)
 }
 
+/// The image is refused for this fault, which is told so.
+fn refuses<R: Abort + AllocGlobal>(
+    rt: &R,
+    image: &[u8],
+    fault: ImageFault,
+    told: &str,
+) -> Result<(), AllocError> {
+    let err = format!(in rt.alloc(); "aclc: image: {told}\n")?;
+    let want = (Status::ImageRefused(fault), "", err.as_str(), image, 0);
+    expect_image(rt, &[REPLAY], (b"", HEADER, image), 0, want)
+}
+
 #[test]
 fn an_image_is_refused_by_its_first_failing_check(rt: HostRuntime) -> Result<(), Fail> {
     // How many bytes there are, the byte that is changed, the place that is told, and the kind.
@@ -153,10 +178,7 @@ fn an_image_is_refused_by_its_first_failing_check(rt: HostRuntime) -> Result<(),
     ];
     for (len, at, byte, place, kind, told) in cases {
         let image = changed_image(rt.alloc(), len, at, byte)?;
-        let err = format!(in rt.alloc(); "aclc: image: {told}\n")?;
-        let refused = Status::ImageRefused(ImageFault { place, kind });
-        let want = (refused, "", err.as_str(), image.as_slice(), 0);
-        expect_image(&rt, &[REPLAY], (b"", HEADER, &image), 0, want)?;
+        refuses(&rt, &image, ImageFault { place, kind }, told)?;
     }
     Ok(())
 }
