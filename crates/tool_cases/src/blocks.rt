@@ -112,11 +112,17 @@ fn one_packet(alloc: Global, interface: &[u8]) -> Result<Vec<u8>, AllocError> {
     Ok(capture)
 }
 
-fn file(alloc: Global, name: &str, bytes: &[u8]) -> Result<MemFile, AllocError> {
-    Ok(MemFile {
-        name: String::from_str(alloc, name)?,
-        bytes: Vec::from_slice(alloc, bytes)?,
-    })
+/// Adds a file of this name and these bytes.
+fn add_file(
+    alloc: Global,
+    files: &mut Vec<MemFile>,
+    name: &str,
+    bytes: &[u8],
+) -> Result<(), AllocError> {
+    let name = String::from_str(alloc, name)?;
+    let bytes = Vec::from_slice(alloc, bytes)?;
+    files.push(MemFile { name, bytes })?;
+    Ok(())
 }
 
 /// Runs the words with a counter that nobody sees.
@@ -147,22 +153,50 @@ fn expect<R: Abort + AllocGlobal>(
     requires { 0 < piece }
 {
     let alloc = rt.alloc();
-    let files = vec![in alloc; file(alloc, "r", GUIDE)?, file(alloc, "c", capture)?]?;
-    assert!(rt; MemDesk::has_distinct_names(&files));
-    let mut desk = MemDesk::new(alloc, files, piece, 0, Vec::new(alloc), Vec::new(alloc))?;
+    let mut desk = desk_of(rt, alloc, capture, piece)?;
     let mut out = MemSink::new(alloc, 10_000, 1000, Vec::new(alloc))?;
     let mut err = MemSink::new(alloc, 1000, 1000, Vec::new(alloc))?;
-    let mut words = Vec::new(alloc);
-    for word in ["classify", "r", "c"] {
-        words.push(String::from_str(alloc, word)?)?;
-    }
-
-    let status = run_counted::<Brand>(Blank::new(1), alloc, &words, &mut desk, &mut out, &mut err);
-
+    let status = classify(alloc, &mut desk, &mut out, &mut err)?;
     assert_eq!(rt; status, want.0);
     assert_eq!(rt; out.bytes(), want.1.as_bytes());
     assert_eq!(rt; err.bytes(), want.2.as_bytes());
     Ok(())
+}
+
+/// A desk over the rule file `r` and the capture `c`.
+fn desk_of(
+    rt: &impl Abort,
+    alloc: Global,
+    capture: &[u8],
+    piece: usize,
+) -> Result<MemDesk, AllocError>
+    requires { 0 < piece }
+{
+    let mut files = Vec::new(alloc);
+    add_file(alloc, &mut files, "r", GUIDE)?;
+    add_file(alloc, &mut files, "c", capture)?;
+    assert!(rt; MemDesk::has_distinct_names(&files));
+    MemDesk::new(alloc, files, piece, 0, Vec::new(alloc), Vec::new(alloc))
+}
+
+/// Runs the command.
+fn classify(
+    alloc: Global,
+    desk: &mut MemDesk,
+    out: &mut MemSink,
+    err: &mut MemSink,
+) -> Result<Status, AllocError> {
+    let words = owned_words(alloc)?;
+    Ok(run_counted::<Brand>(Blank::new(1), alloc, &words, desk, out, err))
+}
+
+/// The words of the command.
+fn owned_words(alloc: Global) -> Result<Vec<String>, AllocError> {
+    let mut words = Vec::new(alloc);
+    for word in ["classify", "r", "c"] {
+        words.push(String::from_str(alloc, word)?)?;
+    }
+    Ok(words)
 }
 
 const TWO_PACKETS: (Status, &str, &str) = (
@@ -177,52 +211,65 @@ const NO_PACKETS: (Status, &str, &str) = (
     "",
 );
 
+/// What is compared where a capture is given whole, and where it is given a byte at a time, as a
+/// pipe may.
+fn expect_both<R: Abort + AllocGlobal>(
+    rt: &R,
+    capture: &[u8],
+    want: (Status, &str, &str),
+) -> Result<(), AllocError> {
+    expect(rt, capture, 1_000_000, want)?;
+    expect(rt, capture, 1, want)
+}
+
 #[test]
-fn blocks_are_reported_packet_by_packet(rt: HostRuntime) -> Result<(), Fail> {
-    let alloc = rt.alloc();
-    let whole = little(alloc, &[])?;
-    let with_names = little(alloc, NAMES)?;
-    let with_statistics = little(alloc, STATISTICS)?;
-    let other_order = big(alloc)?;
-    let no_interface = one_packet(alloc, &[])?;
-    let wireless = one_packet(alloc, WIRELESS_INTERFACE)?;
-    let cut = &whole[..whole.len().saturating_sub(1)];
-    let cases: [(&[u8], (Status, &str, &str)); 9] = [
-        (&whole, TWO_PACKETS),
-        (&other_order, TWO_PACKETS),
-        (&with_names, TWO_PACKETS),
-        (&with_statistics, TWO_PACKETS),
-        (LITTLE_SECTION, NO_PACKETS),
-        (BIG_SECTION, NO_PACKETS),
+fn sections_without_a_packet_are_reported(rt: HostRuntime) -> Result<(), Fail> {
+    expect_both(&rt, LITTLE_SECTION, NO_PACKETS)?;
+    expect_both(&rt, BIG_SECTION, NO_PACKETS)?;
+    Ok(())
+}
+
+#[test]
+fn packets_of_either_order_are_reported(rt: HostRuntime) -> Result<(), Fail> {
+    let whole = little(rt.alloc(), &[])?;
+    expect_both(&rt, &whole, TWO_PACKETS)?;
+    let cut = (
+        Status::CaptureRefused(CaptureFault::PngCut(2)),
+        "1 ip4 1\n",
+        "aclc: capture: record 2: block cut\n",
+    );
+    expect_both(&rt, &whole[..whole.len().saturating_sub(1)], cut)?;
+    let other_order = big(rt.alloc())?;
+    expect_both(&rt, &other_order, TWO_PACKETS)?;
+    Ok(())
+}
+
+#[test]
+fn blocks_between_packets_are_passed_over(rt: HostRuntime) -> Result<(), Fail> {
+    for between in [NAMES, STATISTICS] {
+        let capture = little(rt.alloc(), between)?;
+        expect_both(&rt, &capture, TWO_PACKETS)?;
+    }
+    Ok(())
+}
+
+#[test]
+fn interfaces_that_cannot_be_read_are_refused(rt: HostRuntime) -> Result<(), Fail> {
+    let cases: [(&[u8], CaptureFault, &str); 2] = [
         (
-            cut,
-            (
-                Status::CaptureRefused(CaptureFault::PngCut(2)),
-                "1 ip4 1\n",
-                "aclc: capture: record 2: block cut\n",
-            ),
+            &[],
+            CaptureFault::PngInterface(1),
+            "aclc: capture: record 1: no interface\n",
         ),
         (
-            &no_interface,
-            (
-                Status::CaptureRefused(CaptureFault::PngInterface(1)),
-                "",
-                "aclc: capture: record 1: no interface\n",
-            ),
-        ),
-        (
-            &wireless,
-            (
-                Status::CaptureRefused(CaptureFault::PngLink(1)),
-                "",
-                "aclc: capture: record 1: interface link type\n",
-            ),
+            WIRELESS_INTERFACE,
+            CaptureFault::PngLink(1),
+            "aclc: capture: record 1: interface link type\n",
         ),
     ];
-    for (capture, want) in cases {
-        expect(&rt, capture, 1_000_000, want)?;
-        // A pipe may give a byte at a time.
-        expect(&rt, capture, 1, want)?;
+    for (interface, fault, told) in cases {
+        let capture = one_packet(rt.alloc(), interface)?;
+        expect_both(&rt, &capture, (Status::CaptureRefused(fault), "", told))?;
     }
     Ok(())
 }
