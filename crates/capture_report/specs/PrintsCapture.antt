@@ -1,12 +1,12 @@
 -- What printing the report of a capture promises.
 use Rattle.std.specs.Prelude.{◌≡◌, ℕ, ◌+◌, ◌≤◌, ◌⊎◌, List, ◌∷◌, length, false, true}
 use Rattle.std.specs.Prelude.{Some}
-use Rattle.acl_outside.specs.Desk.{DeskView, File}
+use Rattle.acl_outside.specs.Desk.{File}
 use Rattle.acl_outside.specs.Heard.{Heard}
-use Rattle.acl_outside.specs.Sink.{SinkView, Gains}
+use Rattle.acl_outside.specs.Sink.{Gains}
 use Rattle.command_plan.specs.declared.status.Status.{Status}
 use Rattle.command_plan.specs.declared.status.Status.TheVariants.{WriteFault, OutOfMemory}
-use Rattle.pcapng_reader.specs.Capture.{AnyState, whole_records}
+use Rattle.pcapng_reader.specs.Capture.{whole_records}
 use Rattle.capture_report.specs.Classifier.{Classifier, ByTables, Tables, AnswersAs}
 use Rattle.capture_report.specs.declared.form.PrintOptions.{PrintOptions}
 use Rattle.capture_report.specs.ReportForm.{ReportForm, form_by}
@@ -15,10 +15,9 @@ use Rattle.capture_report.specs.Taken.{max_batch}
 use Rattle.command_plan.specs.Plan.{found, settled}
 use Rattle.command_plan.specs.Endings.{is_decided, is_reported, is_usage}
 use Rattle.capture_report.specs.Bound.{most_of_records}
-use Rattle.capture_report.specs.Streams.{Streams}
 use Rattle.capture_report.specs.CaptureOutcome.{reported}
 use Rattle.command_plan.specs.Effects.{Outside, Ends, EndsAsTold, HasNoFault, heard_of, earlier_of}
-use Rattle.command_plan.specs.Effects.{files_of, opened_of, outside}
+use Rattle.command_plan.specs.Effects.{files_of, opened_of}
 
 -- Of the records that were heard of the named capture at most a batch has no line in what the sink
 -- gained.
@@ -38,18 +37,6 @@ pub record Reports (form : ReportForm) (name : List ℕ) (old new : Outside)
   pub opened : (files : List File) → files_of old.desk ≡ Some files → is_reported status ≡ true →
       opened_of new.desk ≡ Some (Some name)
   pub keeps_up : status ≡ WriteFault → KeepsUp name old new
-
--- The named capture was opened and its first bytes were read: what prints the records after them
--- prints the report.
-pub record BeginsReport (name : List ℕ) (old mid : DeskView) (state : AnyState) : Type 0 where
-  pub then_prints : (form : ReportForm) (out : SinkView) (steps : ℕ) (new : Outside)
-      (status : Status) → Streams form state (outside mid out steps) new status →
-      Reports form name (outside old out steps) new status
-
--- The report of the named capture ended before its first line.
-pub record EndsReport (name : List ℕ) (old new : DeskView) (status : Status) : Type 0 where
-  pub as_reported : (form : ReportForm) (out : SinkView) (steps : ℕ) →
-      Reports form name (outside old out steps) (outside new out steps) status
 
 -- All that printing a capture from tables promises.
 pub record PrintsCapture (tables : Tables) (options : PrintOptions) (name : List ℕ)

@@ -1,10 +1,9 @@
 //! The report of a named capture, from the tables of both families.
 
-ghost use Rattle.std.specs.Prelude.{◌≡◌, IfErr, IfOk, IsTrue, OnOk};
+ghost use Rattle.std.specs.Prelude.{◌≡◌};
 ghost use Rattle.command_plan.specs.Effects.{outside};
 ghost use Rattle.capture_report.specs.CaptureOutcome.{refusal};
-ghost use Rattle.capture_report.specs.NextRecord.{IsBegun};
-ghost use Rattle.capture_report.specs.PrintsCapture.{BeginsReport, EndsReport, PrintsCapture};
+ghost use Rattle.capture_report.specs.PrintsCapture.{PrintsCapture};
 
 use crate::conductor::print_records;
 use crate::form::{FormByTables, PrintOptions};
@@ -48,28 +47,14 @@ pub fn print_packets<D: Desk, O: Sink, L: Ledger>(
         Ok(room) => room,
         Err(AllocError) => return Status::OutOfMemory,
     };
-    match begin_capture(alloc, capture, desk) {
-        Ok(mut capture) => print_records(&form, &mut capture, &mut room, desk, out, steps),
-        Err(status) => status,
-    }
-}
-
-/// Opens the named capture, and reads its first bytes. It takes memory for the buffer of its
-/// reader.
-fn begin_capture<D: Desk>(alloc: Global, name: &str, desk: &mut D) -> Result<AnyCapture, Status>
-    ensures reading { OnOk result (IsTrue (D.view desk.new).reading) }
-    ensures state { IfOk result IsBegun }
-    ensures begins { IfOk result (BeginsReport name.now (D.view desk.old) (D.view desk.new)) }
-    ensures ends { IfErr result (EndsReport name.now (D.view desk.old) (D.view desk.new)) }
-{
-    match desk.open_file(name) {
+    match desk.open_file(capture) {
         Ok(()) => {}
-        Err(Failed) => return Err(Status::ReadFault),
+        Err(Failed) => return Status::ReadFault,
     }
     match AnyCapture::begin(alloc, desk) {
-        Ok(capture) => Ok(capture),
-        Err(BeginFault::Capture(fault)) => Err(refused(fault)),
-        Err(BeginFault::OutOfMemory) => Err(Status::OutOfMemory),
+        Ok(mut capture) => print_records(&form, &mut capture, &mut room, desk, out, steps),
+        Err(BeginFault::Capture(fault)) => refused(fault),
+        Err(BeginFault::OutOfMemory) => Status::OutOfMemory,
     }
 }
 
