@@ -11,6 +11,18 @@
 //!     levels of a trie ──► where its nodes lie ──► words, level by level
 //! ```
 //!
+//! What a state or a row takes, in words of 64 bits:
+//!
+//! | what | words |
+//! |---|---|
+//! | a state from which all bytes lead to one state | 1 |
+//! | a state whose bytes part into two to five runs | 5 |
+//! | a state whose bytes part into more runs | 256, one for each byte |
+//! | a row, after the last byte | 16, one for each category |
+//!
+//! A row has for each category the word of the rule that wins it, or 0: the rule's rank in the high
+//! half, by which the rows of several tries are joined, and its userdata in the low half.
+//!
 //! - `node`: the word into a node, and the words that a node has.
 //! - `trie`, `tries`: the words of one trie, level by level, and what all tries have.
 //! - `rows`: the rows, and the word of a row for each rule.
