@@ -1,3 +1,4 @@
+pub mod Along
 pub mod Words
 pub mod Nodes
 pub mod Levels

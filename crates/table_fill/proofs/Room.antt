@@ -4,16 +4,16 @@ use Rattle.std.proofs.Common.{arith, inl, inr, map, length, get_or, slice_get, S
 use Rattle.std.specs.List.{sum_by, flat_map, range_with_len, AllByRecursion}
 use Rattle.std.specs.Option.{option_map_or}
 use Rattle.std.proofs.lemmas.Bool.{cases_eq, eq-eqb}
-use Rattle.std.proofs.lemmas.List.Sums.{sum_by-cons}
+use Rattle.std.proofs.lemmas.List.Sums.{sum_by-cons, get_or-le-sum_by}
 use Rattle.list_lemmas.proofs.Maps.{map_where, flat_map_where}
 use Rattle.std.proofs.lemmas.List.FromFn.{get_or-map-range_with_len, length-map-range_with_len}
 use Rattle.rule_set.specs.Rule.{RuleView}
 use Rattle.rule_set.specs.Rank.{rank_of, ranks_of}
 use Rattle.rule_set.specs.Winner.{userdata_at}
 use Rattle.trie_merge.specs.Levels.{LevelsView}
-use Rattle.table_sizes.specs.Sizes.{row_len}
+use Rattle.table_sizes.specs.Sizes.{max_words, row_len}
 use Rattle.flat_table.specs.Walk.{userdatas}
-use Rattle.table_fill.specs.Filled.{nodes_len, rule_word, winner_word}
+use Rattle.table_fill.specs.Filled.{level_len, nodes_len, rule_word, winner_word}
 use Rattle.table_fill.specs.Tries.{HasNodes, HasWinners, winner_in, row_count}
 
 -- ---- sums
@@ -31,6 +31,12 @@ parts_of_words (trie ∷ tries) are =
       are.0.words,
       parts_of_words tries are.1,
     )
+
+-- the words of a level are no more than those of its trie
+pub level_fits : (trie : LevelsView) (depth : ℕ) → HasNodes trie → trie.words ≤ max_words → depth < length trie.levels →
+    level_len (get_or trie.levels depth []) ≤ max_words
+level_fits trie depth has small below =
+    omega (arith, has.words, small, get_or-le-sum_by level_len trie.levels depth [] below)
 
 -- ---- words of rows
 

@@ -1,6 +1,6 @@
 -- Steps of the loops that write words.
 use Rattle.std.proofs.Common.{◌≡◌, ℕ, suc, ◌+◌, ◌-◌, ◌<◌, ◌≤◌, List, [], ◌∷◌, ◌++◌, refl, sym, ap, ◌∙◌, arith, map}
-use Rattle.std.proofs.Common.{length, get_or, replicate, length-append}
+use Rattle.std.proofs.Common.{length, drop, get_or, replicate, length-append, subst}
 use Rattle.std.specs.List.{flat_map, range_with_len}
 use Rattle.std.proofs.lemmas.List.{append-nil, append_assoc, get_or-replicate, get_or-take, map-append}
 use Rattle.std.proofs.Math.Seq.{get_or-append_right}
@@ -15,6 +15,7 @@ use Rattle.table_fill.specs.Filled.{words_of_levels}
 use Rattle.table_fill.specs.Tries.{HoldBytes, IsThere, AreRuns, HasTarget, HasTargets}
 use Rattle.list_lemmas.proofs.Maps.{map_on_range, copies_on_range}
 use Rattle.list_lemmas.proofs.Positions.{range-append}
+use Rattle.table_fill.proofs.Along.{left_is, written_more}
 use Rattle.table_fill.proofs.Nodes.{length-inner, run_here, run_later, many_words}
 use Rattle.table_fill.proofs.Levels.{length-level}
 
@@ -39,6 +40,25 @@ words_from targets first (run ∷ runs) = replicate (run.last + 1 - first) (succ
 abbrev pub HoldRest : ℕ → List Run → Type 0
 HoldRest first [] = Unit {0}
 HoldRest first (run ∷ runs) = HoldBytes first (run ∷ runs)
+
+-- those after the first run hold the bytes after its last one
+pub hold_next : (first : ℕ) (run : Run) (runs : List Run) → HoldBytes first (run ∷ runs) → HoldRest (run.last + 1) runs
+hold_next first run [] hold = tt
+hold_next first run (next ∷ runs) hold = hold.2
+
+-- the run of a turn holds the first byte of those that are left, and ends with a byte
+pub run_holds : (runs : List Run) (k : ℕ) (d : Run) → k < length runs → (first last : ℕ) → last ≡ (get_or runs k d).last →
+    HoldRest first (drop k runs) → (first ≤ last) × (last ≤ 255)
+run_holds runs k d below first last is hold =
+    let run : Run = get_or runs k d in
+    let rest : List Run = drop (k + 1) runs in
+    subst (λ n. (first ≤ n) × (n ≤ 255)) (sym is)
+    (holds rest (subst (HoldRest first) (left_is runs k d run below refl) hold))
+  where
+    holds : (rest : List Run) → HoldBytes first (get_or runs k d ∷ rest) →
+        (first ≤ (get_or runs k d).last) × ((get_or runs k d).last ≤ 255)
+    holds [] hold = (hold.0, omega (arith, hold.1))
+    holds (next ∷ rest) hold = (hold.0, omega (arith, hold.1))
 
 module _ (targets : List ℕ) where
   of_byte : List Run → ℕ → ℕ
@@ -69,6 +89,24 @@ module _ (targets : List ℕ) where
       ∙ ap (λ k. map f (range_with_len first n) ++ map f (range_with_len k m)) (sym at)
       ∙ sym (ap (map f) (range-append first n m) ∙ map-append f (range_with_len first n) (range_with_len (first + n) m))
       ∙ ap (λ k. map f (range_with_len first k)) count
+
+  -- a run's words more are written
+  pub run_written : (runs : List Run) (k : ℕ) (d : Run) → k < length runs → (first last word : ℕ)
+      (words after all : List ℕ) → last ≡ (get_or runs k d).last → word ≡ succ_word targets (get_or runs k d).to →
+      after ≡ words ++ replicate (last + 1 - first) word → words ++ words_from targets first (drop k runs) ≡ all →
+      HoldRest first (drop k runs) →
+      (after ++ words_from targets (last + 1) (drop (k + 1) runs) ≡ all)
+      × HoldRest (last + 1) (drop (k + 1) runs)
+  run_written runs k d below first last word words after all last_is word_is written so_far hold =
+      let run : Run = get_or runs k d in
+      let rest : List Run = drop (k + 1) runs in
+      let left : drop k runs ≡ run ∷ rest = left_is runs k d run below refl in (
+        written_more words (replicate (last + 1 - first) word) (words_from targets (last + 1) rest)
+            (words_from targets first (drop k runs)) after all
+            (ap (words_from targets first) left ∙ (λ i. replicate (sym last_is i + 1 - first) (sym word_is i)
+            ++ words_from targets (sym last_is i + 1) rest)) written so_far,
+        subst (λ n. HoldRest (n + 1) rest) (sym last_is) (hold_next first run rest (subst (HoldRest first) left hold)),
+      )
 
   pub many_is : (runs : List Run) → few_runs < length runs → HoldBytes 0 runs → words_from targets 0 runs
       ≡ node_words targets runs

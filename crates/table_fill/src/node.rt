@@ -110,8 +110,7 @@ fn push_few(words: &mut Vec<u64>, targets: &[u64], runs: &[Run]) -> Result<(), A
         words.push(succ_word(targets, run.to))?;
     }
     let unused = node_len(runs.len()) - runs.len();
-    push_copies(words, unused, match_of(0))?;
-    Ok(())
+    push_copies(words, unused, match_of(0))
 }
 
 /// Puts the words of a node of many runs after the others: one for each byte.

@@ -1,7 +1,9 @@
-use Rattle.std.proofs.Common.{◌≡◌, ◌∷◌, ◌+◌, ◌++◌, ℕ, List, drop, length, length-append, sym, ap, ◌∙◌, arith}
+use Rattle.std.proofs.Common.{◌≡◌, ◌∷◌, ◌+◌, ◌++◌, ℕ, List, drop, length, length-append, sym, ap, refl, subst, ◌∙◌, arith}
 use Rattle.std.proofs.lemmas.List.{append_assoc, drop_more}
 use Rattle.trie_merge.specs.Levels.{LevelsView}
 use Rattle.table_fill.specs.Filled.{nodes_len, words_of_levels, words_of_tries, matches_of}
+use Rattle.table_fill.specs.Tries.{HasNodes}
+use Rattle.table_fill.proofs.Along.{left_is, written_all}
 use Rattle.table_fill.proofs.Sounds.{length-levels-words}
 use Rattle.std.specs.List.{sum_by}
 use Rattle.std.proofs.lemmas.List.Sums.{sum_by-cons}
@@ -35,3 +37,38 @@ loop-trie-preserved c =
         c.rows-row.ensures,
       ),
     )
+
+pub push_trie-requires-clause-nodes : goal.push_trie-requires-clause-nodes
+push_trie-requires-clause-nodes c =
+    subst HasNodes (sym c.trie-item.is)
+    (c.requires.nodes c.loop-trie.trie-index c.trie-item.result c.loop-trie-test.true)
+
+pub push_trie-requires-clause-size : goal.push_trie-requires-clause-size
+push_trie-requires-clause-size c =
+    let tries : List LevelsView = c.args.tries.now in
+    let trie : LevelsView = c.trie-item.result in
+    omega (
+      arith,
+      ap (sum_by nodes_len) (left_is tries c.loop-trie.trie-index trie trie c.loop-trie-test.true c.trie-item.is),
+      sum_by-cons nodes_len trie (drop (c.loop-trie.trie-index + 1) tries),
+      c.loop-trie.invariant.1,
+      c.requires.size,
+    )
+
+pub push_trie-requires-clause-rows : goal.push_trie-requires-clause-rows
+push_trie-requires-clause-rows c =
+    let tries : List LevelsView = c.args.tries.now in
+    let trie : LevelsView = c.trie-item.result in
+    omega (
+      arith,
+      ap (sum_by row_count) (left_is tries c.loop-trie.trie-index trie trie c.loop-trie-test.true c.trie-item.is),
+      sum_by-cons row_count trie (drop (c.loop-trie.trie-index + 1) tries),
+      c.loop-trie.invariant.2,
+      c.requires.size,
+    )
+
+pub returns : goal.returns
+returns c =
+    let words : List ℕ = c.loop-trie.words.items in
+    written_all c.args.tries.now c.loop-trie.trie-index (words_of_tries (length words) c.loop-trie.row) words
+    (words_of_tries 0 1 c.args.tries.now) refl c.loop-trie-test.false c.loop-trie.invariant.0
