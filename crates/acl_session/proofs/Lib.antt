@@ -1,5 +1,5 @@
+
 mod Lines
 mod Mirroring
 mod OneKey
-mod ReadValues
 mod Verdicts

@@ -1,9 +1,4 @@
-pub mod Reading
-pub mod Values
-pub mod Hex
-pub mod Command
 pub mod State
-pub mod Replies
 pub mod Session
 pub mod Mirrors
 pub mod SessionExamples

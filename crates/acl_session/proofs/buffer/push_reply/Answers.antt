@@ -4,7 +4,7 @@ use Rattle.std.specs.Option.{option_map}
 use Rattle.field_defs.specs.declared.field.FieldDef.{FieldDef}
 use Rattle.field_defs.specs.Layout.{buffer_len_of}
 use Rattle.rule_set.specs.Rule.{RuleSetView}
-use Rattle.acl_session.specs.Replies.{verdicts_text}
+use Rattle.session_lines.specs.Replies.{verdicts_text}
 use Rattle.acl_session.proofs.Mirroring.{on_ok}
 use Rattle.acl_session.proofs.Verdicts.{short_reply, whole_reply}
 use Rattle.acl_session.proofs.buffer.push_reply.Goals as goal

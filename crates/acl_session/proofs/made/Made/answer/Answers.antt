@@ -1,9 +1,9 @@
 -- Each call does what the line says.
 use Rattle.std.proofs.Common.{ℕ, List, Option, refl, sym, ap, ◌∙◌}
 use Rattle.text_scan.specs.Parts.{words_of}
-use Rattle.acl_session.specs.declared.verb.Verb.TheVariants as verbs
-use Rattle.acl_session.specs.Command.{command_of, said_to, verb_named}
-use Rattle.acl_session.specs.Reading.{◌>>=◌, Read}
+use Rattle.session_lines.specs.declared.verb.Verb.TheVariants as verbs
+use Rattle.session_lines.specs.Command.{command_of, said_to, verb_named}
+use Rattle.session_lines.specs.Reading.{◌>>=◌, Read}
 use Rattle.acl_session.proofs.Mirroring.{answered_by, nothing_said, on_ok, unnamed}
 use Rattle.acl_session.proofs.made.Made.answer.Goals as goal
 

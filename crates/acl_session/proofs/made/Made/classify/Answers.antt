@@ -1,7 +1,7 @@
 use Rattle.std.proofs.Common.{refl, ap}
 use Rattle.text_scan.specs.Parts.{words_of}
-use Rattle.acl_session.specs.Command.{Classify, buffer_of}
-use Rattle.acl_session.specs.Hex.{bytes_in_hex}
+use Rattle.session_lines.specs.Command.{Classify, buffer_of}
+use Rattle.session_lines.specs.Hex.{bytes_in_hex}
 use Rattle.acl_session.specs.Session.{classified}
 use Rattle.acl_session.proofs.Mirroring.{asked, called, missing, nothing_said, on_ok}
 use Rattle.acl_session.proofs.made.Made.classify.Goals as goal

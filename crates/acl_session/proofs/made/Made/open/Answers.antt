@@ -2,7 +2,7 @@ use Rattle.std.proofs.Common.{◌≡◌, List, [], Some, None, refl, sym, ap, �
 use Rattle.std.specs.Option.{option_map}
 use Rattle.field_defs.specs.declared.field.FieldDef.{FieldDef}
 use Rattle.text_scan.specs.Parts.{words_of}
-use Rattle.acl_session.specs.Command.{Context, limit_of}
+use Rattle.session_lines.specs.Command.{Context, limit_of}
 use Rattle.acl_session.proofs.Mirroring.{asked, nothing_said, on_ok, opens, refuses}
 use Rattle.acl_session.proofs.made.Made.open.Goals as goal
 

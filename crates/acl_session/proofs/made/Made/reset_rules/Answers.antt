@@ -1,7 +1,7 @@
 use Rattle.std.proofs.Common.{◌≡◌, true, false, Some, refl, sym, ◌∙◌}
 use Rattle.text_scan.specs.Parts.{words_of}
-use Rattle.acl_session.specs.Command.{ResetRules}
-use Rattle.acl_session.specs.Reading.{are_none, ended}
+use Rattle.session_lines.specs.Command.{ResetRules}
+use Rattle.session_lines.specs.Reading.{are_none, ended}
 use Rattle.acl_session.specs.Session.{without_rules}
 use Rattle.acl_session.proofs.Mirroring.{asked, called, missing, nothing_said, on_ok}
 use Rattle.acl_session.proofs.made.Made.reset_rules.Goals as goal

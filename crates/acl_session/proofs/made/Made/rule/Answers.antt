@@ -1,7 +1,7 @@
 use Rattle.std.proofs.Common.{Some, refl, sym, ap, ◌∙◌}
 use Rattle.std.specs.Option.{option_map}
 use Rattle.text_scan.specs.Parts.{words_of}
-use Rattle.acl_session.specs.Command.{AddRule, rule_of}
+use Rattle.session_lines.specs.Command.{AddRule, rule_of}
 use Rattle.acl_session.specs.Session.{added}
 use Rattle.acl_session.proofs.Mirroring.{asked, called, missing, nothing_said, on_ok}
 use Rattle.acl_session.proofs.made.Made.rule.Goals as goal

@@ -2,9 +2,9 @@ use Rattle.std.proofs.Common.{◌≡◌, List, [], ◌∷◌, ◌++◌, sym, sub
 use Rattle.std.specs.Option.{option_map}
 use Rattle.field_defs.specs.declared.field.FieldValue.{FieldValue}
 use Rattle.text_scan.specs.Parts.{words_of}
-use Rattle.acl_session.specs.Values.{values_of}
-use Rattle.acl_session.proofs.ReadValues.{values-more}
-use Rattle.acl_session.proofs.values.read_values.Goals as goal
+use Rattle.session_lines.specs.Values.{values_of}
+use Rattle.session_lines.proofs.ReadValues.{values-more}
+use Rattle.session_lines.proofs.values.read_values.Goals as goal
 
 pub loop-word-preserved : goal.loop-word-preserved
 loop-word-preserved c =

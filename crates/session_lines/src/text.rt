@@ -5,8 +5,8 @@ ghost use Rattle.std.specs.Prelude.{◌≡◌, ◌++◌, decimal, OnOk};
 use itoa::Buffer;
 use std::alloc::AllocError;
 
-/// Puts a piece after the text.
-pub(crate) fn push_piece(text: &mut Vec<u8>, piece: &[u8]) -> Result<(), AllocError>
+/// Puts a piece after the text. It takes the memory of the piece, and want of it is the only error.
+pub fn push_piece(text: &mut Vec<u8>, piece: &[u8]) -> Result<(), AllocError>
     ensures { OnOk result (text.new.items ≡ text.old.items ++ piece.now) }
 {
     text.extend_from_slice(piece)

@@ -1,13 +1,14 @@
 //! Which call a line asks for: its first word.
 
 ghost use Rattle.std.specs.Prelude.{◌≡◌};
-ghost use Rattle.acl_session.specs.Command.{kind_named, verb_named};
+ghost use Rattle.session_lines.specs.Command.{kind_named, verb_named};
 
 use field_defs::FieldKind;
 
-/// A call that a line asks for.
+/// A call that a line asks for. Source: DPDK Programmer's Guide, "Packet Classification and Access
+/// Control".
 #[derive(Clone, Copy, Debug)]
-pub(crate) enum Verb {
+pub enum Verb {
     /// Collects the definition of a field.
     Field,
     /// Makes a context of the collected definitions.
@@ -24,8 +25,8 @@ pub(crate) enum Verb {
     Classify,
 }
 
-/// The call of a name.
-pub(crate) fn verb_named(name: &[u8]) -> Option<Verb>
+/// The call of a name, which is the first word of a line. None where it is no name of a call.
+pub fn verb_named(name: &[u8]) -> Option<Verb>
     ensures { result ≡ verb_named name.now }
 {
     if name == b"field".as_slice() {

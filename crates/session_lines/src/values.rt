@@ -3,7 +3,7 @@
 ghost use Rattle.std.specs.Prelude.{◌≡◌, ◌≤◌, IfOk, IfSome};
 ghost use Rattle.std.specs.Option.{option_map};
 ghost use Rattle.text_scan.specs.Parts.{words_of};
-ghost use Rattle.acl_session.specs.Values.{bitmask_of, pair_around, value_of, values_of};
+ghost use Rattle.session_lines.specs.Values.{bitmask_of, pair_around, value_of, values_of};
 
 use field_defs::FieldValue;
 use std::alloc::{AllocError, Global};

@@ -3,7 +3,7 @@
 ghost use Rattle.std.specs.Prelude.{◌≡◌, ◌<◌, IfOk, IsTrue};
 ghost use Rattle.std.specs.Char.{digit_value, is_digit};
 ghost use Rattle.text_scan.specs.Digits.{are_digits};
-ghost use Rattle.acl_session.specs.Hex.{are_bytes_in_hex, bytes_in_hex};
+ghost use Rattle.session_lines.specs.Hex.{are_bytes_in_hex, bytes_in_hex};
 
 use std::alloc::{AllocError, Global};
 
@@ -22,8 +22,9 @@ fn are_digits(text: &[u8]) -> bool
     text.iter().all(|byte| char::from(*byte).is_digit(16))
 }
 
-/// The bytes of a text of hexadecimal digits. It takes the memory of the bytes.
-pub(crate) fn bytes_in_hex(alloc: Global, text: &[u8]) -> Result<Vec<u8>, AllocError>
+/// The bytes of a text of hexadecimal digits, two for each. It takes the memory of the bytes, and
+/// want of it is the only error. Source: RFC 4648, section 8.
+pub fn bytes_in_hex(alloc: Global, text: &[u8]) -> Result<Vec<u8>, AllocError>
     requires { IsTrue (are_digits 16 text.now) }
     ensures { IfOk result (λ bytes. bytes.items ≡ bytes_in_hex text.now) }
 {

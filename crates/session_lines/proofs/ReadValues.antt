@@ -2,7 +2,7 @@
 use Rattle.std.proofs.Common.{◌≡◌, ℕ, List, [], ◌∷◌, ◌++◌, Option, Some, None, refl, sym, ap, ◌∙◌, append_assoc}
 use Rattle.std.specs.Option.{option_map}
 use Rattle.field_defs.specs.declared.field.FieldValue.{FieldValue}
-use Rattle.acl_session.specs.Values.{value_of, values_of}
+use Rattle.session_lines.specs.Values.{value_of, values_of}
 
 more_of : (values : List FieldValue) (value : FieldValue) (rest : Option (List FieldValue)) →
     option_map (λ others. values ++ others) (option_map (λ others. value ∷ others) rest)

@@ -2,8 +2,8 @@
 use Rattle.std.proofs.Common.{◌≡◌, ◌++◌, length}
 use Rattle.std.specs.Prelude.{IsTrue}
 use Rattle.text_scan.specs.Digits.{are_digits}
-use Rattle.acl_session.specs.Hex.{bytes_in_hex}
-use Rattle.acl_session.proofs.hex.bytes_in_hex.Given as goal
+use Rattle.session_lines.specs.Hex.{bytes_in_hex}
+use Rattle.session_lines.proofs.hex.bytes_in_hex.Given as goal
 
 abbrev pub invariant-loop-left : goal.invariant-loop-left
 invariant-loop-left l = record {

@@ -8,7 +8,7 @@ use Rattle.field_defs.specs.declared.field.FieldValue.{FieldValue}
 use Rattle.field_defs.specs.declared.field.FieldValue.TheVariants.{Mask, Range, Bitmask}
 use Rattle.text_scan.specs.Numeral.{whole_number}
 use Rattle.text_scan.specs.Parts.{colon, cut_at, slash}
-use Rattle.acl_session.specs.Reading.{◌>>=◌}
+use Rattle.session_lines.specs.Reading.{◌>>=◌}
 
 -- `&`, which stands between a value and its mask
 abbrev pub ampersand : ℕ

@@ -15,12 +15,12 @@ use Rattle.rule_set.specs.Limits.{max_categories, max_rules}
 use Rattle.rule_set.specs.Rule.{RuleView}
 use Rattle.rule_set.specs.declared.rule.RuleTag.{RuleTag}
 use Rattle.table_sizes.specs.Sizes.{max_words}
-use Rattle.acl_session.specs.declared.arguments.WrittenField.{WrittenField}
-use Rattle.acl_session.specs.declared.verb.Verb.{Verb}
-use Rattle.acl_session.specs.declared.verb.Verb.TheVariants as verb
-use Rattle.acl_session.specs.Reading.{◌>>=◌, Read, ended, next_number, next_word, read_of}
-use Rattle.acl_session.specs.Hex.{are_bytes_in_hex, bytes_in_hex}
-use Rattle.acl_session.specs.Values.{values_of}
+use Rattle.session_lines.specs.declared.arguments.WrittenField.{WrittenField}
+use Rattle.session_lines.specs.declared.verb.Verb.{Verb}
+use Rattle.session_lines.specs.declared.verb.Verb.TheVariants as verb
+use Rattle.session_lines.specs.Reading.{◌>>=◌, Read, ended, next_number, next_word, read_of}
+use Rattle.session_lines.specs.Hex.{are_bytes_in_hex, bytes_in_hex}
+use Rattle.session_lines.specs.Values.{values_of}
 
 -- What a line says. A classification has so many categories and a buffer.
 pub data Command : Type 0 where

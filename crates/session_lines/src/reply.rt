@@ -1,18 +1,19 @@
 //! The lines of refusals and verdicts.
 
 ghost use Rattle.std.specs.Prelude.{◌≡◌, ◌<◌, ◌∷◌, ◌++◌, length, OnOk};
-ghost use Rattle.acl_session.specs.Replies.{carried_text, fault_text, layout_fault_carries};
-ghost use Rattle.acl_session.specs.Replies.{layout_fault_number, layout_fault_text};
-ghost use Rattle.acl_session.specs.Replies.{rule_fault_carries, rule_fault_number, rule_fault_text};
-ghost use Rattle.acl_session.specs.Replies.{spaced, too_large_text, verdicts_text};
+ghost use Rattle.session_lines.specs.Replies.{carried_text, fault_text, layout_fault_carries};
+ghost use Rattle.session_lines.specs.Replies.{layout_fault_number, layout_fault_text};
+ghost use Rattle.session_lines.specs.Replies.{rule_fault_carries, rule_fault_number, rule_fault_text};
+ghost use Rattle.session_lines.specs.Replies.{spaced, too_large_text, verdicts_text};
 
 use crate::text::{push_number, push_piece};
 use field_defs::LayoutFault;
 use rule_set::RuleFault;
 use std::alloc::AllocError;
 
-/// Puts the line of a table that would be too large after the text.
-pub(crate) fn push_too_large(text: &mut Vec<u8>, words: u64, budget: u64) -> Result<(), AllocError>
+/// Puts the line of a table that would be too large after the text: `refused words W budget B`. It
+/// takes the memory of the line, and want of it is the only error.
+pub fn push_too_large(text: &mut Vec<u8>, words: u64, budget: u64) -> Result<(), AllocError>
     ensures { OnOk result (text.new.items ≡ text.old.items ++ too_large_text words budget) }
 {
     push_piece(text, b"refused words ")?;
@@ -22,8 +23,10 @@ pub(crate) fn push_too_large(text: &mut Vec<u8>, words: u64, budget: u64) -> Res
     push_piece(text, b"\n")
 }
 
-/// Puts the line of a layout that is refused after the text.
-pub(crate) fn push_layout_fault(text: &mut Vec<u8>, fault: LayoutFault) -> Result<(), AllocError>
+/// Puts the line of a layout that is refused after the text: `refused layout`, the number of the
+/// fault, and the place that it carries, if it carries one. It takes the memory of the line, and
+/// want of it is the only error.
+pub fn push_layout_fault(text: &mut Vec<u8>, fault: LayoutFault) -> Result<(), AllocError>
     ensures { OnOk result (text.new.items ≡ text.old.items ++ layout_fault_text fault) }
 {
     let carried = layout_fault_carries(fault);
@@ -35,8 +38,10 @@ pub(crate) fn push_layout_fault(text: &mut Vec<u8>, fault: LayoutFault) -> Resul
     )
 }
 
-/// Puts the line of a rule that is refused after the text.
-pub(crate) fn push_rule_fault(text: &mut Vec<u8>, fault: RuleFault) -> Result<(), AllocError>
+/// Puts the line of a rule that is refused after the text: `refused rule`, the number of the fault,
+/// and the place that it carries, if it carries one. It takes the memory of the line, and want of it
+/// is the only error.
+pub fn push_rule_fault(text: &mut Vec<u8>, fault: RuleFault) -> Result<(), AllocError>
     ensures { OnOk result (text.new.items ≡ text.old.items ++ rule_fault_text fault) }
 {
     push_fault(
@@ -136,8 +141,8 @@ fn rule_fault_carries(fault: RuleFault) -> Option<u8>
 }
 
 /// Puts the verdicts after the text, of which there is at least one, separated by single spaces,
-/// and the end of the line.
-pub(crate) fn push_verdicts(text: &mut Vec<u8>, verdicts: &[u32]) -> Result<(), AllocError>
+/// and the end of the line. It takes the memory of the line, and want of it is the only error.
+pub fn push_verdicts(text: &mut Vec<u8>, verdicts: &[u32]) -> Result<(), AllocError>
     requires { 0 < length verdicts.now }
     ensures { OnOk result (text.new.items ≡ text.old.items ++ verdicts_text verdicts.now) }
 {

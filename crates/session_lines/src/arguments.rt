@@ -5,11 +5,11 @@ ghost use Rattle.std.specs.Option.{option_map};
 ghost use Rattle.rule_set.specs.Limits.{max_rules};
 ghost use Rattle.table_sizes.specs.Sizes.{max_words};
 ghost use Rattle.text_scan.specs.Parts.{words_of};
-ghost use Rattle.acl_session.specs.Reading.{read_of};
-ghost use Rattle.acl_session.specs.Hex.{are_bytes_in_hex, bytes_in_hex};
-ghost use Rattle.acl_session.specs.Command.{Command, budget_of, buffer_of, field_of, limit_of};
-ghost use Rattle.acl_session.specs.Command.{next_count, next_kind, next_tag, rule_of};
-ghost use Rattle.acl_session.specs.Command.{Classify};
+ghost use Rattle.session_lines.specs.Reading.{read_of};
+ghost use Rattle.session_lines.specs.Hex.{are_bytes_in_hex, bytes_in_hex};
+ghost use Rattle.session_lines.specs.Command.{Command, budget_of, buffer_of, field_of, limit_of};
+ghost use Rattle.session_lines.specs.Command.{next_count, next_kind, next_tag, rule_of};
+ghost use Rattle.session_lines.specs.Command.{Classify};
 
 use crate::hex::are_bytes_in_hex;
 use crate::values::read_values;
@@ -29,17 +29,23 @@ const MAX_WRITTEN: u64 = 4_294_967_295;
 /// The greatest number of categories.
 const MAX_COUNT: u64 = 16;
 
-/// The definition of a field as it is written, without its place among the fields.
+/// The definition of a field as it is written, without its place among the fields. Source: DPDK
+/// `lib/acl`, `rte_acl.h`, `rte_acl_field_def`.
 #[derive(Clone, Copy, Debug)]
-pub(crate) struct WrittenField {
-    pub(crate) kind: FieldKind,
-    pub(crate) size: u8,
-    pub(crate) input_index: u8,
-    pub(crate) offset: u32,
+pub struct WrittenField {
+    /// How its values let bytes through.
+    pub kind: FieldKind,
+    /// Its bytes.
+    pub size: u8,
+    /// The group of four bytes that it is read with.
+    pub input_index: u8,
+    /// The byte of a buffer that it begins with.
+    pub offset: u32,
 }
 
-/// The definition of a field: its kind, size, input index and offset.
-pub(crate) fn read_field(text: &[u8]) -> Option<WrittenField>
+/// The definition of a field that the words after `field` are: its kind, size, input index and
+/// offset. None where a word lacks, is one too many or isn't of its form. It takes no memory.
+pub fn read_field(text: &[u8]) -> Option<WrittenField>
     ensures { result ≡ field_of (words_of text.now) }
 {
     let (kind, rest) = take_kind(text)?;
@@ -67,8 +73,9 @@ fn take_kind(text: &[u8]) -> Option<(FieldKind, &[u8])>
     Some((kind_named(word)?, rest))
 }
 
-/// How many rules a context may hold.
-pub(crate) fn read_limit(text: &[u8]) -> Option<u32>
+/// How many rules a context may hold, by the words after `context`: one number, at most
+/// [`rule_set::MAX_RULES`]. None where they are anything else. It takes no memory.
+pub fn read_limit(text: &[u8]) -> Option<u32>
     ensures limit { result ≡ limit_of (words_of text.now) }
     ensures bound { IfSome result (λ limit. limit ≤ max_rules) }
 {
@@ -79,9 +86,10 @@ pub(crate) fn read_limit(text: &[u8]) -> Option<u32>
     Some(limit as u32)
 }
 
-/// A rule: its priority, categories and userdata, and its values. It takes the memory of the
-/// values.
-pub(crate) fn read_rule(alloc: Global, text: &[u8]) -> Result<Option<StoredRule>, AllocError>
+/// The rule that the words after `rule` are: its priority, categories and userdata, and a value for
+/// each further word. None where a word is of no such form; whether the rule is lawful for a layout
+/// isn't asked. It takes the memory of the values, and want of it is the only error.
+pub fn read_rule(alloc: Global, text: &[u8]) -> Result<Option<StoredRule>, AllocError>
     ensures { IfOk result (λ rule. rule ≡ rule_of (words_of text.now)) }
 {
     let Some((tag, rest)) = take_tag(text) else {
@@ -110,8 +118,9 @@ fn take_tag(text: &[u8]) -> Option<(RuleTag, &[u8])>
     Some((tag, rest))
 }
 
-/// How many words the table may have.
-pub(crate) fn read_budget(text: &[u8]) -> Option<u64>
+/// How many words the table may have, by the words after `build`: one number, from 1 to
+/// [`table_sizes::MAX_WORDS`]. None where they are anything else. It takes no memory.
+pub fn read_budget(text: &[u8]) -> Option<u64>
     ensures budget { result ≡ budget_of (words_of text.now) }
     ensures some { IfSome result (λ budget. 0 < budget) }
     ensures bound { IfSome result (λ budget. budget ≤ max_words) }
@@ -123,8 +132,10 @@ pub(crate) fn read_budget(text: &[u8]) -> Option<u64>
     Some(budget)
 }
 
-/// How many categories are asked for, and the digits of a buffer.
-pub(crate) fn read_buffer(text: &[u8]) -> Option<(Categories, &[u8])>
+/// How many categories are asked for, and the digits of a buffer, by the words after `classify`:
+/// two hexadecimal digits for each byte, and at least one byte. None where they are anything else.
+/// It takes no memory.
+pub fn read_buffer(text: &[u8]) -> Option<(Categories, &[u8])>
     ensures buffer { MatchOption result
         (buffer_of (words_of text.now) ≡ None)
         (λ read. buffer_of (words_of text.now)

@@ -3,8 +3,8 @@ use Rattle.std.proofs.Common.{◌≡◌, ◌++◌, List, length}
 use Rattle.std.specs.Option.{option_map}
 use Rattle.field_defs.specs.declared.field.FieldValue.{FieldValue}
 use Rattle.text_scan.specs.Parts.{words_of}
-use Rattle.acl_session.specs.Values.{values_of}
-use Rattle.acl_session.proofs.values.read_values.Given as goal
+use Rattle.session_lines.specs.Values.{values_of}
+use Rattle.session_lines.proofs.values.read_values.Given as goal
 
 abbrev pub invariant-loop-word : goal.invariant-loop-word
 invariant-loop-word l = values_of (words_of l.text)

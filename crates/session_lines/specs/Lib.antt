@@ -1,0 +1,5 @@
+pub mod Reading
+pub mod Values
+pub mod Hex
+pub mod Command
+pub mod Replies
