@@ -39,8 +39,8 @@ pub fn push_layout_fault(text: &mut Vec<u8>, fault: LayoutFault) -> Result<(), A
 }
 
 /// Puts the line of a rule that is refused after the text: `refused rule`, the number of the fault,
-/// and the place that it carries, if it carries one. It takes the memory of the line, and want of it
-/// is the only error.
+/// and the place that it carries, if it carries one. It takes the memory of the line, and want of
+/// it is the only error.
 pub fn push_rule_fault(text: &mut Vec<u8>, fault: RuleFault) -> Result<(), AllocError>
     ensures { OnOk result (text.new.items ≡ text.old.items ++ rule_fault_text fault) }
 {
