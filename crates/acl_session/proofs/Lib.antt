@@ -1,4 +1,3 @@
-
 mod Lines
 mod Mirroring
 mod OneKey

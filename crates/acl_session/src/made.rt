@@ -13,8 +13,10 @@ use crate::buffer::classify;
 use crate::collected::Collected;
 use crate::context::{add_rule, build, reset, reset_rules};
 use acl_context::AclContext;
-use session_lines::{Verb, is_end, push_layout_fault, push_piece, take_word, verb_named};
-use session_lines::{read_budget, read_buffer, read_field, read_limit, read_rule};
+use session_lines::{
+    Verb, is_end, push_layout_fault, push_piece, read_budget, read_buffer, read_field, read_limit,
+    read_rule, take_word, verb_named,
+};
 use std::alloc::{AllocError, Global};
 
 /// The definitions that were collected, and the context, if there is one.

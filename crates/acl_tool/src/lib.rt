@@ -1,7 +1,8 @@
 //! the words of a command line and what lies outside → printed verdicts, and a status
 //!
-//! [`run`] is what the program calls. It reads the words, does what they ask for over a desk and
-//! sinks, and puts a line that names the cause where it ends otherwise than done.
+//! [`run`] reads the words, does what they ask for over a desk and sinks, and puts a line that
+//! names the cause where it ends otherwise than done. [`run_program`] is all that a `main` has to
+//! call: it lends [`run`] the words, the files and the streams of the system.
 //!
 //! | module | what it reads, says or prints |
 //! |---|---|
@@ -17,6 +18,9 @@
 //! | `rule_file` | the rules of a file |
 //! | `tables` | the rules in the contexts of both families, and their tables |
 //! | `text` | a text that is put whole |
+//! | `program` | a command over the files and streams of the system, and its exit code |
+//! | `words` | the words of the system |
+//! | `held_streams` | the null device in the place of closed streams |
 #![tactic(auto)]
 
 mod audit;
@@ -24,19 +28,25 @@ mod bench;
 mod build;
 mod classify;
 mod compare;
+mod held_streams;
 pub mod laws;
+mod program;
 mod replay;
 mod rule_file;
 mod session;
 mod tables;
 mod text;
 mod tool;
+mod words;
 
 pub use capture_report::{PrintOptions, print_packets};
 pub use classbench_reader::{LineFault, LineKind};
 pub use command_plan::Status;
 pub use command_words::{UsageFault, UsageKind};
 pub use field_defs::Family;
+pub use held_streams::held_stream;
 pub use pcap_reader::CaptureFault;
+pub use program::{exit_code, run_over, run_program, run_words};
 pub use table_image::{ImageFault, ImageKind};
 pub use tool::run;
+pub use words::system_words;

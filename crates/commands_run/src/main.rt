@@ -2,7 +2,7 @@
 //! code after it
 #![tactic(auto)]
 
-use aclc_main::{run_program, run_words};
+use acl_tool::{run_program, run_words};
 use std::alloc::{AllocError, Global};
 use std::io;
 use std::process::ExitCode;

@@ -11,6 +11,7 @@
 //! | `commands` | reports, refusals, tables, and images that are made and replayed |
 //! | `faults` | read faults, write faults and faults of the message, of each command |
 //! | `files` | the files and the texts of the worked example of 17 packets, and of a script |
+//! | `system` | a command over files of the system, its words, and closed streams |
 //! | `scripts` | scripts → the replies to their lines, worked out by hand |
 //! | `turns` | a run with one fault, and what is compared of it |
 #![tactic(auto)]
@@ -27,5 +28,7 @@ mod faults;
 mod files;
 #[cfg(test)]
 mod scripts;
+#[cfg(test)]
+mod system;
 #[cfg(test)]
 mod turns;

@@ -1,4 +1,4 @@
-//! The program over files and streams.
+//! What the system lends a program → the exit code of the command that its words are.
 
 ghost use Rattle.std.specs.Prelude.{◌≡◌, ℕ, ◌<◌, Some, None, drop, map, pos, string_bytes, IfSome};
 ghost use Rattle.std.specs.Process.{exit_status};
@@ -8,9 +8,9 @@ ghost use Rattle.command_plan.specs.Effects.{outside};
 ghost use Rattle.acl_tool.specs.Effects.{Runs};
 
 use crate::held_streams::HeldStreams;
+use crate::tool::run;
 use crate::words::system_words;
 use acl_outside::{Desk, Sink, StdDesk, StdSink};
-use acl_tool::run;
 use flat_table::Steps;
 use std::alloc::Global;
 use std::io::Write;
@@ -55,8 +55,9 @@ fn run_over_streams<R: Files, O: Write + AsRawFd + Drop, E: Write + AsRawFd + Dr
 }
 
 /// Runs the command over the files that `rt` opens and these writers: the first gets what is
-/// printed, and the second the line of the status.
-pub(crate) fn run_over<R: Files, O: Write + Drop, E: Write + Drop>(
+/// printed, and the second the line of the status. The exit code is that of the status, and 1 where
+/// there are no words. It takes the memory of the command.
+pub fn run_over<R: Files, O: Write + Drop, E: Write + Drop>(
     rt: &R,
     alloc: Global,
     words: Option<Vec<String>>,

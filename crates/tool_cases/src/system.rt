@@ -1,8 +1,6 @@
 //! The program over files of the system, the words that the system gives, and closed streams.
 
-use crate::held_streams::held_stream;
-use crate::program::run_over;
-use crate::words::system_words;
+use acl_tool::{held_stream, run_over, system_words};
 use std::alloc::{AllocError, Global};
 use std::env::FillError;
 use std::fs;
