@@ -30,7 +30,7 @@ const MAX_WRITTEN: u64 = 4_294_967_295;
 const MAX_COUNT: u64 = 16;
 
 /// The definition of a field as it is written, without its place among the fields.
-#[derive(Clone, Copy, Debug)]
+#[derive(Clone, Copy)]
 pub(crate) struct WrittenField {
     pub(crate) kind: FieldKind,
     pub(crate) size: u8,

@@ -6,7 +6,7 @@ ghost use Rattle.acl_session.specs.Command.{kind_named, verb_named};
 use field_defs::FieldKind;
 
 /// A call that a line asks for.
-#[derive(Clone, Copy, Debug)]
+#[derive(Clone, Copy)]
 pub(crate) enum Verb {
     /// Collects the definition of a field.
     Field,
