@@ -24,7 +24,7 @@ pub struct RuleTag {
 }
 
 /// A rule with N values, as it is written down in a program.
-#[derive(Clone, Copy, Debug, PartialEq, Eq)]
+#[derive(Clone, Copy)]
 pub struct Rule<const N: usize> {
     pub tag: RuleTag,
     /// The values for the fields of a layout, in their order.

@@ -18,7 +18,7 @@ use thiserror::Error;
 pub const MAX_RULES: usize = 262_144;
 
 /// Why a rule isn't added.
-#[derive(Clone, Copy, Debug, PartialEq, Eq, Error)]
+#[derive(Clone, Copy, Debug, Error)]
 pub enum PushFault {
     /// The rule isn't lawful for the layout.
     #[error(transparent)]
