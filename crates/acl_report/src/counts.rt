@@ -8,7 +8,7 @@ use crate::line::{LINE_ROOM, append, append_count};
 use header_extract::Class;
 
 /// How many records of a capture there were, and how many of each class.
-#[derive(Clone, Copy, Debug, Default, PartialEq, Eq)]
+#[derive(Clone, Copy, Default)]
 pub struct Counts {
     /// All records, of whatever class.
     pub packets: u64,

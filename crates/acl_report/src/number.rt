@@ -14,7 +14,7 @@ const DIGITS: usize = 20;
 ///
 /// The number after it mostly has the same digits but for the last, so that counting up changes one
 /// byte. It takes no memory.
-#[derive(Debug, Drop)]
+#[derive(Drop)]
 pub struct LineNumber {
     number: u64,
     /// The digits stand in front.

@@ -22,7 +22,7 @@ use Rattle.session_lines.specs.declared.arguments.WrittenField.{WrittenField}
 use Rattle.acl_session.specs.declared.made.Made.{Made}
 use Rattle.session_lines.specs.declared.verb.Verb.{Verb}
 use Rattle.session_lines.specs.Command.{Command, command_of, placed, said_to, verb_named}
-use Rattle.session_lines.specs.Reading.{◌>>=◌, Read, next_word, read_of}
+use Rattle.session_lines.specs.Reading.{◌>>=◌, Read, are_none, ended, next_word, read_of}
 use Rattle.acl_session.specs.State.{Held, HeldAnswer, State, set_of}
 use Rattle.session_lines.specs.Replies.{bad_line_text, full_text, layout_fault_text, no_context_text, ok_text, rule_fault_text}
 use Rattle.session_lines.specs.Replies.{too_large_text, too_many_text}
@@ -87,6 +87,34 @@ pub missing : (call : Held → HeldAnswer) (old new : Made) (before after : List
     → after ≡ before ++ no_context_text → Answers (λ state. on_context state call) old new before after
 missing call old new before after none same text = λ state mirrors.
     missing_within call state state.context old new before after mirrors mirrors.context none same text
+
+-- words after the name of a call that takes none
+pub has_words : (command : Command) (words : List (List ℕ)) (made : Made) (before after : List ℕ)
+    → are_none words ≡ false → after ≡ before ++ bad_line_text
+    → Answers (λ state. step_if state (ended words command)) made made before after
+has_words command words made before after some text =
+    nothing_said made made before after (ended words command) (rw some refl) refl text
+
+-- no word after the name of such a call on the context, which is there
+pub calls_it : (command : Command) (call : Held → HeldAnswer) (words : List (List ℕ)) (old : Made)
+    (context next : ContextView) (before after : List ℕ)
+    → ((state : State) → on_context state call ≡ step state command)
+    → are_none words ≡ true → old.context ≡ Some context → AnswersHeld call context next before after
+    → Answers (λ state. step_if state (ended words command)) old (record old { context = Some next }) before after
+calls_it command call words old context next before after same none there answers =
+    asked command (ended words command) old (record old { context = Some next }) before after (rw none refl)
+    (λ state mirrors. subst (λ done. IsAnswered done (record old { context = Some next }) before after) (same state)
+    (called call old (record old { context = Some next }) context next before after there refl answers state mirrors))
+
+-- and where there is none
+pub calls_none : (command : Command) (call : Held → HeldAnswer) (words : List (List ℕ)) (made : Made)
+    (before after : List ℕ) → ((state : State) → on_context state call ≡ step state command)
+    → are_none words ≡ true → made.context ≡ None → after ≡ before ++ no_context_text
+    → Answers (λ state. step_if state (ended words command)) made made before after
+calls_none command call words made before after same none there text =
+    asked command (ended words command) made made before after (rw none refl)
+    (λ state mirrors. subst (λ done. IsAnswered done made before after) (same state)
+    (missing call made made before after there refl text state mirrors))
 
 -- a definition too many
 pub too_many : (field : WrittenField) (old new : Made) (before after : List ℕ)

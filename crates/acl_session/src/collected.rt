@@ -20,7 +20,7 @@ const UNUSED: FieldDef = FieldDef {
 };
 
 /// At most as many definitions as a layout may have. Contracts see the list of them.
-#[derive(Debug, Drop)]
+#[derive(Drop)]
 pub(crate) struct Collected {
     defs: [FieldDef; MAX_FIELDS],
     count: usize,

@@ -20,11 +20,21 @@ use session_lines::{
 use std::alloc::{AllocError, Global};
 
 /// The definitions that were collected, and the context, if there is one.
-#[derive(Drop)]
 pub(crate) struct Made {
     alloc: Global,
     collected: Collected,
     context: Option<AclContext>,
+}
+
+/// It is written out so that letting go is one call wherever a script ends.
+impl Drop for Made {
+    fn drop(self) {
+        let Made {
+            alloc: _,
+            collected: _,
+            context: _,
+        } = self;
+    }
 }
 
 /// Puts the reply to a line that says nothing after the others.

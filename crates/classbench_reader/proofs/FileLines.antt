@@ -1,5 +1,5 @@
 -- The rules of the lines that were read, and what the lines that are left say.
-use Rattle.std.proofs.Common.{◌≡◌, ℕ, ◌+◌, ◌<◌, ◌≤◌, false, nat_lt, List, [], ◌∷◌, ◌++◌, length, ◌⊎◌, Result, Ok, Err}
+use Rattle.std.proofs.Common.{◌≡◌, ℕ, ◌+◌, ◌<◌, ◌≤◌, true, false, nat_lt, List, [], ◌∷◌, ◌++◌, length, ◌⊎◌, Result, Ok, Err}
 use Rattle.std.proofs.Common.{refl, sym, ap, ◌∙◌, arith, inl, inr, append_assoc, append-nil, length-append}
 use Rattle.std.proofs.lemmas.Bool.{cases_Bool, cond-true, ltb-false, le-ltb}
 use Rattle.field_defs.specs.Layout.{ip4_fields, ip6_fields}
@@ -68,6 +68,11 @@ IsReadUpTo-none bytes file four six = record {
 numbered-rule : (number : ℕ) (line : List ℕ) (lines : List (List ℕ)) → is_skipped line ≡ false
     → numbered_from number (line ∷ lines) ≡ (number, line) ∷ numbered_from (number + 1) lines
 numbered-rule number line lines kept = rw kept refl
+
+-- and one that is skipped has none
+numbered-skipped : (number : ℕ) (line : List ℕ) (lines : List (List ℕ)) → is_skipped line ≡ true
+    → numbered_from number (line ∷ lines) ≡ numbered_from (number + 1) lines
+numbered-skipped number line lines skipped = rw skipped refl
 
 -- the next line, and what comes after it
 pub record IsNextLine (bytes : List ℕ) (file : RuleFile) (number ordinal : ℕ) (left line rest : List ℕ) : Type 0 where
@@ -155,6 +160,24 @@ IsReadUpTo-more bytes file new number ordinal left line rest next kept says =
           ∙ ap (λ found. after_lines read.lines (line_then (number + 1) found (rule_lines_from (ordinal + 1) others)))
           says.read
           ∙ after_lines-more read.lines (number + 1) says.says (rule_lines_from (ordinal + 1) others);
+    }
+
+-- a line was skipped
+pub IsReadUpTo-skipped : (bytes : List ℕ) (file : RuleFile) (number ordinal : ℕ) (left line rest : List ℕ)
+    → IsNextLine bytes file number ordinal left line rest → is_skipped line ≡ true
+    → IsReadUpTo bytes file (number + 1) ordinal rest
+IsReadUpTo-skipped bytes file number ordinal left line rest next skipped =
+    let read = next.read in
+    record {
+      lines = read.lines;
+      counted = read.counted;
+      few = read.few;
+      long = omega (arith, read.long, next.shorter);
+      ip4 = read.ip4;
+      ip6 = read.ip6;
+      joined = read.joined
+          ∙ ap (λ numbered. after_lines read.lines (rule_lines_from ordinal numbered))
+          (ap (numbered_from (number + 1)) next.cut ∙ numbered-skipped (number + 1) line (lines_of rest) skipped);
     }
 
 -- the next line is faulty

@@ -127,6 +127,7 @@ abbrev pub networks_text : RuleLine → List ℕ
 networks_text line =
     codes "@" ++ (network_text line.source ++ tab ∷ network_text line.destination)
 
+-- the columns after the networks of a line, each after a tab
 abbrev pub columns_text : RuleLine → List ℕ
 columns_text line =
     tab ∷ (ports_text line.source_ports ++ tab ∷ (ports_text line.destination_ports

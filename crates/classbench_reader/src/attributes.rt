@@ -20,7 +20,7 @@ const MAX_WRITTEN: u64 = 4_294_967_295;
 const ALL_CATEGORIES: u32 = 0xFFFF;
 
 /// The attributes of a line, each with the number that was written, if it was.
-#[derive(Clone, Copy, Debug, PartialEq, Eq)]
+#[derive(Clone, Copy)]
 pub struct Attributes {
     /// After `pri=`.
     pub priority: Option<u32>,

@@ -24,7 +24,7 @@ use text_scan::{after_blanks, split_word};
 const HALF_BITS: u8 = 64;
 
 /// What a line says: a rule whose source and destination are of one family.
-#[derive(Clone, Copy, Debug, PartialEq, Eq)]
+#[derive(Clone, Copy)]
 pub struct RuleLine {
     pub source: Network,
     pub destination: Network,

@@ -9,14 +9,14 @@ use field_defs::Family;
 use text_scan::{ip4_text, ip6_text, split_once, whole_number};
 
 /// An address of either family.
-#[derive(Clone, Copy, Debug, PartialEq, Eq)]
+#[derive(Clone, Copy)]
 pub enum Address {
     Ip4(u32),
     Ip6(u128),
 }
 
 /// An address, and how many of its leading bits count.
-#[derive(Clone, Copy, Debug, PartialEq, Eq)]
+#[derive(Clone, Copy)]
 pub struct Network {
     pub address: Address,
     pub bits: u8,

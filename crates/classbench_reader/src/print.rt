@@ -150,7 +150,7 @@ fn put_networks(text: &mut Vec<u8>, line: &RuleLine) -> Result<(), AllocError>
     put_network(text, &line.destination)
 }
 
-/// Writes the columns after the networks of a line after the text, each behind a tab.
+/// Writes the columns after the networks of a line after the text, each after a tab.
 fn put_columns(text: &mut Vec<u8>, line: &RuleLine) -> Result<(), AllocError>
     requires { IsLawfulLine line.now }
     ensures { OnOk result (text.new.items ≡ text.old.items ++ columns_text line.now) }

@@ -22,7 +22,7 @@ use text_scan::split_line;
 pub const MAX_RULE_FILE: usize = 16_777_216;
 
 /// The rules of a file, by family, each set in the order of the lines.
-#[derive(Debug, Drop)]
+#[derive(Drop)]
 pub struct RuleFile {
     /// The IPv4 rules, for the layout of IPv4 packets.
     pub ip4: RuleSet,

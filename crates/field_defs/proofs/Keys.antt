@@ -3,8 +3,9 @@ use Rattle.std.proofs.Common.{◌≡◌, ℕ, zero, suc, ◌+◌, ◌<◌, ◌�
 use Rattle.std.proofs.Common.{max, ap, ◌∙◌, arith}
 use Rattle.std.proofs.lemmas.List.{take_more, append-nil}
 use Rattle.std.proofs.lemmas.List.Concat.{flat_map-append}
+use Rattle.std.proofs.lemmas.List.Sums.{sum_by-cons}
 use Rattle.field_defs.specs.declared.field.FieldDef.{FieldDef}
-use Rattle.field_defs.specs.Layout.{key_of, buffer_len_of}
+use Rattle.field_defs.specs.Layout.{key_of, key_len_of, buffer_len_of}
 
 -- the greatest of a number and the ends of the fields
 abbrev reach : ℕ → List FieldDef → ℕ
@@ -25,6 +26,19 @@ field_within_reach n (def ∷ defs) (suc i) d h =
 pub field_within_buffer : (defs : List FieldDef) (i : ℕ) (d : FieldDef) → i < length defs →
     (get_or defs i d).offset + (get_or defs i d).size ≤ buffer_len_of defs
 field_within_buffer defs i d h = field_within_reach 0 defs i d h
+
+-- a field ends within the key, after those before it
+pub field_within_key : (defs : List FieldDef) (i : ℕ) (d : FieldDef) → i < length defs →
+    key_len_of (take i defs) + (get_or defs i d).size ≤ key_len_of defs
+field_within_key [] i d h = absurd (omega arith)
+field_within_key (def ∷ defs) zero d h = omega (arith, sum_by-cons (λ (d : FieldDef). d.size) def defs)
+field_within_key (def ∷ defs) (suc i) d h =
+    omega (
+      arith,
+      sum_by-cons (λ (d : FieldDef). d.size) def (take i defs),
+      sum_by-cons (λ (d : FieldDef). d.size) def defs,
+      field_within_key defs i d (omega arith),
+    )
 
 -- one more field adds its bytes
 pub key_of_more : (defs : List FieldDef) (buffer : List ℕ) (i : ℕ) (d : FieldDef) → i < length defs →

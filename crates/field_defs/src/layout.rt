@@ -116,7 +116,7 @@ const IP6_FIELDS: [FieldDef; 7] = [
 
 /// The field definitions of one kind of packet, in order. Contracts see the list of them. No call
 /// takes memory.
-#[derive(Debug, Drop)]
+#[derive(Drop)]
 pub struct Layout {
     defs: [FieldDef; MAX_FIELDS],
     count: usize,

@@ -24,7 +24,7 @@ pub struct RuleTag {
 }
 
 /// A rule with N values, as it is written down in a program.
-#[derive(Clone, Copy, Debug, PartialEq, Eq)]
+#[derive(Clone, Copy)]
 pub struct Rule<const N: usize> {
     pub tag: RuleTag,
     /// The values for the fields of a layout, in their order.
@@ -48,10 +48,16 @@ impl<const N: usize> Rule<N> {
 
 /// A rule: its tag and its values for the fields of a layout, in their order. Contracts see the
 /// two.
-#[derive(Debug, Drop)]
 pub struct StoredRule {
     tag: RuleTag,
     fields: SmallVec<FieldValue, INLINE_FIELDS, Global>,
+}
+
+/// It is written out so that letting go is one call wherever a rule ends.
+impl Drop for StoredRule {
+    fn drop(self) {
+        let StoredRule { tag: _, fields: _ } = self;
+    }
 }
 
 impl Model for StoredRule {

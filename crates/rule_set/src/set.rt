@@ -18,7 +18,7 @@ use thiserror::Error;
 pub const MAX_RULES: usize = 262_144;
 
 /// Why a rule isn't added.
-#[derive(Clone, Copy, Debug, PartialEq, Eq, Error)]
+#[derive(Clone, Copy, Debug, Error)]
 pub enum PushFault {
     /// The rule isn't lawful for the layout.
     #[error(transparent)]
@@ -42,10 +42,19 @@ impl From<AllocError> for PushFault {
 ///
 /// Contracts see the layout and the list of the rules. No call but `push` and `push_lawful` takes
 /// memory.
-#[derive(Debug, Drop)]
 pub struct RuleSet {
     layout: Layout,
     rules: Vec<StoredRule>,
+}
+
+/// It is written out so that letting go is one call wherever a set ends.
+impl Drop for RuleSet {
+    fn drop(self) {
+        let RuleSet {
+            layout: _,
+            rules: _,
+        } = self;
+    }
 }
 
 impl Model for RuleSet {

@@ -31,7 +31,7 @@ const MAX_COUNT: u64 = 16;
 
 /// The definition of a field as it is written, without its place among the fields. Source: DPDK
 /// `lib/acl`, `rte_acl.h`, `rte_acl_field_def`.
-#[derive(Clone, Copy, Debug)]
+#[derive(Clone, Copy)]
 pub struct WrittenField {
     /// How its values let bytes through.
     pub kind: FieldKind,

@@ -7,7 +7,7 @@ use field_defs::FieldKind;
 
 /// A call that a line asks for. Source: DPDK Programmer's Guide, "Packet Classification and Access
 /// Control".
-#[derive(Clone, Copy, Debug)]
+#[derive(Clone, Copy)]
 pub enum Verb {
     /// Collects the definition of a field.
     Field,

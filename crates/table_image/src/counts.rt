@@ -16,7 +16,7 @@ use table_sizes::{MAX_WORDS, ROW_LEN};
 pub const MAX_RULES: u32 = 262_144;
 
 /// How many rules, tries and rows a table has, row 0 not counted.
-#[derive(Clone, Copy, Debug, PartialEq, Eq)]
+#[derive(Clone, Copy)]
 pub(crate) struct Counts {
     pub rules: u32,
     pub tries: u32,

@@ -3,40 +3,55 @@
 ghost use Rattle.std.specs.Prelude.{◌≡◌};
 
 use std::alloc::AllocError;
+use std::fmt;
 use thiserror::Error;
 
 /// What a check of an image found.
 #[derive(Clone, Copy, Debug, PartialEq, Eq, Error)]
 pub enum ImageKind {
     /// The first field is whole, and it isn't `ACLT`.
-    #[error("magic")]
     Magic,
     /// The version is neither 1 nor 2.
-    #[error("version")]
     Version,
     /// The family of the first table isn't 4, or that of the second isn't 6.
-    #[error("family")]
     Family,
     /// The field isn't whole.
-    #[error("length")]
     Length,
     /// There are more than 262,144 rules; or more than 8 tries; or more than 67,108,864 words,
     /// sixteen for each row counted, with the rows or with the levels up to this one.
-    #[error("too many")]
     TooMany,
     /// The root doesn't lead to a node that lies whole in the first level of its trie; or the word
     /// names no row, and leads to no node that lies whole in the next level of its trie.
-    #[error("unsound")]
     Unsound,
     /// The word of a row isn't 0, and its high half is 0 or above the number of rules.
-    #[error("row form")]
     RowForm,
     /// A byte stands after the last field.
-    #[error("trailing")]
     Trailing,
     /// The trie keeps no group of key bytes, or one that its keys don't have.
-    #[error("kept groups")]
     KeptGroups,
+}
+
+impl ImageKind {
+    /// What was found, in words.
+    fn words(self) -> &'static str {
+        match self {
+            ImageKind::Magic => "magic",
+            ImageKind::Version => "version",
+            ImageKind::Family => "family",
+            ImageKind::Length => "length",
+            ImageKind::TooMany => "too many",
+            ImageKind::Unsound => "unsound",
+            ImageKind::RowForm => "row form",
+            ImageKind::Trailing => "trailing",
+            ImageKind::KeptGroups => "kept groups",
+        }
+    }
+}
+
+impl fmt::Display for ImageKind {
+    fn fmt<W: fmt::Write>(&self, f: &mut fmt::Formatter<W>) -> fmt::Result {
+        f.write_str(self.words())
+    }
 }
 
 /// The first failing check of an image.
@@ -50,7 +65,7 @@ pub struct ImageFault {
 }
 
 /// Why no pair of tables is made of an image.
-#[derive(Clone, Copy, Debug, PartialEq, Eq, Error)]
+#[derive(Clone, Copy, Debug, Error)]
 pub enum LoadFault {
     /// The bytes are no image, and this is their first failing check.
     #[error("image: {0}")]

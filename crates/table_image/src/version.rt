@@ -1,7 +1,7 @@
 //! The versions of an image.
 
 /// How the tries of an image are spelled.
-#[derive(Clone, Copy, Debug, PartialEq, Eq)]
+#[derive(Clone, Copy)]
 pub enum Version {
     /// Without their kept groups: each trie keeps all groups of its keys.
     One,

@@ -16,7 +16,7 @@ pub const KEY_WORDS: usize = 4;
 pub const KEY_LEN: usize = 13;
 
 /// The numbers of an IPv4 packet that rules ask for.
-#[derive(Clone, Copy, Debug, PartialEq, Eq)]
+#[derive(Clone, Copy)]
 pub struct Packet {
     pub protocol: u8,
     pub source: u32,

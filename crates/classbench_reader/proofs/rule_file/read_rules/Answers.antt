@@ -1,7 +1,7 @@
 use Rattle.std.proofs.Common.{◌≡◌, Err, inl, inr, sym, ap, ◌∙◌, ⊎_elim, rules}
 use Rattle.std.proofs.lemmas.Bool.{ltb-false}
-use Rattle.classbench_reader.proofs.FileLines.{IsNextLine, IsReadUpTo-none, IsReadUpTo-more, told_fault, met_fault}
-use Rattle.classbench_reader.proofs.FileLines.{rule_file-all, has_room}
+use Rattle.classbench_reader.proofs.FileLines.{IsNextLine, IsReadUpTo-none, IsReadUpTo-more, IsReadUpTo-skipped}
+use Rattle.classbench_reader.proofs.FileLines.{told_fault, met_fault, rule_file-all, has_room}
 use Rattle.classbench_reader.proofs.rule_file.read_rules.Goals as goal
 
 pub loop-line-init : goal.loop-line-init
@@ -50,6 +50,18 @@ loop-line-preserved-in_ok-add_line c =
     } in
     let kept = sym c.is_skipped.ensures ∙ c.if-not-is_skipped.true in
     IsReadUpTo-more _ _ _ _ _ _ _ _ next kept c.in_ok-add_line.ensures.ok
+
+pub loop-line-preserved : goal.loop-line-preserved
+loop-line-preserved c =
+    let next : IsNextLine c.args.bytes.now c.loop-line.file c.loop-line.number c.loop-line.ordinal c.loop-line.left.now
+    c.in-Some.line.now c.in-Some.rest.now = record {
+      short = ltb-false _ _ (sym c.is_too_long.ensures ∙ c.if-is_too_long.false);
+      read = c.loop-line.invariant;
+      cut = c.in-Some.ensures.lines;
+      shorter = c.in-Some.ensures.shorter;
+    } in
+    let skipped = sym c.is_skipped.ensures ∙ c.if-not-is_skipped.false in
+    IsReadUpTo-skipped _ _ _ _ _ _ _ next skipped
 
 pub returns-clause-rules : goal.returns-clause-rules
 returns-clause-rules c =
