@@ -13,16 +13,24 @@ use crate::groups::{Places, kept_places};
 use crate::parts::Parts;
 use crate::sound::{MAX_TRIES, SoundFault, check_sound};
 use arrayvec::ArrayVec;
+use std::fmt::{self, Debug, Formatter, Write};
 use std::marker::Model;
 use table_sizes::ROW_LEN;
 
 /// Parts that make no table, and why.
-#[derive(Debug, Drop)]
+#[derive(Drop)]
 pub struct NotSound {
     /// What is wrong with them first.
     pub fault: SoundFault,
     /// The parts, as they were given.
     pub parts: Parts,
+}
+
+/// Says what is wrong, and leaves the parts out.
+impl Debug for NotSound {
+    fn fmt<W: Write>(&self, f: &mut Formatter<W>) -> fmt::Result {
+        Debug::fmt(&self.fault, f)
+    }
 }
 
 /// A sound table: its parts, which contracts see, and what its walks ask for again and again.
