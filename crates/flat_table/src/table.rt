@@ -34,7 +34,6 @@ impl Debug for NotSound {
 }
 
 /// A sound table: its parts, which contracts see, and what its walks ask for again and again.
-#[derive(Drop)]
 pub struct Table {
     parts: Parts,
     /// The roots of the parts again. They lie in the table itself, so that a walk that begins waits
@@ -43,6 +42,17 @@ pub struct Table {
     /// For each trie the places of its kept groups, which are worked out once. They lie in the
     /// table itself, so that a table takes no memory besides its parts.
     places: ArrayVec<Places, MAX_TRIES>,
+}
+
+/// It is written out so that letting go is one call, here and in the crates above.
+impl Drop for Table {
+    fn drop(self) {
+        let Table {
+            parts: _,
+            roots: _,
+            places: _,
+        } = self;
+    }
 }
 
 impl Model for Table {

@@ -48,10 +48,17 @@ impl<const N: usize> Rule<N> {
 
 /// A rule: its tag and its values for the fields of a layout, in their order. Contracts see the
 /// two.
-#[derive(Debug, Drop)]
+#[derive(Debug)]
 pub struct StoredRule {
     tag: RuleTag,
     fields: SmallVec<FieldValue, INLINE_FIELDS, Global>,
+}
+
+/// It is written out so that letting go is one call, here and in the crates above.
+impl Drop for StoredRule {
+    fn drop(self) {
+        let StoredRule { tag: _, fields: _ } = self;
+    }
 }
 
 impl Model for StoredRule {

@@ -42,10 +42,20 @@ impl From<AllocError> for PushFault {
 ///
 /// Contracts see the layout and the list of the rules. No call but `push` and `push_lawful` takes
 /// memory.
-#[derive(Debug, Drop)]
+#[derive(Debug)]
 pub struct RuleSet {
     layout: Layout,
     rules: Vec<StoredRule>,
+}
+
+/// It is written out so that letting go is one call, here and in the crates above.
+impl Drop for RuleSet {
+    fn drop(self) {
+        let RuleSet {
+            layout: _,
+            rules: _,
+        } = self;
+    }
 }
 
 impl Model for RuleSet {
