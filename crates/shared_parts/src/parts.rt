@@ -63,6 +63,7 @@ impl Parts {
     }
 
     /// The number of the part of the pair. It takes memory where the part is new.
+    #[inline(always)]
     fn number(&mut self, pair: (u32, u32)) -> Result<u32, AllocError>
         requires { 0 < pair.0 →
             (pair.0 ≤ length self.old) × (0 < pair.1) × (pair.1 ≤ length self.old) }
