@@ -38,7 +38,6 @@ pub struct NotBuilt;
 /// Contracts see the rules, how many there may be, and the table. A call that is refused leaves all
 /// three as they were. Source: DPDK Programmer's Guide, "Packet Classification and Access Control";
 /// the calls are those on a `rte_acl_ctx` of `rte_acl.h`.
-#[derive(Drop)]
 pub struct AclContext {
     /// What takes the memory of rules and tables.
     alloc: Global,
@@ -46,6 +45,18 @@ pub struct AclContext {
     max_rules: u32,
     /// None where no build succeeded since the context was made or reset.
     table: Option<Table>,
+}
+
+/// It is written out so that letting go is one call, here and in the crates above.
+impl Drop for AclContext {
+    fn drop(self) {
+        let AclContext {
+            alloc: _,
+            rules: _,
+            max_rules: _,
+            table: _,
+        } = self;
+    }
 }
 
 impl Model for AclContext {

@@ -1,9 +1,9 @@
 -- What the shape of parts says, fact by fact.
-use Rattle.std.proofs.Common.{◌≡◌, ℕ, ◌+◌, ◌*◌, ◌<◌, ◌≤◌, Bool, true, false, IsTrue, length, sum, arith}
+use Rattle.std.proofs.Common.{◌≡◌, ◌==◌, ◌&&◌, ℕ, ◌+◌, ◌*◌, ◌%◌, ◌<◌, ◌≤◌, nat_le, nat_lt, Bool, true, false, IsTrue, length, sum, arith}
 use Rattle.std.specs.List.{list_all}
-use Rattle.std.proofs.lemmas.Bool.Decides.{nat_tests}
-use Rattle.flat_table.specs.Groups.{longest_key, is_key_len, is_kept_word}
-use Rattle.flat_table.specs.Table.{TableView, depths_of}
+use Rattle.std.proofs.lemmas.Bool.{and_parts, eqb-true, leb-true, ltb-true}
+use Rattle.flat_table.specs.Groups.{group_len, longest_key, is_key_len, is_kept_word}
+use Rattle.flat_table.specs.Table.{TableView, depths_of, words_of}
 use Rattle.table_sizes.specs.Sizes.{max_words, row_len}
 use Rattle.flat_table.specs.Sound.{most_tries, begins_with_zeros, is_shaped, first_unsound_root}
 use Rattle.flat_table.specs.Sound.{first_unsound_word, sound_fault}
@@ -23,19 +23,40 @@ pub record IsShaped (table : TableView) : Type 0 where
   pub zeros : begins_with_zeros table.rows ≡ true
   pub small : length table.words + row_len * length table.rows ≤ max_words
 
+-- eight tests that all pass
+each_of : (a b c d e f g h : Bool) → (a && b && c && d && e && f && g && h) ≡ true →
+    (a ≡ true) × (b ≡ true) × (c ≡ true) × (d ≡ true) × (e ≡ true) × (f ≡ true) × (g ≡ true) × (h ≡ true)
+each_of a b c d e f g h all =
+    let seven = and_parts (a && b && c && d && e && f && g) h all in
+    let six = and_parts (a && b && c && d && e && f) g seven.0 in
+    let five = and_parts (a && b && c && d && e) f six.0 in
+    let four = and_parts (a && b && c && d) e five.0 in
+    let three = and_parts (a && b && c) d four.0 in
+    let two = and_parts (a && b) c three.0 in
+    let one = and_parts a b two.0 in
+    (one.0, one.1, two.1, three.1, four.1, five.1, six.1, seven.1)
+
 pub shaped : (table : TableView) → IsTrue (is_shaped table) → IsShaped table
-shaped table h = record {
-  same = grind (arith, nat_tests);
-  few = grind (arith, nat_tests);
-  key_len = grind (arith, nat_tests);
-  key_some = grind (arith, nat_tests);
-  key_bound = grind (arith, nat_tests);
-  kept = grind (arith, nat_tests);
-  levels = grind (arith, nat_tests);
-  words = grind (arith, nat_tests);
-  zeros = grind (arith, nat_tests);
-  small = grind (arith, nat_tests);
-}
+shaped table all =
+    let h = each_of (length table.kept == length table.roots) (nat_le (length table.roots) most_tries)
+    (is_key_len table.key_len) (list_all (is_kept_word table.key_len) table.kept)
+    (length table.level_lens == sum (depths_of table)) (length table.words == sum table.level_lens)
+    (begins_with_zeros table.rows) (nat_le (words_of table) max_words) all in
+    let len = and_parts (table.key_len % group_len == 1) (nat_lt table.key_len (longest_key + 1)) h.2 in
+    let rest = eqb-true (table.key_len % group_len) 1 len.0 in
+    let long = ltb-true table.key_len (longest_key + 1) len.1 in
+    record {
+      same = eqb-true (length table.kept) (length table.roots) h.0;
+      few = leb-true (length table.roots) most_tries h.1;
+      key_len = h.2;
+      key_some = omega (arith, rest);
+      key_bound = omega (arith, long);
+      kept = h.3;
+      levels = eqb-true (length table.level_lens) (sum (depths_of table)) h.4;
+      words = eqb-true (length table.words) (sum table.level_lens) h.5;
+      zeros = h.6;
+      small = leb-true (words_of table) max_words h.7;
+    }
 
 -- what is sound is shaped, and no root and no word is unsound
 pub record IsSound (table : TableView) : Type 0 where

@@ -1,11 +1,13 @@
 -- The first unsound word and root, trie by trie.
 use Rattle.std.proofs.Common.{◌≡◌, ℕ, ◌+◌, ◌-◌, ◌<◌, Bool, true, false, not, cond, Option, Some, None, List, ◌∷◌, refl}
-use Rattle.std.proofs.Common.{sym, ap, ◌∙◌, map, take, drop, length, get_or, drop-cons, add-one}
+use Rattle.std.proofs.Common.{sym, ap, ◌∙◌, map, take, drop, length, get_or, drop-cons, add-one, sum, arith}
+use Rattle.std.proofs.lemmas.List.{take_all, length-drop}
+use Rattle.std.proofs.lemmas.List.Sums.{sum_by-cons}
 use Rattle.std.specs.List.{zip, position_from}
 use Rattle.std.specs.Option.{is_some, option_or}
 use Rattle.flat_table.specs.declared.level.Level.{Level}
 use Rattle.flat_table.specs.Table.{TableView, levels_from, trie_levels}
-use Rattle.flat_table.specs.Sound.{leads_into, first_level, unsound_word, first_some, first_unsound_word}
+use Rattle.flat_table.specs.Sound.{leads_into, is_sound_word, first_level, unsound_word, first_some, first_unsound_word}
 use Rattle.flat_table.specs.Sound.{first_unsound_root}
 use Rattle.flat_table.proofs.Levels.{Turn}
 
@@ -38,6 +40,45 @@ module _ (table : TableView) (trie first from end : ℕ) (place : Option ℕ)
       (map (unsound_word (length table.rows) table.words) (drop (trie + 1) (trie_levels table)))
       ≡ first_unsound_word table
   no_word_here none = sym (not_here place _ none) ∙ word_step
+
+-- the lengths of the levels not yet looked at are that of the one here and those of the later ones
+lens_here : (depth : ℕ) (lens : List ℕ) → depth < length lens →
+    drop depth lens ≡ get_or lens depth 0 ∷ drop (depth + 1) lens
+lens_here depth lens lt = rw (add-one depth) (drop-cons lens depth 0 lt)
+
+pub words_here : (depth : ℕ) (lens : List ℕ) → depth < length lens →
+    sum (drop depth lens) ≡ get_or lens depth 0 + sum (drop (depth + 1) lens)
+words_here depth lens lt =
+    ap sum (lens_here depth lens lt) ∙ sum_by-cons (λ (x : ℕ). x) (get_or lens depth 0) (drop (depth + 1) lens)
+
+-- A loop over the levels of a trie looks at the words of the one at which it stands: an unsound word there is the
+-- first of all, and else the first is in the levels after.
+module _ (rows : ℕ) (words lens : List ℕ) (depth from : ℕ) (lt : depth < length lens) (next : Level)
+    (leads : next ≡ first_level (levels_from (from + get_or lens depth 0)
+    (take (length lens - (depth + 1)) (drop (depth + 1) lens))))
+    (place whole : Option ℕ)
+    (e : place ≡ position_from (λ word. not (is_sound_word rows next word)) from
+    (take (from + get_or lens depth 0 - from) (drop from words)))
+    (all : unsound_word rows words (levels_from from (drop depth lens)) ≡ whole) where
+  level_step : option_or place (unsound_word rows words
+      (levels_from (from + get_or lens depth 0) (drop (depth + 1) lens))) ≡ whole
+  level_step =
+      let later : List ℕ = drop (depth + 1) lens in
+      let rest : take (length lens - (depth + 1)) later ≡ later = take_rest_all in
+      let long : from + get_or lens depth 0 - from ≡ get_or lens depth 0 = omega arith in
+      rw (e, leads, rest, long) (sym (ap (λ (ls : List ℕ). unsound_word rows words (levels_from from ls))
+      (lens_here depth lens lt)) ∙ all)
+    where
+      take_rest_all : take (length lens - (depth + 1)) (drop (depth + 1) lens) ≡ drop (depth + 1) lens
+      take_rest_all = take_all (length lens - (depth + 1)) (drop (depth + 1) lens)
+          (omega (arith, length-drop (depth + 1) lens))
+
+  pub level_here : is_some place ≡ true → place ≡ whole
+  level_here some = sym (found_here place _ some) ∙ level_step
+
+  pub no_level_here : is_some place ≡ false →
+      unsound_word rows words (levels_from (from + get_or lens depth 0) (drop (depth + 1) lens)) ≡ whole
+  no_level_here none = sym (not_here place _ none) ∙ level_step
 
 -- the root doesn't lead into the first of these levels
 abbrev pub is_unsound_root : ℕ × List Level → Bool

@@ -7,7 +7,7 @@ ghost use Rattle.flat_table.specs.Sound.{first_level, leads_into};
 use crate::word::{index_of, is_node, node_len};
 
 /// The words of one level of a trie: so many, from a place on.
-#[derive(Clone, Copy, Debug, PartialEq, Eq)]
+#[derive(Clone, Copy)]
 pub struct Level {
     /// The place of the first word.
     pub from: usize,

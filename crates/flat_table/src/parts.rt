@@ -3,7 +3,7 @@
 use table_sizes::ROW_LEN;
 
 /// The numbers and lists of which a table is made. Contracts see each vector as its list.
-#[derive(Debug, Drop)]
+#[derive(Drop)]
 pub struct Parts {
     /// How many bytes a key has: 1 and a multiple of 4, at most 505.
     pub key_len: u32,

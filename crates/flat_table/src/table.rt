@@ -13,11 +13,12 @@ use crate::groups::{Places, kept_places};
 use crate::parts::Parts;
 use crate::sound::{MAX_TRIES, SoundFault, check_sound};
 use arrayvec::ArrayVec;
+use std::fmt::{self, Debug, Formatter, Write};
 use std::marker::Model;
 use table_sizes::ROW_LEN;
 
 /// Parts that make no table, and why.
-#[derive(Debug, Drop)]
+#[derive(Drop)]
 pub struct NotSound {
     /// What is wrong with them first.
     pub fault: SoundFault,
@@ -25,8 +26,14 @@ pub struct NotSound {
     pub parts: Parts,
 }
 
+/// Says what is wrong, and leaves the parts out.
+impl Debug for NotSound {
+    fn fmt<W: Write>(&self, f: &mut Formatter<W>) -> fmt::Result {
+        Debug::fmt(&self.fault, f)
+    }
+}
+
 /// A sound table: its parts, which contracts see, and what its walks ask for again and again.
-#[derive(Drop)]
 pub struct Table {
     parts: Parts,
     /// The roots of the parts again. They lie in the table itself, so that a walk that begins waits
@@ -35,6 +42,17 @@ pub struct Table {
     /// For each trie the places of its kept groups, which are worked out once. They lie in the
     /// table itself, so that a table takes no memory besides its parts.
     places: ArrayVec<Places, MAX_TRIES>,
+}
+
+/// It is written out so that letting go is one call, here and in the crates above.
+impl Drop for Table {
+    fn drop(self) {
+        let Table {
+            parts: _,
+            roots: _,
+            places: _,
+        } = self;
+    }
 }
 
 impl Model for Table {

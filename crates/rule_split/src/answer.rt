@@ -6,7 +6,7 @@ use thiserror::Error;
 use trie_merge::Levels;
 
 /// Why there is no plan.
-#[derive(Clone, Copy, Debug, PartialEq, Eq, Error)]
+#[derive(Clone, Copy, Debug, Error)]
 pub enum PlanFault {
     /// The split ends with a total of so many words, which is above the budget. A group of more
     /// words than the budget counts as one word more than it.

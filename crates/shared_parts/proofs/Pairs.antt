@@ -1,13 +1,13 @@
 -- Pairs that are inserted.
 use Rattle.std.proofs.Common.{◌≡◌, ℕ, ◌+◌, ◌<◌, ◌≤◌, ◌==◌, ◌||◌, List, [], ◌∷◌, ◌++◌, length, get_or, Bool, true}
-use Rattle.std.proofs.Common.{false, cond, not, refl, sym, ◌∙◌, ap, subst, inl, inr, true≢false, arith}
+use Rattle.std.proofs.Common.{◌⊎◌, false, cond, not, refl, sym, ◌∙◌, ap, subst, inl, inr, true≢false, arith}
 use Rattle.std.specs.List.{list_any, position_or_len}
 use Rattle.std.proofs.lemmas.Bool.{cases_lt, and_from, eq-eqb}
 use Rattle.std.proofs.lemmas.List.{get_or_append_left, length-append}
 use Rattle.std.proofs.Math.Seq.{get_or-append_seam}
 use Rattle.std.proofs.lemmas.List.Folds.{list_any-append}
 use Rattle.indexmap.specs.IndexSet.{insert_key}
-use Rattle.shared_parts.specs.Keys.{KeyAt, same_pair, AreLower, AreDistinct}
+use Rattle.shared_parts.specs.Keys.{KeyAt, same_pair, AreLower, AreDistinct, has_entry}
 use Rattle.shared_parts.proofs.Keys.{key_grows}
 
 same_itself : (pair : ℕ × ℕ) → same_pair pair pair ≡ true
@@ -75,3 +75,20 @@ well_made pairs pair low made = by (list_any (same_pair pair) pairs) refl
         → AreLower (cond b pairs (pairs ++ pair ∷ [])) × AreDistinct (cond b pairs (pairs ++ pair ∷ []))
     by true is = made
     by false is = (lower_push pairs pair low made.0, distinct_push pairs pair is made.1)
+
+or_last : (a b : Bool) → (a || (b || false)) ≡ true → (a ≡ true) ⊎ (b ≡ true)
+or_last true b is = inl refl
+or_last false true is = inr refl
+or_last false false is = absurd (true≢false (sym is))
+
+-- an entry was among the pairs before, or it is the one that is inserted
+pub entry_from : (pairs : List (ℕ × ℕ)) (pair : ℕ × ℕ) (entry : ℕ)
+    → has_entry (insert_key same_pair pairs pair) entry ≡ true
+    → (has_entry pairs entry ≡ true) ⊎ (same_pair (0, entry) pair ≡ true)
+entry_from pairs pair entry = by (list_any (same_pair pair) pairs)
+  where
+    by : (b : Bool) → has_entry (cond b pairs (pairs ++ pair ∷ [])) entry ≡ true
+        → (has_entry pairs entry ≡ true) ⊎ (same_pair (0, entry) pair ≡ true)
+    by true is = inl is
+    by false is = or_last (has_entry pairs entry) (same_pair (0, entry) pair)
+        (sym (list_any-append (same_pair (0, entry)) pairs (pair ∷ [])) ∙ is)

@@ -62,6 +62,22 @@ impl Parts {
         }
     }
 
+    /// The number of the part of the pair. It takes memory where the part is new.
+    #[inline(always)]
+    fn number(&mut self, pair: (u32, u32)) -> Result<u32, AllocError>
+        requires { 0 < pair.0 →
+            (pair.0 ≤ length self.old) × (0 < pair.1) × (pair.1 ≤ length self.old) }
+        ensures grows { OnOk result ((more : List (ℕ × ℕ)) × (self.new ≡ self.old ++ more)) }
+        ensures number { IfOk result (λ number. KeyAt same_pair self.new pair number) }
+        ensures within { IfOk result (λ number. number ≤ length self.new) }
+        ensures entries { OnOk result ((entry : ℕ) → has_entry self.new entry ≡ true →
+            (has_entry self.old entry ≡ true) ⊎ (same_pair (0, entry) pair ≡ true)) }
+    {
+        check_room(self.alloc, self.pairs.len())?;
+        let (index, _) = self.pairs.insert_full(pair)?;
+        Ok(index as u32 + 1)
+    }
+
     /// The number of the part that is the one entry. It takes memory where the part is new.
     pub fn entry(&mut self, entry: u32) -> Result<u32, AllocError>
         ensures grows { OnOk result ((more : List (ℕ × ℕ)) × (self.new ≡ self.old ++ more)) }
@@ -70,9 +86,7 @@ impl Parts {
         ensures entries { OnOk result ((other : ℕ) → has_entry self.new other ≡ true →
             (has_entry self.old other ≡ true) ⊎ (other ≡ entry)) }
     {
-        check_room(self.alloc, self.pairs.len())?;
-        let (index, _) = self.pairs.insert_full((0, entry))?;
-        Ok(index as u32 + 1)
+        self.number((0, entry))
     }
 
     /// The number of two parts together, of which each may be 0 for nothing. It takes memory where
@@ -92,9 +106,7 @@ impl Parts {
         if right == 0 {
             return Ok(left);
         }
-        check_room(self.alloc, self.pairs.len())?;
-        let (index, _) = self.pairs.insert_full((left, right))?;
-        Ok(index as u32 + 1)
+        self.number((left, right))
     }
 
     /// The number of all entries together, the halves of the list as a pair. There is one entry or

@@ -10,7 +10,7 @@ use std::alloc::AllocError;
 
 /// A piece of neighbouring bytes that lead to one number. It begins after the piece before it, and
 /// the first at byte 0.
-#[derive(Clone, Copy, Debug, PartialEq, Eq)]
+#[derive(Clone, Copy)]
 pub struct Piece {
     /// The last byte of the piece.
     pub last: u8,

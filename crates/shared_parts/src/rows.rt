@@ -11,7 +11,7 @@ use table_sizes::ROW_LEN;
 
 /// What decides whether a rule wins: the categories that it takes part in, bit c for category c,
 /// and its rank, which is greater than that of each rule that it wins over.
-#[derive(Clone, Copy, Debug)]
+#[derive(Clone, Copy)]
 pub struct Ranked {
     pub mask: u32,
     pub rank: u32,
@@ -136,8 +136,7 @@ impl Rows {
         ensures within { IfOk result (λ number. number ≤ length self.new.rows) }
     {
         let rule = rule_at(self.ranked.as_slice(), (entry / 4) as usize);
-        let number = self.number(row_of_rule(rule))?;
-        Ok(number)
+        self.number(row_of_rule(rule))
     }
 
     /// The number of two rows as one, of which each may be 0 for none. It takes memory where the
@@ -163,7 +162,6 @@ impl Rows {
             return Ok(left);
         }
         let row = join_rows(self.row(left as usize - 1), self.row(right as usize - 1));
-        let number = self.number(row)?;
-        Ok(number)
+        self.number(row)
     }
 }

@@ -1,5 +1,5 @@
 -- A filled table answers as its rules do.
-use Rattle.std.proofs.Common.{◌≡◌, ℕ, zero, suc, ◌+◌, ◌%◌, ◌<◌, ◌≤◌, ◌↔◌, true, false, List, [], ◌∷◌, Some, None}
+use Rattle.std.proofs.Common.{◌≡◌, ℕ, suc, ◌+◌, ◌%◌, ◌<◌, ◌≤◌, ◌↔◌, true, false, List, [], ◌∷◌, Some, None}
 use Rattle.std.proofs.Common.{Option, fold, refl, sym, ap, ◌∙◌, arith, inl, inr, map, length, get_or, slice_get, subst}
 use Rattle.std.specs.Prelude.{slice_index, slice_index_or, max}
 use Rattle.std.specs.List.{AllByRecursion, Contains, sum_by, range_with_len}

@@ -1,6 +1,6 @@
 -- What filling is given, and what it comes to.
 use Rattle.std.proofs.Common.{◌≡◌, ℕ, ◌+◌, ◌*◌, ◌<◌, List, [], ◌∷◌, All, refl, sym, ap, ◌∙◌, arith, map, length}
-use Rattle.std.proofs.Common.{replicate, subst, Some, None, Option, ◌≤◌}
+use Rattle.std.proofs.Common.{replicate, subst, None, ◌≤◌}
 use Rattle.std.specs.List.{AllByRecursion, sum_by, flat_map, range_with_len}
 use Rattle.std.proofs.lemmas.List.{length-map}
 use Rattle.std.proofs.lemmas.List.Sums.{get_or-le-sum_by}
@@ -142,7 +142,3 @@ module _ {set : RuleSetView} {tries : List LevelsView} where
         words = made.words i;
         rows = rows i;
       }
-
--- some fault isn't none
-pub no_fault : {F : Type 0} (fault : F) (found : Option F) → Some fault ≡ found → found ≡ None → ⊥
-no_fault fault found some none = absurd (cc)

@@ -1,5 +1,5 @@
 -- A key of a lawful layout has one byte and whole groups of four.
-use Rattle.std.proofs.Common.{◌≡◌, ℕ, ◌%◌, ◌&&◌, List, true, arith}
+use Rattle.std.proofs.Common.{◌≡◌, ◌%◌, ◌&&◌, List, true, arith}
 use Rattle.std.proofs.lemmas.Bool.{eq-eqb, lt-ltb}
 use Rattle.field_defs.specs.declared.field.FieldDef.{FieldDef}
 use Rattle.field_defs.specs.Layout.{key_len_of}

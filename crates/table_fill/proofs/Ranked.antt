@@ -1,6 +1,6 @@
 -- The rows of a filled table have the words of rules.
-use Rattle.std.proofs.Common.{◌≡◌, ℕ, zero, suc, ◌+◌, ◌/◌, ◌==◌, ◌<◌, ◌≤◌, ◌||◌, Bool, true, false, List, [], ◌∷◌}
-use Rattle.std.proofs.Common.{◌++◌, Some, refl, ap, ◌∙◌, arith, inl, inr, map, length}
+use Rattle.std.proofs.Common.{◌≡◌, ℕ, zero, suc, ◌/◌, ◌==◌, ◌<◌, ◌≤◌, ◌||◌, Bool, true, false, List, [], ◌∷◌}
+use Rattle.std.proofs.Common.{Some, refl, ap, ◌∙◌, arith, inl, inr, map, length}
 use Rattle.std.specs.Prelude.{◌-◌, nat_le, All}
 use Rattle.std.specs.List.{AllByRecursion, flat_map, list_all, range_with_len}
 use Rattle.std.proofs.lemmas.Bool.{and_from, le-leb, le-ltb}
@@ -8,7 +8,6 @@ use Rattle.std.proofs.lemmas.List.Concat.{flat_map-cons}
 use Rattle.std.proofs.lemmas.Bool.Decides.{eqb_tells}
 use Rattle.std.proofs.lemmas.List.FromFn.{length-range_with_len}
 use Rattle.std.proofs.lemmas.List.Elements.{recursion_from_All}
-use Rattle.std.specs.Int.Signed.{le_z}
 use Rattle.rule_set.specs.Rule.{RuleView}
 use Rattle.rule_set.specs.Among.{priority_at}
 use Rattle.rule_set.specs.Rank.{comes_below, rank_of}

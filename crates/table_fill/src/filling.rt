@@ -16,7 +16,7 @@ ghost use Rattle.flat_table.specs.Table.{view_of, words_of};
 
 use crate::rows::{rows_of, rule_words};
 use crate::tries::{kept_of, level_lens_of, roots_of, words_of};
-use flat_table::{NotSound, Parts, Table};
+use flat_table::{Parts, Table};
 use rule_set::RuleSet;
 use std::alloc::{AllocError, Global};
 use trie_merge::Levels;
@@ -72,8 +72,5 @@ pub fn fill(alloc: Global, rules: &RuleSet, levels: &[Levels]) -> Result<Table, 
         ≡ row_len + sum_by (λ (trie : LevelsView). trie.words) levels.now) }
 {
     let parts = parts_of(alloc, rules, levels)?;
-    match Table::from_parts(parts) {
-        Ok(table) => Ok(table),
-        Err(NotSound { .. }) => unreachable!(),
-    }
+    Ok(Table::from_sound(parts))
 }

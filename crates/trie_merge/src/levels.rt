@@ -58,13 +58,25 @@ impl Level {
 
 /// The merged states of a group of rules, kept place by kept place. Contracts see the kept groups,
 /// the group, the runs of each state at each place, the rows and the words.
-#[derive(Drop)]
 pub struct Levels {
     pub(crate) kept: u128,
     pub(crate) group: Vec<u32>,
     pub(crate) levels: Vec<Level>,
     pub(crate) rows: Vec<[u32; ROW_LEN]>,
     pub(crate) words: u64,
+}
+
+/// It is written out so that letting go is one call, here and in the crates above.
+impl Drop for Levels {
+    fn drop(self) {
+        let Levels {
+            kept: _,
+            group: _,
+            levels: _,
+            rows: _,
+            words: _,
+        } = self;
+    }
 }
 
 impl Model for Levels {

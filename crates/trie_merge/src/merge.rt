@@ -42,7 +42,7 @@ pub(crate) struct Pieces {
 }
 
 /// Why there are no merged states.
-#[derive(Clone, Copy, Debug, PartialEq, Eq)]
+#[derive(Clone, Copy, Debug)]
 pub enum MergeFault {
     /// The words exceed the cap.
     OverCap,

@@ -1,9 +1,12 @@
-use Rattle.std.proofs.Common.{ℕ, List, sym, subst, arith}
-use Rattle.shared_parts.specs.Keys.{AreLower, AreDistinct}
-use Rattle.shared_parts.proofs.Pairs.{well_made}
+use Rattle.std.proofs.Common.{◌==◌, inl, inr}
+use Rattle.std.proofs.lemmas.Bool.{and_parts, eqb-true}
+use Rattle.std.proofs.lemmas.Result.{on_ok_weaker}
+use mathlib.Core.Logic.{⊎_elim}
 use Rattle.shared_parts.proofs.parts.Parts.entry.Goals as goal
 
-pub invariant_of-self-2 : goal.invariant_of-self-2
-invariant_of-self-2 c =
-    subst (λ (ps : List (ℕ × ℕ)). AreLower ps × AreDistinct ps) (sym c.in_ok-index.ensures.keys)
-    (well_made c.self.inside.pairs.keys (0, c.args.entry) (λ some. absurd (omega (arith, some))) c.self.invariant)
+pub returns-clause-entries : goal.returns-clause-entries
+returns-clause-entries c =
+    on_ok_weaker c.number.result
+    (λ from other there. ⊎_elim inl
+    (λ same. inr (eqb-true other c.args.entry (and_parts (0 == 0) (other == c.args.entry) same).1)) (from other there))
+    c.number.ensures.entries

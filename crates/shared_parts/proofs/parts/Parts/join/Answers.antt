@@ -1,15 +1,22 @@
-use Rattle.std.proofs.Common.{ℕ, List, length, sym, ap, subst, arith}
-use Rattle.shared_parts.specs.Keys.{AreLower, AreDistinct}
-use Rattle.shared_parts.proofs.Pairs.{well_made}
+use Rattle.std.proofs.Common.{◌==◌, inr, arith}
+use Rattle.std.proofs.lemmas.Bool.{and_parts, eqb-true}
+use Rattle.std.proofs.lemmas.Result.{IfOk-weaker, on_ok_weaker}
+use mathlib.Core.Logic.{⊎_elim}
+use Rattle.shared_parts.specs.Tree.{Joins}
 use Rattle.shared_parts.proofs.parts.Parts.join.Goals as goal
 
-pub invariant_of-self-2 : goal.invariant_of-self-2
-invariant_of-self-2 c =
-    let long = ap length c.self.view_is in
-    subst (λ (ps : List (ℕ × ℕ)). AreLower ps × AreDistinct ps) (sym c.in_ok-index.ensures.keys)
-    (well_made c.self.inside.pairs.keys (c.args.left, c.args.right)
-    (λ some. (
-      omega (arith, c.requires.left, long),
-      omega (arith, c.if-right-eq0.false),
-      omega (arith, c.requires.right, long),
-    )) c.self.invariant)
+pub returns-clause-entries : goal.returns-clause-entries
+returns-clause-entries c =
+    on_ok_weaker c.number.result
+    (λ from entry there. ⊎_elim (λ old. old) (λ same. absurd (omega (
+      arith,
+      eqb-true 0 c.args.left (and_parts (0 == c.args.left) (entry == c.args.right) same).0,
+      c.if-left-eq0.false,
+    ))) (from entry there))
+    c.number.ensures.entries
+
+pub returns-clause-joins : goal.returns-clause-joins
+returns-clause-joins c =
+    IfOk-weaker c.number.result _ (λ number. Joins c.number.new.self c.args.left c.args.right number)
+    (λ number at. inr (inr (omega (arith, c.if-left-eq0.false), omega (arith, c.if-right-eq0.false), at)))
+    c.number.ensures.number
