@@ -1,5 +1,7 @@
 //! The one file that a desk over memory creates, in room that was taken for it.
 
+ghost use Rattle.std.specs.Prelude.{◌≡◌, ◌+◌, ◌≤◌, ◌++◌, length, vec_len, vec_capacity};
+
 use std::alloc::{AllocError, Global};
 use std::marker::Model;
 
@@ -36,6 +38,7 @@ impl Model for MadeFile {
 
 impl MadeFile {
     ghost use Rattle.std.specs.Prelude.{◌≡◌, ◌-◌, ◌≤◌, [], ◌++◌, length, true, false, IfOk, IsTrue};
+    ghost use Rattle.std.specs.Str.{bytes_eq};
     ghost use Rattle.acl_outside.specs.MemFile.{is_made, takes_name};
 
     /// Room for a file of so many bytes, which isn't there yet.
@@ -55,7 +58,7 @@ impl MadeFile {
     pub(crate) fn is_named(&self, name: &str) -> bool
         ensures { result ≡ is_made self.now name.now }
     {
-        self.there && self.name.as_slice() == name.as_bytes()
+        self.there && self.has_name(name)
     }
 
     /// Whether a file of this name can be created: there is room for its name, and no file of
@@ -63,7 +66,14 @@ impl MadeFile {
     pub(crate) fn takes_name(&self, name: &str) -> bool
         ensures { result ≡ takes_name self.now name.now }
     {
-        name.len() <= MAX_NAME && (!self.there || self.name.as_slice() == name.as_bytes())
+        name.len() <= MAX_NAME && (!self.there || self.has_name(name))
+    }
+
+    /// Whether this is the name that it was given last.
+    fn has_name(&self, name: &str) -> bool
+        ensures { result ≡ bytes_eq self.now.name name.now }
+    {
+        self.name.as_slice() == name.as_bytes()
     }
 
     /// Creates the file with no bytes.
@@ -80,10 +90,7 @@ impl MadeFile {
     {
         self.there = true;
         self.name.clear();
-        match self.name.extend_from_slice(name.as_bytes()) {
-            Ok(()) => {}
-            Err(AllocError) => unreachable!(),
-        }
+        put_in_room(&mut self.name, name.as_bytes());
         self.bytes.clear();
     }
 
@@ -93,10 +100,7 @@ impl MadeFile {
 
         ensures { self.new ≡ record self.old { bytes = self.old.bytes ++ piece.now } }
     {
-        match self.bytes.extend_from_slice(piece) {
-            Ok(()) => {}
-            Err(AllocError) => unreachable!(),
-        }
+        put_in_room(&mut self.bytes, piece);
     }
 
     pub(crate) fn bytes(&self) -> &[u8]
@@ -110,5 +114,18 @@ impl MadeFile {
         ensures { result ≡ self.now.room - length self.now.bytes }
     {
         self.room - self.bytes.len()
+    }
+}
+
+/// Puts the piece after the bytes, in room that was taken for it.
+pub(crate) fn put_in_room(bytes: &mut Vec<u8>, piece: &[u8])
+    requires { vec_len bytes.old + length piece.now ≤ vec_capacity bytes.old }
+
+    ensures bytes { bytes.new.items ≡ bytes.old.items ++ piece.now }
+    ensures room { vec_capacity bytes.old ≤ vec_capacity bytes.new }
+{
+    match bytes.extend_from_slice(piece) {
+        Ok(()) => {}
+        Err(AllocError) => unreachable!(),
     }
 }

@@ -52,7 +52,7 @@ pub struct MemDesk {
 }
 
 /// What a desk has in hand.
-#[derive(Clone, Copy, Debug, PartialEq, Eq)]
+#[derive(Clone, Copy)]
 pub(crate) enum InHand {
     Nothing,
     /// The given file at this place, which is read.
@@ -184,9 +184,10 @@ impl MemDesk {
 fn given_bytes<'a>(files: &'a [MemFile], name: &str) -> Option<&'a [u8]>
     ensures { option_map (λ bytes. bytes.now) result ≡ bytes_of (files_of files.now) name.now }
 {
-    let place = place_of(files, name)?;
-    let file = files.get(place)?;
-    Some(&file.bytes)
+    match place_of(files, name) {
+        Some(place) => Some(&files[place].bytes),
+        None => None,
+    }
 }
 
 /// The place of the named file.

@@ -3,6 +3,7 @@
 
 use crate::desk::Failed;
 use crate::listed::is_listed;
+use crate::made_file::put_in_room;
 use crate::sink::Sink;
 use std::alloc::{AllocError, Global};
 use std::marker::Model;
@@ -124,9 +125,7 @@ impl Sink for MemSink {
         let count = self
             .piece
             .min(piece.len().min(self.room - self.bytes.len()));
-        match self.bytes.extend_from_slice(&piece[..count]) {
-            Ok(()) => Ok(count),
-            Err(AllocError) => unreachable!(),
-        }
+        put_in_room(&mut self.bytes, &piece[..count]);
+        Ok(count)
     }
 }

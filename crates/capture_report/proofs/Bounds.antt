@@ -1,12 +1,10 @@
 -- The transitions of a report are at most one for each trie and byte of each key.
-use Rattle.std.proofs.Common.{◌≡◌, ℕ, ◌+◌, ◌*◌, ◌≤◌, List, ◌∷◌, Result, Ok, Err, inl, inr, sym, subst, ap, ◌∙◌, arith}
-use Rattle.std.proofs.Common.{length, map, true}
-use Rattle.std.specs.Prelude.{slice_index_or, All, Option}
-use Rattle.std.proofs.lemmas.List.Sums.{sum_by_from, sum_by-le, sum_by-le-sum_by}
-use Rattle.std.proofs.lemmas.List.FromFn.{length-range_with_len}
+use Rattle.std.proofs.Common.{◌≡◌, ℕ, ◌+◌, ◌≤◌, List, ◌∷◌, Result, Ok, Err, inl, inr, sym, subst, ◌∙◌, arith}
+use Rattle.std.proofs.Common.{map, true}
+use Rattle.std.specs.Prelude.{Option}
+use Rattle.std.proofs.lemmas.List.Sums.{sum_by-le-sum_by}
 use Rattle.acl_outside.specs.Desk.{File}
 use Rattle.acl_outside.specs.Heard.{Heard}
-use Rattle.flat_table.specs.Table.{TableView}
 use Rattle.flat_table.proofs.Offered.{key_bound}
 use Rattle.header_extract.specs.declared.class.Class.{Class}
 use Rattle.header_extract.specs.declared.class.Class.TheVariants.{Ip4, Ip6, Other, Short}

@@ -10,3 +10,4 @@ mod Shown
 mod Streaming
 mod Taking
 mod WholeRecords
+mod Writing

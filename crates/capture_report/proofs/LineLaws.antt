@@ -154,7 +154,7 @@ lines_in-records form records more =
     )
 
 -- one packet more
-counted-packets : (class : Class) (counts : Counts) → (counted class counts).packets ≡ counts.packets + 1
+pub counted-packets : (class : Class) (counts : Counts) → (counted class counts).packets ≡ counts.packets + 1
 counted-packets Ip4 counts = refl
 counted-packets Ip6 counts = refl
 counted-packets Other counts = refl

@@ -1,7 +1,7 @@
 -- The next record of a capture, as this crate asks for it: the reader's state is one value, and
 -- each answer has a record with its own link. Captures are of either format, and only the lemmas of
 -- Reader know which there are.
-use Rattle.std.specs.Prelude.{◌≡◌, ℕ, ◌<◌, List, [], ◌∷◌, length, Some, None, Ok, Err}
+use Rattle.std.specs.Prelude.{◌≡◌, ◌<◌, List, [], ◌∷◌, length, Some, None, Ok, Err}
 use Rattle.pcap_reader.specs.declared.state.Progress.TheVariants as progress
 use Rattle.pcap_reader.specs.State.{Answer, CaptureRecord}
 use Rattle.pcapng_reader.specs.Block.{front_len}

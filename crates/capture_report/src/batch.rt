@@ -13,7 +13,7 @@ use pcapng_reader::AnyCapture;
 pub const MAX_BATCH: usize = 64;
 
 /// Why no more records are taken into a batch.
-#[derive(Clone, Copy, PartialEq, Eq)]
+#[derive(Clone, Copy)]
 pub enum BatchEnd {
     /// It has as many records as a batch may have.
     Full,

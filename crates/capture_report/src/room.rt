@@ -12,7 +12,6 @@ use std::marker::Model;
 const BATCH_LINES: usize = MAX_BATCH * LINE_ROOM;
 
 /// Room for a batch. Contracts see its packets.
-#[derive(Drop)]
 pub struct Room {
     /// The packets of the batch.
     pub packets: Packets,
@@ -39,6 +38,21 @@ impl Model for Room {
 
     ghost invariant = { λ room. HasRoom room.keys room.scratch room.ip4 room.ip6
         room.lines };
+}
+
+/// It is written out so that letting go is one call, and not the steps of its six parts at each
+/// place where one ends.
+impl Drop for Room {
+    fn drop(self) {
+        let Room {
+            packets: _,
+            keys: _,
+            scratch: _,
+            ip4: _,
+            ip6: _,
+            lines: _,
+        } = self;
+    }
 }
 
 impl Room {

@@ -47,24 +47,40 @@ pub enum CaptureFault {
 }
 
 impl CaptureFault {
-    /// What is wrong, beside the number of the record that it is told of.
-    fn parts(self) -> (Option<u64>, &'static str) {
+    /// The number of the record that it is told of.
+    fn record(self) -> Option<u64> {
         match self {
-            CaptureFault::HeaderCut => (None, "header cut"),
-            CaptureFault::Magic => (None, "magic"),
-            CaptureFault::Version => (None, "version"),
-            CaptureFault::LinkType => (None, "link type"),
-            CaptureFault::RecordCut(record) => (Some(record), "cut"),
-            CaptureFault::RecordTooLong(record) => (Some(record), "too long"),
-            CaptureFault::TooManyRecords => (None, "too many"),
-            CaptureFault::ReadFault => (None, "read fault"),
-            CaptureFault::PngCut(record) => (Some(record), "block cut"),
-            CaptureFault::PngLength(record) => (Some(record), "block length"),
-            CaptureFault::PngOrder(record) => (Some(record), "byte order"),
-            CaptureFault::PngVersion(record) => (Some(record), "section version"),
-            CaptureFault::PngInterface(record) => (Some(record), "no interface"),
-            CaptureFault::PngLink(record) => (Some(record), "interface link type"),
-            CaptureFault::PngTooMany(record) => (Some(record), "too many interfaces"),
+            CaptureFault::RecordCut(record)
+            | CaptureFault::RecordTooLong(record)
+            | CaptureFault::PngCut(record)
+            | CaptureFault::PngLength(record)
+            | CaptureFault::PngOrder(record)
+            | CaptureFault::PngVersion(record)
+            | CaptureFault::PngInterface(record)
+            | CaptureFault::PngLink(record)
+            | CaptureFault::PngTooMany(record) => Some(record),
+            _ => None,
+        }
+    }
+
+    /// What is wrong.
+    fn words(self) -> &'static str {
+        match self {
+            CaptureFault::HeaderCut => "header cut",
+            CaptureFault::Magic => "magic",
+            CaptureFault::Version => "version",
+            CaptureFault::LinkType => "link type",
+            CaptureFault::RecordCut(_) => "cut",
+            CaptureFault::RecordTooLong(_) => "too long",
+            CaptureFault::TooManyRecords => "too many",
+            CaptureFault::ReadFault => "read fault",
+            CaptureFault::PngCut(_) => "block cut",
+            CaptureFault::PngLength(_) => "block length",
+            CaptureFault::PngOrder(_) => "byte order",
+            CaptureFault::PngVersion(_) => "section version",
+            CaptureFault::PngInterface(_) => "no interface",
+            CaptureFault::PngLink(_) => "interface link type",
+            CaptureFault::PngTooMany(_) => "too many interfaces",
         }
     }
 }
@@ -72,9 +88,10 @@ impl CaptureFault {
 /// What is wrong, after the record that it is told of: `record 3: cut`.
 impl fmt::Display for CaptureFault {
     fn fmt<W: fmt::Write>(&self, f: &mut fmt::Formatter<W>) -> fmt::Result {
-        match self.parts() {
-            (Some(record), words) => write!(f, "record {record}: {words}"),
-            (None, words) => f.write_str(words),
+        let words = self.words();
+        match self.record() {
+            Some(record) => write!(f, "record {record}: {words}"),
+            None => f.write_str(words),
         }
     }
 }
@@ -83,7 +100,7 @@ impl fmt::Display for CaptureFault {
 #[derive(Clone, Copy, Debug, PartialEq, Eq, Error)]
 pub enum BeginFault {
     /// The file header has a fault, or can't be read.
-    #[error("{0}")]
+    #[error(transparent)]
     Capture(CaptureFault),
     /// Memory ran out, before anything was read.
     #[error("out of memory")]

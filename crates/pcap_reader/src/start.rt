@@ -24,7 +24,7 @@ const MINOR: u16 = 4;
 const LINK_TYPE: u32 = 0xFFFF;
 
 /// The order of the numbers of a capture, which is that of its magic.
-#[derive(Clone, Copy, Debug, PartialEq, Eq)]
+#[derive(Clone, Copy, Debug)]
 pub enum Order {
     /// The most significant byte stands first.
     Big,
@@ -59,7 +59,7 @@ impl Order {
 }
 
 /// What a file header says of the records after it.
-#[derive(Clone, Copy, Debug, PartialEq, Eq)]
+#[derive(Clone, Copy)]
 pub struct Start {
     pub order: Order,
     pub link: Link,

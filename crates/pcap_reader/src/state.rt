@@ -14,7 +14,7 @@ pub enum Progress {
 }
 
 /// What a reader knows of its capture, and how far it came.
-#[derive(Clone, Copy, Debug, PartialEq, Eq)]
+#[derive(Clone, Copy)]
 pub struct CaptureState {
     /// The byte order and the link type of the records.
     pub start: Start,

@@ -270,6 +270,17 @@ ReadsPart-failed state first before more fault old new is fits filled =
     (subst (λ n. HasBroken state first n old new) (omega (arith, fits, length-append first more))
     (HasBroken-from state first before more fault old old new none filled))
 
+-- the same where no byte was there before
+pub ReadsPart-none : {E : Type 0} (state : BlockState) (before more : List ℕ) (result : Result ℕ E) (old new : DeskView) →
+    state.first ≡ [] → length more ≡ length before → Fills {E = E} before more old new result →
+    ReadsPart {E = E} state more old new result
+ReadsPart-none {E} state before more (Ok count) old new is fits filled =
+    let same : 0 + count ≡ count = omega arith in
+    subst (λ (n : ℕ). ReadsPart {E = E} state more old new (Ok n)) same
+    (ReadsPart-ok {E = E} state [] before more count old new is fits filled)
+ReadsPart-none {E} state before more (Err fault) old new is fits filled =
+    ReadsPart-failed {E = E} state [] before more fault old new is fits filled
+
 -- where fewer bytes were read of a block, it is cut or a read failed
 pub ReadsMore-refused : {T : Type 0} (Are : T → List ℕ → Type 0) (fault : CaptureFault) (state : BlockState)
     (part : List ℕ) (count number : ℕ) (old new : DeskView) →

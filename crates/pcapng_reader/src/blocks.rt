@@ -29,7 +29,7 @@ pub const SECTION_BYTES: [u8; 4] = [0x0A, 0x0D, 0x0D, 0x0A];
 pub const CAPTURED_AT: usize = 28;
 
 /// A packet of this link type, whose captured bytes stand in the buffer from a place on.
-#[derive(Clone, Copy, Debug, PartialEq, Eq)]
+#[derive(Clone, Copy)]
 pub struct Place {
     pub link: Link,
     pub at: usize,
@@ -37,7 +37,7 @@ pub struct Place {
 }
 
 /// What was read.
-#[derive(Clone, Copy, Debug, PartialEq, Eq)]
+#[derive(Clone, Copy)]
 pub enum BlockRead {
     /// No byte was left.
     End,

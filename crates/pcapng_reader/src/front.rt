@@ -4,7 +4,7 @@ use crate::kind::Kind;
 use pcap_reader::Order;
 
 /// What a block is for, the order of its numbers, and its length in bytes.
-#[derive(Clone, Copy, Debug, PartialEq, Eq)]
+#[derive(Clone, Copy)]
 pub struct Front {
     pub kind: Kind,
     pub order: Order,

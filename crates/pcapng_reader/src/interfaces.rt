@@ -12,7 +12,7 @@ pub const MAX_INTERFACES: usize = 1_024;
 
 /// The link types of the interfaces of a section, at most 1,024, and none where the link type isn't
 /// read. Contracts see them as a list.
-#[derive(Debug, Drop)]
+#[derive(Drop)]
 pub struct Interfaces {
     /// Room for as many interfaces as a section may have.
     slots: Vec<Option<Link>>,

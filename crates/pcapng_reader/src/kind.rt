@@ -13,7 +13,7 @@ const PACKET: u32 = 6;
 /// What a block is for, by its type.
 ///
 /// Source: draft-ietf-opsawg-pcapng, section 4.
-#[derive(Clone, Copy, Debug, PartialEq, Eq)]
+#[derive(Clone, Copy)]
 pub enum Kind {
     /// It begins a section, and names the order of its numbers.
     Section,

@@ -29,7 +29,7 @@ const MAJOR: u16 = 1;
 const MOST_CAPTURED: u32 = MAX_CAPTURED as u32;
 
 /// What a reader of blocks knows of its section, and how far it came.
-#[derive(Debug, Drop)]
+#[derive(Drop)]
 pub struct Reader {
     /// The order of the section's numbers.
     pub order: Order,

@@ -3,7 +3,7 @@
 use pcap_reader::Link;
 
 /// What a block says.
-#[derive(Clone, Copy, Debug, PartialEq, Eq)]
+#[derive(Clone, Copy)]
 pub enum Said {
     /// A section begins.
     Section,

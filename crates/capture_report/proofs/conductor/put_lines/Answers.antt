@@ -1,7 +1,9 @@
 -- The steps of a batch are those of both families.
-use Rattle.std.proofs.Common.{length, ap, ◌∙◌, arith}
+use Rattle.std.proofs.Common.{List, length, sym, ap, subst, ◌∙◌, arith}
 use Rattle.field_defs.specs.declared.field.Family.TheVariants as family
-use Rattle.capture_report.specs.Batch.{transitions_of_family}
+use Rattle.header_extract.specs.Class.{FrameClass}
+use Rattle.capture_report.specs.Batch.{AreNext, transitions_of_family}
+use Rattle.capture_report.specs.Report.{counted_all}
 use Rattle.capture_report.proofs.Keys.{both_transitions}
 use Rattle.capture_report.proofs.LineLaws.{counted_all-packets}
 use Rattle.capture_report.proofs.conductor.put_lines.Goals as goal
@@ -40,3 +42,14 @@ returns-clause-steps g c =
       two,
       both_transitions tables c.args.room.now,
     )
+
+pub returns-clause-counts : goal.returns-clause-counts
+returns-clause-counts g c =
+    c.write_lines-len.ensures.counts
+    ∙ ap (λ (packets : List FrameClass). counted_all packets c.args.counts.now)
+    (c.as_slice-packets.ensures ∙ c.room.view_is)
+
+pub write_lines-len-requires-clause-next : goal.write_lines-len-requires-clause-next
+write_lines-len-requires-clause-next g c =
+    subst (λ (packets : List FrameClass). AreNext c.args.counts.now packets)
+    (sym (c.as_slice-packets.ensures ∙ c.room.view_is)) c.requires.next

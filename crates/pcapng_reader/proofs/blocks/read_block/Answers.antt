@@ -1,5 +1,5 @@
 -- The front was read, and then the rest of the block.
-use Rattle.std.proofs.Common.{◌≡◌, ℕ, ◌+◌, ◌<◌, List, ◌++◌, length, take, drop, sym, subst, ap, ◌∙◌}
+use Rattle.std.proofs.Common.{◌≡◌, ℕ, ◌+◌, ◌<◌, List, refl, ◌++◌, length, take, drop, sym, subst, ap, ◌∙◌}
 use Rattle.std.proofs.Common.{arith, length-take}
 use Rattle.std.proofs.lemmas.List.{take_at}
 use Rattle.acl_outside.specs.Desk.{DeskView}
@@ -72,3 +72,51 @@ returns-in-Little-clause-block g c =
     c.read_rest-in-Little.ensures.block old
     (front_read c.args.reader.now c.args.buffer.now into old new len
     (c.in-Ok-eq12.ensures.1 (c.in-Ok-eq12.field-0-test ∙ sym len)))
+
+pub returns-in-Ok-eq0-clause-stays : goal.returns-in-Ok-eq0-clause-stays
+returns-in-Ok-eq0-clause-stays g c = refl
+
+pub returns-in-Ok-eq0-clause-within : goal.returns-in-Ok-eq0-clause-within
+returns-in-Ok-eq0-clause-within g c = tt
+
+pub returns-in-Ok-clause-stays : goal.returns-in-Ok-clause-stays
+returns-in-Ok-clause-stays g c = refl
+
+pub returns-in-Ok-clause-within : goal.returns-in-Ok-clause-within
+returns-in-Ok-clause-within g c = tt
+
+pub returns-in-Err-clause-stays : goal.returns-in-Err-clause-stays
+returns-in-Err-clause-stays g c = refl
+
+pub returns-in-Err-clause-within : goal.returns-in-Err-clause-within
+returns-in-Err-clause-within g c = tt
+
+pub returns-in-Big-clause-stays : goal.returns-in-Big-clause-stays
+returns-in-Big-clause-stays g c = c.read_rest.ensures.stays
+
+pub returns-in-Big-clause-within : goal.returns-in-Big-clause-within
+returns-in-Big-clause-within g c = c.read_rest.ensures.within
+
+pub returns-in-Little-clause-stays : goal.returns-in-Little-clause-stays
+returns-in-Little-clause-stays g c = c.read_rest-in-Little.ensures.stays
+
+pub returns-in-Little-clause-within : goal.returns-in-Little-clause-within
+returns-in-Little-clause-within g c = c.read_rest-in-Little.ensures.within
+
+pub returns-then-is_last-clause-block : goal.returns-then-is_last-clause-block
+returns-then-is_last-clause-block g c = c.slow_apart.ensures.block
+
+pub returns-then-is_last-clause-stays : goal.returns-then-is_last-clause-stays
+returns-then-is_last-clause-stays g c = c.slow_apart.ensures.stays
+
+pub returns-then-is_last-clause-within : goal.returns-then-is_last-clause-within
+returns-then-is_last-clause-within g c = c.slow_apart.ensures.within
+
+pub returns-then-reader-clause-block : goal.returns-then-reader-clause-block
+returns-then-reader-clause-block g c = c.slow_apart-then-reader.ensures.block
+
+pub returns-then-reader-clause-stays : goal.returns-then-reader-clause-stays
+returns-then-reader-clause-stays g c = c.slow_apart-then-reader.ensures.stays
+
+pub returns-then-reader-clause-within : goal.returns-then-reader-clause-within
+returns-then-reader-clause-within g c = c.slow_apart-then-reader.ensures.within

@@ -1,5 +1,5 @@
 -- The rest of the block was read after its front: it is a whole packet, or is looked at again.
-use Rattle.std.proofs.Common.{◌≡◌, ℕ, ◌+◌, ◌-◌, ◌≤◌, List, ◌++◌, length, take, drop, Ok, sym, subst, ap, ◌∙◌}
+use Rattle.std.proofs.Common.{◌≡◌, ℕ, ◌+◌, ◌-◌, ◌≤◌, List, ◌++◌, length, take, drop, Ok, refl, sym, subst, ap, ◌∙◌}
 use Rattle.std.proofs.Common.{arith, length-append, length-take, length-drop}
 use Rattle.std.proofs.lemmas.List.{take_at, drop_at}
 use borrow.Rule.Slice.PartMut.{put_mid}
@@ -157,3 +157,15 @@ returns-in-None-clause-within g c =
     let is = cut c.args.reader.now c.args.front.now c.args.block.now c.requires.front c.requires.total in
     let now = is_filled c.args.block.now c.fill.new.into is.there (c.fill.auto.into ∙ is.rest) in
     subst (λ n. StandsWithin n c.settle_apart.result) now.len c.settle_apart.ensures.within
+
+pub returns-in-Err-clause-stays : goal.returns-in-Err-clause-stays
+returns-in-Err-clause-stays g c = refl
+
+pub returns-in-Err-clause-within : goal.returns-in-Err-clause-within
+returns-in-Err-clause-within g c = tt
+
+pub returns-in-Some-clause-stays : goal.returns-in-Some-clause-stays
+returns-in-Some-clause-stays g c = tt
+
+pub returns-in-None-clause-stays : goal.returns-in-None-clause-stays
+returns-in-None-clause-stays g c = c.settle_apart.ensures.stays

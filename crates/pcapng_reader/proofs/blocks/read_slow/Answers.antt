@@ -1,5 +1,5 @@
 -- The front was read, and then the rest of the block.
-use Rattle.std.proofs.Common.{◌≡◌, ℕ, ◌+◌, ◌<◌, List, ◌++◌, length, take, drop, sym, subst, ap, ◌∙◌}
+use Rattle.std.proofs.Common.{◌≡◌, ℕ, ◌+◌, ◌<◌, List, refl, ◌++◌, length, take, drop, sym, subst, ap, ◌∙◌}
 use Rattle.std.proofs.Common.{arith, length-take}
 use Rattle.std.proofs.lemmas.List.{take_at}
 use Rattle.acl_outside.specs.Desk.{DeskView}
@@ -62,3 +62,27 @@ returns-clause-block g c =
     c.read_any.ensures.block old
     (front_read c.args.reader.now c.args.buffer.now into old new len
     (c.in-Ok-eq12.ensures.1 (c.in-Ok-eq12.field-0-test ∙ sym len)))
+
+pub returns-in-Ok-eq0-clause-stays : goal.returns-in-Ok-eq0-clause-stays
+returns-in-Ok-eq0-clause-stays g c = refl
+
+pub returns-in-Ok-eq0-clause-within : goal.returns-in-Ok-eq0-clause-within
+returns-in-Ok-eq0-clause-within g c = tt
+
+pub returns-in-Ok-clause-stays : goal.returns-in-Ok-clause-stays
+returns-in-Ok-clause-stays g c = refl
+
+pub returns-in-Ok-clause-within : goal.returns-in-Ok-clause-within
+returns-in-Ok-clause-within g c = tt
+
+pub returns-in-Err-clause-stays : goal.returns-in-Err-clause-stays
+returns-in-Err-clause-stays g c = refl
+
+pub returns-in-Err-clause-within : goal.returns-in-Err-clause-within
+returns-in-Err-clause-within g c = tt
+
+pub returns-clause-stays : goal.returns-clause-stays
+returns-clause-stays g c = c.read_any.ensures.stays
+
+pub returns-clause-within : goal.returns-clause-within
+returns-clause-within g c = c.read_any.ensures.within

@@ -45,3 +45,6 @@ pub returns-clause-within : goal.returns-clause-within
 returns-clause-within g c =
     within-more (length (take c.args.front.now.total c.args.buffer.now)) _ c.read_short.result
     (omega (arith, c.requires.room, length-take c.args.front.now.total c.args.buffer.now)) c.read_short.ensures.within
+
+pub returns-clause-stays : goal.returns-clause-stays
+returns-clause-stays g c = c.read_short.ensures.stays

@@ -1,5 +1,5 @@
 -- The block was read after its front, in full or not.
-use Rattle.std.proofs.Common.{◌≡◌, ℕ, ◌+◌, ◌≤◌, List, ◌++◌, length, take, drop, Ok, sym, subst, ap, ◌∙◌}
+use Rattle.std.proofs.Common.{◌≡◌, ℕ, ◌+◌, ◌≤◌, List, ◌++◌, length, take, drop, Ok, refl, sym, subst, ap, ◌∙◌}
 use Rattle.std.proofs.Common.{arith, length-take, length-drop}
 use Rattle.std.proofs.lemmas.List.{take-append-drop}
 use Rattle.acl_outside.specs.declared.desk.Failed.{Failed}
@@ -101,3 +101,27 @@ returns-clause-block c before after h =
     (ap (said_by front.kind state front) is.parts ∙ sym c.said.ensures.said ∙ c.in-Ok.is)
     (ap (has_other_end front) is.parts
     ∙ same_end front block c.u32_in.result c.requires.total c.u32_in.ensures c.if-u32_in-front.false))
+
+pub returns-then-len-least_len-clause-stays : goal.returns-then-len-least_len-clause-stays
+returns-then-len-least_len-clause-stays c = refl
+
+pub returns-then-len-least_len-clause-within : goal.returns-then-len-least_len-clause-within
+returns-then-len-least_len-clause-within c = tt
+
+pub returns-in-Err-clause-stays : goal.returns-in-Err-clause-stays
+returns-in-Err-clause-stays c = refl
+
+pub returns-in-Err-clause-within : goal.returns-in-Err-clause-within
+returns-in-Err-clause-within c = tt
+
+pub returns-then-len-block-clause-stays : goal.returns-then-len-block-clause-stays
+returns-then-len-block-clause-stays c = refl
+
+pub returns-then-len-block-clause-within : goal.returns-then-len-block-clause-within
+returns-then-len-block-clause-within c = tt
+
+pub returns-then-u32_in-front-clause-stays : goal.returns-then-u32_in-front-clause-stays
+returns-then-u32_in-front-clause-stays c = refl
+
+pub returns-then-u32_in-front-clause-within : goal.returns-then-u32_in-front-clause-within
+returns-then-u32_in-front-clause-within c = tt

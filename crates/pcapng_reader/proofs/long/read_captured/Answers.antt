@@ -1,5 +1,5 @@
 -- The captured bytes were read, and then what is after them.
-use Rattle.std.proofs.Common.{◌≡◌, ℕ, ◌+◌, ◌-◌, ◌≤◌, List, ◌++◌, length, take, drop, Ok, sym, subst, ap, ◌∙◌}
+use Rattle.std.proofs.Common.{◌≡◌, ℕ, ◌+◌, ◌-◌, ◌≤◌, List, ◌++◌, length, take, drop, Ok, refl, sym, subst, ap, ◌∙◌}
 use Rattle.std.proofs.Common.{arith, length-append, length-take}
 use Rattle.std.proofs.lemmas.List.{take_at}
 use Rattle.acl_outside.specs.Desk.{DeskView}
@@ -119,3 +119,21 @@ returns-clause-block g c before part head h =
     rest.1.number)
     rest.2 buffer c.if-end-front.false holds (len ∙ c.captured_by-captured.ensures)
     (λ packet. head.len_is ∙ head.packet packet))
+
+pub returns-in-Err-clause-stays : goal.returns-in-Err-clause-stays
+returns-in-Err-clause-stays g c = refl
+
+pub returns-in-Err-clause-within : goal.returns-in-Err-clause-within
+returns-in-Err-clause-within g c = tt
+
+pub returns-in-Err-pass_over-clause-stays : goal.returns-in-Err-pass_over-clause-stays
+returns-in-Err-pass_over-clause-stays g c = refl
+
+pub returns-in-Err-pass_over-clause-within : goal.returns-in-Err-pass_over-clause-within
+returns-in-Err-pass_over-clause-within g c = tt
+
+pub returns-then-end-front-clause-stays : goal.returns-then-end-front-clause-stays
+returns-then-end-front-clause-stays g c = refl
+
+pub returns-then-end-front-clause-within : goal.returns-then-end-front-clause-within
+returns-then-end-front-clause-within g c = tt

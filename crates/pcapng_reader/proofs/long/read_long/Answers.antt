@@ -1,5 +1,5 @@
 -- What says what the block is was read, and then the rest of it.
-use Rattle.std.proofs.Common.{◌≡◌, ℕ, ◌+◌, ◌-◌, ◌≤◌, List, ◌++◌, length, take, drop, sym, subst, ap, ◌∙◌}
+use Rattle.std.proofs.Common.{◌≡◌, ℕ, ◌+◌, ◌-◌, ◌≤◌, List, ◌++◌, length, take, drop, refl, sym, subst, ap, ◌∙◌}
 use Rattle.std.proofs.Common.{arith, length-append, length-take, length-drop}
 use Rattle.std.proofs.lemmas.List.{take_all}
 use borrow.Rule.Slice.PartMut.{put_mid}
@@ -132,3 +132,21 @@ read_captured-requires-clause-total g c =
 
 pub read_captured-requires-clause-head : goal.read_captured-requires-clause-head
 read_captured-requires-clause-head g c = omega (arith, c.head_len-head.ensures, head_most c.args.front.now.kind)
+
+pub returns-in-Err-clause-stays : goal.returns-in-Err-clause-stays
+returns-in-Err-clause-stays g c = refl
+
+pub returns-in-Err-clause-within : goal.returns-in-Err-clause-within
+returns-in-Err-clause-within g c = tt
+
+pub returns-in-Err-said-clause-stays : goal.returns-in-Err-said-clause-stays
+returns-in-Err-said-clause-stays g c = refl
+
+pub returns-in-Err-said-clause-within : goal.returns-in-Err-said-clause-within
+returns-in-Err-said-clause-within g c = tt
+
+pub returns-clause-stays : goal.returns-clause-stays
+returns-clause-stays g c = c.read_captured.ensures.stays
+
+pub returns-clause-within : goal.returns-clause-within
+returns-clause-within g c = c.read_captured.ensures.within
