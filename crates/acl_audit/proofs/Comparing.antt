@@ -35,7 +35,8 @@ use Rattle.acl_audit.proofs.Finding.{find_found}
 use Rattle.acl_audit.proofs.Fitting.{entry_is_winner}
 use Rattle.acl_audit.proofs.Halving.{halves_have_verdicts}
 use Rattle.acl_audit.proofs.Least.{least_is_first}
-use Rattle.acl_audit.proofs.Ready.{AreMerged, grouped, row_key_is}
+use Rattle.acl_audit.specs.Ways.{AreMerged}
+use Rattle.acl_audit.proofs.Ready.{grouped, row_key_is}
 use Rattle.acl_audit.proofs.Telling.{keys, rows_are, row_count, all_long}
 use Rattle.acl_audit.proofs.Tracing.{all_at}
 use Rattle.acl_audit.proofs.Winning.{entry_for}
