@@ -311,13 +311,6 @@ half_told one two half set levels unlike layouts is its first =
         (let e : half_len * half + (0 + u.category) ≡ half_len * half + u.category = omega arith in
         λ i. Some (record { key = key_of_row set levels u.row; category = e i }))
 
-pub some_length : (set : RuleSetView) → (length set.rules == 0) ≡ false → 0 < length set.rules
-some_length set some = by (length set.rules) some
-  where
-    by : (n : ℕ) → (n == 0) ≡ false → 0 < n
-    by zero none = absurd (true≢false none)
-    by (suc n) its = omega arith
-
 -- ---- a half without rules
 
 never_found : {X : Type 0} (p : X → Bool) → ((x : X) → p x ≡ false) → (xs : List X) → find p xs ≡ None

@@ -213,6 +213,25 @@ fn no_audit(alloc: Global, rules: &RuleSet) -> Audit
     }
 }
 
+/// The audit of some rules.
+fn live_of(alloc: Global, rules: &RuleSet, budget: u64) -> Result<Audit, AuditFault>
+    requires some { 0 < length rules.now.rules }
+    requires budget { budget ≤ max_words }
+    ensures keys { IfOk result (λ audit. audit ≡ least_keys rules.now) }
+    ensures fits { OnOk result ((levels_of rules.now (all_rules rules.now)).words ≤ budget) }
+    ensures over { (words most : ℕ) → result ≡ Err (TooLarge words most) →
+        (budget < (levels_of rules.now (all_rules rules.now)).words)
+        × (words ≡ budget + 1) × (most ≡ budget) }
+{
+    match merged(alloc, rules, budget) {
+        Ok(levels) => match audited(alloc, rules, &levels) {
+            Ok(audit) => Ok(audit),
+            Err(AllocError) => Err(AuditFault::OutOfMemory),
+        },
+        Err(fault) => Err(fault),
+    }
+}
+
 /// Tells for each rule and each category whether the rule ever wins there, and at which least key.
 ///
 /// The budget is from 1 to [`table_sizes::MAX_WORDS`] words. `TooLarge` comes exactly where there
@@ -236,7 +255,5 @@ pub fn live_rules(alloc: Global, rules: &RuleSet, budget: u64) -> Result<Audit, 
     if rules.is_empty() {
         return Ok(no_audit(alloc, rules));
     }
-    let levels = merged(alloc, rules, budget)?;
-    let audit = audited(alloc, rules, &levels)?;
-    Ok(audit)
+    live_of(alloc, rules, budget)
 }

@@ -31,7 +31,8 @@ row_keys-requires-clause-rows c =
 
 pub row_keys-requires-clause-long : goal.row_keys-requires-clause-long
 row_keys-requires-clause-long c =
-    ap length c.as_slice-places.ensures.value ∙ way_long _ _ _ _ _ c.requires.way ∙ ap length (sym c.as_slice-links.ensures.value)
+    ap length c.as_slice-places.ensures.value ∙ way_long _ _ _ _ _ c.requires.way
+    ∙ ap length (sym c.as_slice-links.ensures.value)
 
 pub row_keys-requires-clause-places : goal.row_keys-requires-clause-places
 row_keys-requires-clause-places c =

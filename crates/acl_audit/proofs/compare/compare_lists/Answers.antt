@@ -1,6 +1,6 @@
 use Rattle.std.proofs.Common.{length, sym, ◌∙◌}
 use Rattle.std.proofs.lemmas.Bool.{eqb-true}
-use Rattle.acl_audit.proofs.Comparing.{none_told, some_length}
+use Rattle.acl_audit.proofs.Comparing.{none_told}
 use Rattle.acl_audit.proofs.compare.compare_lists.Goals as goal
 
 pub returns-then-is_empty-clause-told : goal.returns-then-is_empty-clause-told

@@ -14,8 +14,8 @@ row_key-requires-clause-chained c =
 
 pub row_key-requires-clause-row : goal.row_key-requires-clause-row
 row_key-requires-clause-row c =
-    subst (λ (ls : List (List Link)). c.args.row < length (get_or ls (length ls - 1) [])) (sym c.as_slice-links.ensures.value)
-    (omega (arith, c.requires.row, way_last _ _ _ _ _ c.in_ok-way.ensures))
+    subst (λ (ls : List (List Link)). c.args.row < length (get_or ls (length ls - 1) []))
+    (sym c.as_slice-links.ensures.value) (omega (arith, c.requires.row, way_last _ _ _ _ _ c.in_ok-way.ensures))
 
 pub row_key-requires-clause-long : goal.row_key-requires-clause-long
 row_key-requires-clause-long c =
