@@ -35,7 +35,8 @@ use Rattle.acl_audit.proofs.Finding.{find_found}
 use Rattle.acl_audit.proofs.Fitting.{entry_is_winner}
 use Rattle.acl_audit.proofs.Halving.{halves_have_verdicts}
 use Rattle.acl_audit.proofs.Least.{least_is_first}
-use Rattle.acl_audit.proofs.Ready.{AreMerged, grouped, row_key_is}
+use Rattle.acl_audit.specs.Ways.{AreMerged}
+use Rattle.acl_audit.proofs.Ready.{grouped, row_key_is}
 use Rattle.acl_audit.proofs.Telling.{keys, rows_are, row_count, all_long}
 use Rattle.acl_audit.proofs.Tracing.{all_at}
 use Rattle.acl_audit.proofs.Winning.{entry_for}
@@ -309,13 +310,6 @@ half_told one two half set levels unlike layouts is its first =
     by (Some u) =
         (let e : half_len * half + (0 + u.category) ≡ half_len * half + u.category = omega arith in
         λ i. Some (record { key = key_of_row set levels u.row; category = e i }))
-
-pub some_length : (set : RuleSetView) → (length set.rules == 0) ≡ false → 0 < length set.rules
-some_length set some = by (length set.rules) some
-  where
-    by : (n : ℕ) → (n == 0) ≡ false → 0 < n
-    by zero none = absurd (true≢false none)
-    by (suc n) its = omega arith
 
 -- ---- a half without rules
 

@@ -8,6 +8,7 @@ mod Halving
 mod Keys
 mod Leading
 mod Least
+mod LinkSteps
 mod Masking
 mod Noting
 mod Numbering

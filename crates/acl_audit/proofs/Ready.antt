@@ -5,11 +5,9 @@ use Rattle.std.proofs.lemmas.List.{get_or_default}
 use Rattle.std.proofs.lemmas.List.FromFn.{length-map-range_with_len}
 use Rattle.std.specs.List.{range_with_len}
 use Rattle.field_defs.specs.Layout.{key_len_of}
-use Rattle.field_defs.specs.Lawful.{IsLayout}
+use Rattle.field_defs.proofs.Offered.{short_keys}
 use Rattle.rule_set.specs.Fault.{categories}
-use Rattle.rule_set.specs.Laws.{TheWinnerIsAmongAllPlaces}
 use Rattle.rule_set.specs.Rule.{RuleSetView}
-use Rattle.rule_set.specs.RuleSet.{IsRuleSet}
 use Rattle.table_sizes.specs.Sizes.{max_words, row_len}
 use Rattle.trie_merge.specs.declared.run.Run.{Run}
 use Rattle.trie_merge.specs.Kept.{kept_places}
@@ -21,6 +19,7 @@ use Rattle.acl_audit.specs.Firsts.{AreFirsts}
 use Rattle.acl_audit.specs.Least.{all_rules, least_key, least_keys}
 use Rattle.acl_audit.specs.Links.{links_of}
 use Rattle.acl_audit.specs.Traced.{places_of, traced, keys_traced, key_of_row, AreChained}
+use Rattle.acl_audit.specs.Ways.{AreMerged, IsWay}
 use Rattle.acl_audit.proofs.Fitting.{all_are_group, places_are, places_below, few_states, few_rows, rows_long, rows_low}
 use Rattle.acl_audit.proofs.Telling.{keys, row_count, chain, levels_long, last_links, key_read, told, has_keys}
 
@@ -30,14 +29,6 @@ all_links levels = map links_of levels.levels
 
 abbrev pub all_places : RuleSetView → LevelsView → List ℕ
 all_places set levels = places_of levels.kept (key_len_of set.layout)
-
--- The merged states of all rules of a set that has some.
-pub record AreMerged (set : RuleSetView) (levels : LevelsView) : Type 0 where
-  pub some : 0 < length set.rules
-  pub rules : IsRuleSet set
-  pub layout : IsLayout set.layout
-  pub merged : levels ≡ levels_of set (all_rules set)
-  pub among : TheWinnerIsAmongAllPlaces
 
 module _ (set : RuleSetView) (levels : LevelsView) (its : AreMerged set levels) where
   pub grouped : IsGrouped set (all_rules set)
@@ -122,6 +113,46 @@ module _ (set : RuleSetView) (levels : LevelsView) (its : AreMerged set levels) 
       ap (λ ks. keys_of firsts ks (key_len_of set.layout)) keys_same
       ∙ told set grouped its.among firsts
       (subst (λ (l : LevelsView). AreFirsts l.rows (length set.rules) firsts) its.merged are)
+
+-- ---- the way back
+
+module _ (set : RuleSetView) (levels : LevelsView) (links : List (List Link)) (places : List ℕ) (len : ℕ)
+    (way : IsWay set levels links places len) where
+  pub way_short : len ≤ 505
+  way_short = omega (arith, way.len_is, (short_keys set.layout way.its.layout).1)
+
+  pub way_chained : AreChained links
+  way_chained = subst AreChained (sym way.links_are) (chained_fit set levels way.its)
+
+  pub way_last : length levels.rows ≡ length (get_or links (length links - 1) [])
+  way_last =
+      subst (λ (ls : List (List Link)). length levels.rows ≡ length (get_or ls (length ls - 1) [])) (sym way.links_are)
+      (last_fit set levels way.its)
+
+  pub way_long : length places ≡ length links
+  way_long = ap length way.places_are ∙ long_fit set levels way.its ∙ ap length (sym way.links_are)
+
+  pub way_within : All (λ place. place < len) places
+  way_within =
+      subst (λ n. All (λ place. place < n) places) (sym way.len_is)
+      (subst (All (λ place. place < key_len_of set.layout)) (sym way.places_are) (places_fit set levels way.its))
+
+  way_keys : keys_traced links places len (length levels.rows)
+      ≡ keys_traced (all_links levels) (all_places set levels) (key_len_of set.layout) (length levels.rows)
+  way_keys = λ i. keys_traced (way.links_are i) (way.places_are i) (way.len_is i) (length levels.rows)
+
+  -- the least keys that the way leads to are those that the audit tells
+  pub way_has_keys : (firsts : List (List ℕ)) (all_keys : List ℕ) → AreFirsts levels.rows (length set.rules) firsts
+      → all_keys ≡ keys_traced links places len (length levels.rows) → HasKeys firsts all_keys len
+  way_has_keys firsts all_keys are keys_are =
+      subst (λ n. HasKeys firsts all_keys n) (sym way.len_is)
+      (subst (λ ks. HasKeys firsts ks (key_len_of set.layout)) (sym (keys_are ∙ way_keys))
+      (keys_fit set levels way.its firsts are))
+
+  pub way_tells : (firsts : List (List ℕ)) (all_keys : List ℕ) → AreFirsts levels.rows (length set.rules) firsts
+      → all_keys ≡ keys_traced links places len (length levels.rows) → keys_of firsts all_keys len ≡ least_keys set
+  way_tells firsts all_keys are keys_are =
+      (λ i. keys_of firsts ((keys_are ∙ way_keys) i) (way.len_is i)) ∙ keys_told set levels way.its firsts are
 
 -- where there is no rule there is no key
 pub no_keys : (set : RuleSetView) → length set.rules ≡ 0 → [] ≡ least_keys set

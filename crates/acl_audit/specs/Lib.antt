@@ -11,3 +11,4 @@ pub mod LeastExamples
 pub mod Links
 pub mod Traced
 pub mod Unlike
+pub mod Ways

@@ -5,14 +5,14 @@ ghost use Rattle.std.specs.List.{range_with_len};
 ghost use Rattle.std.specs.Option.{option_map};
 ghost use Rattle.table_sizes.specs.Sizes.{max_words};
 ghost use Rattle.trie_merge.specs.Levels.{IsGroup, levels_of};
+ghost use Rattle.trie_merge.specs.declared.merge.MergeFault.TheVariants.{OverCap};
 ghost use Rattle.acl_audit.specs.declared.audit.AuditFault.TheVariants.{TooLarge, OutOfMemory};
 ghost use Rattle.acl_audit.specs.Audited.{key_numbered};
 ghost use Rattle.acl_audit.specs.Least.{all_rules, least_keys};
+ghost use Rattle.acl_audit.specs.Ways.{IsWay};
 
 use crate::firsts::first_rows;
-use crate::links::links_of;
-use crate::places::kept_places;
-use crate::trace::row_keys;
+use crate::trace::{Way, row_keys, way_of};
 use rule_set::RuleSet;
 use std::alloc::{AllocError, Global};
 use std::marker::Model;
@@ -21,7 +21,7 @@ use thiserror::Error;
 use trie_merge::{Levels, MergeFault};
 
 /// Why there is no audit.
-#[derive(Clone, Copy, Debug, PartialEq, Eq, Error)]
+#[derive(Clone, Copy, Debug, Error)]
 pub enum AuditFault {
     /// A table of all rules in one group has more words than the budget.
     #[error("the table needs {words} words, and the budget is {budget}")]
@@ -115,6 +115,43 @@ fn all_rules(alloc: Global, rules: &RuleSet) -> Result<Vec<u32>, AllocError>
     Ok(numbers)
 }
 
+/// Why there is no audit where the rules can't be merged within the budget.
+fn audit_fault(fault: MergeFault, budget: u64) -> AuditFault
+    requires { budget ≤ max_words }
+    ensures { (words most : ℕ) → result ≡ TooLarge words most →
+        (fault ≡ OverCap) × (words ≡ budget + 1) × (most ≡ budget) }
+{
+    match fault {
+        MergeFault::OverCap => AuditFault::TooLarge {
+            words: budget + 1,
+            budget,
+        },
+        MergeFault::OutOfMemory => AuditFault::OutOfMemory,
+    }
+}
+
+/// The merged states of a group that is all rules.
+fn merged_group(
+    alloc: Global,
+    rules: &RuleSet,
+    group: &[u32],
+    budget: u64,
+) -> Result<Levels, AuditFault>
+    requires some { 0 < length rules.now.rules }
+    requires group { group.now ≡ all_rules rules.now }
+    requires budget { budget ≤ max_words }
+    ensures levels { IfOk result (λ levels. levels ≡ levels_of rules.now (all_rules rules.now)) }
+    ensures within { IfOk result (λ levels. levels.words ≤ budget) }
+    ensures over { (words most : ℕ) → result ≡ Err (TooLarge words most) →
+        (budget < (levels_of rules.now (all_rules rules.now)).words)
+        × (words ≡ budget + 1) × (most ≡ budget) }
+{
+    match Levels::build(alloc, rules, group, budget) {
+        Ok(levels) => Ok(levels),
+        Err(fault) => Err(audit_fault(fault, budget)),
+    }
+}
+
 /// The merged states of all rules.
 pub(crate) fn merged(alloc: Global, rules: &RuleSet, budget: u64) -> Result<Levels, AuditFault>
     requires some { 0 < length rules.now.rules }
@@ -126,14 +163,30 @@ pub(crate) fn merged(alloc: Global, rules: &RuleSet, budget: u64) -> Result<Leve
         × (words ≡ budget + 1) × (most ≡ budget) }
 {
     let group = all_rules(alloc, rules)?;
-    match Levels::build(alloc, rules, group.as_slice(), budget) {
-        Ok(levels) => Ok(levels),
-        Err(MergeFault::OverCap) => Err(AuditFault::TooLarge {
-            words: budget + 1,
-            budget,
-        }),
-        Err(MergeFault::OutOfMemory) => Err(AuditFault::OutOfMemory),
-    }
+    merged_group(alloc, rules, group.as_slice(), budget)
+}
+
+/// What the rows of the merged states of all rules say, by the way back from them.
+fn read_rows(
+    alloc: Global,
+    rules: &RuleSet,
+    levels: &Levels,
+    way: &Way,
+) -> Result<Audit, AllocError>
+    requires within { levels.now.words ≤ max_words }
+    requires way { IsWay rules.now levels.now way.now.links.items way.now.places.items way.now.len }
+    ensures { IfOk result (λ audit. audit ≡ least_keys rules.now) }
+{
+    let count = rules.len();
+    let firsts = first_rows(alloc, count, levels)?;
+    let (links, places) = (way.links.as_slice(), way.places.as_slice());
+    let rows = levels.rows();
+    let keys = row_keys(alloc, links, places, way.len, rows)?;
+    Ok(Audit {
+        firsts,
+        keys,
+        key_len: way.len,
+    })
 }
 
 /// What the merged states of all rules say.
@@ -143,21 +196,8 @@ fn audited(alloc: Global, rules: &RuleSet, levels: &Levels) -> Result<Audit, All
     requires within { levels.now.words ≤ max_words }
     ensures { IfOk result (λ audit. audit ≡ least_keys rules.now) }
 {
-    let _rules = rules.all();
-    let _fields = rules.layout().fields();
-    rule_set::laws::the_winner_is_among_all_places();
-    let key_len = rules.layout().key_len();
-    let places = kept_places(alloc, levels.kept(), key_len)?;
-    let links = links_of(alloc, levels)?;
-    let count = rules.len();
-    let firsts = first_rows(alloc, count, levels)?;
-    let rows = levels.rows();
-    let keys = row_keys(alloc, links.as_slice(), places.as_slice(), key_len, rows)?;
-    Ok(Audit {
-        firsts,
-        keys,
-        key_len,
-    })
+    let way = way_of(alloc, rules, levels)?;
+    read_rows(alloc, rules, levels, &way)
 }
 
 /// The audit of no rule.
@@ -170,6 +210,25 @@ fn no_audit(alloc: Global, rules: &RuleSet) -> Audit
         firsts: Vec::new(alloc),
         keys: Vec::new(alloc),
         key_len: rules.layout().key_len(),
+    }
+}
+
+/// The audit of some rules.
+fn live_of(alloc: Global, rules: &RuleSet, budget: u64) -> Result<Audit, AuditFault>
+    requires some { 0 < length rules.now.rules }
+    requires budget { budget ≤ max_words }
+    ensures keys { IfOk result (λ audit. audit ≡ least_keys rules.now) }
+    ensures fits { OnOk result ((levels_of rules.now (all_rules rules.now)).words ≤ budget) }
+    ensures over { (words most : ℕ) → result ≡ Err (TooLarge words most) →
+        (budget < (levels_of rules.now (all_rules rules.now)).words)
+        × (words ≡ budget + 1) × (most ≡ budget) }
+{
+    match merged(alloc, rules, budget) {
+        Ok(levels) => match audited(alloc, rules, &levels) {
+            Ok(audit) => Ok(audit),
+            Err(AllocError) => Err(AuditFault::OutOfMemory),
+        },
+        Err(fault) => Err(fault),
     }
 }
 
@@ -196,7 +255,5 @@ pub fn live_rules(alloc: Global, rules: &RuleSet, budget: u64) -> Result<Audit, 
     if rules.is_empty() {
         return Ok(no_audit(alloc, rules));
     }
-    let levels = merged(alloc, rules, budget)?;
-    let audit = audited(alloc, rules, &levels)?;
-    Ok(audit)
+    live_of(alloc, rules, budget)
 }

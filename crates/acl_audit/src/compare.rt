@@ -6,7 +6,7 @@ ghost use Rattle.rule_set.specs.Limits.{max_rules};
 ghost use Rattle.table_sizes.specs.Sizes.{max_words};
 ghost use Rattle.trie_merge.specs.Levels.{levels_of};
 ghost use Rattle.acl_audit.specs.declared.compare.CompareFault.TheVariants.{TooManyRules, TooLarge};
-ghost use Rattle.acl_audit.specs.Compared.{told_difference, is_too_large};
+ghost use Rattle.acl_audit.specs.Compared.{told_difference, is_too_large, TellsHalf};
 ghost use Rattle.acl_audit.specs.Difference.{difference_from, difference};
 ghost use Rattle.acl_audit.specs.Half.{half_len, half_of, exceeds};
 ghost use Rattle.acl_audit.specs.Laws.{AreAlike, AreUnlikeAt};
@@ -15,9 +15,7 @@ ghost use Rattle.acl_audit.specs.Traced.{key_of_row};
 
 use crate::audit::{AuditFault, merged};
 use crate::half::{HALF_LEN, are_halves_equal, half_of};
-use crate::links::links_of;
-use crate::places::kept_places;
-use crate::trace::row_key;
+use crate::trace::{row_key, way_of};
 use crate::unlike::first_unlike;
 use rule_set::{MAX_RULES, RuleSet};
 use std::alloc::{AllocError, Global};
@@ -25,7 +23,7 @@ use thiserror::Error;
 use trie_merge::Levels;
 
 /// What a comparison of two rule sets tells.
-#[derive(Debug, Drop)]
+#[derive(Drop)]
 pub enum Compared {
     /// The verdicts are equal for every key, in each of the 16 categories.
     Same,
@@ -43,7 +41,7 @@ pub enum Compared {
 }
 
 /// Why there is no comparison.
-#[derive(Clone, Copy, Debug, PartialEq, Eq, Error)]
+#[derive(Clone, Copy, Debug, Error)]
 pub enum CompareFault {
     /// Both sets together have more than 262,144 rules.
     #[error("both lists together have too many rules")]
@@ -86,14 +84,9 @@ fn key_of_row(
     requires row { row < length levels.now.rows }
     ensures { IfOk result (λ key. key.items ≡ key_of_row rules.now levels.now row) }
 {
-    let _rules = rules.all();
-    let _fields = rules.layout().fields();
-    rule_set::laws::the_winner_is_among_all_places();
-    let len = rules.layout().key_len();
-    let places = kept_places(alloc, levels.kept(), len)?;
-    let links = links_of(alloc, levels)?;
-    let key = row_key(alloc, links.as_slice(), places.as_slice(), len, row)?;
-    Ok(key)
+    let way = way_of(alloc, rules, levels)?;
+    let (links, places) = (way.links.as_slice(), way.places.as_slice());
+    row_key(alloc, links, places, way.len, row)
 }
 
 /// The merged states of a half's rules.
@@ -112,6 +105,59 @@ fn half_levels(alloc: Global, rules: &RuleSet, budget: u64) -> Result<Levels, Co
             Err(CompareFault::TooLarge { words, budget })
         }
         Err(AuditFault::OutOfMemory) => Err(CompareFault::OutOfMemory),
+    }
+}
+
+/// Finds the least key at which the two lists of a half answer unlike in its merged states.
+fn find_unlike(
+    alloc: Global,
+    rules: &RuleSet,
+    levels: &Levels,
+    half: u32,
+) -> Result<Compared, AllocError>
+    requires some { 0 < length rules.now.rules }
+    requires levels { levels.now ≡ levels_of rules.now (all_rules rules.now) }
+    requires within { levels.now.words ≤ max_words }
+    requires half { half < 2 }
+    ensures { IfOk result (TellsHalf rules.now half) }
+{
+    let _rules = rules.all();
+    let _fields = rules.layout().fields();
+    rule_set::laws::the_winner_is_among_all_places();
+    match first_unlike(rules, levels) {
+        Some(unlike) => {
+            let key = key_of_row(alloc, rules, levels, unlike.row)?;
+            let category = HALF_LEN * half + unlike.category;
+            Ok(Compared::Differ { key, category })
+        }
+        None => Ok(Compared::Same),
+    }
+}
+
+/// Compares the two lists of a half.
+fn compare_lists(
+    alloc: Global,
+    rules: &RuleSet,
+    half: u32,
+    budget: u64,
+) -> Result<Compared, CompareFault>
+    requires half { half < 2 }
+    requires budget { budget ≤ max_words }
+    ensures told { IfOk result (TellsHalf rules.now half) }
+    ensures fits { OnOk result (exceeds rules.now budget ≡ false) }
+    ensures over { (words most : ℕ) → result ≡ Err (TooLarge words most) →
+        (exceeds rules.now budget ≡ true) × (words ≡ budget + 1) × (most ≡ budget) }
+    ensures few { result ≢ Err TooManyRules }
+{
+    if rules.is_empty() {
+        return Ok(Compared::Same);
+    }
+    match half_levels(alloc, rules, budget) {
+        Ok(levels) => match find_unlike(alloc, rules, &levels, half) {
+            Ok(compared) => Ok(compared),
+            Err(AllocError) => Err(CompareFault::OutOfMemory),
+        },
+        Err(fault) => Err(fault),
     }
 }
 
@@ -136,24 +182,7 @@ fn compare_half(
     ensures few { result ≢ Err TooManyRules }
 {
     let rules = half_of(alloc, one, two, half)?;
-    if rules.is_empty() {
-        return Ok(Compared::Same);
-    }
-    let _rules = rules.all();
-    let _fields = rules.layout().fields();
-    rule_set::laws::the_winner_is_among_all_places();
-    let levels = match half_levels(alloc, &rules, budget) {
-        Ok(levels) => levels,
-        Err(fault) => return Err(fault),
-    };
-    match first_unlike(&rules, &levels) {
-        Some(unlike) => {
-            let key = key_of_row(alloc, &rules, &levels, unlike.row)?;
-            let category = HALF_LEN * half + unlike.category;
-            Ok(Compared::Differ { key, category })
-        }
-        None => Ok(Compared::Same),
-    }
+    compare_lists(alloc, &rules, half, budget)
 }
 
 /// Compares two sets in the categories from 8 on, where they are alike in those below 8 and the

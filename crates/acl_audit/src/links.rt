@@ -9,7 +9,7 @@ use std::marker::Model;
 use trie_merge::{Levels, Run, Succ};
 
 /// What leads to a state or a row first.
-#[derive(Clone, Copy, Debug, PartialEq, Eq)]
+#[derive(Clone, Copy)]
 pub(crate) struct Link {
     /// The number of the state at the kept place before.
     pub(crate) before: u32,

@@ -2,10 +2,45 @@
 
 ghost use Rattle.std.specs.Prelude.{◌≡◌, ◌+◌, ◌-◌, ◌<◌, ◌≤◌, ◌++◌, ℕ, [], length, replicate, All};
 ghost use Rattle.std.specs.Prelude.{slice_index_or, OnOk, IfOk};
+ghost use Rattle.table_sizes.specs.Sizes.{max_words};
+ghost use Rattle.trie_merge.specs.Levels.{levels_of};
+ghost use Rattle.acl_audit.specs.Least.{all_rules};
 ghost use Rattle.acl_audit.specs.Traced.{traced, AreChained, keys_traced};
+ghost use Rattle.acl_audit.specs.Ways.{IsWay};
 
-use crate::links::Links;
+use crate::links::{Links, links_of};
+use crate::places::kept_places;
+use rule_set::RuleSet;
 use std::alloc::{AllocError, Global};
+use trie_merge::Levels;
+
+/// What leads from the rows of merged states back to their least keys.
+#[derive(Drop)]
+pub(crate) struct Way {
+    /// The links of the kept places.
+    pub(crate) links: Vec<Links>,
+    /// The kept places.
+    pub(crate) places: Vec<usize>,
+    /// How many bytes a key has.
+    pub(crate) len: usize,
+}
+
+/// The way back from the rows of the merged states of all rules.
+pub(crate) fn way_of(alloc: Global, rules: &RuleSet, levels: &Levels) -> Result<Way, AllocError>
+    requires some { 0 < length rules.now.rules }
+    requires levels { levels.now ≡ levels_of rules.now (all_rules rules.now) }
+    requires within { levels.now.words ≤ max_words }
+    ensures { IfOk result
+        (λ way. IsWay rules.now levels.now way.links.items way.places.items way.len) }
+{
+    let _rules = rules.all();
+    let _fields = rules.layout().fields();
+    rule_set::laws::the_winner_is_among_all_places();
+    let len = rules.layout().key_len();
+    let places = kept_places(alloc, levels.kept(), len)?;
+    let links = links_of(alloc, levels)?;
+    Ok(Way { links, places, len })
+}
 
 /// Writes the bytes at the kept places that lead to the row first.
 fn trace(links: &[Links], places: &[usize], row: usize, key: &mut [u8])

@@ -12,7 +12,7 @@ use table_sizes::ROW_LEN;
 use trie_merge::Levels;
 
 /// A row, and a category of the first list in which it answers unlike the second.
-#[derive(Clone, Copy, Debug, PartialEq, Eq)]
+#[derive(Clone, Copy)]
 pub(crate) struct Unlike {
     /// The number of the row.
     pub(crate) row: usize,

@@ -1,11 +1,14 @@
 -- What is said of two lists, and what isn't.
-use Rattle.std.proofs.Common.{◌≡◌, ℕ, ◌+◌, ◌<◌, List, inl, inr, ◌++◌, length, Bool, true, false, Result, Ok, Err, refl, sym, ap, ◌∙◌}
+use Rattle.std.proofs.Common.{◌≡◌, ℕ, ◌+◌, ◌<◌, List, inl, inr, ◌++◌, length, Bool, true, false, Result, Ok, Err}
+use Rattle.std.proofs.Common.{refl, sym, ap, ◌∙◌}
 use Rattle.std.specs.Prelude.{nat_lt, if◌then◌else◌}
 use Rattle.std.proofs.lemmas.Bool.{cases_Bool, lt-ltb, ltb-true}
 use Rattle.field_defs.specs.declared.field.Family.{Family}
 use Rattle.field_defs.specs.declared.field.Family.TheVariants.{Ip4, Ip6}
 use Rattle.rule_set.specs.Limits.{max_rules}
 use Rattle.rule_set.specs.Rule.{RuleSetView}
+use Rattle.acl_audit.specs.declared.compare.CompareFault.{CompareFault}
+use Rattle.acl_audit.specs.declared.compare.CompareFault.TheVariants as faults
 use Rattle.acl_audit.specs.Compared.{is_too_large}
 use Rattle.classbench_reader.specs.RuleFile.{RuleLists}
 use Rattle.audit_report.specs.Compare.{compared_text}
@@ -13,7 +16,7 @@ use Rattle.command_plan.specs.declared.status.Status.{Status}
 use Rattle.command_plan.specs.declared.status.Status.TheVariants.{TooLarge, TooManyTogether}
 use Rattle.acl_tool.specs.FamilySet.{set_of}
 use Rattle.acl_tool.specs.Texts.{◌>>=◌, Refuses, is_refusal}
-use Rattle.acl_tool.specs.Compared.{compare_of, compared_within}
+use Rattle.acl_tool.specs.Compared.{compare_of, compare_refused, compared_within}
 
 -- a number that isn't above another isn't told so
 le-ltb-false : (a b : ℕ) → (a < b → ⊥) → nat_lt a b ≡ false
@@ -56,17 +59,30 @@ module _ (budget : ℕ) (family : Family) (one two : RuleSetView) where
       rw (le-ltb-false max_rules (length one.rules + length two.rules) few, fits) refl
 
   -- too many rules are refused as such
-  pub many_is : max_rules < length one.rules + length two.rules →
+  many_is : max_rules < length one.rules + length two.rules →
       compared_within budget family one two ≡ Err TooManyTogether
   many_is many = rw (lt-ltb max_rules (length one.rules + length two.rules) many) refl
 
   -- and others that need more words, with one word more than the budget
-  pub large_is : (words most : ℕ) → (max_rules < length one.rules + length two.rules → ⊥) →
+  large_is : (words most : ℕ) → (max_rules < length one.rules + length two.rules → ⊥) →
       is_too_large one two budget ≡ true → words ≡ budget + 1 → most ≡ budget →
       compared_within budget family one two ≡ Err (TooLarge family words most)
   large_is words most few large told is =
       rw (le-ltb-false max_rules (length one.rules + length two.rules) few, large)
       (λ i. Err (TooLarge family (sym told i) (sym is i)))
+
+  -- a comparison that is refused is refused as is said
+  pub refused_is : (fault : CompareFault) →
+      (fault ≡ faults.TooManyRules → max_rules < length one.rules + length two.rules) →
+      (max_rules < length one.rules + length two.rules → fault ≡ faults.TooManyRules) →
+      ((words most : ℕ) → fault ≡ faults.TooLarge words most →
+      (is_too_large one two budget ≡ true) × (words ≡ budget + 1) × (most ≡ budget)) →
+      Refuses (compared_within budget family one two) (compare_refused family fault)
+  refused_is faults.TooManyRules many told large = inl (many_is (many refl), refl)
+  refused_is (faults.TooLarge words most) many told large =
+      let its = large words most refl in
+      inl (large_is words most (λ above. absurd (let e = told above in cc)) its.0 its.1 its.2, refl)
+  refused_is faults.OutOfMemory many told large = inr refl
 
 module _ (budget : ℕ) (one two : RuleLists) where
   -- the lines of both families, each as it was compared

@@ -1,18 +1,20 @@
 -- What is said of merged rules, and when it is refused.
-use Rattle.std.proofs.Common.{◌≡◌, ℕ, ◌+◌, ◌<◌, ◌≤◌, List, length, Bool, true, false, Result, Ok, Err, inl, inr, refl, sym, ap}
-use Rattle.std.proofs.Common.{◌∙◌, arith}
+use Rattle.std.proofs.Common.{◌≡◌, ℕ, ◌+◌, ◌<◌, ◌≤◌, List, length, Bool, true, false, Result, Ok, Err, inl, inr}
+use Rattle.std.proofs.Common.{refl, sym, ap, ◌∙◌, arith}
 use Rattle.std.specs.Prelude.{nat_lt, ◌&&◌, if◌then◌else◌}
 use Rattle.std.proofs.lemmas.Bool.{false≢true, lt-ltb, ltb-true}
 use Rattle.field_defs.specs.declared.field.Family.{Family}
 use Rattle.field_defs.specs.declared.field.Family.TheVariants.{Ip4, Ip6}
 use Rattle.rule_set.specs.Rule.{RuleSetView}
 use Rattle.classbench_reader.specs.RuleFile.{RuleLists}
+use Rattle.acl_audit.specs.declared.audit.AuditFault.{AuditFault}
+use Rattle.acl_audit.specs.declared.audit.AuditFault.TheVariants as faults
 use Rattle.audit_report.specs.Audit.{audit_text}
 use Rattle.command_plan.specs.declared.status.Status.{Status}
 use Rattle.command_plan.specs.declared.status.Status.TheVariants.{TooLarge}
 use Rattle.acl_tool.specs.FamilySet.{set_of}
 use Rattle.acl_tool.specs.Texts.{◌>>=◌, Refuses}
-use Rattle.acl_tool.specs.Merged.{audit_of, merged_within, merged_words}
+use Rattle.acl_tool.specs.Merged.{audit_of, audit_refused, merged_within, merged_words}
 
 -- The rules of a family need more words than the budget, and a status says so.
 pub record IsAbove (budget : ℕ) (lists : RuleLists) (status : Status) : Type 0 where
@@ -74,12 +76,22 @@ within_is budget family set fits = go (nat_lt 0 (length set.rules)) (nat_lt budg
     go false large at_some at_large = refl
 
 -- and others are refused, with one word more than the budget
-pub above_is : (budget : ℕ) (family : Family) (set : RuleSetView) (words most : ℕ) → 0 < length set.rules →
+above_is : (budget : ℕ) (family : Family) (set : RuleSetView) (words most : ℕ) → 0 < length set.rules →
     budget < merged_words set → words ≡ budget + 1 → most ≡ budget →
     merged_within budget family set ≡ Err (TooLarge family words most)
 above_is budget family set words most some above told is =
     rw (lt-ltb 0 (length set.rules) some, lt-ltb budget (merged_words set) above)
     (λ i. Err (TooLarge family (sym told i) (sym is i)))
+
+-- an audit that is refused is refused as is said
+pub refused_is : (budget : ℕ) (family : Family) (set : RuleSetView) (fault : AuditFault) →
+    ((words most : ℕ) → fault ≡ faults.TooLarge words most → (0 < length set.rules)
+    × (budget < merged_words set) × (words ≡ budget + 1) × (most ≡ budget)) →
+    Refuses (merged_within budget family set) (audit_refused family fault)
+refused_is budget family set (faults.TooLarge words most) large =
+    let its = large words most refl in
+    inl (above_is budget family set words most its.0 its.1 its.2 its.3, refl)
+refused_is budget family set faults.OutOfMemory large = inr refl
 
 module _ (categories budget : ℕ) (lists : RuleLists) where
   -- the lines of both families, each as it was merged

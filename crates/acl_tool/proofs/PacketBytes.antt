@@ -94,8 +94,8 @@ none_are =
 ports_fine : (protocol : ℕ) (payload : List ℕ) → AreBytes payload → Fine ArePorts (ports_of protocol payload)
 ports_fine protocol payload all =
     fine_if ArePorts (has_ports protocol) (at_least 4 payload >>= λ bytes. Ok (take 4 bytes)) (Ok no_ports)
-    (λ e. fine_then (HasBytes 4) ArePorts (at_least 4 payload) (λ bytes. Ok (take 4 bytes)) (at_least_fine 4 payload all)
-    (λ bytes has. (All-take IsByte 4 bytes has.0, length-take-le 4 bytes has.1)))
+    (λ e. fine_then (HasBytes 4) ArePorts (at_least 4 payload) (λ bytes. Ok (take 4 bytes))
+    (at_least_fine 4 payload all) (λ bytes has. (All-take IsByte 4 bytes has.0, length-take-le 4 bytes has.1)))
     (λ e. none_are)
 
 -- a key of these parts

@@ -1,14 +1,19 @@
 -- An accepted rule file was read to its end, whatever comes after it.
 use Rattle.std.proofs.Common.{◌≡◌, ◌<◌, List, ℕ, ◌++◌, Bool, true, false, Result, Ok, Err, inl, inr, sym, ap, ◌∙◌, arith}
-use Rattle.std.proofs.Common.{length, length-append}
+use Rattle.std.proofs.Common.{length, length-append, ◌⊎◌, refl}
 use Rattle.std.proofs.lemmas.Bool.{false≢true}
 use Rattle.acl_outside.specs.Heard.{Heard, Ended}
 use Rattle.classbench_reader.specs.declared.fault.LineFault.{LineFault}
+use Rattle.classbench_reader.specs.declared.fault.RulesFault.{RulesFault}
+use Rattle.classbench_reader.specs.declared.fault.RulesFault.TheVariants as faults
 use Rattle.classbench_reader.specs.Limits.{max_rule_file}
-use Rattle.classbench_reader.specs.RuleFile.{RuleLists}
+use Rattle.classbench_reader.specs.RuleFile.{RuleLists, rule_file_of}
 use Rattle.command_plan.specs.declared.status.Status.{Status}
+use Rattle.command_plan.specs.declared.status.Status.TheVariants.{OutOfMemory}
 use Rattle.command_plan.specs.Plan.{Outcome, Plan, ◌>>=◌, Give, Stop, Read, unless_refused}
 use Rattle.command_plan.specs.Follow.{IsEnough}
+use Rattle.acl_tool.specs.Listings.{refused_as, rules_refused}
+use Rattle.acl_tool.specs.declared.rule_file.Listing.{Listing}
 use Rattle.acl_tool.specs.RuleTables.{refused_rules, rules_of_bytes}
 use Rattle.acl_tool.proofs.ReadOn.{longer}
 use Rattle.acl_tool.proofs.RuleFiles.{rule_file_of-long}
@@ -38,3 +43,12 @@ pub accepted_by : (refused : LineFault → Status) (result : Result RuleLists Li
     refused_rules refused result ≡ Ok lists → result ≡ Ok lists
 accepted_by refused (Ok all) lists is = let same : all ≡ lists = cc in ap Ok same
 accepted_by refused (Err fault) lists is = absurd (cc)
+
+-- the status of rules that weren't read is that of the file's bytes, or memory ran out
+pub refused_rules_are : (listing : Listing) (bytes : List ℕ) (fault : RulesFault) (status : Status) →
+    ((line : LineFault) → fault ≡ faults.Line line → rule_file_of bytes ≡ Err line) →
+    status ≡ rules_refused listing fault →
+    (rules_of_bytes (refused_as listing) bytes ≡ Err status) ⊎ (status ≡ OutOfMemory)
+refused_rules_are listing bytes (faults.Line line) status faulty is =
+    inl (ap (refused_rules (refused_as listing)) (faulty line refl) ∙ ap Err (sym is))
+refused_rules_are listing bytes faults.OutOfMemory status faulty is = inr is

@@ -14,8 +14,8 @@ use Rattle.acl_tool.specs.Headline.{categories_shown}
 use Rattle.acl_tool.specs.Merged.{merged_words}
 use Rattle.acl_tool.specs.Sizes.{budget_given}
 
--- The words of an `audit` name a file, and options may follow. The desk was asked for the file once,
--- and for nothing else. All of it was read, and its lines are the rules.
+-- The words of an `audit` name a file, and options may follow. The desk was asked for the file
+-- once, and for nothing else. All of it was read, and its lines are the rules.
 pub record HearsRules (words : List (List ℕ)) (old new : Outside) : Type 0 where
   pub rule_file : Heard
   pub options : List (List ℕ)

@@ -4,11 +4,13 @@ use Rattle.field_defs.specs.declared.field.Family.{Family}
 use Rattle.field_defs.specs.declared.field.Family.TheVariants.{Ip4, Ip6}
 use Rattle.rule_set.specs.Limits.{max_rules}
 use Rattle.rule_set.specs.Rule.{RuleSetView}
+use Rattle.acl_audit.specs.declared.compare.CompareFault.{CompareFault}
+use Rattle.acl_audit.specs.declared.compare.CompareFault.TheVariants as faults
 use Rattle.acl_audit.specs.Compared.{is_too_large}
 use Rattle.audit_report.specs.Compare.{compared_text}
 use Rattle.classbench_reader.specs.RuleFile.{RuleLists}
 use Rattle.command_plan.specs.declared.status.Status.{Status}
-use Rattle.command_plan.specs.declared.status.Status.TheVariants.{TooLarge, TooManyTogether}
+use Rattle.command_plan.specs.declared.status.Status.TheVariants.{TooLarge, TooManyTogether, OutOfMemory}
 use Rattle.acl_tool.specs.FamilySet.{set_of}
 use Rattle.acl_tool.specs.Texts.{◌>>=◌}
 
@@ -19,6 +21,12 @@ compared_within budget family one two =
     if nat_lt max_rules (length one.rules + length two.rules) then Err TooManyTogether
     else if is_too_large one two budget then Err (TooLarge family (budget + 1) budget)
     else Ok (compared_text family one two)
+
+-- the status of a comparison of the rules of a family that is refused
+abbrev pub compare_refused : Family → CompareFault → Status
+compare_refused family faults.TooManyRules = TooManyTogether
+compare_refused family (faults.TooLarge words budget) = TooLarge family words budget
+compare_refused family faults.OutOfMemory = OutOfMemory
 
 -- the lines of both families, of which each has the budget for itself
 abbrev pub compare_of : ℕ → RuleLists → RuleLists → Result (List ℕ) Status

@@ -12,8 +12,9 @@ use Rattle.acl_tool.specs.FamilySet.{set_of}
 
 -- The words of a `compare` name two files, and an option may follow. The desk was asked for each of
 -- them once, and for nothing else. All of both was read, and their lines are the rules. The output
--- took a line for each family: that the verdicts of both lists are equal for every key and category,
--- or the least key and category at which they aren't, with both verdicts. No transition was taken.
+-- took a line for each family: that the verdicts of both lists are equal for every key and
+-- category, or the least key and category at which they aren't, with both verdicts. No transition
+-- was taken.
 pub record PrintsComparison (words : List (List ℕ)) (old new : Outside) : Type 0 where
   pub first : Heard
   pub second : Heard

@@ -14,8 +14,8 @@ use Rattle.acl_tool.specs.BuildPlan.{pair_of}
 use Rattle.acl_tool.specs.ClassifyPlan.{classify_plan}
 use Rattle.acl_tool.specs.ReplayPlan.{replay_plan}
 
--- The rule file is accepted, the tables of both families fit the budget, and the other bytes are the
--- image of these tables. Of every `build` that ends with Done this is promised.
+-- The rule file is accepted, the tables of both families fit the budget, and the other bytes are
+-- the image of these tables. Of every `build` that ends with Done this is promised.
 pub record IsSavedOf (rules bytes : List ℕ) (budget : ℕ) : Type 0 where
   pub lists : RuleLists
   pub accepted : rule_file_of rules ≡ Ok lists

@@ -1,7 +1,9 @@
 -- Which of a command's rule files one is, and what a refused one is called.
 use Rattle.classbench_reader.specs.declared.fault.LineFault.{LineFault}
+use Rattle.classbench_reader.specs.declared.fault.RulesFault.{RulesFault}
+use Rattle.classbench_reader.specs.declared.fault.RulesFault.TheVariants as faults
 use Rattle.command_plan.specs.declared.status.Status.{Status}
-use Rattle.command_plan.specs.declared.status.Status.TheVariants.{RulesRefused, SecondRulesRefused}
+use Rattle.command_plan.specs.declared.status.Status.TheVariants.{RulesRefused, SecondRulesRefused, OutOfMemory}
 use Rattle.acl_tool.specs.declared.rule_file.Listing.{Listing}
 use Rattle.acl_tool.specs.declared.rule_file.Listing.TheVariants.{First, Second}
 
@@ -9,3 +11,8 @@ use Rattle.acl_tool.specs.declared.rule_file.Listing.TheVariants.{First, Second}
 abbrev pub refused_as : Listing → LineFault → Status
 refused_as First = RulesRefused
 refused_as Second = SecondRulesRefused
+
+-- the status of rules that weren't read
+abbrev pub rules_refused : Listing → RulesFault → Status
+rules_refused listing (faults.Line fault) = refused_as listing fault
+rules_refused listing faults.OutOfMemory = OutOfMemory

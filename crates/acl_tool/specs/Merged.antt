@@ -1,16 +1,18 @@
--- What the rules of both families tell once all rules of each were merged in one group, or that they
--- need too many words.
+-- What the rules of both families tell once all rules of each were merged in one group, or that
+-- they need too many words.
 use Rattle.std.specs.Prelude.{ℕ, ◌+◌, if◌then◌else◌, List, Result, Ok, Err}
 use Rattle.field_defs.specs.declared.field.Family.{Family}
 use Rattle.field_defs.specs.declared.field.Family.TheVariants.{Ip4, Ip6}
 use Rattle.rule_set.specs.Rule.{RuleSetView}
 use Rattle.trie_merge.specs.Levels.{levels_of}
+use Rattle.acl_audit.specs.declared.audit.AuditFault.{AuditFault}
+use Rattle.acl_audit.specs.declared.audit.AuditFault.TheVariants as faults
 use Rattle.acl_audit.specs.Half.{exceeds}
 use Rattle.acl_audit.specs.Least.{all_rules}
 use Rattle.audit_report.specs.Audit.{audit_text}
 use Rattle.classbench_reader.specs.RuleFile.{RuleLists}
 use Rattle.command_plan.specs.declared.status.Status.{Status}
-use Rattle.command_plan.specs.declared.status.Status.TheVariants.{TooLarge}
+use Rattle.command_plan.specs.declared.status.Status.TheVariants.{TooLarge, OutOfMemory}
 use Rattle.acl_tool.specs.FamilySet.{set_of}
 use Rattle.acl_tool.specs.Texts.{◌>>=◌}
 
@@ -22,6 +24,11 @@ merged_words set = (levels_of set (all_rules set)).words
 abbrev pub merged_within : ℕ → Family → RuleSetView → Result RuleSetView Status
 merged_within budget family set =
     if exceeds set budget then Err (TooLarge family (budget + 1) budget) else Ok set
+
+-- the status of an audit of the rules of a family that is refused
+abbrev pub audit_refused : Family → AuditFault → Status
+audit_refused family (faults.TooLarge words budget) = TooLarge family words budget
+audit_refused family faults.OutOfMemory = OutOfMemory
 
 -- the lines of the rules of both families, of which each has the budget for itself
 abbrev pub audit_of : ℕ → ℕ → RuleLists → Result (List ℕ) Status

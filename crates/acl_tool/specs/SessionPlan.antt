@@ -12,7 +12,8 @@ max_script = 16777216
 
 -- the replies to the bytes of a script, or the status of one that is too long
 abbrev pub replies_of : List ℕ → Result (List ℕ) Status
-replies_of bytes = if nat_lt max_script (length bytes) then Err ScriptRefused else Ok (session_of bytes)
+replies_of bytes =
+    if nat_lt max_script (length bytes) then Err ScriptRefused else Ok (session_of bytes)
 
 -- the replies to the script of a name
 abbrev pub replies_in : List ℕ → Plan (List ℕ)

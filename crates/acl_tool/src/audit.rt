@@ -8,7 +8,7 @@ ghost use Rattle.command_words.specs.Command as asked;
 ghost use Rattle.command_plan.specs.Effects.{outside};
 ghost use Rattle.capture_report.specs.Classifier.{lists_of};
 ghost use Rattle.acl_tool.specs.Texts.{Refuses, Tells};
-ghost use Rattle.acl_tool.specs.Merged.{audit_of, merged_within};
+ghost use Rattle.acl_tool.specs.Merged.{audit_of, audit_refused, merged_within};
 ghost use Rattle.acl_tool.specs.Effects.{Answers};
 
 use crate::rule_file::{Listing, read_rule_file};
@@ -85,11 +85,20 @@ fn live_within(alloc: Global, family: Family, rules: &RuleSet, budget: u64) -> R
 {
     match live_rules(alloc, rules, budget) {
         Ok(audit) => Ok(audit),
-        Err(AuditFault::TooLarge { words, budget }) => Err(Status::TooLarge {
+        Err(fault) => Err(audit_refused(family, fault)),
+    }
+}
+
+/// The status of an audit that is refused.
+fn audit_refused(family: Family, fault: AuditFault) -> Status
+    ensures { result ≡ audit_refused family fault }
+{
+    match fault {
+        AuditFault::TooLarge { words, budget } => Status::TooLarge {
             family,
             words,
             budget,
-        }),
-        Err(AuditFault::OutOfMemory) => Err(Status::OutOfMemory),
+        },
+        AuditFault::OutOfMemory => Status::OutOfMemory,
     }
 }

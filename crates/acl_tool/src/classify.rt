@@ -1,15 +1,21 @@
 //! `classify`: the report of a capture, by the tables of a rule file.
 
-ghost use Rattle.std.specs.Prelude.{Ok};
+ghost use Rattle.std.specs.Prelude.{◌≡◌, ℕ, List, Ok};
+ghost use Rattle.field_defs.specs.Layout.{ip4_fields, ip6_fields};
+ghost use Rattle.acl_outside.specs.Desk.{DeskView};
 ghost use Rattle.command_words.specs.Command.{Classify};
 ghost use Rattle.command_words.specs.CommandLine.{options_of};
-ghost use Rattle.command_plan.specs.Effects.{outside};
+ghost use Rattle.command_plan.specs.declared.status.Status.TheVariants.{RulesRefused};
+ghost use Rattle.command_plan.specs.Effects.{Takes, outside};
+ghost use Rattle.capture_report.specs.Classifier.{lists_of};
 ghost use Rattle.acl_tool.specs.Effects.{Answers};
+ghost use Rattle.acl_tool.specs.RuleTables.{rules_in};
 
 use crate::rule_file::{Listing, read_rule_file};
 use crate::tables::{build_tables, table_of};
 use acl_outside::{Desk, Sink};
 use capture_report::{PrintOptions, print_packets};
+use classbench_reader::RuleFile;
 use command_plan::Status;
 use command_words::Options;
 use flat_table::Steps;
@@ -30,10 +36,30 @@ pub fn classify<D: Desk, O: Sink, L: Ledger>(
         (outside (D.view desk.old) (O.view out.old) steps.old)
         (outside (D.view desk.new) (O.view out.new) steps.new) result }
 {
-    let rules = match read_rule_file(alloc, rules, Listing::First, desk) {
-        Ok(rules) => rules,
-        Err(status) => return status,
-    };
+    match read_rule_file(alloc, rules, Listing::First, desk) {
+        Ok(rules) => classify_by(alloc, rules, capture, options, desk, out, steps),
+        Err(status) => status,
+    }
+}
+
+/// Prints the report of a capture by the tables of rules, whose file was read last.
+fn classify_by<D: Desk, O: Sink, L: Ledger>(
+    alloc: Global,
+    rules: RuleFile,
+    capture: &str,
+    options: &Options,
+    desk: &mut D,
+    out: &mut O,
+    steps: &mut Steps<L>,
+) -> Status
+    requires ip4 { rules.ip4.layout ≡ ip4_fields }
+    requires ip6 { rules.ip6.layout ≡ ip6_fields }
+    ensures { (name : List ℕ) (before : DeskView) →
+        Takes (rules_in RulesRefused name) lists_of before (D.view desk.old) (Ok rules) →
+        Answers (Ok (Classify name capture.now (options_of options.now)))
+        (outside before (O.view out.old) steps.old)
+        (outside (D.view desk.new) (O.view out.new) steps.new) result }
+{
     let contexts = match build_tables(alloc, rules, options.max_words.words()) {
         Ok(contexts) => contexts,
         Err(status) => return status,

@@ -1,17 +1,20 @@
 //! `compare`: whether two rule files decide alike, and the least key at which they don't.
 
-ghost use Rattle.std.specs.Prelude.{◌≡◌, ℕ, ◌<◌, ◌≤◌, Ok, IfSome, IfOk, IfErr, OnOk};
+ghost use Rattle.std.specs.Prelude.{◌≡◌, ℕ, ◌<◌, ◌≤◌, List, Ok, IfSome, IfOk, IfErr, OnOk};
 ghost use Rattle.field_defs.specs.Layout.{ip4_fields, ip6_fields};
 ghost use Rattle.table_sizes.specs.Sizes.{max_words};
 ghost use Rattle.acl_audit.specs.Compared.{told_difference};
 ghost use Rattle.acl_audit.specs.Difference.{difference};
 ghost use Rattle.acl_audit.specs.Laws.{AreUnlikeAt};
+ghost use Rattle.acl_outside.specs.Desk.{DeskView};
 ghost use Rattle.command_words.specs.Command.{Compare};
-ghost use Rattle.command_plan.specs.Effects.{outside};
+ghost use Rattle.command_plan.specs.declared.status.Status.TheVariants.{RulesRefused};
+ghost use Rattle.command_plan.specs.Effects.{Takes, outside};
 ghost use Rattle.capture_report.specs.Classifier.{lists_of};
 ghost use Rattle.acl_tool.specs.Texts.{Refuses, Tells};
 ghost use Rattle.audit_report.specs.Compare.{compared_text};
-ghost use Rattle.acl_tool.specs.Compared.{compare_of, compared_within};
+ghost use Rattle.acl_tool.specs.Compared.{compare_of, compare_refused, compared_within};
+ghost use Rattle.acl_tool.specs.RuleTables.{rules_in};
 ghost use Rattle.acl_tool.specs.Effects.{Answers};
 
 use crate::rule_file::{Listing, read_rule_file};
@@ -45,15 +48,34 @@ pub fn compare<D: Desk, O: Sink>(
         (outside (D.view desk.old) (O.view out.old) steps)
         (outside (D.view desk.new) (O.view out.new) steps) result }
 {
-    let one = match read_rule_file(alloc, rules, Listing::First, desk) {
-        Ok(one) => one,
-        Err(status) => return status,
-    };
+    match read_rule_file(alloc, rules, Listing::First, desk) {
+        Ok(one) => compare_with(alloc, &one, second, max_words, desk, out),
+        Err(status) => status,
+    }
+}
+
+/// Compares the rules of the first file, which were read last, with those of the second.
+fn compare_with<D: Desk, O: Sink>(
+    alloc: Global,
+    one: &RuleFile,
+    second: &str,
+    max_words: Budget,
+    desk: &mut D,
+    out: &mut O,
+) -> Status
+    requires ip4 { one.now.ip4.layout ≡ ip4_fields }
+    requires ip6 { one.now.ip6.layout ≡ ip6_fields }
+    ensures { (rules : List ℕ) (before : DeskView) (steps : ℕ) →
+        Takes (rules_in RulesRefused rules) lists_of before (D.view desk.old) (Ok one.now) →
+        Answers (Ok (Compare rules second.now max_words.words))
+        (outside before (O.view out.old) steps)
+        (outside (D.view desk.new) (O.view out.new) steps) result }
+{
     let two = match read_rule_file(alloc, second, Listing::Second, desk) {
         Ok(two) => two,
         Err(status) => return status,
     };
-    match compare_lines(alloc, &one, &two, max_words.words()) {
+    match compare_lines(alloc, one, &two, max_words.words()) {
         Ok(text) => put_text(&text, out),
         Err(status) => status,
     }
@@ -109,12 +131,21 @@ fn compared_within(
 {
     match compare_rules(alloc, one, two, budget) {
         Ok(compared) => Ok(compared),
-        Err(CompareFault::TooManyRules) => Err(Status::TooManyTogether),
-        Err(CompareFault::TooLarge { words, budget }) => Err(Status::TooLarge {
+        Err(fault) => Err(compare_refused(family, fault)),
+    }
+}
+
+/// The status of a comparison that is refused.
+fn compare_refused(family: Family, fault: CompareFault) -> Status
+    ensures { result ≡ compare_refused family fault }
+{
+    match fault {
+        CompareFault::TooManyRules => Status::TooManyTogether,
+        CompareFault::TooLarge { words, budget } => Status::TooLarge {
             family,
             words,
             budget,
-        }),
-        Err(CompareFault::OutOfMemory) => Err(Status::OutOfMemory),
+        },
+        CompareFault::OutOfMemory => Status::OutOfMemory,
     }
 }

@@ -1,5 +1,5 @@
-//! The law of saved tables, over the definitions alone. It does nothing when it is run, and takes no
-//! memory.
+//! The law of saved tables, over the definitions alone. It does nothing when it is run, and takes
+//! no memory.
 
 ghost use Rattle.std.specs.Prelude.{◌<◌, ◌≤◌};
 ghost use Rattle.lane_walk.specs.declared.walk.Walk.{Walk};

@@ -1,7 +1,7 @@
 //! The rules of a file.
 
 ghost use Rattle.std.specs.Prelude.{◌≡◌, ◌≢◌, ◌⊎◌, false, Ok, Err, IfOk, IfErr};
-ghost use Rattle.acl_tool.specs.Listings.{refused_as};
+ghost use Rattle.acl_tool.specs.Listings.{refused_as, rules_refused};
 ghost use Rattle.field_defs.specs.Layout.{ip4_fields, ip6_fields};
 ghost use Rattle.command_plan.specs.Endings.{is_reported, is_usage};
 ghost use Rattle.acl_tool.specs.RuleTables.{rules_in, rules_of_bytes};
@@ -68,7 +68,19 @@ fn rules_of(alloc: Global, bytes: &[u8], listing: Listing) -> Result<RuleFile, S
 {
     match read_rules(alloc, bytes) {
         Ok(rules) => Ok(rules),
-        Err(RulesFault::Line(fault)) => Err(listing.refused(fault)),
-        Err(RulesFault::OutOfMemory) => Err(Status::OutOfMemory),
+        Err(fault) => Err(rules_refused(listing, fault)),
+    }
+}
+
+/// The status of rules that weren't read.
+fn rules_refused(listing: Listing, fault: RulesFault) -> Status
+    ensures said { result ≡ rules_refused listing fault }
+    ensures unread { result ≢ Status.ReadFault }
+    ensures unreported { is_reported result ≡ false }
+    ensures lawful { is_usage result ≡ false }
+{
+    match fault {
+        RulesFault::Line(fault) => listing.refused(fault),
+        RulesFault::OutOfMemory => Status::OutOfMemory,
     }
 }

@@ -14,7 +14,7 @@ use std::alloc::{AllocError, Global};
 use workload_gen::{KEY_LEN, Workload};
 
 /// Keys that were drawn.
-#[derive(Debug, Drop)]
+#[derive(Drop)]
 pub struct Drawn {
     /// The bytes of the keys, one key after the other.
     pub keys: Vec<u8>,

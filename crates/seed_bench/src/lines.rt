@@ -8,7 +8,7 @@ use crate::tally::Tally;
 use acl_report::{LINE_ROOM, append, append_number};
 
 /// What was measured of a workload.
-#[derive(Clone, Copy, Debug)]
+#[derive(Clone, Copy)]
 pub struct Measured {
     /// How many rules and packets were drawn.
     pub rules: u32,

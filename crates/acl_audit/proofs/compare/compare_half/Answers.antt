@@ -1,58 +1,22 @@
-use Rattle.std.proofs.Common.{◌*◌, ◌+◌, length, Some, None, sym, ◌∙◌}
-use Rattle.std.proofs.lemmas.Bool.{eqb-true}
-use Rattle.field_defs.specs.Lawful.{IsLayout}
+use Rattle.std.proofs.Common.{◌≡◌, false, true, ap, sym, ◌∙◌}
+use Rattle.std.proofs.lemmas.Result.{IfOk-weaker, on_ok_weaker}
 use Rattle.rule_set.specs.Rule.{RuleSetView}
-use Rattle.acl_audit.specs.Half.{half_len}
-use Rattle.acl_audit.proofs.Comparing.{none_told, half_told, some_length}
-use Rattle.acl_audit.proofs.Ready.{AreMerged, rows_fit}
+use Rattle.acl_audit.specs.Half.{exceeds}
 use Rattle.acl_audit.proofs.compare.compare_half.Goals as goal
-
-pub returns-then-is_empty-clause-told : goal.returns-then-is_empty-clause-told
-returns-then-is_empty-clause-told c =
-    none_told c.args.one.now c.args.two.now c.args.half c.in_ok-rules.rules c.requires.layouts c.in_ok-rules.ensures
-    (eqb-true (length c.in_ok-rules.rules.rules) 0 (sym c.is_empty.ensures ∙ c.if-is_empty.true))
-
-pub first_unlike-requires : goal.first_unlike-requires
-first_unlike-requires c =
-    let set : RuleSetView = c.in_ok-rules.rules in
-    let layout : IsLayout set.layout = rw c.layout.ensures at c.fields-fields.ensures.lawful in
-    let its : AreMerged set c.in-Ok.levels = record {
-      some = some_length set (sym c.is_empty.ensures ∙ c.if-is_empty.false);
-      rules = c.all-rules.ensures.lawful;
-      layout = layout;
-      merged = c.in-Ok.ensures.levels;
-      among = c.the_winner_is_among_all_places.ensures;
-    } in
-    rows_fit set c.in-Ok.levels its
-
-pub returns-in-Some-clause-told : goal.returns-in-Some-clause-told
-returns-in-Some-clause-told c =
-    let set : RuleSetView = c.in_ok-rules.rules in
-    let layout : IsLayout set.layout = rw c.layout.ensures at c.fields-fields.ensures.lawful in
-    let its : AreMerged set c.in-Ok.levels = record {
-      some = some_length set (sym c.is_empty.ensures ∙ c.if-is_empty.false);
-      rules = c.all-rules.ensures.lawful;
-      layout = layout;
-      merged = c.in-Ok.ensures.levels;
-      among = c.the_winner_is_among_all_places.ensures;
-    } in
-    (λ i. Some (record {
-      key = c.in_ok-key-in-Some.ensures i;
-      category = half_len * c.args.half + c.in-Some.unlike.category;
-    }))
-    ∙ half_told c.args.one.now c.args.two.now c.args.half set c.in-Ok.levels (Some c.in-Some.unlike) c.requires.layouts
-    c.in_ok-rules.ensures its c.in-Some.ensures.first
 
 pub returns-clause-told : goal.returns-clause-told
 returns-clause-told c =
-    let set : RuleSetView = c.in_ok-rules.rules in
-    let layout : IsLayout set.layout = rw c.layout.ensures at c.fields-fields.ensures.lawful in
-    let its : AreMerged set c.in-Ok.levels = record {
-      some = some_length set (sym c.is_empty.ensures ∙ c.if-is_empty.false);
-      rules = c.all-rules.ensures.lawful;
-      layout = layout;
-      merged = c.in-Ok.ensures.levels;
-      among = c.the_winner_is_among_all_places.ensures;
-    } in
-    half_told c.args.one.now c.args.two.now c.args.half set c.in-Ok.levels None c.requires.layouts
-    c.in_ok-rules.ensures its c.in-None.ensures.first
+    IfOk-weaker c.compare_lists.result _ _
+    (λ compared tells. tells.told c.args.one.now c.args.two.now c.requires.layouts c.in_ok-rules.ensures)
+    c.compare_lists.ensures.told
+
+pub returns-clause-fits : goal.returns-clause-fits
+returns-clause-fits c =
+    on_ok_weaker c.compare_lists.result
+    (λ fits. ap (λ (set : RuleSetView). exceeds set c.args.budget) (sym c.in_ok-rules.ensures) ∙ fits)
+    c.compare_lists.ensures.fits
+
+pub returns-clause-over : goal.returns-clause-over
+returns-clause-over c words most is =
+    let told = c.compare_lists.ensures.over words most is in
+    (ap (λ (set : RuleSetView). exceeds set c.args.budget) (sym c.in_ok-rules.ensures) ∙ told.0, told.1, told.2)

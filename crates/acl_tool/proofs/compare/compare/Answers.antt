@@ -1,11 +1,12 @@
-use Rattle.std.proofs.Common.{List, ℕ, sym, ap, subst, ◌∙◌}
+use Rattle.std.proofs.Common.{ℕ}
 use Rattle.capture_report.specs.Classifier.{lists_of}
-use Rattle.command_plan.specs.Effects.{Outside, PutsLast, outside}
-use Rattle.acl_tool.specs.Compared.{compare_of}
-use Rattle.acl_tool.specs.Texts.{Refuses}
-use Rattle.acl_tool.proofs.Classifying.{HasRules}
-use Rattle.acl_tool.proofs.Comparing.{Compare-no_rules, Compare-no_second, Compare-put, Compare-refused}
+use Rattle.command_plan.specs.Effects.{Outside, outside}
+use Rattle.acl_tool.proofs.Comparing.{Compare-no_rules}
 use Rattle.acl_tool.proofs.compare.compare.Goals as goal
+
+pub returns-in-Ok : goal.returns-in-Ok
+returns-in-Ok g c = λ steps.
+    c.compare_with.ensures c.args.rules.now (g.D.Desk.view c.args.desk.now) steps c.in-Ok.ensures.taken
 
 pub returns-in-Err : goal.returns-in-Err
 returns-in-Err g c = λ steps.
@@ -13,43 +14,3 @@ returns-in-Err g c = λ steps.
     let old : Outside = outside (desk c.args.desk.now) (g.O.Sink.view c.args.out.now) steps in
     Compare-no_rules c.args.rules.now c.args.second.now c.args.max_words.words lists_of old
     (desk c.read_rule_file.new.desk) c.in-Err.status c.in-Err.ensures.taken
-
-pub returns-in-Err-read_rule_file : goal.returns-in-Err-read_rule_file
-returns-in-Err-read_rule_file g c = λ steps.
-    let desk = g.D.Desk.view in
-    let old : Outside = outside (desk c.args.desk.now) (g.O.Sink.view c.args.out.now) steps in
-    let has : HasRules c.args.rules.now lists_of old =
-    record { set = c.in-Ok.one; desk = desk c.read_rule_file.new.desk; step = c.in-Ok.ensures.taken } in
-    Compare-no_second c.args.rules.now c.args.second.now c.args.max_words.words lists_of old has
-    (desk c.read_rule_file-2.new.desk) c.in-Err-read_rule_file.status c.in-Err-read_rule_file.ensures.taken
-
-pub returns-in-Ok-compare_lines : goal.returns-in-Ok-compare_lines
-returns-in-Ok-compare_lines g c = λ steps.
-    let desk = g.D.Desk.view in
-    let out = g.O.Sink.view in
-    let old : Outside = outside (desk c.args.desk.now) (out c.args.out.now) steps in
-    let one = lists_of c.in-Ok.one in
-    let two = lists_of c.in-Ok-read_rule_file.two in
-    let has : HasRules c.args.rules.now lists_of old =
-    record { set = c.in-Ok.one; desk = desk c.read_rule_file.new.desk; step = c.in-Ok.ensures.taken } in
-    Compare-put c.args.rules.now c.args.second.now c.args.max_words.words lists_of old has
-    c.in-Ok-read_rule_file.two (desk c.read_rule_file-2.new.desk) c.in-Ok-read_rule_file.ensures.taken
-    (out c.put_text.new.out) c.in-Ok-compare_lines.text.items c.put_text.result
-    (ap (λ (budget : ℕ). compare_of budget one two) (sym c.words.ensures.value)
-    ∙ c.in-Ok-compare_lines.ensures.text)
-    (subst (λ (text : List ℕ). PutsLast text (out c.args.out.now) (out c.put_text.new.out) c.put_text.result)
-    c.deref.ensures.value c.put_text.ensures)
-
-pub returns : goal.returns
-returns g c = λ steps.
-    let desk = g.D.Desk.view in
-    let old : Outside = outside (desk c.args.desk.now) (g.O.Sink.view c.args.out.now) steps in
-    let one = lists_of c.in-Ok.one in
-    let two = lists_of c.in-Ok-read_rule_file.two in
-    let has : HasRules c.args.rules.now lists_of old =
-    record { set = c.in-Ok.one; desk = desk c.read_rule_file.new.desk; step = c.in-Ok.ensures.taken } in
-    Compare-refused c.args.rules.now c.args.second.now c.args.max_words.words lists_of old has
-    c.in-Ok-read_rule_file.two (desk c.read_rule_file-2.new.desk) c.in-Ok-read_rule_file.ensures.taken
-    c.in-Err-compare_lines.status
-    (subst (λ (budget : ℕ). Refuses (compare_of budget one two) c.in-Err-compare_lines.status) c.words.ensures.value
-    c.in-Err-compare_lines.ensures.refused)

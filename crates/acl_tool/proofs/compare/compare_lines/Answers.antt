@@ -17,7 +17,8 @@ returns-in-Err c =
     record {
       text = tt;
       refused = first_stops c.args.budget (lists_of c.args.one.now) (lists_of c.args.two.now) c.in-Err.status
-          (subst (λ (s : RuleSetView × RuleSetView). Refuses (compared_within c.args.budget Ip4 s.0 s.1) c.in-Err.status)
+          (subst (λ (s : RuleSetView × RuleSetView).
+          Refuses (compared_within c.args.budget Ip4 s.0 s.1) c.in-Err.status)
           (λ i. (one i, two i)) c.in-Err.ensures.refused);
     }
 

@@ -16,4 +16,5 @@ returns-in-Ok-clause-ip6 c = (image_keys c.args.bytes.now (pair_of c.in-Ok.pair)
 
 pub returns-in-Err-Image-clause-fault : goal.returns-in-Err-Image-clause-fault
 returns-in-Err-Image-clause-fault c =
-    inl (tables_of_whole c.args.bytes.now c.requires ∙ ap refused_image (rw c.in-Err-Image.field-0-is at c.in-Err-Image.ensures.fault))
+    inl (tables_of_whole c.args.bytes.now c.requires
+    ∙ ap refused_image (rw c.in-Err-Image.field-0-is at c.in-Err-Image.ensures.fault))

@@ -57,28 +57,32 @@ slice_bounds-part-end g c =
 
 pub overflow_mul-verdicts : goal.overflow_mul-verdicts
 overflow_mul-verdicts g c =
-    let fits = room_fits (length c.args.keys.now) c.key_len-key_len.result c.count-count.result (length c.loop-block.out) (c.loop-block.block * 16) 16
+    let fits = room_fits (length c.args.keys.now) c.key_len-key_len.result c.count-count.result
+    (length c.loop-block.out) (c.loop-block.block * 16) 16
     c.key_len-key_len.ensures.value c.count-count.ensures.value c.loop-block.auto.out c.requires.room_fits
     (next_block c.loop-block.block _ c.loop-block-test.true) in
     omega (arith, fits)
 
 pub overflow_mul-verdicts-in-loop-block : goal.overflow_mul-verdicts-in-loop-block
 overflow_mul-verdicts-in-loop-block g c =
-    let fits = room_fits (length c.args.keys.now) c.key_len-key_len.result c.count-count.result (length c.loop-block.out) (c.loop-block.block * 16) 16
+    let fits = room_fits (length c.args.keys.now) c.key_len-key_len.result c.count-count.result
+    (length c.loop-block.out) (c.loop-block.block * 16) 16
     c.key_len-key_len.ensures.value c.count-count.ensures.value c.loop-block.auto.out c.requires.room_fits
     (next_block c.loop-block.block _ c.loop-block-test.true) in
     omega (arith, fits)
 
 pub slice_bounds-verdicts-start : goal.slice_bounds-verdicts-start
 slice_bounds-verdicts-start g c =
-    let fits = room_fits (length c.args.keys.now) c.key_len-key_len.result c.count-count.result (length c.loop-block.out) (c.loop-block.block * 16) 16
+    let fits = room_fits (length c.args.keys.now) c.key_len-key_len.result c.count-count.result
+    (length c.loop-block.out) (c.loop-block.block * 16) 16
     c.key_len-key_len.ensures.value c.count-count.ensures.value c.loop-block.auto.out c.requires.room_fits
     (next_block c.loop-block.block _ c.loop-block-test.true) in
     omega (arith, fits)
 
 pub slice_bounds-verdicts-end : goal.slice_bounds-verdicts-end
 slice_bounds-verdicts-end g c =
-    let fits = room_fits (length c.args.keys.now) c.key_len-key_len.result c.count-count.result (length c.loop-block.out) (c.loop-block.block * 16) 16
+    let fits = room_fits (length c.args.keys.now) c.key_len-key_len.result c.count-count.result
+    (length c.loop-block.out) (c.loop-block.block * 16) 16
     c.key_len-key_len.ensures.value c.count-count.ensures.value c.loop-block.auto.out c.requires.room_fits
     (next_block c.loop-block.block _ c.loop-block-test.true) in
     omega (arith, fits)
@@ -92,7 +96,8 @@ classify_sixteen-taken-requires-clause-keys g c =
 
 pub classify_sixteen-taken-requires-clause-room : goal.classify_sixteen-taken-requires-clause-room
 classify_sixteen-taken-requires-clause-room g c =
-    let fits = room_fits (length c.args.keys.now) c.key_len-key_len.result c.count-count.result (length c.loop-block.out) (c.loop-block.block * 16) 16
+    let fits = room_fits (length c.args.keys.now) c.key_len-key_len.result c.count-count.result
+    (length c.loop-block.out) (c.loop-block.block * 16) 16
     c.key_len-key_len.ensures.value c.count-count.ensures.value c.loop-block.auto.out c.requires.room_fits
     (next_block c.loop-block.block _ c.loop-block-test.true) in
     part_len c.loop-block.out (c.loop-block.block * 16) 16 c.count-count.result fits
@@ -123,29 +128,37 @@ slice_bounds-key-end g c =
 
 pub overflow_mul-k-in-loop-k : goal.overflow_mul-k-in-loop-k
 overflow_mul-k-in-loop-k g c =
-    let fits = room_fits (length c.args.keys.now) c.key_len-key_len.result c.count-count.result (length c.loop-k.out) (c.loop-k.k) 1
-    c.key_len-key_len.ensures.value c.count-count.ensures.value (c.loop-k.auto.out ∙ c.loop-block.auto.out) c.requires.room_fits
+    let fits = room_fits (length c.args.keys.now) c.key_len-key_len.result c.count-count.result
+    (length c.loop-k.out) (c.loop-k.k) 1
+    c.key_len-key_len.ensures.value c.count-count.ensures.value (c.loop-k.auto.out ∙ c.loop-block.auto.out)
+    c.requires.room_fits
     (next_key c.loop-k.k _ c.loop-k-test.true) in
     omega (arith, fits)
 
 pub overflow_mul-k-in-loop-k-2 : goal.overflow_mul-k-in-loop-k-2
 overflow_mul-k-in-loop-k-2 g c =
-    let fits = room_fits (length c.args.keys.now) c.key_len-key_len.result c.count-count.result (length c.loop-k.out) (c.loop-k.k) 1
-    c.key_len-key_len.ensures.value c.count-count.ensures.value (c.loop-k.auto.out ∙ c.loop-block.auto.out) c.requires.room_fits
+    let fits = room_fits (length c.args.keys.now) c.key_len-key_len.result c.count-count.result
+    (length c.loop-k.out) (c.loop-k.k) 1
+    c.key_len-key_len.ensures.value c.count-count.ensures.value (c.loop-k.auto.out ∙ c.loop-block.auto.out)
+    c.requires.room_fits
     (next_key c.loop-k.k _ c.loop-k-test.true) in
     omega (arith, fits)
 
 pub slice_bounds-classify_one-start : goal.slice_bounds-classify_one-start
 slice_bounds-classify_one-start g c =
-    let fits = room_fits (length c.args.keys.now) c.key_len-key_len.result c.count-count.result (length c.loop-k.out) (c.loop-k.k) 1
-    c.key_len-key_len.ensures.value c.count-count.ensures.value (c.loop-k.auto.out ∙ c.loop-block.auto.out) c.requires.room_fits
+    let fits = room_fits (length c.args.keys.now) c.key_len-key_len.result c.count-count.result
+    (length c.loop-k.out) (c.loop-k.k) 1
+    c.key_len-key_len.ensures.value c.count-count.ensures.value (c.loop-k.auto.out ∙ c.loop-block.auto.out)
+    c.requires.room_fits
     (next_key c.loop-k.k _ c.loop-k-test.true) in
     omega (arith, fits)
 
 pub slice_bounds-classify_one-end : goal.slice_bounds-classify_one-end
 slice_bounds-classify_one-end g c =
-    let fits = room_fits (length c.args.keys.now) c.key_len-key_len.result c.count-count.result (length c.loop-k.out) (c.loop-k.k) 1
-    c.key_len-key_len.ensures.value c.count-count.ensures.value (c.loop-k.auto.out ∙ c.loop-block.auto.out) c.requires.room_fits
+    let fits = room_fits (length c.args.keys.now) c.key_len-key_len.result c.count-count.result
+    (length c.loop-k.out) (c.loop-k.k) 1
+    c.key_len-key_len.ensures.value c.count-count.ensures.value (c.loop-k.auto.out ∙ c.loop-block.auto.out)
+    c.requires.room_fits
     (next_key c.loop-k.k _ c.loop-k-test.true) in
     omega (arith, fits)
 
@@ -161,7 +174,9 @@ classify_one-taken-requires-clause-key g c =
 
 pub classify_one-taken-requires-clause-few : goal.classify_one-taken-requires-clause-few
 classify_one-taken-requires-clause-few g c =
-    let fits = room_fits (length c.args.keys.now) c.key_len-key_len.result c.count-count.result (length c.loop-k.out) (c.loop-k.k) 1
-    c.key_len-key_len.ensures.value c.count-count.ensures.value (c.loop-k.auto.out ∙ c.loop-block.auto.out) c.requires.room_fits
+    let fits = room_fits (length c.args.keys.now) c.key_len-key_len.result c.count-count.result
+    (length c.loop-k.out) (c.loop-k.k) 1
+    c.key_len-key_len.ensures.value c.count-count.ensures.value (c.loop-k.auto.out ∙ c.loop-block.auto.out)
+    c.requires.room_fits
     (next_key c.loop-k.k _ c.loop-k-test.true) in
     omega (arith, part_len c.loop-k.out c.loop-k.k 1 c.count-count.result fits, c.count-count.ensures.bound)
