@@ -20,7 +20,7 @@ const UNUSED: FieldDef = FieldDef {
 
 /// `struct aclc_field`: the definition of a field.
 #[repr(C)]
-#[derive(Clone, Copy, Debug, PartialEq, Eq)]
+#[derive(Clone, Copy)]
 pub struct Field {
     /// 0 for a mask, 1 for a range, 2 for a bitmask.
     pub kind: u8,

@@ -12,7 +12,7 @@ use std::alloc::{AllocError, Global};
 
 /// `struct aclc_rule`: what a rule is for, apart from the keys that it matches.
 #[repr(C)]
-#[derive(Clone, Copy, Debug, PartialEq, Eq)]
+#[derive(Clone, Copy)]
 pub struct Tag {
     pub category_mask: u32,
     pub priority: i32,
@@ -21,14 +21,14 @@ pub struct Tag {
 
 /// `struct aclc_value`: the value of a rule for a field. The kind of the field says what it means.
 #[repr(C)]
-#[derive(Clone, Copy, Debug, PartialEq, Eq)]
+#[derive(Clone, Copy)]
 pub struct Value {
     pub value: u64,
     pub mask_range: u64,
 }
 
 /// The place of a rule among those that are given, and that of a field.
-#[derive(Clone, Copy, Debug, PartialEq, Eq)]
+#[derive(Clone, Copy)]
 pub(crate) struct Place {
     pub rule: u32,
     pub field: u32,

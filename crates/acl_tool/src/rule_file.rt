@@ -14,7 +14,7 @@ use command_plan::{Status, read_file};
 use std::alloc::Global;
 
 /// Which of a command's rule files one is.
-#[derive(Clone, Copy, Debug)]
+#[derive(Clone, Copy)]
 pub enum Listing {
     First,
     Second,

@@ -16,7 +16,7 @@ use rule_set::RuleSet;
 use std::alloc::AllocError;
 
 /// A rule of a family, by its place from 0 on, and its userdata.
-#[derive(Clone, Copy, Debug)]
+#[derive(Clone, Copy)]
 pub(crate) struct Listed {
     pub(crate) family: Family,
     pub(crate) place: usize,

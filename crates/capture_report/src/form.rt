@@ -21,7 +21,7 @@ use scalar_walk::winners;
 use std::marker::Model;
 
 /// What is printed of a capture.
-#[derive(Clone, Copy, Debug)]
+#[derive(Clone, Copy)]
 pub struct PrintOptions {
     /// How many categories are shown of each packet, from category 0 on.
     pub cats: Categories,

@@ -8,7 +8,7 @@ ghost use Rattle.workload_gen.specs.declared.workload.TheConstants.{MAX_WORKLOAD
 pub const MAX_PACKETS: u32 = 65_536;
 
 /// What `bench` is asked for.
-#[derive(Clone, Copy, Debug)]
+#[derive(Clone, Copy)]
 pub struct BenchNumbers {
     pub seed: u64,
     /// How many rules are drawn, at most 1,024.

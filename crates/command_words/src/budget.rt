@@ -7,7 +7,7 @@ ghost use Rattle.command_words.specs.Options.{is_budget};
 use table_sizes::MAX_WORDS;
 
 /// How many words of 64 bits the table of each family may have.
-#[derive(Clone, Copy, Debug)]
+#[derive(Clone, Copy)]
 pub struct Budget {
     words: u64,
     ghost some: { 0 < words },

@@ -19,7 +19,7 @@ use crate::options::{Given, Options};
 use rule_set::Categories;
 
 /// A command, with the names of its files and its options.
-#[derive(Clone, Copy, Debug)]
+#[derive(Clone, Copy)]
 pub enum Request<'a> {
     /// Reads a rule file and a capture, and prints a report.
     Classify {

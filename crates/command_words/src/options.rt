@@ -16,7 +16,7 @@ use std::marker::Model;
 use text_scan::digits_value;
 
 /// What a command is asked for besides its files.
-#[derive(Clone, Copy, Debug)]
+#[derive(Clone, Copy)]
 pub struct Options {
     /// How many categories are printed.
     pub categories: Categories,

@@ -7,7 +7,7 @@ ghost use Rattle.flow_core.specs.Machine.{begun};
 use flat_table::Table;
 
 /// A walk on its way: the job that it is of, how far it came, and the word at which it stands.
-#[derive(Clone, Copy, Debug, PartialEq, Eq)]
+#[derive(Clone, Copy)]
 pub struct Flight {
     /// The key that is walked, by its number in the batch.
     pub key: usize,

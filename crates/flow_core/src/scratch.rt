@@ -10,7 +10,7 @@ use std::simd::u64x16;
 use table_sizes::ROW_LEN;
 
 /// A row for each key of a batch: for each category the greatest word that its walks reached.
-#[derive(Debug, Drop)]
+#[derive(Drop)]
 pub struct Scratch {
     rows: Vec<[u64; ROW_LEN]>,
 }

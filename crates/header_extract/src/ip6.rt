@@ -43,7 +43,7 @@ const OFFSET: usize = 2;
 const OFFSET_SHIFT: u16 = 3;
 
 /// The protocol after all extension headers, with the ports of the packet.
-#[derive(Clone, Copy, Debug, PartialEq, Eq)]
+#[derive(Clone, Copy)]
 pub struct Upper {
     pub protocol: u8,
     pub ports: Ports,

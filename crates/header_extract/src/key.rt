@@ -15,7 +15,7 @@ const KEY: usize = 37;
 ///
 /// The first line is the key of an IPv4 packet, of 13 bytes. The bytes after it are left as they
 /// were.
-#[derive(Clone, Copy, Debug, PartialEq, Eq)]
+#[derive(Clone, Copy)]
 pub struct KeyBuf {
     pub bytes: [u8; KEY],
 }

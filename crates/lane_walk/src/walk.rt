@@ -1,7 +1,7 @@
 //! Which of the two walks answers keys.
 
 /// How keys are walked through a table. Both walks answer alike.
-#[derive(Clone, Copy, Debug, PartialEq, Eq)]
+#[derive(Clone, Copy)]
 pub enum Walk {
     /// Each key is walked for itself.
     Scalar,

@@ -7,7 +7,7 @@ use byte_numbers::{u16_at, u32_at};
 use byteorder::ByteOrder;
 
 /// The numbers of a file header that are read. All others are ignored.
-#[derive(Clone, Copy, Debug)]
+#[derive(Clone, Copy)]
 pub struct FileHeader {
     pub magic: u32,
     pub major: u16,
@@ -17,7 +17,7 @@ pub struct FileHeader {
 }
 
 /// The lengths of a record header, in bytes. The time of the record is ignored.
-#[derive(Clone, Copy, Debug)]
+#[derive(Clone, Copy)]
 pub struct RecordHeader {
     /// How many bytes were captured, which stand after the header.
     pub captured: u32,

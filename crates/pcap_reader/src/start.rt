@@ -24,7 +24,7 @@ const MINOR: u16 = 4;
 const LINK_TYPE: u32 = 0xFFFF;
 
 /// The order of the numbers of a capture, which is that of its magic.
-#[derive(Clone, Copy, Debug)]
+#[derive(Clone, Copy)]
 pub enum Order {
     /// The most significant byte stands first.
     Big,

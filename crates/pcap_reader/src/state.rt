@@ -3,7 +3,7 @@
 use crate::start::Start;
 
 /// Whether a reader has records to give.
-#[derive(Clone, Copy, Debug, PartialEq, Eq)]
+#[derive(Clone, Copy)]
 pub enum Progress {
     /// Records may be left.
     Reading,

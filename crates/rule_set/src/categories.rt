@@ -11,7 +11,7 @@ pub const MAX_CATEGORIES: usize = 16;
 ///
 /// Source: DPDK Programmer's Guide, "Packet Classification and Access Control" (1, or a multiple of
 /// `RTE_ACL_RESULTS_MULTIPLIER`, up to `RTE_ACL_MAX_CATEGORIES`).
-#[derive(Clone, Copy, Debug, PartialEq, Eq)]
+#[derive(Clone, Copy)]
 pub struct Categories {
     count: usize,
     ghost lawful: { IsTrue (is_count_of_categories count) },

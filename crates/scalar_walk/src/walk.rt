@@ -11,7 +11,7 @@ use flat_table::{Steps, Table, boundaries_below, index_of};
 use std::sync::ledger::Ledger;
 
 /// Where a walk ended, and after how many transitions.
-#[derive(Clone, Copy, Debug, PartialEq, Eq)]
+#[derive(Clone, Copy)]
 pub struct Walked {
     /// The row that the last word names.
     pub row: u32,
