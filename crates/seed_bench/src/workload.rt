@@ -58,30 +58,11 @@ fn measure_workload<L: Ledger>(
     ensures refused { IfErr result (λ status. IsRefused (set_drawn (numbers_in numbers)) status) }
     ensures idle { OnErr result (steps.new ≡ steps.old) }
 {
-    let context = built_context(alloc, workload.rules())?;
-    Ok(measure_by(alloc, numbers, workload, &context, steps)?)
-}
-
-/// Draws the keys for these numbers, and classifies each by the rules and by the table of the
-/// context.
-fn measure_by<L: Ledger>(
-    alloc: Global,
-    numbers: BenchNumbers,
-    workload: &mut Workload,
-    context: &AclContext,
-    steps: &mut Steps<L>,
-) -> Result<Measured, AllocError>
-    requires workload { workload.old ≡ workload_of numbers.seed numbers.rules }
-    requires set { context.now.set ≡ set_drawn (numbers_in numbers) }
-    requires table { context.now.table ≡ Some (table_drawn (numbers_in numbers)) }
-    requires serves { Serves (set_drawn (numbers_in numbers)) (table_drawn (numbers_in numbers)) }
-    ensures measured { IfOk result (λ measured. measured ≡ measured_of (numbers_in numbers)) }
-    ensures steps { OnOk result (steps.new ≡ steps.old + transitions_drawn (numbers_in numbers)) }
-    ensures idle { OnErr result (steps.new ≡ steps.old) }
-{
     let cats = all_categories();
+    let context = built_context(alloc, workload.rules())?;
     let drawn = draw_keys(alloc, workload, numbers.packets, cats)?;
-    measure_keys(alloc, numbers, context, &drawn, cats, steps)
+    let measured = measure_keys(alloc, numbers, &context, &drawn, cats, steps)?;
+    Ok(measured)
 }
 
 /// Classifies the keys that were drawn for these numbers by the table of the context.

@@ -33,8 +33,8 @@ returns-in_ok-key-in-Some c =
         key = c.in_ok-key-in-Some.ensures i;
         category = half_len * c.args.half + c.in-Some.unlike.category;
       }))
-      ∙ half_told one two c.args.half c.args.rules.now c.args.levels.now (Some c.in-Some.unlike) layouts is its
-      c.in-Some.ensures.first;
+          ∙ half_told one two c.args.half c.args.rules.now c.args.levels.now (Some c.in-Some.unlike) layouts is its
+          c.in-Some.ensures.first;
     }
 
 pub returns-in-None : goal.returns-in-None

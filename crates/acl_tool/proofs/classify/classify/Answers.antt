@@ -1,4 +1,3 @@
-use Rattle.std.proofs.Common.{ℕ}
 use Rattle.command_words.specs.CommandLine.{options_of}
 use Rattle.capture_report.specs.Classifier.{lists_of}
 use Rattle.command_plan.specs.Effects.{Outside, outside}

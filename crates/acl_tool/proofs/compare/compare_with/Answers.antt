@@ -1,5 +1,4 @@
 use Rattle.std.proofs.Common.{List, ℕ, sym, ap, subst, ◌∙◌}
-use Rattle.acl_outside.specs.Desk.{DeskView}
 use Rattle.capture_report.specs.Classifier.{lists_of}
 use Rattle.command_plan.specs.Effects.{Outside, PutsLast, outside}
 use Rattle.acl_tool.specs.Compared.{compare_of}

@@ -1,4 +1,4 @@
-use Rattle.std.proofs.Common.{Err, subst, sym, ap, ◌∙◌}
+use Rattle.std.proofs.Common.{Err, subst, sym, ap}
 use Rattle.acl_tool.specs.Texts.{Refuses}
 use Rattle.acl_tool.specs.Compared.{compared_within}
 use Rattle.acl_tool.proofs.Compared.{line_is, refused_is}

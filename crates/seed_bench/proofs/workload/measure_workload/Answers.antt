@@ -1,14 +1,20 @@
--- The rules are those of the seed.
-use Rattle.std.proofs.Common.{◌≡◌, length, Some, ap, subst, ◌∙◌}
+-- Rules and keys are those of the seed.
+use Rattle.std.proofs.Common.{◌≡◌, ℕ, List, length, Some, ap, subst, ◌∙◌}
+use Rattle.std.specs.List.{concat}
 use Rattle.field_defs.specs.Layout.{ip4_fields}
 use Rattle.rule_set.specs.Rule.{RuleSetView}
 use Rattle.table_fill.specs.Serves.{Serves}
 use Rattle.acl_context.specs.Context.{ContextView, built_of}
-use Rattle.workload_gen.specs.Workload.{WorkloadView}
+use Rattle.workload_gen.specs.Workload.{WorkloadView, keys_of}
 use Rattle.command_words.specs.CommandLine.{numbers_in}
-use Rattle.seed_bench.specs.Bench.{bench_budget, set_drawn}
+use Rattle.seed_bench.specs.Tally.{tally_of}
+use Rattle.seed_bench.specs.Bench.{bench_budget, keys_drawn, set_drawn, verdicts_on_keys}
 use Rattle.seed_bench.proofs.Measuring.{length-rules}
 use Rattle.seed_bench.proofs.workload.measure_workload.Goals as goal
+
+-- the keys that a workload gives
+abbrev keys_by : ℕ → WorkloadView → List (List ℕ)
+keys_by count drawn = keys_of drawn.rules drawn.generator count
 
 -- its rules, as a set
 abbrev set_by : WorkloadView → RuleSetView
@@ -21,16 +27,23 @@ built_context-requires-clause-few g c =
     ∙ ap (λ (w : WorkloadView). length w.rules) c.requires ∙ length-rules (numbers_in c.args.numbers) in
     rw len c.args.numbers.few_rules
 
-pub measure_by-requires : goal.measure_by-requires
-measure_by-requires g c =
+pub measure_keys-requires : goal.measure_keys-requires
+measure_keys-requires g c =
+    let numbers = numbers_in c.args.numbers in
     let context = c.in_ok-context.ensures.context in
-    let rules : c.rules.result.now ≡ set_drawn (numbers_in c.args.numbers) =
-    c.rules.ensures ∙ ap set_by c.requires in
+    let count = c.all_categories-cats.ensures in
+    let rules : c.rules.result.now ≡ set_drawn numbers = c.rules.ensures ∙ ap set_by c.requires in
     record {
-      workload = c.requires;
       set = ap (λ (x : ContextView). x.set) context ∙ rules;
       table = ap (λ (x : ContextView). x.table) context
           ∙ ap (λ (s : RuleSetView). Some (built_of s bench_budget)) rules;
       serves = subst (λ (s : RuleSetView). Serves s (built_of s bench_budget)) rules
           c.in_ok-context.ensures.serves;
+      keys = c.in_ok-drawn.ensures.keys
+          ∙ ap (λ (w : WorkloadView). concat (keys_by numbers.packets w)) c.requires;
+      plain = c.in_ok-drawn.ensures.plain
+          ∙ ap (λ (w : WorkloadView). tally_of (verdicts_on_keys (set_by w) c.all_categories-cats.result.count
+          (keys_by numbers.packets w))) c.requires
+          ∙ ap (λ n. tally_of (verdicts_on_keys (set_drawn numbers) n (keys_drawn numbers))) count;
+      all = count;
     }
