@@ -65,6 +65,7 @@ pub record StateAdded (column : ColumnView) (next : Option ColumnView) (is_last 
   pub some : length found ≤ length old_found + more
   pub rows : is_last ≡ true → row_len * length found ≤ row_len * length old_found + more
 
+-- one more state was merged after those so far: its runs, its words and its least cost
 abbrev pub IsStateAdded : Place → List (ℕ × ℕ) → ℕ → Progress → Progress → Type 0
 IsStateAdded place pairs state old new =
     StateAdded place.column place.next place.is_last pairs new.merged.reached.target
