@@ -3,7 +3,7 @@
 use crate::start::Start;
 
 /// Whether a reader has records to give.
-#[derive(Clone, Copy)]
+#[derive(Clone, Copy, PartialEq, Eq)]
 pub enum Progress {
     /// Records may be left.
     Reading,
