@@ -41,6 +41,16 @@ impl Parts {
         }
     }
 
+    /// No parts, with room for so many. It takes the memory of that room.
+    pub fn with_room(alloc: Global, count: usize) -> Result<Self, AllocError>
+        ensures { IfOk result (λ parts. parts ≡ []) }
+    {
+        Ok(Parts {
+            alloc,
+            pairs: IndexSet::with_capacity(alloc, count)?,
+        })
+    }
+
     /// How many parts there are.
     pub fn len(&self) -> usize
         ensures { result ≡ length self.now }

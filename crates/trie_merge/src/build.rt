@@ -21,7 +21,7 @@ use crate::column::Column;
 use crate::entry::entry_of;
 use crate::kept::Kept;
 use crate::levels::{Level, Levels};
-use crate::merge::{Budget, MergeFault, Merged, Place, Reached, merge_states};
+use crate::merge::{Budget, FIRST_ROOM, MergeFault, Merged, Place, Reached, merge_states};
 use crate::names::{name_rows, names_of, rank_rules};
 use crate::order::{Keyed, order_rules};
 use indexmap::IndexSet;
@@ -69,7 +69,7 @@ fn start_states(alloc: Global, order: &[Keyed]) -> Result<Reached, AllocError>
         (λ reached. IsStarted (numbers_in order.now) reached.target reached.found.keys) }
 {
     let mut reached = Reached {
-        target: Target::Parts(Parts::new(alloc)),
+        target: Target::Parts(Parts::with_room(alloc, 2 * order.len())?),
         found: IndexSet::new(alloc),
     };
     let number = join_entries(alloc, order, &mut reached.target)?;
@@ -154,8 +154,13 @@ fn place_at(alloc: Global, rules: &RuleSet, places: &[usize], j: usize) -> Resul
     })
 }
 
-/// Nothing yet of what a place leads to.
-fn start_target(alloc: Global, rules: &RuleSet, is_last: bool) -> Result<Target, AllocError>
+/// Nothing yet of what a place leads to, with room for about as many parts as there are before it.
+fn start_target(
+    alloc: Global,
+    rules: &RuleSet,
+    is_last: bool,
+    before: usize,
+) -> Result<Target, AllocError>
     ensures kind { IfOk result (λ target. IsFor rules.now is_last target) }
     ensures none { IfOk result (λ target. (entry : ℕ) → HasEntry target entry → ⊥) }
 {
@@ -163,7 +168,8 @@ fn start_target(alloc: Global, rules: &RuleSet, is_last: bool) -> Result<Target,
         let ranked = rank_rules(alloc, rules)?;
         return Ok(Target::Rows(Rows::new(alloc, ranked)));
     }
-    Ok(Target::Parts(Parts::new(alloc)))
+    let parts = Parts::with_room(alloc, before.min(FIRST_ROOM))?;
+    Ok(Target::Parts(parts))
 }
 
 /// Merges the states of the kept place of that number.
@@ -188,9 +194,10 @@ fn merge_place(
         IsPlaceOver rules.now places.now j budget reached.now }
 {
     let place = place_at(alloc, rules, places, j)?;
-    let target = start_target(alloc, rules, place.is_last)?;
+    let parts = reached.parts();
+    let target = start_target(alloc, rules, place.is_last, parts.len())?;
     let states = reached.found.as_slice();
-    merge_states(alloc, &place, budget, reached.parts(), states, target)
+    merge_states(alloc, &place, budget, parts, states, target)
 }
 
 /// Merges the states of the places, one place after the other.

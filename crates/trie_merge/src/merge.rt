@@ -26,6 +26,10 @@ use shared_parts::{Parts, Piece, Rows, Steps, Target};
 use std::alloc::{AllocError, Global};
 use table_sizes::{ROW_LEN, node_len};
 
+/// For how many parts, and for how many numbers of states, there is room from the start at most. A
+/// place mostly has about as many as the one before it.
+pub(crate) const FIRST_ROOM: usize = 4096;
+
 /// The words of a state with so many runs.
 fn cost_of(count: usize) -> u64
     ensures cost { result ≡ cost_of count }
@@ -286,11 +290,12 @@ struct Progress {
 impl Progress {
     ghost use Rattle.trie_merge.specs.Merged.{IsFirst};
 
-    /// Before the first state.
-    fn new(alloc: Global, target: Target, before: u64) -> Self
-        ensures { IsFirst target before result }
+    /// Before the first state, with room for so many numbers of what the states lead to.
+    fn new(alloc: Global, target: Target, before: u64, room: usize) -> Result<Self, AllocError>
+        ensures { IfOk result (IsFirst target before) }
     {
-        Progress {
+        let found = IndexSet::with_capacity(alloc, room)?;
+        Ok(Progress {
             work: Work {
                 steps: Steps::new(alloc),
                 cuts: Vec::new(alloc),
@@ -301,14 +306,11 @@ impl Progress {
                     runs: Vec::new(alloc),
                     ends: Vec::new(alloc),
                 },
-                reached: Reached {
-                    target,
-                    found: IndexSet::new(alloc),
-                },
+                reached: Reached { target, found },
                 words: before,
             },
             least: 0,
-        }
+        })
     }
 }
 
@@ -397,7 +399,8 @@ pub(crate) fn merge_states(
     ensures over { (result ≡ Err MergeFault.OverCap) →
         AreOver place.now budget parts.now states.now target }
 {
-    let mut progress = Progress::new(alloc, target, budget.before);
+    let room = states.len().min(FIRST_ROOM);
+    let mut progress = Progress::new(alloc, target, budget.before, room)?;
     match merge_all(place, budget, parts, states, &mut progress) {
         Ok(()) => Ok(progress.merged),
         Err(fault) => Err(fault),

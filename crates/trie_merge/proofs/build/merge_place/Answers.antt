@@ -9,17 +9,17 @@ use Rattle.trie_merge.proofs.build.merge_place.Goals as goal
 pub merge_states-requires-clause-states : goal.merge_states-requires-clause-states
 merge_states-requires-clause-states c =
     rw c.as_slice-states.ensures.keys
-    (subst (λ t. All (λ n. (0 < n) × (n ≤ count t)) c.args.reached.now.found.keys) c.parts.ensures
+    (subst (λ t. All (λ n. (0 < n) × (n ≤ count t)) c.args.reached.now.found.keys) c.parts-parts.ensures
     c.requires.states.inside)
 
 pub merge_states-requires-clause-can : goal.merge_states-requires-clause-can
 merge_states-requires-clause-can c = record {
   step = λ entry has.
       rw c.in_ok-place.ensures.column
-      (c.requires.states.step entry (subst (λ t. HasEntry t entry) (sym c.parts.ensures) has));
+      (c.requires.states.step entry (subst (λ t. HasEntry t entry) (sym c.parts-parts.ensures) has));
   last = c.in_ok-place.ensures.last;
   go_on = rw (c.in_ok-place.ensures.column, c.in_ok-place.ensures.next)
-      (c.requires.states.go_on c.parts.result.now c.parts.ensures);
+      (c.requires.states.go_on c.parts-parts.result.now c.parts-parts.ensures);
 }
 
 pub merge_states-requires-clause-ask : goal.merge_states-requires-clause-ask
@@ -36,7 +36,7 @@ returns-clause-merged c =
     (let led = rw place.column at its.led in
     let each = rw (c.as_slice-states.ensures.keys, place.column, place.is_last) at its.each in
     merged_place c.args.rules.now _ _ c.args.budget.cap c.args.budget.before c.args.reached.now.target pairs
-    c.parts.result.now is c.parts.ensures c.args.reached.now.found.keys c.in_ok-target.target
+    c.parts-parts.result.now is c.parts-parts.ensures c.args.reached.now.found.keys c.in_ok-target.target
     merged.reached.target merged.reached.found.keys _ merged.words kind
     c.in_ok-target.ensures.none its.steps led (each c.args.rules.now) its.inside))
     c.merge_states.ensures.merged
@@ -51,5 +51,5 @@ returns-clause-over c = λ over pairs is.
     let past = rw (c.as_slice-states.ensures.keys, place.column, place.next, place.is_last) at
     (c.merge_states.ensures.over over) in
     over_place c.args.rules.now _ _ _ c.args.budget.cap c.args.budget.before c.args.reached.now.target pairs
-    c.parts.result.now is c.parts.ensures c.args.reached.now.found.keys c.in_ok-target.target kind
+    c.parts-parts.result.now is c.parts-parts.ensures c.args.reached.now.found.keys c.in_ok-target.target kind
     (past c.args.rules.now)

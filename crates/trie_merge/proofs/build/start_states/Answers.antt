@@ -14,7 +14,7 @@ returns c =
       number = number;
       parts = its.parts;
       one = c.in_ok-insert_full.ensures.keys
-          ∙ ap (λ keys. insert_key nat_eq keys number) (no_numbers c.new-2.result.keys c.new-2.ensures.len);
+          ∙ ap (λ keys. insert_key nat_eq keys number) (no_numbers c.new.result.keys c.new.ensures.len);
       within = its.within;
       order = numbers_in c.args.order.now;
       same = λ rule. refl;
