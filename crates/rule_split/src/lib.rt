@@ -7,8 +7,8 @@
 //!
 //! - `divide`: how one group becomes two
 //! - `counted`: a group whose words were counted
-//! - `split`: [`plan`], turn by turn, and [`Split`], which says whether the words fit before it is a
-//!   plan
+//! - `split`: [`plan`], turn by turn, and [`Split`], which says whether the words fit before it is
+//!   a plan
 //! - `answer`: a plan, or why there is none
 //! - `laws`: the groups hold each rule once, and the winner of all rules is one of their winners
 #![tactic(auto)]

@@ -9,5 +9,5 @@ use Rattle.shared_parts.specs.Rows.{rule_of}
 pub record IsAll (pairs : List (ℕ × ℕ)) (entries : List ℕ) (number : ℕ) : Type 0 where
   pub tree : Tree
   pub rules : leaves tree ≡ map rule_of entries
-  pub stands : (f : ℕ → Option ℕ) → AllByRecursion (λ entry. f (rule_of entry) ≡ Some entry) entries →
-      Stands pairs tree f number
+  pub stands : (f : ℕ → Option ℕ) →
+      AllByRecursion (λ entry. f (rule_of entry) ≡ Some entry) entries → Stands pairs tree f number

@@ -2,11 +2,11 @@
 //! worked out once
 //!
 //! The rules of a group are the leaves of a tree. What is left of them after some bytes is a
-//! *part*: an *entry* (what is left of one rule), or the pair of a left and a right part. Parts have
-//! numbers from 1 on, and 0 stands for nothing. Equal parts have equal numbers, so what many states
-//! share is kept once, and what it leads to is worked out once. Where DPDK's `lib/acl`
-//! (`acl_bld.c`) merges the tries of rules node by node, a part is merged from what its two sides lead
-//! to.
+//! *part*: an *entry* (what is left of one rule), or the pair of a left and a right part. Parts
+//! have numbers from 1 on, and 0 stands for nothing. Equal parts have equal numbers, so what many
+//! states share is kept once, and what it leads to is worked out once. Where DPDK's `lib/acl`
+//! (`acl_bld.c`) merges the tries of rules node by node, a part is merged from what its two sides
+//! lead to.
 //!
 //! - `parts`: numbered parts of one place.
 //! - `rows`: numbered rows, which follow the last place: the greatest rank of each category.

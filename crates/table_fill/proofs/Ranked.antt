@@ -57,7 +57,8 @@ ranked_rule rules place here small =
     le-leb (rank_of rules place) (length rules) (rank_within rules place here) in
     rw (high, some, within) (or_last (rule_word rules place == 0))
 
-module _ (rules : List RuleView) (small : AllByRecursion (λ (rule : RuleView). rule.tag.userdata < userdatas) rules) where
+module _ (rules : List RuleView)
+    (small : AllByRecursion (λ (rule : RuleView). rule.tag.userdata < userdatas) rules) where
   ranked_winner : (winner : ℕ) → winner ≤ length rules →
       is_ranked (length rules) (winner_word rules winner) ≡ true
   ranked_winner winner within =
@@ -71,7 +72,9 @@ module _ (rules : List RuleView) (small : AllByRecursion (λ (rule : RuleView). 
   ranked_row : (row : List ℕ) → AllByRecursion (λ winner. winner ≤ length rules) row →
       list_all (is_ranked (length rules)) (map (winner_word rules) row) ≡ true
   ranked_row [] all = refl
-  ranked_row (winner ∷ row) all = and_from (is_ranked (length rules) (winner_word rules winner)) _ (ranked_winner winner all.0) (ranked_row row all.1)
+  ranked_row (winner ∷ row) all =
+      and_from (is_ranked (length rules) (winner_word rules winner)) _ (ranked_winner winner all.0)
+      (ranked_row row all.1)
 
   ranked_trie : (rows : List (List ℕ)) → AllByRecursion (λ row. All (λ winner. winner ≤ length rules) row) rows →
       list_all (list_all (is_ranked (length rules))) (map (λ row. map (winner_word rules) row) rows) ≡ true

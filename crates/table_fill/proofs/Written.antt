@@ -47,8 +47,8 @@ hold_next first run [] hold = tt
 hold_next first run (next ∷ runs) hold = hold.2
 
 -- the run of a turn holds the first byte of those that are left, and ends with a byte
-pub run_holds : (runs : List Run) (k : ℕ) (d : Run) → k < length runs → (first last : ℕ) → last ≡ (get_or runs k d).last →
-    HoldRest first (drop k runs) → (first ≤ last) × (last ≤ 255)
+pub run_holds : (runs : List Run) (k : ℕ) (d : Run) → k < length runs → (first last : ℕ) →
+    last ≡ (get_or runs k d).last → HoldRest first (drop k runs) → (first ≤ last) × (last ≤ 255)
 run_holds runs k d below first last is hold =
     let run : Run = get_or runs k d in
     let rest : List Run = drop (k + 1) runs in

@@ -34,7 +34,8 @@ rises_lower one other (entry ∷ entries) below rise = (omega (arith, rise.0), r
 
 module _ (column : ColumnView) where
   -- a step keeps the number
-  pub step_number : (entry byte after : ℕ) → entry_step column entry byte ≡ Some after → number_in after ≡ number_in entry
+  pub step_number : (entry byte after : ℕ) → entry_step column entry byte ≡ Some after →
+      number_in after ≡ number_in entry
   unfolding entry_step
   step_number entry byte after is =
       by (edge_step (value_in column entry) column.size column.place (edge_before column entry) byte) is
@@ -234,8 +235,8 @@ all_of_bytes P g first (suc count) all byte from until = elim (cases_eq byte fir
   | inr other ↦ all_of_bytes P g (first + 1) count all.1 byte (omega (arith, from, other)) (omega (arith, until))
 ]
 
-pub each_of_bytes : {Y : Type 0} (P : Y → Type 0) (g : ℕ → Y) → AllByRecursion P (map g all_bytes) → (byte : ℕ) → byte < 256
-    → P (g byte)
+pub each_of_bytes : {Y : Type 0} (P : Y → Type 0) (g : ℕ → Y) → AllByRecursion P (map g all_bytes) →
+    (byte : ℕ) → byte < 256 → P (g byte)
 unfolding all_bytes
 each_of_bytes P g all byte below = all_of_bytes P g 0 256 all byte (omega arith) (omega arith)
 

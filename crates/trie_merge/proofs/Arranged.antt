@@ -181,7 +181,8 @@ module _ (tree : RuleTree) where
           some = is.some;
           small = is.small;
           cut = (
-              let one = some_passes (λ entry. is_entry_cut column entry byte) (filter_map f (leaves tree.tree)) is.cut in
+              let one =
+              some_passes (λ entry. is_entry_cut column entry byte) (filter_map f (leaves tree.tree)) is.cut in
               passes_inside (λ entry. is_entry_cut column entry byte) (filter_map f tree.rules) one.0
               (inside f own (leaves tree.tree) tree.rules tree.same one.0 one.1) one.2);
         }) knows.cut;

@@ -289,7 +289,8 @@ apart_pass p first count bytes apart all =
         )
 
 shifted : (p : ℕ → Bool) (first count : ℕ)
-    → length (filter (λ b. p (b - 1)) (range_with_len (first + 1) count)) ≡ length (filter p (range_with_len first count))
+    → length (filter (λ b. p (b - 1)) (range_with_len (first + 1) count))
+    ≡ length (filter p (range_with_len first count))
 shifted p first zero = refl
 shifted p first (suc count) =
     let back : first + 1 - 1 ≡ first = omega arith in
@@ -300,10 +301,13 @@ shifted p first (suc count) =
         ≡ length (filter p (range_with_len (first + 1) count))
         → length (cond s ((first + 1) ∷ filter (λ b. p (b - 1)) (range_with_len (first + 1 + 1) count))
         (filter (λ b. p (b - 1)) (range_with_len (first + 1 + 1) count)))
-        ≡ length (cond t (first ∷ filter p (range_with_len (first + 1) count)) (filter p (range_with_len (first + 1) count)))
-    by true e rest = ap (λ s. length (cond s ((first + 1) ∷ filter (λ b. p (b - 1)) (range_with_len (first + 1 + 1) count))
+        ≡ length (cond t (first ∷ filter p (range_with_len (first + 1) count))
+        (filter p (range_with_len (first + 1) count)))
+    by true e rest =
+        ap (λ s. length (cond s ((first + 1) ∷ filter (λ b. p (b - 1)) (range_with_len (first + 1 + 1) count))
         (filter (λ b. p (b - 1)) (range_with_len (first + 1 + 1) count)))) e ∙ ap suc rest
-    by false e rest = ap (λ s. length (cond s ((first + 1) ∷ filter (λ b. p (b - 1)) (range_with_len (first + 1 + 1) count))
+    by false e rest =
+        ap (λ s. length (cond s ((first + 1) ∷ filter (λ b. p (b - 1)) (range_with_len (first + 1 + 1) count))
         (filter (λ b. p (b - 1)) (range_with_len (first + 1 + 1) count)))) e ∙ rest
 
 -- more runs take no fewer words

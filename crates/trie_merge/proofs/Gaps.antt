@@ -134,7 +134,8 @@ module _ (set : RuleSetView) (group : List ℕ) where
       omega arith,
       ap (λ b. not (list_all (λ k. not (group_of k == 0) || is_wild_place set group k) (key_places set)) || (true && b))
           all
-          ∙ or_right (not (list_all (λ k. not (group_of k == 0) || is_wild_place set group k) (key_places set))) true refl,
+          ∙ or_right (not (list_all (λ k. not (group_of k == 0) || is_wild_place set group k) (key_places set)))
+          true refl,
     )
     | inr one ↦ (
       one.0,

@@ -55,7 +55,8 @@ module _ (column : ColumnView) (entry : ℕ) where
           | inl early ↦
               let is = pushed.before first byte so_far.covers alike.ordered early in
               subst (IsFoundIn new (entry_step column entry byte)) (sym is)
-              (found_grows now new (entry_step column entry byte) (number_at pieces byte) grows (so_far.found byte early))
+              (found_grows now new (entry_step column entry byte) (number_at pieces byte) grows
+              (so_far.found byte early))
           | inr late ↦
               let is = pushed.here first byte so_far.covers late (omega (arith, less)) in
               subst (IsFoundIn new (entry_step column entry byte)) (sym is)

@@ -131,7 +131,8 @@ none_found set column is_last = refl
 
 split_last : (set : RuleSetView) (target : Target) (tree : RuleTree) (lists : List (List ℕ)) (ns : List ℕ) (n : ℕ)
     → AreIn set target tree lists (ns ++ n ∷ [])
-    → (ls : List (List ℕ)) × (l : List ℕ) × (lists ≡ ls ++ l ∷ []) × AreIn set target tree ls ns × IsIn set target tree l n
+    → (ls : List (List ℕ)) × (l : List ℕ) × (lists ≡ ls ++ l ∷ []) × AreIn set target tree ls ns
+    × IsIn set target tree l n
 split_last set target tree [] [] n all = absurd all
 split_last set target tree [] (k ∷ ks) n all = absurd all
 split_last set target tree (l ∷ []) [] n all = ([], l, refl, tt, all.0)
@@ -162,8 +163,8 @@ none_listed set target tree [] all = refl
 none_listed set target tree (l ∷ ls) all = absurd all
 
 -- the list of a number by its place
-pub number_in_lists : (set : RuleSetView) (target : Target) (tree : RuleTree) (lists : List (List ℕ)) (ns : List ℕ) (k : ℕ)
-    → AreIn set target tree lists ns → k < length ns → IsIn set target tree (get_or lists k []) (get_or ns k 0)
+pub number_in_lists : (set : RuleSetView) (target : Target) (tree : RuleTree) (lists : List (List ℕ)) (ns : List ℕ)
+    (k : ℕ) → AreIn set target tree lists ns → k < length ns → IsIn set target tree (get_or lists k []) (get_or ns k 0)
 number_in_lists set target tree [] [] k all below = absurd (omega (arith, below))
 number_in_lists set target tree [] (n ∷ ns) k all below = absurd all
 number_in_lists set target tree (l ∷ ls) [] k all below = absurd all
@@ -422,8 +423,8 @@ module _ (column : ColumnView) (next : Option ColumnView) (is_last : Bool) (befo
           led = all_led;
           sum = omega (arith, so_far.sum, more, added.its_words);
           few = omega (arith, so_far.few, added.some, added.its_least);
-          inside = found_inside column is_last pairs now new steps' found found' runs runs' state added.cost so_far.inside
-              led added.merged;
+          inside = found_inside column is_last pairs now new steps' found found' runs runs' state added.cost
+              so_far.inside led added.merged;
           rows = λ last. omega (arith, so_far.rows last, added.rows last, added.its_least);
           lists = λ set group tree lists for placed.
               (let ends = split_last set (Parts pairs) tree lists done state placed.each in

@@ -30,7 +30,8 @@ place_stays : {X : Type 0} (same : X → X → Bool) (x : X) (found more : List 
 place_stays same x [] more there = absurd (true≢false (sym there))
 place_stays same x (y ∷ ys) more there = by (same x y) (place_stays same x ys more) there
   where
-    by : (b : Bool) → (list_any (same x) ys ≡ true → position_or_len (same x) (ys ++ more) ≡ position_or_len (same x) ys)
+    by : (b : Bool)
+        → (list_any (same x) ys ≡ true → position_or_len (same x) (ys ++ more) ≡ position_or_len (same x) ys)
         → (b || list_any (same x) ys) ≡ true
         → cond (not b) (1 + position_or_len (same x) (ys ++ more)) 0 ≡ cond (not b) (1 + position_or_len (same x) ys) 0
     by true rest is = refl
@@ -54,7 +55,8 @@ number_stays is_last n found more old = by (is_some_number n) (list_any (nat_eq 
         → (there ≡ true → position_or_len (nat_eq n) (found ++ more) ≡ position_or_len (nat_eq n) found)
         → cond some (cond is_last (Row (position_or_len (nat_eq n) (found ++ more)))
         (State (position_or_len (nat_eq n) (found ++ more)))) Dead
-        ≡ cond some (cond is_last (Row (position_or_len (nat_eq n) found)) (State (position_or_len (nat_eq n) found))) Dead
+        ≡ cond some (cond is_last (Row (position_or_len (nat_eq n) found))
+        (State (position_or_len (nat_eq n) found))) Dead
     by false there old stays = refl
     by true true old stays = ap (λ k. cond is_last (Row k) (State k)) (stays refl)
     by true false old stays = absurd (true≢false old)

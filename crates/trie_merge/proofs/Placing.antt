@@ -59,7 +59,8 @@ same_parts target pairs lent is of = (let same : Parts lent ≡ Parts pairs = sy
 -- what merging the states of a place gives
 pub merged_place : (set : RuleSetView) (column : ColumnView) (is_last : Bool) (cap before : ℕ) (target : Target)
     (pairs lent : List (ℕ × ℕ)) → target ≡ Parts pairs → target ≡ Parts lent → (states : List ℕ) (old new : Target)
-    (found : List ℕ) (runs : List (List Run)) (words : ℕ) → IsFor set is_last old → ((entry : ℕ) → HasEntry old entry → ⊥)
+    (found : List ℕ) (runs : List (List Run)) (words : ℕ) → IsFor set is_last old
+    → ((entry : ℕ) → HasEntry old entry → ⊥)
     → (steps : List (List Piece)) → AllLed column lent old new steps
     → ((group : List ℕ) (tree : RuleTree) (lists : List (List ℕ)) → IsFor set is_last old
     → ArePlaced set group tree lent lists states
@@ -136,7 +137,8 @@ module _ (set : RuleSetView) (group : List ℕ) (held : AllByRecursion (IsHeld s
     -- the entries can be asked
     pub parts_can_step : (entry : ℕ) → HasEntry target entry → CanStep (column_at set here) entry
     parts_can_step entry has =
-        entry_can_ask set here entry (place_inside set group held some key place below) (so_far.entries below entry has).at
+        entry_can_ask set here entry (place_inside set group held some key place below)
+        (so_far.entries below entry has).at
 
     module _ (pairs : List (ℕ × ℕ)) (is : target ≡ Parts pairs) where
       -- and what they become at the next place
@@ -171,8 +173,8 @@ module _ (set : RuleSetView) (group : List ℕ) (held : AllByRecursion (IsHeld s
 
         -- the next place
         pub placed_on : (new : Target) (its_runs : List (List Run)) (found : List ℕ) (words' : ℕ)
-            → PlaceMerged set (column_at set (get_or places place 0)) (place + 1 == length places) cap words pairs numbers
-            new found its_runs words'
+            → PlaceMerged set (column_at set (get_or places place 0)) (place + 1 == length places) cap words
+            pairs numbers new found its_runs words'
             → Placed set group cap (place + 1) (levels ++ its_runs ∷ []) new found words'
         placed_on new its_runs found words' its =
             let both = its.merged group so_far.tree so_far.lists placed in
@@ -205,7 +207,8 @@ module _ (set : RuleSetView) (group : List ℕ) (held : AllByRecursion (IsHeld s
             rows_of_kind (Rows rows) k last = (rows, refl)
 
         -- or too many words
-        pub placed_over : ((g : List ℕ) (tree : RuleTree) (lists : List (List ℕ)) → ArePlaced set g tree pairs lists numbers
+        pub placed_over : ((g : List ℕ) (tree : RuleTree) (lists : List (List ℕ)) →
+            ArePlaced set g tree pairs lists numbers
             → cap < least_words set (column_at set (get_or places place 0)) (next_of set places place)
             (place + 1 == length places) words lists) → cap < (levels_of set group).words
         unfolding levels_of

@@ -120,7 +120,9 @@ contains_map [] entry there = absurd (true≢false (sym there))
 contains_map (e ∷ es) entry there = elim (cases_eq e entry) [
   | inl same ↦ (0, omega arith, ap number_in same)
   | inr other ↦
-      (let rest = contains_map es entry (sym (ap (λ b. b || list_any (λ k. k == entry) es) (ne_eqb e entry other)) ∙ there)
+      (let rest =
+      contains_map es entry
+      (sym (ap (λ b. b || list_any (λ k. k == entry) es) (ne_eqb e entry other)) ∙ there)
       in (suc rest.0, omega (arith, rest.1), rest.2))
 ]
 

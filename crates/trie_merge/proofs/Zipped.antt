@@ -157,7 +157,8 @@ module _ (set : RuleSetView) (order : RanksOrderRules) (law : TheBestHasTheGreat
         → succ_in is_last lists list ≡ succ_of is_last numbers n
     succ_alike is_last list n lists numbers a all =
         λ i. cond (number_live target list n a i)
-        (cond is_last (Row (place_alike list n lists numbers a all i)) (State (place_alike list n lists numbers a all i)))
+        (cond is_last (Row (place_alike list n lists numbers a all i))
+        (State (place_alike list n lists numbers a all i)))
         Dead
 
 -- ---- numbers when more come

@@ -41,7 +41,8 @@ pub record IsBuilt (column : ColumnView) (pair : ℕ × ℕ) (all : List Cuts) (
   pub lower : 0 < pair.0 → (pair.0 ≤ k) × (0 < pair.1) × (pair.1 ≤ k)
   pub both : 0 < pair.0 → (one other : List ℕ) →
       Knows column one (slice_index_or all (pair.0 - 1) no_cuts) →
-      Knows column other (slice_index_or all (pair.1 - 1) no_cuts) → Knows column (one ++ other) cuts
+      Knows column other (slice_index_or all (pair.1 - 1) no_cuts) →
+      Knows column (one ++ other) cuts
 
 -- So for each of the first parts.
 pub record AreBuilt (column : ColumnView) (pairs : List (ℕ × ℕ)) (all : List Cuts) : Type 0 where

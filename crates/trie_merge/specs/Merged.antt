@@ -24,10 +24,11 @@ use Rattle.trie_merge.specs.Lists.{least_cost, least_words, level_found, IsMerge
 use Rattle.trie_merge.specs.Numbers.{numbers_with, succ_of}
 use Rattle.trie_merge.specs.Shared.{RuleTree, AreIn, ArePlaced, IsFor}
 
--- What a state leads to is found in order, its runs stand after those of the others, and the cost is
--- that of its runs.
-pub record StateMerged (column : ColumnView) (is_last : Bool) (pairs : List (ℕ × ℕ)) (target : Target)
-    (old_found found : List ℕ) (old_runs runs : List (List Run)) (state cost : ℕ) : Type 0 where
+-- What a state leads to is found in order, its runs stand after those of the others, and the cost
+-- is that of its runs.
+pub record StateMerged (column : ColumnView) (is_last : Bool) (pairs : List (ℕ × ℕ))
+    (target : Target) (old_found found : List ℕ) (old_runs runs : List (List Run))
+    (state cost : ℕ) : Type 0 where
   pub pieces : List Piece
   pub leads : PiecesLead (step_of column) pairs target state pieces
   pub finds : found ≡ fold numbers_with old_found (map (number_at pieces) all_bytes)
@@ -52,8 +53,8 @@ IsStateMerged place pairs state old new cost =
 
 -- So one more state is merged: its words are counted, and the least that takes what it finds anew.
 pub record StateAdded (column : ColumnView) (next : Option ColumnView) (is_last : Bool)
-    (pairs : List (ℕ × ℕ)) (target : Target) (old_found found : List ℕ) (old_runs runs : List (List Run))
-    (state old_words words old_least least : ℕ) : Type 0 where
+    (pairs : List (ℕ × ℕ)) (target : Target) (old_found found : List ℕ)
+    (old_runs runs : List (List Run)) (state old_words words old_least least : ℕ) : Type 0 where
   pub cost : ℕ
   pub more : ℕ
   pub merged : StateMerged column is_last pairs target old_found found old_runs runs state cost
@@ -121,8 +122,8 @@ AreOver place budget pairs states old =
     IsFor set place.is_last old → ArePlaced set group tree pairs lists states →
     budget.cap < least_words set place.column place.next place.is_last budget.before lists
 
--- The states of one place are merged: of any group of the set of which these numbers are the states,
--- the runs and the words are theirs, and what is found is what they lead to.
+-- The states of one place are merged: of any group of the set of which these numbers are the
+-- states, the runs and the words are theirs, and what is found is what they lead to.
 pub record PlaceMerged (set : RuleSetView) (column : ColumnView) (is_last : Bool) (cap before : ℕ)
     (pairs : List (ℕ × ℕ)) (states : List ℕ) (target : Target) (found : List ℕ)
     (runs : List (List Run)) (words : ℕ) : Type 0 where

@@ -23,15 +23,16 @@ abbrev pub AreOwn : (ℕ → Option ℕ) → Type 0
 AreOwn entries = (rule entry : ℕ) → entries rule ≡ Some entry → number_in entry ≡ rule
 
 -- The number stands for the entries of a state.
-pub record IsState (pairs : List (ℕ × ℕ)) (tree : RuleTree) (list : List ℕ) (number : ℕ) : Type 0 where
+pub record IsState (pairs : List (ℕ × ℕ)) (tree : RuleTree) (list : List ℕ)
+    (number : ℕ) : Type 0 where
   pub entries : ℕ → Option ℕ
   pub own : AreOwn entries
   pub is : list ≡ filter_map entries tree.rules
   pub stands : Stands pairs tree.tree entries number
 
 -- The number stands for a row, which some entries give.
-pub record IsRowOf (set : RuleSetView) (rows : RowsView) (tree : RuleTree) (list : List ℕ) (number : ℕ) :
-    Type 0 where
+pub record IsRowOf (set : RuleSetView) (rows : RowsView) (tree : RuleTree) (list : List ℕ)
+    (number : ℕ) : Type 0 where
   pub entries : ℕ → Option ℕ
   pub own : AreOwn entries
   pub is : list ≡ row_list set (filter_map entries tree.rules)

@@ -41,10 +41,10 @@ pub record IsStarted (group : List ℕ) (target : Target) (numbers : List ℕ) :
       Contains (map (λ rule. entry_of rule Free) order) entry
 
 -- The numbers stand for the rows of the group.
-pub record AreRows (set : RuleSetView) (group : List ℕ) (target : Target) (numbers : List ℕ) : Type 0
-  where
-    pub tree : RuleTree
-    pub rules : tree.rules ≡ group
-    pub rows : (rows : RowsView) × (target ≡ Rows rows)
-    pub each : AreIn set target tree (rows_of set group) numbers
-    pub inside : All (λ number. (0 < number) × (number ≤ count target)) numbers
+pub record AreRows (set : RuleSetView) (group : List ℕ) (target : Target)
+    (numbers : List ℕ) : Type 0 where
+  pub tree : RuleTree
+  pub rules : tree.rules ≡ group
+  pub rows : (rows : RowsView) × (target ≡ Rows rows)
+  pub each : AreIn set target tree (rows_of set group) numbers
+  pub inside : All (λ number. (0 < number) × (number ≤ count target)) numbers

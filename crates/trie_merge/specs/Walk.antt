@@ -34,7 +34,8 @@ abbrev pub place_of : RuleSetView → List ℕ → ℕ → ColumnView
 place_of set places j = column_at set (slice_index_or places j 0)
 
 -- The numbers are those of states that can be merged at the kept place.
-pub record AreStates (set : RuleSetView) (places : List ℕ) (j : ℕ) (reached : Reached) : Type 0 where
+pub record AreStates (set : RuleSetView) (places : List ℕ) (j : ℕ)
+    (reached : Reached) : Type 0 where
   pub parts : (pairs : List (ℕ × ℕ)) × (reached.target ≡ Parts pairs)
   pub inside : All (λ state. (0 < state) × (state ≤ count reached.target)) reached.found.keys
   pub step : (entry : ℕ) → HasEntry reached.target entry → CanStep (place_of set places j) entry

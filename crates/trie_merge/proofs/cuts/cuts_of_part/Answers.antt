@@ -4,7 +4,8 @@ use Rattle.trie_merge.proofs.cuts.cuts_of_part.Goals as goal
 
 pub returns : goal.returns
 returns c =
-    subst (λ (p : ℕ × ℕ). IsBuilt c.args.next.now p c.args.cuts.now c.args.index c.unite.result) c.pair-left.ensures.pair
+    subst (λ (p : ℕ × ℕ). IsBuilt c.args.next.now p c.args.cuts.now c.args.index c.unite.result)
+    c.pair-left.ensures.pair
     (record {
       few = c.unite.ensures.count;
       entry = λ none. absurd (c.if-left-eq0.false none);
