@@ -227,12 +227,12 @@ aclc_code aclc_add_rules(struct aclc_context *context, const struct aclc_rule *r
  * aclc_build - makes the table of the rules that the context holds, in place of the one before.
  *
  * budget: how many words of 8 bytes the table may have, from 1 to ACLC_MAX_WORDS.
- * words: on ACLC_OK the words of the new table, on ACLC_TOO_LARGE those that it would need; else
- * it stays.
+ * words: on ACLC_OK the words of the new table, on ACLC_TOO_LARGE those at which the split ended,
+ * which are more than the budget: with just so many a build may be refused again; else it stays.
  *
  * ACLC_EMPTY: the handle is empty.
  * ACLC_BAD_BUDGET: the budget is 0 or above ACLC_MAX_WORDS.
- * ACLC_TOO_LARGE: the table needs more words. The table of the build before stays.
+ * ACLC_TOO_LARGE: the table needs more words than the budget. The table of the build before stays.
  * ACLC_NO_MEMORY: likewise. It takes memory for the table and for what it is made of, and gives
  * that back.
  */

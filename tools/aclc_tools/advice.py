@@ -162,7 +162,7 @@ def attribute(word, line):
         return f"{shown(name)}= was given before in this line."
     if name == b"data" and re.fullmatch(rb"[A-Za-z]\w*|[0-9]{10,}|0[xX][0-9a-fA-F]{9,}", text):
         return "Userdata is a number below 2^32, and what it means is up to you: choose one, as 1 for permit."
-    most = 2147483647 if name == b"pri" else 4294967295
+    most = 536870911 if name == b"pri" else 4294967295
     return f"A number of at most {most} stands right after {shown(name)}=, without a sign and without blanks."
 
 

@@ -12,7 +12,8 @@ def rule_file_of(options, text):
     module, what = FORMS[options.form]
     chains, chain, families = module.convert(text.split("\n"), options)
     if chain not in chains:
-        raise lists.CantSay(f"there is no chain {chain}")
+        kind = "list" if options.form == "cisco" else "chain"
+        raise lists.CantSay(f"there is no {kind} {chain}; there are: {', '.join(chains) or 'none'}")
     flattener = lists.Flattener(chains, options.lenient)
     flattener.list_of(chain, families)
     head = f"Made by tools/convert {options.form} of {Path(options.file).name}, {chain}. Userdata is the {what} that decides."

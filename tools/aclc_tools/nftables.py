@@ -260,7 +260,7 @@ def read(objects, options):
     if len(keys) != 1:
         chains = [f"{it['chain']['family']} {it['chain']['table']} {it['chain']['name']}" for it in objects if "chain" in it]
         raise CantSay("which chain is meant isn't said: --chain NAME, and --table NAME or --family 4 or 6 where several have it;"
-                      f" there are: {', '.join(chains) or 'none'} in {len(tables)} tables")
+                      f" there are: {', '.join(chains) or 'none'} in {len(tables)} table{'s'[:len(tables) != 1]}")
     family, table = keys.pop()
     if family not in FAMILIES:
         raise CantSay(f"a table of the family {family}")
