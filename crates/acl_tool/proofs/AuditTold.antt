@@ -6,7 +6,7 @@ use Rattle.std.proofs.lemmas.Bool.{false≢true}
 use Rattle.field_defs.specs.declared.field.Family.{Family}
 use Rattle.field_defs.specs.declared.field.Family.TheVariants.{Ip4, Ip6}
 use Rattle.acl_outside.specs.Desk.{File}
-use Rattle.acl_outside.specs.Heard.{Heard}
+use Rattle.acl_outside.specs.Heard.{Heard, Ended}
 use Rattle.classbench_reader.specs.RuleFile.{RuleLists, rule_file_of}
 use Rattle.audit_report.specs.Audit.{audit_text}
 use Rattle.command_words.specs.declared.fault.UsageFault.{UsageFault}
@@ -34,8 +34,8 @@ use Rattle.acl_tool.proofs.Imaging.{done_told}
 use Rattle.acl_tool.proofs.Merging.{IsAbove, said_above, said_text}
 use Rattle.acl_tool.proofs.ReadOn.{IsTest, ReadsOn, accepted_rules, is_told, read_on, told_test, unless_on, untold_rules}
 use Rattle.acl_tool.proofs.Sizing.{budget_in, family_in, is_large, large_status, large_test, same_family, small_rules}
-use Rattle.acl_tool.proofs.Sizing.{words_in}
-use Rattle.acl_tool.proofs.WholeRules.{stops, whole_file}
+use Rattle.acl_tool.proofs.Sizing.{stops_large, words_in}
+use Rattle.acl_tool.proofs.WholeRules.{stops, whole_by, whole_file}
 
 -- The words are a name and options, and the command ended by its plan.
 record Asked (words : List (List ℕ)) (old new : Outside) (status : Status) : Type 0 where
@@ -110,13 +110,14 @@ read_rules test is_test faulty rules categories max_words told old new reached f
 hears : (words : List (List ℕ)) (rules : List ℕ) (options : List (List ℕ)) (categories max_words : ℕ)
     (old new : Outside) (reached : Reached Outcome) → words ≡ codes "audit" ∷ rules ∷ options →
     (r : Read rules categories max_words (files_of old.desk) (heard_of old.desk) (heard_of new.desk) reached) →
-    heard_of new.desk ≡ r.file ∷ heard_of old.desk → HearsRules words old new
-hears words rules options categories max_words old new reached is r newest = record {
+    heard_of new.desk ≡ r.file ∷ heard_of old.desk → r.file.ending ≡ Ended → HearsRules words old new
+hears words rules options categories max_words old new reached is r newest whole = record {
   rule_file = r.file;
   options = options;
   rules = r.lists;
   named = is ∙ ap (λ (name : List ℕ). codes "audit" ∷ name ∷ options) (sym r.named);
   once = newest;
+  whole = whole;
   accepted = r.accepted;
 }
 
@@ -148,9 +149,9 @@ prints words old new asked =
     let steps : new.steps ≡ old.steps + 0 =
     ends.steps refl ∙ ap (λ (r : Reached Outcome). old.steps + (outcome_of r).transitions) (last.1) in
     record {
-      heard = hears words asked.rules asked.options categories max_words old new ends.reached asked.is r (last.0);
-      whole = whole_file RulesRefused (audit_in categories max_words) r.file r.lists r.said
-          (audit_goes_on categories max_words r.lists text said) r.enough;
+      heard = hears words asked.rules asked.options categories max_words old new ends.reached asked.is r (last.0)
+          (whole_file RulesRefused (audit_in categories max_words) r.file r.lists r.said
+          (audit_goes_on categories max_words r.lists text said) r.enough);
       taken =
           gains.taken
           ∙ ap (λ (r : Reached Outcome). old.out.taken ++ (outcome_of r).text) (last.1)
@@ -160,23 +161,30 @@ prints words old new asked =
       steps = steps ∙ omega arith;
     }
 
+-- a refusal for rules that are too large stops the plan
+audit_stops : (categories max_words : ℕ) (lists : RuleLists) (status : Status) →
+    audit_of categories max_words lists ≡ Err status → is_large status ≡ true →
+    stops_large (audit_in categories max_words lists) ≡ true
+audit_stops categories max_words lists status said large = rw said large
+
 -- What an `audit` said of rules that are too large.
-record Large (max_words : ℕ) (lists : RuleLists) (file : Heard) (old new : List Heard) (reached : Reached Outcome)
-    (status : Status) : Type 0 where
+record Large (categories max_words : ℕ) (lists : RuleLists) (file : Heard) (old new : List Heard)
+    (reached : Reached Outcome) (status : Status) : Type 0 where
   is : IsAbove max_words lists status
+  stops : stops_large (audit_in categories max_words lists) ≡ true
   newest : new ≡ file ∷ old
   silent : (outcome_of reached).text ≡ []
 
 large_rules : (categories max_words : ℕ) (lists : RuleLists) (told : Option (List File)) (file : Heard)
     (old new : List Heard) (reached : Reached Outcome) (status : Status) → status ≡ (outcome_of reached).status →
     is_large status ≡ true → Follows told (audit_in categories max_words lists) (file ∷ old) new reached →
-    Large max_words lists file old new reached status
+    Large categories max_words lists file old new reached status
 large_rules categories max_words lists told file old new reached status is large follows =
     go (audit_of categories max_words lists) refl follows
   where
     go : (said : Result (List ℕ) Status) → audit_of categories max_words lists ≡ said →
         Follows told (unless_refused said >>= printing) (file ∷ old) new reached →
-        Large max_words lists file old new reached status
+        Large categories max_words lists file old new reached status
     go (Ok text) at rest =
         absurd (false≢true (sym (ap is_large (is ∙ ap (λ (r : Reached Outcome). (outcome_of r).status) (rest.1)))
         ∙ large))
@@ -185,6 +193,7 @@ large_rules categories max_words lists told file old new reached status is large
         sym (is ∙ ap (λ (r : Reached Outcome). (outcome_of r).status) (rest.1)) in
         record {
           is = said_above categories max_words lists status (at ∙ ap Err same);
+          stops = audit_stops categories max_words lists status (at ∙ ap Err same) large;
           newest = rest.0;
           silent = ap (λ (r : Reached Outcome). (outcome_of r).text) (rest.1);
         }
@@ -207,7 +216,9 @@ needs_more words old new family size budget asked =
     let most : budget ≡ max_words = ap budget_in l.is.says in
     let gains = ends.text (λ e. absurd (cc)) (λ e. absurd (cc)) in
     record {
-      heard = hears words asked.rules asked.options categories max_words old new ends.reached asked.is r l.newest;
+      heard = hears words asked.rules asked.options categories max_words old new ends.reached asked.is r l.newest
+          (whole_by stops_large RulesRefused (λ fault. refl) (audit_in categories max_words) r.file r.lists r.said
+          l.stops r.enough);
       given = most ∙ asked.said.max_words;
       some = subst (λ (f : Family). 0 < length (set_of f r.lists).rules) its l.is.some;
       above = subst (λ (n : ℕ). n < merged_words (set_of family r.lists)) (sym most)

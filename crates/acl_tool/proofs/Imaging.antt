@@ -1,17 +1,13 @@
 -- What `build` made and `replay` printed, by what was heard.
-use Rattle.std.proofs.Common.{◌≡◌, ◌⊎◌, ℕ, ◌+◌, ◌<◌, List, [], ◌∷◌, ◌++◌, Bool, true, false, Option, Some, None}
-use Rattle.std.proofs.Common.{Result, Ok, Err, inl, inr, refl, sym, ap, subst, ◌∙◌, append-nil, arith, length}
-use Rattle.std.proofs.Common.{length-append}
+use Rattle.std.proofs.Common.{◌≡◌, ◌⊎◌, ℕ, ◌+◌, List, [], ◌∷◌, ◌++◌, Bool, true, false, Option, Some, None}
+use Rattle.std.proofs.Common.{Result, Ok, Err, inl, inr, refl, sym, ap, subst, ◌∙◌, append-nil, arith}
 use Rattle.std.specs.Prelude.{codes, take}
-use Rattle.std.proofs.lemmas.Bool.{false≢true}
 use Rattle.field_defs.specs.declared.field.Family.TheVariants.{Ip4, Ip6}
 use Rattle.table_image.specs.declared.fault.ImageFault.{ImageFault}
 use Rattle.table_image.specs.Spelling.{PairView}
 use Rattle.table_image.specs.Reading.{image_of}
 use Rattle.acl_outside.specs.Desk.{File}
 use Rattle.acl_outside.specs.Heard.{Heard, Ended}
-use Rattle.classbench_reader.specs.declared.fault.LineFault.{LineFault}
-use Rattle.classbench_reader.specs.Limits.{max_rule_file}
 use Rattle.classbench_reader.specs.RuleFile.{RuleLists, rule_file_of}
 use Rattle.acl_context.specs.Context.{built_of}
 use Rattle.command_words.specs.declared.fault.UsageFault.{UsageFault}
@@ -32,7 +28,7 @@ use Rattle.capture_report.specs.CaptureOutcome.{lines_so_far, report, text_of_re
 use Rattle.capture_report.specs.Shown.{fault_of_capture, status_of_fault}
 use Rattle.capture_report.proofs.Offered.{report_bound}
 use Rattle.acl_tool.specs.FamilySet.{set_of}
-use Rattle.acl_tool.specs.RuleTables.{refused_rules, rules_of_bytes, tables_within}
+use Rattle.acl_tool.specs.RuleTables.{rules_of_bytes, tables_within}
 use Rattle.acl_tool.specs.Built.{tables_built}
 use Rattle.acl_tool.specs.BuildPlan.{build_plan, image_bytes, pair_of}
 use Rattle.acl_tool.specs.Effects.{Answers}
@@ -41,11 +37,11 @@ use Rattle.acl_tool.specs.ReplayPlan.{image_cap, refused_image, replay_plan, tab
 use Rattle.acl_tool.specs.Images.{BuildMakes, MakesImage, PrintsByImage, ReplayPrints}
 use Rattle.acl_tool.proofs.Asked.{no_usage}
 use Rattle.acl_tool.proofs.Building.{image_by}
-use Rattle.acl_tool.proofs.ReadOn.{accepted_rules, both_on, is_told, longer, read_on, told_test, unless_on, untold_rules}
+use Rattle.acl_tool.proofs.ReadOn.{accepted_rules, both_on, is_told, read_on, told_test, unless_on, untold_rules}
 use Rattle.acl_tool.proofs.Printing.{decided_fault, lawful_fault, report_status, report_text, report_transitions}
 use Rattle.acl_tool.proofs.Printing.{reported_status, same_fault, told_fault, unfull_fault, unwritten_fault}
 use Rattle.acl_tool.proofs.Replaying.{report_by}
-use Rattle.acl_tool.proofs.RuleFiles.{rule_file_of-long}
+use Rattle.acl_tool.proofs.WholeRules.{whole_by}
 
 -- what comes after the rules, and after the bytes of the rule file
 abbrev after_rules : List ℕ → ℕ → RuleLists → Plan Outcome
@@ -61,21 +57,13 @@ gives (Give value) = true
 gives (Stop status) = false
 gives (Read name shown next) = false
 
--- an accepted rule file was read to its end: with enough bytes more it would be too long
+-- an accepted rule file whose tables fit was read to its end
 whole_rules : (image : List ℕ) (max_words : ℕ) (file : Heard) (lists : RuleLists) (tables : Tables) →
     rules_of_bytes RulesRefused file.bytes ≡ Ok lists → tables_within max_words lists ≡ Give tables →
     IsEnough (after_bytes image max_words) file → file.ending ≡ Ended
-whole_rules image max_words file lists tables accepted within (inl ended) = ended
-whole_rules image max_words file lists tables accepted within (inr on) =
-    let (long, is_long) = longer max_rule_file in
-    let refused = rule_file_of-long (file.bytes ++ long) (omega (arith, length-append file.bytes long, is_long)) in
-    let stops : gives (after_bytes image max_words (file.bytes ++ long)) ≡ false =
-    ap (λ (r : Result RuleLists LineFault).
-    gives (unless_refused (refused_rules RulesRefused r) >>= after_rules image max_words)) refused in
-    let given : gives (after_bytes image max_words file.bytes) ≡ true =
-    ap (λ (r : Result RuleLists Status). gives (unless_refused r >>= after_rules image max_words)) accepted
-    ∙ ap (λ (plan : Plan Tables). gives (plan >>= image_by image)) within in
-    absurd (false≢true (sym stops ∙ ap gives ((on.1) long) ∙ given))
+whole_rules image max_words file lists tables accepted within =
+    whole_by gives RulesRefused (λ fault. refl) (after_rules image max_words) file lists accepted
+    (ap (λ (plan : Plan Tables). gives (plan >>= image_by image)) within)
 
 -- What a `build` that was done heard, and what it reached.
 record Imaged (rules image : List ℕ) (max_words : ℕ) (old new : List Heard) (reached : Reached Outcome) : Type 0 where

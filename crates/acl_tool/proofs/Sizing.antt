@@ -14,7 +14,7 @@ use Rattle.flat_table.specs.Table.{TableView, words_of}
 use Rattle.table_fill.specs.Filled.{filled, roots_of, nodes_len, table_of_tries}
 use Rattle.acl_context.specs.Context.{built_of}
 use Rattle.acl_outside.specs.Desk.{File}
-use Rattle.acl_outside.specs.Heard.{Heard}
+use Rattle.acl_outside.specs.Heard.{Heard, Ended}
 use Rattle.classbench_reader.specs.RuleFile.{RuleLists, rule_file_of}
 use Rattle.classbench_reader.specs.declared.fault.LineFault.{LineFault}
 use Rattle.pcap_reader.specs.declared.fault.CaptureFault.{CaptureFault}
@@ -26,7 +26,7 @@ use Rattle.command_words.specs.Command.{command}
 use Rattle.command_plan.specs.declared.status.Status.{Status}
 use Rattle.command_plan.specs.declared.status.Status.TheVariants.{OutOfMemory, RulesRefused, TooLarge}
 use Rattle.command_plan.specs.declared.status.Status.TheVariants.{WriteFault}
-use Rattle.command_plan.specs.Plan.{Outcome, Give, ◌>>=◌, nothing, unless_refused}
+use Rattle.command_plan.specs.Plan.{Outcome, Plan, Give, Stop, ◌>>=◌, nothing, unless_refused}
 use Rattle.command_plan.specs.Follow.{Reached, Stopped, Follows, outcome_of}
 use Rattle.command_plan.specs.Effects.{Outside, files_of, heard_of}
 use Rattle.capture_report.specs.Classifier.{ByRules, Tables}
@@ -44,6 +44,7 @@ use Rattle.acl_tool.specs.Sizes.{ClassifySizes, NeedsMore, TellsSizes, budget_gi
 use Rattle.acl_tool.proofs.Asked.{Asked, asked_words}
 use Rattle.acl_tool.proofs.ReadOn.{IsTest, accepted_rules, after_bytes, after_rules, read_on, unless_on}
 use Rattle.acl_tool.proofs.Printing.{ReportedBy, asked_of, heard_by, report_status, reported_by, text_same}
+use Rattle.acl_tool.proofs.WholeRules.{whole_by}
 
 -- a status of rules that are too large
 abbrev pub is_large : Status → Bool
@@ -52,6 +53,11 @@ is_large status = false
 
 pub large_test : IsTest is_large
 large_test = record { unread = refl; full = refl }
+
+-- a plan stops at rules that are too large
+abbrev pub stops_large : Plan Outcome → Bool
+stops_large (Stop status) = is_large status
+stops_large plan = false
 
 small_report : (fault : Option CaptureFault) → is_large (status_of_fault fault) ≡ false
 small_report None = refl
@@ -107,6 +113,7 @@ record Large (rules : List ℕ) (options : Options) (status : Status) (old new :
   pub lists : RuleLists
   pub family : Family
   pub newest : new ≡ rule_file ∷ old
+  pub whole : rule_file.ending ≡ Ended
   pub accepted : rule_file_of rule_file.bytes ≡ Ok lists
   pub says : status ≡ TooLarge family (total_of (set_of family lists) options.max_words) options.max_words
   pub above : options.max_words < total_of (set_of family lists) options.max_words
@@ -114,15 +121,18 @@ record Large (rules : List ℕ) (options : Options) (status : Status) (old new :
 
 large_tables : (rules capture : List ℕ) (options : Options) (status : Status) (told : Option (List File)) (file : Heard)
     (lists : RuleLists) (old new : List Heard) (reached : Reached Outcome) → file.name ≡ rules →
-    rule_file_of file.bytes ≡ Ok lists → status ≡ (outcome_of reached).status → is_large status ≡ true →
+    rule_file_of file.bytes ≡ Ok lists →
+    (stops_large (after_rules options capture lists) ≡ true → file.ending ≡ Ended) →
+    status ≡ (outcome_of reached).status → is_large status ≡ true →
     Follows told (after_rules options capture lists) (file ∷ old) new reached →
     Large rules options status old new reached
-large_tables rules capture options status told file lists old new reached named accepted is large follows =
+large_tables rules capture options status told file lists old new reached named accepted whole is large follows =
     go (table_within options.max_words Ip4 lists) (table_within options.max_words Ip6 lists) refl refl follows
   where
     stopped : (family : Family) (refusal : Status) → table_within options.max_words family lists ≡ Err refusal →
+        stops_large (after_rules options capture lists) ≡ is_large refusal →
         (new ≡ file ∷ old) × (reached ≡ Stopped refusal) → Large rules options status old new reached
-    stopped family refusal at rest =
+    stopped family refusal at stops rest =
         let all = table_large options.max_words family lists refusal at in
         record {
           rule_file = file;
@@ -130,6 +140,8 @@ large_tables rules capture options status told file lists old new reached named 
           lists = lists;
           family = family;
           newest = rest.0;
+          whole = whole
+              (stops ∙ ap is_large (sym (is ∙ ap (λ (r : Reached Outcome). (outcome_of r).status) (rest.1))) ∙ large);
           accepted = accepted;
           says = is ∙ ap (λ (r : Reached Outcome). (outcome_of r).status) (rest.1) ∙ all.0;
           above = all.1;
@@ -152,8 +164,8 @@ large_tables rules capture options status told file lists old new reached named 
         ∙ report_status form (capture_of second.file.bytes) in
         absurd (false≢true (sym (small_report (fault_of_capture (capture_of second.file.bytes)))
         ∙ ap is_large (sym ended) ∙ large))
-    go (Ok ip4) (Err refusal) at_ip4 at_ip6 rest = stopped Ip6 refusal at_ip6 rest
-    go (Err refusal) two at_ip4 at_ip6 rest = stopped Ip4 refusal at_ip4 rest
+    go (Ok ip4) (Err refusal) at_ip4 at_ip6 rest = stopped Ip6 refusal at_ip6 (rw (at_ip4, at_ip6) refl) rest
+    go (Err refusal) two at_ip4 at_ip6 rest = stopped Ip4 refusal at_ip4 (rw at_ip4 refl) rest
 
 pub small_rules : (result : Result RuleLists LineFault) (status : Status) →
     refused_rules RulesRefused result ≡ Err status → is_large status ≡ false
@@ -174,7 +186,9 @@ large_heard rules capture options status told old new reached is large follows =
     (first.file ∷ old) new reached first.rest passed
     (λ refusal e. small_rules (rule_file_of first.file.bytes) refusal e) in
     large_tables rules capture options status told first.file lists old new reached first.named
-    (accepted_rules (rule_file_of first.file.bytes) lists accepted) is large rest
+    (accepted_rules (rule_file_of first.file.bytes) lists accepted)
+    (λ stops. whole_by stops_large RulesRefused (λ fault. refl) (after_rules options capture) first.file lists accepted
+    stops first.enough) is large rest
 
 -- where sizes are asked for, the last lines are those of the tables and of the transitions
 asked_stats : (form : ReportForm) (transitions : ℕ) → form.stats ≡ true →
@@ -263,6 +277,7 @@ needs_more words old new family size budget asked =
           asked.is
           ∙ ap (λ (name : List ℕ). codes "classify" ∷ name ∷ asked.capture ∷ asked.options) (sym l.named);
       once = l.newest;
+      whole = l.whole;
       accepted = l.accepted;
       given = most ∙ asked.said.max_words;
       total = total;

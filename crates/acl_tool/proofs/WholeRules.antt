@@ -1,6 +1,6 @@
 -- An accepted rule file was read to its end, whatever comes after it.
 use Rattle.std.proofs.Common.{◌≡◌, ◌<◌, List, ℕ, ◌++◌, Bool, true, false, Result, Ok, Err, inl, inr, sym, ap, ◌∙◌, arith}
-use Rattle.std.proofs.Common.{length, length-append, ◌⊎◌, refl}
+use Rattle.std.proofs.Common.{length, length-append, not, ◌⊎◌, refl}
 use Rattle.std.proofs.lemmas.Bool.{false≢true}
 use Rattle.acl_outside.specs.Heard.{Heard, Ended}
 use Rattle.classbench_reader.specs.declared.fault.LineFault.{LineFault}
@@ -24,19 +24,28 @@ stops (Give value) = false
 stops (Stop status) = true
 stops (Read name shown next) = false
 
--- with enough bytes more the file would be too long, and the command would stop
+-- With enough bytes more the file would be too long, and the command would stop with that. So where it goes on in
+-- another way, as a test of plans tells, the file was read to its end.
+pub whole_by : (test : Plan Outcome → Bool) (refused : LineFault → Status) →
+    ((fault : LineFault) → test (Stop (refused fault)) ≡ false) → (f : RuleLists → Plan Outcome) (file : Heard)
+    (lists : RuleLists) → rules_of_bytes refused file.bytes ≡ Ok lists → test (f lists) ≡ true →
+    IsEnough (λ bytes. unless_refused (rules_of_bytes refused bytes) >>= f) file → file.ending ≡ Ended
+whole_by test refused fails f file lists accepted passes (inl ended) = ended
+whole_by test refused fails f file lists accepted passes (inr on) =
+    let (long, is_long) = longer max_rule_file in
+    let too_long = rule_file_of-long (file.bytes ++ long) (omega (arith, length-append file.bytes long, is_long)) in
+    let other : test (unless_refused (rules_of_bytes refused (file.bytes ++ long)) >>= f) ≡ false =
+    ap (λ (r : Result RuleLists LineFault). test (unless_refused (refused_rules refused r) >>= f)) too_long ∙ fails _ in
+    let this : test (unless_refused (rules_of_bytes refused file.bytes) >>= f) ≡ true =
+    ap (λ (r : Result RuleLists Status). test (unless_refused r >>= f)) accepted ∙ passes in
+    absurd (false≢true (sym other ∙ ap test ((on.1) long) ∙ this))
+
+-- the same where the command doesn't stop
 pub whole_file : (refused : LineFault → Status) (f : RuleLists → Plan Outcome) (file : Heard) (lists : RuleLists) →
     rules_of_bytes refused file.bytes ≡ Ok lists → stops (f lists) ≡ false →
     IsEnough (λ bytes. unless_refused (rules_of_bytes refused bytes) >>= f) file → file.ending ≡ Ended
-whole_file refused f file lists accepted goes_on (inl ended) = ended
-whole_file refused f file lists accepted goes_on (inr on) =
-    let (long, is_long) = longer max_rule_file in
-    let too_long = rule_file_of-long (file.bytes ++ long) (omega (arith, length-append file.bytes long, is_long)) in
-    let stopped : stops (unless_refused (rules_of_bytes refused (file.bytes ++ long)) >>= f) ≡ true =
-    ap (λ (r : Result RuleLists LineFault). stops (unless_refused (refused_rules refused r) >>= f)) too_long in
-    let going : stops (unless_refused (rules_of_bytes refused file.bytes) >>= f) ≡ false =
-    ap (λ (r : Result RuleLists Status). stops (unless_refused r >>= f)) accepted ∙ goes_on in
-    absurd (false≢true (sym going ∙ ap stops (sym ((on.1) long)) ∙ stopped))
+whole_file refused f file lists accepted goes_on =
+    whole_by (λ plan. not (stops plan)) refused (λ fault. refl) f file lists accepted (ap not goes_on)
 
 -- a rule file that is accepted has these rules, whatever a refused one is called
 pub accepted_by : (refused : LineFault → Status) (result : Result RuleLists LineFault) (lists : RuleLists) →

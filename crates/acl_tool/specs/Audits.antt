@@ -15,20 +15,20 @@ use Rattle.acl_tool.specs.Merged.{merged_words}
 use Rattle.acl_tool.specs.Sizes.{budget_given}
 
 -- The words of an `audit` name a file, and options may follow. The desk was asked for the file
--- once, and for nothing else. All of it was read, and its lines are the rules.
+-- once, and for nothing else. It was read to its end, and its lines are the rules.
 pub record HearsRules (words : List (List ℕ)) (old new : Outside) : Type 0 where
   pub rule_file : Heard
   pub options : List (List ℕ)
   pub rules : RuleLists
   pub named : words ≡ codes "audit" ∷ rule_file.name ∷ options
   pub once : heard_of new.desk ≡ rule_file ∷ heard_of old.desk
+  pub whole : rule_file.ending ≡ Ended
   pub accepted : rule_file_of rule_file.bytes ≡ Ok rules
 
 -- The output took the lines of the rules of both families: the categories in which each wins, with
 -- the least key at which it does, or that it never wins. No transition was taken.
 pub record PrintsAudit (words : List (List ℕ)) (old new : Outside) : Type 0 where
   pub heard : HearsRules words old new
-  pub whole : heard.rule_file.ending ≡ Ended
   pub taken : new.out.taken ≡ old.out.taken
       ++ audit_text (categories_shown heard.options) (set_of Ip4 heard.rules)
       (set_of Ip6 heard.rules)

@@ -7,7 +7,7 @@ use Rattle.field_defs.specs.declared.field.Family.{Family}
 use Rattle.field_defs.specs.declared.field.Family.TheVariants.{Ip4, Ip6}
 use Rattle.rule_split.specs.Split.{groups_of, total_of}
 use Rattle.classbench_reader.specs.RuleFile.{RuleLists, rule_file_of}
-use Rattle.acl_outside.specs.Heard.{Heard}
+use Rattle.acl_outside.specs.Heard.{Heard, Ended}
 use Rattle.acl_report.specs.Tables.{table_text, transitions_text}
 use Rattle.command_words.specs.Options.{usual_words}
 use Rattle.command_plan.specs.declared.status.Status.{Status}
@@ -49,6 +49,7 @@ pub record NeedsMore (words : List (List ℕ)) (family : Family) (size budget : 
   pub rules : RuleLists
   pub named : words ≡ codes "classify" ∷ rule_file.name ∷ capture ∷ options
   pub once : new ≡ rule_file ∷ old
+  pub whole : rule_file.ending ≡ Ended
   pub accepted : rule_file_of rule_file.bytes ≡ Ok rules
   pub given : budget ≡ budget_given options
   pub total : size ≡ total_of (set_of family rules) budget

@@ -1,6 +1,7 @@
 //! the words of the system → an exit code
 //!
-//! All of it is [`acl_tool::run_program`], which other programs here call with words of their own.
+//! All of it is [`acl_tool::run_program`]; `run_words` does the same of words that a program has
+//! itself.
 #![tactic(auto)]
 
 use acl_tool::run_program;
