@@ -11,6 +11,7 @@
 //! | `packet` | the line of a packet: its number, its class, and what each category says |
 //! | `counts` | how many packets of each class a capture has; the counts are kept here too |
 //! | `tables` | the size of a table, and the transitions that were taken |
+//! | `laws` | no line, but that counts grow record by record |
 //!
 //! The texts of the lines are defined in `specs/`, with examples beside them.
 #![tactic(auto)]

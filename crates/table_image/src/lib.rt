@@ -1,4 +1,14 @@
 //! Pairs of tables in, their image out; any bytes in, the pair or the first failing check out.
+//!
+//! An image is a header, the two tables of a pair one after the other, and nothing after them. It
+//! is read field by field: each part says what is first found wrong in it, with its place.
+//!
+//! - `pair`, `version`: pairs of tables, and the versions of an image
+//! - `saving`, `loading`: [`save`] and [`load`]
+//! - `fault`: why an image is refused
+//! - `table`, `counts`, `tries`, `words`, `rows`: one table of an image, and its parts in order
+//! - `field`, `list`: the fields of an image, and lists that grow while one is read or written
+//! - `laws`: a pair has one image in each version, and bytes without a failing check are an image
 #![tactic(auto)]
 
 mod counts;

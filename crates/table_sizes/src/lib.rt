@@ -10,6 +10,9 @@
 //! | full | six runs or more | 256, one for each byte value |
 //!
 //! After DPDK's `lib/acl`: `acl.h` names the nodes, `acl_gen.c` counts their words.
+//!
+//! - `sizes`: the sizes, and the words of a node
+//! - `laws`: each constant is the number that the definitions say
 #![tactic(auto)]
 
 pub mod laws;

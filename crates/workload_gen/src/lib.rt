@@ -9,6 +9,7 @@
 //! | `rule` | the rule that six words give |
 //! | `packet` | the packet that four words give, drawn freely or aimed at a rule; its key |
 //! | `workload` | the rules of a seed, and the keys one after the other |
+//! | `laws` | keys come one by one, and a packet that is aimed at a rule matches it |
 //!
 //! The workload is defined in `specs/` by the places of its words in the list of all words.
 #![tactic(auto)]
