@@ -93,8 +93,8 @@ impl ReadBuffer {
 }
 
 /// Reads once of the file into the beginning of the slice, and says how many bytes, 0 at the end of
-/// the file. A read that is interrupted is made again, and any other error is a failure. It takes no
-/// memory.
+/// the file. A read that is interrupted is made again, and any other error is a failure. It takes
+/// no memory.
 pub fn read_once<F: Read>(file: &mut F, into: &mut [u8]) -> Result<usize, Failed>
     ensures within { IfOk result (λ count. count ≤ length into.old) }
     ensures bytes { ReadConsumes (F.remaining file.old) (F.remaining file.new) result into.new }

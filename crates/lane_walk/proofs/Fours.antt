@@ -79,8 +79,8 @@ module _ {table : TableView} {keys : List ℕ} {jobs given : ℕ} where
   -- a lane goes on to its word
   one_goes : (flights : List Flight) {rows : List (List ℕ)} (lane : ℕ) →
       StandsOver table keys (seen jobs given flights) (length rows) → lane < length flights →
-      {flight : Flight} {word : ℕ} → get_or flights lane no_one ≡ flight → Goes table keys flight word → {next : Flight} →
-      next ≡ moved_to word (get_or flights lane no_one) →
+      {flight : Flight} {word : ℕ} → get_or flights lane no_one ≡ flight → Goes table keys flight word →
+      {next : Flight} → next ≡ moved_to word (get_or flights lane no_one) →
       StepsLanes table keys (seen jobs given flights) rows lane 1 (seen jobs given (set flights lane next))
       (rows_after table flight word rows) 1
   one_goes flights {rows = rows} lane stands there {flight = flight} {word = word} same g {next = next} next_is =

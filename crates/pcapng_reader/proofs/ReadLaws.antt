@@ -271,8 +271,8 @@ ReadsPart-failed state first before more fault old new is fits filled =
     (HasBroken-from state first before more fault old old new none filled))
 
 -- the same where no byte was there before
-pub ReadsPart-none : {E : Type 0} (state : BlockState) (before more : List ℕ) (result : Result ℕ E) (old new : DeskView) →
-    state.first ≡ [] → length more ≡ length before → Fills {E = E} before more old new result →
+pub ReadsPart-none : {E : Type 0} (state : BlockState) (before more : List ℕ) (result : Result ℕ E)
+    (old new : DeskView) → state.first ≡ [] → length more ≡ length before → Fills {E = E} before more old new result →
     ReadsPart {E = E} state more old new result
 ReadsPart-none {E} state before more (Ok count) old new is fits filled =
     let same : 0 + count ≡ count = omega arith in

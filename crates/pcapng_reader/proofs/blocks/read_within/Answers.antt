@@ -26,15 +26,16 @@ fits front buffer within room = omega (arith, within, room)
 
 pub read_short-requires-clause-front : goal.read_short-requires-clause-front
 read_short-requires-clause-front g c =
-    rw (same_front c.args.reader.now c.args.front.now c.args.buffer.now c.requires.front (fits c.args.front.now c.args.buffer.now c.requires.fits c.requires.room)) at
-    c.requires.front
+    rw (same_front c.args.reader.now c.args.front.now c.args.buffer.now c.requires.front
+    (fits c.args.front.now c.args.buffer.now c.requires.fits c.requires.room)) at c.requires.front
 
 pub returns-clause-block : goal.returns-clause-block
 returns-clause-block g c before h =
     let state = c.args.reader.now in
     let new = g.D.Desk.view c.read_short.new.desk in
     let total = c.args.front.now.total in
-    let same = same_front state c.args.front.now c.args.buffer.now c.requires.front (fits c.args.front.now c.args.buffer.now c.requires.fits c.requires.room) in
+    let same = same_front state c.args.front.now c.args.buffer.now c.requires.front
+    (fits c.args.front.now c.args.buffer.now c.requires.fits c.requires.room) in
     subst (λ b. ReadsBlock state before new b)
     (block_read-front c.read_short.new.reader c.read_short.new.block (drop total c.args.buffer.now) c.read_short.result
     (subst (λ n. StandsWithin n c.read_short.result) (sym c.read_short.auto.block) c.read_short.ensures.within))

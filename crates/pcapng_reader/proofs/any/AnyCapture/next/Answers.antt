@@ -10,6 +10,10 @@ returns-in-Blocks g c = (
 
 pub returns-in-Savefile : goal.returns-in-Savefile
 returns-in-Savefile g c = (
-  (refl, λ x. tt, rw (← c.self.view_is, c.in-Savefile.is) (rw c.in-Savefile.is at c.next_of_savefile.follows.holds-at-none)),
+  (
+    refl,
+    λ x. tt,
+    rw (← c.self.view_is, c.in-Savefile.is) (rw c.in-Savefile.is at c.next_of_savefile.follows.holds-at-none),
+  ),
   record { next = tt },
 )
