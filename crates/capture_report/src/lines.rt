@@ -1,6 +1,6 @@
 //! The lines of packets, one after the other, and those after them.
 
-ghost use Rattle.std.specs.Prelude.{◌≡◌, ◌+◌, ◌*◌, ◌≤◌, ◌++◌, [], length, take};
+ghost use Rattle.std.specs.Prelude.{◌≡◌, ◌+◌, ◌*◌, ◌≤◌, ◌++◌, [], drop, length, take};
 ghost use Rattle.acl_report.specs.declared.line.TheConstants.{LINE_ROOM};
 ghost use Rattle.acl_report.specs.declared.packet.TheConstants.{MAX_VERDICTS};
 ghost use Rattle.acl_report.specs.Packet.{packet_text};
@@ -45,29 +45,37 @@ pub fn write_lines(
 {
     let count = form.categories().count();
     let mut number = LineNumber::new(counts.packets + 1);
-    let mut end = 0;
+    let mut at = 0;
     for packet in packets {
         // Each class has a call of its own, in which what depends on the class is settled.
         let class = packet.class();
         counts.add(class);
-        match class {
+        at = match class {
             Class::Ip4 => {
-                let (verdicts, rest) = ip4.split_at(count);
-                ip4 = rest;
-                end = write_line(form, packet, class, verdicts, &number, lines, end);
+                let verdicts = take_front(&mut ip4, count);
+                write_line(form, packet, class, verdicts, &number, lines, at)
             }
             Class::Ip6 => {
-                let (verdicts, rest) = ip6.split_at(count);
-                ip6 = rest;
-                end = write_line(form, packet, class, verdicts, &number, lines, end);
+                let verdicts = take_front(&mut ip6, count);
+                write_line(form, packet, class, verdicts, &number, lines, at)
             }
-            Class::Other | Class::Short => {
-                end = write_line(form, packet, class, &[], &number, lines, end)
-            }
-        }
+            Class::Other | Class::Short => write_line(form, packet, class, &[], &number, lines, at),
+        };
         number.advance();
     }
-    end
+    at
+}
+
+/// Takes the verdicts on a packet off the front of those that are left.
+#[inline(always)]
+fn take_front<'a>(left: &mut &'a [u32], count: usize) -> &'a [u32]
+    requires { count ≤ length left.old.now }
+    ensures front { result.now ≡ take count left.old.now }
+    ensures rest { left.new.now ≡ drop count left.old.now }
+{
+    let (front, rest) = left.split_at(count);
+    *left = rest;
+    front
 }
 
 /// Writes the line of a packet of the class and this number at the place `at`, and gives the place

@@ -20,25 +20,25 @@ loop-packet-preserved c =
     drop_more packets l.packet-index p (omega (arith, c.loop-packet-test.true))
     ∙ ap (λ x. x ∷ rest) (sym c.packet-item.is) in
     let so_far = subst (λ (left : List FrameClass). Written form was l.counts packets left l.ip4.now l.ip6.now
-    l.number l.end size l.lines) first l.invariant in
+    l.number l.at size l.lines) first l.invariant in
     let is_class = c.class-class.ensures in
     let is_now : c.add.new.self ≡ counted p.class l.counts = c.add.ensures
     ∙ ap (λ class. counted class l.counts) is_class in
     let is_count : c.count-count.result ≡ form.categories = c.count-count.ensures.value ∙ c.categories.ensures in
     elim c.match-class.branch [
       | in-Ip4 w ↦
-          let line = w.write_line-end.ensures in
-          Written-next so_far is_now c.advance.ensures w.end-is w.lines-is line.end line.lines line.len
+          let line = w.write_line-at.ensures in
+          Written-next so_far is_now c.advance.ensures w.at-is w.lines-is line.end line.lines line.len
           (answered_ip4 so_far.answered (sym is_class ∙ w.in-Ip4.is) is_count
-          (ap (λ ip4. ip4.now) w.ip4-is ∙ w.split_at.ensures.back) (ap (λ ip6. ip6.now) w.ip6-is))
+          (ap (λ ip4. ip4.now) w.ip4-is ∙ w.take_front-verdicts.ensures.rest) (ap (λ ip6. ip6.now) w.ip6-is))
       | in-Ip6 w ↦
-          let line = w.write_line-end-in-Ip6.ensures in
-          Written-next so_far is_now c.advance.ensures w.end-is w.lines-is line.end line.lines line.len
+          let line = w.write_line-at-in-Ip6.ensures in
+          Written-next so_far is_now c.advance.ensures w.at-is w.lines-is line.end line.lines line.len
           (answered_ip6 so_far.answered (sym is_class ∙ w.in-Ip6.is) is_count (ap (λ ip4. ip4.now) w.ip4-is)
-          (ap (λ ip6. ip6.now) w.ip6-is ∙ w.split_at-in-Ip6.ensures.back))
+          (ap (λ ip6. ip6.now) w.ip6-is ∙ w.take_front-verdicts-in-Ip6.ensures.rest))
       | in-Other w ↦
-          let line = w.write_line-end-in-Other.ensures in
-          Written-next so_far is_now c.advance.ensures w.end-is w.lines-is line.end line.lines line.len
+          let line = w.write_line-at-in-Other.ensures in
+          Written-next so_far is_now c.advance.ensures w.at-is w.lines-is line.end line.lines line.len
           (answered_none so_far.answered is_class w.in-Other.is (ap (λ ip4. ip4.now) w.ip4-is)
           (ap (λ ip6. ip6.now) w.ip6-is))
     ]
