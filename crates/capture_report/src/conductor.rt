@@ -80,25 +80,9 @@ fn put_lines<O: Sink, L: Ledger>(
     ensures steps { steps.new ≡ steps.old + transitions_of_packets form.now.tables room.old }
 {
     let packets = room.packets.as_slice();
-    let (keys, scratch) = (&mut room.keys, &mut room.scratch);
-    let ip4 = walk_keys(
-        form,
-        Family::Ip4,
-        packets,
-        keys,
-        scratch,
-        &mut room.ip4,
-        steps,
-    );
-    let ip6 = walk_keys(
-        form,
-        Family::Ip6,
-        packets,
-        keys,
-        scratch,
-        &mut room.ip6,
-        steps,
-    );
+    let (keys, rows) = (&mut room.keys, &mut room.scratch);
+    let ip4 = walk_keys(form, Family::Ip4, packets, keys, rows, &mut room.ip4, steps);
+    let ip6 = walk_keys(form, Family::Ip6, packets, keys, rows, &mut room.ip6, steps);
     *transitions += ip4.transitions + ip6.transitions;
     let len = write_lines(
         form,
