@@ -15,7 +15,7 @@ use Rattle.node_expand.specs.declared.edge.Edge.{Edge}
 use Rattle.node_expand.specs.declared.edge.Edge.TheVariants.{Free}
 use Rattle.node_expand.specs.Rest.{Interval, part, mask_low, mask_high, rest_step}
 use Rattle.node_expand.specs.Edges.{edge_of, edge_after, edge_step, same_edge, is_change, is_cut, is_bitmask, AreEnds}
-use Rattle.node_expand.specs.Edges.{AnswersWithin, AnswersAlike}
+use Rattle.node_expand.specs.Edges.{AnswersWithin}
 use Rattle.node_expand.specs.Laws.{WildValuesStayFree, FreeEdgesStayFree}
 use Rattle.node_expand.proofs.Parts.{part_some}
 use Rattle.node_expand.proofs.Ranges.{closing, range_rest}
@@ -155,14 +155,3 @@ pub all_left_within : (value : FieldValue) (size place : ℕ) (edge : Edge) →
     place < size → AnswersWithin (edge_step value size place edge) 0 255
 all_left_within value size place edge all begun byte above below =
     rw (all_left_step value size place byte edge all begun (omega arith)) refl
-
--- and all bytes have one answer
-pub all_left_alike : (value : FieldValue) (size place byte : ℕ) (edge : Edge) →
-    (same_edge edge Free && not (is_bitmask value)) ≡ true →
-    place < size → byte < 256 → AnswersAlike (edge_step value size place edge) byte 255
-all_left_alike value size place byte edge all begun below = record {
-  ordered = omega arith;
-  alike = λ other above at_most. all_left_step value size place other edge all begun (omega arith)
-      ∙ sym (all_left_step value size place byte edge all begun below);
-  change = λ more. absurd (omega (arith, more));
-}

@@ -19,4 +19,5 @@ pub use Rattle.node_expand.proofs.Standing.{range_start, mask_start, bitmask_sta
 -- all_left_step: where neither end of what is left is inner, each byte leaves all numbers again
 pub use Rattle.node_expand.proofs.Free.{wild_stays_free, all_left_step}
 -- cuts_are_changes: a byte is a cut exactly where it answers otherwise than the byte before it
-pub use Rattle.node_expand.proofs.Changes.{cuts_are_changes}
+-- stays_alike: answers that are alike stay so for what answers each byte the same
+pub use Rattle.node_expand.proofs.Changes.{cuts_are_changes, stays_alike}

@@ -9,9 +9,11 @@ ghost use Rattle.node_expand.specs.Allowed.{answer_of};
 use crate::edge::Edge;
 use field_defs::FieldValue;
 
-/// The bytes that a value allows at a place.
+/// The bytes that a value allows at one place of a field, at an edge, and what each of them leaves.
+///
+/// It is made once and asked of many bytes. It takes no memory.
 #[derive(Clone, Copy)]
-pub(crate) enum Allowed {
+pub enum Allowed {
     /// The bytes from `low` to `high`. The lower end stays inner after `low` alone, and there only
     /// where `low_inner` says so; the upper end goes likewise.
     Between {
@@ -37,8 +39,11 @@ impl Allowed {
 
     /// The bytes that the value allows at the place, which counts from 0 at the most significant
     /// byte.
+    ///
+    /// The value, the size, the place and the edge are as for [`crate::step_edge`]. It refuses
+    /// nothing. Source: DPDK Programmer's Guide, ACL field types.
     #[inline]
-    pub(crate) fn new(value: &FieldValue, size: u8, place: u8, edge: Edge) -> Self
+    pub fn new(value: &FieldValue, size: u8, place: u8, edge: Edge) -> Self
         requires value { CanMatch value.now size }
         requires place { place < size }
         requires edge { StandsBefore value.now size place edge }
@@ -87,7 +92,7 @@ impl Allowed {
     /// The edge after the byte, or none where it isn't allowed.
     #[tactic(auto, unfolding(crate::specs::Allowed::answer_of))]
     #[inline]
-    pub(crate) fn edge_at(self, byte: u8) -> Option<Edge>
+    pub fn edge_at(self, byte: u8) -> Option<Edge>
         ensures { result ≡ answer_of self byte }
     {
         match self {
@@ -126,9 +131,10 @@ impl Allowed {
         }
     }
 
-    /// The last byte up to which the answer stays that at the byte.
+    /// The last byte up to which the answer stays that at the byte: the one before the next change,
+    /// and 255 where there is none. Some byte is allowed.
     #[inline]
-    pub(crate) fn last_alike(self, byte: u8) -> u8
+    pub fn last_alike(self, byte: u8) -> u8
         requires { IsFilled self }
         ensures { AnswersAlike (answer_of self) byte result }
     {

@@ -8,7 +8,7 @@ ghost use Rattle.field_defs.specs.FieldMatch.{CanMatch, is_range_filled, is_wild
 ghost use Rattle.node_expand.specs.Rest.{Interval, as_range, rest_after, rest_step};
 ghost use Rattle.node_expand.specs.Edges.{edge_of, rest_of, edge_after, edge_step, is_cut};
 ghost use Rattle.node_expand.specs.Edges.{is_bitmask, same_edge, StandsBefore, AreEnds};
-ghost use Rattle.node_expand.specs.Edges.{AnswersWithin, AnswersAlike};
+ghost use Rattle.node_expand.specs.Edges.{AnswersWithin};
 
 use crate::allowed::{Allowed, mask_ends, ones};
 use crate::edge::Edge;
@@ -94,25 +94,6 @@ pub fn cuts(value: &FieldValue, size: u8, place: u8, edge: Edge, marks: &mut [bo
         return;
     }
     Allowed::new(value, size, place, edge).mark_cuts(marks);
-}
-
-/// The last byte up to which [`step_edge`] answers as it does at `byte`: the one before the next
-/// cut, and 255 where there is none.
-///
-/// It refuses nothing and takes no memory. The value, the size, the place and the edge are as for
-/// [`step_edge`]. Source: DPDK Programmer's Guide, ACL field types.
-#[inline]
-pub fn last_alike(value: &FieldValue, size: u8, place: u8, edge: Edge, byte: u8) -> u8
-    requires value { CanMatch value.now size }
-    requires place { place < size }
-    requires edge { StandsBefore value.now size place edge }
-
-    ensures { AnswersAlike (edge_step value.now size place edge) byte result }
-{
-    if leaves_all(value, edge) {
-        return u8::MAX;
-    }
-    Allowed::new(value, size, place, edge).last_alike(byte)
 }
 
 /// The first and the last byte after which [`step_edge`] answers an edge.

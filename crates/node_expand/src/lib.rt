@@ -18,5 +18,6 @@ mod edge;
 mod expand;
 pub mod laws;
 
+pub use allowed::Allowed;
 pub use edge::Edge;
-pub use expand::{as_range, cuts, first_and_last, last_alike, start_edge, step_edge};
+pub use expand::{as_range, cuts, first_and_last, start_edge, step_edge};

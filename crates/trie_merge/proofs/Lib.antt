@@ -20,6 +20,7 @@ pub mod Offered
 pub mod Leads
 pub mod StateNumbers
 pub mod Arranged
+pub mod Asking
 pub mod RowNumbers
 pub mod Zipped
 pub mod Rising

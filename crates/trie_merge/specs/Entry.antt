@@ -1,7 +1,7 @@
 -- How a state is kept: for each of its rules one number, which holds the rule's number and the edge
 -- of its rest. Before the first byte of a field the rule's value says the rest, so the edge kept
 -- there is the one after a whole field.
-use Rattle.std.specs.Prelude.{◌≡◌, ℕ, ◌+◌, ◌-◌, ◌*◌, ◌/◌, ◌%◌, ◌<◌, ◌≤◌, ◌==◌, List, [], ◌∷◌, length, map, true}
+use Rattle.std.specs.Prelude.{◌≡◌, ℕ, ◌+◌, ◌-◌, ◌*◌, ◌/◌, ◌%◌, ◌^◌, ◌<◌, ◌≤◌, ◌==◌, List, [], ◌∷◌, length, map, true}
 use Rattle.std.specs.Prelude.{slice_index_or, nat_lt, Bool, not, ◌||◌, ◌&&◌, IsTrue, Option}
 use Rattle.std.specs.Prelude.{if◌then◌else◌}
 use Rattle.std.specs.List.{filter_map}
@@ -13,8 +13,10 @@ use Rattle.field_defs.specs.FieldMatch.{CanMatch, is_range_filled, is_wild}
 use Rattle.rule_set.specs.Rule.{RuleSetView}
 use Rattle.node_expand.specs.declared.edge.Edge.{Edge}
 use Rattle.node_expand.specs.declared.edge.Edge.TheVariants.{Free, Low, High, Both}
+use Rattle.node_expand.specs.Allowed.{answer_of, IsFilled}
 use Rattle.node_expand.specs.Edges.{edge_after, edge_step, is_cut, is_bitmask}
 use Rattle.node_expand.specs.Edges.{StandsBefore}
+use Rattle.trie_merge.specs.declared.column.Asked.{Asked}
 
 -- how many edges there are
 abbrev pub edge_count : ℕ
@@ -89,6 +91,16 @@ pub record CanStep (column : ColumnView) (entry : ℕ) : Type 0 where
   pub filled : IsTrue (is_range_filled (value_in column entry))
   pub stands : StandsBefore (value_in column entry) column.size column.place
       (edge_before column entry)
+
+-- What is asked about bytes at the place is the entry: the bytes that are allowed answer as its rule's
+-- value does.
+pub record IsAsked (column : ColumnView) (entry : ℕ) (asked : Asked) : Type 0 where
+  pub number : asked.number ≡ number_in entry
+  pub few : asked.number < 2 ^ 30
+  pub filled : IsFilled asked.allowed
+  pub answers : (byte : ℕ) → byte < 256 →
+      answer_of asked.allowed byte
+      ≡ edge_step (value_in column entry) column.size column.place (edge_before column entry) byte
 
 -- The bytes from the one to the other make the same of the entry, and the byte after them is a cut.
 pub record StepsAlike (column : ColumnView) (entry first last : ℕ) : Type 0 where

@@ -7,7 +7,7 @@ ghost use Rattle.trie_merge.specs.Entry.{field_at, stays_free};
 
 use crate::entry::{edge_in, entry_of, is_free, number_in};
 use field_defs::{FieldDef, FieldKind, FieldValue, is_wild};
-use node_expand::{Edge, last_alike, start_edge, step_edge};
+use node_expand::{Allowed, Edge, start_edge};
 use rule_set::RuleSet;
 use std::alloc::{AllocError, Global};
 use std::marker::Model;
@@ -74,7 +74,7 @@ impl Column {
     ghost use Rattle.std.specs.Prelude.{slice_index_or, IfOk};
     ghost use Rattle.field_defs.specs.Layout.{key_len_of};
     ghost use Rattle.trie_merge.specs.Entry.{column_at, number_in, value_in, edge_before};
-    ghost use Rattle.trie_merge.specs.Entry.{entry_step, is_entry_cut, CanStep, StepsAlike};
+    ghost use Rattle.trie_merge.specs.Entry.{entry_step, is_entry_cut, CanStep, IsAsked};
 
     /// What the place of the key has of each rule.
     ///
@@ -118,17 +118,17 @@ impl Column {
         }
     }
 
-    /// The entry after the byte, or none where its rule has no rest.
-    #[tactic(auto, unfolding(crate::specs::Entry::entry_step))]
+    /// What the place leaves of the entry, to be asked byte by byte.
     #[inline]
-    pub(crate) fn step(&self, entry: u32, byte: u8) -> Option<u32>
+    pub(crate) fn ask(&self, entry: u32) -> Asked
         requires { CanStep self.now entry }
-        ensures { result ≡ entry_step self.now entry byte }
+        ensures { IsAsked self.now entry result }
     {
-        let number = number_in(entry);
         let edge = self.edge_before(entry);
-        let after = step_edge(self.value(entry), self.size, self.place, edge, byte)?;
-        Some(entry_of(number, after))
+        Asked {
+            number: number_in(entry),
+            allowed: Allowed::new(self.value(entry), self.size, self.place, edge),
+        }
     }
 
     /// Whether every byte leaves the entry as it is. Where it says no, some may do so, too.
@@ -141,15 +141,40 @@ impl Column {
     {
         is_free(entry) && stays_free(self.value(entry), self.size, self.place)
     }
+}
+
+/// An entry, and the bytes that its rule's value allows at a place, which are worked out once.
+#[derive(Clone, Copy)]
+pub(crate) struct Asked {
+    number: u32,
+    allowed: Allowed,
+}
+
+impl Asked {
+    ghost use Rattle.std.specs.Prelude.{◌≡◌, ℕ, ◌<◌, ◌≤◌, ◌^◌};
+    ghost use Rattle.node_expand.specs.Allowed.{IsFilled};
+    ghost use Rattle.trie_merge.specs.Entry.{ColumnView, IsAsked, StepsAlike, entry_step};
+
+    /// The entry after the byte, or none where its rule has no rest.
+    #[inline]
+    pub(crate) fn step(self, byte: u8) -> Option<u32>
+        requires { self.number < 2 ^ 30 }
+        ensures { (column : ColumnView) (entry : ℕ) → IsAsked column entry self →
+            result ≡ entry_step column entry byte }
+    {
+        let after = self.allowed.edge_at(byte)?;
+        Some(entry_of(self.number, after))
+    }
 
     /// The last byte up to which the entry becomes what it becomes after the byte: the one before
     /// the next cut, or 255.
     #[inline]
-    pub(crate) fn last_alike(&self, entry: u32, byte: u8) -> u8
-        requires { CanStep self.now entry }
-        ensures { StepsAlike self.now entry byte result }
+    pub(crate) fn last_alike(self, byte: u8) -> u8
+        requires { IsFilled self.allowed }
+        ensures alike { (column : ColumnView) (entry : ℕ) → IsAsked column entry self →
+            StepsAlike column entry byte result }
+        ensures ordered { byte ≤ result }
     {
-        let edge = self.edge_before(entry);
-        last_alike(self.value(entry), self.size, self.place, edge, byte)
+        self.allowed.last_alike(byte)
     }
 }

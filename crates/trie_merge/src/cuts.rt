@@ -120,9 +120,10 @@ fn cuts_of_entry(column: &Column, entry: u32) -> Cuts
     if column.keeps(entry) {
         return cuts;
     }
+    let asked = column.ask(entry);
     let mut first = 0usize;
     while first < 256 {
-        let last = column.last_alike(entry, first as u8);
+        let last = asked.last_alike(first as u8);
         cuts = add_after(cuts, last);
         first = usize::from(last) + 1;
     }

@@ -37,11 +37,12 @@ fn lead_entry(
         (EntryLed column.now entry target.old target.new pieces.new.items) }
 {
     pieces.clear();
+    let asked = column.ask(entry);
     let mut first = 0usize;
     while first < 256 {
         let byte = first as u8;
-        let last = column.last_alike(entry, byte);
-        let to = number_of(target, column.step(entry, byte))?;
+        let last = asked.last_alike(byte);
+        let to = number_of(target, asked.step(byte))?;
         push_piece(pieces, last, to)?;
         first = usize::from(last) + 1;
     }

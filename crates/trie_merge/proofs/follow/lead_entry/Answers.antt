@@ -15,15 +15,17 @@ loop-first-preserved c =
     let entry = c.args.entry in
     let new = c.number_of.new.target in
     let pieces = c.push_piece.new.pieces.items in
+    let step = c.step.ensures column entry c.ask-asked.ensures in
     subst (λ n. EntrySoFar column entry c.args.target.now new pieces (n + 1)) (sym c.from-first.ensures)
     (more_bytes column entry c.args.target.now l.target l.pieces.items l.first l.invariant new pieces
-    c.last_alike-last.result c.in_ok-to.to c.loop-first-test.true c.last_alike-last.type_inv c.last_alike-last.ensures
+    c.last_alike-last.result c.in_ok-to.to c.loop-first-test.true c.last_alike-last.type_inv
+    (c.last_alike-last.ensures.alike column entry c.ask-asked.ensures)
     c.in_ok-to.ensures.grows
     (λ other has. elim (c.in_ok-to.ensures.entries other has) [
       | inl before ↦ inl before
-      | inr is ↦ inr (sym c.step.ensures ∙ is)
+      | inr is ↦ inr (sym step ∙ is)
     ])
-    (subst (λ found. IsFoundIn new found c.in_ok-to.to) c.step.ensures c.in_ok-to.ensures.number)
+    (subst (λ found. IsFoundIn new found c.in_ok-to.to) step c.in_ok-to.ensures.number)
     c.in_ok-to.ensures.within c.in_ok-push_piece.ensures)
 
 pub returns : goal.returns
