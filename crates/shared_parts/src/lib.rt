@@ -13,6 +13,7 @@
 //! - `target`: what bytes lead to, numbered parts or numbered rows.
 //! - `pieces`: where each byte leads from a part, and the merge of two parts' pieces.
 //! - `steps`, `slices`: the pieces of many parts, in one list with the ends of each.
+//! - `room`: numbers that run out.
 #![tactic(auto)]
 
 mod parts;

@@ -31,16 +31,6 @@ impl Parts {
     ghost use Rattle.shared_parts.specs.Tree.{Joins};
     ghost use Rattle.shared_parts.specs.Joined.{IsAll};
 
-    /// No parts.
-    pub fn new(alloc: Global) -> Self
-        ensures { result ≡ [] }
-    {
-        Parts {
-            alloc,
-            pairs: IndexSet::new(alloc),
-        }
-    }
-
     /// No parts, with room for so many. It takes the memory of that room.
     pub fn with_room(alloc: Global, count: usize) -> Result<Self, AllocError>
         ensures { IfOk result (λ parts. parts ≡ []) }
@@ -73,7 +63,7 @@ impl Parts {
     }
 
     /// The number of the part of the pair. It takes memory where the part is new.
-    #[inline(always)]
+    #[inline(never)]
     fn number(&mut self, pair: (u32, u32)) -> Result<u32, AllocError>
         requires { 0 < pair.0 →
             (pair.0 ≤ length self.old) × (0 < pair.1) × (pair.1 ≤ length self.old) }
@@ -101,6 +91,7 @@ impl Parts {
 
     /// The number of two parts together, of which each may be 0 for nothing. It takes memory where
     /// their pair is new.
+    #[inline(always)]
     pub fn join(&mut self, left: u32, right: u32) -> Result<u32, AllocError>
         requires left { left ≤ length self.old }
         requires right { right ≤ length self.old }

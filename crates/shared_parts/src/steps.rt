@@ -26,16 +26,17 @@ impl Model for Steps {
 }
 
 impl Steps {
-    ghost use Rattle.std.specs.Prelude.{◌≡◌, ◌<◌, ◌++◌, ◌∷◌, [], length, slice_index_or, OnOk};
+    ghost use Rattle.std.specs.Prelude.{◌≡◌, ◌<◌, ◌++◌, ◌∷◌, [], length, slice_index_or};
+    ghost use Rattle.std.specs.Prelude.{OnOk, IfOk};
 
-    /// Of no parts.
-    pub fn new(alloc: Global) -> Self
-        ensures { result ≡ [] }
+    /// Of no parts, with room for so many of one piece each. It takes the memory of that room.
+    pub fn with_room(alloc: Global, count: usize) -> Result<Self, AllocError>
+        ensures { IfOk result (λ steps. steps ≡ []) }
     {
-        Steps {
-            pieces: Vec::new(alloc),
-            ends: Vec::new(alloc),
-        }
+        Ok(Steps {
+            pieces: Vec::with_capacity(alloc, count)?,
+            ends: Vec::with_capacity(alloc, count)?,
+        })
     }
 
     /// Of how many parts.

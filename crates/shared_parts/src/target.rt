@@ -34,6 +34,7 @@ impl Target {
 
     /// The number of two together, of which each may be 0. It takes memory where what is numbered
     /// is new.
+    #[inline(always)]
     pub fn join(&mut self, left: u32, right: u32) -> Result<u32, AllocError>
         requires left { left ≤ count self.old }
         requires right { right ≤ count self.old }

@@ -28,7 +28,7 @@ use table_sizes::{ROW_LEN, node_len};
 
 /// For how many parts, and for how many numbers of states, there is room from the start at most. A
 /// place mostly has about as many as the one before it.
-pub(crate) const FIRST_ROOM: usize = 4096;
+pub(crate) const FIRST_ROOM: usize = 65_536;
 
 /// The words of a state with so many runs.
 fn cost_of(count: usize) -> u64
@@ -290,15 +290,21 @@ struct Progress {
 impl Progress {
     ghost use Rattle.trie_merge.specs.Merged.{IsFirst};
 
-    /// Before the first state, with room for so many numbers of what the states lead to.
-    fn new(alloc: Global, target: Target, before: u64, room: usize) -> Result<Self, AllocError>
+    /// Before the first of so many states, which are made of so many parts.
+    fn new(
+        alloc: Global,
+        target: Target,
+        before: u64,
+        states: usize,
+        parts: usize,
+    ) -> Result<Self, AllocError>
         ensures { IfOk result (IsFirst target before) }
     {
-        let found = IndexSet::with_capacity(alloc, room)?;
+        let found = IndexSet::with_capacity(alloc, states.min(FIRST_ROOM))?;
         Ok(Progress {
             work: Work {
-                steps: Steps::new(alloc),
-                cuts: Vec::new(alloc),
+                steps: Steps::with_room(alloc, parts)?,
+                cuts: Vec::with_capacity(alloc, parts.min(FIRST_ROOM))?,
                 buffer: Vec::new(alloc),
             },
             merged: Merged {
@@ -399,8 +405,7 @@ pub(crate) fn merge_states(
     ensures over { (result ≡ Err MergeFault.OverCap) →
         AreOver place.now budget parts.now states.now target }
 {
-    let room = states.len().min(FIRST_ROOM);
-    let mut progress = Progress::new(alloc, target, budget.before, room)?;
+    let mut progress = Progress::new(alloc, target, budget.before, states.len(), parts.len())?;
     match merge_all(place, budget, parts, states, &mut progress) {
         Ok(()) => Ok(progress.merged),
         Err(fault) => Err(fault),
