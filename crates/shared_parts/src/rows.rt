@@ -94,6 +94,13 @@ impl Rows {
         }
     }
 
+    /// What decides about each rule.
+    pub fn ranked(&self) -> &[Ranked]
+        ensures { result.now ≡ self.now.ranked }
+    {
+        self.ranked.as_slice()
+    }
+
     /// How many rows there are.
     pub fn len(&self) -> usize
         ensures { result ≡ length self.now.rows }

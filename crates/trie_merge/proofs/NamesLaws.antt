@@ -8,7 +8,8 @@ use Rattle.std.proofs.lemmas.Option.{get_or_from_slice_get}
 use Rattle.rule_set.specs.Rule.{RuleView, RuleSetView}
 use Rattle.rule_set.specs.Rank.{rank_of, ranks_of}
 use Rattle.rule_set.specs.Laws.{RanksOrderRules}
-use Rattle.trie_merge.specs.Names.{no_rule, ranked_at}
+use Rattle.shared_parts.specs.declared.rows.Ranked.{Ranked}
+use Rattle.trie_merge.specs.Names.{no_rule, ranked_at, ranked_of}
 
 pub length-ranks : (rules : List RuleView) → length (ranks_of rules) ≡ length rules
 unfolding ranks_of
@@ -19,6 +20,20 @@ pub rank_at : (rules : List RuleView) (number d : ℕ) → number < length rules
 unfolding ranks_of
 rank_at rules number d within =
     get_or-map-range_with_len (rank_of rules) 0 (length rules) number number d within (omega arith)
+
+pub length-ranked : (set : RuleSetView) → length (ranked_of set) ≡ length set.rules
+unfolding ranked_of
+length-ranked set = length-map-range_with_len (ranked_at set) 0 (length set.rules)
+
+pub rank_told : (set : RuleSetView) (ranked : List Ranked) (number rank : ℕ) → ranked ≡ ranked_of set
+    → number < length set.rules → rank ≡ (get_or ranked number (record { mask = 0; rank = 0 })).rank
+    → rank ≡ rank_of set.rules number
+unfolding ranked_of
+rank_told set ranked number rank is within told =
+    told ∙ ap (λ (rs : List Ranked). (get_or rs number (record { mask = 0; rank = 0 })).rank) is
+    ∙ ap (λ (r : Ranked). r.rank)
+    (get_or-map-range_with_len (ranked_at set) 0 (length set.rules) number number (record { mask = 0; rank = 0 }) within
+    (omega arith))
 
 -- what decides about a rule that is there
 pub ranked_is : (its : RuleSetView) (number mask rank : ℕ) (rule : RuleView) → slice_get its.rules number ≡ Some rule

@@ -1,7 +1,7 @@
 -- All kept places of a group, one after the other.
 use Rattle.std.proofs.Common.{◌≡◌, ℕ, ◌+◌, ◌<◌, ◌≤◌, ◌==◌, List, [], ◌∷◌, ◌++◌, length, map, get_or, true, false}
 use Rattle.std.proofs.Common.{Bool, cond, true≢false, Option, Some, None, refl, sym, ◌∙◌, ap, subst, inl, inr, arith}
-use Rattle.std.specs.Prelude.{All}
+use Rattle.std.specs.Prelude.{All, IfSome, nat_lt, if◌then◌else◌}
 use Rattle.std.specs.List.{AllByRecursion}
 use Rattle.std.proofs.lemmas.Bool.{cases_lt, eq-eqb, ne_eqb, lt-ltb, le-ltb, ltb-true}
 use Rattle.node_expand.specs.declared.edge.Edge.TheVariants.{Free}
@@ -21,10 +21,11 @@ use Rattle.trie_merge.specs.Led.{AllLed, ComesFrom}
 use Rattle.trie_merge.specs.Levels.{levels_of}
 use Rattle.trie_merge.specs.Lists.{level_found, least_words, IsMergedWithin}
 use Rattle.trie_merge.specs.Merged.{PlaceMerged}
+use Rattle.trie_merge.specs.Names.{ranked_of}
 use Rattle.trie_merge.specs.Shared.{RuleTree, AreIn, ArePlaced, IsFor}
 use Rattle.trie_merge.specs.State.{is_live}
 use Rattle.trie_merge.specs.Started.{IsStarted, AreRows}
-use Rattle.trie_merge.specs.Walk.{next_of, IsWalk}
+use Rattle.trie_merge.specs.Walk.{next_of, place_of, IsWalk}
 use Rattle.trie_merge.proofs.Entering.{EntryOf, entry_can_ask, entry_after, start_entries_are, started}
 use Rattle.trie_merge.proofs.Gaps.{kept_places_first}
 use Rattle.trie_merge.proofs.PackedState.{IsHeld}
@@ -44,7 +45,8 @@ pub record Placed (set : RuleSetView) (group : List ℕ) (cap place : ℕ) (leve
   pub parts : place < length (kept_places set group) → (pairs : List (ℕ × ℕ)) × (target ≡ Parts pairs)
   pub entries : place < length (kept_places set group) → (entry : ℕ) → HasEntry target entry
       → EntryOf set group (get_or (kept_places set group) place 0) entry
-  pub rows : length (kept_places set group) ≤ place → (rows : RowsView) × (target ≡ Rows rows)
+  pub rows : length (kept_places set group) ≤ place
+      → (rows : RowsView) × (target ≡ Rows rows) × (rows.ranked ≡ ranked_of set)
 
 -- where nothing is numbered all can be asked
 pub none_asked : (next : Option ColumnView) (target : Target) → ((entry : ℕ) → HasEntry target entry → ⊥)
@@ -55,6 +57,16 @@ none_asked (Some next) target none = λ entry has. absurd (none entry has)
 -- the parts that a call lends are those that there are
 same_parts : (target : Target) (pairs lent : List (ℕ × ℕ)) → target ≡ Parts pairs → target ≡ Parts lent → lent ≡ pairs
 same_parts target pairs lent is of = (let same : Parts lent ≡ Parts pairs = sym of ∙ is in cc)
+
+-- the next place, where it was looked up
+pub next_is : (set : RuleSetView) (places : List ℕ) (j : ℕ)
+    → IfSome (next_of set places j) (λ column. column ≡ place_of set places (j + 1))
+next_is set places j = by (nat_lt (j + 2) (length places))
+  where
+    by : (more : Bool) → IfSome (if more then Some (column_at set (get_or places (j + 1) 0)) else None)
+        (λ column. column ≡ column_at set (get_or places (j + 1) 0))
+    by true = refl
+    by false = tt
 
 -- what merging the states of a place gives
 pub merged_place : (set : RuleSetView) (column : ColumnView) (is_last : Bool) (cap before : ℕ) (target : Target)
@@ -202,9 +214,9 @@ module _ (set : RuleSetView) (group : List ℕ) (held : AllByRecursion (IsHeld s
             parts_of (Rows rows) k last = absurd (true≢false (sym k.0 ∙ last))
 
             rows_of_kind : (t : Target) → IsFor set (place + 1 == length places) t → (place + 1 == length places) ≡ true
-                → (rows : RowsView) × (t ≡ Rows rows)
+                → (rows : RowsView) × (t ≡ Rows rows) × (rows.ranked ≡ ranked_of set)
             rows_of_kind (Parts ps) k last = absurd (true≢false (sym last ∙ k))
-            rows_of_kind (Rows rows) k last = (rows, refl)
+            rows_of_kind (Rows rows) k last = (rows, refl, k.1)
 
         -- or too many words
         pub placed_over : ((g : List ℕ) (tree : RuleTree) (lists : List (List ℕ)) →

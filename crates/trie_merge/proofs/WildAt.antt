@@ -1,7 +1,7 @@
 -- The value of the field that has a place.
 use Rattle.list_lemmas.proofs.Elements.{length-AllZip}
 use Rattle.std.proofs.Common.{◌≡◌, ℕ, ◌-◌, ◌<◌, List, [], ◌∷◌, length, get_or, sym, ◌∙◌, ap, subst, inl, inr}
-use Rattle.std.proofs.Common.{None, arith}
+use Rattle.std.proofs.Common.{None, Some, Bool, slice_get, arith}
 use Rattle.std.specs.List.{AllZip}
 use Rattle.std.proofs.lemmas.List.Sums.{sum_by-cons}
 use Rattle.std.proofs.lemmas.Bool.{cases_lt, cond-true, cond-false, lt-ltb, le-ltb}
@@ -12,11 +12,13 @@ use Rattle.field_defs.specs.FieldMatch.{is_wild, CanMatch}
 use Rattle.field_defs.specs.Layout.{key_len_of}
 use Rattle.field_defs.specs.Lawful.{IsLayout}
 use Rattle.rule_set.specs.Lawful.{IsLawfulValue}
-use Rattle.rule_set.specs.Rule.{RuleView}
+use Rattle.rule_set.specs.Rule.{RuleView, RuleSetView}
 use Rattle.rule_set.specs.Fault.{rule_fault}
 use Rattle.rule_set.proofs.Offered.{faultless_rules}
 use Rattle.trie_merge.specs.Kept.{is_wild_at}
+use Rattle.trie_merge.specs.RuleRest.{values_of}
 use Rattle.trie_merge.specs.Entry.{FieldPlace, field_at}
+use Rattle.trie_merge.proofs.PackedState.{values_there}
 use Rattle.trie_merge.proofs.Packed.{field_at_in, field_at_after, further_value}
 
 -- there are as many values as fields
@@ -59,3 +61,19 @@ value_of_rule layout rule place at lawful faultless within is =
     subst (IsValueAt layout rule.fields place) (sym is)
     (value_at_place layout rule.fields place
     ((faultless_rules layout rule.tag rule.fields lawful).0 faultless).values within)
+
+module _ (set : RuleSetView) (rule : RuleView) (place : ℕ) (defs : List FieldDef) (at : FieldPlace)
+    (layout : defs ≡ set.layout) (lawful : IsLayout set.layout)
+    (faultless : rule_fault set.layout rule.tag rule.fields ≡ None) (within : place < key_len_of set.layout)
+    (lies : at ≡ field_at defs place) where
+  -- and where the place was looked up
+  pub value_lies : IsValueAt set.layout rule.fields place at
+  value_lies =
+      value_of_rule set.layout rule place at lawful faultless within (lies ∙ ap (λ ds. field_at ds place) layout)
+
+  -- what was told of the value is told of the place
+  pub wild_told : (number : ℕ) (told : Bool) → slice_get set.rules number ≡ Some rule
+      → told ≡ is_wild (get_or rule.fields at.field (Mask 0 0)) at.size
+      → is_wild_at set.layout (values_of set number) place ≡ told
+  wild_told number told there is =
+      ap (λ values. is_wild_at set.layout values place) (values_there set number rule there) ∙ value_lies.wild ∙ sym is

@@ -11,6 +11,7 @@ use Rattle.shared_parts.specs.Joined.{IsAll}
 use Rattle.shared_parts.specs.Target.{count}
 use Rattle.trie_merge.specs.declared.order.Keyed.{Keyed}
 use Rattle.trie_merge.specs.Entry.{entry_of}
+use Rattle.trie_merge.specs.Names.{ranked_of}
 use Rattle.trie_merge.specs.Row.{rows_of}
 use Rattle.trie_merge.specs.Shared.{RuleTree, AreIn}
 
@@ -45,6 +46,6 @@ pub record AreRows (set : RuleSetView) (group : List ℕ) (target : Target)
     (numbers : List ℕ) : Type 0 where
   pub tree : RuleTree
   pub rules : tree.rules ≡ group
-  pub rows : (rows : RowsView) × (target ≡ Rows rows)
+  pub rows : (rows : RowsView) × (target ≡ Rows rows) × (rows.ranked ≡ ranked_of set)
   pub each : AreIn set target tree (rows_of set group) numbers
   pub inside : All (λ number. (0 < number) × (number ≤ count target)) numbers

@@ -2,6 +2,7 @@
 
 ghost use Rattle.std.specs.Prelude.{◌≡◌, ℕ, ◌<◌, ◌≤◌, ◌^◌, ◌+◌, ◌==◌, []};
 ghost use Rattle.std.specs.Prelude.{map, length, slice_index_or, true, None, min, All, OnOk, IfOk};
+ghost use Rattle.std.specs.Prelude.{IfSome};
 ghost use Rattle.node_expand.specs.declared.edge.Edge.TheVariants.{Free};
 ghost use Rattle.field_defs.specs.Layout.{key_len_of};
 ghost use Rattle.shared_parts.specs.Target.{HasEntry};
@@ -15,7 +16,8 @@ ghost use Rattle.trie_merge.specs.Row.{rows_of};
 ghost use Rattle.trie_merge.specs.Shared.{IsFor};
 ghost use Rattle.trie_merge.specs.Started.{numbers_in, AreJoined, IsStarted, AreRows};
 ghost use Rattle.trie_merge.specs.declared.order.Keyed.{Keyed};
-ghost use Rattle.trie_merge.specs.Walk.{next_of, AreStates, IsPlaceMerged, IsPlaceOver, IsWalk};
+ghost use Rattle.trie_merge.specs.Walk.{next_of, place_of, AreStates, IsPlaceMerged, IsPlaceOver};
+ghost use Rattle.trie_merge.specs.Walk.{IsWalk};
 
 use crate::column::Column;
 use crate::entry::entry_of;
@@ -84,6 +86,8 @@ struct Walked {
     levels: Vec<Level>,
     reached: Reached,
     words: u64,
+    /// What the next place has of each rule, where that was looked up already.
+    ahead: Option<Column>,
 }
 
 impl Walked {
@@ -99,6 +103,7 @@ impl Walked {
         ensures found { OnOk result
             (self.new.reached.found.keys ≡ merged.reached.found.keys) }
         ensures words { OnOk result (self.new.words ≡ merged.words) }
+        ensures ahead { self.new.ahead ≡ self.old.ahead }
     {
         self.reached = merged.reached;
         self.words = merged.words;
@@ -135,17 +140,27 @@ fn next_column(
 }
 
 /// The kept place of that number.
-fn place_at(alloc: Global, rules: &RuleSet, places: &[usize], j: usize) -> Result<Place, AllocError>
+fn place_at(
+    alloc: Global,
+    rules: &RuleSet,
+    places: &[usize],
+    j: usize,
+    ahead: Option<Column>,
+) -> Result<Place, AllocError>
     requires places { (k : ℕ) → k < length places.now
         → slice_index_or places.now k 0 < key_len_of rules.now.layout }
     requires j { j < length places.now }
+    requires ahead { IfSome ahead (λ column. column ≡ place_of rules.now places.now j) }
     ensures column { IfOk result
         (λ place. place.column ≡ column_at rules.now (slice_index_or places.now j 0)) }
     ensures is_last { IfOk result (λ place. place.is_last ≡ (j + 1 == length places.now)) }
     ensures next { IfOk result (λ place. place.next ≡ next_of rules.now places.now j) }
     ensures last { IfOk result (λ place. place.is_last ≡ true → place.next ≡ None) }
 {
-    let column = Column::new(alloc, rules, places[j])?;
+    let column = match ahead {
+        Some(column) => column,
+        None => Column::new(alloc, rules, places[j])?,
+    };
     let next = next_column(alloc, rules, places, j)?;
     Ok(Place {
         column,
@@ -172,7 +187,8 @@ fn start_target(
     Ok(Target::Parts(parts))
 }
 
-/// Merges the states of the kept place of that number.
+/// Merges the states of the kept place of that number. `ahead` is what the place has of each rule,
+/// where that was looked up before, and then what the next one has.
 fn merge_place(
     alloc: Global,
     rules: &RuleSet,
@@ -180,6 +196,7 @@ fn merge_place(
     j: usize,
     budget: Budget,
     reached: &Reached,
+    ahead: &mut Option<Column>,
 ) -> Result<Merged, MergeFault>
     requires places { (k : ℕ) → k < length places.now
         → slice_index_or places.now k 0 < key_len_of rules.now.layout }
@@ -187,17 +204,25 @@ fn merge_place(
     requires cap { budget.cap ≤ max_words }
     requires before { budget.before ≤ budget.cap }
     requires states { AreStates rules.now places.now j reached.now }
+    requires ahead { IfSome ahead.old (λ column. column ≡ place_of rules.now places.now j) }
+    ensures ahead { OnOk result (ahead.new ≡ next_of rules.now places.now j) }
     ensures merged { IfOk result
         (λ merged. IsPlaceMerged rules.now places.now j budget reached.now merged) }
     ensures pieces { IfOk result (λ merged. ArePieces merged) }
     ensures over { (result ≡ Err MergeFault.OverCap) →
         IsPlaceOver rules.now places.now j budget reached.now }
 {
-    let place = place_at(alloc, rules, places, j)?;
+    let place = place_at(alloc, rules, places, j, ahead.take())?;
     let parts = reached.parts();
     let target = start_target(alloc, rules, place.is_last, parts.len())?;
     let states = reached.found.as_slice();
-    merge_states(alloc, &place, budget, parts, states, target)
+    match merge_states(alloc, &place, budget, parts, states, target) {
+        Ok(merged) => {
+            *ahead = place.next;
+            Ok(merged)
+        }
+        Err(fault) => Err(fault),
+    }
 }
 
 /// Merges the states of the places, one place after the other.
@@ -215,6 +240,7 @@ fn merge_places(
     requires start { IsStarted group.now walked.old.reached.target walked.old.reached.found.keys }
     requires levels { walked.old.levels.items ≡ [] }
     requires words { walked.old.words ≡ 0 }
+    requires ahead { walked.old.ahead ≡ None }
     ensures walk { OnOk result
         (IsWalk rules.now group.now cap walked.new.levels.items walked.new.words) }
     ensures rows { OnOk result
@@ -224,7 +250,8 @@ fn merge_places(
     for j in 0..places.len() {
         let before = walked.words;
         let budget = Budget { cap, before };
-        let merged = match merge_place(alloc, rules, places, j, budget, &walked.reached) {
+        let ahead = &mut walked.ahead;
+        let merged = match merge_place(alloc, rules, places, j, budget, &walked.reached, ahead) {
             Ok(merged) => merged,
             Err(fault) => return Err(fault),
         };
@@ -249,11 +276,12 @@ fn walk(
         (λ its. AreRows rules.now group.now its.reached.target its.reached.found.keys) }
     ensures over { (result ≡ Err MergeFault.OverCap) → cap < (levels_of rules.now group.now).words }
 {
-    let reached = start(alloc, rules, group)?;
+    let reached = start(alloc, rules, group, places)?;
     let mut walked = Walked {
         levels: Vec::new(alloc),
         reached,
         words: 0,
+        ahead: None,
     };
     match merge_places(alloc, rules, group, cap, places, &mut walked) {
         Ok(()) => Ok(walked),
@@ -310,13 +338,18 @@ fn keep(alloc: Global, rules: &RuleSet, group: &[u32]) -> Result<Kept, AllocErro
 }
 
 /// The state before the first byte.
-fn start(alloc: Global, rules: &RuleSet, group: &[u32]) -> Result<Reached, AllocError>
+fn start(
+    alloc: Global,
+    rules: &RuleSet,
+    group: &[u32],
+    places: &[usize],
+) -> Result<Reached, AllocError>
     requires { IsGrouped rules.now group.now }
     ensures { IfOk result
         (λ reached. IsStarted group.now reached.target reached.found.keys) }
 {
     let _rules = rules.all();
-    let order = order_rules(alloc, rules, group)?;
+    let order = order_rules(alloc, rules, group, places)?;
     start_states(alloc, order.as_slice())
 }
 
@@ -359,9 +392,9 @@ fn finish_rows(
 {
     rule_set::laws::ranks_order_rules();
     rule_set::laws::the_best_has_the_greatest_rank();
-    let names = names_of(alloc, rules)?;
-    let found = reached.found.as_slice();
-    name_rows(alloc, reached.rows(), names.as_slice(), found)
+    let rows = reached.rows();
+    let names = names_of(alloc, rules, rows.ranked())?;
+    name_rows(alloc, rows, names.as_slice(), reached.found.as_slice())
 }
 
 /// How many words the merged states of the group take, or the cap plus 1 where that is less.

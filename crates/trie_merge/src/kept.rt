@@ -2,14 +2,15 @@
 
 ghost use Rattle.std.specs.Prelude.{◌≡◌, ◌==◌, ◌^◌, ◌<◌, ◌≤◌, ◌||◌, not, true, map, length};
 ghost use Rattle.std.specs.Prelude.{slice_index_or, All, IfOk};
-ghost use Rattle.std.specs.List.{list_all, AllZip};
-ghost use Rattle.rule_set.specs.Lawful.{IsLawfulValue};
+ghost use Rattle.std.specs.List.{list_all};
+ghost use Rattle.field_defs.specs.declared.field.FieldValue.TheVariants.{Mask};
+ghost use Rattle.field_defs.specs.FieldMatch.{CanMatch, is_wild};
 ghost use Rattle.field_defs.specs.Layout.{key_len_of};
-ghost use Rattle.trie_merge.specs.Kept.{group_of, is_wild_at, is_wild_place, key_places};
+ghost use Rattle.trie_merge.specs.Kept.{group_of, is_wild_place, key_places};
 ghost use Rattle.trie_merge.specs.Wild.{is_idle_by, is_kept_by, places_by, bits_by};
 
-use crate::column::field_at;
-use field_defs::{FieldDef, is_wild};
+use crate::column::{FieldPlace, field_at};
+use field_defs::is_wild;
 use rule_set::{RuleSet, StoredRule};
 use std::alloc::{AllocError, Global};
 
@@ -53,15 +54,13 @@ fn group_of(place: usize) -> usize
     (place + GROUP_SIZE - 1) / GROUP_SIZE
 }
 
-/// Whether a rule's value of the field that has the place is wild.
-fn is_wild_at(defs: &[FieldDef], rule: &StoredRule, place: usize) -> bool
-    requires values { AllZip IsLawfulValue defs.now rule.now.fields }
-    requires place { place < key_len_of defs.now }
-    ensures { result ≡ is_wild_at defs.now rule.now.fields place }
+/// Whether a rule's value of that field is wild.
+fn is_wild_in(rule: &StoredRule, at: FieldPlace) -> bool
+    requires within { at.field < length rule.now.fields }
+    requires can { CanMatch (slice_index_or rule.now.fields at.field (Mask 0 0)) at.size }
+    ensures { result ≡ is_wild (slice_index_or rule.now.fields at.field (Mask 0 0)) at.size }
 {
-    let at = field_at(defs, place);
-    let values = rule.fields();
-    is_wild(&values[at.field], at.size)
+    is_wild(&rule.fields()[at.field], at.size)
 }
 
 /// Whether all rules of the group are wild in the field that has the place.
@@ -70,9 +69,9 @@ fn is_wild_place(rules: &RuleSet, group: &[u32], place: usize) -> bool
     requires place { place < key_len_of rules.now.layout }
     ensures { result ≡ is_wild_place rules.now group.now place }
 {
-    let defs = rules.layout().fields();
+    let at = field_at(rules.layout().fields(), place);
     for number in group {
-        if !is_wild_at(defs, rules.at(*number as usize), place) {
+        if !is_wild_in(rules.at(*number as usize), at) {
             return false;
         }
     }

@@ -31,6 +31,7 @@
 //! - `order`: the order of the rules in the tree.
 //! - `build`: all kept places, one after the other; [`Levels::build`] and [`count_capped`].
 //! - `levels`, `run`: what comes out.
+//! - `laws`: what states, rows and runs have to do with keys that match.
 #![tactic(auto)]
 
 mod build;

@@ -25,17 +25,29 @@ pub(crate) fn rank_rules(alloc: Global, rules: &RuleSet) -> Result<Vec<Ranked>, 
 }
 
 /// The number plus 1 of the rule of each rank, and 0 for rank 0.
-pub(crate) fn names_of(alloc: Global, rules: &RuleSet) -> Result<Vec<u32>, AllocError>
+pub(crate) fn names_of(
+    alloc: Global,
+    rules: &RuleSet,
+    ranked: &[Ranked],
+) -> Result<Vec<u32>, AllocError>
+    requires { ranked.now ≡ ranked_of rules.now }
     ensures { IfOk result (λ names. IsNames rules.now names.items) }
 {
     rule_set::laws::ranks_order_rules();
     let _rules = rules.all();
-    let ranks = ranks(alloc, rules)?;
     let mut names = Vec::from_elem(alloc, 0, rules.len() + 1)?;
     for number in 0..rules.len() {
-        names[ranks[number] as usize] = number as u32 + 1;
+        names[rank_at(ranked, number) as usize] = number as u32 + 1;
     }
     Ok(names)
+}
+
+/// The rank of the rule of that number.
+fn rank_at(ranked: &[Ranked], number: usize) -> u32
+    requires { number < length ranked.now }
+    ensures { result ≡ (slice_index_or ranked.now number (record { mask = 0; rank = 0 })).rank }
+{
+    ranked[number].rank
 }
 
 /// The names of ranks.

@@ -3,7 +3,8 @@
 //! Every order gives the same states. Where rules that let the same bytes through stand side by
 //! side, a part of the tree has few different rests, and more states share it. So rules go by their
 //! fields, one after the other: by the least number that a value lets through, and where that is
-//! one, the wider value first. Wild values come first of all.
+//! one, the wider value first. Wild values come first of all. Fields in which all rules are wild
+//! don't count.
 
 ghost use Rattle.std.specs.Prelude.{◌≡◌, ◌<◌, length, All, IfOk};
 ghost use Rattle.std.specs.List.Sorted.{IsPermutation};
@@ -37,71 +38,131 @@ fn span_of(value: &FieldValue, size: u8) -> (u64, u64) {
     }
 }
 
-/// The value as a number that says where it stands in the order.
-fn key_of(value: &FieldValue, size: u8) -> u128 {
-    let (low, high) = span_of(value, size);
-    u128::from(low) << 64 | u128::from(!high)
+/// A field of a kept place: its number and its size.
+#[derive(Clone, Copy)]
+struct KeptField {
+    field: usize,
+    size: u8,
 }
 
-/// A rule, and where the keys of its values begin.
+/// The fields that have the kept places. In the others all rules of the group are wild.
+fn kept_fields(
+    alloc: Global,
+    defs: &[FieldDef],
+    places: &[usize],
+) -> Result<Vec<KeptField>, AllocError> {
+    let mut fields = Vec::with_capacity(alloc, defs.len())?;
+    let mut first = 0usize;
+    for field in 0..defs.len() {
+        let size = defs[field].size;
+        if places.contains(&first) {
+            fields.push(KeptField { field, size })?;
+        }
+        first = first.wrapping_add(usize::from(size));
+    }
+    Ok(fields)
+}
+
+/// A rule, and where its keys begin.
 #[derive(Clone, Copy)]
 pub(crate) struct Keyed {
     pub(crate) number: u32,
     first: usize,
 }
 
-/// The rules of a group in their own order, and the keys of all their values.
+/// Keys, each of two numbers, of which the first decides first.
 #[derive(Drop)]
 struct Keys {
-    rules: Vec<Keyed>,
-    keys: Vec<u128>,
+    all: Vec<u128>,
+    /// Whether the last key has one number so far.
+    is_half: bool,
 }
 
 impl Keys {
-    ghost use Rattle.std.specs.Prelude.{◌≡◌, ◌<◌, ◌++◌, ◌∷◌, [], length, OnOk};
-    ghost use Rattle.trie_merge.specs.Started.{numbers_in};
+    /// Puts a number after the others.
+    fn push(&mut self, number: u64) -> Result<(), AllocError> {
+        if !self.is_half {
+            self.all.push(u128::from(number) << 64)?;
+            self.is_half = true;
+            return Ok(());
+        }
+        if let Some(key) = self.all.last_mut() {
+            *key |= u128::from(number);
+        }
+        self.is_half = false;
+        Ok(())
+    }
 
-    /// Puts a rule and the keys of its values after the others.
-    fn push(&mut self, rules: &RuleSet, number: u32) -> Result<(), AllocError>
-        requires { number < length rules.now.rules }
-        ensures { OnOk result
-            (numbers_in self.new.rules.items ≡ numbers_in self.old.rules.items ++ number ∷ []) }
-    {
-        let first = self.keys.len();
-        self.rules.push(Keyed { number, first })?;
-        let defs = rules.layout().fields();
-        push_keys(defs, rules.at(number as usize).fields(), &mut self.keys)?;
+    /// Puts what says where a value stands in the order after the others: the least number that it
+    /// lets through, and then the greatest, from above.
+    fn push_value(&mut self, value: &FieldValue, size: u8) -> Result<(), AllocError> {
+        let (low, high) = span_of(value, size);
+        if size > 4 {
+            self.push(low)?;
+            return self.push(!high);
+        }
+        self.push(low << 32 | !high & 0xffff_ffff)
+    }
+
+    /// Puts the keys of a rule's values after the others.
+    fn push_rule(&mut self, values: &[FieldValue], fields: &[KeptField]) -> Result<(), AllocError> {
+        self.is_half = false;
+        for kept in fields {
+            if let Some(value) = values.get(kept.field) {
+                self.push_value(value, kept.size)?;
+            }
+        }
         Ok(())
     }
 }
 
-/// Puts the keys of a rule's values after those of others.
-fn push_keys(
-    defs: &[FieldDef],
-    values: &[FieldValue],
-    keys: &mut Vec<u128>,
-) -> Result<(), AllocError> {
-    for k in 0..defs.len() {
-        if let Some(value) = values.get(k) {
-            keys.push(key_of(value, defs[k].size))?;
-        }
+/// The rules of a group in their own order, and the keys of all of them, as many for each.
+#[derive(Drop)]
+struct KeyedRules {
+    rules: Vec<Keyed>,
+    keys: Keys,
+}
+
+impl KeyedRules {
+    ghost use Rattle.std.specs.Prelude.{◌≡◌, ◌<◌, ◌++◌, ◌∷◌, [], length, OnOk};
+    ghost use Rattle.trie_merge.specs.Started.{numbers_in};
+
+    /// Puts a rule and its keys after the others.
+    fn push(&mut self, rules: &RuleSet, number: u32, fields: &[KeptField]) -> Result<(), AllocError>
+        requires { number < length rules.now.rules }
+        ensures { OnOk result
+            (numbers_in self.new.rules.items ≡ numbers_in self.old.rules.items ++ number ∷ []) }
+    {
+        let first = self.keys.all.len();
+        self.rules.push(Keyed { number, first })?;
+        self.keys
+            .push_rule(rules.at(number as usize).fields(), fields)?;
+        Ok(())
     }
-    Ok(())
 }
 
 /// The keys of the rules of the group.
-fn keys_of(alloc: Global, rules: &RuleSet, group: &[u32]) -> Result<Keys, AllocError>
+fn keys_of(
+    alloc: Global,
+    rules: &RuleSet,
+    group: &[u32],
+    places: &[usize],
+) -> Result<KeyedRules, AllocError>
     requires { All (λ number. number < length rules.now.rules) group.now }
-    ensures { IfOk result (λ keys. numbers_in keys.rules.items ≡ group.now) }
+    ensures { IfOk result (λ keyed. numbers_in keyed.rules.items ≡ group.now) }
 {
-    let mut keys = Keys {
+    let fields = kept_fields(alloc, rules.layout().fields(), places)?;
+    let mut keyed = KeyedRules {
         rules: Vec::with_capacity(alloc, group.len())?,
-        keys: Vec::new(alloc),
+        keys: Keys {
+            all: Vec::with_capacity(alloc, group.len())?,
+            is_half: false,
+        },
     };
     for number in group {
-        keys.push(rules, *number)?;
+        keyed.push(rules, *number, fields.as_slice())?;
     }
-    Ok(keys)
+    Ok(keyed)
 }
 
 /// The key of that place, or 0.
@@ -125,19 +186,20 @@ fn compare(keys: &[u128], count: usize, one: Keyed, other: Keyed) -> Ordering {
     Ordering::Equal
 }
 
-/// The rules of the group in the order of the leaves.
+/// The rules of the group in the order of the leaves. `places` are the places that are kept.
 pub(crate) fn order_rules(
     alloc: Global,
     rules: &RuleSet,
     group: &[u32],
+    places: &[usize],
 ) -> Result<Vec<Keyed>, AllocError>
     requires { All (λ number. number < length rules.now.rules) group.now }
     ensures { IfOk result (λ order. IsPermutation group.now (numbers_in order.items)) }
 {
-    let count = rules.layout().fields().len();
-    let keys = keys_of(alloc, rules, group)?;
-    let mut order = keys.rules;
-    let all = keys.keys.as_slice();
-    order.sort_unstable_by(|one, other| compare(all, count, *one, *other));
+    let keyed = keys_of(alloc, rules, group, places)?;
+    let mut order = keyed.rules;
+    let keys = keyed.keys.all.as_slice();
+    let count = keys.len() / order.len().max(1);
+    order.sort_unstable_by(|one, other| compare(keys, count, *one, *other));
     Ok(order)
 }

@@ -12,13 +12,13 @@ use Rattle.trie_merge.proofs.RowNames.{all_named_are}
 use Rattle.trie_merge.proofs.Walk.{rows_long}
 use Rattle.trie_merge.proofs.build.finish_rows.Goals as goal
 
-pub rows-requires : goal.rows-requires
-rows-requires c = c.requires.rows.rows
+pub rows-rows-requires : goal.rows-rows-requires
+rows-rows-requires c = (c.requires.rows.rows.0, c.requires.rows.rows.1)
 
 pub name_rows-requires : goal.name_rows-requires
 name_rows-requires c =
-    rw c.as_slice-found.ensures.keys
-    (subst (λ t. All (λ n. (0 < n) × (n ≤ count t)) c.args.reached.now.found.keys) c.rows.ensures
+    rw c.as_slice-2.ensures.keys
+    (subst (λ t. All (λ n. (0 < n) × (n ≤ count t)) c.args.reached.now.found.keys) c.rows-rows.ensures
     c.requires.rows.inside)
 
 pub returns : goal.returns
@@ -28,12 +28,12 @@ returns c =
     let its = c.requires.rows in
     let tree = its.tree in
     let names : List ℕ = c.in_ok-names.names.items in
-    let named = (λ i. map (row_named c.rows.result.now (c.as_slice.ensures.value i)) (c.as_slice-found.ensures.keys i))
+    let named = (λ i. map (row_named c.rows-rows.result.now (c.as_slice.ensures.value i)) (c.as_slice-2.ensures.keys i))
     ∙ all_named_are set c.ranks_order_rules.ensures c.the_best_has_the_greatest_rank.ensures names c.in_ok-names.ensures
     tree (subst (NumbersRise 0) (sym its.rules) (numbers_rise group c.requires.group.group.ascending))
     (subst (AllByRecursion (λ rule. rule < length set.rules)) (sym its.rules)
     (recursion_from_All (λ rule. rule < length set.rules) group c.requires.group.group.within))
-    c.rows.result.now (rows_of set group) c.args.reached.now.found.keys (rows_long set group)
-    (subst (λ t. AreIn set t tree (rows_of set group) c.args.reached.now.found.keys) c.rows.ensures its.each) in
+    c.rows-rows.result.now (rows_of set group) c.args.reached.now.found.keys (rows_long set group)
+    (subst (λ t. AreIn set t tree (rows_of set group) c.args.reached.now.found.keys) c.rows-rows.ensures its.each) in
     IfOk-weaker c.name_rows.result _ (λ found. found.items ≡ rows_of set group) (λ found is. is ∙ named)
     c.name_rows.ensures

@@ -1,8 +1,7 @@
-use Rattle.std.proofs.Common.{◌<◌, ◌≤◌, sym, subst}
+use Rattle.std.proofs.Common.{◌≡◌, ◌<◌, ◌≤◌, Err, ap, sym, subst}
 use Rattle.std.specs.Prelude.{All}
 use Rattle.shared_parts.specs.Target.{count, HasEntry}
-use Rattle.std.proofs.lemmas.Result.{IfOk-weaker}
-use Rattle.trie_merge.specs.Walk.{IsPlaceMerged}
+use Rattle.trie_merge.specs.declared.merge.MergeFault.TheVariants.{OverCap}
 use Rattle.trie_merge.proofs.Placing.{none_asked, merged_place, over_place}
 use Rattle.trie_merge.proofs.build.merge_place.Goals as goal
 
@@ -26,30 +25,27 @@ pub merge_states-requires-clause-ask : goal.merge_states-requires-clause-ask
 merge_states-requires-clause-ask c =
     none_asked c.in_ok-place.place.next c.in_ok-target.target c.in_ok-target.ensures.none
 
-pub returns-clause-merged : goal.returns-clause-merged
-returns-clause-merged c =
+pub returns-in-Ok-clause-merged : goal.returns-in-Ok-clause-merged
+returns-in-Ok-clause-merged c = λ pairs is.
     let place = c.in_ok-place.ensures in
     let kind = rw place.is_last at c.in_ok-target.ensures.kind in
-    IfOk-weaker c.merge_states.result _
-    (IsPlaceMerged c.args.rules.now c.args.places.now c.args.j c.args.budget c.args.reached.now)
-    (λ merged its pairs is.
-    (let led = rw place.column at its.led in
+    let its = c.in-Ok.ensures.merged in
+    let led = rw place.column at its.led in
     let each = rw (c.as_slice-states.ensures.keys, place.column, place.is_last) at its.each in
     merged_place c.args.rules.now _ _ c.args.budget.cap c.args.budget.before c.args.reached.now.target pairs
     c.parts-parts.result.now is c.parts-parts.ensures c.args.reached.now.found.keys c.in_ok-target.target
-    merged.reached.target merged.reached.found.keys _ merged.words kind
-    c.in_ok-target.ensures.none its.steps led (each c.args.rules.now) its.inside))
-    c.merge_states.ensures.merged
+    _ _ _ _ kind c.in_ok-target.ensures.none its.steps led (each c.args.rules.now) its.inside
 
-pub returns-clause-pieces : goal.returns-clause-pieces
-returns-clause-pieces c = IfOk-weaker c.merge_states.result _ _ (λ merged its. its.pieces) c.merge_states.ensures.merged
+pub returns-in-Ok-clause-pieces : goal.returns-in-Ok-clause-pieces
+returns-in-Ok-clause-pieces c = c.in-Ok.ensures.merged.pieces
 
-pub returns-clause-over : goal.returns-clause-over
-returns-clause-over c = λ over pairs is.
+pub returns-in-Err-clause-over : goal.returns-in-Err-clause-over
+returns-in-Err-clause-over c = λ over pairs is.
     let place = c.in_ok-place.ensures in
     let kind = rw place.is_last at c.in_ok-target.ensures.kind in
+    let fault : c.in-Err.fault ≡ OverCap = cc in
     let past = rw (c.as_slice-states.ensures.keys, place.column, place.next, place.is_last) at
-    (c.merge_states.ensures.over over) in
+    (c.in-Err.ensures.over (ap Err fault)) in
     over_place c.args.rules.now _ _ _ c.args.budget.cap c.args.budget.before c.args.reached.now.target pairs
     c.parts-parts.result.now is c.parts-parts.ensures c.args.reached.now.found.keys c.in_ok-target.target kind
     (past c.args.rules.now)

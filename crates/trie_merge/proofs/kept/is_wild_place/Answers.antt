@@ -1,35 +1,39 @@
-use Rattle.std.proofs.Common.{◌≡◌, ℕ, List, get_or, Bool, true, false, ◌&&◌, refl, sym, ◌∙◌, ap, arith}
+use Rattle.std.proofs.Common.{◌≡◌, ℕ, List, get_or, Bool, true, false, ◌&&◌, refl, sym, ◌∙◌, ap, subst, arith}
 use Rattle.std.proofs.lemmas.List.{take_all}
 use Rattle.std.proofs.lemmas.List.Folds.{list_all_more, list_all_at}
 use Rattle.field_defs.specs.Lawful.{IsLayout}
 use Rattle.trie_merge.specs.RuleRest.{values_of}
 use Rattle.trie_merge.specs.Kept.{is_wild_at, is_wild_place}
-use Rattle.trie_merge.proofs.PackedState.{values_there}
-use Rattle.rule_set.proofs.Offered.{faultless_rules}
+use Rattle.trie_merge.proofs.WildAt.{value_lies, wild_told}
 use Rattle.trie_merge.proofs.kept.is_wild_place.Goals as goal
 
 pub loop-number-init : goal.loop-number-init
 unfolding is_wild_place
 loop-number-init c = refl
 
-pub is_wild_at-requires-clause-values : goal.is_wild_at-requires-clause-values
-is_wild_at-requires-clause-values c =
-    let layout : IsLayout c.args.rules.now.layout = rw c.layout.ensures at c.fields-defs.ensures.lawful in
-    let rule = c.at.result.now in
-    rw (c.fields-defs.ensures.fields, c.layout.ensures)
-    ((faultless_rules c.args.rules.now.layout rule.tag rule.fields layout).0 c.at.ensures.lawful).values
+pub is_wild_in-requires-clause-within : goal.is_wild_in-requires-clause-within
+is_wild_in-requires-clause-within c =
+    (value_lies c.args.rules.now c.at.result.now c.args.place _ _ (c.fields.ensures.fields ∙ c.layout.ensures)
+    (subst IsLayout c.layout.ensures c.fields.ensures.lawful) c.at.ensures.lawful c.requires.place
+    c.field_at-at.ensures.at).within
 
-pub returns-then-not-is_wild_at : goal.returns-then-not-is_wild_at
+pub is_wild_in-requires-clause-can : goal.is_wild_in-requires-clause-can
+is_wild_in-requires-clause-can c =
+    (value_lies c.args.rules.now c.at.result.now c.args.place _ _ (c.fields.ensures.fields ∙ c.layout.ensures)
+    (subst IsLayout c.layout.ensures c.fields.ensures.lawful) c.at.ensures.lawful c.requires.place
+    c.field_at-at.ensures.at).can
+
+pub returns-then-not-is_wild_in : goal.returns-then-not-is_wild_in
 unfolding is_wild_place
-returns-then-not-is_wild_at c =
+returns-then-not-is_wild_in c =
     let set = c.args.rules.now in
     let test : ℕ → Bool = λ number. is_wild_at set.layout (values_of set number) c.args.place in
     let number : ℕ = get_or c.args.group.now c.loop-number.number-index 0 in
     let fails : test number ≡ false =
-    ap (λ values. is_wild_at set.layout values c.args.place) (values_there set number c.at.result.now c.at.ensures.rule)
-    ∙ ap (λ defs. is_wild_at defs c.at.result.now.fields c.args.place)
-    (sym (c.fields-defs.ensures.fields ∙ c.layout.ensures))
-    ∙ sym c.is_wild_at.ensures ∙ c.if-not-is_wild_at.true in
+    wild_told set c.at.result.now c.args.place _ _ (c.fields.ensures.fields ∙ c.layout.ensures)
+    (subst IsLayout c.layout.ensures c.fields.ensures.lawful) c.at.ensures.lawful c.requires.place
+    c.field_at-at.ensures.at number c.is_wild_in.result c.at.ensures.rule c.is_wild_in.ensures
+    ∙ c.if-not-is_wild_in.true in
     sym (list_all_at test c.args.group.now c.loop-number.number-index 0 (omega arith) fails)
 
 pub loop-number-preserved : goal.loop-number-preserved
@@ -39,10 +43,10 @@ loop-number-preserved c =
     let test : ℕ → Bool = λ number. is_wild_at set.layout (values_of set number) c.args.place in
     let number : ℕ = get_or c.args.group.now c.loop-number.number-index 0 in
     let holds : test number ≡ true =
-    ap (λ values. is_wild_at set.layout values c.args.place) (values_there set number c.at.result.now c.at.ensures.rule)
-    ∙ ap (λ defs. is_wild_at defs c.at.result.now.fields c.args.place)
-    (sym (c.fields-defs.ensures.fields ∙ c.layout.ensures))
-    ∙ sym c.is_wild_at.ensures ∙ c.if-not-is_wild_at.false in
+    wild_told set c.at.result.now c.args.place _ _ (c.fields.ensures.fields ∙ c.layout.ensures)
+    (subst IsLayout c.layout.ensures c.fields.ensures.lawful) c.at.ensures.lawful c.requires.place
+    c.field_at-at.ensures.at number c.is_wild_in.result c.at.ensures.rule c.is_wild_in.ensures
+    ∙ c.if-not-is_wild_in.false in
     list_all_more test c.args.group.now c.loop-number.number-index 0 (omega arith)
     ∙ (λ i. c.loop-number.invariant i && holds i)
 

@@ -3,4 +3,4 @@ use Rattle.trie_merge.specs.Started.{numbers_in}
 use Rattle.trie_merge.proofs.order.keys_of.Given as goal
 
 abbrev pub invariant-loop-number : goal.invariant-loop-number
-invariant-loop-number l = numbers_in l.keys.rules.items ≡ take l.number-index l.group
+invariant-loop-number l = numbers_in l.keyed.rules.items ≡ take l.number-index l.group

@@ -9,5 +9,5 @@ pub returns : goal.returns
 returns c =
     let f : Keyed → ℕ = λ keyed. keyed.number in
     let moved = c.sort_unstable_by.new.self.items in
-    subst (λ xs. IsPermutation xs (numbers_in moved)) c.in_ok-keys.ensures
-    (IsPermutation-map f c.in_ok-keys.keys.rules.items moved c.sort_unstable_by.ensures.permutation)
+    subst (λ xs. IsPermutation xs (numbers_in moved)) c.in_ok-keyed.ensures
+    (IsPermutation-map f c.in_ok-keyed.keyed.rules.items moved c.sort_unstable_by.ensures.permutation)
