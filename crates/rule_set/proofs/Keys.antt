@@ -1,23 +1,21 @@
 -- Numbers of the rules are below one another exactly where the rules come below one another.
 use Rattle.std.proofs.Common.{◌≡◌, ℕ, ◌+◌, ◌-◌, ◌*◌, ◌<◌, ◌≤◌, ◌&&◌, ◌||◌, List, [], ◌∷◌, ◌++◌, length, get_or}
-use Rattle.std.proofs.Common.{map, cond, not, nat_lt, pos, sym, ap, ◌∙◌, arith, zero-add, take}
+use Rattle.std.proofs.Common.{map, not, nat_lt, pos, sym, ap, ◌∙◌, arith, zero-add, unsigned_abs}
 use Rattle.std.specs.Prelude.{All}
 use Rattle.std.specs.List.{range_with_len}
 use Rattle.std.specs.Option.{option_map_or}
 use Rattle.std.specs.Int.Signed.{le_z}
 use Rattle.std.proofs.lemmas.Bool.Decides.{nat_tests}
-use Rattle.std.specs.List.Sorted.{IsPermutation}
-use Rattle.std.proofs.lemmas.List.{map-append, length-map, take_more}
+use Rattle.std.proofs.lemmas.List.{map-append, length-map}
 use Rattle.std.proofs.lemmas.Simd.{map-map}
-use Rattle.std.proofs.lemmas.List.FromFn.{length-range_with_len}
-use Rattle.std.proofs.lemmas.List.Sorted.{sum_by-IsPermutation}
+use Rattle.std.proofs.lemmas.List.FromFn.{length-range_with_len, get_or-map-range_with_len}
 use Rattle.std.proofs.lemmas.Option.{slice_get-get_or}
 use Rattle.rule_set.specs.Limits.{max_rules}
 use Rattle.rule_set.specs.Rule.{RuleView, RuleSetView}
 use Rattle.rule_set.specs.RuleSet.{IsRuleSet}
 use Rattle.rule_set.specs.Among.{priority_at}
 use Rattle.rule_set.specs.Rank.{comes_below, rank_of, ranks_of}
-use Rattle.rule_set.specs.Keys.{order_key, keys_of, rank_among, HasLawfulPriority}
+use Rattle.rule_set.specs.Keys.{order_key, place_of, keys_of, rank_among, TellPlaces, HasLawfulPriority}
 use Rattle.rule_set.proofs.Lawful.{tag_lawful}
 use Rattle.list_lemmas.proofs.Integers.{natural_from_le_z}
 use Rattle.list_lemmas.proofs.Maps.{map_on_range}
@@ -91,13 +89,16 @@ length-keys_of rules =
     length-map (range_with_len 0 (length rules)) (λ p. order_key (priority_at rules p) p)
     ∙ length-range_with_len 0 (length rules)
 
--- one more rank, which was found in another order of the keys
-pub ranks_more : (keys sorted ranks : List ℕ) (rank i d : ℕ) → i < length keys → IsPermutation keys sorted →
-    ranks ≡ map (rank_among keys) (take i keys) → rank ≡ rank_among sorted (get_or keys i d) →
-    ranks ++ rank ∷ [] ≡ map (rank_among keys) (take (i + 1) keys)
-ranks_more keys sorted ranks rank i d below same_keys so_far is =
-    let key : ℕ = get_or keys i d in
-    let same : rank ≡ rank_among keys key =
-    is ∙ ap (λ count. 1 + count) (sum_by-IsPermutation (λ other. cond (nat_lt other key) 1 0) keys sorted same_keys) in
-    rw (so_far, same) (sym (ap (map (rank_among keys)) (take_more keys i d below)
-    ∙ map-append (rank_among keys) (take i keys) (key ∷ [])))
+place_of_key : (priority place : ℕ) → place < max_rules →
+    place_of (priority * max_rules + (max_rules - 1 - place)) ≡ place
+place_of_key priority place within = omega arith
+
+-- and each key tells the place of its rule
+pub keys_tell_places : (rules : List RuleView) → length rules ≤ max_rules → TellPlaces (keys_of rules)
+unfolding keys_of
+keys_tell_places rules few place d within =
+    let n : ℕ = length rules in
+    let key : ℕ → ℕ = λ p. order_key (priority_at rules p) p in
+    let inside : place < n = omega (arith, within, length-keys_of rules) in
+    ap place_of (get_or-map-range_with_len key 0 n place place d inside (omega arith))
+    ∙ place_of_key (unsigned_abs (priority_at rules place)) place (omega (arith, few, inside))

@@ -7,4 +7,5 @@ mod Fields
 mod Keys
 mod Lawful
 mod Passing
+mod Places
 mod RankOrder

@@ -1,6 +1,6 @@
 -- Numbers that order the rules of a set as their ranks do.
-use Rattle.std.specs.Prelude.{◌≡◌, ℕ, ℤ, ◌+◌, ◌-◌, ◌*◌, pos, unsigned_abs, nat_lt, List, length}
-use Rattle.std.specs.Prelude.{map, true}
+use Rattle.std.specs.Prelude.{◌≡◌, ℕ, ℤ, ◌+◌, ◌-◌, ◌*◌, ◌%◌, ◌<◌, pos, unsigned_abs, nat_lt, List, length}
+use Rattle.std.specs.Prelude.{map, true, slice_index_or}
 use Rattle.std.specs.List.{count_by, range_with_len}
 use Rattle.std.specs.Int.Signed.{le_z}
 use Rattle.rule_set.specs.Rule.{RuleView}
@@ -10,6 +10,15 @@ use Rattle.rule_set.specs.Among.{priority_at}
 -- the priority, and for equal priorities the number of places up to the last
 abbrev pub order_key : ℤ → ℕ → ℕ
 order_key priority place = unsigned_abs priority * max_rules + (max_rules - 1 - place)
+
+-- the place of the rule that has the number
+abbrev pub place_of : ℕ → ℕ
+place_of key = max_rules - 1 - key % max_rules
+
+-- each of the numbers tells the place where it stands
+abbrev pub TellPlaces : List ℕ → Type 0
+TellPlaces keys = (place d : ℕ) → place < length keys →
+    place_of (slice_index_or keys place d) ≡ place
 
 -- the numbers of all rules, in order
 unfoldable pub keys_of : List RuleView → List ℕ

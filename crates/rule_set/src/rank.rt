@@ -1,11 +1,11 @@
 //! The ranks of the rules of a set, which order them by priority and then by place.
 
 ghost use Rattle.std.specs.Prelude.{◌≡◌, ◌≤◌, ◌<◌, pos, true, length, map, All, IfOk};
-ghost use Rattle.std.specs.List.Sorted.{IsNonDecreasing};
 ghost use Rattle.std.specs.Int.Signed.{le_z};
 ghost use Rattle.rule_set.specs.Limits.{max_priority, max_rules};
 ghost use Rattle.rule_set.specs.Rank.{ranks_of};
-ghost use Rattle.rule_set.specs.Keys.{order_key, keys_of, rank_among, HasLawfulPriority};
+ghost use Rattle.rule_set.specs.Keys.{order_key, place_of, keys_of, rank_among, TellPlaces};
+ghost use Rattle.rule_set.specs.Keys.{HasLawfulPriority};
 
 use crate::rule::{RuleTag, StoredRule};
 use crate::set::{MAX_RULES, RuleSet};
@@ -15,16 +15,16 @@ use std::alloc::{AllocError, Global};
 /// same priority and were added later.
 ///
 /// So the ranks are the numbers from 1 to the number of rules, and of the rules that match and take
-/// part the one of greatest rank wins. It takes memory for three numbers a rule, and its time grows
-/// as that of a sort.
+/// part the one of greatest rank wins. It takes memory for two numbers a rule. Its time grows as
+/// that of a sort, and as the number of rules where each comes below the one before it.
 pub fn ranks(alloc: Global, rules: &RuleSet) -> Result<Vec<u32>, AllocError>
     ensures { IfOk result (λ ranks. ranks.items ≡ ranks_of rules.now.rules) }
 {
     let keys = order_keys(alloc, rules.all())?;
-    ranks_of_keys(alloc, &keys)
+    ranks_of_keys(alloc, keys)
 }
 
-/// A number for each rule, so that the rules that come below a rule are those of lower numbers.
+/// A key for each rule, so that the rules that come below a rule are those of lower keys.
 fn order_keys(alloc: Global, rules: &[StoredRule]) -> Result<Vec<u64>, AllocError>
     requires few { length rules.now ≤ max_rules }
     requires lawful { All HasLawfulPriority rules.now }
@@ -49,25 +49,25 @@ fn order_key(tag: &RuleTag, place: usize) -> u64
     u64::from(tag.priority.unsigned_abs()) * MAX_RULES as u64 + (MAX_RULES - 1 - place) as u64
 }
 
-/// For each number 1 plus how many of the numbers are below it.
-fn ranks_of_keys(alloc: Global, keys: &[u64]) -> Result<Vec<u32>, AllocError>
-    requires { length keys.now ≤ max_rules }
-    ensures { IfOk result (λ ranks. ranks.items ≡ map (rank_among keys.now) keys.now) }
+/// For each key 1 plus how many of the keys are below it. Each key tells the place where it stands.
+///
+/// In order, as many keys are below a key as stand before it.
+fn ranks_of_keys(alloc: Global, mut keys: Vec<u64>) -> Result<Vec<u32>, AllocError>
+    requires few { length keys.items ≤ max_rules }
+    requires places { TellPlaces keys.items }
+    ensures { IfOk result (λ ranks. ranks.items ≡ map (rank_among keys.items) keys.items) }
 {
-    let mut sorted = Vec::from_slice(alloc, keys)?;
-    sorted.sort_unstable();
-    let mut ranks = Vec::with_capacity(alloc, keys.len())?;
-    for key in keys {
-        ranks.push(rank_in(&sorted, *key))?;
+    keys.sort_unstable();
+    let mut ranks = Vec::from_elem(alloc, 0, keys.len())?;
+    for (below, key) in keys.iter().enumerate() {
+        ranks[place_of(*key)] = below as u32 + 1;
     }
     Ok(ranks)
 }
 
-/// 1 plus how many of the numbers, which don't fall, are below the key.
-fn rank_in(sorted: &[u64], key: u64) -> u32
-    requires sorted { IsNonDecreasing sorted.now }
-    requires few { length sorted.now ≤ max_rules }
-    ensures { result ≡ rank_among sorted.now key }
+/// The place of the rule that has the key.
+fn place_of(key: u64) -> usize
+    ensures { result ≡ place_of key }
 {
-    sorted.partition_point(|other| *other < key) as u32 + 1
+    MAX_RULES - 1 - key as usize % MAX_RULES
 }
