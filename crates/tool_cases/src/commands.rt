@@ -10,7 +10,7 @@ mod sessions;
 mod tables;
 
 use acl_outside::{MemDesk, MemFile, MemSink};
-use acl_tool::{CaptureFault, LineFault, LineKind, Status, UsageFault, UsageKind, run};
+use acl_tool::{CaptureFault, Family, LineFault, LineKind, Status, UsageFault, UsageKind, run};
 use flat_table::Steps;
 use std::alloc::{AllocError, Global};
 use std::marker::Brand;
@@ -236,6 +236,15 @@ fn usage(word: u32, kind: UsageKind) -> Status
     ensures { result ≡ Status.Usage (record { word = word; kind = kind }) }
 {
     Status::Usage(UsageFault { word, kind })
+}
+
+/// The status of an IPv4 table that is too large.
+fn too_large(words: u64, budget: u64) -> Status {
+    Status::TooLarge {
+        family: Family::Ip4,
+        words,
+        budget,
+    }
 }
 
 #[test]

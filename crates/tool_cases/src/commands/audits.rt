@@ -1,7 +1,7 @@
 //! Whole commands over rule files in memory: which rules ever win.
 
-use crate::commands::{ANY, FAULTLESS, expect};
-use acl_tool::{Family, LineFault, LineKind, Status, UsageFault, UsageKind};
+use crate::commands::{ANY, FAULTLESS, expect, too_large, usage};
+use acl_tool::{LineFault, LineKind, Status, UsageKind};
 use std::test::Fail;
 
 /// A rule that matches every packet from 10.0.0.0/8.
@@ -75,24 +75,15 @@ fn each_rule_is_told_with_its_least_keys(rt: HostRuntime) -> Result<(), Fail> {
 #[test]
 fn an_audit_is_refused_with_nothing_printed(rt: HostRuntime) -> Result<(), Fail> {
     let covered = [ANY, b"\n", FROM_TEN, b"\n"].concat(rt.alloc())?;
-    let too_large = Status::TooLarge {
-        family: Family::Ip4,
-        words: 27,
-        budget: 26,
-    };
     let bad_line = Status::RulesRefused(LineFault {
         line: 1,
         kind: LineKind::BadStart,
-    });
-    let another_option = Status::Usage(UsageFault {
-        word: 3,
-        kind: UsageKind::UnknownOption,
     });
     let cases: [(&[u8], &[&str], Status, &str); 4] = [
         (
             &covered,
             &["audit", "r", "max-words=26"],
-            too_large,
+            too_large(27, 26),
             "aclc: ip4 table too large: words 27 budget 26\n",
         ),
         (
@@ -110,7 +101,7 @@ fn an_audit_is_refused_with_nothing_printed(rt: HostRuntime) -> Result<(), Fail>
         (
             b"",
             &["audit", "r", "stats=on"],
-            another_option,
+            usage(3, UsageKind::UnknownOption),
             "aclc: usage: word 3: unknown option\n",
         ),
     ];

@@ -1,7 +1,7 @@
 //! Whole commands over two rule files in memory: whether they decide alike.
 
-use crate::commands::{ANY, FAULTLESS, expect};
-use acl_tool::{Family, LineFault, LineKind, Status, UsageFault, UsageKind};
+use crate::commands::{ANY, FAULTLESS, expect, too_large, usage};
+use acl_tool::{LineFault, LineKind, Status, UsageKind};
 use std::test::Fail;
 
 /// Every packet, with userdata 5 and 6.
@@ -63,21 +63,12 @@ fn the_least_key_at_which_lists_differ_is_told(rt: HostRuntime) -> Result<(), Fa
 }
 
 #[test]
-fn a_comparison_is_refused_with_nothing_printed(rt: HostRuntime) -> Result<(), Fail> {
+fn a_comparison_of_refused_lists_prints_nothing(rt: HostRuntime) -> Result<(), Fail> {
     let bad_line = LineFault {
         line: 2,
         kind: LineKind::EmptyRange,
     };
-    let too_large = Status::TooLarge {
-        family: Family::Ip4,
-        words: 17,
-        budget: 16,
-    };
-    let no_name = Status::Usage(UsageFault {
-        word: 3,
-        kind: UsageKind::MissingName,
-    });
-    let cases: [(&[u8], &[u8], &[&str], Status, &str); 6] = [
+    let cases: [(&[u8], &[u8], &[&str], Status, &str); 3] = [
         (
             TURNED,
             TURNED,
@@ -96,11 +87,20 @@ fn a_comparison_is_refused_with_nothing_printed(rt: HostRuntime) -> Result<(), F
             TWELVE,
             b"",
             &["compare", "r", "c", "max-words=16"],
-            too_large,
+            too_large(17, 16),
             "aclc: ip4 table too large: words 17 budget 16\n",
         ),
+    ];
+    for (one, two, words, status, err) in cases {
+        expect(&rt, words, one, two, FAULTLESS, (status, "", err, 0))?;
+    }
+    Ok(())
+}
+
+#[test]
+fn a_comparison_of_a_missing_list_prints_nothing(rt: HostRuntime) -> Result<(), Fail> {
+    let cases: [(&[u8], &[&str], Status, &str); 3] = [
         (
-            b"",
             b"",
             &["compare", "r", "x"],
             Status::ReadFault,
@@ -108,21 +108,19 @@ fn a_comparison_is_refused_with_nothing_printed(rt: HostRuntime) -> Result<(), F
         ),
         (
             TURNED,
-            b"",
             &["compare", "x", "r"],
             Status::ReadFault,
             "aclc: read fault\n",
         ),
         (
             b"",
-            b"",
             &["compare", "r"],
-            no_name,
+            usage(3, UsageKind::MissingName),
             "aclc: usage: word 3: missing name\n",
         ),
     ];
-    for (one, two, words, status, err) in cases {
-        expect(&rt, words, one, two, FAULTLESS, (status, "", err, 0))?;
+    for (rules, words, status, err) in cases {
+        expect(&rt, words, rules, b"", FAULTLESS, (status, "", err, 0))?;
     }
     Ok(())
 }

@@ -1,6 +1,6 @@
 //! Whole commands over files in memory: sizes of tables, transitions, budgets and marks.
 
-use crate::commands::{ANY, FAULTLESS, GUIDE, HEADER, IP4_FRAME, add_record, expect};
+use crate::commands::{ANY, FAULTLESS, GUIDE, HEADER, IP4_FRAME, add_record, expect, too_large};
 use acl_tool::{Family, Status};
 use std::alloc::{AllocError, Global};
 use std::test::Fail;
@@ -161,15 +161,6 @@ ip4 rules 3 tries 2 words 95\nip6 rules 0 tries 0 words 16\ntransitions 21\n",
         expect(&rt, words, rules, &capture, FAULTLESS, want)?;
     }
     Ok(())
-}
-
-/// The status of an IPv4 table that is too large.
-fn too_large(words: u64, budget: u64) -> Status {
-    Status::TooLarge {
-        family: Family::Ip4,
-        words,
-        budget,
-    }
 }
 
 #[test]
