@@ -249,7 +249,9 @@ fn too_large(words: u64, budget: u64) -> Status {
 
 #[test]
 fn words_are_refused_from_left_to_right(rt: HostRuntime) -> Result<(), Fail> {
-    let cases: [(&[&str], Status, &str); 13] = [
+    let unknown = usage(4, UsageKind::UnknownOption);
+    let unknown_option = "aclc: usage: word 4: unknown option\n";
+    let cases: [(&[&str], Status, &str); 7] = [
         (
             &[],
             usage(1, UsageKind::MissingCommand),
@@ -265,50 +267,12 @@ fn words_are_refused_from_left_to_right(rt: HostRuntime) -> Result<(), Fail> {
             usage(3, UsageKind::MissingName),
             "aclc: usage: word 3: missing name\n",
         ),
-        (
-            &["classify", "r", "c", "categories=2"],
-            usage(4, UsageKind::BadValue),
-            "aclc: usage: word 4: bad value\n",
-        ),
-        (
-            &["classify", "r", "c", "categories=000000000000000000004"],
-            usage(4, UsageKind::BadValue),
-            "aclc: usage: word 4: bad value\n",
-        ),
-        (
-            &["classify", "r", "c", "max-words=0"],
-            usage(4, UsageKind::BadValue),
-            "aclc: usage: word 4: bad value\n",
-        ),
-        (
-            &["classify", "r", "c", "max-words=67108865"],
-            usage(4, UsageKind::BadValue),
-            "aclc: usage: word 4: bad value\n",
-        ),
-        (
-            &["classify", "r", "c", "max-words="],
-            usage(4, UsageKind::BadValue),
-            "aclc: usage: word 4: bad value\n",
-        ),
-        (
-            &["classify", "r", "c", "stats=yes"],
-            usage(4, UsageKind::BadValue),
-            "aclc: usage: word 4: bad value\n",
-        ),
-        (
-            &["build", "r", "i", "stats=on"],
-            usage(4, UsageKind::UnknownOption),
-            "aclc: usage: word 4: unknown option\n",
-        ),
+        (&["build", "r", "i", "stats=on"], unknown, unknown_option),
+        (&["classify", "r", "c", "c"], unknown, unknown_option),
         (
             &["classify", "r", "c", "stats=on", "stats=off"],
             usage(5, UsageKind::RepeatedOption),
             "aclc: usage: word 5: repeated option\n",
-        ),
-        (
-            &["classify", "r", "c", "c"],
-            usage(4, UsageKind::UnknownOption),
-            "aclc: usage: word 4: unknown option\n",
         ),
         (
             &["classify", "r", "c", "categories=4", "categories=2"],
@@ -318,6 +282,25 @@ fn words_are_refused_from_left_to_right(rt: HostRuntime) -> Result<(), Fail> {
     ];
     for (words, status, err) in cases {
         expect(&rt, words, GUIDE, HEADER, FAULTLESS, (status, "", err, 0))?;
+    }
+    Ok(())
+}
+
+#[test]
+fn an_option_with_a_bad_value_is_refused(rt: HostRuntime) -> Result<(), Fail> {
+    let bad_value = usage(4, UsageKind::BadValue);
+    let want = (bad_value, "", "aclc: usage: word 4: bad value\n", 0);
+    let options = [
+        "categories=2",
+        "categories=000000000000000000004",
+        "max-words=0",
+        "max-words=67108865",
+        "max-words=",
+        "stats=yes",
+    ];
+    for option in options {
+        let words = &["classify", "r", "c", option];
+        expect(&rt, words, GUIDE, HEADER, FAULTLESS, want)?;
     }
     Ok(())
 }
