@@ -42,6 +42,9 @@ const TEN_AND_ELEVEN: &[Sent] = &[
     (6, [11, 0, 0, 1, 5, 6, 7, 8, 0, 9, 0, 10]),
 ];
 
+/// The second of these alone.
+const ELEVEN: &[Sent] = &[(6, [11, 0, 0, 1, 5, 6, 7, 8, 0, 9, 0, 10])];
+
 /// UDP to the ports 1023, 1024 and 65535.
 const PORTS: &[Sent] = &[
     (17, [1, 2, 3, 4, 5, 6, 7, 8, 0, 9, 3, 255]),
@@ -72,89 +75,90 @@ fn capture_of(alloc: Global, packets: &[Sent]) -> Result<Vec<u8>, AllocError> {
     Ok(capture)
 }
 
+/// The rules, a budget, the packets, and what is printed.
+const SIZES: [(&[u8], &str, &[Sent], &str); 11] = [
+    (
+        b"",
+        "max-words=16",
+        &[],
+        "packets 0 ip4 0 ip6 0 other 0 short 0
+ip4 rules 0 tries 0 words 16\nip6 rules 0 tries 0 words 16\ntransitions 0\n",
+    ),
+    (
+        GUIDE,
+        "max-words=85",
+        GUIDE_PACKETS,
+        "1 ip4 1\n2 ip4 0\npackets 2 ip4 2 ip6 0 other 0 short 0
+ip4 rules 1 tries 1 words 85\nip6 rules 0 tries 0 words 16\ntransitions 26\n",
+    ),
+    (
+        ANY,
+        "max-words=33",
+        ONE_PACKET,
+        "1 ip4 1\npackets 1 ip4 1 ip6 0 other 0 short 0
+ip4 rules 1 tries 1 words 33\nip6 rules 0 tries 0 words 16\ntransitions 1\n",
+    ),
+    (
+        FROM_TEN,
+        "max-words=40",
+        ELEVEN,
+        "1 ip4 0\npackets 1 ip4 1 ip6 0 other 0 short 0
+ip4 rules 1 tries 1 words 40\nip6 rules 0 tries 0 words 16\ntransitions 1\n",
+    ),
+    (
+        b"@0.0.0.0/0 0.0.0.0/0 0:65535 1024:65535 0x00/0x00",
+        "max-words=40",
+        PORTS,
+        "1 ip4 0\n2 ip4 1\n3 ip4 1\npackets 3 ip4 3 ip6 0 other 0 short 0
+ip4 rules 1 tries 1 words 40\nip6 rules 0 tries 0 words 16\ntransitions 11\n",
+    ),
+    (
+        b"@0.0.0.0/0 0.0.0.0/0 0:65535 0:65535 0x01/0x01",
+        "max-words=288",
+        PROTOCOLS,
+        "1 ip4 0\n2 ip4 1\npackets 2 ip4 2 ip6 0 other 0 short 0
+ip4 rules 1 tries 1 words 288\nip6 rules 0 tries 0 words 16\ntransitions 2\n",
+    ),
+    (
+        TO_TEN,
+        "max-words=59",
+        &[],
+        "packets 0 ip4 0 ip6 0 other 0 short 0
+ip4 rules 2 tries 1 words 59\nip6 rules 0 tries 0 words 16\ntransitions 0\n",
+    ),
+    (
+        TO_TEN,
+        "max-words=58",
+        &[],
+        "packets 0 ip4 0 ip6 0 other 0 short 0
+ip4 rules 2 tries 2 words 57\nip6 rules 0 tries 0 words 16\ntransitions 0\n",
+    ),
+    (
+        ANY_OF_BOTH,
+        "max-words=33",
+        &[],
+        "packets 0 ip4 0 ip6 0 other 0 short 0
+ip4 rules 1 tries 1 words 33\nip6 rules 1 tries 1 words 33\ntransitions 0\n",
+    ),
+    (
+        CROSSED,
+        "max-words=136",
+        &[],
+        "packets 0 ip4 0 ip6 0 other 0 short 0
+ip4 rules 3 tries 1 words 136\nip6 rules 0 tries 0 words 16\ntransitions 0\n",
+    ),
+    (
+        CROSSED,
+        "max-words=135",
+        CROSSED_PACKETS,
+        "1 ip4 1\n2 ip4 3\n3 ip4 2\npackets 3 ip4 3 ip6 0 other 0 short 0
+ip4 rules 3 tries 2 words 95\nip6 rules 0 tries 0 words 16\ntransitions 21\n",
+    ),
+];
+
 #[test]
 fn tables_are_told_with_their_sizes(rt: HostRuntime) -> Result<(), Fail> {
-    // The rules, a budget, the packets, and what is printed.
-    let cases: [(&[u8], &str, &[Sent], &str); 11] = [
-        (
-            b"",
-            "max-words=16",
-            &[],
-            "packets 0 ip4 0 ip6 0 other 0 short 0
-ip4 rules 0 tries 0 words 16\nip6 rules 0 tries 0 words 16\ntransitions 0\n",
-        ),
-        (
-            GUIDE,
-            "max-words=85",
-            GUIDE_PACKETS,
-            "1 ip4 1\n2 ip4 0\npackets 2 ip4 2 ip6 0 other 0 short 0
-ip4 rules 1 tries 1 words 85\nip6 rules 0 tries 0 words 16\ntransitions 26\n",
-        ),
-        (
-            ANY,
-            "max-words=33",
-            ONE_PACKET,
-            "1 ip4 1\npackets 1 ip4 1 ip6 0 other 0 short 0
-ip4 rules 1 tries 1 words 33\nip6 rules 0 tries 0 words 16\ntransitions 1\n",
-        ),
-        (
-            FROM_TEN,
-            "max-words=40",
-            &TEN_AND_ELEVEN[1..],
-            "1 ip4 0\npackets 1 ip4 1 ip6 0 other 0 short 0
-ip4 rules 1 tries 1 words 40\nip6 rules 0 tries 0 words 16\ntransitions 1\n",
-        ),
-        (
-            b"@0.0.0.0/0 0.0.0.0/0 0:65535 1024:65535 0x00/0x00",
-            "max-words=40",
-            PORTS,
-            "1 ip4 0\n2 ip4 1\n3 ip4 1\npackets 3 ip4 3 ip6 0 other 0 short 0
-ip4 rules 1 tries 1 words 40\nip6 rules 0 tries 0 words 16\ntransitions 11\n",
-        ),
-        (
-            b"@0.0.0.0/0 0.0.0.0/0 0:65535 0:65535 0x01/0x01",
-            "max-words=288",
-            PROTOCOLS,
-            "1 ip4 0\n2 ip4 1\npackets 2 ip4 2 ip6 0 other 0 short 0
-ip4 rules 1 tries 1 words 288\nip6 rules 0 tries 0 words 16\ntransitions 2\n",
-        ),
-        (
-            TO_TEN,
-            "max-words=59",
-            &[],
-            "packets 0 ip4 0 ip6 0 other 0 short 0
-ip4 rules 2 tries 1 words 59\nip6 rules 0 tries 0 words 16\ntransitions 0\n",
-        ),
-        (
-            TO_TEN,
-            "max-words=58",
-            &[],
-            "packets 0 ip4 0 ip6 0 other 0 short 0
-ip4 rules 2 tries 2 words 57\nip6 rules 0 tries 0 words 16\ntransitions 0\n",
-        ),
-        (
-            ANY_OF_BOTH,
-            "max-words=33",
-            &[],
-            "packets 0 ip4 0 ip6 0 other 0 short 0
-ip4 rules 1 tries 1 words 33\nip6 rules 1 tries 1 words 33\ntransitions 0\n",
-        ),
-        (
-            CROSSED,
-            "max-words=136",
-            &[],
-            "packets 0 ip4 0 ip6 0 other 0 short 0
-ip4 rules 3 tries 1 words 136\nip6 rules 0 tries 0 words 16\ntransitions 0\n",
-        ),
-        (
-            CROSSED,
-            "max-words=135",
-            CROSSED_PACKETS,
-            "1 ip4 1\n2 ip4 3\n3 ip4 2\npackets 3 ip4 3 ip6 0 other 0 short 0
-ip4 rules 3 tries 2 words 95\nip6 rules 0 tries 0 words 16\ntransitions 21\n",
-        ),
-    ];
-    for (rules, budget, packets, out) in cases {
+    for (rules, budget, packets, out) in SIZES {
         let words = &["classify", "r", "c", budget, "stats=on"];
         let capture = capture_of(rt.alloc(), packets)?;
         let want = (Status::Done, out, "", 0);
