@@ -4,8 +4,8 @@ use acl_tool::{held_stream, run_over, system_words};
 use std::alloc::{AllocError, Global};
 use std::env::FillError;
 use std::fs;
-use std::process::ExitCode;
-use std::rt::Env;
+use std::process::{Abort, ExitCode};
+use std::rt::{Env, Files};
 use std::test::Fail;
 
 /// The guide's rule, and two packets of which the first matches it.
@@ -29,12 +29,34 @@ fn strings(alloc: Global, all: &[&str]) -> Result<Vec<String>, AllocError> {
     Ok(words)
 }
 
+/// Runs the program with all these words over new files as its streams, and compares its code and
+/// what it put to standard output and to standard error.
+fn ends<R: Abort + AllocGlobal + Files>(
+    rt: &R,
+    all: &[&str],
+    code: u8,
+    printed: &str,
+    told: &str,
+) -> Result<(), Fail> {
+    let all = strings(rt.alloc(), all)?;
+    let out = fs::create(rt, "aclc_test.out")?;
+    let err = fs::create(rt, "aclc_test.err")?;
+    let ended = run_over(rt, rt.alloc(), Some(all), out, err);
+    assert!(rt; ended == ExitCode::from(code));
+    assert_eq!(rt;
+        fs::read(rt, "aclc_test.out")?.as_slice(),
+        printed.as_bytes()
+    );
+    assert_eq!(rt; fs::read(rt, "aclc_test.err")?.as_slice(), told.as_bytes());
+    Ok(())
+}
+
 #[test]
 fn the_guides_example_is_printed_as_it_is_shipped(rt: HostRuntime) -> Result<(), Fail> {
     fs::write(&rt, "aclc_test.rules", RULES)?;
     fs::write(&rt, "aclc_test.pcap", CAPTURE)?;
-    // The words after the program's name, the code, and what standard output and standard error
-    // have then.
+    // All words, of which the first is the program's name, the code, and what standard output and
+    // standard error have then.
     let cases: [(&[&str], u8, &str, &str); 4] = [
         (
             &["aclc", "classify", "aclc_test.rules", "aclc_test.pcap"],
@@ -57,16 +79,7 @@ fn the_guides_example_is_printed_as_it_is_shipped(rt: HostRuntime) -> Result<(),
         (&[], 2, "", "aclc: usage: word 1: missing command\n"),
     ];
     for (all, code, printed, told) in cases {
-        let all = strings(rt.alloc(), all)?;
-        let out = fs::create(&rt, "aclc_test.out")?;
-        let err = fs::create(&rt, "aclc_test.err")?;
-        let ended = run_over(&rt, rt.alloc(), Some(all), out, err);
-        assert!(rt; ended == ExitCode::from(code));
-        assert_eq!(rt;
-            fs::read(&rt, "aclc_test.out")?.as_slice(),
-            printed.as_bytes()
-        );
-        assert_eq!(rt; fs::read(&rt, "aclc_test.err")?.as_slice(), told.as_bytes());
+        ends(&rt, all, code, printed, told)?;
     }
     for name in [
         "aclc_test.rules",
