@@ -2,6 +2,7 @@
 
 ghost use Rattle.std.specs.Prelude.{◌≡◌, ◌<◌, length, IsTrue};
 ghost use Rattle.field_defs.specs.FieldMatch.{CanMatch, is_range_filled};
+ghost use Rattle.node_expand.specs.Edges.{StandsBefore};
 
 use field_defs::FieldValue;
 use node_expand::{Edge, as_range, cuts, first_and_last, start_edge, step_edge};
@@ -48,10 +49,19 @@ fn shows(
         );
     }
 
+    cuts_are(rt, &value, size, place, reached, marked);
+}
+
+/// At a place and an edge the value has its cuts at these bytes.
+fn cuts_are(rt: &impl Abort, value: &FieldValue, size: u8, place: u8, edge: Edge, marked: &[u8])
+    requires value { CanMatch value.now size }
+    requires place { place < size }
+    requires edge { StandsBefore value.now size place edge }
+{
     // A mark that was set stays so, at a cut and elsewhere.
     let mut marks = [false; 256];
     marks[0] = true;
-    cuts(&value, size, place, reached, &mut marks);
+    cuts(value, size, place, edge, &mut marks);
     for byte in 0..=255u8 {
         assert_eq!(rt;
             marks[usize::from(byte)],
