@@ -6,7 +6,9 @@ use std::process::Abort;
 use std::test::Fail;
 use table_image::{ImageFault, ImageKind, LoadFault, load, save};
 
-/// The numbers that both versions begin with, but for the version, and those that they end with.
+/// The number that both versions begin with, and those that they end with.
+const MAGIC: u32 = 0x4143_4C54;
+
 const IP6_TABLE: [u32; 4] = [6, 0, 0, 0];
 
 /// The image of these numbers of four bytes, row 1 and the empty IPv6 table.
@@ -28,20 +30,7 @@ fn image(alloc: Global, numbers: &[u32]) -> Result<Vec<u8>, Fail> {
 fn version_2(alloc: Global) -> Result<Vec<u8>, Fail> {
     image(
         alloc,
-        &[
-            0x4143_4C54,
-            2,
-            4,
-            1,
-            1,
-            1,
-            1,
-            1,
-            0,
-            0x2000_0000,
-            0,
-            0x8000_0001,
-        ],
+        &[MAGIC, 2, 4, 1, 1, 1, 1, 1, 0, 0x20000000, 0, 0x80000001],
     )
 }
 
@@ -50,53 +39,10 @@ fn version_1(alloc: Global) -> Result<Vec<u8>, Fail> {
     image(
         alloc,
         &[
-            0x4143_4C54,
-            1,
-            4,
-            1,
-            1,
-            1,
-            1,
-            1,
-            1,
-            1,
-            1,
-            1,
-            1,
-            1,
-            1,
-            1,
-            1,
-            1,
-            1,
-            0,
-            0x2000_0000,
-            0,
-            0x2000_0001,
-            0,
-            0x2000_0002,
-            0,
-            0x2000_0003,
-            0,
-            0x2000_0004,
-            0,
-            0x2000_0005,
-            0,
-            0x2000_0006,
-            0,
-            0x2000_0007,
-            0,
-            0x2000_0008,
-            0,
-            0x2000_0009,
-            0,
-            0x2000_000A,
-            0,
-            0x2000_000B,
-            0,
-            0x2000_000C,
-            0,
-            0x8000_0001,
+            MAGIC, 1, 4, 1, 1, 1, 1, 1, 1, 1, 1, 1, 1, 1, 1, 1, 1, 1, 1, 0, 0x20000000, 0,
+            0x20000001, 0, 0x20000002, 0, 0x20000003, 0, 0x20000004, 0, 0x20000005, 0, 0x20000006,
+            0, 0x20000007, 0, 0x20000008, 0, 0x20000009, 0, 0x2000000A, 0, 0x2000000B, 0,
+            0x2000000C, 0, 0x80000001,
         ],
     )
 }
