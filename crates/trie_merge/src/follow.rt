@@ -4,7 +4,7 @@ ghost use Rattle.std.specs.Prelude.{◌≡◌, ℕ, ◌+◌, ◌<◌, ◌≤◌,
 ghost use Rattle.std.specs.Prelude.{OnOk, IfOk, Some, None};
 ghost use Rattle.shared_parts.specs.Keys.{has_entry};
 ghost use Rattle.shared_parts.specs.Target.{count, Grows, HasEntry, IsFoundIn};
-ghost use Rattle.trie_merge.specs.Entry.{entry_step, CanStep};
+ghost use Rattle.trie_merge.specs.Entry.{ColumnView, entry_step, CanStep};
 ghost use Rattle.trie_merge.specs.Led.{EntryLed, PartLed, StepsLed, AllLed};
 
 use crate::column::Column;
@@ -25,6 +25,18 @@ fn number_of(target: &mut Target, found: Option<u32>) -> Result<u32, AllocError>
     }
 }
 
+/// Makes the pieces those of an entry that every byte leaves as it is.
+fn lead_kept(entry: u32, target: &mut Target, pieces: &mut Vec<Piece>) -> Result<(), AllocError>
+    ensures { OnOk result ((column : ColumnView) →
+        ((byte : ℕ) → byte < 256 → entry_step column entry byte ≡ Some entry) →
+        EntryLed column entry target.old target.new pieces.new.items) }
+{
+    pieces.clear();
+    let to = target.entry(entry)?;
+    push_piece(pieces, u8::MAX, to)?;
+    Ok(())
+}
+
 /// Makes the pieces those of one entry.
 fn lead_entry(
     column: &Column,
@@ -36,6 +48,9 @@ fn lead_entry(
     ensures { OnOk result
         (EntryLed column.now entry target.old target.new pieces.new.items) }
 {
+    if column.keeps(entry) {
+        return lead_kept(entry, target, pieces);
+    }
     pieces.clear();
     let asked = column.ask(entry);
     let mut first = 0usize;

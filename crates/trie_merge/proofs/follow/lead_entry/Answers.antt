@@ -1,4 +1,5 @@
 use Rattle.std.proofs.Common.{◌+◌, ◌∙◌, inl, inr, sym, subst}
+use Rattle.std.proofs.lemmas.Result.{on_ok_weaker}
 use Rattle.shared_parts.specs.Target.{IsFoundIn}
 use Rattle.trie_merge.proofs.Leads.{EntrySoFar, no_bytes, more_bytes, all_bytes_led}
 use Rattle.trie_merge.proofs.follow.lead_entry.Goals as goal
@@ -32,3 +33,8 @@ pub returns : goal.returns
 returns c =
     all_bytes_led c.args.column.now c.args.entry c.args.target.now c.loop-first.target c.loop-first.pieces.items
     c.loop-first.first c.loop-first.invariant c.loop-first-test.false
+
+pub returns-then-keeps : goal.returns-then-keeps
+returns-then-keeps c =
+    on_ok_weaker c.lead_kept.result
+    (λ led. led c.args.column.now (c.keeps.ensures.step c.if-keeps.true)) c.lead_kept.ensures
