@@ -92,8 +92,8 @@ pub record CanStep (column : ColumnView) (entry : ℕ) : Type 0 where
   pub stands : StandsBefore (value_in column entry) column.size column.place
       (edge_before column entry)
 
--- What is asked about bytes at the place is the entry: the bytes that are allowed answer as its rule's
--- value does.
+-- What is asked about bytes at the place is the entry: the bytes that are allowed answer as its
+-- rule's value does.
 pub record IsAsked (column : ColumnView) (entry : ℕ) (asked : Asked) : Type 0 where
   pub number : asked.number ≡ number_in entry
   pub few : asked.number < 2 ^ 30

@@ -63,10 +63,11 @@ fn kept_fields(
     Ok(fields)
 }
 
-/// A rule, and where its keys begin.
+/// A rule, its first key, and where its keys begin.
 #[derive(Clone, Copy)]
 pub(crate) struct Keyed {
     pub(crate) number: u32,
+    lead: u128,
     first: usize,
 }
 
@@ -134,9 +135,14 @@ impl KeyedRules {
             (numbers_in self.new.rules.items ≡ numbers_in self.old.rules.items ++ number ∷ []) }
     {
         let first = self.keys.all.len();
-        self.rules.push(Keyed { number, first })?;
         self.keys
             .push_rule(rules.at(number as usize).fields(), fields)?;
+        let lead = key_at(self.keys.all.as_slice(), first);
+        self.rules.push(Keyed {
+            number,
+            lead,
+            first,
+        })?;
         Ok(())
     }
 }
@@ -174,9 +180,15 @@ fn key_at(keys: &[u128], place: usize) -> u128 {
     }
 }
 
-/// How two rules stand to one another, by the first of so many keys that tells.
+/// How two rules stand to one another, by the first of so many keys that tells. Mostly that is the
+/// first of all.
+#[inline]
 fn compare(keys: &[u128], count: usize, one: Keyed, other: Keyed) -> Ordering {
-    for k in 0..count {
+    match one.lead.cmp(&other.lead) {
+        Ordering::Equal => {}
+        differs => return differs,
+    }
+    for k in 1..count {
         let its = key_at(keys, one.first.wrapping_add(k));
         match its.cmp(&key_at(keys, other.first.wrapping_add(k))) {
             Ordering::Equal => {}

@@ -11,12 +11,13 @@ abbrev entry_at : Keyed → ℕ
 entry_at keyed = entry_of keyed.number Free
 
 pub entry_of-requires : goal.entry_of-requires
-entry_of-requires c = c.requires c.loop-keyed.keyed-index (record { number = 0; first = 0 }) c.loop-keyed-test.true
+entry_of-requires c =
+    c.requires c.loop-keyed.keyed-index (record { number = 0; lead = 0; first = 0 }) c.loop-keyed-test.true
 
 pub loop-keyed-preserved : goal.loop-keyed-preserved
 loop-keyed-preserved c =
     let made : List ℕ = c.loop-keyed.entries.items in
-    one_more_mapped entry_at c.args.order.now c.loop-keyed.keyed-index (record { number = 0; first = 0 }) made
+    one_more_mapped entry_at c.args.order.now c.loop-keyed.keyed-index (record { number = 0; lead = 0; first = 0 }) made
     c.push.new.self.items c.loop-keyed-test.true c.loop-keyed.invariant
     (c.in_ok-push.ensures.items ∙ ap (λ entry. made ++ entry ∷ []) c.entry_of.ensures)
 

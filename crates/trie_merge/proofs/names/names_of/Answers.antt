@@ -20,7 +20,8 @@ index_mut-requires c =
     omega (
       arith,
       rank_told rules c.args.ranked.now number c.rank_at.result c.requires inside c.rank_at.ensures,
-      rank_inside c.ranks_order_rules.ensures rules.rules c.loop-number.names.items number inside c.loop-number.invariant,
+      rank_inside c.ranks_order_rules.ensures rules.rules c.loop-number.names.items number inside
+          c.loop-number.invariant,
       c.loop-number.names.ok,
     )
 
