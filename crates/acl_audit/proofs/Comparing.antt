@@ -13,12 +13,12 @@ use Rattle.rule_set.specs.Laws.{TheWinnerIsAmongAllPlaces}
 use Rattle.rule_set.specs.Rule.{RuleView, RuleSetView}
 use Rattle.rule_set.specs.Winner.{winner, verdict, userdata_at}
 use Rattle.table_sizes.specs.Sizes.{row_len}
-use Rattle.trie_merge.specs.Found.{prefixes}
-use Rattle.trie_merge.specs.Laws.{IsGrouped}
-use Rattle.trie_merge.specs.Levels.{LevelsView, levels_of}
-use Rattle.trie_merge.specs.Row.{final_row}
-use Rattle.trie_merge.specs.State.{state, is_live}
-use Rattle.trie_merge.proofs.Offered.{bytes_eq_sound, prefixes_are, all_weaker, IsPrefix}
+use Rattle.group_states.specs.Found.{prefixes}
+use Rattle.group_states.specs.Laws.{IsGrouped}
+use Rattle.group_states.specs.Levels.{LevelsView, levels_of}
+use Rattle.group_states.specs.Row.{final_row}
+use Rattle.group_states.specs.State.{state, is_live}
+use Rattle.group_states.proofs.Offered.{bytes_eq_sound, prefixes_are, all_weaker, IsPrefix}
 use Rattle.acl_audit.specs.declared.compare.Compared.{Compared}
 use Rattle.acl_audit.specs.declared.compare.CompareFault.{CompareFault}
 use Rattle.acl_audit.specs.declared.unlike.Unlike.{Unlike}

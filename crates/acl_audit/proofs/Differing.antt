@@ -11,8 +11,8 @@ use Rattle.list_lemmas.proofs.First.{find_passes}
 use Rattle.field_defs.specs.Faults.{first_of}
 use Rattle.field_defs.specs.Layout.{key_len_of}
 use Rattle.rule_set.specs.Rule.{RuleSetView}
-use Rattle.trie_merge.specs.Found.{all_bytes, prefixes}
-use Rattle.trie_merge.proofs.Offered.{prefixes_are, IsPrefix}
+use Rattle.group_states.specs.Found.{all_bytes, prefixes}
+use Rattle.group_states.proofs.Offered.{prefixes_are, IsPrefix}
 use Rattle.acl_audit.specs.Difference.{Difference, verdict_of, is_unlike, eight_from, with_category, least_passing}
 use Rattle.acl_audit.specs.Difference.{difference_from, difference}
 use Rattle.acl_audit.specs.Laws.{IsKey, AreAlike, AreUnlikeAt, DifferencesTellUnlikeSets}

@@ -6,9 +6,9 @@ use Rattle.std.proofs.lemmas.List.{append-nil}
 use Rattle.std.proofs.lemmas.List.Sums.{fold-append}
 use Rattle.std.proofs.lemmas.List.Concat.{flat_map-append}
 use Rattle.std.proofs.lemmas.Bool.{cases_Bool}
-use Rattle.trie_merge.specs.Found.{found_with, found_in}
-use Rattle.trie_merge.proofs.Offered.{is_new, stays_found, goes_after, found_grows, NoneNew, none_new_more, all_stays}
-use Rattle.trie_merge.proofs.Offered.{old_once_found, none_new_once_found, found_in-map}
+use Rattle.group_states.specs.Found.{found_with, found_in}
+use Rattle.group_states.proofs.Offered.{is_new, stays_found, goes_after, found_grows, NoneNew, none_new_more, all_stays}
+use Rattle.group_states.proofs.Offered.{old_once_found, none_new_once_found, found_in-map}
 use Rattle.acl_audit.proofs.Least.{first_then, find-then}
 
 -- the elements that stand for values which aren't found yet

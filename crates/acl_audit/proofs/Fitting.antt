@@ -20,14 +20,14 @@ use Rattle.rule_set.specs.Laws.{TheWinnerIsAmongAllPlaces}
 use Rattle.rule_set.specs.Rule.{RuleSetView}
 use Rattle.rule_set.specs.Winner.{applies, is_greatest, winner}
 use Rattle.table_sizes.specs.Sizes.{cost_of, max_words, row_len}
-use Rattle.trie_merge.specs.declared.run.Run.{Run}
-use Rattle.trie_merge.specs.Found.{prefixes}
-use Rattle.trie_merge.specs.Kept.{group_of, is_kept, kept_places, kept_bits}
-use Rattle.trie_merge.specs.Laws.{IsGrouped}
-use Rattle.trie_merge.specs.Levels.{IsGroup, levels_of}
-use Rattle.trie_merge.specs.Row.{final_row, row_of, winner_of}
-use Rattle.trie_merge.specs.State.{Held, state, is_live}
-use Rattle.trie_merge.proofs.Offered.{All-found_in, prefixes_are, all_weaker, all-map, IsPrefix, whole_numbers}
+use Rattle.group_states.specs.declared.run.Run.{Run}
+use Rattle.group_states.specs.Found.{prefixes}
+use Rattle.group_states.specs.Kept.{group_of, is_kept, kept_places, kept_bits}
+use Rattle.group_states.specs.Laws.{IsGrouped}
+use Rattle.group_states.specs.Levels.{IsGroup, levels_of}
+use Rattle.group_states.specs.Row.{final_row, row_of, winner_of}
+use Rattle.group_states.specs.State.{Held, state, is_live}
+use Rattle.group_states.proofs.Offered.{All-found_in, prefixes_are, all_weaker, all-map, IsPrefix, whole_numbers}
 use Rattle.acl_audit.specs.Least.{all_rules}
 use Rattle.acl_audit.specs.Traced.{is_kept_in, places_of}
 use Rattle.acl_audit.proofs.Telling.{rows_are}

@@ -7,14 +7,14 @@ use Rattle.std.proofs.lemmas.List.{take_more, take_more_set, length-take-le, len
 use Rattle.std.proofs.lemmas.List.{get_or-set_other, append_assoc, append-nil, map-append}
 use Rattle.field_defs.specs.Layout.{key_len_of}
 use Rattle.rule_set.specs.Rule.{RuleSetView}
-use Rattle.trie_merge.specs.Found.{all_bytes, prefixes}
-use Rattle.trie_merge.specs.Kept.{is_wild_place}
-use Rattle.trie_merge.specs.Laws.{IsGrouped}
-use Rattle.trie_merge.specs.Levels.{reached}
-use Rattle.trie_merge.specs.State.{Held, state, state_step, state_through, same_state, is_live}
-use Rattle.trie_merge.proofs.Offered.{AreBytes, IsPrefix, prefixes_are, bytes_below, all-map}
-use Rattle.trie_merge.proofs.Offered.{all-flat_map, all_weaker, map_same, map-map, state_goes_through}
-use Rattle.trie_merge.proofs.Offered.{held_of, state_is, decoded, packed_state, packed_state_wild, same_state-Decides}
+use Rattle.group_states.specs.Found.{all_bytes, prefixes}
+use Rattle.group_states.specs.Kept.{is_wild_place}
+use Rattle.group_states.specs.Laws.{IsGrouped}
+use Rattle.group_states.specs.Levels.{reached}
+use Rattle.group_states.specs.State.{Held, state, state_step, state_through, same_state, is_live}
+use Rattle.group_states.proofs.Offered.{AreBytes, IsPrefix, prefixes_are, bytes_below, all-map}
+use Rattle.group_states.proofs.Offered.{all-flat_map, all_weaker, map_same, map-map, state_goes_through}
+use Rattle.group_states.proofs.Offered.{held_of, state_is, decoded, packed_state, packed_state_wild, same_state-Decides}
 use Rattle.acl_audit.proofs.Finding.{found_by, found_after, found_firsts}
 use Rattle.acl_audit.proofs.Least.{longer}
 

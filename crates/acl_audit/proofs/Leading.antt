@@ -6,16 +6,16 @@ use Rattle.std.specs.Str.{bytes_eq}
 use Rattle.std.proofs.lemmas.List.{map-append}
 use Rattle.field_defs.specs.Layout.{key_len_of}
 use Rattle.rule_set.specs.Rule.{RuleSetView}
-use Rattle.trie_merge.specs.declared.run.Run.{Run}
-use Rattle.trie_merge.specs.declared.run.Succ.{Succ}
-use Rattle.trie_merge.specs.declared.run.Succ.TheVariants.{Dead, State, Row}
-use Rattle.trie_merge.specs.Found.{found_in, all_bytes, prefixes}
-use Rattle.trie_merge.specs.Kept.{is_wild_place}
-use Rattle.trie_merge.specs.Laws.{IsGrouped}
-use Rattle.trie_merge.specs.Levels.{reached, runs_of, states_at}
-use Rattle.trie_merge.specs.Row.{final_row}
-use Rattle.trie_merge.specs.State.{Held, state, same_state, is_live}
-use Rattle.trie_merge.proofs.Offered.{all_weaker, map_same, map-map, All-found_in, same_runs, bytes_eq_refl}
+use Rattle.group_states.specs.declared.run.Run.{Run}
+use Rattle.group_states.specs.declared.run.Succ.{Succ}
+use Rattle.group_states.specs.declared.run.Succ.TheVariants.{Dead, State, Row}
+use Rattle.group_states.specs.Found.{found_in, all_bytes, prefixes}
+use Rattle.group_states.specs.Kept.{is_wild_place}
+use Rattle.group_states.specs.Laws.{IsGrouped}
+use Rattle.group_states.specs.Levels.{reached, runs_of, states_at}
+use Rattle.group_states.specs.Row.{final_row}
+use Rattle.group_states.specs.State.{Held, state, same_state, is_live}
+use Rattle.group_states.proofs.Offered.{all_weaker, map_same, map-map, All-found_in, same_runs, bytes_eq_refl}
 use Rattle.acl_audit.specs.declared.links.Link.{Link}
 use Rattle.acl_audit.specs.Keyed.{keyed}
 use Rattle.acl_audit.specs.Links.{is_next, links_of}

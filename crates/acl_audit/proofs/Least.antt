@@ -6,7 +6,7 @@ use Rattle.std.proofs.lemmas.Bool.{cases_Bool}
 use Rattle.std.proofs.lemmas.List.{append-nil}
 use Rattle.std.proofs.lemmas.List.Concat.{flat_map-append}
 use Rattle.field_defs.specs.Faults.{first_of}
-use Rattle.trie_merge.specs.Found.{all_bytes, prefixes}
+use Rattle.group_states.specs.Found.{all_bytes, prefixes}
 use Rattle.acl_audit.specs.Least.{least_from}
 use Rattle.acl_audit.specs.Laws.{TheLeastIsTheFirstOfAllKeys}
 

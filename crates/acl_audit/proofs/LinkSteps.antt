@@ -1,7 +1,7 @@
 -- Steps of the loops that make links: of the runs of a state, of the states of a place, and of all places.
 use Rattle.std.proofs.Common.{◌≡◌, ℕ, ◌+◌, ◌%◌, ◌<◌, ◌≤◌, List, [], ◌∷◌, ◌++◌, length, map, take, drop, get_or, sym, ◌∙◌, ap}
 use Rattle.std.proofs.lemmas.List.{drop_more, drop_all, take_more, take_all, map_push}
-use Rattle.trie_merge.specs.declared.run.Run.{Run}
+use Rattle.group_states.specs.declared.run.Run.{Run}
 use Rattle.acl_audit.specs.declared.links.Link.{Link}
 use Rattle.acl_audit.specs.Links.{linked_with, runs_linked, states_linked, links_of}
 

@@ -5,10 +5,10 @@ use Rattle.std.specs.List.{list_any, position_or_len}
 use Rattle.std.proofs.lemmas.Bool.{cases_Bool, eqb-true, eq-eqb}
 use Rattle.std.proofs.lemmas.List.{length-map, map-append}
 use Rattle.std.proofs.lemmas.List.Sums.{fold-append}
-use Rattle.trie_merge.specs.declared.run.Succ.{Succ}
-use Rattle.trie_merge.specs.Found.{found_with, found_in, all_bytes}
-use Rattle.trie_merge.specs.Levels.{runs_of}
-use Rattle.trie_merge.proofs.Offered.{goes_after, found_grows}
+use Rattle.group_states.specs.declared.run.Succ.{Succ}
+use Rattle.group_states.specs.Found.{found_with, found_in, all_bytes}
+use Rattle.group_states.specs.Levels.{runs_of}
+use Rattle.group_states.proofs.Offered.{goes_after, found_grows}
 use Rattle.acl_audit.specs.declared.links.Link.{Link}
 use Rattle.acl_audit.specs.Links.{is_next, linked_with, runs_linked, states_linked, links_of}
 use Rattle.acl_audit.proofs.Finding.{found_by}

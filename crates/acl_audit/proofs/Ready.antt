@@ -9,10 +9,10 @@ use Rattle.field_defs.proofs.Offered.{short_keys}
 use Rattle.rule_set.specs.Fault.{categories}
 use Rattle.rule_set.specs.Rule.{RuleSetView}
 use Rattle.table_sizes.specs.Sizes.{max_words, row_len}
-use Rattle.trie_merge.specs.declared.run.Run.{Run}
-use Rattle.trie_merge.specs.Kept.{kept_places}
-use Rattle.trie_merge.specs.Laws.{IsGrouped}
-use Rattle.trie_merge.specs.Levels.{LevelsView, levels_of}
+use Rattle.group_states.specs.declared.run.Run.{Run}
+use Rattle.group_states.specs.Kept.{kept_places}
+use Rattle.group_states.specs.Laws.{IsGrouped}
+use Rattle.group_states.specs.Levels.{LevelsView, levels_of}
 use Rattle.acl_audit.specs.declared.links.Link.{Link}
 use Rattle.acl_audit.specs.Audited.{keys_of, HasKeys}
 use Rattle.acl_audit.specs.Firsts.{AreFirsts}

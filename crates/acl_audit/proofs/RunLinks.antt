@@ -4,12 +4,12 @@ use Rattle.std.proofs.Common.{filter, Bool, true, false, cond, not, ◌||◌, tr
 use Rattle.std.proofs.Common.{length-append}
 use Rattle.std.specs.List.{range_with_len}
 use Rattle.std.proofs.lemmas.Bool.{cases_Bool, eqb-true, eq-eqb, not-false}
-use Rattle.trie_merge.specs.declared.run.Run.{Run}
-use Rattle.trie_merge.specs.declared.run.Succ.{Succ}
-use Rattle.trie_merge.specs.declared.run.Succ.TheVariants.{Dead, State, Row}
-use Rattle.trie_merge.specs.Found.{all_bytes}
-use Rattle.trie_merge.specs.Levels.{same_succ, is_end, runs_of}
-use Rattle.trie_merge.proofs.Offered.{same_is}
+use Rattle.group_states.specs.declared.run.Run.{Run}
+use Rattle.group_states.specs.declared.run.Succ.{Succ}
+use Rattle.group_states.specs.declared.run.Succ.TheVariants.{Dead, State, Row}
+use Rattle.group_states.specs.Found.{all_bytes}
+use Rattle.group_states.specs.Levels.{same_succ, is_end, runs_of}
+use Rattle.group_states.proofs.Offered.{same_is}
 use Rattle.acl_audit.specs.declared.links.Link.{Link}
 use Rattle.acl_audit.specs.Links.{linked_with, runs_linked}
 

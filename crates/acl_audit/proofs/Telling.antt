@@ -11,13 +11,13 @@ use Rattle.rule_set.specs.Fault.{categories}
 use Rattle.rule_set.specs.Laws.{TheWinnerIsAmongAllPlaces}
 use Rattle.rule_set.specs.Rule.{RuleSetView}
 use Rattle.table_sizes.specs.Sizes.{row_len}
-use Rattle.trie_merge.specs.Found.{prefixes}
-use Rattle.trie_merge.specs.Kept.{kept_places}
-use Rattle.trie_merge.specs.Laws.{IsGrouped}
-use Rattle.trie_merge.specs.Levels.{levels_of}
-use Rattle.trie_merge.specs.Row.{final_row}
-use Rattle.trie_merge.specs.State.{state, is_live}
-use Rattle.trie_merge.proofs.Offered.{All-found_in, prefixes_are, all_weaker, IsPrefix}
+use Rattle.group_states.specs.Found.{prefixes}
+use Rattle.group_states.specs.Kept.{kept_places}
+use Rattle.group_states.specs.Laws.{IsGrouped}
+use Rattle.group_states.specs.Levels.{levels_of}
+use Rattle.group_states.specs.Row.{final_row}
+use Rattle.group_states.specs.State.{state, is_live}
+use Rattle.group_states.proofs.Offered.{All-found_in, prefixes_are, all_weaker, IsPrefix}
 use Rattle.acl_audit.specs.declared.links.Link.{Link}
 use Rattle.acl_audit.specs.Audited.{key_numbered, keys_of, HasKeys}
 use Rattle.acl_audit.specs.Firsts.{first_from, number_at, AreFirsts}

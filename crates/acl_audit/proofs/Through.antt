@@ -7,15 +7,15 @@ use Rattle.std.proofs.lemmas.List.{take_all, length-map, length-replicate}
 use Rattle.field_defs.specs.Layout.{key_len_of}
 use Rattle.field_defs.proofs.Offered.{short_keys}
 use Rattle.rule_set.specs.Rule.{RuleSetView}
-use Rattle.trie_merge.specs.declared.run.Run.{Run}
-use Rattle.trie_merge.specs.Found.{found_in, prefixes}
-use Rattle.trie_merge.specs.Kept.{is_wild_place, kept_places}
+use Rattle.group_states.specs.declared.run.Run.{Run}
+use Rattle.group_states.specs.Found.{found_in, prefixes}
+use Rattle.group_states.specs.Kept.{is_wild_place, kept_places}
 use Rattle.list_lemmas.proofs.Maps.{map_agree}
-use Rattle.trie_merge.specs.Laws.{IsGrouped}
-use Rattle.trie_merge.specs.Levels.{runs_of, states_at, state_succ, row_succ, level_runs, levels_of}
-use Rattle.trie_merge.specs.Row.{final_row, rows_of}
-use Rattle.trie_merge.specs.State.{Held, state, same_state, is_live}
-use Rattle.trie_merge.proofs.Offered.{all_weaker, All-found_in, bytes_eq_refl, Gaps, HasFirst, kept_places_first}
+use Rattle.group_states.specs.Laws.{IsGrouped}
+use Rattle.group_states.specs.Levels.{runs_of, states_at, state_succ, row_succ, level_runs, levels_of}
+use Rattle.group_states.specs.Row.{final_row, rows_of}
+use Rattle.group_states.specs.State.{Held, state, same_state, is_live}
+use Rattle.group_states.proofs.Offered.{all_weaker, All-found_in, bytes_eq_refl, Gaps, HasFirst, kept_places_first}
 use Rattle.acl_audit.specs.declared.links.Link.{Link}
 use Rattle.acl_audit.specs.Keyed.{keyed, keys_after}
 use Rattle.acl_audit.specs.Links.{is_next, links_of}

@@ -18,13 +18,13 @@ use Rattle.rule_set.specs.Rule.{RuleView, RuleSetView}
 use Rattle.rule_set.specs.Winner.{rule_match, is_in_category, winner}
 use Rattle.rule_set.proofs.Offered.{tests_in_turn}
 use Rattle.table_sizes.specs.Sizes.{row_len}
-use Rattle.trie_merge.specs.Follow.{matching}
-use Rattle.trie_merge.specs.Found.{prefixes}
-use Rattle.trie_merge.specs.Laws.{IsGrouped}
-use Rattle.trie_merge.specs.Row.{winner_of, row_of, final_row}
-use Rattle.trie_merge.specs.RuleRest.{values_of}
-use Rattle.trie_merge.specs.State.{Held, state, is_live}
-use Rattle.trie_merge.proofs.Offered.{whole_numbers, bytes_eq_sound, prefixes_are, all_weaker, IsPrefix}
+use Rattle.group_states.specs.Follow.{matching}
+use Rattle.group_states.specs.Found.{prefixes}
+use Rattle.group_states.specs.Laws.{IsGrouped}
+use Rattle.group_states.specs.Row.{winner_of, row_of, final_row}
+use Rattle.group_states.specs.RuleRest.{values_of}
+use Rattle.group_states.specs.State.{Held, state, is_live}
+use Rattle.group_states.proofs.Offered.{whole_numbers, bytes_eq_sound, prefixes_are, all_weaker, IsPrefix}
 use Rattle.acl_audit.specs.Firsts.{first_from}
 use Rattle.acl_audit.specs.Least.{wins_at, least_key, all_rules}
 use Rattle.acl_audit.proofs.Finding.{find_found}

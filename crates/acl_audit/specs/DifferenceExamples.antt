@@ -5,7 +5,7 @@ use Rattle.field_defs.specs.declared.field.FieldKind.TheVariants as kinds
 use Rattle.field_defs.specs.declared.field.FieldValue.TheVariants.{Range}
 use Rattle.rule_set.specs.Fault.{categories}
 use Rattle.rule_set.specs.Rule.{RuleView, RuleSetView}
-use Rattle.trie_merge.specs.Found.{all_bytes}
+use Rattle.group_states.specs.Found.{all_bytes}
 use Rattle.acl_audit.specs.Difference.{eight_from, least_passing, difference}
 use Rattle.acl_audit.specs.Half.{mask_of, halved_rules, half_of, has_equal_halves}
 

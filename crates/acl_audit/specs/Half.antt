@@ -9,7 +9,7 @@ use Rattle.rule_set.specs.declared.rule.RuleTag.{RuleTag}
 use Rattle.rule_set.specs.Fault.{categories}
 use Rattle.rule_set.specs.Rule.{RuleView, RuleSetView}
 use Rattle.rule_set.specs.Winner.{is_in_category}
-use Rattle.trie_merge.specs.Levels.{levels_of}
+use Rattle.group_states.specs.Levels.{levels_of}
 use Rattle.acl_audit.specs.Least.{all_rules}
 
 -- how many categories of each list a half has

@@ -4,7 +4,7 @@ use Rattle.std.specs.List.{find}
 use Rattle.field_defs.specs.Layout.{key_len_of}
 use Rattle.rule_set.specs.Limits.{max_categories}
 use Rattle.rule_set.specs.Rule.{RuleSetView}
-use Rattle.trie_merge.specs.Found.{prefixes}
+use Rattle.group_states.specs.Found.{prefixes}
 use Rattle.acl_audit.specs.Difference.{verdict_of, Difference, difference}
 use Rattle.acl_audit.specs.Half.{half_len, half_of}
 use Rattle.acl_audit.specs.Least.{least_from}

@@ -11,7 +11,7 @@ use Rattle.field_defs.specs.Layout.{key_len_of}
 use Rattle.rule_set.specs.Fault.{categories}
 use Rattle.rule_set.specs.Rule.{RuleSetView}
 use Rattle.rule_set.specs.Winner.{winner}
-use Rattle.trie_merge.specs.Found.{all_bytes}
+use Rattle.group_states.specs.Found.{all_bytes}
 
 -- the rule of that place is the winner of the key in the category
 abbrev pub wins_at : RuleSetView → ℕ → ℕ → List ℕ → Bool

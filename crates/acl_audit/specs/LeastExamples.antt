@@ -5,7 +5,7 @@ use Rattle.field_defs.specs.declared.field.FieldKind.TheVariants as kinds
 use Rattle.field_defs.specs.declared.field.FieldValue.{FieldValue}
 use Rattle.field_defs.specs.declared.field.FieldValue.TheVariants.{Range, Bitmask}
 use Rattle.rule_set.specs.Rule.{RuleView, RuleSetView}
-use Rattle.trie_merge.specs.Found.{all_bytes}
+use Rattle.group_states.specs.Found.{all_bytes}
 use Rattle.acl_audit.specs.Least.{least_key}
 
 -- a rule of categories 0 and 1

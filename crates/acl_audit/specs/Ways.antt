@@ -5,7 +5,7 @@ use Rattle.field_defs.specs.Lawful.{IsLayout}
 use Rattle.rule_set.specs.Laws.{TheWinnerIsAmongAllPlaces}
 use Rattle.rule_set.specs.Rule.{RuleSetView}
 use Rattle.rule_set.specs.RuleSet.{IsRuleSet}
-use Rattle.trie_merge.specs.Levels.{LevelsView, levels_of}
+use Rattle.group_states.specs.Levels.{LevelsView, levels_of}
 use Rattle.acl_audit.specs.declared.links.Link.{Link}
 use Rattle.acl_audit.specs.Least.{all_rules}
 use Rattle.acl_audit.specs.Links.{links_of}

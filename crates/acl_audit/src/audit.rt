@@ -4,7 +4,7 @@ ghost use Rattle.std.specs.Prelude.{◌≡◌, ℕ, ◌+◌, ◌*◌, ◌<◌, �
 ghost use Rattle.std.specs.List.{range_with_len};
 ghost use Rattle.std.specs.Option.{option_map};
 ghost use Rattle.table_sizes.specs.Sizes.{max_words};
-ghost use Rattle.trie_merge.specs.Levels.{IsGroup, levels_of};
+ghost use Rattle.group_states.specs.Levels.{IsGroup, levels_of};
 ghost use Rattle.trie_merge.specs.declared.merge.MergeFault.TheVariants.{OverCap};
 ghost use Rattle.acl_audit.specs.declared.audit.AuditFault.TheVariants.{TooLarge, OutOfMemory};
 ghost use Rattle.acl_audit.specs.Audited.{key_numbered};

@@ -4,7 +4,7 @@ ghost use Rattle.std.specs.Prelude.{◌≡◌, ◌≢◌, ℕ, ◌+◌, ◌*◌,
 ghost use Rattle.std.specs.Prelude.{IfSome, OnOk, IfOk, Err};
 ghost use Rattle.rule_set.specs.Limits.{max_rules};
 ghost use Rattle.table_sizes.specs.Sizes.{max_words};
-ghost use Rattle.trie_merge.specs.Levels.{levels_of};
+ghost use Rattle.group_states.specs.Levels.{levels_of};
 ghost use Rattle.acl_audit.specs.declared.compare.CompareFault.TheVariants.{TooManyRules, TooLarge};
 ghost use Rattle.acl_audit.specs.Compared.{told_difference, is_too_large, TellsHalf};
 ghost use Rattle.acl_audit.specs.Difference.{difference_from, difference};

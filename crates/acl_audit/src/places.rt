@@ -1,7 +1,7 @@
 //! The places of a key that merged states tell apart.
 
 ghost use Rattle.std.specs.Prelude.{◌≡◌, ◌<◌, ◌≤◌, IfOk};
-ghost use Rattle.trie_merge.specs.Kept.{group_of};
+ghost use Rattle.group_states.specs.Kept.{group_of};
 ghost use Rattle.acl_audit.specs.Traced.{is_kept_in, places_of};
 
 use std::alloc::{AllocError, Global};

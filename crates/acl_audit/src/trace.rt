@@ -3,7 +3,7 @@
 ghost use Rattle.std.specs.Prelude.{◌≡◌, ◌+◌, ◌-◌, ◌<◌, ◌≤◌, ◌++◌, ℕ, [], length, replicate, All};
 ghost use Rattle.std.specs.Prelude.{slice_index_or, OnOk, IfOk};
 ghost use Rattle.table_sizes.specs.Sizes.{max_words};
-ghost use Rattle.trie_merge.specs.Levels.{levels_of};
+ghost use Rattle.group_states.specs.Levels.{levels_of};
 ghost use Rattle.acl_audit.specs.Least.{all_rules};
 ghost use Rattle.acl_audit.specs.Traced.{traced, AreChained, keys_traced};
 ghost use Rattle.acl_audit.specs.Ways.{IsWay};

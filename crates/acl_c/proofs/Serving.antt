@@ -12,7 +12,7 @@ use Rattle.list_lemmas.proofs.Maps.{map_on_range, flat_map_on_range}
 use Rattle.field_defs.specs.Layout.{key_len_of}
 use Rattle.rule_set.specs.Rule.{RuleSetView}
 use Rattle.rule_set.specs.Winner.{winner, verdict}
-use Rattle.trie_merge.specs.Laws.{AreBytes}
+use Rattle.group_states.specs.Laws.{AreBytes}
 use Rattle.table_sizes.specs.Sizes.{row_len}
 use Rattle.flat_table.specs.Table.{TableView}
 use Rattle.flat_table.specs.Walk.{joined, table_verdict}

@@ -5,7 +5,7 @@ use Rattle.std.proofs.lemmas.List.Elements.{All-map}
 use Rattle.rule_set.specs.Rule.{RuleSetView}
 use Rattle.rule_set.specs.Groups.{IsPartition}
 use Rattle.table_sizes.specs.Sizes.{max_words, row_len}
-use Rattle.trie_merge.specs.Levels.{LevelsView, levels_of}
+use Rattle.group_states.specs.Levels.{LevelsView, levels_of}
 use Rattle.rule_split.specs.Split.{groups_of, total_of, plan_of, PlanView}
 use Rattle.rule_split.proofs.Offered.{groups_hold, total_of_words}
 use Rattle.flat_table.specs.Sound.{most_tries}

@@ -5,7 +5,7 @@ use Rattle.field_defs.specs.declared.field.Family.{Family}
 use Rattle.field_defs.specs.declared.field.Family.TheVariants.{Ip4, Ip6}
 use Rattle.rule_set.specs.Rule.{RuleView, RuleSetView}
 use Rattle.rule_set.specs.RuleSet.{IsRuleSet}
-use Rattle.trie_merge.specs.Levels.{LevelsView, levels_of}
+use Rattle.group_states.specs.Levels.{LevelsView, levels_of}
 use Rattle.table_sizes.specs.Sizes.{max_words}
 use Rattle.rule_split.specs.Split.{groups_of, plan_of, total_of}
 use Rattle.rule_split.proofs.Offered.{groups_hold, total_of_words}

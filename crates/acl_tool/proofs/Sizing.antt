@@ -8,7 +8,7 @@ use Rattle.std.proofs.lemmas.Bool.{false≢true, leb-false}
 use Rattle.field_defs.specs.declared.field.Family.{Family}
 use Rattle.field_defs.specs.declared.field.Family.TheVariants.{Ip4, Ip6}
 use Rattle.rule_set.specs.Rule.{RuleSetView}
-use Rattle.trie_merge.specs.Levels.{LevelsView, levels_of}
+use Rattle.group_states.specs.Levels.{LevelsView, levels_of}
 use Rattle.rule_split.specs.Split.{groups_of, total_of}
 use Rattle.flat_table.specs.Table.{TableView, words_of}
 use Rattle.table_fill.specs.Filled.{filled, roots_of, nodes_len, table_of_tries}

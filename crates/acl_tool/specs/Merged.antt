@@ -4,7 +4,7 @@ use Rattle.std.specs.Prelude.{ℕ, ◌+◌, if◌then◌else◌, List, Result, O
 use Rattle.field_defs.specs.declared.field.Family.{Family}
 use Rattle.field_defs.specs.declared.field.Family.TheVariants.{Ip4, Ip6}
 use Rattle.rule_set.specs.Rule.{RuleSetView}
-use Rattle.trie_merge.specs.Levels.{levels_of}
+use Rattle.group_states.specs.Levels.{levels_of}
 use Rattle.acl_audit.specs.declared.audit.AuditFault.{AuditFault}
 use Rattle.acl_audit.specs.declared.audit.AuditFault.TheVariants as faults
 use Rattle.acl_audit.specs.Half.{exceeds}

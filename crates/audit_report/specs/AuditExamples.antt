@@ -5,7 +5,7 @@ use Rattle.std.specs.Fmt.{digits}
 use Rattle.field_defs.specs.declared.field.FieldKind.TheVariants as kinds
 use Rattle.field_defs.specs.declared.field.FieldValue.TheVariants.{Range}
 use Rattle.rule_set.specs.Rule.{RuleSetView}
-use Rattle.trie_merge.specs.Found.{all_bytes}
+use Rattle.group_states.specs.Found.{all_bytes}
 use Rattle.acl_audit.specs.Least.{least_key}
 use Rattle.audit_report.specs.Key.{hex_text}
 use Rattle.audit_report.specs.Audit.{audit_text}

@@ -6,7 +6,7 @@ use Rattle.field_defs.specs.declared.field.Family.TheVariants.{Ip4, Ip6}
 use Rattle.field_defs.specs.declared.field.FieldKind.TheVariants as kinds
 use Rattle.field_defs.specs.declared.field.FieldValue.TheVariants.{Range}
 use Rattle.rule_set.specs.Rule.{RuleView, RuleSetView}
-use Rattle.trie_merge.specs.Found.{all_bytes}
+use Rattle.group_states.specs.Found.{all_bytes}
 use Rattle.acl_audit.specs.Difference as difference
 use Rattle.audit_report.specs.Compare.{compared_text}
 

@@ -19,7 +19,7 @@ use Rattle.rule_set.specs.Rule.{RuleSetView}
 use Rattle.rule_set.specs.Groups.{IsPartition}
 use Rattle.rule_set.proofs.Offered.{places_in, place_of_set}
 use Rattle.list_lemmas.proofs.Counts.{increasing_range}
-use Rattle.trie_merge.specs.Levels.{IsGroup}
+use Rattle.group_states.specs.Levels.{IsGroup}
 use Rattle.rule_split.specs.Split.{can_split, capped, total, most_words, split_place, split_at, turn, turns}
 use Rattle.rule_split.specs.Split.{first_groups, groups_by, groups_of, words_of_group, max_groups}
 use Rattle.std.specs.Option.{option_map_or}

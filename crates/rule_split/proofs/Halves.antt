@@ -9,7 +9,7 @@ use Rattle.std.proofs.lemmas.List.Kept.{IsStrictlyIncreasing-filter}
 use Rattle.std.proofs.lemmas.List.Sorted.{IsPermutation-refl, IsPermutation-filter_both, All-permutation}
 use Rattle.std.proofs.lemmas.List.Elements.{All-take, All-drop}
 use Rattle.std.proofs.Math.Seq.{take-append_seam, drop-append_seam}
-use Rattle.trie_merge.specs.Levels.{IsGroup}
+use Rattle.group_states.specs.Levels.{IsGroup}
 use Rattle.rule_set.specs.Rule.{RuleSetView}
 use Rattle.rule_set.specs.Groups.{greatest}
 use Rattle.rule_split.specs.Divide.{is_wild_in, wild_rules, bound_rules, smaller_side, smaller_sides, divider}

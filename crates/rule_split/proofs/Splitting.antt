@@ -7,7 +7,7 @@ use Rattle.std.proofs.lemmas.List.Elements.{All-append, All-cons, All-take, All-
 use Rattle.std.proofs.Math.Seq.{take-append_seam, drop-append_seam}
 use Rattle.rule_set.specs.Rule.{RuleSetView}
 use Rattle.rule_set.specs.Groups.{IsPartition}
-use Rattle.trie_merge.specs.Levels.{IsGroup}
+use Rattle.group_states.specs.Levels.{IsGroup}
 use Rattle.rule_split.specs.declared.counted.Counted.{Counted}
 use Rattle.rule_split.specs.Counted.{group_in, IsCounted}
 use Rattle.rule_split.specs.Divide.{divided}

@@ -3,7 +3,7 @@ use Rattle.std.proofs.Common.{◌≡◌, ℕ, ◌≤◌, List, [], ◌∷◌, ma
 use Rattle.std.specs.List.{sum_by}
 use Rattle.std.proofs.lemmas.List.Sums.{sum_by-cons}
 use Rattle.rule_set.specs.Rule.{RuleSetView}
-use Rattle.trie_merge.specs.Levels.{LevelsView, levels_of}
+use Rattle.group_states.specs.Levels.{LevelsView, levels_of}
 use Rattle.rule_split.specs.Split.{capped, words_of_group, groups_of, total_of, plan_of}
 use Rattle.rule_split.specs.Laws.{TheTotalIsOfAllWords}
 

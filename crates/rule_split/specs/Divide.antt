@@ -11,7 +11,7 @@ use Rattle.field_defs.specs.FieldMatch.{is_wild}
 use Rattle.field_defs.specs.LayoutFault.{def_at}
 use Rattle.rule_set.specs.Rule.{RuleSetView}
 use Rattle.rule_set.specs.Groups.{greatest}
-use Rattle.trie_merge.specs.RuleRest.{values_of}
+use Rattle.group_states.specs.RuleRest.{values_of}
 
 -- the rule of that number is wild in the field of that place
 abbrev pub is_wild_in : RuleSetView → ℕ → ℕ → Bool

@@ -1,7 +1,7 @@
 -- A split that has ended, before it is known whether a table of its groups fits the budget.
 use Rattle.std.specs.Prelude.{◌≡◌, ℕ, ◌≤◌, List, map}
 use Rattle.rule_set.specs.Rule.{RuleSetView}
-use Rattle.trie_merge.specs.Levels.{LevelsView, levels_of}
+use Rattle.group_states.specs.Levels.{LevelsView, levels_of}
 use Rattle.rule_split.specs.Split.{PlanView, groups_of, total_of}
 
 -- a split as contracts see it: its total, the budget, and the merged states that are kept

@@ -8,7 +8,7 @@ use Rattle.rule_set.specs.Winner.{winner}
 use Rattle.rule_set.specs.Groups.{IsPartition, rank_or_none, greatest}
 use Rattle.rule_set.specs.GroupLaws.{winners_ranks}
 use Rattle.table_sizes.specs.Sizes.{row_len}
-use Rattle.trie_merge.specs.Levels.{IsGroup, LevelsView}
+use Rattle.group_states.specs.Levels.{IsGroup, LevelsView}
 use Rattle.rule_split.specs.Split.{groups_of, total_of, plan_of, max_groups}
 
 -- The groups of a set together hold each rule once, each of them is one of the set, and there are

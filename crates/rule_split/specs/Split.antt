@@ -9,7 +9,7 @@ use Rattle.std.proofs.Common.{zero, suc}
 use Rattle.rule_set.specs.Rule.{RuleSetView}
 use Rattle.rule_set.specs.Groups.{greatest}
 use Rattle.table_sizes.specs.Sizes.{row_len}
-use Rattle.trie_merge.specs.Levels.{LevelsView, levels_of}
+use Rattle.group_states.specs.Levels.{LevelsView, levels_of}
 use Rattle.rule_split.specs.Divide.{divided}
 
 -- how many groups there are at most, as DPDK's `lib/acl`, `acl.h`, has at most 8 tries

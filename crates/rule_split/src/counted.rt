@@ -17,7 +17,7 @@ pub(crate) enum Counted {
 impl Counted {
     ghost use Rattle.std.specs.Prelude.{◌≡◌, ◌≤◌, IfErr, IfOk};
     ghost use Rattle.table_sizes.specs.Sizes.{max_words};
-    ghost use Rattle.trie_merge.specs.Levels.{IsGroup};
+    ghost use Rattle.group_states.specs.Levels.{IsGroup};
     ghost use Rattle.rule_split.specs.declared.answer.PlanFault.TheVariants.{OutOfMemory};
     ghost use Rattle.rule_split.specs.Counted.{group_in, words_counted, words_to_split};
     ghost use Rattle.rule_split.specs.Counted.{is_most, IsCounted};

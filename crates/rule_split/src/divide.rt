@@ -1,7 +1,7 @@
 //! How one group of rules becomes two.
 
 ghost use Rattle.std.specs.Prelude.{◌≡◌, ◌<◌, ◌≢◌, [], ◌∷◌, length, take, drop, All, IfOk};
-ghost use Rattle.trie_merge.specs.Levels.{IsGroup};
+ghost use Rattle.group_states.specs.Levels.{IsGroup};
 ghost use Rattle.rule_set.specs.Groups.{greatest};
 ghost use Rattle.rule_split.specs.Divide.{is_wild_in, wild_rules, bound_rules, smaller_side};
 ghost use Rattle.rule_split.specs.Divide.{smaller_sides, greatest_place, half_of, divided};

@@ -9,7 +9,7 @@ use Rattle.std.proofs.lemmas.List.Sorted.{IsPermutation-refl}
 use Rattle.rule_set.specs.Rule.{RuleSetView}
 use Rattle.rule_set.specs.Groups.{IsPartition}
 use Rattle.list_lemmas.proofs.Positions.{range-append}
-use Rattle.trie_merge.specs.Levels.{LevelsView, levels_of, IsGroup}
+use Rattle.group_states.specs.Levels.{LevelsView, levels_of, IsGroup}
 
 rises : (first len : ℕ) → IsStrictlyIncreasing (range_with_len first len)
 rises first len k below =

@@ -20,13 +20,13 @@ use Rattle.rule_set.specs.Among.{passes_at, best_among, winner_among}
 use Rattle.rule_set.specs.Rank.{rank_of}
 use Rattle.rule_set.proofs.Offered.{tests_in_turn, groups_decide, places_in, place_of_group}
 use Rattle.rule_set.specs.Groups.{IsPartition, rank_or_none, greatest}
-use Rattle.trie_merge.specs.RuleRest.{values_of}
-use Rattle.trie_merge.specs.Follow.{matching, followed, IsAnswer}
-use Rattle.trie_merge.specs.Kept.{kept_places, kept_bits}
-use Rattle.trie_merge.specs.Row.{winner_of}
-use Rattle.trie_merge.specs.Levels.{LevelsView, levels_of}
-use Rattle.trie_merge.specs.Laws.{AreBytes, IsGrouped}
-use Rattle.trie_merge.proofs.Offered.{runs_lead, all-map, all_weaker, map-map}
+use Rattle.group_states.specs.RuleRest.{values_of}
+use Rattle.group_states.specs.Follow.{matching, followed, IsAnswer}
+use Rattle.group_states.specs.Kept.{kept_places, kept_bits}
+use Rattle.group_states.specs.Row.{winner_of}
+use Rattle.group_states.specs.Levels.{LevelsView, levels_of}
+use Rattle.group_states.specs.Laws.{AreBytes, IsGrouped}
+use Rattle.group_states.proofs.Offered.{runs_lead, all-map, all_weaker, map-map}
 use Rattle.flat_table.specs.Word.{index_of}
 use Rattle.table_sizes.specs.Sizes.{row_len}
 use Rattle.flat_table.specs.Table.{TableView}

@@ -10,8 +10,8 @@ use Rattle.field_defs.specs.Lawful.{IsLayout}
 use Rattle.flat_table.specs.Table.{TableView}
 use Rattle.rule_set.specs.Rule.{RuleView, RuleSetView}
 use Rattle.rule_set.specs.RuleSet.{IsRuleSet}
-use Rattle.trie_merge.specs.Levels.{LevelsView, levels_of}
-use Rattle.trie_merge.proofs.Offered.{all_weaker}
+use Rattle.group_states.specs.Levels.{LevelsView, levels_of}
+use Rattle.group_states.proofs.Offered.{all_weaker}
 use Rattle.list_lemmas.proofs.Sums.{sum_by-map}
 use Rattle.table_sizes.specs.Sizes.{max_words, row_len}
 use Rattle.flat_table.specs.Sound.{most_tries, sound_fault}

@@ -9,8 +9,8 @@ use Rattle.field_defs.specs.Layout.{key_len_of}
 use Rattle.rule_set.specs.Rule.{RuleSetView}
 use Rattle.list_lemmas.proofs.Maps.{filter_on_range}
 use Rattle.list_lemmas.proofs.Sums.{bits_small, bit_is}
-use Rattle.trie_merge.specs.Kept.{group_of, is_kept, kept_places, kept_bits}
-use Rattle.trie_merge.proofs.Offered.{HasFirst}
+use Rattle.group_states.specs.Kept.{group_of, is_kept, kept_places, kept_bits}
+use Rattle.group_states.proofs.Offered.{HasFirst}
 use Rattle.flat_table.specs.Groups as table
 
 -- ---- the kept groups

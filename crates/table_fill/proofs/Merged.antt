@@ -11,14 +11,14 @@ use Rattle.rule_set.specs.Fault.{categories}
 use Rattle.rule_set.specs.Winner.{is_in_category}
 use Rattle.rule_set.specs.Among.{passes_at, best_among, is_greatest_at}
 use Rattle.rule_set.proofs.Offered.{passes_there}
-use Rattle.trie_merge.specs.State.{Held, state, is_live}
-use Rattle.trie_merge.specs.Found.{prefixes}
-use Rattle.trie_merge.specs.Kept.{kept_places}
-use Rattle.trie_merge.specs.Row.{winner_of, row_of, final_row, rows_of}
+use Rattle.group_states.specs.State.{Held, state, is_live}
+use Rattle.group_states.specs.Found.{prefixes}
+use Rattle.group_states.specs.Kept.{kept_places}
+use Rattle.group_states.specs.Row.{winner_of, row_of, final_row, rows_of}
 use Rattle.std.specs.Str.{bytes_eq}
-use Rattle.trie_merge.specs.Levels.{states_at, level_runs, levels_of}
-use Rattle.trie_merge.specs.Laws.{IsGrouped}
-use Rattle.trie_merge.proofs.Offered.{All-found_in, kept_places_first, all-map, held_of}
+use Rattle.group_states.specs.Levels.{states_at, level_runs, levels_of}
+use Rattle.group_states.specs.Laws.{IsGrouped}
+use Rattle.group_states.proofs.Offered.{All-found_in, kept_places_first, all-map, held_of}
 use Rattle.flat_table.specs.Groups.{is_key_len}
 use Rattle.list_lemmas.proofs.Maps.{find_in_filter}
 use Rattle.table_fill.specs.Tries.{IsTrie}

@@ -9,10 +9,10 @@ use Rattle.std.proofs.lemmas.List.{length-map, get_or-map, length-replicate, tak
 use Rattle.std.proofs.Math.Seq.{take-append-add}
 use Rattle.std.proofs.lemmas.List.Sums.{sum_by-cons}
 use Rattle.std.proofs.lemmas.List.FromFn.{get_or-map-range_with_len, length-map-range_with_len}
-use Rattle.trie_merge.specs.declared.run.Run.{Run}
-use Rattle.trie_merge.specs.declared.run.Succ.TheVariants.{Dead}
-use Rattle.trie_merge.specs.Found.{all_bytes}
-use Rattle.trie_merge.specs.Follow.{run_to}
+use Rattle.group_states.specs.declared.run.Run.{Run}
+use Rattle.group_states.specs.declared.run.Succ.TheVariants.{Dead}
+use Rattle.group_states.specs.Found.{all_bytes}
+use Rattle.group_states.specs.Follow.{run_to}
 use Rattle.table_sizes.specs.Sizes.{cost_of, few_runs}
 use Rattle.flat_table.specs.Word.{indexes, index_of, kind_of, boundaries_of, is_match, is_node, node_len, next_word}
 use Rattle.flat_table.specs.Word.{offset_of}

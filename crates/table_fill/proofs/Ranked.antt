@@ -12,7 +12,7 @@ use Rattle.rule_set.specs.Rule.{RuleView}
 use Rattle.rule_set.specs.Among.{priority_at}
 use Rattle.rule_set.specs.Rank.{comes_below, rank_of}
 use Rattle.rule_set.specs.Winner.{userdata_at}
-use Rattle.trie_merge.specs.Levels.{LevelsView}
+use Rattle.group_states.specs.Levels.{LevelsView}
 use Rattle.flat_table.specs.Walk.{userdatas}
 use Rattle.list_lemmas.proofs.Counts.{count_all, count_lt}
 use Rattle.list_lemmas.proofs.Elements.{list_all_both}

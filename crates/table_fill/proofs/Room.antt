@@ -10,7 +10,7 @@ use Rattle.std.proofs.lemmas.List.FromFn.{get_or-map-range_with_len, length-map-
 use Rattle.rule_set.specs.Rule.{RuleView}
 use Rattle.rule_set.specs.Rank.{rank_of, ranks_of}
 use Rattle.rule_set.specs.Winner.{userdata_at}
-use Rattle.trie_merge.specs.Levels.{LevelsView}
+use Rattle.group_states.specs.Levels.{LevelsView}
 use Rattle.table_sizes.specs.Sizes.{max_words, row_len}
 use Rattle.flat_table.specs.Walk.{userdatas}
 use Rattle.table_fill.specs.Filled.{level_len, nodes_len, rule_word, winner_word}

@@ -17,13 +17,13 @@ use Rattle.list_lemmas.proofs.Maps.{All-flat_map}
 use Rattle.list_lemmas.proofs.Maps.{map_agree}
 use Rattle.list_lemmas.proofs.Positions.{HasPart}
 use Rattle.list_lemmas.proofs.Positions.{has_front, has_rest}
-use Rattle.trie_merge.specs.declared.run.Run.{Run}
-use Rattle.trie_merge.specs.declared.run.Succ.{Succ}
-use Rattle.trie_merge.specs.declared.run.Succ.TheVariants.{Dead, State, Row}
-use Rattle.trie_merge.specs.Found.{all_bytes}
-use Rattle.trie_merge.specs.Follow.{run_to}
+use Rattle.group_states.specs.declared.run.Run.{Run}
+use Rattle.group_states.specs.declared.run.Succ.{Succ}
+use Rattle.group_states.specs.declared.run.Succ.TheVariants.{Dead, State, Row}
+use Rattle.group_states.specs.Found.{all_bytes}
+use Rattle.group_states.specs.Follow.{run_to}
 use Rattle.table_sizes.specs.Sizes.{cost_of, few_runs, max_words, row_len}
-use Rattle.trie_merge.specs.Levels.{LevelsView}
+use Rattle.group_states.specs.Levels.{LevelsView}
 use Rattle.flat_table.specs.declared.level.Level.{Level}
 use Rattle.flat_table.specs.Word.{indexes, index_of, is_match, is_unbounded}
 use Rattle.flat_table.specs.Table.{TableView, levels_from, portions, depths_of, trie_levels}

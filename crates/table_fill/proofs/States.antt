@@ -8,18 +8,18 @@ use Rattle.std.proofs.lemmas.List.Elements.{All-from_recursion}
 use Rattle.std.proofs.lemmas.Option.{slice_get_within}
 use Rattle.field_defs.specs.Layout.{key_len_of}
 use Rattle.rule_set.specs.Rule.{RuleSetView}
-use Rattle.trie_merge.specs.declared.run.Run.{Run}
-use Rattle.trie_merge.specs.declared.run.Succ.{Succ}
-use Rattle.trie_merge.specs.declared.run.Succ.TheVariants.{Dead, State, Row}
-use Rattle.trie_merge.specs.State.{Held, state, state_through, same_state, is_live}
-use Rattle.trie_merge.specs.Found.{prefixes}
-use Rattle.trie_merge.specs.Kept.{is_wild_place}
-use Rattle.trie_merge.specs.Row.{final_row, rows_of}
-use Rattle.trie_merge.specs.Levels.{runs_of, states_at, reached, state_succ, row_succ, level_runs}
-use Rattle.trie_merge.proofs.Offered.{All-found_in, found_for_key, bytes_eq_refl, bytes_eq_sound, AreBytes}
-use Rattle.trie_merge.proofs.Offered.{IsHeld, packed_state, packed_state_wild, packed_state_start, decoded}
-use Rattle.trie_merge.proofs.Offered.{state_is, same_state-Decides, state_goes_through}
-use Rattle.trie_merge.proofs.Offered.{IsPrefix, prefixes_are, all-append, all-map, all_weaker, Gaps, HasFirst}
+use Rattle.group_states.specs.declared.run.Run.{Run}
+use Rattle.group_states.specs.declared.run.Succ.{Succ}
+use Rattle.group_states.specs.declared.run.Succ.TheVariants.{Dead, State, Row}
+use Rattle.group_states.specs.State.{Held, state, state_through, same_state, is_live}
+use Rattle.group_states.specs.Found.{prefixes}
+use Rattle.group_states.specs.Kept.{is_wild_place}
+use Rattle.group_states.specs.Row.{final_row, rows_of}
+use Rattle.group_states.specs.Levels.{runs_of, states_at, reached, state_succ, row_succ, level_runs}
+use Rattle.group_states.proofs.Offered.{All-found_in, found_for_key, bytes_eq_refl, bytes_eq_sound, AreBytes}
+use Rattle.group_states.proofs.Offered.{IsHeld, packed_state, packed_state_wild, packed_state_start, decoded}
+use Rattle.group_states.proofs.Offered.{state_is, same_state-Decides, state_goes_through}
+use Rattle.group_states.proofs.Offered.{IsPrefix, prefixes_are, all-append, all-map, all_weaker, Gaps, HasFirst}
 use Rattle.table_fill.specs.Tries.{IsThere, AreRuns, AreLevels}
 use Rattle.table_fill.proofs.Runs.{runs_hold, each_run}
 

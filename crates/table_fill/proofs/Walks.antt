@@ -13,13 +13,13 @@ use Rattle.std.proofs.lemmas.List.FromFn.{get_or-map-range_with_len, length-map-
 use Rattle.rule_set.specs.Rule.{RuleView, RuleSetView}
 use Rattle.rule_set.specs.Fault.{categories}
 use Rattle.rule_set.specs.Among.{best_among}
-use Rattle.trie_merge.specs.declared.run.Run.{Run}
-use Rattle.trie_merge.specs.declared.run.Succ.{Succ}
-use Rattle.trie_merge.specs.declared.run.Succ.TheVariants.{Dead, State, Row}
-use Rattle.trie_merge.specs.Follow.{followed, IsAnswer}
-use Rattle.trie_merge.specs.Row.{row_of, winner_of}
-use Rattle.trie_merge.specs.Levels.{LevelsView}
-use Rattle.trie_merge.specs.Laws.{AreBytes}
+use Rattle.group_states.specs.declared.run.Run.{Run}
+use Rattle.group_states.specs.declared.run.Succ.{Succ}
+use Rattle.group_states.specs.declared.run.Succ.TheVariants.{Dead, State, Row}
+use Rattle.group_states.specs.Follow.{followed, IsAnswer}
+use Rattle.group_states.specs.Row.{row_of, winner_of}
+use Rattle.group_states.specs.Levels.{LevelsView}
+use Rattle.group_states.specs.Laws.{AreBytes}
 use Rattle.table_sizes.specs.Sizes.{row_len}
 use Rattle.flat_table.specs.Word.{indexes, index_of}
 use Rattle.flat_table.specs.Table.{TableView, places_of}

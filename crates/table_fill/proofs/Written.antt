@@ -4,11 +4,11 @@ use Rattle.std.proofs.Common.{length, drop, get_or, replicate, length-append, su
 use Rattle.std.specs.List.{flat_map, range_with_len}
 use Rattle.std.proofs.lemmas.List.{append-nil, append_assoc, get_or-replicate, get_or-take, map-append}
 use Rattle.std.proofs.Math.Seq.{get_or-append_right}
-use Rattle.trie_merge.specs.declared.run.Run.{Run}
-use Rattle.trie_merge.specs.declared.run.Succ.{Succ}
-use Rattle.trie_merge.specs.declared.run.Succ.TheVariants.{Dead, State, Row}
-use Rattle.trie_merge.specs.Found.{all_bytes}
-use Rattle.trie_merge.specs.Follow.{run_to}
+use Rattle.group_states.specs.declared.run.Run.{Run}
+use Rattle.group_states.specs.declared.run.Succ.{Succ}
+use Rattle.group_states.specs.declared.run.Succ.TheVariants.{Dead, State, Row}
+use Rattle.group_states.specs.Found.{all_bytes}
+use Rattle.group_states.specs.Follow.{run_to}
 use Rattle.table_sizes.specs.Sizes.{cost_of, few_runs}
 use Rattle.table_fill.specs.Filled.{boundaries, inner_lasts, node_words, succ_word, level_len, words_into, targets_of}
 use Rattle.table_fill.specs.Filled.{words_of_levels}

@@ -10,13 +10,13 @@ use Rattle.field_defs.specs.Layout.{key_len_of}
 use Rattle.rule_set.specs.Rule.{RuleView, RuleSetView}
 use Rattle.rule_set.specs.Rank.{rank_of}
 use Rattle.rule_set.specs.Winner.{userdata_at}
-use Rattle.trie_merge.specs.declared.run.Run.{Run}
-use Rattle.trie_merge.specs.declared.run.Succ.{Succ}
-use Rattle.trie_merge.specs.declared.run.Succ.TheVariants.{Dead, State, Row}
-use Rattle.trie_merge.specs.Found.{all_bytes}
-use Rattle.trie_merge.specs.Follow.{run_to}
+use Rattle.group_states.specs.declared.run.Run.{Run}
+use Rattle.group_states.specs.declared.run.Succ.{Succ}
+use Rattle.group_states.specs.declared.run.Succ.TheVariants.{Dead, State, Row}
+use Rattle.group_states.specs.Found.{all_bytes}
+use Rattle.group_states.specs.Follow.{run_to}
 use Rattle.table_sizes.specs.Sizes.{cost_of, few_runs, row_len}
-use Rattle.trie_merge.specs.Levels.{LevelsView, levels_of, last_byte}
+use Rattle.group_states.specs.Levels.{LevelsView, levels_of, last_byte}
 use Rattle.flat_table.specs.Word.{indexes, below_boundaries, full, single, quad, matching}
 use Rattle.flat_table.specs.Walk.{userdatas}
 use Rattle.flat_table.specs.Table.{TableView}

@@ -5,11 +5,11 @@ use Rattle.std.specs.Prelude.{slice_index, if◌then◌else◌}
 use Rattle.std.specs.List.{range_with_len}
 use Rattle.field_defs.specs.Layout.{ip4_fields}
 use Rattle.rule_set.specs.Rule.{RuleView, RuleSetView}
-use Rattle.trie_merge.specs.declared.run.Run.{Run}
-use Rattle.trie_merge.specs.declared.run.Succ.{Succ}
-use Rattle.trie_merge.specs.declared.run.Succ.TheVariants.{Dead, State, Row}
-use Rattle.trie_merge.specs.Found.{all_bytes}
-use Rattle.trie_merge.specs.Levels.{LevelsView}
+use Rattle.group_states.specs.declared.run.Run.{Run}
+use Rattle.group_states.specs.declared.run.Succ.{Succ}
+use Rattle.group_states.specs.declared.run.Succ.TheVariants.{Dead, State, Row}
+use Rattle.group_states.specs.Found.{all_bytes}
+use Rattle.group_states.specs.Levels.{LevelsView}
 use Rattle.flat_table.specs.HandmadeTables.{empty_table, wild_table, source_table, port_table}
 use Rattle.flat_table.specs.HandmadeTables.{bit_table, two_tries, match_of}
 use Rattle.table_fill.specs.Filled.{boundaries, node_word, node_words, table_of_tries}

@@ -4,7 +4,7 @@ use Rattle.field_defs.specs.Lawful.{IsLayout}
 use Rattle.rule_set.specs.Rule.{RuleView, RuleSetView}
 use Rattle.rule_set.specs.RuleSet.{IsRuleSet}
 use Rattle.rule_set.specs.Groups.{IsPartition}
-use Rattle.trie_merge.specs.Levels.{levels_of}
+use Rattle.group_states.specs.Levels.{levels_of}
 use Rattle.table_sizes.specs.Sizes.{max_words, row_len}
 use Rattle.flat_table.specs.Sound.{most_tries}
 use Rattle.flat_table.specs.Walk.{userdatas}

@@ -5,7 +5,7 @@ ghost use Rattle.field_defs.specs.Layout.{key_len_of};
 ghost use Rattle.field_defs.specs.Lawful.{IsLayout};
 ghost use Rattle.rule_set.specs.RuleSet.{IsRuleSet};
 ghost use Rattle.rule_set.specs.Groups.{IsPartition};
-ghost use Rattle.trie_merge.specs.Levels.{LevelsView, levels_of};
+ghost use Rattle.group_states.specs.Levels.{LevelsView, levels_of};
 ghost use Rattle.table_sizes.specs.Sizes.{max_words, row_len};
 ghost use Rattle.flat_table.specs.Sound.{most_tries};
 ghost use Rattle.table_fill.specs.Filled.{table_of_tries, filled};

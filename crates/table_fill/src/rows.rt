@@ -4,7 +4,7 @@ ghost use Rattle.std.specs.Prelude.{◌≡◌, ◌+◌, ◌*◌, ◌<◌, ◌≤
 ghost use Rattle.std.specs.Prelude.{OnOk, IfOk, All, sum_by};
 ghost use Rattle.std.specs.List.{flat_map, range_with_len};
 ghost use Rattle.rule_set.specs.Rule.{RuleView};
-ghost use Rattle.trie_merge.specs.Levels.{LevelsView};
+ghost use Rattle.group_states.specs.Levels.{LevelsView};
 ghost use Rattle.table_sizes.specs.Sizes.{max_words, row_len};
 ghost use Rattle.flat_table.specs.Walk.{userdatas};
 ghost use Rattle.table_fill.specs.Filled.{rule_word};

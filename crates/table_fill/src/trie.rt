@@ -3,7 +3,7 @@
 ghost use Rattle.std.specs.Prelude.{◌≡◌, ◌+◌, ◌*◌, ◌<◌, ◌≤◌, ◌++◌, [], length, drop};
 ghost use Rattle.std.specs.Prelude.{slice_index_or, OnOk, IfOk, All};
 ghost use Rattle.std.specs.List.{flat_map};
-ghost use Rattle.trie_merge.specs.Levels.{LevelsView};
+ghost use Rattle.group_states.specs.Levels.{LevelsView};
 ghost use Rattle.flat_table.specs.Word.{indexes};
 ghost use Rattle.table_sizes.specs.Sizes.{max_words};
 ghost use Rattle.table_fill.specs.Filled.{root_at, node_words, level_len, words_into, targets_of};

@@ -1,7 +1,7 @@
 //! What all tries of a table have: kept groups, roots, level lengths and words.
 
 ghost use Rattle.std.specs.Prelude.{◌≡◌, ◌+◌, ◌≤◌, ◌++◌, map, length, sum_by, OnOk, IfOk};
-ghost use Rattle.trie_merge.specs.Levels.{LevelsView};
+ghost use Rattle.group_states.specs.Levels.{LevelsView};
 ghost use Rattle.table_sizes.specs.Sizes.{max_words};
 ghost use Rattle.table_fill.specs.Filled.{level_len, nodes_len, roots_of, level_lens_of};
 ghost use Rattle.table_fill.specs.Filled.{words_of_tries};

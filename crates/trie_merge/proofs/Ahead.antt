@@ -1,5 +1,5 @@
 -- The words of a state before the last place are told by its entries.
-use Rattle.std.proofs.Common.{◌≡◌, ℕ, zero, suc, ◌+◌, ◌-◌, ◌<◌, ◌≤◌, ◌==◌, List, [], ◌∷◌, ◌++◌, length, map, filter}
+use Rattle.std.proofs.Common.{◌≡◌, ℕ, zero, suc, ◌+◌, ◌-◌, ◌<◌, ◌≤◌, ◌==◌, List, [], ◌∷◌, length, map, filter}
 use Rattle.std.proofs.Common.{get_or, fold, Bool, true, false, cond, not, ◌||◌, true≢false, Option, Some, None}
 use Rattle.std.proofs.Common.{refl, sym, ◌∙◌, ap, subst, inl, inr, arith}
 use Rattle.std.specs.List.{list_any, cons_option, flat_map, AllByRecursion, position_or_len, range_with_len, sum_by}
@@ -12,19 +12,18 @@ use Rattle.node_expand.specs.declared.edge.Edge.{Edge}
 use Rattle.node_expand.specs.Edges.{edge_step}
 use Rattle.node_expand.proofs.Offered.{cuts_are_changes}
 use Rattle.rule_set.specs.Rule.{RuleSetView}
-use Rattle.trie_merge.specs.declared.run.Run.{Run}
-use Rattle.trie_merge.specs.State.{is_live}
-use Rattle.trie_merge.specs.Entry.{ColumnView, entry_of, number_in, edge_in, edge_before, value_in, entry_step}
-use Rattle.trie_merge.specs.Entry.{entries_step, is_entry_cut}
-use Rattle.trie_merge.specs.Found.{all_bytes, found_in}
 use Rattle.table_sizes.specs.Sizes.{cost_of}
-use Rattle.trie_merge.specs.Levels.{same_succ, is_end, runs_of}
-use Rattle.trie_merge.specs.Lists.{is_change, cost_ahead, RisesFrom, succ_in, successor, level_found}
-use Rattle.trie_merge.specs.Lists.{state_runs, states_words}
-use Rattle.trie_merge.proofs.Finds.{is_new, none_new_once_found}
-use Rattle.trie_merge.proofs.Numbers.{bytes_eq_refl, bytes_eq_sound}
-use Rattle.trie_merge.proofs.Uncut.{number_in-entry_of, entries_uncut}
-use Rattle.trie_merge.proofs.PackedState.{edge_in-entry_of}
+use Rattle.group_states.proofs.Offered.{is_new, none_new_once_found, bytes_eq_refl, bytes_eq_sound, number_in-entry_of}
+use Rattle.group_states.proofs.Offered.{edge_in-entry_of, all_of_parts, each_of_bytes}
+use Rattle.group_states.specs.Entry.{ColumnView, entry_of, number_in, edge_in, edge_before, value_in, entry_step}
+use Rattle.group_states.specs.Entry.{entries_step, is_entry_cut}
+use Rattle.group_states.specs.Found.{all_bytes, found_in}
+use Rattle.group_states.specs.Levels.{same_succ, is_end, runs_of}
+use Rattle.group_states.specs.Lists.{succ_in, successor, level_found, state_runs}
+use Rattle.group_states.specs.State.{is_live}
+use Rattle.group_states.specs.declared.run.Run.{Run}
+use Rattle.trie_merge.proofs.Uncut.{entries_uncut}
+use Rattle.trie_merge.specs.Words.{is_change, cost_ahead, RisesFrom, states_words}
 
 -- ---- entries of rising numbers that become the same
 
@@ -213,32 +212,6 @@ module _ (set : RuleSetView) (column : ColumnView) (found : List (List ℕ)) (en
       _))
 
 -- ---- all that the states of a place lead to is found
-
-pub all_of_parts : {X Y : Type 0} (P : Y → Type 0) (f : X → List Y) (xs : List X) → AllByRecursion P (flat_map f xs) →
-    AllByRecursion (λ x. AllByRecursion P (f x)) xs
-all_of_parts P f [] all = tt
-all_of_parts P f (x ∷ xs) all =
-    let parts = split (f x) all in
-    (parts.0, all_of_parts P f xs parts.1)
-  where
-    split : (ys : List _) → AllByRecursion P (ys ++ flat_map f xs)
-        → AllByRecursion P ys × AllByRecursion P (flat_map f xs)
-    split [] rest = (tt, rest)
-    split (y ∷ ys) rest = (let more = split ys rest.1 in ((rest.0, more.0), more.1))
-
-all_of_bytes : {Y : Type 0} (P : Y → Type 0) (g : ℕ → Y) (first count : ℕ)
-    → AllByRecursion P (map g (range_with_len first count)) →
-    (byte : ℕ) → first ≤ byte → byte < first + count → P (g byte)
-all_of_bytes P g first zero all byte from until = absurd (omega (arith, from, until))
-all_of_bytes P g first (suc count) all byte from until = elim (cases_eq byte first) [
-  | inl e ↦ subst (λ b. P (g b)) (sym e) all.0
-  | inr other ↦ all_of_bytes P g (first + 1) count all.1 byte (omega (arith, from, other)) (omega (arith, until))
-]
-
-pub each_of_bytes : {Y : Type 0} (P : Y → Type 0) (g : ℕ → Y) → AllByRecursion P (map g all_bytes) →
-    (byte : ℕ) → byte < 256 → P (g byte)
-unfolding all_bytes
-each_of_bytes P g all byte below = all_of_bytes P g 0 256 all byte (omega arith) (omega arith)
 
 module _ (set : RuleSetView) (column : ColumnView) (states : List (List ℕ)) where
   abbrev finds : List ℕ → List (List ℕ)

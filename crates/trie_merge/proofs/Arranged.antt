@@ -5,19 +5,19 @@ use Rattle.std.specs.List.{filter_map, cons_option, list_any}
 use Rattle.std.specs.List.Sorted.{IsPermutation}
 use Rattle.std.proofs.lemmas.List.Sorted.{list_any-IsPermutation}
 use Rattle.shared_parts.specs.declared.target.Target.{Target}
-use Rattle.trie_merge.specs.Started.{IsStarted}
 use Rattle.std.proofs.lemmas.Bool.{cases_eq, eq-eqb, ne_eqb, or_right}
 use Rattle.std.proofs.lemmas.List.{ext_get_or}
 use Rattle.shared_parts.specs.declared.rows.Ranked.{Ranked}
 use Rattle.shared_parts.specs.Rows.{row_of_entry, best_row}
 use Rattle.shared_parts.specs.Tree.{leaves}
 use Rattle.shared_parts.proofs.Offered.{get-join-any}
-use Rattle.trie_merge.specs.declared.cuts.Cuts.{Cuts}
-use Rattle.trie_merge.specs.Cuts.{IsCutAt, Knows}
-use Rattle.trie_merge.specs.Entry.{ColumnView, number_in, is_entry_cut}
-use Rattle.trie_merge.specs.Shared.{RuleTree, AreOwn}
-use Rattle.trie_merge.proofs.Reached.{all_weaker}
+use Rattle.group_states.proofs.Offered.{all_weaker}
+use Rattle.group_states.specs.Entry.{ColumnView, number_in, is_entry_cut}
 use Rattle.trie_merge.proofs.RowNumbers.{length_best}
+use Rattle.trie_merge.specs.Cuts.{IsCutAt, Knows}
+use Rattle.trie_merge.specs.Shared.{RuleTree, AreOwn}
+use Rattle.trie_merge.specs.Started.{IsStarted}
+use Rattle.trie_merge.specs.declared.cuts.Cuts.{Cuts}
 
 -- what is in a list of which the first element is another
 after_first : (first x : ℕ) (xs : List ℕ) → ((first ≡ x) → ⊥) → list_any (λ y. y == x) (first ∷ xs) ≡ true

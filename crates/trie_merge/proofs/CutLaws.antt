@@ -14,14 +14,14 @@ use Rattle.shared_parts.specs.Keys.{same_pair}
 use Rattle.shared_parts.specs.Tree.{Tree, leaves, IsLeaf, Stands}
 use Rattle.shared_parts.specs.Tree.Tree.{Leaf, Node}
 use Rattle.shared_parts.proofs.Offered.{key_at, pair_sound}
-use Rattle.trie_merge.specs.declared.cuts.Cuts.{Cuts}
-use Rattle.trie_merge.specs.Entry.{ColumnView, entries_step, is_entry_cut}
-use Rattle.trie_merge.specs.Found.{all_bytes}
 use Rattle.table_sizes.specs.Sizes.{cost_of, few_runs, full_len}
-use Rattle.trie_merge.specs.Lists.{is_change, cost_ahead, RisesFrom}
-use Rattle.trie_merge.specs.Cuts.{IsCutAt, AreApart, Knows, no_cuts, IsBuilt, AreBuilt}
+use Rattle.group_states.proofs.Offered.{all_weaker, all-append}
+use Rattle.group_states.specs.Entry.{ColumnView, entries_step, is_entry_cut}
+use Rattle.group_states.specs.Found.{all_bytes}
 use Rattle.trie_merge.proofs.Ahead.{marked_where_changed}
-use Rattle.trie_merge.proofs.Reached.{all_weaker, all-append}
+use Rattle.trie_merge.specs.Cuts.{IsCutAt, AreApart, Knows, no_cuts, IsBuilt, AreBuilt}
+use Rattle.trie_merge.specs.Words.{is_change, cost_ahead, RisesFrom}
+use Rattle.trie_merge.specs.declared.cuts.Cuts.{Cuts}
 
 -- ---- bytes that are known
 

@@ -14,18 +14,16 @@ use Rattle.shared_parts.specs.declared.target.Target.TheVariants.{Parts}
 use Rattle.shared_parts.specs.Joined.{IsAll}
 use Rattle.shared_parts.specs.Rows.{rule_of}
 use Rattle.shared_parts.specs.Tree.{leaves}
-use Rattle.trie_merge.specs.Entry.{CanStep, column_at, entry_of, entries_step, number_in, field_at}
-use Rattle.trie_merge.specs.Kept.{is_wild_at, is_wild_place}
-use Rattle.trie_merge.specs.Led.{IsAfter}
-use Rattle.trie_merge.specs.RuleRest.{values_of}
-use Rattle.trie_merge.specs.Shared.{RuleTree, AreIn}
+use Rattle.group_states.proofs.Offered.{Stands, packed_stands, IsHeld, IsEntryAt, packed_state, packed_state_start}
+use Rattle.group_states.proofs.Offered.{packed_entries, entry_can_step, IsGap, entries_next, zeros_on, zeros_small}
+use Rattle.group_states.proofs.Offered.{number_in-entry_of}
+use Rattle.group_states.specs.Entry.{CanStep, column_at, entry_of, entries_step, number_in, field_at}
+use Rattle.group_states.specs.Kept.{is_wild_at, is_wild_place}
+use Rattle.group_states.specs.RuleRest.{values_of}
 use Rattle.trie_merge.proofs.Ahead.{step_number}
-use Rattle.trie_merge.proofs.Packed.{Stands, packed_stands}
-use Rattle.trie_merge.proofs.PackedState.{IsHeld, IsEntryAt, packed_state, packed_state_start, packed_entries}
-use Rattle.trie_merge.proofs.PackedState.{entry_can_step}
-use Rattle.trie_merge.proofs.Reached.{IsGap, entries_next, zeros_on, zeros_small}
 use Rattle.trie_merge.proofs.RowNumbers.{at_entry}
-use Rattle.trie_merge.proofs.Uncut.{number_in-entry_of}
+use Rattle.trie_merge.specs.Led.{IsAfter}
+use Rattle.trie_merge.specs.Shared.{RuleTree, AreIn}
 
 -- The entry is what some bytes before the place leave of a rule of the group.
 pub record EntryOf (set : RuleSetView) (group : List ℕ) (place entry : ℕ) : Type 0 where

@@ -4,12 +4,12 @@ use Rattle.std.specs.Prelude.{All}
 use Rattle.std.proofs.lemmas.List.Elements.{All-from_recursion}
 use Rattle.shared_parts.specs.declared.target.Target.{Target}
 use Rattle.shared_parts.specs.Target.{count}
-use Rattle.trie_merge.specs.declared.merge.Place.{Place}
-use Rattle.trie_merge.specs.declared.merge.Progress.{Progress}
+use Rattle.trie_merge.proofs.Merging.{SoFar, none_so_far, no_cuts_yet}
 use Rattle.trie_merge.specs.Cuts.{CanAsk, CutsFor}
 use Rattle.trie_merge.specs.Led.{StepsLed}
 use Rattle.trie_merge.specs.Merged.{runs_in, IsFirst, IsReady}
-use Rattle.trie_merge.proofs.Merging.{SoFar, none_so_far, no_cuts_yet}
+use Rattle.trie_merge.specs.declared.merge.Place.{Place}
+use Rattle.trie_merge.specs.declared.merge.Progress.{Progress}
 
 -- a list that is as long as none
 pub no_numbers : (numbers : List ℕ) → length numbers ≡ 0 → numbers ≡ []

@@ -8,8 +8,9 @@ use Rattle.field_defs.specs.FieldMatch.{is_wild}
 use Rattle.node_expand.specs.declared.edge.Edge.TheVariants.{Free}
 use Rattle.node_expand.specs.Edges.{edge_after, edge_step, is_change, is_cut, is_bitmask}
 use Rattle.node_expand.proofs.Offered.{wild_stays_free, all_left_step}
-use Rattle.trie_merge.specs.Entry.{ColumnView, number_in, entry_of, edge_in, edge_before, value_in, stays_free}
-use Rattle.trie_merge.specs.Entry.{entry_step, is_entry_cut, CanStep}
+use Rattle.group_states.specs.Entry.{ColumnView, number_in, entry_of, edge_in, edge_before, value_in, entry_step}
+use Rattle.group_states.specs.Entry.{is_entry_cut, CanStep}
+use Rattle.trie_merge.specs.Asked.{stays_free}
 
 module _ (column : ColumnView) (entry : ℕ) (can : CanStep column entry) (free : entry % 4 ≡ 0)
     (stays : stays_free column.size column.place (value_in column entry) ≡ true) where

@@ -10,7 +10,8 @@ use Rattle.shared_parts.specs.Keys.{KeyAt, same_pair}
 use Rattle.shared_parts.specs.Target.{count, Grows, HasEntry, IsFoundIn}
 use Rattle.shared_parts.specs.Pieces.{number_at, Covers, Pushed, PiecesLead, Merges}
 use Rattle.shared_parts.proofs.Offered.{count_grows, grows_none, grows_on, found_grows, leads_grow, entry_is_led}
-use Rattle.trie_merge.specs.Entry.{ColumnView, entry_step, StepsAlike}
+use Rattle.group_states.specs.Entry.{ColumnView, entry_step}
+use Rattle.trie_merge.specs.Asked.{StepsAlike}
 use Rattle.trie_merge.specs.Led.{step_of, IsAfter, EntryLed, PartLed, StepsLed, AllLed}
 
 -- The pieces say what each byte before a first one makes of the entry.

@@ -8,27 +8,10 @@ use Rattle.shared_parts.specs.declared.target.Target.{Target}
 use Rattle.shared_parts.specs.declared.target.Target.TheVariants.{Parts, Rows}
 use Rattle.shared_parts.specs.Pieces.{number_at}
 use Rattle.shared_parts.specs.Target.{count, Grows}
-use Rattle.trie_merge.specs.declared.cuts.Cuts.{Cuts}
-use Rattle.trie_merge.specs.Cuts.{CanAsk, CanGoOn, CutsFor, AreBuilt}
-use Rattle.trie_merge.proofs.CutLaws.{built_grow}
 use Rattle.std.specs.Prelude.{nat_eq}
 use Rattle.std.specs.List.Sorted.{IsStrictlyIncreasing}
 use Rattle.std.proofs.lemmas.Bool.{ltb-true}
 use Rattle.shared_parts.proofs.Offered.{count_grows, grows_on}
-use Rattle.trie_merge.specs.Laws.{IsGrouped}
-use Rattle.trie_merge.specs.Led.{AllLed}
-use Rattle.trie_merge.specs.Levels.{runs_of}
-use Rattle.trie_merge.specs.Merged.{StateMerged, StateAdded}
-use Rattle.trie_merge.specs.Numbers.{is_some_number, numbers_with, succ_of}
-use Rattle.trie_merge.specs.Shared.{RuleTree, IsState, IsIn, AreIn, IsFor, ArePlaced}
-use Rattle.trie_merge.proofs.Ahead.{each_of_bytes}
-use Rattle.trie_merge.proofs.Finds.{is_new, all_found, none_new_once_found}
-use Rattle.trie_merge.proofs.Leads.{none_led}
-use Rattle.trie_merge.proofs.Numbers.{bytes_eq_refl, succ_stays}
-use Rattle.trie_merge.proofs.Reached.{all_weaker, all-map, bytes_below}
-use Rattle.trie_merge.proofs.Rising.{NumbersRise, numbers_rise}
-use Rattle.trie_merge.proofs.Successors.{same_runs, with_number}
-use Rattle.trie_merge.proofs.Zipped.{finds_alike, succ_alike, are_grown, for_grows, state_leads}
 use Rattle.std.proofs.Common.{◌≡◌, ℕ, ◌+◌, ◌*◌, ◌<◌, ◌≤◌, ◌==◌, List, [], ◌∷◌, ◌++◌, length, map, filter, take, fold}
 use Rattle.std.proofs.Common.{Bool, true, false, cond, Option, Some, None, get_or, refl, sym, ◌∙◌, ap, subst, arith}
 use Rattle.std.proofs.Common.{length-append}
@@ -40,15 +23,29 @@ use Rattle.std.proofs.Math.Seq.{take-append_seam}
 use Rattle.std.proofs.lemmas.List.Concat.{flat_map-append}
 use Rattle.std.proofs.lemmas.List.Sums.{fold-append, sum_by-append, sum_by-cons}
 use Rattle.rule_set.specs.Rule.{RuleSetView}
-use Rattle.trie_merge.specs.declared.run.Run.{Run}
-use Rattle.trie_merge.specs.State.{is_live}
-use Rattle.trie_merge.specs.Found.{found_in, all_bytes}
-use Rattle.trie_merge.specs.Entry.{ColumnView}
 use Rattle.table_sizes.specs.Sizes.{cost_of, few_runs, full_len, row_len}
-use Rattle.trie_merge.specs.Lists.{lists_with, successor, level_found, state_runs, states_words, is_change}
-use Rattle.trie_merge.specs.Lists.{cost_ahead, price, least_cost, least_words, IsMergedWithin}
-use Rattle.trie_merge.proofs.Finds.{found_grows}
-use Rattle.trie_merge.proofs.Successors.{length-all_bytes}
+use Rattle.group_states.proofs.Offered.{each_of_bytes, is_new, all_found, none_new_once_found, bytes_eq_refl}
+use Rattle.group_states.proofs.Offered.{all_weaker, all-map, bytes_below, same_runs, found_grows, length-all_bytes}
+use Rattle.group_states.specs.Entry.{ColumnView}
+use Rattle.group_states.specs.Found.{found_in, all_bytes}
+use Rattle.group_states.specs.Laws.{IsGrouped}
+use Rattle.group_states.specs.Levels.{runs_of}
+use Rattle.group_states.specs.Lists.{lists_with, successor, level_found, state_runs}
+use Rattle.group_states.specs.State.{is_live}
+use Rattle.group_states.specs.declared.run.Run.{Run}
+use Rattle.trie_merge.proofs.CutLaws.{built_grow}
+use Rattle.trie_merge.proofs.Leads.{none_led}
+use Rattle.trie_merge.proofs.Numbers.{succ_stays}
+use Rattle.trie_merge.proofs.Rising.{NumbersRise, numbers_rise}
+use Rattle.trie_merge.proofs.Successors.{with_number}
+use Rattle.trie_merge.proofs.Zipped.{finds_alike, succ_alike, are_grown, for_grows, state_leads}
+use Rattle.trie_merge.specs.Cuts.{CanAsk, CanGoOn, CutsFor, AreBuilt}
+use Rattle.trie_merge.specs.Led.{AllLed}
+use Rattle.trie_merge.specs.Merged.{StateMerged, StateAdded}
+use Rattle.trie_merge.specs.Numbers.{is_some_number, numbers_with, succ_of}
+use Rattle.trie_merge.specs.Shared.{RuleTree, IsState, IsIn, AreIn, IsFor, ArePlaced}
+use Rattle.trie_merge.specs.Words.{states_words, is_change, cost_ahead, price, least_cost, least_words, IsMergedWithin}
+use Rattle.trie_merge.specs.declared.cuts.Cuts.{Cuts}
 
 -- a list takes a word at least, and no more than 256
 pub cost_some : (count : ℕ) → (0 < cost_of count) × (cost_of count ≤ 256)

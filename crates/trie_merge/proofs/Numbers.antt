@@ -3,26 +3,13 @@ use Rattle.std.proofs.Common.{◌≡◌, ℕ, ◌+◌, List, [], ◌∷◌, ◌+
 use Rattle.std.proofs.Common.{not, ◌||◌, ◌&&◌, refl, sym, ap, true≢false}
 use Rattle.std.specs.List.{list_any, position_or_len}
 use Rattle.std.specs.Str.{bytes_eq}
-use Rattle.std.specs.Bool.{Decides}
-use Rattle.std.proofs.lemmas.Slice.Eq.{slice_eq-Decides}
-use Rattle.std.proofs.lemmas.Bool.Decides.{Decides-eqb}
 use Rattle.std.proofs.lemmas.Bool.{not-false}
-use Rattle.trie_merge.specs.declared.run.Succ.TheVariants.{Dead, State, Row}
 use Rattle.std.specs.Prelude.{nat_eq}
+use Rattle.group_states.proofs.Offered.{is_new}
+use Rattle.group_states.specs.Lists.{succ_in}
+use Rattle.group_states.specs.State.{is_live}
+use Rattle.group_states.specs.declared.run.Succ.TheVariants.{Dead, State, Row}
 use Rattle.trie_merge.specs.Numbers.{is_some_number, succ_of}
-use Rattle.trie_merge.specs.State.{is_live}
-use Rattle.trie_merge.specs.Lists.{succ_in}
-use Rattle.trie_merge.proofs.Finds.{is_new}
-
--- equality of lists is decided
-pub bytes_eq-Decides : (xs ys : List ℕ) → Decides (bytes_eq xs ys) (xs ≡ ys)
-bytes_eq-Decides xs ys = slice_eq-Decides Decides-eqb xs ys (bytes_eq xs ys) refl
-
-pub bytes_eq_refl : (xs : List ℕ) → bytes_eq xs xs ≡ true
-bytes_eq_refl xs = (bytes_eq-Decides xs xs).1 refl
-
-pub bytes_eq_sound : (xs ys : List ℕ) → bytes_eq xs ys ≡ true → xs ≡ ys
-bytes_eq_sound xs ys = (bytes_eq-Decides xs ys).0
 
 -- the place of an element stays when others are found after
 place_stays : {X : Type 0} (same : X → X → Bool) (x : X) (found more : List X) → list_any (same x) found ≡ true

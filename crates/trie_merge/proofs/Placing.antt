@@ -12,26 +12,26 @@ use Rattle.shared_parts.specs.declared.target.Target.{Target}
 use Rattle.shared_parts.specs.declared.target.Target.TheVariants.{Parts, Rows}
 use Rattle.shared_parts.specs.RowsView.{RowsView}
 use Rattle.shared_parts.specs.Target.{count, HasEntry}
-use Rattle.trie_merge.specs.declared.run.Run.{Run}
+use Rattle.group_states.proofs.Offered.{kept_places_first, IsHeld, place_inside, gap_next}
+use Rattle.group_states.specs.Entry.{ColumnView, CanStep, column_at, entry_of}
+use Rattle.group_states.specs.Kept.{kept_places}
+use Rattle.group_states.specs.Laws.{IsGrouped}
+use Rattle.group_states.specs.Levels.{levels_of}
+use Rattle.group_states.specs.Lists.{level_found}
+use Rattle.group_states.specs.State.{is_live}
+use Rattle.group_states.specs.declared.run.Run.{Run}
+use Rattle.trie_merge.proofs.Entering.{EntryOf, entry_can_ask, entry_after, start_entries_are, started}
+use Rattle.trie_merge.proofs.StateNumbers.{state_live}
+use Rattle.trie_merge.proofs.Walk.{Walked, walk_start, walk_on, walk_over, walk_end}
+use Rattle.trie_merge.proofs.Zipped.{for_grows}
 use Rattle.trie_merge.specs.Cuts.{CanAsk, CanGoOn}
-use Rattle.trie_merge.specs.Entry.{ColumnView, CanStep, column_at, entry_of}
-use Rattle.trie_merge.specs.Kept.{kept_places}
-use Rattle.trie_merge.specs.Laws.{IsGrouped}
 use Rattle.trie_merge.specs.Led.{AllLed, ComesFrom}
-use Rattle.trie_merge.specs.Levels.{levels_of}
-use Rattle.trie_merge.specs.Lists.{level_found, least_words, IsMergedWithin}
 use Rattle.trie_merge.specs.Merged.{PlaceMerged}
 use Rattle.trie_merge.specs.Names.{ranked_of}
 use Rattle.trie_merge.specs.Shared.{RuleTree, AreIn, ArePlaced, IsFor}
-use Rattle.trie_merge.specs.State.{is_live}
 use Rattle.trie_merge.specs.Started.{IsStarted, AreRows}
 use Rattle.trie_merge.specs.Walk.{next_of, place_of, IsWalk}
-use Rattle.trie_merge.proofs.Entering.{EntryOf, entry_can_ask, entry_after, start_entries_are, started}
-use Rattle.trie_merge.proofs.Gaps.{kept_places_first}
-use Rattle.trie_merge.proofs.PackedState.{IsHeld}
-use Rattle.trie_merge.proofs.StateNumbers.{state_live}
-use Rattle.trie_merge.proofs.Walk.{Walked, walk_start, place_inside, gap_next, walk_on, walk_over, walk_end}
-use Rattle.trie_merge.proofs.Zipped.{for_grows}
+use Rattle.trie_merge.specs.Words.{least_words, IsMergedWithin}
 
 -- The places before one are merged, and the numbers are those of the states of the place, or of the rows at the end.
 pub record Placed (set : RuleSetView) (group : List ℕ) (cap place : ℕ) (levels : List (List (List Run)))

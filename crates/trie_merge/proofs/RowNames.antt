@@ -12,15 +12,16 @@ use Rattle.shared_parts.specs.declared.target.Target.TheVariants.{Rows}
 use Rattle.shared_parts.specs.RowsView.{RowsView}
 use Rattle.shared_parts.specs.Rows.{best_row, IsRow}
 use Rattle.shared_parts.proofs.Offered.{key_at, bytes_eq_sound}
-use Rattle.trie_merge.specs.Entry.{number_in}
-use Rattle.trie_merge.specs.Row.{winner_of}
-use Rattle.trie_merge.specs.Lists.{row_list, RisesFrom}
-use Rattle.trie_merge.specs.Names.{ranked_of, row_named, IsNames}
-use Rattle.trie_merge.specs.Shared.{RuleTree, IsRowOf, AreIn}
+use Rattle.group_states.specs.Entry.{number_in}
+use Rattle.group_states.specs.Lists.{row_list}
+use Rattle.group_states.specs.Row.{winner_of}
 use Rattle.trie_merge.proofs.Rising.{NumbersRise}
 use Rattle.trie_merge.proofs.RowNumbers.{Within, WinsAt, wins_at, said_at, said, row_said, said_get, length_said}
 use Rattle.trie_merge.proofs.RowNumbers.{length_best, no_row_list}
 use Rattle.trie_merge.proofs.Zipped.{rises_of, within_of}
+use Rattle.trie_merge.specs.Names.{ranked_of, row_named, IsNames}
+use Rattle.trie_merge.specs.Shared.{RuleTree, IsRowOf, AreIn}
+use Rattle.trie_merge.specs.Words.{RisesFrom}
 
 module _ (set : RuleSetView) (order : RanksOrderRules) (law : TheBestHasTheGreatestRank) (names : List ℕ)
     (are : IsNames set names) where

@@ -19,11 +19,12 @@ use Rattle.rule_set.specs.Laws.{RanksOrderRules, TheBestHasTheGreatestRank}
 use Rattle.shared_parts.specs.declared.rows.Ranked.{Ranked}
 use Rattle.shared_parts.specs.Rows.{row_of_rule, row_of_entry, join_rows, best_row, IsRow}
 use Rattle.shared_parts.proofs.Offered.{get-join-any, key_some}
-use Rattle.trie_merge.proofs.Categories.{length-categories}
-use Rattle.trie_merge.specs.Entry.{number_in}
-use Rattle.trie_merge.specs.Lists.{row_list, RisesFrom}
-use Rattle.trie_merge.specs.Row.{winner_of, row_of}
+use Rattle.group_states.proofs.Offered.{length-categories}
+use Rattle.group_states.specs.Entry.{number_in}
+use Rattle.group_states.specs.Lists.{row_list}
+use Rattle.group_states.specs.Row.{winner_of, row_of}
 use Rattle.trie_merge.specs.Names.{no_rule, ranked_at, ranked_of}
+use Rattle.trie_merge.specs.Words.{RisesFrom}
 
 -- ---- the rank of an entry's rule in a category
 

@@ -11,11 +11,11 @@ use Rattle.std.proofs.lemmas.List.Folds.{list_any-append}
 use Rattle.shared_parts.specs.Tree.{Tree, leaves, Stands, stepped}
 use Rattle.shared_parts.specs.Tree.Tree.{Leaf, Node}
 use Rattle.shared_parts.proofs.Offered.{SameOn, stands_alone, stands_for_one, none_left, nothing_stands}
-use Rattle.trie_merge.specs.Entry.{ColumnView, number_in, entry_step, entries_step}
-use Rattle.trie_merge.specs.State.{is_live}
+use Rattle.group_states.proofs.Offered.{bytes_eq_refl, bytes_eq_sound}
+use Rattle.group_states.specs.Entry.{ColumnView, number_in, entry_step, entries_step}
+use Rattle.group_states.specs.State.{is_live}
 use Rattle.trie_merge.specs.Numbers.{is_some_number}
 use Rattle.trie_merge.specs.Shared.{RuleTree, AreOwn, IsState}
-use Rattle.trie_merge.proofs.Numbers.{bytes_eq_refl, bytes_eq_sound}
 
 -- ---- lists of entries say the entry of each rule
 

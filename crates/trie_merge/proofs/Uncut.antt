@@ -5,12 +5,10 @@ use Rattle.std.proofs.Common.{false, refl, ◌∙◌}
 use Rattle.std.proofs.Common.{ap, arith}
 use Rattle.std.specs.List.{list_any, cons_option}
 use Rattle.std.specs.Option.{option_map}
-use Rattle.node_expand.specs.declared.edge.Edge.{Edge}
-use Rattle.node_expand.specs.declared.edge.Edge.TheVariants.{Free, Low, High, Both}
-use Rattle.node_expand.specs.Edges.{edge_step, is_cut, AnswersAlike}
+use Rattle.node_expand.specs.Edges.{edge_step}
 use Rattle.node_expand.proofs.Offered.{cuts_are_changes}
-use Rattle.trie_merge.specs.Entry.{ColumnView, number_in, entry_of, edge_before, value_in, entry_step, entries_step}
-use Rattle.trie_merge.specs.Entry.{is_entry_cut, StepsAlike}
+use Rattle.group_states.specs.Entry.{ColumnView, number_in, entry_of, edge_before, value_in, entry_step, entries_step}
+use Rattle.group_states.specs.Entry.{is_entry_cut}
 
 -- an entry without a cut at a byte becomes what it becomes after the byte before
 entry_uncut : (column : ColumnView) (entry byte : ℕ) → is_entry_cut column entry (byte + 1) ≡ false
@@ -23,17 +21,6 @@ entry_uncut column entry byte uncut =
     ap (option_map (entry_of (number_in entry)))
     (same ∙ ap (edge_step (value_in column entry) column.size column.place (edge_before column entry)) back)
 
--- bytes with one edge make one entry
-pub steps_alike : (column : ColumnView) (entry first last : ℕ)
-    → AnswersAlike (edge_step (value_in column entry) column.size column.place (edge_before column entry)) first last
-    → StepsAlike column entry first last
-unfolding entry_step is_entry_cut is_cut
-steps_alike column entry first last alike = record {
-  ordered = alike.ordered;
-  alike = λ byte above at_most. ap (option_map (entry_of (number_in entry))) (alike.alike byte above at_most);
-  cut = alike.change;
-}
-
 -- and so does a list of them
 pub entries_uncut : (column : ColumnView) (entries : List ℕ) (byte : ℕ)
     → list_any (λ entry. is_entry_cut column entry (byte + 1)) entries ≡ false →
@@ -44,10 +31,3 @@ entries_uncut column (entry ∷ entries) byte uncut =
     let parts = or_parts (is_entry_cut column entry (byte + 1))
     (list_any (λ e. is_entry_cut column e (byte + 1)) entries) uncut in
     λ i. cons_option (entry_uncut column entry byte parts.0 i) (entries_uncut column entries byte parts.1 i)
-
--- the number of an entry
-pub number_in-entry_of : (number : ℕ) (edge : Edge) → number_in (entry_of number edge) ≡ number
-number_in-entry_of number Free = omega arith
-number_in-entry_of number Low = omega arith
-number_in-entry_of number High = omega arith
-number_in-entry_of number Both = omega arith

@@ -1,109 +1,27 @@
 -- Merging the kept places of a group, one after the other.
 use Rattle.std.proofs.Common.{◌≡◌, ℕ, zero, suc, ◌+◌, ◌-◌, ◌*◌, ◌<◌, ◌≤◌, ◌==◌, List, [], ◌∷◌, ◌++◌, length, map, drop}
-use Rattle.std.proofs.Common.{get_or, Bool, true, false, cond, Some, None, true≢false, refl, sym, ◌∙◌, ap}
+use Rattle.std.proofs.Common.{get_or, Bool, true, false, cond, Some, None, refl, sym, ◌∙◌, ap}
 use Rattle.std.proofs.Common.{subst, inl, inr, arith}
-use Rattle.std.specs.Prelude.{All}
 use Rattle.std.specs.List.{AllByRecursion}
-use Rattle.std.specs.Str.{bytes_eq}
 use Rattle.std.proofs.lemmas.Bool.{cases_eq, eq-eqb, ne_eqb, lt-ltb, le-ltb}
-use Rattle.std.proofs.lemmas.List.{drop_more, drop_all, length-map, length-drop, append-nil, append_assoc, get_or-drop}
-use Rattle.std.proofs.lemmas.List.Elements.{recursion_from_All}
+use Rattle.std.proofs.lemmas.List.{drop_all, length-map, length-drop, append-nil, append_assoc, get_or-drop}
 use Rattle.std.proofs.lemmas.List.Sums.{sum_by-cons}
 use Rattle.field_defs.specs.Layout.{key_len_of}
-use Rattle.field_defs.specs.Lawful.{IsLayout}
 use Rattle.rule_set.specs.Rule.{RuleSetView}
-use Rattle.rule_set.specs.RuleSet.{IsRuleSet}
 use Rattle.node_expand.specs.declared.edge.Edge.TheVariants.{Free}
-use Rattle.trie_merge.specs.declared.run.Run.{Run}
-use Rattle.rule_set.specs.Fault.{categories}
-use Rattle.trie_merge.specs.State.{Held, state, is_live}
-use Rattle.trie_merge.specs.Found.{found_with, found_in, prefixes}
-use Rattle.trie_merge.specs.Kept.{is_wild_place, kept_places}
-use Rattle.trie_merge.specs.Row.{row_of, final_row, rows_of}
 use Rattle.table_sizes.specs.Sizes.{cost_of, row_len}
-use Rattle.trie_merge.specs.Levels.{states_at, level_runs, words_of, levels_of}
-use Rattle.trie_merge.specs.Walk.{next_of, IsWalk}
-use Rattle.trie_merge.specs.Entry.{entry_of, column_at}
-use Rattle.trie_merge.specs.Lists.{level_found, state_runs, states_words, least_cost, least_words}
-use Rattle.trie_merge.specs.Lists.{IsMergedWithin}
+use Rattle.group_states.proofs.Offered.{IsHeld, decoded, packed_at, states_are, kept_places_first, packed_start}
+use Rattle.group_states.proofs.Offered.{rest_is, level_here}
+use Rattle.group_states.specs.Entry.{entry_of, column_at}
+use Rattle.group_states.specs.Kept.{kept_places}
+use Rattle.group_states.specs.Levels.{states_at, level_runs, words_of, levels_of}
+use Rattle.group_states.specs.Lists.{level_found, state_runs}
+use Rattle.group_states.specs.Row.{rows_of}
+use Rattle.group_states.specs.declared.run.Run.{Run}
 use Rattle.trie_merge.proofs.Ahead.{words_are_ahead}
 use Rattle.trie_merge.proofs.Merging.{cost_some, least_cost_flat, least_cost_known}
-use Rattle.trie_merge.proofs.PackedState.{IsHeld, packed_state, packed_state_start, decoded}
-use Rattle.trie_merge.proofs.PackedState.{is_held}
-use Rattle.trie_merge.proofs.Reached.{IsPrefix, packed_at, packed_next, packed_past_all, runs_next, runs_last, rows_are}
-use Rattle.trie_merge.proofs.Reached.{states_are, all_weaker, all-map, prefixes_are}
-use Rattle.trie_merge.proofs.Finds.{All-found_in}
-use Rattle.trie_merge.proofs.Categories.{length-categories}
-use Rattle.trie_merge.proofs.Reached.{IsGap}
-use Rattle.trie_merge.proofs.Gaps.{Gaps, kept_places_first}
-
--- the rules of a group are held
-pub group_held : (set : RuleSetView) (group : List ℕ) → IsRuleSet set → IsLayout set.layout
-    → All (λ number. number < length set.rules) group → AllByRecursion (IsHeld set) group
-group_held set group held layout within =
-    all_weaker (λ number. number < length set.rules) (IsHeld set) group (λ number h. is_held set number held layout h)
-    (recursion_from_All (λ number. number < length set.rules) group within)
-
-module _ (set : RuleSetView) (group : List ℕ) (held : AllByRecursion (IsHeld set) group) where
-  packed_at_zero : (entry : ℕ) (entries : List ℕ) → packed_state set group [] ≡ entry ∷ entries
-      → packed_at set group 0 ≡ (entry ∷ entries) ∷ []
-  unfolding packed_at found_in prefixes
-  packed_at_zero entry entries is = ap (λ e. found_with bytes_eq is_live [] e) is
-
-  -- before the first kept place there is one state, of all rules
-  pub packed_start : 0 < length group → (place : ℕ) → place ≤ key_len_of set.layout
-      → ((k : ℕ) → k < place → is_wild_place set group k ≡ true) →
-      packed_at set group place ≡ map (λ number. entry_of number Free) group ∷ []
-  packed_start some place within wild =
-      let e : 0 + place ≡ place = omega arith in
-      ap (packed_at set group) (sym e)
-      ∙ packed_past_all set group held 0 place (omega arith)
-      (λ gap below. ap (is_wild_place set group) (omega arith) ∙ wild gap below)
-      ∙ at_zero group some (packed_state_start set group held)
-    where
-      at_zero : (g : List ℕ) → 0 < length g → packed_state set group [] ≡ map (λ number. entry_of number Free) g
-          → packed_at set group 0 ≡ map (λ number. entry_of number Free) g ∷ []
-      at_zero [] some is = absurd (omega arith)
-      at_zero (n ∷ g) some is = packed_at_zero (entry_of n Free) (map (λ number. entry_of number Free) g) is
-
-  abbrev pub tail_runs : List ℕ → List (List (List Run))
-  tail_runs places = level_runs set (states_at set group) (rows_of set group) places
-
-  -- what is found at a place, and its runs
-  pub record LevelIs (place : ℕ) (places : List ℕ) (is_last : Bool) : Type 0 where
-    pub runs : tail_runs (place ∷ places)
-        ≡ map (state_runs set (column_at set place) is_last
-        (level_found set (column_at set place) is_last (packed_at set group place))) (packed_at set group place)
-        ∷ tail_runs places
-    pub next : 0 < length places
-        → level_found set (column_at set place) is_last (packed_at set group place)
-        ≡ packed_at set group (get_or places 0 0)
-    pub rows : length places ≡ 0
-        → level_found set (column_at set place) is_last (packed_at set group place) ≡ rows_of set group
-
-  pub level_is : (place : ℕ) (places : List ℕ) → Gaps set group (place ∷ places)
-      → LevelIs place places (length places == 0)
-  unfolding level_runs
-  level_is place [] gap =
-      let found = rows_are set group held place gap in
-      record {
-        runs = ap (λ runs. runs ∷ [])
-            (sym (runs_last set group held place gap)
-            ∙ ap (λ f. map (state_runs set (column_at set place) true f) (packed_at set group place)) (sym found));
-        next = λ h. absurd (omega arith);
-        rows = λ _. found;
-      }
-  level_is place (next ∷ places) gaps =
-      let found = packed_next set group held place next gaps.0 in
-      let other : (length (next ∷ places) == 0) ≡ false = ne_eqb (length (next ∷ places)) 0 (λ e. omega arith) in
-      subst (LevelIs place (next ∷ places)) (sym other)
-      (record {
-        runs = ap (λ runs. runs ∷ tail_runs (next ∷ places))
-            (sym (runs_next set group held place next gaps.0)
-            ∙ ap (λ f. map (state_runs set (column_at set place) false f) (packed_at set group place)) (sym found));
-        next = λ _. found;
-        rows = λ h. absurd (omega arith);
-      })
+use Rattle.trie_merge.specs.Walk.{next_of, IsWalk}
+use Rattle.trie_merge.specs.Words.{states_words, least_cost, least_words, IsMergedWithin}
 
 states_some : (states : List (List Run)) → length states ≤ states_words states
 states_some [] = omega arith
@@ -162,50 +80,7 @@ module _ (set : RuleSetView) (group : List ℕ) (held : AllByRecursion (IsHeld s
         whole = λ h. absurd (omega (arith, h, first.some));
       }
 
-  pub gaps_after : (ps : List ℕ) (n : ℕ) → Gaps set group ps → Gaps set group (drop n ps)
-  gaps_after ps zero gaps = gaps
-  gaps_after [] (suc n) gaps = tt
-  gaps_after (p ∷ []) (suc n) gaps = by n
-    where
-      by : (m : ℕ) → Gaps set group (drop m [])
-      by zero = tt
-      by (suc m) = tt
-  gaps_after (p ∷ q ∷ ps) (suc n) gaps = gaps_after (q ∷ ps) n gaps.1
-
-  gap_within : (place : ℕ) (ps : List ℕ) → Gaps set group (place ∷ ps) → place < key_len_of set.layout
-  gap_within place [] gap = gap.rises
-  gap_within place (q ∷ ps) gaps = omega (arith, gaps.0.rises, gaps.0.within)
-
   module _ (place : ℕ) (below : place < length places) where
-    rest_is : drop place places ≡ get_or places place 0 ∷ drop (place + 1) places
-    rest_is = drop_more places place 0 below
-
-    gaps_here : Gaps set group (get_or places place 0 ∷ drop (place + 1) places)
-    gaps_here = subst (Gaps set group) rest_is (gaps_after places place (kept_places_first set group key).gaps)
-
-    pub gap_next : place + 1 < length places → IsGap set group (get_or places place 0) (get_or places (place + 1) 0)
-    gap_next more =
-        let next : drop (place + 1) places ≡ get_or places (place + 1) 0 ∷ drop (place + 1 + 1) places =
-        drop_more places (place + 1) 0 more in
-        (subst (λ ps. Gaps set group (get_or places place 0 ∷ ps)) next gaps_here).0
-
-    pub place_inside : get_or places place 0 < key_len_of set.layout
-    place_inside = gap_within (get_or places place 0) (drop (place + 1) places) gaps_here
-
-    level_here : LevelIs set group held (get_or places place 0) (drop (place + 1) places) (place + 1 == length places)
-    level_here =
-        let long : length (drop (place + 1) places) ≡ length places - (place + 1) = length-drop (place + 1) places in
-        subst (LevelIs set group held (get_or places place 0) (drop (place + 1) places))
-        (same_tests (length (drop (place + 1) places)) 0 (place + 1) (length places)
-        (λ e. omega (arith, long, e, below)) (λ e. omega (arith, long, e)))
-        (level_is set group held (get_or places place 0) (drop (place + 1) places) gaps_here)
-      where
-        same_tests : (a b c d : ℕ) → (a ≡ b → c ≡ d) → (c ≡ d → a ≡ b) → (a == b) ≡ (c == d)
-        same_tests a b c d there back = elim (cases_eq a b) [
-          | inl e ↦ eq-eqb a b e ∙ sym (eq-eqb c d (there e))
-          | inr ne ↦ ne_eqb a b ne ∙ sym (ne_eqb c d (λ e. ne (back e)))
-        ]
-
     words_split : words_of (runs_from (drop place places)) (rows_of set group)
         ≡ states_words (map (state_runs set (column_at set (get_or places place 0)) (place + 1 == length places)
         (level_found set (column_at set (get_or places place 0)) (place + 1 == length places)
@@ -219,8 +94,8 @@ module _ (set : RuleSetView) (group : List ℕ) (held : AllByRecursion (IsHeld s
         let sum : words_of (here ∷ runs_from (drop (place + 1) places)) (rows_of set group)
         ≡ states_words here + words_of (runs_from (drop (place + 1) places)) (rows_of set group) =
         omega (arith, sum_by-cons (λ states. states_words states) here (runs_from (drop (place + 1) places))) in
-        ap (λ ps. words_of (runs_from ps) (rows_of set group)) rest_is
-        ∙ ap (λ levels. words_of levels (rows_of set group)) level_here.runs
+        ap (λ ps. words_of (runs_from ps) (rows_of set group)) (rest_is set group held some key place below)
+        ∙ ap (λ levels. words_of levels (rows_of set group)) (level_here set group held some key place below).runs
         ∙ sum
 
   module _ (place : ℕ) (below : place < length places) where
@@ -241,7 +116,7 @@ module _ (set : RuleSetView) (group : List ℕ) (held : AllByRecursion (IsHeld s
     -- before the last place these are the states of the next
     found_next : place + 1 < length places → found_here ≡ packed_at set group next_place
     found_next more =
-        (level_here place below).next (omega (arith, more, length-drop (place + 1) places))
+        (level_here set group held some key place below).next (omega (arith, more, length-drop (place + 1) places))
         ∙ ap (packed_at set group) (get_or-drop (place + 1) places 0 0 ∙ ap (λ k. get_or places k 0) (omega arith))
 
     more_rest : (ps : List ℕ) → 0 < length ps
@@ -267,7 +142,7 @@ module _ (set : RuleSetView) (group : List ℕ) (held : AllByRecursion (IsHeld s
         → least_cost (next_of set places place) (place + 1 == length places) found_here ≤ words_following
     last_rest e =
         let long = length-drop (place + 1) places in
-        let found : found_here ≡ rows_of set group = (level_here place below).rows (omega (arith, long, e)) in
+        let found : found_here ≡ rows_of set group = (level_here set group held some key place below).rows (omega (arith, long, e)) in
         let next = none_after (omega (arith, e)) in
         let last = eq-eqb (place + 1) (length places) e in
         let cost : least_cost (next_of set places place) (place + 1 == length places) found_here
@@ -280,7 +155,7 @@ module _ (set : RuleSetView) (group : List ℕ) (held : AllByRecursion (IsHeld s
         → least_cost (next_of set places place) (place + 1 == length places) found_here ≤ words_following
     one_rest e =
         let long = length-drop (place + 1) places in
-        let found = (level_here place below).next (omega (arith, long, e)) in
+        let found = (level_here set group held some key place below).next (omega (arith, long, e)) in
         let next = none_after (omega (arith, e)) in
         let last = ne_eqb (place + 1) (length places) (λ same. omega (arith, same, e)) in
         let cost : least_cost (next_of set places place) (place + 1 == length places) found_here
@@ -344,12 +219,12 @@ module _ (set : RuleSetView) (group : List ℕ) (held : AllByRecursion (IsHeld s
           runs =
               append_assoc levels (its_runs ∷ []) (runs_from (drop (place + 1) places))
               ∙ ap (λ l. levels ++ l) (ap (λ r. r ∷ runs_from (drop (place + 1) places)) runs_are
-              ∙ sym (level_here place below).runs ∙ ap runs_from (sym (rest_is place below)))
+              ∙ sym (level_here set group held some key place below).runs ∙ ap runs_from (sym (rest_is set group held some key place below)))
               ∙ so_far.runs;
-          states = λ h. found ∙ (level_here place below).next (omega (arith, h, long))
+          states = λ h. found ∙ (level_here set group held some key place below).next (omega (arith, h, long))
               ∙ ap (packed_at set group)
               (get_or-drop (place + 1) places 0 0 ∙ ap (λ k. get_or places k 0) (omega arith));
-          rows = λ h. found ∙ (level_here place below).rows (omega (arith, h, long));
+          rows = λ h. found ∙ (level_here set group held some key place below).rows (omega (arith, h, long));
           sum = omega (arith, so_far.sum, words_split place below, merged.sum, ap states_words runs_are);
           within = merged.within;
           whole = λ h. merged.whole (eq-eqb (place + 1) (length places) (omega (arith, h, below)));
@@ -383,22 +258,3 @@ module _ (set : RuleSetView) (group : List ℕ) (held : AllByRecursion (IsHeld s
     where
       nothing : words_of (runs_from []) (rows_of set group) ≡ row_len * length (rows_of set group)
       nothing = omega arith
-
--- every row has a number for each category
-pub rows_long : (set : RuleSetView) (group : List ℕ) → AllByRecursion (λ row. length row ≡ 16) (rows_of set group)
-unfolding rows_of final_row row_of
-rows_long set group =
-    All-found_in bytes_eq is_live (λ row. length row ≡ 16)
-    (map (λ key. final_row set (state set group key)) (prefixes (key_len_of set.layout)))
-    (all-map (λ row. is_live row ≡ true → length row ≡ 16) (λ key. final_row set (state set group key))
-    (prefixes (key_len_of set.layout))
-    (all_weaker (IsPrefix (key_len_of set.layout))
-    (λ key. is_live (final_row set (state set group key)) ≡ true
-    → length (final_row set (state set group key)) ≡ 16) (prefixes (key_len_of set.layout))
-    (λ key is. by (is_live (state set group key)) (row_of set (map (λ (h : Held). h.number) (state set group key)))
-    (length-map categories _ ∙ length-categories))
-    (prefixes_are (key_len_of set.layout))))
-  where
-    by : (b : Bool) (row : List ℕ) → length row ≡ 16 → is_live (cond b row []) ≡ true → length (cond b row []) ≡ 16
-    by true row long live = long
-    by false row long live = absurd (true≢false (sym live))

@@ -8,7 +8,7 @@ use Rattle.std.proofs.lemmas.List.Folds.{list_all-map}
 use Rattle.std.proofs.lemmas.List.FromFn.{length-range_with_len, get_or-map-range_with_len}
 use Rattle.field_defs.specs.Layout.{key_len_of}
 use Rattle.rule_set.specs.Rule.{RuleSetView}
-use Rattle.trie_merge.specs.Kept.{group_of, is_wild_place, is_idle, is_kept, key_places, kept_places, kept_bits}
+use Rattle.group_states.specs.Kept.{group_of, is_wild_place, is_idle, is_kept, key_places, kept_places, kept_bits}
 use Rattle.trie_merge.specs.Wild.{is_idle_by, is_kept_by, places_by, bits_by}
 
 all_alike : (p q : ℕ → Bool) (first count : ℕ) → ((k : ℕ) → first ≤ k → k < first + count → p k ≡ q k)

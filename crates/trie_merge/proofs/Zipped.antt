@@ -15,19 +15,20 @@ use Rattle.shared_parts.specs.Tree.{stepped}
 use Rattle.shared_parts.specs.Rows.{best_row, IsRow}
 use Rattle.shared_parts.specs.Target.{Grows, Leads}
 use Rattle.shared_parts.proofs.Offered.{still_stands, row_grows, row_alone, row_is}
-use Rattle.trie_merge.specs.Entry.{ColumnView, number_in, entries_step}
-use Rattle.trie_merge.specs.Led.{step_of}
-use Rattle.trie_merge.specs.declared.run.Succ.TheVariants.{Dead, State, Row}
-use Rattle.trie_merge.specs.State.{is_live}
-use Rattle.trie_merge.specs.Numbers.{is_some_number, numbers_with, succ_of}
-use Rattle.trie_merge.specs.Lists.{lists_with, succ_in, row_list, successor, RisesFrom}
-use Rattle.trie_merge.specs.Shared.{RuleTree, AreOwn, IsState, IsRowOf, IsIn, AreIn, IsFor}
+use Rattle.group_states.specs.Entry.{ColumnView, number_in, entries_step}
+use Rattle.group_states.specs.Lists.{lists_with, succ_in, row_list, successor}
+use Rattle.group_states.specs.Row.{row_of}
+use Rattle.group_states.specs.State.{is_live}
+use Rattle.group_states.specs.declared.run.Succ.TheVariants.{Dead, State, Row}
 use Rattle.trie_merge.proofs.Ahead.{rises_lower, step_number}
 use Rattle.trie_merge.proofs.Arranged.{row_arranged}
-use Rattle.trie_merge.proofs.StateNumbers.{tests_agree, step_own, steps_map, states_agree, state_live}
-use Rattle.trie_merge.specs.Row.{row_of}
-use Rattle.trie_merge.proofs.RowNumbers.{Within, rows_agree, row_some}
 use Rattle.trie_merge.proofs.Rising.{NumbersRise}
+use Rattle.trie_merge.proofs.RowNumbers.{Within, rows_agree, row_some}
+use Rattle.trie_merge.proofs.StateNumbers.{tests_agree, step_own, steps_map, states_agree, state_live}
+use Rattle.trie_merge.specs.Led.{step_of}
+use Rattle.trie_merge.specs.Numbers.{is_some_number, numbers_with, succ_of}
+use Rattle.trie_merge.specs.Shared.{RuleTree, AreOwn, IsState, IsRowOf, IsIn, AreIn, IsFor}
+use Rattle.trie_merge.specs.Words.{RisesFrom}
 
 -- ---- entries of the rules of a group
 

@@ -6,9 +6,9 @@ use Rattle.std.specs.List.{list_any, AllByRecursion}
 use Rattle.shared_parts.specs.declared.target.Target.{Target}
 use Rattle.shared_parts.specs.declared.target.Target.TheVariants.{Parts, Rows}
 use Rattle.shared_parts.specs.Target.{HasEntry}
-use Rattle.trie_merge.specs.declared.cuts.Cuts.{Cuts}
-use Rattle.trie_merge.specs.Entry.{ColumnView, CanStep, is_entry_cut}
+use Rattle.group_states.specs.Entry.{ColumnView, CanStep, is_entry_cut}
 use Rattle.trie_merge.specs.Led.{ComesFrom}
+use Rattle.trie_merge.specs.declared.cuts.Cuts.{Cuts}
 
 -- Some of the entries has a cut at the byte.
 pub record IsCutAt (column : ColumnView) (entries : List ℕ) (byte : ℕ) : Type 0 where

@@ -6,7 +6,7 @@ use Rattle.shared_parts.specs.declared.target.Target.{Target}
 use Rattle.shared_parts.specs.Keys.{has_entry}
 use Rattle.shared_parts.specs.Target.{count, Grows, HasEntry, IsFoundIn}
 use Rattle.shared_parts.specs.Pieces.{number_at, Covers, PiecesLead}
-use Rattle.trie_merge.specs.Entry.{ColumnView, entry_step}
+use Rattle.group_states.specs.Entry.{ColumnView, entry_step}
 
 -- what a byte of the place makes of an entry
 abbrev pub step_of : ColumnView → ℕ → ℕ → Option ℕ

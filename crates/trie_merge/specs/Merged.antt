@@ -10,19 +10,20 @@ use Rattle.shared_parts.specs.Pieces.{number_at, PiecesLead}
 use Rattle.shared_parts.specs.Slices.{pieces_of, IsPieces}
 use Rattle.shared_parts.specs.Target.{count, HasEntry}
 use Rattle.table_sizes.specs.Sizes.{cost_of, row_len}
+use Rattle.group_states.specs.Entry.{ColumnView, CanStep}
+use Rattle.group_states.specs.Found.{all_bytes}
+use Rattle.group_states.specs.Levels.{runs_of}
+use Rattle.group_states.specs.Lists.{level_found}
+use Rattle.group_states.specs.declared.run.Run.{Run}
+use Rattle.trie_merge.specs.Cuts.{CanAsk, CanGoOn, CutsFor}
+use Rattle.trie_merge.specs.Led.{step_of, StepsLed, AllLed}
+use Rattle.trie_merge.specs.Numbers.{numbers_with, succ_of}
+use Rattle.trie_merge.specs.Shared.{RuleTree, AreIn, ArePlaced, IsFor}
+use Rattle.trie_merge.specs.Words.{least_cost, least_words, IsMergedWithin}
 use Rattle.trie_merge.specs.declared.merge.Budget.{Budget}
 use Rattle.trie_merge.specs.declared.merge.Merged.{Merged}
 use Rattle.trie_merge.specs.declared.merge.Place.{Place}
 use Rattle.trie_merge.specs.declared.merge.Progress.{Progress}
-use Rattle.trie_merge.specs.declared.run.Run.{Run}
-use Rattle.trie_merge.specs.Cuts.{CanAsk, CanGoOn, CutsFor}
-use Rattle.trie_merge.specs.Entry.{ColumnView, CanStep}
-use Rattle.trie_merge.specs.Found.{all_bytes}
-use Rattle.trie_merge.specs.Led.{step_of, StepsLed, AllLed}
-use Rattle.trie_merge.specs.Levels.{runs_of}
-use Rattle.trie_merge.specs.Lists.{least_cost, least_words, level_found, IsMergedWithin}
-use Rattle.trie_merge.specs.Numbers.{numbers_with, succ_of}
-use Rattle.trie_merge.specs.Shared.{RuleTree, AreIn, ArePlaced, IsFor}
 
 -- What a state leads to is found in order, its runs stand after those of the others, and the cost
 -- is that of its runs.

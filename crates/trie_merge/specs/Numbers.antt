@@ -1,9 +1,9 @@
 -- Numbers of states or rows, in the order in which they are found. Number 0 is nothing.
 use Rattle.std.specs.Prelude.{ℕ, List, nat_lt, nat_eq, Bool, if◌then◌else◌}
 use Rattle.std.specs.List.{position_or_len}
-use Rattle.trie_merge.specs.declared.run.Succ.{Succ}
-use Rattle.trie_merge.specs.declared.run.Succ.TheVariants.{Dead, State, Row}
-use Rattle.trie_merge.specs.Found.{found_with}
+use Rattle.group_states.specs.Found.{found_with}
+use Rattle.group_states.specs.declared.run.Succ.{Succ}
+use Rattle.group_states.specs.declared.run.Succ.TheVariants.{Dead, State, Row}
 
 -- the number is that of something
 abbrev pub is_some_number : ℕ → Bool

@@ -7,9 +7,9 @@ use Rattle.shared_parts.specs.declared.target.Target.TheVariants.{Parts, Rows}
 use Rattle.shared_parts.specs.RowsView.{RowsView}
 use Rattle.shared_parts.specs.Tree.{Tree, leaves, Stands}
 use Rattle.shared_parts.specs.Rows.{best_row, IsRow}
-use Rattle.trie_merge.specs.Entry.{number_in}
-use Rattle.trie_merge.specs.Lists.{row_list}
-use Rattle.trie_merge.specs.Laws.{IsGrouped}
+use Rattle.group_states.specs.Entry.{number_in}
+use Rattle.group_states.specs.Laws.{IsGrouped}
+use Rattle.group_states.specs.Lists.{row_list}
 use Rattle.trie_merge.specs.Names.{ranked_of}
 
 -- The rules of a group, ascending, and a tree whose leaves they are, in whatever order.

@@ -9,11 +9,11 @@ use Rattle.shared_parts.specs.RowsView.{RowsView}
 use Rattle.shared_parts.specs.Keys.{has_entry}
 use Rattle.shared_parts.specs.Joined.{IsAll}
 use Rattle.shared_parts.specs.Target.{count}
-use Rattle.trie_merge.specs.declared.order.Keyed.{Keyed}
-use Rattle.trie_merge.specs.Entry.{entry_of}
+use Rattle.group_states.specs.Entry.{entry_of}
+use Rattle.group_states.specs.Row.{rows_of}
 use Rattle.trie_merge.specs.Names.{ranked_of}
-use Rattle.trie_merge.specs.Row.{rows_of}
 use Rattle.trie_merge.specs.Shared.{RuleTree, AreIn}
+use Rattle.trie_merge.specs.declared.order.Keyed.{Keyed}
 
 -- the numbers of rules in their order
 abbrev pub numbers_in : List Keyed → List ℕ

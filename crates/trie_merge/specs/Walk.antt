@@ -5,17 +5,17 @@ use Rattle.rule_set.specs.Rule.{RuleSetView}
 use Rattle.shared_parts.specs.declared.target.Target.TheVariants.{Parts}
 use Rattle.shared_parts.specs.Target.{count, HasEntry}
 use Rattle.table_sizes.specs.Sizes.{row_len}
+use Rattle.group_states.specs.Entry.{ColumnView, CanStep, column_at}
+use Rattle.group_states.specs.Levels.{levels_of}
+use Rattle.group_states.specs.Row.{rows_of}
+use Rattle.group_states.specs.declared.run.Run.{Run}
+use Rattle.trie_merge.specs.Cuts.{CanGoOn}
+use Rattle.trie_merge.specs.Merged.{PlaceMerged, runs_in}
+use Rattle.trie_merge.specs.Shared.{RuleTree, ArePlaced}
+use Rattle.trie_merge.specs.Words.{least_words}
 use Rattle.trie_merge.specs.declared.merge.Budget.{Budget}
 use Rattle.trie_merge.specs.declared.merge.Merged.{Merged}
 use Rattle.trie_merge.specs.declared.merge.Reached.{Reached}
-use Rattle.trie_merge.specs.declared.run.Run.{Run}
-use Rattle.trie_merge.specs.Cuts.{CanGoOn}
-use Rattle.trie_merge.specs.Entry.{ColumnView, CanStep, column_at}
-use Rattle.trie_merge.specs.Levels.{levels_of}
-use Rattle.trie_merge.specs.Lists.{least_words}
-use Rattle.trie_merge.specs.Merged.{PlaceMerged, runs_in}
-use Rattle.trie_merge.specs.Row.{rows_of}
-use Rattle.trie_merge.specs.Shared.{RuleTree, ArePlaced}
 
 -- what the place after the one of that number has of each rule, where it isn't the last one
 abbrev pub next_of : RuleSetView → List ℕ → ℕ → Option ColumnView

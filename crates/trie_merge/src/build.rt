@@ -7,12 +7,12 @@ ghost use Rattle.node_expand.specs.declared.edge.Edge.TheVariants.{Free};
 ghost use Rattle.field_defs.specs.Layout.{key_len_of};
 ghost use Rattle.shared_parts.specs.Target.{HasEntry};
 ghost use Rattle.table_sizes.specs.Sizes.{max_words};
-ghost use Rattle.trie_merge.specs.Entry.{entry_of, column_at};
-ghost use Rattle.trie_merge.specs.Kept.{kept_places, kept_bits};
-ghost use Rattle.trie_merge.specs.Laws.{IsGrouped};
-ghost use Rattle.trie_merge.specs.Levels.{IsGroup, levels_of};
+ghost use Rattle.group_states.specs.Entry.{entry_of, column_at};
+ghost use Rattle.group_states.specs.Kept.{kept_places, kept_bits};
+ghost use Rattle.group_states.specs.Laws.{IsGrouped};
+ghost use Rattle.group_states.specs.Levels.{IsGroup, levels_of};
 ghost use Rattle.trie_merge.specs.Merged.{ArePieces};
-ghost use Rattle.trie_merge.specs.Row.{rows_of};
+ghost use Rattle.group_states.specs.Row.{rows_of};
 ghost use Rattle.trie_merge.specs.Shared.{IsFor};
 ghost use Rattle.trie_merge.specs.Started.{numbers_in, AreJoined, IsStarted, AreRows};
 ghost use Rattle.trie_merge.specs.declared.order.Keyed.{Keyed};
@@ -292,7 +292,7 @@ fn walk(
 impl Levels {
     ghost use Rattle.std.specs.Prelude.{◌≡◌, ◌<◌, ◌≤◌, IfOk};
     ghost use Rattle.table_sizes.specs.Sizes.{max_words};
-    ghost use Rattle.trie_merge.specs.Levels.{IsGroup, levels_of};
+    ghost use Rattle.group_states.specs.Levels.{IsGroup, levels_of};
 
     /// The merged states of the group.
     ///

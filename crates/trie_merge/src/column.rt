@@ -3,7 +3,8 @@
 ghost use Rattle.std.specs.Prelude.{◌≡◌, ◌<◌, length};
 ghost use Rattle.field_defs.specs.FieldMatch.{CanMatch};
 ghost use Rattle.field_defs.specs.Layout.{key_len_of};
-ghost use Rattle.trie_merge.specs.Entry.{field_at, stays_free};
+ghost use Rattle.group_states.specs.Entry.{field_at};
+ghost use Rattle.trie_merge.specs.Asked.{stays_free};
 
 use crate::entry::{edge_in, entry_of, is_free, number_in};
 use field_defs::{FieldDef, FieldKind, FieldValue, is_wild};
@@ -62,7 +63,7 @@ fn stays_free(value: &FieldValue, size: u8, place: u8) -> bool
 }
 
 impl Model for Column {
-    ghost use Rattle.trie_merge.specs.Entry.{ColumnView};
+    ghost use Rattle.group_states.specs.Entry.{ColumnView};
 
     ghost Value = { ColumnView };
 
@@ -73,13 +74,14 @@ impl Column {
     ghost use Rattle.std.specs.Prelude.{◌≡◌, ℕ, ◌<◌, ◌≤◌, ◌||◌, true, false, length, Some, None};
     ghost use Rattle.std.specs.Prelude.{slice_index_or, IfOk};
     ghost use Rattle.field_defs.specs.Layout.{key_len_of};
-    ghost use Rattle.trie_merge.specs.Entry.{column_at, number_in, value_in, edge_before};
-    ghost use Rattle.trie_merge.specs.Entry.{entry_step, is_entry_cut, CanStep, IsAsked};
+    ghost use Rattle.group_states.specs.Entry.{column_at, number_in, value_in, edge_before};
+    ghost use Rattle.group_states.specs.Entry.{entry_step, is_entry_cut, CanStep};
+    ghost use Rattle.trie_merge.specs.Asked.{IsAsked};
 
     /// What the place of the key has of each rule.
     ///
     /// It takes memory for a value of each rule.
-    #[tactic(auto, unfolding(crate::specs::Entry::column_at))]
+    #[tactic(auto, unfolding(group_states::specs::Entry::column_at))]
     pub(crate) fn new(alloc: Global, rules: &RuleSet, place: usize) -> Result<Self, AllocError>
         requires { place < key_len_of rules.now.layout }
         ensures { IfOk result (λ column. column ≡ column_at rules.now place) }
@@ -153,7 +155,8 @@ pub(crate) struct Asked {
 impl Asked {
     ghost use Rattle.std.specs.Prelude.{◌≡◌, ℕ, ◌<◌, ◌≤◌, ◌^◌};
     ghost use Rattle.node_expand.specs.Allowed.{IsFilled};
-    ghost use Rattle.trie_merge.specs.Entry.{ColumnView, IsAsked, StepsAlike, entry_step};
+    ghost use Rattle.group_states.specs.Entry.{ColumnView, entry_step};
+    ghost use Rattle.trie_merge.specs.Asked.{IsAsked, StepsAlike};
 
     /// The entry after the byte, or none where its rule has no rest.
     #[inline]

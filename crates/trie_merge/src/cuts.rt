@@ -9,7 +9,7 @@ ghost use Rattle.std.specs.Prelude.{length, take, slice_index_or, true, OnOk, If
 ghost use Rattle.std.specs.List.{list_any};
 ghost use Rattle.shared_parts.specs.Keys.{has_entry};
 ghost use Rattle.trie_merge.specs.Cuts.{IsCutAt, Knows, AreBuilt, IsBuilt, no_cuts};
-ghost use Rattle.trie_merge.specs.Entry.{ColumnView, CanStep};
+ghost use Rattle.group_states.specs.Entry.{ColumnView, CanStep};
 ghost use Rattle.table_sizes.specs.Sizes.{cost_of};
 
 use crate::column::Column;

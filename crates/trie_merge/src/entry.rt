@@ -1,8 +1,8 @@
 //! One rule of a state as one number.
 
 ghost use Rattle.std.specs.Prelude.{◌≡◌, ◌^◌, ◌<◌, ◌%◌, ◌==◌};
-ghost use Rattle.trie_merge.specs.Entry.{edge_count, edge_code, edge_coded, entry_of, number_in};
-ghost use Rattle.trie_merge.specs.Entry.{edge_in};
+ghost use Rattle.group_states.specs.Entry.{edge_count, edge_code, edge_coded, entry_of, number_in};
+ghost use Rattle.group_states.specs.Entry.{edge_in};
 
 use node_expand::Edge;
 

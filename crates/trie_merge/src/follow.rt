@@ -4,7 +4,7 @@ ghost use Rattle.std.specs.Prelude.{◌≡◌, ℕ, ◌+◌, ◌<◌, ◌≤◌,
 ghost use Rattle.std.specs.Prelude.{OnOk, IfOk, Some, None};
 ghost use Rattle.shared_parts.specs.Keys.{has_entry};
 ghost use Rattle.shared_parts.specs.Target.{count, Grows, HasEntry, IsFoundIn};
-ghost use Rattle.trie_merge.specs.Entry.{ColumnView, entry_step, CanStep};
+ghost use Rattle.group_states.specs.Entry.{ColumnView, entry_step, CanStep};
 ghost use Rattle.trie_merge.specs.Led.{EntryLed, PartLed, StepsLed, AllLed};
 
 use crate::column::Column;

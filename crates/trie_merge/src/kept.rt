@@ -6,7 +6,7 @@ ghost use Rattle.std.specs.List.{list_all};
 ghost use Rattle.field_defs.specs.declared.field.FieldValue.TheVariants.{Mask};
 ghost use Rattle.field_defs.specs.FieldMatch.{CanMatch, is_wild};
 ghost use Rattle.field_defs.specs.Layout.{key_len_of};
-ghost use Rattle.trie_merge.specs.Kept.{group_of, is_wild_place, key_places};
+ghost use Rattle.group_states.specs.Kept.{group_of, is_wild_place, key_places};
 ghost use Rattle.trie_merge.specs.Wild.{is_idle_by, is_kept_by, places_by, bits_by};
 
 use crate::column::{FieldPlace, field_at};
@@ -29,7 +29,7 @@ pub(crate) struct Kept {
 impl Kept {
     ghost use Rattle.std.specs.Prelude.{◌≡◌, ◌<◌, ◌≤◌, length, All, IfOk};
     ghost use Rattle.field_defs.specs.Layout.{key_len_of};
-    ghost use Rattle.trie_merge.specs.Kept.{kept_places, kept_bits};
+    ghost use Rattle.group_states.specs.Kept.{kept_places, kept_bits};
 
     /// The groups that the rules keep, and their places.
     pub(crate) fn new(alloc: Global, rules: &RuleSet, group: &[u32]) -> Result<Self, AllocError>

@@ -1,7 +1,7 @@
 //! The merged states of a group of rules.
 
 use crate::merge::Pieces;
-use crate::run::Run;
+use group_states::Run;
 use shared_parts::slice;
 use std::marker::Model;
 use table_sizes::ROW_LEN;
@@ -14,7 +14,7 @@ pub(crate) struct Level {
 
 impl Model for Level {
     ghost use Rattle.std.specs.Prelude.{List, length};
-    ghost use Rattle.trie_merge.specs.declared.run.Run.{Run};
+    ghost use Rattle.group_states.specs.declared.run.Run.{Run};
     ghost use Rattle.shared_parts.specs.Slices.{pieces_of, IsPieces};
 
     ghost Value = { List (List Run) };
@@ -80,7 +80,7 @@ impl Drop for Levels {
 }
 
 impl Model for Levels {
-    ghost use Rattle.trie_merge.specs.Levels.{LevelsView};
+    ghost use Rattle.group_states.specs.Levels.{LevelsView};
 
     ghost Value = { LevelsView };
 

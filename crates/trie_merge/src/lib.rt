@@ -2,14 +2,10 @@
 //! with the runs of bytes that lead from each, the rows at the end and the words of a table of them
 //! out, or that the words exceed a cap.
 //!
-//! After some bytes of a key a rule can still match or not, and what its current field still
-//! allows is a rest. The *state* of the group is the list of its rules that can still match, each
-//! with its rest. Many beginnings of keys have one state, so states are merged: those of each
-//! place are found in the order of their least beginnings, and for each of them the 256 bytes part
-//! into *runs* that lead to one state of the next place. After the last byte a state becomes a
-//! *row*: the winning rule of each category. Input groups in which all rules are wild decide
-//! nothing and are left out. After the tries of DPDK's `lib/acl` (`acl_bld.c`), which merges the
-//! rules' tries one after the other.
+//! What states, rows and runs are, and what they have to do with keys that match, `group_states`
+//! says: the state of a group after some bytes of a key is the list of its rules that can still
+//! match, each with its rest. Many beginnings of keys have one state, so states are merged, after
+//! the tries of DPDK's `lib/acl` (`acl_bld.c`), which merges the rules' tries one after the other.
 //!
 //! A state is kept as a number of `shared_parts`: the group is halved again and again, what a state
 //! has of each half is a part with a number of its own, and states with one part share it.
@@ -30,8 +26,7 @@
 //! - `kept`: the places of the kept input groups.
 //! - `order`: the order of the rules in the tree.
 //! - `build`: all kept places, one after the other; [`Levels::build`] and [`count_capped`].
-//! - `levels`, `run`: what comes out.
-//! - `laws`: what states, rows and runs have to do with keys that match.
+//! - `levels`: what comes out.
 #![tactic(auto)]
 
 mod build;
@@ -40,15 +35,13 @@ mod cuts;
 mod entry;
 mod follow;
 mod kept;
-pub mod laws;
 mod levels;
 mod merge;
 mod names;
 mod number;
 mod order;
-mod run;
 
 pub use build::count_capped;
+pub use group_states::{Run, Succ, laws};
 pub use levels::Levels;
 pub use merge::MergeFault;
-pub use run::{Run, Succ};

@@ -1,5 +1,5 @@
 use Rattle.std.proofs.Common.{sym, subst}
-use Rattle.trie_merge.specs.Levels.{IsGroup}
+use Rattle.group_states.specs.Levels.{IsGroup}
 use Rattle.acl_audit.proofs.Fitting.{all_are_group}
 use Rattle.acl_audit.proofs.audit.merged_group.Goals as goal
 

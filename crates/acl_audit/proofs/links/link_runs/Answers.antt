@@ -1,6 +1,6 @@
 use Rattle.std.proofs.Common.{refl}
-use Rattle.trie_merge.specs.declared.run.Run.{Run}
-use Rattle.trie_merge.specs.declared.run.Succ.TheVariants.{Dead}
+use Rattle.group_states.specs.declared.run.Run.{Run}
+use Rattle.group_states.specs.declared.run.Succ.TheVariants.{Dead}
 use Rattle.acl_audit.proofs.LinkSteps.{one_run_more, all_runs}
 use Rattle.acl_audit.proofs.links.link_runs.Goals as goal
 

@@ -1,5 +1,5 @@
 use Rattle.std.proofs.Common.{length, ap, arith}
-use Rattle.trie_merge.proofs.Offered.{length-zipped}
+use Rattle.group_states.proofs.Offered.{length-zipped}
 use Rattle.rule_split.proofs.Values.{values_of_rule, value_at}
 use Rattle.rule_split.proofs.divide.is_wild_in.Goals as goal
 

@@ -1,6 +1,6 @@
 use Rattle.std.proofs.Common.{List, ◌++◌, ◌∙◌, ap, sym}
 use Rattle.std.specs.Option.{option_to_list}
-use Rattle.trie_merge.specs.Levels.{LevelsView}
+use Rattle.group_states.specs.Levels.{LevelsView}
 use Rattle.rule_split.specs.Counted.{levels_in}
 use Rattle.rule_split.proofs.Counts.{levels_more}
 use Rattle.rule_split.proofs.split.kept_levels.Goals as goal

@@ -2,7 +2,7 @@ use Rattle.std.proofs.Common.{◌≡◌, ◌-◌, ◌∷◌, [], ℕ, List, sym,
 use Rattle.std.specs.List.{range_with_len}
 use Rattle.std.proofs.lemmas.List.Elements.{All-from_recursion}
 use Rattle.rule_set.specs.Groups.{IsPartition}
-use Rattle.trie_merge.specs.Levels.{LevelsView, levels_of, IsGroup}
+use Rattle.group_states.specs.Levels.{LevelsView, levels_of, IsGroup}
 use Rattle.table_cases.proofs.Partitions.{group_of_range, two_groups, own_group}
 use Rattle.table_cases.proofs.filled.fill_two.Goals as goal
 

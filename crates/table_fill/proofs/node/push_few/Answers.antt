@@ -3,8 +3,8 @@ use Rattle.std.proofs.Common.{◌-◌, ◌++◌, ◌∷◌, [], List, ℕ, lengt
 use Rattle.std.proofs.lemmas.Bool.Decides.{nat_tests}
 use Rattle.std.proofs.lemmas.List.{append_assoc, take_all}
 use Rattle.std.proofs.lemmas.Result.{on_ok_weaker}
-use Rattle.trie_merge.specs.declared.run.Run.{Run}
-use Rattle.trie_merge.specs.declared.run.Succ.TheVariants.{Dead}
+use Rattle.group_states.specs.declared.run.Run.{Run}
+use Rattle.group_states.specs.declared.run.Succ.TheVariants.{Dead}
 use Rattle.table_fill.specs.Filled.{match_of, succ_word}
 use Rattle.table_fill.proofs.Along.{mapped_more}
 use Rattle.table_fill.proofs.Nodes.{run_words, few_words}

@@ -1,8 +1,8 @@
 use Rattle.std.proofs.Common.{◌++◌, ℕ, List, ap, sym, ◌∙◌, arith}
 use Rattle.std.proofs.lemmas.List.{append-nil}
 use Rattle.std.proofs.Math.ListN.{drop_of_length-le}
-use Rattle.trie_merge.specs.declared.run.Run.{Run}
-use Rattle.trie_merge.specs.declared.run.Succ.TheVariants.{Dead}
+use Rattle.group_states.specs.declared.run.Run.{Run}
+use Rattle.group_states.specs.declared.run.Succ.TheVariants.{Dead}
 use Rattle.table_fill.proofs.Written.{words_from, run_holds, run_written, many_is}
 use Rattle.table_fill.proofs.node.push_many.Goals as goal
 

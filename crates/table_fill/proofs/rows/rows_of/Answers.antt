@@ -1,5 +1,5 @@
 use Rattle.std.proofs.Common.{◌∷◌, [], map, replicate}
-use Rattle.trie_merge.specs.Levels.{LevelsView}
+use Rattle.group_states.specs.Levels.{LevelsView}
 use Rattle.table_sizes.specs.Sizes.{row_len}
 use Rattle.table_fill.specs.Tries.{winner_in}
 use Rattle.table_fill.proofs.Along.{joined_more, joined_all}

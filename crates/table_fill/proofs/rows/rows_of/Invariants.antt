@@ -1,7 +1,7 @@
 -- the rows so far
 use Rattle.std.proofs.Common.{◌≡◌, ◌∷◌, map, take, replicate}
 use Rattle.std.specs.List.{flat_map}
-use Rattle.trie_merge.specs.Levels.{LevelsView}
+use Rattle.group_states.specs.Levels.{LevelsView}
 use Rattle.table_sizes.specs.Sizes.{row_len}
 use Rattle.table_fill.specs.Tries.{winner_in}
 use Rattle.table_fill.proofs.rows.rows_of.Given as goal

@@ -1,5 +1,5 @@
 use Rattle.std.proofs.Common.{List, [], get_or, arith}
-use Rattle.trie_merge.specs.declared.run.Run.{Run}
+use Rattle.group_states.specs.declared.run.Run.{Run}
 use Rattle.table_fill.specs.Filled.{node_words}
 use Rattle.table_fill.proofs.Along.{joined_more, joined_all}
 use Rattle.table_fill.proofs.trie.push_level.Goals as goal

@@ -2,7 +2,7 @@ use Rattle.std.proofs.Common.{◌<◌, ◌+◌, ◌++◌, [], ℕ, List, drop, l
 use Rattle.std.proofs.lemmas.List.{drop_more}
 use Rattle.std.proofs.lemmas.List.Sums.{sum_by-drop_more}
 use Rattle.std.proofs.lemmas.List.FromFn.{length-map-range_with_len}
-use Rattle.trie_merge.specs.declared.run.Run.{Run}
+use Rattle.group_states.specs.declared.run.Run.{Run}
 use Rattle.table_fill.specs.Filled.{match_of, level_len, words_of_levels, targets_of, matches_of}
 use Rattle.table_fill.specs.Tries.{AreLevels, HasTargets}
 use Rattle.table_fill.proofs.Along.{written_all}

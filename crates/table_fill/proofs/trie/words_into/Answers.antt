@@ -1,5 +1,5 @@
 use Rattle.std.proofs.Common.{◌≡◌, ℕ, List, ◌++◌, ◌∷◌, [], ◌+◌, ◌<◌, length, drop, get_or, sym, ◌∙◌, ap, refl, arith}
-use Rattle.trie_merge.specs.declared.run.Run.{Run}
+use Rattle.group_states.specs.declared.run.Run.{Run}
 use Rattle.table_fill.specs.Filled.{node_word, level_len, words_into}
 use Rattle.table_fill.proofs.Along.{left_is, written_more, written_all}
 use Rattle.table_fill.proofs.Levels.{level_len-cons}

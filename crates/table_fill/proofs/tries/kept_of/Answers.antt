@@ -1,5 +1,5 @@
 use Rattle.std.proofs.Common.{ℕ, List, ◌++◌, ◌∷◌, [], ◌∙◌, ap}
-use Rattle.trie_merge.specs.Levels.{LevelsView}
+use Rattle.group_states.specs.Levels.{LevelsView}
 use Rattle.table_fill.proofs.Along.{mapped_more, mapped_all}
 use Rattle.table_fill.proofs.tries.kept_of.Goals as goal
 

@@ -1,6 +1,6 @@
 -- the kept groups of the tries so far
 use Rattle.std.proofs.Common.{◌≡◌, map, take}
-use Rattle.trie_merge.specs.Levels.{LevelsView}
+use Rattle.group_states.specs.Levels.{LevelsView}
 use Rattle.table_fill.proofs.tries.kept_of.Given as goal
 
 abbrev pub invariant-loop-trie : goal.invariant-loop-trie

@@ -1,5 +1,5 @@
 use Rattle.std.proofs.Common.{[], map}
-use Rattle.trie_merge.specs.Levels.{LevelsView}
+use Rattle.group_states.specs.Levels.{LevelsView}
 use Rattle.table_fill.specs.Filled.{level_len}
 use Rattle.table_fill.proofs.Along.{joined_more, joined_all}
 use Rattle.table_fill.proofs.tries.level_lens_of.Goals as goal

@@ -1,7 +1,7 @@
 use Rattle.std.proofs.Common.{◌≡◌, ℕ, List, ◌++◌, ◌∷◌, [], ◌+◌, ◌∙◌, drop, ap, sym, refl, arith}
 use Rattle.std.specs.List.{sum_by}
 use Rattle.std.proofs.lemmas.List.Sums.{sum_by-cons}
-use Rattle.trie_merge.specs.Levels.{LevelsView}
+use Rattle.group_states.specs.Levels.{LevelsView}
 use Rattle.table_fill.specs.Filled.{nodes_len, root_at, roots_of}
 use Rattle.table_fill.proofs.Along.{left_is, written_more, written_all}
 use Rattle.table_fill.proofs.tries.roots_of.Goals as goal

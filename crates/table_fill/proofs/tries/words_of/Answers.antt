@@ -1,6 +1,6 @@
 use Rattle.std.proofs.Common.{◌≡◌, ◌∷◌, ◌+◌, ◌++◌, ℕ, List, drop, length, length-append, sym, ap, refl, subst, ◌∙◌, arith}
 use Rattle.std.proofs.lemmas.List.{append_assoc, drop_more}
-use Rattle.trie_merge.specs.Levels.{LevelsView}
+use Rattle.group_states.specs.Levels.{LevelsView}
 use Rattle.table_fill.specs.Filled.{nodes_len, words_of_levels, words_of_tries, matches_of}
 use Rattle.table_fill.specs.Tries.{HasNodes}
 use Rattle.table_fill.proofs.Along.{left_is, written_all}

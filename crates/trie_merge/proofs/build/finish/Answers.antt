@@ -1,8 +1,8 @@
 use Rattle.std.proofs.Common.{◌≡◌, ◌+◌, ◌*◌, length, ◌∙◌, ap, arith}
 use Rattle.table_sizes.specs.Sizes.{row_len}
-use Rattle.trie_merge.specs.Levels.{levels_of}
-use Rattle.trie_merge.specs.Row.{rows_of}
 use Rattle.trie_merge.proofs.build.finish.Goals as goal
+use Rattle.group_states.specs.Levels.{levels_of}
+use Rattle.group_states.specs.Row.{rows_of}
 
 pub overflow_add-words : goal.overflow_add-words
 overflow_add-words c =

@@ -4,13 +4,13 @@ use Rattle.std.specs.List.{AllByRecursion}
 use Rattle.std.proofs.lemmas.Result.{IfOk-weaker}
 use Rattle.std.proofs.lemmas.List.Elements.{recursion_from_All}
 use Rattle.shared_parts.specs.Target.{count}
-use Rattle.trie_merge.specs.Names.{row_named}
-use Rattle.trie_merge.specs.Row.{rows_of}
-use Rattle.trie_merge.specs.Shared.{AreIn}
+use Rattle.trie_merge.proofs.build.finish_rows.Goals as goal
+use Rattle.group_states.proofs.Offered.{rows_long}
+use Rattle.group_states.specs.Row.{rows_of}
 use Rattle.trie_merge.proofs.Rising.{NumbersRise, numbers_rise}
 use Rattle.trie_merge.proofs.RowNames.{all_named_are}
-use Rattle.trie_merge.proofs.Walk.{rows_long}
-use Rattle.trie_merge.proofs.build.finish_rows.Goals as goal
+use Rattle.trie_merge.specs.Names.{row_named}
+use Rattle.trie_merge.specs.Shared.{AreIn}
 
 pub rows-rows-requires : goal.rows-rows-requires
 rows-rows-requires c = (c.requires.rows.rows.0, c.requires.rows.rows.1)

@@ -3,9 +3,9 @@ use Rattle.node_expand.specs.declared.edge.Edge.TheVariants.{Free}
 use Rattle.shared_parts.specs.declared.target.Target.TheVariants.{Parts}
 use Rattle.shared_parts.specs.Joined.{IsAll}
 use Rattle.shared_parts.specs.Keys.{has_entry}
-use Rattle.trie_merge.specs.Entry.{entry_of}
-use Rattle.trie_merge.specs.Started.{numbers_in}
 use Rattle.trie_merge.proofs.build.join_entries.Goals as goal
+use Rattle.group_states.specs.Entry.{entry_of}
+use Rattle.trie_merge.specs.Started.{numbers_in}
 
 pub returns : goal.returns
 returns c =

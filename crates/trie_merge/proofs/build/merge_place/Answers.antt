@@ -1,9 +1,9 @@
 use Rattle.std.proofs.Common.{◌≡◌, ◌<◌, ◌≤◌, Err, ap, sym, subst}
 use Rattle.std.specs.Prelude.{All}
 use Rattle.shared_parts.specs.Target.{count, HasEntry}
-use Rattle.trie_merge.specs.declared.merge.MergeFault.TheVariants.{OverCap}
-use Rattle.trie_merge.proofs.Placing.{none_asked, merged_place, over_place}
 use Rattle.trie_merge.proofs.build.merge_place.Goals as goal
+use Rattle.trie_merge.proofs.Placing.{none_asked, merged_place, over_place}
+use Rattle.trie_merge.specs.declared.merge.MergeFault.TheVariants.{OverCap}
 
 pub merge_states-requires-clause-states : goal.merge_states-requires-clause-states
 merge_states-requires-clause-states c =

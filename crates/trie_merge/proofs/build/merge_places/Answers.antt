@@ -1,12 +1,13 @@
 use Rattle.std.proofs.Common.{◌≡◌, ◌+◌, ◌<◌, length, Err, ap, subst, sym, ◌∙◌}
 use Rattle.std.specs.Prelude.{IfSome}
 use Rattle.field_defs.proofs.Offered.{short_keys}
-use Rattle.trie_merge.specs.declared.merge.MergeFault.TheVariants.{OverCap}
-use Rattle.trie_merge.specs.Kept.{kept_places}
-use Rattle.trie_merge.specs.Walk.{place_of}
-use Rattle.trie_merge.proofs.Placing.{placed_start, parts_can_step, parts_go_on, next_is, placed_on, placed_over, placed_end}
-use Rattle.trie_merge.proofs.Walk.{group_held, place_inside}
 use Rattle.trie_merge.proofs.build.merge_places.Goals as goal
+use Rattle.group_states.proofs.Offered.{group_held, place_inside}
+use Rattle.group_states.specs.Kept.{kept_places}
+use Rattle.trie_merge.proofs.Placing.{placed_start, parts_can_step, parts_go_on, next_is, placed_on, placed_over}
+use Rattle.trie_merge.proofs.Placing.{placed_end}
+use Rattle.trie_merge.specs.Walk.{place_of}
+use Rattle.trie_merge.specs.declared.merge.MergeFault.TheVariants.{OverCap}
 
 pub loop-j-init : goal.loop-j-init
 loop-j-init c =

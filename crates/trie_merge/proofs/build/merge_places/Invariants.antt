@@ -1,8 +1,8 @@
 use Rattle.std.proofs.Common.{◌≡◌}
 use Rattle.std.specs.Prelude.{IfSome}
-use Rattle.trie_merge.specs.Walk.{place_of}
-use Rattle.trie_merge.proofs.Placing.{Placed}
 use Rattle.trie_merge.proofs.build.merge_places.Given as goal
+use Rattle.trie_merge.proofs.Placing.{Placed}
+use Rattle.trie_merge.specs.Walk.{place_of}
 
 abbrev pub invariant-loop-j : goal.invariant-loop-j
 invariant-loop-j l =

@@ -2,10 +2,10 @@ use Rattle.std.proofs.Common.{ℕ, ◌<◌, List, length, ap, subst, arith}
 use Rattle.std.proofs.lemmas.List.{get_or-map, length-map}
 use Rattle.std.proofs.lemmas.Result.{IfOk-weaker}
 use Rattle.std.proofs.lemmas.List.Sorted.{All-permutation, length_permutation}
-use Rattle.trie_merge.specs.declared.order.Keyed.{Keyed}
-use Rattle.trie_merge.specs.Started.{numbers_in, IsStarted}
-use Rattle.trie_merge.proofs.Arranged.{started_in_order}
 use Rattle.trie_merge.proofs.build.start.Goals as goal
+use Rattle.trie_merge.proofs.Arranged.{started_in_order}
+use Rattle.trie_merge.specs.Started.{numbers_in, IsStarted}
+use Rattle.trie_merge.specs.declared.order.Keyed.{Keyed}
 
 pub order_rules-requires : goal.order_rules-requires
 order_rules-requires c = c.requires.group.within

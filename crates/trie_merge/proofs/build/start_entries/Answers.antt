@@ -1,10 +1,10 @@
 use Rattle.std.proofs.Common.{ℕ, List, ◌++◌, ◌∷◌, [], sym, ◌∙◌, ap}
 use Rattle.node_expand.specs.declared.edge.Edge.TheVariants.{Free}
-use Rattle.trie_merge.specs.declared.order.Keyed.{Keyed}
-use Rattle.trie_merge.specs.Entry.{entry_of}
-use Rattle.trie_merge.proofs.Mapped.{one_more_mapped, all_mapped}
-use Rattle.trie_merge.proofs.Reached.{map-map}
 use Rattle.trie_merge.proofs.build.start_entries.Goals as goal
+use Rattle.group_states.proofs.Offered.{map-map}
+use Rattle.group_states.specs.Entry.{entry_of}
+use Rattle.trie_merge.proofs.Mapped.{one_more_mapped, all_mapped}
+use Rattle.trie_merge.specs.declared.order.Keyed.{Keyed}
 
 -- the entry of one rule
 abbrev entry_at : Keyed → ℕ

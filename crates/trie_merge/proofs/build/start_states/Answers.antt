@@ -1,9 +1,9 @@
 use Rattle.std.proofs.Common.{ℕ, refl, ◌∙◌, ap}
 use Rattle.std.specs.Prelude.{nat_eq}
 use Rattle.indexmap.specs.IndexSet.{insert_key}
-use Rattle.trie_merge.specs.Started.{numbers_in}
-use Rattle.trie_merge.proofs.FirstState.{no_numbers}
 use Rattle.trie_merge.proofs.build.start_states.Goals as goal
+use Rattle.trie_merge.proofs.FirstState.{no_numbers}
+use Rattle.trie_merge.specs.Started.{numbers_in}
 
 pub returns : goal.returns
 returns c =

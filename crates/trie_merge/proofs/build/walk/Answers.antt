@@ -1,6 +1,6 @@
 use Rattle.std.proofs.Common.{◌≡◌, Err, ap, refl}
-use Rattle.trie_merge.specs.declared.merge.MergeFault.TheVariants.{OverCap}
 use Rattle.trie_merge.proofs.build.walk.Goals as goal
+use Rattle.trie_merge.specs.declared.merge.MergeFault.TheVariants.{OverCap}
 
 pub merge_places-requires-clause-group : goal.merge_places-requires-clause-group
 merge_places-requires-clause-group c = c.requires.group

@@ -1,7 +1,7 @@
 use Rattle.std.proofs.Common.{◌≡◌, ◌+◌, ◌<◌, drop}
 use Rattle.field_defs.specs.Layout.{key_len_of}
-use Rattle.trie_merge.specs.Entry.{field_at}
 use Rattle.trie_merge.proofs.column.field_at.Given as goal
+use Rattle.group_states.specs.Entry.{field_at}
 
 abbrev pub invariant-loop-field : goal.invariant-loop-field
 invariant-loop-field l =

@@ -1,6 +1,6 @@
 use Rattle.std.proofs.Common.{◌+◌, ◌∷◌, ◌++◌, [], take, sym, ◌∙◌, ap, arith}
-use Rattle.trie_merge.proofs.CutLaws.{one_more_known, many_known}
 use Rattle.trie_merge.proofs.cuts.add.Goals as goal
+use Rattle.trie_merge.proofs.CutLaws.{one_more_known, many_known}
 
 pub returns-then-cuts-eq4-clause-knows : goal.returns-then-cuts-eq4-clause-knows
 returns-then-cuts-eq4-clause-knows c = λ column entries knows is.

@@ -1,6 +1,6 @@
 use Rattle.std.proofs.Common.{ℕ, subst}
-use Rattle.trie_merge.specs.Cuts.{IsBuilt}
 use Rattle.trie_merge.proofs.cuts.cuts_of_part.Goals as goal
+use Rattle.trie_merge.specs.Cuts.{IsBuilt}
 
 pub returns : goal.returns
 returns c =

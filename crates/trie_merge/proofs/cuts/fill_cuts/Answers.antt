@@ -1,8 +1,8 @@
 use Rattle.std.proofs.Common.{◌≡◌, List, [], ◌∷◌, ◌++◌, length, get_or, sym, ◌∙◌, ap, subst, arith, length-append}
-use Rattle.trie_merge.specs.declared.cuts.Cuts.{Cuts}
-use Rattle.trie_merge.specs.Cuts.{IsBuilt, AreBuilt}
-use Rattle.trie_merge.proofs.CutLaws.{built_push}
 use Rattle.trie_merge.proofs.cuts.fill_cuts.Goals as goal
+use Rattle.trie_merge.proofs.CutLaws.{built_push}
+use Rattle.trie_merge.specs.Cuts.{IsBuilt, AreBuilt}
+use Rattle.trie_merge.specs.declared.cuts.Cuts.{Cuts}
 
 pub loop-index-preserved : goal.loop-index-preserved
 loop-index-preserved c =

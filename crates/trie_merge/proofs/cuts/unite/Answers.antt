@@ -1,6 +1,6 @@
 use Rattle.std.proofs.Common.{◌++◌, get_or, arith}
-use Rattle.trie_merge.proofs.CutLaws.{known_before, known_after, cut_after, kept_cut}
 use Rattle.trie_merge.proofs.cuts.unite.Goals as goal
+use Rattle.trie_merge.proofs.CutLaws.{known_before, known_after, cut_after, kept_cut}
 
 pub returns-then-other-gt4-clause-knows : goal.returns-then-other-gt4-clause-knows
 returns-then-other-gt4-clause-knows c = λ column left right one other. known_after column left right c.args.other other

@@ -1,8 +1,8 @@
 use Rattle.std.proofs.Common.{◌+◌, ◌∙◌, inl, inr, sym, subst}
 use Rattle.std.proofs.lemmas.Result.{on_ok_weaker}
 use Rattle.shared_parts.specs.Target.{IsFoundIn}
-use Rattle.trie_merge.proofs.Leads.{EntrySoFar, no_bytes, more_bytes, all_bytes_led}
 use Rattle.trie_merge.proofs.follow.lead_entry.Goals as goal
+use Rattle.trie_merge.proofs.Leads.{EntrySoFar, no_bytes, more_bytes, all_bytes_led}
 
 pub loop-first-init : goal.loop-first-init
 loop-first-init c =

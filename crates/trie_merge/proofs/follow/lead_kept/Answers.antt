@@ -1,8 +1,8 @@
 use Rattle.std.proofs.Common.{◌∙◌, Some, [], inl, inr, sym, ap, subst, arith}
 use Rattle.shared_parts.specs.Pieces.{Pushed}
 use Rattle.shared_parts.specs.Target.{IsFoundIn}
-use Rattle.trie_merge.proofs.Leads.{no_bytes, more_bytes, all_bytes_led}
 use Rattle.trie_merge.proofs.follow.lead_kept.Goals as goal
+use Rattle.trie_merge.proofs.Leads.{no_bytes, more_bytes, all_bytes_led}
 
 pub returns : goal.returns
 returns c = λ column keeps.

@@ -2,8 +2,8 @@ use Rattle.std.proofs.Common.{ℕ, ◌+◌, ◌-◌, ◌<◌, [], get_or, subst,
 use Rattle.shared_parts.specs.Keys.{KeyAt, same_pair}
 use Rattle.std.proofs.lemmas.Result.{on_ok_weaker}
 use Rattle.shared_parts.specs.Pieces.{Merges}
-use Rattle.trie_merge.proofs.Leads.{entry_part, pair_part}
 use Rattle.trie_merge.proofs.follow.lead_part.Goals as goal
+use Rattle.trie_merge.proofs.Leads.{entry_part, pair_part}
 
 pub returns-then-left-eq0 : goal.returns-then-left-eq0
 returns-then-left-eq0 c =

@@ -1,8 +1,8 @@
 use Rattle.std.proofs.Common.{◌≡◌, ◌+◌, List, [], ◌∷◌, ◌++◌, length, sym, ◌∙◌, ap, subst, arith, length-append}
 use Rattle.shared_parts.specs.declared.pieces.Piece.{Piece}
-use Rattle.trie_merge.specs.Led.{PartLed, AllLed}
-use Rattle.trie_merge.proofs.Leads.{one_more_led}
 use Rattle.trie_merge.proofs.follow.lead_parts.Goals as goal
+use Rattle.trie_merge.proofs.Leads.{one_more_led}
+use Rattle.trie_merge.specs.Led.{PartLed, AllLed}
 
 pub loop-index-preserved : goal.loop-index-preserved
 loop-index-preserved c =

@@ -1,9 +1,9 @@
 use Rattle.std.proofs.Common.{◌≡◌, ℕ, Bool, ◌==◌, ◌||◌, not, true, get_or, length, sym, ◌∙◌, ap, arith}
 use Rattle.std.specs.List.{list_all, range_with_len}
-use Rattle.trie_merge.specs.Kept.{group_of}
-use Rattle.trie_merge.specs.Wild.{is_idle_by}
-use Rattle.trie_merge.proofs.Counting.{all_more_numbers, not_all_numbers}
 use Rattle.trie_merge.proofs.kept.is_idle.Goals as goal
+use Rattle.group_states.proofs.Offered.{all_more_numbers, not_all_numbers}
+use Rattle.group_states.specs.Kept.{group_of}
+use Rattle.trie_merge.specs.Wild.{is_idle_by}
 
 pub returns-then-not-decides_nothing : goal.returns-then-not-decides_nothing
 unfolding is_idle_by

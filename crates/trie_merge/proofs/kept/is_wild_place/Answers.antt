@@ -2,10 +2,10 @@ use Rattle.std.proofs.Common.{◌≡◌, ℕ, List, get_or, Bool, true, false, �
 use Rattle.std.proofs.lemmas.List.{take_all}
 use Rattle.std.proofs.lemmas.List.Folds.{list_all_more, list_all_at}
 use Rattle.field_defs.specs.Lawful.{IsLayout}
-use Rattle.trie_merge.specs.RuleRest.{values_of}
-use Rattle.trie_merge.specs.Kept.{is_wild_at, is_wild_place}
-use Rattle.trie_merge.proofs.WildAt.{value_lies, wild_told}
 use Rattle.trie_merge.proofs.kept.is_wild_place.Goals as goal
+use Rattle.group_states.proofs.Offered.{value_lies, wild_told}
+use Rattle.group_states.specs.Kept.{is_wild_at, is_wild_place}
+use Rattle.group_states.specs.RuleRest.{values_of}
 
 pub loop-number-init : goal.loop-number-init
 unfolding is_wild_place

@@ -3,11 +3,11 @@ use Rattle.std.specs.List.{range_with_len, sum_by}
 use Rattle.std.proofs.lemmas.List.Sums.{sum_by-append, sum_by-cons}
 use Rattle.std.proofs.Math.Nat.{pow-suc}
 use Rattle.std.proofs.Math.Pow.{pow_mono}
-use Rattle.trie_merge.specs.Kept.{group_of}
-use Rattle.trie_merge.specs.Wild.{is_kept_by, bits_by}
-use Rattle.trie_merge.proofs.Counting.{filter_more_yes, filter_more_no}
 use Rattle.trie_merge.proofs.kept.kept_bits.Goals as goal
 use Rattle.trie_merge.proofs.kept.kept_bits.Goals.{then-is_kept, else-is_kept}
+use Rattle.group_states.proofs.Offered.{filter_more_yes, filter_more_no}
+use Rattle.group_states.specs.Kept.{group_of}
+use Rattle.trie_merge.specs.Wild.{is_kept_by, bits_by}
 
 pub overflow_add-bits : goal.overflow_add-bits
 overflow_add-bits c =

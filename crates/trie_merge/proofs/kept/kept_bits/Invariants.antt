@@ -1,7 +1,7 @@
 use Rattle.std.proofs.Common.{◌≡◌, ◌<◌, ◌^◌, filter}
 use Rattle.std.specs.List.{range_with_len, sum_by}
-use Rattle.trie_merge.specs.Wild.{is_kept_by}
 use Rattle.trie_merge.proofs.kept.kept_bits.Given as goal
+use Rattle.trie_merge.specs.Wild.{is_kept_by}
 
 abbrev pub invariant-loop-input : goal.invariant-loop-input
 invariant-loop-input l =

@@ -1,10 +1,10 @@
 use Rattle.std.proofs.Common.{◌≡◌, ℕ, List, Bool, filter, length, ◌++◌, ◌∷◌, [], sym, ◌∙◌, ap, arith}
 use Rattle.std.specs.List.{range_with_len}
-use Rattle.trie_merge.specs.Kept.{group_of}
-use Rattle.trie_merge.specs.Wild.{is_kept_by, places_by}
-use Rattle.trie_merge.proofs.Counting.{filter_more_yes, filter_more_no}
 use Rattle.trie_merge.proofs.kept.kept_places.Goals as goal
 use Rattle.trie_merge.proofs.kept.kept_places.Goals.{then-is_kept+in_ok-push, else-is_kept}
+use Rattle.group_states.proofs.Offered.{filter_more_yes, filter_more_no}
+use Rattle.group_states.specs.Kept.{group_of}
+use Rattle.trie_merge.specs.Wild.{is_kept_by, places_by}
 
 pub loop-place-preserved : goal.loop-place-preserved
 loop-place-preserved c =

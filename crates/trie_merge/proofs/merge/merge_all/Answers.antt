@@ -1,11 +1,11 @@
 use Rattle.std.proofs.Common.{◌≡◌, ℕ, ◌+◌, List, [], ◌∷◌, ◌++◌, take, drop}
 use Rattle.std.proofs.Common.{get_or, sym, ◌∙◌, ap, subst, arith}
 use Rattle.std.proofs.lemmas.List.{take_more, take-append-drop, take_all}
-use Rattle.trie_merge.specs.Merged.{runs_in}
-use Rattle.trie_merge.specs.Shared.{ArePlaced}
+use Rattle.trie_merge.proofs.merge.merge_all.Goals as goal
 use Rattle.trie_merge.proofs.FirstState.{first_so_far, first_ready}
 use Rattle.trie_merge.proofs.Merging.{SoFar, one_more_state, all_merged, past_cap}
-use Rattle.trie_merge.proofs.merge.merge_all.Goals as goal
+use Rattle.trie_merge.specs.Merged.{runs_in}
+use Rattle.trie_merge.specs.Shared.{ArePlaced}
 
 pub loop-state-init : goal.loop-state-init
 loop-state-init c =

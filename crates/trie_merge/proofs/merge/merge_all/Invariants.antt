@@ -1,7 +1,7 @@
 use Rattle.std.proofs.Common.{◌+◌, ◌≤◌, take}
-use Rattle.trie_merge.specs.Merged.{IsReady, runs_in}
-use Rattle.trie_merge.proofs.Merging.{SoFar}
 use Rattle.trie_merge.proofs.merge.merge_all.Given as goal
+use Rattle.trie_merge.proofs.Merging.{SoFar}
+use Rattle.trie_merge.specs.Merged.{IsReady, runs_in}
 
 abbrev pub invariant-loop-state : goal.invariant-loop-state
 invariant-loop-state l = record {

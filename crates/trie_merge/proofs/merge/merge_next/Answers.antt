@@ -2,12 +2,12 @@ use Rattle.std.proofs.Common.{◌≡◌, ℕ, ◌+◌, ◌*◌, ◌<◌, ◌≤�
 use Rattle.std.specs.Prelude.{All}
 use Rattle.shared_parts.specs.Target.{count}
 use Rattle.table_sizes.specs.Sizes.{row_len}
+use Rattle.trie_merge.proofs.merge.merge_next.Goals as goal
+use Rattle.trie_merge.proofs.Merging.{inside_grows, few_more, still_ask, cuts_stay}
 use Rattle.trie_merge.specs.Cuts.{CutsFor}
-use Rattle.trie_merge.specs.Lists.{least_cost}
 use Rattle.trie_merge.specs.Merged.{runs_in}
 use Rattle.trie_merge.specs.Shared.{AreIn}
-use Rattle.trie_merge.proofs.Merging.{inside_grows, few_more, still_ask, cuts_stay}
-use Rattle.trie_merge.proofs.merge.merge_next.Goals as goal
+use Rattle.trie_merge.specs.Words.{least_cost}
 
 pub price_all-requires-clause-ask : goal.price_all-requires-clause-ask
 price_all-requires-clause-ask c =

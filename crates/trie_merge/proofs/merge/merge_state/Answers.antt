@@ -3,14 +3,14 @@ use Rattle.std.proofs.Common.{length, get_or, refl, sym, ◌∙◌, ap, subst, a
 use Rattle.std.proofs.lemmas.List.{append-nil}
 use Rattle.shared_parts.specs.declared.pieces.Piece.{Piece}
 use Rattle.shared_parts.specs.Pieces.{number_at, Covers, PiecesLead}
-use Rattle.trie_merge.specs.declared.run.Run.{Run}
-use Rattle.trie_merge.specs.Led.{step_of}
 use Rattle.table_sizes.specs.Sizes.{cost_of}
-use Rattle.trie_merge.specs.Levels.{runs_of}
-use Rattle.trie_merge.specs.Numbers.{succ_of}
 use Rattle.shared_parts.specs.Slices.{pieces_of, IsPieces}
 use Rattle.shared_parts.proofs.Offered.{pieces-push, IsPieces-push}
 use Rattle.trie_merge.proofs.merge.merge_state.Goals as goal
+use Rattle.group_states.specs.Levels.{runs_of}
+use Rattle.group_states.specs.declared.run.Run.{Run}
+use Rattle.trie_merge.specs.Led.{step_of}
+use Rattle.trie_merge.specs.Numbers.{succ_of}
 
 -- the runs of the pieces
 abbrev runs_by : Bool → List ℕ → List Piece → List Run

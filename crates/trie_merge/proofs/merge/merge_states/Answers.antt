@@ -1,9 +1,9 @@
 use Rattle.std.proofs.Common.{◌≡◌, Err, sym, ap, subst}
+use Rattle.trie_merge.proofs.merge.merge_states.Goals as goal
 use Rattle.trie_merge.specs.Cuts.{CanAsk}
-use Rattle.trie_merge.specs.declared.merge.MergeFault.TheVariants.{OverCap}
 use Rattle.trie_merge.specs.Merged.{AreMerged, IsFirst}
 use Rattle.trie_merge.specs.Shared.{IsFor}
-use Rattle.trie_merge.proofs.merge.merge_states.Goals as goal
+use Rattle.trie_merge.specs.declared.merge.MergeFault.TheVariants.{OverCap}
 
 pub merge_all-requires-clause-ask : goal.merge_all-requires-clause-ask
 merge_all-requires-clause-ask c =

@@ -1,6 +1,6 @@
 use Rattle.std.proofs.Common.{subst}
-use Rattle.trie_merge.specs.Cuts.{CanAsk, CutsFor}
 use Rattle.trie_merge.proofs.merge.price.Goals as goal
+use Rattle.trie_merge.specs.Cuts.{CanAsk, CutsFor}
 
 pub price_ahead-requires-clause-ask : goal.price_ahead-requires-clause-ask
 price_ahead-requires-clause-ask c = subst (λ next. CanAsk next c.args.target.now) c.in-Some.is c.requires.ask

@@ -2,17 +2,17 @@ use Rattle.std.proofs.Common.{◌≡◌, ℕ, ◌+◌, ◌-◌, ◌≤◌, List,
 use Rattle.std.proofs.lemmas.List.{get_or_default}
 use Rattle.std.specs.List.{filter_map}
 use Rattle.shared_parts.specs.Target.{HasEntry}
-use Rattle.trie_merge.specs.declared.cuts.Cuts.{Cuts}
-use Rattle.trie_merge.specs.Cuts.{no_cuts}
 use Rattle.table_sizes.specs.Sizes.{cost_of}
-use Rattle.trie_merge.specs.Lists.{cost_ahead}
-use Rattle.trie_merge.specs.Shared.{IsState, IsIn}
+use Rattle.trie_merge.proofs.merge.price_ahead.Goals as goal
 use Rattle.trie_merge.proofs.Arranged.{known_arranged}
 use Rattle.trie_merge.proofs.CutLaws.{built_tells, told}
 use Rattle.trie_merge.proofs.Merging.{price_some}
 use Rattle.trie_merge.proofs.Rising.{numbers_rise}
 use Rattle.trie_merge.proofs.Zipped.{rises_of}
-use Rattle.trie_merge.proofs.merge.price_ahead.Goals as goal
+use Rattle.trie_merge.specs.Cuts.{no_cuts}
+use Rattle.trie_merge.specs.Shared.{IsState, IsIn}
+use Rattle.trie_merge.specs.Words.{cost_ahead}
+use Rattle.trie_merge.specs.declared.cuts.Cuts.{Cuts}
 
 pub fill_cuts-requires-clause-can : goal.fill_cuts-requires-clause-can
 fill_cuts-requires-clause-can c = λ entry has.

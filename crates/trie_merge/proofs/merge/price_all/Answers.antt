@@ -1,8 +1,8 @@
 use Rattle.std.proofs.Common.{ℕ, ap, arith}
-use Rattle.trie_merge.specs.Lists.{least_cost}
-use Rattle.trie_merge.proofs.Merging.{one_more_price, same_length, number_in_lists}
 use Rattle.std.proofs.lemmas.List.{take_all}
 use Rattle.trie_merge.proofs.merge.price_all.Goals as goal
+use Rattle.trie_merge.proofs.Merging.{one_more_price, same_length, number_in_lists}
+use Rattle.trie_merge.specs.Words.{least_cost}
 
 pub loop-k-preserved : goal.loop-k-preserved
 loop-k-preserved c =

@@ -1,11 +1,11 @@
 use Rattle.std.proofs.Common.{◌≡◌, ℕ, ◌+◌, ◌*◌, ◌≤◌, List, take, true}
 use Rattle.std.specs.List.Sorted.{IsStrictlyIncreasing}
 use Rattle.rule_set.specs.Rule.{RuleSetView}
-use Rattle.trie_merge.specs.Cuts.{CutsFor}
 use Rattle.table_sizes.specs.Sizes.{row_len}
-use Rattle.trie_merge.specs.Lists.{least_cost}
-use Rattle.trie_merge.specs.Shared.{RuleTree, AreIn}
 use Rattle.trie_merge.proofs.merge.price_all.Given as goal
+use Rattle.trie_merge.specs.Cuts.{CutsFor}
+use Rattle.trie_merge.specs.Shared.{RuleTree, AreIn}
+use Rattle.trie_merge.specs.Words.{least_cost}
 
 abbrev pub invariant-loop-k : goal.invariant-loop-k
 invariant-loop-k l =

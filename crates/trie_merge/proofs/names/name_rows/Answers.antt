@@ -1,7 +1,7 @@
 use Rattle.std.proofs.Common.{ℕ, List, ◌++◌, ◌∷◌, [], ◌∙◌, ap}
-use Rattle.trie_merge.specs.Names.{row_named}
-use Rattle.trie_merge.proofs.Mapped.{one_more_mapped, all_mapped}
 use Rattle.trie_merge.proofs.names.name_rows.Goals as goal
+use Rattle.trie_merge.proofs.Mapped.{one_more_mapped, all_mapped}
+use Rattle.trie_merge.specs.Names.{row_named}
 
 pub name_row-requires : goal.name_row-requires
 name_row-requires c =

@@ -1,6 +1,6 @@
 use Rattle.std.proofs.Common.{ℕ, ◌+◌, ◌<◌, length, set, sym, ap, subst, arith}
-use Rattle.trie_merge.proofs.NamesLaws.{NamedSoFar, length-ranked, rank_told, rank_inside, one_more_named}
 use Rattle.trie_merge.proofs.names.names_of.Goals as goal
+use Rattle.trie_merge.proofs.NamesLaws.{NamedSoFar, length-ranked, rank_told, rank_inside, one_more_named}
 
 pub rank_at-requires : goal.rank_at-requires
 rank_at-requires c =

@@ -3,9 +3,9 @@ use Rattle.std.specs.List.{range_with_len}
 use Rattle.std.proofs.lemmas.List.FromFn.{map-range_with_len_more}
 use Rattle.rule_set.specs.Rank.{rank_of}
 use Rattle.rule_set.specs.declared.rule.RuleTag.{RuleTag}
-use Rattle.trie_merge.specs.Names.{ranked_at, ranked_of}
-use Rattle.trie_merge.proofs.NamesLaws.{length-ranks, rank_at, ranked_is}
 use Rattle.trie_merge.proofs.names.rank_rules.Goals as goal
+use Rattle.trie_merge.proofs.NamesLaws.{length-ranks, rank_at, ranked_is}
+use Rattle.trie_merge.specs.Names.{ranked_at, ranked_of}
 
 pub index-requires : goal.index-requires
 index-requires c =

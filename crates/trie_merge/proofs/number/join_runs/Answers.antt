@@ -3,11 +3,11 @@ use Rattle.std.proofs.Common.{get_or, cond, refl, sym, ◌∙◌, ap, subst, ari
 use Rattle.shared_parts.specs.declared.pieces.Piece.{Piece}
 use Rattle.shared_parts.specs.Pieces.{number_at}
 use Rattle.shared_parts.proofs.Offered.{RestIs, no_piece, rest_all, rest_some, rest_below, rest_end, piece_from, piece_at}
-use Rattle.trie_merge.specs.Levels.{same_succ}
-use Rattle.trie_merge.specs.Numbers.{numbers_with, succ_of}
-use Rattle.trie_merge.proofs.Successors.{Joined, first_joined, next_joined, piece_joined, rest_next, all_joined}
 use Rattle.trie_merge.proofs.number.join_runs.Goals as goal
 use Rattle.trie_merge.proofs.number.join_runs.Goals.{then-not-is_same+in_ok-push, else-not-is_same}
+use Rattle.group_states.specs.Levels.{same_succ}
+use Rattle.trie_merge.proofs.Successors.{Joined, first_joined, next_joined, piece_joined, rest_next, all_joined}
+use Rattle.trie_merge.specs.Numbers.{numbers_with, succ_of}
 
 -- the first byte of a piece leads where the piece does
 first_at : (pieces : List Piece) (k first : ℕ) → k < length pieces → RestIs pieces k first

@@ -1,7 +1,7 @@
 use Rattle.std.proofs.Common.{◌+◌}
 use Rattle.shared_parts.proofs.Offered.{RestIs}
-use Rattle.trie_merge.proofs.Successors.{Joined}
 use Rattle.trie_merge.proofs.number.join_runs.Given as goal
+use Rattle.trie_merge.proofs.Successors.{Joined}
 
 abbrev pub invariant-loop-k : goal.invariant-loop-k
 invariant-loop-k l =

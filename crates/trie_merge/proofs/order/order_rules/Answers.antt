@@ -1,9 +1,9 @@
 use Rattle.std.proofs.Common.{ℕ, subst}
 use Rattle.std.specs.List.Sorted.{IsPermutation}
 use Rattle.std.proofs.lemmas.List.Sorted.{IsPermutation-map}
-use Rattle.trie_merge.specs.declared.order.Keyed.{Keyed}
-use Rattle.trie_merge.specs.Started.{numbers_in}
 use Rattle.trie_merge.proofs.order.order_rules.Goals as goal
+use Rattle.trie_merge.specs.Started.{numbers_in}
+use Rattle.trie_merge.specs.declared.order.Keyed.{Keyed}
 
 pub returns : goal.returns
 returns c =

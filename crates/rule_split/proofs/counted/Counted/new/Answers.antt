@@ -1,5 +1,5 @@
 use Rattle.std.proofs.Common.{ap, sym, ◌∙◌}
-use Rattle.trie_merge.specs.Levels.{LevelsView, levels_of}
+use Rattle.group_states.specs.Levels.{LevelsView, levels_of}
 use Rattle.rule_split.proofs.Totals.{group_of_levels}
 use Rattle.rule_split.proofs.counted.Counted.new.Goals as goal
 

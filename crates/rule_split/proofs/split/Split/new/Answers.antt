@@ -1,5 +1,5 @@
 use Rattle.std.proofs.Common.{map, ◌∙◌, ap, refl, arith}
-use Rattle.trie_merge.specs.Levels.{levels_of}
+use Rattle.group_states.specs.Levels.{levels_of}
 use Rattle.rule_split.proofs.Plans.{last_few, total_of_last, all_kept}
 use Rattle.rule_split.proofs.split.Split.new.Goals as goal
 

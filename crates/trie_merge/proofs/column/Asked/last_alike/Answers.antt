@@ -1,6 +1,6 @@
 use Rattle.std.proofs.Common.{arith}
-use Rattle.trie_merge.proofs.Asking.{asked_alike}
 use Rattle.trie_merge.proofs.column.Asked.last_alike.Goals as goal
+use Rattle.trie_merge.proofs.Asking.{asked_alike}
 
 pub returns-clause-alike : goal.returns-clause-alike
 returns-clause-alike c = λ column entry is.

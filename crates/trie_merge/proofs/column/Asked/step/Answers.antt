@@ -1,8 +1,8 @@
 use Rattle.std.proofs.Common.{Some, sym, ◌∙◌, ap, arith}
 use Rattle.std.specs.Option.{option_map}
-use Rattle.trie_merge.specs.Entry.{entry_of}
-use Rattle.trie_merge.proofs.Asking.{asked_step}
 use Rattle.trie_merge.proofs.column.Asked.step.Goals as goal
+use Rattle.group_states.specs.Entry.{entry_of}
+use Rattle.trie_merge.proofs.Asking.{asked_step}
 
 pub returns : goal.returns
 returns c = λ column entry is.

@@ -1,7 +1,7 @@
 use Rattle.std.proofs.Common.{◌≡◌, ◌∙◌, arith, rules}
 use Rattle.node_expand.specs.Edges.{edge_step}
-use Rattle.trie_merge.specs.Entry.{value_in, edge_before}
 use Rattle.trie_merge.proofs.column.Column.ask.Goals as goal
+use Rattle.group_states.specs.Entry.{value_in, edge_before}
 
 pub returns : goal.returns
 returns c =

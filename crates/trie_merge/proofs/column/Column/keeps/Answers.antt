@@ -1,8 +1,9 @@
 use Rattle.std.proofs.Common.{◌≡◌, ◌%◌, true, sym, ◌∙◌, rules}
 use Rattle.std.proofs.lemmas.Bool.{eqb-true}
-use Rattle.trie_merge.specs.Entry.{stays_free, value_in}
-use Rattle.trie_merge.proofs.Keeping.{kept, uncut}
 use Rattle.trie_merge.proofs.column.Column.keeps.Goals as goal
+use Rattle.group_states.specs.Entry.{value_in}
+use Rattle.trie_merge.proofs.Keeping.{kept, uncut}
+use Rattle.trie_merge.specs.Asked.{stays_free}
 
 stays : (c : goal.After-stays_free) → c.stays_free.result ≡ true →
     stays_free c.args.self.now.size c.args.self.now.place (value_in c.args.self.now c.args.entry) ≡ true

@@ -5,9 +5,9 @@ use Rattle.field_defs.specs.declared.field.FieldValue.{FieldValue}
 use Rattle.field_defs.specs.declared.field.FieldValue.TheVariants.{Mask}
 use Rattle.field_defs.specs.Lawful.{IsLayout}
 use Rattle.rule_set.specs.Rule.{RuleView}
-use Rattle.trie_merge.specs.Entry.{field_at}
-use Rattle.trie_merge.proofs.WildAt.{value_of_rule}
 use Rattle.trie_merge.proofs.column.Column.new.Goals as goal
+use Rattle.group_states.proofs.Offered.{value_of_rule}
+use Rattle.group_states.specs.Entry.{field_at}
 
 pub bounds-fields-at : goal.bounds-fields-at
 bounds-fields-at c =

@@ -1,7 +1,7 @@
 use Rattle.std.proofs.Common.{length, ◌∙◌, ap, arith}
-use Rattle.trie_merge.specs.Wild.{places_by, bits_by}
-use Rattle.trie_merge.proofs.WildSays.{length-wild, places_say, bits_say}
 use Rattle.trie_merge.proofs.kept.Kept.new.Goals as goal
+use Rattle.trie_merge.proofs.WildSays.{length-wild, places_say, bits_say}
+use Rattle.trie_merge.specs.Wild.{places_by, bits_by}
 
 pub kept_places-requires : goal.kept_places-requires
 kept_places-requires c =

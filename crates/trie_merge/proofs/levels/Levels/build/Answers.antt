@@ -1,6 +1,6 @@
 use Rattle.std.proofs.Common.{ap, arith}
-use Rattle.trie_merge.specs.Levels.{LevelsView}
 use Rattle.trie_merge.proofs.levels.Levels.build.Goals as goal
+use Rattle.group_states.specs.Levels.{LevelsView}
 
 pub finish-requires-clause-walk : goal.finish-requires-clause-walk
 finish-requires-clause-walk c =

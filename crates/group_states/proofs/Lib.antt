@@ -1,0 +1,16 @@
+pub mod Finds
+pub mod Equal
+pub mod Categories
+pub mod Packed
+pub mod PackedState
+pub mod RestSteps
+pub mod Prefixes
+pub mod Runs
+pub mod Reached
+pub mod Counting
+pub mod WildAt
+pub mod Gaps
+pub mod LevelRuns
+pub mod StateLaws
+pub mod Following
+pub mod Offered

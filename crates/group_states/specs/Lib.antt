@@ -1,0 +1,11 @@
+pub mod Entry
+pub mod Follow
+pub mod Found
+pub mod Kept
+pub mod Laws
+pub mod Levels
+pub mod Lists
+pub mod Row
+pub mod RuleRest
+pub mod State
+pub mod StateExamples
