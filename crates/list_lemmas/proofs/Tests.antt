@@ -1,8 +1,10 @@
 -- Tests: what their answers say, two tests at once, and marks that are set one after the other.
-use Rattle.std.proofs.Common.{◌≡◌, ℕ, ◌+◌, ◌<◌, ◌≤◌, Bool, true, false, ◌&&◌, ◌||◌, cond, eqb, ltb, Some, None, refl}
+use Rattle.std.proofs.Common.{◌≡◌, ℕ, ◌+◌, ◌<◌, ◌≤◌, List, Bool, true, false, ◌&&◌, ◌||◌, cond, eqb, ltb, Some, None, refl}
 use Rattle.std.proofs.Common.{sym, ap, ◌∙◌, inl, inr, arith}
 use Rattle.std.proofs.lemmas.Bool.{cases_eq, ne_eqb, false≢true}
 use Rattle.std.proofs.lemmas.Bool.Decides.{nat_tests}
+use Rattle.std.proofs.lemmas.Slice.Eq.{bytes_eq-Decides}
+use Rattle.std.specs.Str.{bytes_eq}
 
 -- a value was answered, so the test passed, and it is the value
 pub test_passed : {A : Type 0} (test : Bool) (value answer : A) → Some answer ≡ cond test (Some value) None
@@ -64,3 +66,11 @@ marked_all change byte place old none = grind (arith, nat_tests)
 pub marks_in_turn : (first second third fourth old : Bool) →
     (first || (second || (third || (fourth || old)))) ≡ ((first || (second || (third || fourth))) || old)
 marks_in_turn first second third fourth old = grind (arith, nat_tests)
+
+-- a list of numbers equals itself
+pub bytes_eq_refl : (xs : List ℕ) → bytes_eq xs xs ≡ true
+bytes_eq_refl xs = (bytes_eq-Decides xs xs).1 refl
+
+-- and lists that pass the test are one
+pub bytes_eq_sound : (xs ys : List ℕ) → bytes_eq xs ys ≡ true → xs ≡ ys
+bytes_eq_sound xs ys = (bytes_eq-Decides xs ys).0
