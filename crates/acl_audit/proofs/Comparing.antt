@@ -18,7 +18,9 @@ use Rattle.group_states.specs.Laws.{IsGrouped}
 use Rattle.group_states.specs.Levels.{LevelsView, levels_of}
 use Rattle.group_states.specs.Row.{final_row}
 use Rattle.group_states.specs.State.{state, is_live}
-use Rattle.group_states.proofs.Offered.{bytes_eq_sound, prefixes_are, all_weaker, IsPrefix}
+use Rattle.list_lemmas.proofs.Tests.{bytes_eq_sound}
+use Rattle.list_lemmas.proofs.Each.{all_weaker}
+use Rattle.group_states.proofs.Offered.{prefixes_are, IsPrefix}
 use Rattle.acl_audit.specs.declared.compare.Compared.{Compared}
 use Rattle.acl_audit.specs.declared.compare.CompareFault.{CompareFault}
 use Rattle.acl_audit.specs.declared.unlike.Unlike.{Unlike}

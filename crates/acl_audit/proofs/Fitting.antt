@@ -27,7 +27,8 @@ use Rattle.group_states.specs.Laws.{IsGrouped}
 use Rattle.group_states.specs.Levels.{IsGroup, levels_of}
 use Rattle.group_states.specs.Row.{final_row, row_of, winner_of}
 use Rattle.group_states.specs.State.{Held, state, is_live}
-use Rattle.group_states.proofs.Offered.{All-found_in, prefixes_are, all_weaker, all-map, IsPrefix, whole_numbers}
+use Rattle.list_lemmas.proofs.Each.{all_weaker, all-map}
+use Rattle.group_states.proofs.Offered.{All-found_in, prefixes_are, IsPrefix, whole_numbers}
 use Rattle.acl_audit.specs.Least.{all_rules}
 use Rattle.acl_audit.specs.Traced.{is_kept_in, places_of}
 use Rattle.acl_audit.proofs.Telling.{rows_are}

@@ -12,8 +12,9 @@ use Rattle.group_states.specs.Kept.{is_wild_place}
 use Rattle.group_states.specs.Laws.{IsGrouped}
 use Rattle.group_states.specs.Levels.{reached}
 use Rattle.group_states.specs.State.{Held, state, state_step, state_through, same_state, is_live}
-use Rattle.group_states.proofs.Offered.{AreBytes, IsPrefix, prefixes_are, bytes_below, all-map}
-use Rattle.group_states.proofs.Offered.{all-flat_map, all_weaker, map_same, map-map, state_goes_through}
+use Rattle.list_lemmas.proofs.Each.{all-map, all-flat_map, all_weaker, map_same, map-map}
+use Rattle.group_states.proofs.Offered.{AreBytes, IsPrefix, prefixes_are, bytes_below}
+use Rattle.group_states.proofs.Offered.{state_goes_through}
 use Rattle.group_states.proofs.Offered.{held_of, state_is, decoded, packed_state, packed_state_wild, same_state-Decides}
 use Rattle.acl_audit.proofs.Finding.{found_by, found_after, found_firsts}
 use Rattle.acl_audit.proofs.Least.{longer}

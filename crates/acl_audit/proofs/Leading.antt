@@ -15,7 +15,9 @@ use Rattle.group_states.specs.Laws.{IsGrouped}
 use Rattle.group_states.specs.Levels.{reached, runs_of, states_at}
 use Rattle.group_states.specs.Row.{final_row}
 use Rattle.group_states.specs.State.{Held, state, same_state, is_live}
-use Rattle.group_states.proofs.Offered.{all_weaker, map_same, map-map, All-found_in, same_runs, bytes_eq_refl}
+use Rattle.list_lemmas.proofs.Each.{all_weaker, map_same, map-map}
+use Rattle.list_lemmas.proofs.Tests.{bytes_eq_refl}
+use Rattle.group_states.proofs.Offered.{All-found_in, same_runs}
 use Rattle.acl_audit.specs.declared.links.Link.{Link}
 use Rattle.acl_audit.specs.Keyed.{keyed}
 use Rattle.acl_audit.specs.Links.{is_next, links_of}

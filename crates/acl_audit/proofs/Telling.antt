@@ -17,7 +17,8 @@ use Rattle.group_states.specs.Laws.{IsGrouped}
 use Rattle.group_states.specs.Levels.{levels_of}
 use Rattle.group_states.specs.Row.{final_row}
 use Rattle.group_states.specs.State.{state, is_live}
-use Rattle.group_states.proofs.Offered.{All-found_in, prefixes_are, all_weaker, IsPrefix}
+use Rattle.list_lemmas.proofs.Each.{all_weaker}
+use Rattle.group_states.proofs.Offered.{All-found_in, prefixes_are, IsPrefix}
 use Rattle.acl_audit.specs.declared.links.Link.{Link}
 use Rattle.acl_audit.specs.Audited.{key_numbered, keys_of, HasKeys}
 use Rattle.acl_audit.specs.Firsts.{first_from, number_at, AreFirsts}

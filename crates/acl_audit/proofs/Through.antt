@@ -15,7 +15,9 @@ use Rattle.group_states.specs.Laws.{IsGrouped}
 use Rattle.group_states.specs.Levels.{runs_of, states_at, state_succ, row_succ, level_runs, levels_of}
 use Rattle.group_states.specs.Row.{final_row, rows_of}
 use Rattle.group_states.specs.State.{Held, state, same_state, is_live}
-use Rattle.group_states.proofs.Offered.{all_weaker, All-found_in, bytes_eq_refl, Gaps, HasFirst, kept_places_first}
+use Rattle.list_lemmas.proofs.Each.{all_weaker}
+use Rattle.list_lemmas.proofs.Tests.{bytes_eq_refl}
+use Rattle.group_states.proofs.Offered.{All-found_in, Gaps, HasFirst, kept_places_first}
 use Rattle.acl_audit.specs.declared.links.Link.{Link}
 use Rattle.acl_audit.specs.Keyed.{keyed, keys_after}
 use Rattle.acl_audit.specs.Links.{is_next, links_of}

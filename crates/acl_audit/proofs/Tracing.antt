@@ -4,7 +4,8 @@ use Rattle.std.proofs.Common.{get_or, slice_set, refl, sym, ◌∙◌, ap, subst
 use Rattle.std.specs.List.{AllByRecursion, flat_map, range_with_len}
 use Rattle.std.proofs.lemmas.List.{take_all, take_more, length-map, get_or-map, length-take-le, append-nil}
 use Rattle.rule_set.specs.Rule.{RuleSetView}
-use Rattle.group_states.proofs.Offered.{Gaps, range_more}
+use Rattle.list_lemmas.proofs.Ranges.{range_more}
+use Rattle.group_states.proofs.Offered.{Gaps}
 use Rattle.std.proofs.lemmas.List.Concat.{flat_map-append}
 use Rattle.acl_audit.specs.declared.links.Link.{Link}
 use Rattle.acl_audit.specs.Keyed.{keyed, keys_after}

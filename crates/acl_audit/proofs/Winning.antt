@@ -24,7 +24,9 @@ use Rattle.group_states.specs.Laws.{IsGrouped}
 use Rattle.group_states.specs.Row.{winner_of, row_of, final_row}
 use Rattle.group_states.specs.RuleRest.{values_of}
 use Rattle.group_states.specs.State.{Held, state, is_live}
-use Rattle.group_states.proofs.Offered.{whole_numbers, bytes_eq_sound, prefixes_are, all_weaker, IsPrefix}
+use Rattle.list_lemmas.proofs.Tests.{bytes_eq_sound}
+use Rattle.list_lemmas.proofs.Each.{all_weaker}
+use Rattle.group_states.proofs.Offered.{whole_numbers, prefixes_are, IsPrefix}
 use Rattle.acl_audit.specs.Firsts.{first_from}
 use Rattle.acl_audit.specs.Least.{wins_at, least_key, all_rules}
 use Rattle.acl_audit.proofs.Finding.{find_found}

@@ -1,7 +1,7 @@
 -- The runs lead to the row of the matching rules.
 use Rattle.std.proofs.Common.{◌≡◌, ◌≢◌, ℕ, zero, suc, ◌+◌, ◌-◌, ◌<◌, ◌≤◌, ◌==◌, List, [], ◌∷◌, ◌++◌, length, map, fold}
 use Rattle.std.proofs.Common.{filter, take, drop, get_or, slice_get, Bool, true, false, cond, leb, not, ◌&&◌, ◌||◌}
-use Rattle.std.proofs.Common.{true≢false, Some, None, refl, sym, ◌∙◌, ap, subst, inl, inr, ◌⊎◌, arith}
+use Rattle.std.proofs.Common.{true≢false, Some, None, refl, sym, ◌∙◌, ap, subst, inl, inr, ◌⊎◌, arith, take-add}
 use Rattle.std.specs.List.{AllByRecursion, range_with_len, flat_map, find, list_any, position_or_len, cons_option}
 use Rattle.std.specs.Option.{option_map, option_map_or}
 use Rattle.std.proofs.lemmas.Bool.{cases_Bool, cases_eq, eqb-true, eq-eqb, le-leb, lt-leb, not-false, or_parts}
@@ -17,14 +17,14 @@ use Rattle.rule_set.specs.Fault.{categories}
 use Rattle.node_expand.specs.declared.edge.Edge.TheVariants.{Free}
 use Rattle.node_expand.specs.Rest.{Rest, Live}
 use Rattle.group_states.proofs.Categories.{length-categories}
-use Rattle.group_states.proofs.Equal.{bytes_eq_refl, bytes_eq_sound}
+use Rattle.list_lemmas.proofs.Tests.{bytes_eq_refl, bytes_eq_sound}
+use Rattle.list_lemmas.proofs.Each.{all_of_parts, all_of_map, all_of_singles}
 use Rattle.group_states.proofs.Finds.{is_new, none_new_once_found}
 use Rattle.group_states.proofs.Gaps.{Gaps, HasFirst, kept_places_first}
 use Rattle.group_states.proofs.LevelRuns.{packed_start}
 use Rattle.group_states.proofs.Packed.{AreBytes, bytes_after}
 use Rattle.group_states.proofs.PackedState.{IsHeld, packed_state, packed_state_steps, packed_state_start, decoded}
 use Rattle.group_states.proofs.PackedState.{state_is, same_state-Decides}
-use Rattle.group_states.proofs.Prefixes.{all_of_parts}
 use Rattle.group_states.proofs.Reached.{IsGap, states_are, reached_is, bytes_on}
 use Rattle.group_states.proofs.RestSteps.{state_goes_through}
 use Rattle.group_states.proofs.StateLaws.{whole_keys_are_live_where_they_match, held_of}
@@ -138,19 +138,6 @@ module _ {X : Type 0} (same : X → X → Bool) (sound : (x y : X) → same x y 
 
 -- ---- every list of bytes is a prefix
 
-each_of : {X : Type 0} (P : X → Type 0) (f : ℕ → X) (first count byte : ℕ) → first ≤ byte → byte < first + count
-    → AllByRecursion P (flat_map (λ b. f b ∷ []) (range_with_len first count)) → P (f byte)
-each_of P f first zero byte from below all = absurd (omega arith)
-each_of P f first (suc count) byte from below all = elim (cases_eq first byte) [
-  | inl e ↦ subst (λ b. P (f b)) e all.0
-  | inr other ↦ each_of P f (first + 1) count byte (omega (arith, other)) (omega arith) all.1
-]
-
-of_map : {X Y : Type 0} (P : Y → Type 0) (f : X → Y) (xs : List X) → AllByRecursion P (map f xs)
-    → AllByRecursion (λ x. P (f x)) xs
-of_map P f [] all = tt
-of_map P f (x ∷ xs) all = (all.0, of_map P f xs all.1)
-
 small_at : (bytes : List ℕ) (k : ℕ) → AreBytes bytes → k < length bytes → get_or bytes k 0 < 256
 small_at bytes k small within =
     All-get_or (λ byte. byte < 256) bytes k 0 within (All-from_recursion (λ byte. byte < 256) bytes small)
@@ -159,18 +146,6 @@ bytes_before : (n : ℕ) (bytes : List ℕ) → AreBytes bytes → AreBytes (tak
 bytes_before zero bytes small = tt
 bytes_before (suc n) [] small = tt
 bytes_before (suc n) (b ∷ bs) small = (small.0, bytes_before n bs small.1)
-
-take_none : {X : Type 0} (n : ℕ) → take n (let none : List X = [] in none) ≡ []
-take_none zero = refl
-take_none (suc n) = refl
-
--- the first elements, and some after them
-take_both : {X : Type 0} (m n : ℕ) (xs : List X) → take (m + n) xs ≡ take m xs ++ take n (drop m xs)
-take_both zero n xs = ap (λ k. take k xs) (omega arith)
-take_both (suc m) n [] = take_none (suc m + n) ∙ sym (take_none n)
-take_both (suc m) n (x ∷ xs) =
-    let e : suc m + n ≡ suc (m + n) = omega arith in
-    ap (λ k. take k (x ∷ xs)) e ∙ ap (λ l. x ∷ l) (take_both m n xs)
 
 -- what holds of all prefixes holds of each list of so many bytes
 each_prefix : (place : ℕ) (P : List ℕ → Type 0) → AllByRecursion P (prefixes place) → (key : List ℕ) → AreBytes key
@@ -185,8 +160,8 @@ each_prefix (suc place) P all key small long =
     let one = each_prefix place
     (λ before. AllByRecursion P (flat_map (λ byte. (before ++ byte ∷ []) ∷ []) (range_with_len 0 256))) inner
     (take place key) (bytes_before place key small) shorter in
-    let last = each_of P (λ byte. take place key ++ byte ∷ []) 0 256 (get_or key place 0) (omega arith)
-    (small_at key place small (omega arith)) one in
+    let last = all_of_singles P (λ byte. take place key ++ byte ∷ []) 0 256 one (get_or key place 0)
+    (omega arith) (small_at key place small (omega arith)) in
     let whole : take place key ++ get_or key place 0 ∷ [] ≡ key = sym (take_more key place 0 (omega arith))
     ∙ take_all (place + 1) key (omega arith) in
     subst P whole last
@@ -201,7 +176,7 @@ module _ {X : Type 0} (same : X → X → Bool) (live : X → Bool) (reflexive :
   found_for_key place key small long alive =
       let found : List X = fold (found_with same live) [] (map f (prefixes place)) in
       let old = each_prefix place (λ k. is_new same live found (f k) ≡ false)
-      (of_map (λ x. is_new same live found x ≡ false) f (prefixes place)
+      (all_of_map (λ x. is_new same live found x ≡ false) f (prefixes place)
       (none_new_once_found same live reflexive [] (map f (prefixes place)))) key small long in
       found_at same sound (f key) found
       (not-false _ (sym (ap (λ b. b && not (list_any (same (f key)) found)) alive) ∙ old))
@@ -280,7 +255,7 @@ module _ (set : RuleSetView) (group : List ℕ) (held : AllByRecursion (IsHeld s
       (omega (arith, length-drop (place + 1) key, long, gap.rises, gap.within)) in
       let count : place + 1 + (next - place - 1) ≡ next = omega (arith, gap.rises) in
       let until : take next key ≡ take (place + 1) key ++ rest = ap (λ n. take n key) (sym count)
-      ∙ take_both (place + 1) (next - place - 1) key in
+      ∙ take-add (place + 1) (next - place - 1) key in
       let next_long : length (take next key) ≡ next = length-take-le next key (omega (arith, long, gap.within)) in
       let entries : entries_step (column_at set place) (packed_state set group start) byte
       ≡ packed_state set group (take next key) =

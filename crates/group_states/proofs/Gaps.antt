@@ -1,37 +1,14 @@
 -- Between the kept places all rules are wild.
 use Rattle.std.proofs.Common.{◌≡◌, ◌≢◌, ℕ, zero, suc, ◌+◌, ◌<◌, ◌≤◌, ◌==◌, List, [], ◌∷◌, length, filter, get_or, Bool}
-use Rattle.std.proofs.Common.{true, false, cond, not, ◌&&◌, ◌||◌, true≢false, refl, sym, ◌∙◌, ap, subst, inl, inr, ◌⊎◌}
+use Rattle.std.proofs.Common.{true, false, cond, not, ◌&&◌, ◌||◌, true≢false, refl, sym, ◌∙◌, ap, subst, inl, inr}
 use Rattle.std.proofs.Common.{arith}
 use Rattle.std.specs.List.{range_with_len, list_all}
-use Rattle.std.proofs.lemmas.Bool.{cases_Bool, cases_eq, eq-eqb, and_parts, or_parts, or_right, not-false}
+use Rattle.std.proofs.lemmas.Bool.{cases_Bool, cases_eq, eq-eqb, or_parts, or_right, not-false}
 use Rattle.field_defs.specs.Layout.{key_len_of}
 use Rattle.rule_set.specs.Rule.{RuleSetView}
-use Rattle.group_states.proofs.Counting.{not_all_numbers}
+use Rattle.list_lemmas.proofs.Ranges.{not_all_numbers, each_in_range, all_or_some_not}
 use Rattle.group_states.proofs.Reached.{IsGap}
 use Rattle.group_states.specs.Kept.{group_of, is_wild_place, is_idle, is_kept, key_places, kept_places}
-
--- what holds of all numbers of a range holds of each
-pub each : (p : ℕ → Bool) (first count : ℕ) → list_all p (range_with_len first count) ≡ true → (k : ℕ) → first ≤ k
-    → k < first + count → p k ≡ true
-each p first zero all k from below = absurd (omega arith)
-each p first (suc count) all k from below =
-    let parts = and_parts (p first) (list_all p (range_with_len (first + 1) count)) all in
-    elim (cases_eq k first) [
-      | inl e ↦ ap p e ∙ parts.0
-      | inr other ↦ each p (first + 1) count parts.1 k (omega (arith, other)) (omega arith)
-    ]
-
--- or there is one of which it doesn't hold
-some_not : (p : ℕ → Bool) (first count : ℕ)
-    → (list_all p (range_with_len first count) ≡ true) ⊎ ((k : ℕ) × (first ≤ k) × (k < first + count) × (p k ≡ false))
-some_not p first zero = inl refl
-some_not p first (suc count) = elim (cases_Bool (p first)) [
-  | inr fails ↦ inr (first, omega arith, omega arith, fails)
-  | inl holds ↦ elim (some_not p (first + 1) count) [
-    | inl all ↦ inl (λ i. holds i && all i)
-    | inr one ↦ inr (one.0, omega (arith, one.1), omega (arith, one.2), one.3)
-  ]
-]
 
 module _ (set : RuleSetView) (group : List ℕ) where
   -- The kept places with the gaps between them, to the end of the key.
@@ -110,7 +87,8 @@ module _ (set : RuleSetView) (group : List ℕ) where
       → is_wild_place set group place ≡ true
   unfolding is_idle
   idle_is_wild place within idle =
-      let here = each (λ k. not (group_of k == group_of place) || is_wild_place set group k) 0 (key_len_of set.layout)
+      let here =
+      each_in_range (λ k. not (group_of k == group_of place) || is_wild_place set group k) 0 (key_len_of set.layout)
       idle place (omega arith) (omega arith) in
       sym (ap (λ b. not b || is_wild_place set group place) (eq-eqb (group_of place) (group_of place) refl)) ∙ here
 
@@ -127,7 +105,7 @@ module _ (set : RuleSetView) (group : List ℕ) where
   some_kept : 0 < key_len_of set.layout
       → (k : ℕ) × (0 ≤ k) × (k < 0 + key_len_of set.layout) × (is_kept set group (group_of k) ≡ true)
   unfolding is_kept is_idle
-  some_kept some = elim (some_not (is_wild_place set group) 0 (key_len_of set.layout)) [
+  some_kept some = elim (all_or_some_not (is_wild_place set group) 0 (key_len_of set.layout)) [
     | inl all ↦ (
       0,
       omega arith,

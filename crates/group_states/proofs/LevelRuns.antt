@@ -18,7 +18,8 @@ use Rattle.group_states.proofs.Categories.{length-categories}
 use Rattle.group_states.proofs.Finds.{All-found_in}
 use Rattle.group_states.proofs.Gaps.{Gaps, kept_places_first}
 use Rattle.group_states.proofs.PackedState.{IsHeld, packed_state, packed_state_start, is_held}
-use Rattle.group_states.proofs.Prefixes.{IsPrefix, all_weaker, all-map, prefixes_are}
+use Rattle.list_lemmas.proofs.Each.{all_weaker, all-map}
+use Rattle.group_states.proofs.Prefixes.{IsPrefix, prefixes_are}
 use Rattle.group_states.proofs.Reached.{packed_at, packed_next, packed_past_all, runs_next, runs_last, rows_are, IsGap}
 use Rattle.group_states.specs.Entry.{entry_of, column_at}
 use Rattle.group_states.specs.Found.{found_with, found_in, prefixes}
@@ -132,7 +133,9 @@ module _ (set : RuleSetView) (group : List ℕ) (held : AllByRecursion (IsHeld s
     pub place_inside : get_or places place 0 < key_len_of set.layout
     place_inside = gap_within (get_or places place 0) (drop (place + 1) places) gaps_here
 
-    pub level_here : LevelIs set group held (get_or places place 0) (drop (place + 1) places) (place + 1 == length places)
+    -- what is found at the kept place of that number, and its runs
+    pub level_here : LevelIs set group held (get_or places place 0) (drop (place + 1) places)
+        (place + 1 == length places)
     level_here =
         let long : length (drop (place + 1) places) ≡ length places - (place + 1) = length-drop (place + 1) places in
         subst (LevelIs set group held (get_or places place 0) (drop (place + 1) places))

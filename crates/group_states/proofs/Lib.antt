@@ -1,5 +1,4 @@
 pub mod Finds
-pub mod Equal
 pub mod Categories
 pub mod Packed
 pub mod PackedState
@@ -7,7 +6,6 @@ pub mod RestSteps
 pub mod Prefixes
 pub mod Runs
 pub mod Reached
-pub mod Counting
 pub mod WildAt
 pub mod Gaps
 pub mod LevelRuns

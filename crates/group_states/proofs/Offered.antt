@@ -2,16 +2,6 @@
 
 -- length-categories: there are 16 categories
 pub use Rattle.group_states.proofs.Categories.{length-categories}
--- range_more: one more number
--- map_more_numbers: and what a function makes of it
--- all_more_numbers: a test that passes for it, too, passes for all of them
--- not_all_numbers: a test that fails for one doesn't
--- filter_more_yes, filter_more_no: it is among those that pass, or it isn't
-pub use Rattle.group_states.proofs.Counting.{range_more, map_more_numbers, all_more_numbers, not_all_numbers}
-pub use Rattle.group_states.proofs.Counting.{filter_more_yes, filter_more_no}
--- bytes_eq_refl: a list of bytes equals itself
--- bytes_eq_sound: lists of bytes that pass the test are one list
-pub use Rattle.group_states.proofs.Equal.{bytes_eq_refl, bytes_eq_sound}
 -- All-found_in: what holds of each element of a list holds of each that is found in it
 -- all_found: and so it does where some were found before
 -- is_new: the element is live and not among those found
@@ -66,19 +56,11 @@ unfoldable pub use Rattle.group_states.proofs.PackedState.{packed_state}
 pub use Rattle.group_states.proofs.PackedState.{entry_can_step, packed_entries, packed_state_start, packed_state_wild}
 pub use Rattle.group_states.proofs.PackedState.{same_state-Decides, state_is}
 -- IsPrefix: the list is a key's first bytes
--- all-append: what holds of the elements of two lists holds of both together
--- all-map: what holds of the images of a list's elements
--- all-flat_map: what holds of each element of all lists
--- all_of_parts: and back to each of them
 -- each_of_bytes: what holds of the images of all bytes
--- all_weaker: what follows of each element
 -- bytes_below: each byte is below 256
--- map-map: mapping twice is mapping once
--- map_same: functions that agree on each element
 -- prefix_push: one more byte
 -- prefixes_are: each list among the prefixes is one of so many bytes
-pub use Rattle.group_states.proofs.Prefixes.{IsPrefix, all-append, all-map, all-flat_map, all_of_parts, each_of_bytes}
-pub use Rattle.group_states.proofs.Prefixes.{all_weaker, bytes_below, map-map, map_same, prefix_push, prefixes_are}
+pub use Rattle.group_states.proofs.Prefixes.{IsPrefix, each_of_bytes, bytes_below, prefix_push, prefixes_are}
 -- IsGap: the places between a kept place and the next one are wild
 -- packed_at: the entries of the states of a place
 -- entries_next: those that a byte leads to are entries of the next kept place

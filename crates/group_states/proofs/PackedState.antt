@@ -25,7 +25,7 @@ use Rattle.node_expand.specs.declared.edge.Edge.TheVariants.{Free, Low, High, Bo
 use Rattle.node_expand.specs.Rest.{Rest, same_rest}
 use Rattle.node_expand.specs.Edges.{edge_step, StandsBefore}
 use Rattle.node_expand.proofs.Offered.{rests_compared}
-use Rattle.group_states.proofs.Equal.{bytes_eq-Decides}
+use Rattle.std.proofs.lemmas.Slice.Eq.{bytes_eq-Decides}
 use Rattle.group_states.proofs.Packed.{packed_edge, stepped, before_at, rest_at, AreBytes, Stands, packed_steps}
 use Rattle.group_states.proofs.Packed.{packed_rests, packed_apart, packed_wild, packed_nothing}
 use Rattle.group_states.specs.Entry.{entry_of, number_in, edge_in, edge_coded, value_in, edge_before, field_at}

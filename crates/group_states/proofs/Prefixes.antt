@@ -1,69 +1,10 @@
--- What holds of each element of a list, and all lists of so many bytes.
+-- All lists of so many bytes.
 use Rattle.std.proofs.Common.{◌≡◌, ℕ, zero, suc, ◌+◌, ◌<◌, ◌≤◌, List, [], ◌∷◌, ◌++◌, length, map}
-use Rattle.std.proofs.Common.{refl, sym, ◌∙◌, ap, subst, inl, inr, arith, length-append}
+use Rattle.std.proofs.Common.{refl, ◌∙◌, ap, subst, arith, length-append}
 use Rattle.std.specs.List.{AllByRecursion, flat_map, range_with_len}
-use Rattle.std.proofs.lemmas.Bool.{cases_eq}
-use Rattle.std.proofs.lemmas.List.{map-append}
+use Rattle.list_lemmas.proofs.Each.{map-flat_map, map-singles, flat_map_same, all_weaker, all-flat_map, all_of_range}
 use Rattle.group_states.proofs.Packed.{AreBytes}
 use Rattle.group_states.specs.Found.{all_bytes, prefixes}
-
--- ---- lists
-
-module _ {X Y : Type 0} where
-  pub map_same : (f g : X → Y) (xs : List X) → AllByRecursion (λ x. f x ≡ g x) xs → map f xs ≡ map g xs
-  map_same f g [] same = refl
-  map_same f g (x ∷ xs) same = λ i. same.0 i ∷ map_same f g xs same.1 i
-
-  pub flat_map_same : (f g : X → List Y) (xs : List X) → AllByRecursion (λ x. f x ≡ g x) xs
-      → flat_map f xs ≡ flat_map g xs
-  flat_map_same f g [] same = refl
-  flat_map_same f g (x ∷ xs) same = λ i. same.0 i ++ flat_map_same f g xs same.1 i
-
-module _ {X : Type 0} (P Q : X → Type 0) where
-  pub all_weaker : (xs : List X) → ((x : X) → P x → Q x) → AllByRecursion P xs → AllByRecursion Q xs
-  all_weaker [] weaker all = tt
-  all_weaker (x ∷ xs) weaker all = (weaker x all.0, all_weaker xs weaker all.1)
-
-module _ {X Y Z : Type 0} where
-  pub map-flat_map : (f : Y → Z) (g : X → List Y) (xs : List X) → map f (flat_map g xs) ≡ flat_map (λ x. map f (g x)) xs
-  map-flat_map f g [] = refl
-  map-flat_map f g (x ∷ xs) = map-append f (g x) (flat_map g xs) ∙ ap (λ l. map f (g x) ++ l) (map-flat_map f g xs)
-
-  map-singles : (f : Y → Z) (h : X → Y) (xs : List X) → map f (flat_map (λ x. h x ∷ []) xs) ≡ map (λ x. f (h x)) xs
-  map-singles f h [] = refl
-  map-singles f h (x ∷ xs) = ap (λ l. f (h x) ∷ l) (map-singles f h xs)
-
-  pub map-map : (f : Y → Z) (g : X → Y) (xs : List X) → map f (map g xs) ≡ map (λ x. f (g x)) xs
-  map-map f g [] = refl
-  map-map f g (x ∷ xs) = ap (λ l. f (g x) ∷ l) (map-map f g xs)
-
-pub all_of_parts : {X Y : Type 0} (P : Y → Type 0) (f : X → List Y) (xs : List X) → AllByRecursion P (flat_map f xs) →
-    AllByRecursion (λ x. AllByRecursion P (f x)) xs
-all_of_parts P f [] all = tt
-all_of_parts P f (x ∷ xs) all =
-    let parts = split (f x) all in
-    (parts.0, all_of_parts P f xs parts.1)
-  where
-    split : (ys : List _) → AllByRecursion P (ys ++ flat_map f xs)
-        → AllByRecursion P ys × AllByRecursion P (flat_map f xs)
-    split [] rest = (tt, rest)
-    split (y ∷ ys) rest = (let more = split ys rest.1 in ((rest.0, more.0), more.1))
-
-all_of_bytes : {Y : Type 0} (P : Y → Type 0) (g : ℕ → Y) (first count : ℕ)
-    → AllByRecursion P (map g (range_with_len first count)) →
-    (byte : ℕ) → first ≤ byte → byte < first + count → P (g byte)
-all_of_bytes P g first zero all byte from until = absurd (omega (arith, from, until))
-all_of_bytes P g first (suc count) all byte from until = elim (cases_eq byte first) [
-  | inl e ↦ subst (λ b. P (g b)) (sym e) all.0
-  | inr other ↦ all_of_bytes P g (first + 1) count all.1 byte (omega (arith, from, other)) (omega (arith, until))
-]
-
-pub each_of_bytes : {Y : Type 0} (P : Y → Type 0) (g : ℕ → Y) → AllByRecursion P (map g all_bytes) →
-    (byte : ℕ) → byte < 256 → P (g byte)
-unfolding all_bytes
-each_of_bytes P g all byte below = all_of_bytes P g 0 256 all byte (omega arith) (omega arith)
-
--- ---- bytes and prefixes
 
 below_from : (first count : ℕ) → first + count ≤ 256 → AllByRecursion (λ byte. byte < 256) (range_with_len first count)
 below_from first zero within = tt
@@ -84,21 +25,6 @@ pub prefix_push : (place : ℕ) (key : List ℕ) (byte : ℕ) → IsPrefix place
     → IsPrefix (place + 1) (key ++ byte ∷ [])
 prefix_push place key byte is below =
     (bytes_push key byte is.0 below, length-append key (byte ∷ []) ∙ ap (λ n. n + 1) is.1)
-
-pub all-append : {X : Type 0} (P : X → Type 0) (xs ys : List X) → AllByRecursion P xs → AllByRecursion P ys
-    → AllByRecursion P (xs ++ ys)
-all-append P [] ys all more = more
-all-append P (x ∷ xs) ys all more = (all.0, all-append P xs ys all.1 more)
-
-pub all-flat_map : {X Y : Type 0} (P : Y → Type 0) (f : X → List Y) (xs : List X)
-    → AllByRecursion (λ x. AllByRecursion P (f x)) xs → AllByRecursion P (flat_map f xs)
-all-flat_map P f [] all = tt
-all-flat_map P f (x ∷ xs) all = all-append P (f x) (flat_map f xs) all.0 (all-flat_map P f xs all.1)
-
-pub all-map : {X Y : Type 0} (P : Y → Type 0) (f : X → Y) (xs : List X) → AllByRecursion (λ x. P (f x)) xs
-    → AllByRecursion P (map f xs)
-all-map P f [] all = tt
-all-map P f (x ∷ xs) all = (all.0, all-map P f xs all.1)
 
 pub prefixes_are : (place : ℕ) → AllByRecursion (IsPrefix place) (prefixes place)
 unfolding prefixes
@@ -131,3 +57,9 @@ of_longer f place =
     (λ before. map (λ byte. f (before ++ byte ∷ [])) all_bytes) (prefixes place)
     (all_weaker (IsPrefix place) _ (prefixes place) (λ before is. map-singles f (λ byte. before ++ byte ∷ []) all_bytes)
     (prefixes_are place))
+
+-- what holds of the images of all bytes
+pub each_of_bytes : {Y : Type 0} (P : Y → Type 0) (g : ℕ → Y) → AllByRecursion P (map g all_bytes) →
+    (byte : ℕ) → byte < 256 → P (g byte)
+unfolding all_bytes
+each_of_bytes P g all byte below = all_of_range P g 0 256 all byte (omega arith) (omega arith)

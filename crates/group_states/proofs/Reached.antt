@@ -9,14 +9,15 @@ use Rattle.std.proofs.lemmas.List.Concat.{flat_map-append, flat_map_single}
 use Rattle.std.proofs.lemmas.List.Sums.{fold-append}
 use Rattle.field_defs.specs.Layout.{key_len_of}
 use Rattle.rule_set.specs.Rule.{RuleSetView}
-use Rattle.group_states.proofs.Equal.{bytes_eq_refl, bytes_eq_sound}
+use Rattle.list_lemmas.proofs.Tests.{bytes_eq_refl, bytes_eq_sound}
+use Rattle.list_lemmas.proofs.Each.{map_same, flat_map_same, all_weaker, map-map, all-append, all-map}
 use Rattle.group_states.proofs.Finds.{is_new, NoneNew, all_stays, old_once_found, found_after_found, found_in-map}
 use Rattle.group_states.proofs.Finds.{position-map, All-found_in}
 use Rattle.group_states.proofs.Packed.{AreBytes}
 use Rattle.group_states.proofs.PackedState.{IsHeld, IsEntryAt, packed_state, packed_state_steps, packed_state_wild}
 use Rattle.group_states.proofs.PackedState.{packed_entries, decoded, state_is, compared_alike, alive_alike}
-use Rattle.group_states.proofs.Prefixes.{map_same, flat_map_same, all_weaker, map-map, bytes_below, IsPrefix}
-use Rattle.group_states.proofs.Prefixes.{bytes_push, prefix_push, all-append, all-map, prefixes_are, of_longer}
+use Rattle.group_states.proofs.Prefixes.{bytes_below, IsPrefix}
+use Rattle.group_states.proofs.Prefixes.{bytes_push, prefix_push, prefixes_are, of_longer}
 use Rattle.group_states.proofs.RestSteps.{state_goes_through}
 use Rattle.group_states.proofs.Runs.{same_runs, length-all_bytes}
 use Rattle.group_states.specs.Entry.{ColumnView, entries_step, column_at}

@@ -21,8 +21,9 @@ use Rattle.group_states.proofs.Gaps.{Gaps, idle_is_wild, kept_places_first}
 use Rattle.group_states.proofs.LevelRuns.{group_held, gaps_after}
 use Rattle.group_states.proofs.PackedState.{IsHeld, IsEntryAt, packed_state, packed_state_wild, decoded, state_is}
 use Rattle.group_states.proofs.PackedState.{compared_alike, alive_alike}
-use Rattle.group_states.proofs.Prefixes.{IsPrefix, all_weaker, all-map, all-flat_map, map_same, flat_map_same, map-map}
-use Rattle.group_states.proofs.Prefixes.{map-flat_map, bytes_below}
+use Rattle.list_lemmas.proofs.Each.{all_weaker, all-map, all-flat_map, map_same, flat_map_same, map-map, map-flat_map}
+use Rattle.group_states.proofs.Prefixes.{IsPrefix}
+use Rattle.group_states.proofs.Prefixes.{bytes_below}
 use Rattle.group_states.proofs.Reached.{IsGap, packed_at, packed_next, states_are, all_packed, reached_is, entries_next}
 use Rattle.group_states.proofs.RestSteps.{state_goes_on}
 use Rattle.group_states.specs.Entry.{column_at, entries_step}

@@ -12,13 +12,8 @@ use Rattle.std.proofs.lemmas.Bool.Decides.{Decides-eqb}
 use Rattle.shared_parts.specs.declared.rows.Ranked.{Ranked}
 use Rattle.shared_parts.specs.Keys.{KeyAt}
 use Rattle.shared_parts.specs.Rows.{row_of_rule, row_of_entry, join_rows, best_row, IsRow}
+use Rattle.list_lemmas.proofs.Tests.{bytes_eq_sound}
 use Rattle.shared_parts.proofs.Keys.{key_grows, key_alone, key_some, key_is, key_at}
-
-bytes_eq-Decides : (xs ys : List ℕ) → Decides (bytes_eq xs ys) (xs ≡ ys)
-bytes_eq-Decides xs ys = slice_eq-Decides Decides-eqb xs ys (bytes_eq xs ys) refl
-
-pub bytes_eq_sound : (xs ys : List ℕ) → bytes_eq xs ys ≡ true → xs ≡ ys
-bytes_eq_sound xs ys = (bytes_eq-Decides xs ys).0
 
 pub length-join : (one other : List ℕ) → length one ≡ length other → length (join_rows one other) ≡ length one
 length-join [] other same = sym same

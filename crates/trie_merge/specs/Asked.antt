@@ -1,5 +1,5 @@
 -- What is asked of an entry about the bytes at a place.
-use Rattle.std.specs.Prelude.{◌≡◌, ℕ, ◌+◌, ◌^◌, ◌<◌, ◌≤◌, [], true}
+use Rattle.std.specs.Prelude.{◌≡◌, ℕ, ◌+◌, ◌^◌, ◌<◌, ◌≤◌, true}
 use Rattle.std.specs.Prelude.{nat_lt, Bool, not, ◌||◌, ◌&&◌}
 use Rattle.field_defs.specs.declared.field.FieldValue.{FieldValue}
 use Rattle.field_defs.specs.FieldMatch.{is_wild}

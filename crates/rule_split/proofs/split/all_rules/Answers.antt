@@ -1,6 +1,6 @@
 use Rattle.std.proofs.Common.{length, List, ℕ, ◌++◌, ◌∷◌, [], sym, ◌∙◌, ap, arith}
 use Rattle.std.specs.List.{range_with_len}
-use Rattle.group_states.proofs.Offered.{range_more}
+use Rattle.list_lemmas.proofs.Ranges.{range_more}
 use Rattle.rule_split.proofs.split.all_rules.Goals as goal
 
 pub loop-number-preserved : goal.loop-number-preserved

@@ -1,14 +1,12 @@
 use Rattle.std.proofs.Common.{◌≡◌, ℕ, ◌<◌, ◌≤◌, List, length, map, sym, ◌∙◌, subst}
 use Rattle.std.specs.Prelude.{All}
-use Rattle.std.specs.List.{AllByRecursion}
+use Rattle.std.specs.List.Sorted.{IsStrictlyIncreasing}
 use Rattle.std.proofs.lemmas.Result.{IfOk-weaker}
-use Rattle.std.proofs.lemmas.List.Elements.{recursion_from_All}
 use Rattle.shared_parts.specs.Target.{count}
 use Rattle.trie_merge.proofs.build.finish_rows.Goals as goal
 use Rattle.group_states.proofs.Offered.{rows_long}
 use Rattle.group_states.specs.Row.{rows_of}
-use Rattle.trie_merge.proofs.Rising.{NumbersRise, numbers_rise}
-use Rattle.trie_merge.proofs.RowNames.{all_named_are}
+use Rattle.trie_merge.proofs.Zipped.{all_named_are}
 use Rattle.trie_merge.specs.Names.{row_named}
 use Rattle.trie_merge.specs.Shared.{AreIn}
 
@@ -29,10 +27,10 @@ returns c =
     let tree = its.tree in
     let names : List ℕ = c.in_ok-names.names.items in
     let named = (λ i. map (row_named c.rows-rows.result.now (c.as_slice.ensures.value i)) (c.as_slice-2.ensures.keys i))
-    ∙ all_named_are set c.ranks_order_rules.ensures c.the_best_has_the_greatest_rank.ensures names c.in_ok-names.ensures
-    tree (subst (NumbersRise 0) (sym its.rules) (numbers_rise group c.requires.group.group.ascending))
-    (subst (AllByRecursion (λ rule. rule < length set.rules)) (sym its.rules)
-    (recursion_from_All (λ rule. rule < length set.rules) group c.requires.group.group.within))
+    ∙ all_named_are set c.ranks_order_rules.ensures c.the_best_has_the_greatest_rank.ensures tree
+    (subst IsStrictlyIncreasing (sym its.rules) c.requires.group.group.ascending)
+    (subst (All (λ rule. rule < length set.rules)) (sym its.rules) c.requires.group.group.within) names
+    c.in_ok-names.ensures
     c.rows-rows.result.now (rows_of set group) c.args.reached.now.found.keys (rows_long set group)
     (subst (λ t. AreIn set t tree (rows_of set group) c.args.reached.now.found.keys) c.rows-rows.ensures its.each) in
     IfOk-weaker c.name_rows.result _ (λ found. found.items ≡ rows_of set group) (λ found is. is ∙ named)

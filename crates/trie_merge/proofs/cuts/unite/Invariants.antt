@@ -1,6 +1,6 @@
 use Rattle.std.proofs.Common.{ℕ, ◌≤◌, List, ◌++◌}
-use Rattle.trie_merge.proofs.cuts.unite.Given as goal
 use Rattle.group_states.specs.Entry.{ColumnView}
+use Rattle.trie_merge.proofs.cuts.unite.Given as goal
 use Rattle.trie_merge.specs.Cuts.{Knows}
 
 abbrev pub invariant-loop-k : goal.invariant-loop-k

@@ -1,9 +1,7 @@
-use Rattle.std.proofs.Common.{◌≡◌, ◌<◌, ◌^◌, filter}
-use Rattle.std.specs.List.{range_with_len, sum_by}
+use Rattle.std.proofs.Common.{◌≡◌}
+use Rattle.list_lemmas.proofs.Sums.{bits_of}
 use Rattle.trie_merge.proofs.kept.kept_bits.Given as goal
 use Rattle.trie_merge.specs.Wild.{is_kept_by}
 
 abbrev pub invariant-loop-input : goal.invariant-loop-input
-invariant-loop-input l =
-    (l.bits ≡ sum_by (λ input. 2 ^ input) (filter (is_kept_by l.wild) (range_with_len 0 l.input)))
-    × (l.bits < 2 ^ l.input)
+invariant-loop-input l = l.bits ≡ bits_of (is_kept_by l.wild) l.input

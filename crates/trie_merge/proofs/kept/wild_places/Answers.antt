@@ -1,6 +1,6 @@
 use Rattle.std.proofs.Common.{◌++◌, ◌∷◌, [], sym, ◌∙◌}
 use Rattle.trie_merge.proofs.kept.wild_places.Goals as goal
-use Rattle.group_states.proofs.Offered.{map_more_numbers}
+use Rattle.list_lemmas.proofs.Ranges.{map_more_numbers}
 use Rattle.group_states.specs.Kept.{is_wild_place}
 
 pub loop-place-preserved : goal.loop-place-preserved

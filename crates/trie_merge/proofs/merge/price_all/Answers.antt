@@ -1,44 +1,38 @@
-use Rattle.std.proofs.Common.{ℕ, ap, arith}
+use Rattle.std.proofs.Common.{arith, []}
 use Rattle.std.proofs.lemmas.List.{take_all}
+use Rattle.std.proofs.lemmas.List.Sums.{sum_by_more}
+use Rattle.list_lemmas.proofs.Elements.{length-AllZip}
 use Rattle.trie_merge.proofs.merge.price_all.Goals as goal
-use Rattle.trie_merge.proofs.Merging.{one_more_price, same_length, number_in_lists}
-use Rattle.trie_merge.specs.Words.{least_cost}
+use Rattle.trie_merge.specs.Words.{price, least_cost}
+use Rattle.list_lemmas.proofs.Passing.{AllZip-place}
+use Rattle.trie_merge.specs.Shared.{IsIn}
 
 pub loop-k-preserved : goal.loop-k-preserved
+unfolding least_cost
 loop-k-preserved c =
     let inv = c.loop-k.invariant in
-    let k : ℕ = c.loop-k.k in (
-      c.in_ok-its.ensures.cuts,
-      λ set tree lists rise all.
+    let its = c.in_ok-its.ensures in
+    record {
+      cuts = its.cuts;
+      price = λ set tree lists rise all.
+          (let zip = IsIn set c.args.target.now tree in
           omega (
             arith,
-            inv.1 set tree lists rise all,
-            one_more_price c.args.place.now.next c.args.place.now.is_last set c.args.target.now tree lists
-                c.args.found.now k all c.loop-k-test.true,
-            c.in_ok-its.ensures.price set tree _ rise
-                (number_in_lists set c.args.target.now tree lists c.args.found.now k all c.loop-k-test.true),
-          ),
-      omega (arith, inv.2, c.in_ok-its.ensures.bound.0),
-      omega (arith, inv.3, c.in_ok-its.ensures.bound.1),
-      λ last. omega (arith, inv.4 last, c.in_ok-its.ensures.row last),
-    )
-
-pub returns : goal.returns
-returns c =
-    let inv = c.loop-k.invariant in
-    record {
-      cuts = inv.0;
-      price = λ set tree lists rise all. omega (
-        arith,
-        inv.1 set tree lists rise all,
-        ap (least_cost c.args.place.now.next c.args.place.now.is_last)
-            (take_all c.loop-k.k lists (omega (
-              arith,
-              same_length set c.args.target.now tree lists c.args.found.now all,
-              c.loop-k-test.false,
-            ))),
-      );
-      some = omega (arith, inv.2, c.loop-k-test.false);
-      rows = λ last. omega (arith, inv.4 last, c.loop-k-test.false);
-      bound = omega (arith, inv.3, c.requires.few, c.loop-k.auto.k, c.loop-k.auto.k-end);
+            inv.price set tree lists rise all,
+            sum_by_more (price c.args.place.now.next c.args.place.now.is_last) lists c.loop-k.k []
+                (omega (arith, c.loop-k-test.true, length-AllZip zip lists c.args.found.now all)),
+            its.price set tree _ rise (AllZip-place zip lists c.args.found.now c.loop-k.k [] 0 all c.loop-k-test.true),
+          ));
+      some = omega (arith, inv.some, its.bound.0);
+      bound = omega (arith, inv.bound, its.bound.1);
+      rows = λ last. omega (arith, inv.rows last, its.row last);
     }
+
+pub returns-clause-price : goal.returns-clause-price
+returns-clause-price c = λ set tree lists rise all.
+    rw (take_all c.loop-k.k lists (omega (
+      arith,
+      length-AllZip (IsIn set c.args.target.now tree) lists c.args.found.now all,
+      c.loop-k-test.false,
+    )))
+    at (c.loop-k.invariant.price set tree lists rise all)

@@ -3,6 +3,4 @@ use Rattle.trie_merge.proofs.names.name_ranks.Given as goal
 
 abbrev pub invariant-loop-category : goal.invariant-loop-category
 invariant-loop-category l =
-    (length l.row ≡ 16)
-    × (length l.ranks ≡ 16)
-    × ((c : ℕ) → c < l.category → get_or l.row c 0 ≡ get_or l.names (get_or l.ranks c 0) 0)
+    (length l.row ≡ 16) × ((c : ℕ) → c < l.category → get_or l.row c 0 ≡ get_or l.names (get_or l.ranks c 0) 0)

@@ -1,36 +1,24 @@
-use Rattle.std.proofs.Common.{ℕ, ◌+◌, ◌<◌, length, set, sym, ap, subst, arith}
+use Rattle.std.proofs.Common.{arith, length}
+use Rattle.std.proofs.lemmas.List.FromFn.{length-map-range_with_len}
+use Rattle.rule_set.specs.Rank.{rank_of}
 use Rattle.trie_merge.proofs.names.names_of.Goals as goal
-use Rattle.trie_merge.proofs.NamesLaws.{NamedSoFar, length-ranked, rank_told, rank_inside, one_more_named}
+use Rattle.list_lemmas.proofs.Greatest.{one_more_placed, get_or-numbers}
+use Rattle.trie_merge.specs.Names.{ranked_of}
 
 pub rank_at-requires : goal.rank_at-requires
-rank_at-requires c =
-    omega (
-      arith,
-      c.loop-number-test.true,
-      c.len-number-end.ensures,
-      ap length c.requires,
-      length-ranked c.args.rules.now,
-    )
+unfolding ranked_of
+rank_at-requires c = grind (arith, length-map-range_with_len)
 
 pub index_mut-requires : goal.index_mut-requires
+unfolding ranked_of
 index_mut-requires c =
-    let rules = c.args.rules.now in
-    let number : ℕ = c.loop-number.number in
-    let inside : number < length rules.rules = omega (arith, c.loop-number-test.true, c.len-number-end.ensures) in
-    omega (
-      arith,
-      rank_told rules c.args.ranked.now number c.rank_at.result c.requires inside c.rank_at.ensures,
-      rank_inside c.ranks_order_rules.ensures rules.rules c.loop-number.names.items number inside
-          c.loop-number.invariant,
-      c.loop-number.names.ok,
-    )
+    let rules = c.args.rules.now.rules in
+    grind (arith, get_or-numbers, c.ranks_order_rules.ensures.bounds rules c.loop-number.number (grind arith))
 
 pub loop-number-preserved : goal.loop-number-preserved
+unfolding ranked_of
 loop-number-preserved c =
-    let rules = c.args.rules.now in
-    let number : ℕ = c.loop-number.number in
-    let inside : number < length rules.rules = omega (arith, c.loop-number-test.true, c.len-number-end.ensures) in
-    subst (λ k. NamedSoFar rules.rules (set c.loop-number.names.items k (number + 1)) (number + 1))
-    (sym (rank_told rules c.args.ranked.now number c.rank_at.result c.requires inside c.rank_at.ensures))
-    (one_more_named c.ranks_order_rules.ensures rules.rules c.loop-number.names.items number inside
-    c.loop-number.invariant)
+    let rules = c.args.rules.now.rules in
+    one_more_placed (rank_of rules) (length rules) (c.ranks_order_rules.ensures.bounds rules)
+    (c.ranks_order_rules.ensures.distinct rules) c.loop-number.names.items c.loop-number.number c.rank_at.result
+    (grind arith) (grind (arith, get_or-numbers)) c.loop-number.invariant

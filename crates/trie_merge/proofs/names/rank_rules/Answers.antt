@@ -1,40 +1,25 @@
-use Rattle.std.proofs.Common.{◌≡◌, ℕ, ◌∷◌, [], ◌++◌, length, map, get_or, sym, ◌∙◌, ap, arith}
-use Rattle.std.specs.List.{range_with_len}
-use Rattle.std.proofs.lemmas.List.FromFn.{map-range_with_len_more}
-use Rattle.rule_set.specs.Rank.{rank_of}
-use Rattle.rule_set.specs.declared.rule.RuleTag.{RuleTag}
+use Rattle.std.proofs.Common.{◌≡◌, ℕ, refl, arith}
+use Rattle.std.proofs.lemmas.List.FromFn.{length-map-range_with_len}
+use Rattle.rule_set.specs.Rank.{rank_of, ranks_of}
 use Rattle.trie_merge.proofs.names.rank_rules.Goals as goal
-use Rattle.trie_merge.proofs.NamesLaws.{length-ranks, rank_at, ranked_is}
-use Rattle.trie_merge.specs.Names.{ranked_at, ranked_of}
+use Rattle.list_lemmas.proofs.Greatest.{get_or-numbers, one_more_number}
+use Rattle.std.proofs.lemmas.Option.{get_or_from_slice_get}
+use Rattle.trie_merge.specs.Names.{no_rule, ranked_at, ranked_of}
 
 pub index-requires : goal.index-requires
-index-requires c =
-    omega (
-      arith,
-      c.loop-number-test.true,
-      c.len-number-end.ensures,
-      c.in_ok-ranks.ranks.ok,
-      ap length c.in_ok-ranks.ensures,
-      length-ranks c.args.rules.now.rules,
-    )
+unfolding ranks_of
+index-requires c = grind (arith, length-map-range_with_len)
 
 pub loop-number-preserved : goal.loop-number-preserved
+unfolding ranks_of
 loop-number-preserved c =
     let its = c.args.rules.now in
     let number : ℕ = c.loop-number.number in
-    let rank : c.index.result.now ≡ rank_of its.rules number =
-    c.index.ensures ∙ ap (λ xs. get_or xs number c.index.result.now) c.in_ok-ranks.ensures
-    ∙ rank_at its.rules number c.index.result.now (omega (arith, c.loop-number-test.true, c.len-number-end.ensures)) in
-    c.in_ok-push.ensures.items
-    ∙ (λ i. c.loop-number.invariant i
-    ++ ranked_is its number c.tag-mask.result.category_mask c.index.result.now c.at.result.now c.at.ensures.rule
-    (ap (λ (t : RuleTag). t.category_mask) c.tag-mask.ensures) rank i ∷ [])
-    ∙ sym (map-range_with_len_more (ranked_at its) 0 number number (omega arith))
+    let found = get_or_from_slice_get its.rules number c.at.result.now no_rule c.at.ensures.rule in
+    let rank : c.index.result.now ≡ rank_of its.rules number = grind (arith, get_or-numbers) in
+    one_more_number (ranked_at its) number _ c.loop-number.ranked.items c.push.new.self.items c.loop-number.invariant
+    c.in_ok-push.ensures.items (rw (c.tag-mask.ensures, rank, found) refl)
 
 pub returns : goal.returns
 unfolding ranked_of
-returns c =
-    c.loop-number.invariant
-    ∙ ap (λ n. map (ranked_at c.args.rules.now) (range_with_len 0 n))
-    (let e : c.loop-number.number ≡ length c.args.rules.now.rules =
-    omega (arith, c.loop-number.auto.number-end, c.loop-number-test.false, c.len-number-end.ensures) in e)
+returns c = grind arith

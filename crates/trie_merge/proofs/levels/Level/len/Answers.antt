@@ -1,10 +1,8 @@
-use Rattle.std.proofs.Common.{◌≡◌, length, sym, ◌∙◌, ap, arith}
+use Rattle.std.proofs.Common.{length, ap, arith}
 use Rattle.shared_parts.proofs.Offered.{length-pieces}
 use Rattle.trie_merge.proofs.levels.Level.len.Goals as goal
 
 pub returns : goal.returns
 returns c =
     let inside = c.self.inside.pieces in
-    let long : length c.args.self.now ≡ length inside.ends.items = sym (ap length c.self.view_is)
-    ∙ length-pieces inside.runs.items 0 inside.ends.items in
-    omega (arith, long, c.len.ensures, inside.ends.ok)
+    omega (arith, ap length c.self.view_is, length-pieces inside.runs.items 0 inside.ends.items, inside.ends.ok)

@@ -1,10 +1,9 @@
-use Rattle.std.proofs.Common.{◌≡◌, length, sym, ◌∙◌, ap, arith}
+use Rattle.std.proofs.Common.{length, ap, arith}
 use Rattle.shared_parts.proofs.Offered.{length-pieces}
 use Rattle.trie_merge.proofs.levels.Level.runs.Goals as goal
 
 pub slice-requires-clause-k : goal.slice-requires-clause-k
 slice-requires-clause-k c =
     let inside = c.self.inside.pieces in
-    let long : length c.args.self.now ≡ length inside.ends.items = sym (ap length c.self.view_is)
-    ∙ length-pieces inside.runs.items 0 inside.ends.items in
-    omega (arith, long, c.requires, ap length c.as_slice-2.ensures.value)
+    let long = length-pieces inside.runs.items 0 inside.ends.items in
+    omega (arith, ap length c.self.view_is, long, ap length c.as_slice-2.ensures.value)
