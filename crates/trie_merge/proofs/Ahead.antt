@@ -30,9 +30,6 @@ use Rattle.trie_merge.specs.Words.{is_change, cost_ahead, RisesFrom, states_word
 
 -- ---- entries of rising numbers that become the same
 
-pub rises_lower : (one other : ℕ) (entries : List ℕ) → one ≤ other → RisesFrom other entries → RisesFrom one entries
-rises_lower = keys_rise_lower number_in
-
 module _ (column : ColumnView) where
   -- a step keeps the number
   pub step_number : (entry byte after : ℕ) → entry_step column entry byte ≡ Some after →

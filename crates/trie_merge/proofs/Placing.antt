@@ -42,7 +42,7 @@ use Rattle.trie_merge.specs.Merged.{PlaceMerged}
 use Rattle.trie_merge.specs.Names.{ranked_of}
 use Rattle.trie_merge.specs.Shared.{RuleTree, IsState, AreIn, ArePlaced, IsFor}
 use Rattle.trie_merge.specs.Started.{IsStarted, AreRows}
-use Rattle.trie_merge.specs.Walk.{next_of, place_of, IsWalk, AreStates}
+use Rattle.trie_merge.specs.Places.{next_of, place_of, IsGroupMerged, AreStates}
 use Rattle.trie_merge.specs.Words.{states_words, least_cost, least_words}
 use Rattle.trie_merge.specs.declared.merge.Reached.{Reached}
 
@@ -357,7 +357,7 @@ module _ (set : RuleSetView) (group : List ℕ) where
     -- after the last place all is merged
     pub placed_end : {cap place : ℕ} {levels : List (List (List Run))} {target : Target} {numbers : List ℕ} {words : ℕ}
         → Placed cap place levels target numbers words → place ≡ length places
-        → IsWalk set group cap levels words × AreRows set group target numbers
+        → IsGroupMerged set group cap levels words × AreRows set group target numbers
     unfolding level_runs levels_of
     placed_end {place = place} {levels = levels} {target = target} so_far end =
         let none : drop place places ≡ [] = drop_all place places (omega (arith, end)) in

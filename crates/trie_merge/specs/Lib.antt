@@ -4,8 +4,8 @@ pub mod Led
 pub mod Merged
 pub mod Names
 pub mod Numbers
+pub mod Places
 pub mod Shared
 pub mod Started
-pub mod Walk
 pub mod Wild
 pub mod Words

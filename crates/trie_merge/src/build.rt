@@ -16,8 +16,8 @@ ghost use Rattle.group_states.specs.Row.{rows_of};
 ghost use Rattle.trie_merge.specs.Shared.{IsFor};
 ghost use Rattle.trie_merge.specs.Started.{numbers_in, AreJoined, IsStarted, AreRows};
 ghost use Rattle.trie_merge.specs.declared.order.Keyed.{Keyed};
-ghost use Rattle.trie_merge.specs.Walk.{next_of, place_of, AreStates, IsPlaceMerged, IsPlaceOver};
-ghost use Rattle.trie_merge.specs.Walk.{IsWalk};
+ghost use Rattle.trie_merge.specs.Places.{next_of, place_of, AreStates, IsPlaceMerged, IsPlaceOver};
+ghost use Rattle.trie_merge.specs.Places.{IsGroupMerged};
 
 use crate::column::Column;
 use crate::entry::entry_of;
@@ -82,7 +82,7 @@ fn start_states(alloc: Global, order: &[Keyed]) -> Result<Reached, AllocError>
 /// What the kept places come to: the runs of their states, the rows at the end and the words of the
 /// states.
 #[derive(Drop)]
-struct Walked {
+struct Gathered {
     levels: Vec<Level>,
     reached: Reached,
     words: u64,
@@ -90,7 +90,7 @@ struct Walked {
     ahead: Option<Column>,
 }
 
-impl Walked {
+impl Gathered {
     ghost use Rattle.std.specs.Prelude.{◌≡◌, ◌++◌, ◌∷◌, [], OnOk};
     ghost use Rattle.trie_merge.specs.Merged.{ArePieces, runs_in};
 
@@ -232,59 +232,61 @@ fn merge_places(
     group: &[u32],
     cap: u64,
     places: &[usize],
-    walked: &mut Walked,
+    gathered: &mut Gathered,
 ) -> Result<(), MergeFault>
     requires group { IsGrouped rules.now group.now }
     requires cap { cap ≤ max_words }
     requires places { places.now ≡ kept_places rules.now group.now }
-    requires start { IsStarted group.now walked.old.reached.target walked.old.reached.found.keys }
-    requires levels { walked.old.levels.items ≡ [] }
-    requires words { walked.old.words ≡ 0 }
-    requires ahead { walked.old.ahead ≡ None }
-    ensures walk { OnOk result
-        (IsWalk rules.now group.now cap walked.new.levels.items walked.new.words) }
+    requires start { IsStarted group.now gathered.old.reached.target
+        gathered.old.reached.found.keys }
+    requires levels { gathered.old.levels.items ≡ [] }
+    requires words { gathered.old.words ≡ 0 }
+    requires ahead { gathered.old.ahead ≡ None }
+    ensures merged { OnOk result
+        (IsGroupMerged rules.now group.now cap gathered.new.levels.items gathered.new.words) }
     ensures rows { OnOk result
-        (AreRows rules.now group.now walked.new.reached.target walked.new.reached.found.keys) }
+        (AreRows rules.now group.now gathered.new.reached.target gathered.new.reached.found.keys) }
     ensures over { (result ≡ Err MergeFault.OverCap) → cap < (levels_of rules.now group.now).words }
 {
     for j in 0..places.len() {
-        let before = walked.words;
+        let before = gathered.words;
         let budget = Budget { cap, before };
-        let ahead = &mut walked.ahead;
-        let merged = match merge_place(alloc, rules, places, j, budget, &walked.reached, ahead) {
+        let ahead = &mut gathered.ahead;
+        let merged = match merge_place(alloc, rules, places, j, budget, &gathered.reached, ahead) {
             Ok(merged) => merged,
             Err(fault) => return Err(fault),
         };
-        walked.push(merged)?;
+        gathered.push(merged)?;
     }
     Ok(())
 }
 
 /// Merges the states of the places, from the one before the first byte on.
-fn walk(
+fn merge_group(
     alloc: Global,
     rules: &RuleSet,
     group: &[u32],
     cap: u64,
     places: &[usize],
-) -> Result<Walked, MergeFault>
+) -> Result<Gathered, MergeFault>
     requires group { IsGrouped rules.now group.now }
     requires cap { cap ≤ max_words }
     requires places { places.now ≡ kept_places rules.now group.now }
-    ensures walk { IfOk result (λ its. IsWalk rules.now group.now cap its.levels.items its.words) }
+    ensures merged { IfOk result
+        (λ its. IsGroupMerged rules.now group.now cap its.levels.items its.words) }
     ensures rows { IfOk result
         (λ its. AreRows rules.now group.now its.reached.target its.reached.found.keys) }
     ensures over { (result ≡ Err MergeFault.OverCap) → cap < (levels_of rules.now group.now).words }
 {
     let reached = start(alloc, rules, group, places)?;
-    let mut walked = Walked {
+    let mut gathered = Gathered {
         levels: Vec::new(alloc),
         reached,
         words: 0,
         ahead: None,
     };
-    match merge_places(alloc, rules, group, cap, places, &mut walked) {
-        Ok(()) => Ok(walked),
+    match merge_places(alloc, rules, group, cap, places, &mut gathered) {
+        Ok(()) => Ok(gathered),
         Err(fault) => Err(fault),
     }
 }
@@ -316,11 +318,11 @@ impl Levels {
     {
         let kept = keep(alloc, rules, group)?;
         let places = kept.places.as_slice();
-        let walked = match walk(alloc, rules, group, cap, places) {
-            Ok(walked) => walked,
+        let gathered = match merge_group(alloc, rules, group, cap, places) {
+            Ok(gathered) => gathered,
             Err(fault) => return Err(fault),
         };
-        let levels = finish(alloc, rules, group, kept.bits, walked)?;
+        let levels = finish(alloc, rules, group, kept.bits, gathered)?;
         Ok(levels)
     }
 }
@@ -359,21 +361,23 @@ fn finish(
     rules: &RuleSet,
     group: &[u32],
     kept: u128,
-    walked: Walked,
+    gathered: Gathered,
 ) -> Result<Levels, AllocError>
     requires group { IsGrouped rules.now group.now }
     requires kept { kept ≡ kept_bits rules.now group.now }
-    requires walk { IsWalk rules.now group.now max_words walked.levels.items walked.words }
-    requires rows { AreRows rules.now group.now walked.reached.target walked.reached.found.keys }
+    requires merged { IsGroupMerged rules.now group.now max_words gathered.levels.items
+        gathered.words }
+    requires rows { AreRows rules.now group.now gathered.reached.target
+        gathered.reached.found.keys }
     ensures { IfOk result (λ levels. levels ≡ levels_of rules.now group.now) }
 {
-    let rows = finish_rows(alloc, rules, group, &walked.reached)?;
+    let rows = finish_rows(alloc, rules, group, &gathered.reached)?;
     let members = Vec::from_slice(alloc, group)?;
-    let words = walked.words + (ROW_LEN * rows.len()) as u64;
+    let words = gathered.words + (ROW_LEN * rows.len()) as u64;
     Ok(Levels {
         kept,
         group: members,
-        levels: walked.into_levels(),
+        levels: gathered.into_levels(),
         rows,
         words,
     })

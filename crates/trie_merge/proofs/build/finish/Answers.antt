@@ -8,6 +8,6 @@ unfolding levels_of
 returns c =
     let count : c.len.result ≡ length (rows_of c.args.rules.now c.args.group.now) =
     omega (arith, c.len.ensures, c.in_ok-rows.rows.ok, ap length c.in_ok-rows.ensures) in
-    let its = c.requires.walk in
+    let its = c.requires.merged in
     rw (c.requires.kept, c.in_ok-members.ensures.items, c.into_levels.ensures, its.runs)
     (rw (c.in_ok-rows.ensures, count, its.sum) refl)

@@ -3,7 +3,7 @@ use Rattle.std.specs.Prelude.{IfSome, nat_lt}
 use Rattle.std.proofs.lemmas.Bool.{cond_both}
 use Rattle.trie_merge.proofs.build.merge_places.Goals as goal
 use Rattle.trie_merge.proofs.Placing.{kept_inside, placed_start, placed_states, placed_on, placed_over, placed_end}
-use Rattle.trie_merge.specs.Walk.{place_of}
+use Rattle.trie_merge.specs.Places.{place_of}
 use Rattle.trie_merge.specs.declared.merge.MergeFault.TheVariants.{OverCap}
 
 pub loop-j-init : goal.loop-j-init
@@ -17,7 +17,7 @@ merge_place-requires-clause-places c = λ k below.
 
 pub merge_place-requires-clause-states : goal.merge_place-requires-clause-states
 merge_place-requires-clause-states c =
-    rw c.requires.places (placed_states _ _ c.requires.group c.loop-j.walked.reached c.loop-j.invariant.0
+    rw c.requires.places (placed_states _ _ c.requires.group c.loop-j.gathered.reached c.loop-j.invariant.0
     (rw (← c.requires.places) c.loop-j-test.true))
 
 pub loop-j-preserved : goal.loop-j-preserved
@@ -35,7 +35,7 @@ pub returns : goal.returns
 returns c =
     let end : c.loop-j.j ≡ length c.args.places.now = omega arith in
     let its = placed_end _ _ c.requires.group c.loop-j.invariant.0 (rw c.requires.places at end) in
-    record { walk = its.0; rows = its.1; over = search rules }
+    record { merged = its.0; rows = its.1; over = search rules }
 
 pub returns-in-Err-clause-over : goal.returns-in-Err-clause-over
 returns-in-Err-clause-over c = λ over.

@@ -23,8 +23,8 @@ next_of set places j = if nat_lt (j + 2) (length places) then Some
     (column_at set (slice_index_or places (j + 1) 0)) else None
 
 -- The runs are those of the merged states, and the words are those of the states.
-pub record IsWalk (set : RuleSetView) (group : List ℕ) (cap : ℕ) (levels : List (List (List Run)))
-    (words : ℕ) : Type 0 where
+pub record IsGroupMerged (set : RuleSetView) (group : List ℕ) (cap : ℕ)
+    (levels : List (List (List Run))) (words : ℕ) : Type 0 where
   pub runs : levels ≡ (levels_of set group).levels
   pub sum : words + row_len * length (rows_of set group) ≡ (levels_of set group).words
   pub within : words + row_len * length (rows_of set group) ≤ cap
