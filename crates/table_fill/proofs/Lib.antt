@@ -1,16 +1,5 @@
-pub mod Along
-pub mod Words
 pub mod Nodes
-pub mod Levels
 pub mod Sounds
-pub mod Runs
-pub mod States
-pub mod Kept
-pub mod KeyLen
 pub mod Merged
-pub mod Walks
-pub mod Ranked
 pub mod Deciding
-pub mod Written
-pub mod Room
 pub mod Given

@@ -1,34 +1,70 @@
--- What a word into a node leads to by each byte.
-use Rattle.std.proofs.Common.{◌≡◌, ◌≢◌, ℕ, suc, ◌+◌, ◌-◌, ◌<◌, ◌≤◌, ◌==◌, true, false, cond, List, [], ◌∷◌, ◌++◌, refl}
-use Rattle.std.proofs.Common.{sym, ap, ◌∙◌, arith, inl, inr, map, length, take, get_or, replicate, nat_le, nat_lt}
-use Rattle.std.proofs.Common.{length-append, subst, ◌⊎◌}
-use Rattle.std.specs.List.{count_by, AllByRecursion}
-use Rattle.std.proofs.lemmas.Bool.Decides.{nat_tests}
-use Rattle.std.proofs.lemmas.Bool.{cases_lt, cases_eq, lt-ltb, le-ltb, le-leb, lt-leb}
+-- The parts of a word, and the nodes that words lead to.
+use Rattle.std.proofs.Common.{◌≡◌, ℕ, ◌/◌, ◌%◌, ◌^◌, ◌<◌, true, [], ◌∷◌, arith, ◌≢◌, suc, ◌+◌, ◌-◌, ◌≤◌, ◌==◌, false}
+use Rattle.std.proofs.Common.{cond, List, ◌++◌, refl, sym, ap, ◌∙◌, inl, inr, map, length, take, get_or, replicate}
+use Rattle.std.proofs.Common.{length-append, subst, ◌⊎◌, zero, All, fold, sum_by, flat_map, lt-ltb, le-ltb, le-leb}
+use Rattle.std.proofs.lemmas.Bool.Decides.{nat_tests, eqb_tells}
+use Rattle.flat_table.specs.Word.{indexes, index_of, kind_of, boundaries_of, is_unbounded, is_match, is_node, node_len}
+use Rattle.flat_table.specs.Word.{next_word, offset_of}
+use Rattle.table_fill.specs.Filled.{word_of, match_of, boundaries, as_number, inner_lasts, node_word, node_words}
+use Rattle.table_fill.specs.Filled.{succ_word, level_len, words_into, targets_of, words_of_levels}
+use Rattle.list_lemmas.proofs.Loops.{below, below-cons}
+use Rattle.std.specs.List.{AllByRecursion}
+use Rattle.std.proofs.lemmas.Bool.{cases_lt, lt-leb}
 use Rattle.std.proofs.lemmas.List.{length-map, get_or-map, length-replicate, take-replicate, get_or_append_left}
 use Rattle.std.proofs.Math.Seq.{take-append-add}
 use Rattle.std.proofs.lemmas.List.Sums.{sum_by-cons}
 use Rattle.std.proofs.lemmas.List.FromFn.{get_or-map-range_with_len, length-map-range_with_len}
 use Rattle.group_states.specs.declared.run.Run.{Run}
-use Rattle.group_states.specs.declared.run.Succ.TheVariants.{Dead}
+use Rattle.group_states.specs.declared.run.Succ.TheVariants.{Dead, State, Row}
 use Rattle.group_states.specs.Found.{all_bytes}
-use Rattle.group_states.specs.Follow.{run_to}
+use Rattle.group_states.specs.Follow.{run_to, on_from, followed}
 use Rattle.table_sizes.specs.Sizes.{cost_of, few_runs}
-use Rattle.flat_table.specs.Word.{indexes, index_of, kind_of, boundaries_of, is_match, is_node, node_len, next_word}
-use Rattle.flat_table.specs.Word.{offset_of}
-use Rattle.list_lemmas.proofs.Positions.{HasPart}
-use Rattle.table_fill.specs.Filled.{word_of, match_of, boundaries, inner_lasts, as_number, node_word, node_words}
-use Rattle.table_fill.specs.Filled.{succ_word}
-use Rattle.table_fill.specs.Tries.{HoldBytes}
-use Rattle.table_fill.proofs.Words.{parts, four_bytes}
+use Rattle.list_lemmas.proofs.Positions.{HasPart, has_front, has_rest}
+use Rattle.table_fill.specs.Tries.{HoldBytes, IsThere, AreRuns, AreLevels}
+use Rattle.std.proofs.lemmas.List.Elements.{recursion_from_All}
+use Rattle.group_states.specs.declared.run.Succ.{Succ}
+use Rattle.flat_table.specs.Walk.{moved}
+use Rattle.flat_table.proofs.Offered.{match_stays}
 
--- how many of the numbers are below the byte
-abbrev pub below : ℕ → List ℕ → ℕ
-below byte numbers = count_by (λ boundary. nat_lt boundary byte) numbers
+-- what stands in a word is found in it
+pub record HasParts (boundaries kind index word : ℕ) : Type 0 where
+  pub index_is : index_of word ≡ index
+  pub kind_is : kind_of word ≡ kind
+  pub boundaries_are : word / 2 ^ 32 ≡ boundaries
 
-below-cons : (byte last : ℕ) (lasts : List ℕ) → below byte (last ∷ lasts)
-    ≡ cond (nat_lt last byte) 1 0 + below byte lasts
-below-cons byte last lasts = sum_by-cons (λ (boundary : ℕ). cond (nat_lt boundary byte) 1 0) last lasts
+pub parts : (boundaries kind index : ℕ) → kind < 8 → index < indexes →
+    HasParts boundaries kind index (word_of boundaries kind index)
+parts boundaries kind index k i = record {
+  index_is = omega arith;
+  kind_is = omega arith;
+  boundaries_are = omega arith;
+}
+
+-- a match ends a walk, has no boundaries, and names its row
+pub record IsMatchOf (row word : ℕ) : Type 0 where
+  pub matches : is_match word ≡ true
+  pub unbounded : is_unbounded word ≡ true
+  pub names : index_of word ≡ row
+
+pub match_parts : (row : ℕ) → row < indexes → IsMatchOf row (match_of row)
+match_parts row i = record {
+  matches = grind (arith, nat_tests);
+  unbounded = grind (arith, nat_tests);
+  names = omega arith;
+}
+
+-- four bytes as a number
+pub four_bytes : (a b c d : ℕ) → a < 256 → b < 256 → c < 256 → d < 256 → (kind index : ℕ) → kind < 8 → index < indexes →
+    boundaries_of (word_of (as_number (a ∷ b ∷ c ∷ d ∷ [])) kind index) ≡ a ∷ b ∷ c ∷ d ∷ []
+four_bytes a b c d ha hb hc hd kind index k i =
+    let word : ℕ = word_of (as_number (a ∷ b ∷ c ∷ d ∷ [])) kind index in
+    let e0 : word / 2 ^ 32 % 256 ≡ a = omega arith in
+    let e1 : word / 2 ^ 40 % 256 ≡ b = omega arith in
+    let e2 : word / 2 ^ 48 % 256 ≡ c = omega arith in
+    let e3 : word / 2 ^ 56 % 256 ≡ d = omega arith in
+    λ i. e0 i ∷ e1 i ∷ e2 i ∷ e3 i ∷ []
+
+-- ---- what a word into a node leads to by each byte
 
 -- ---- the run of a byte
 
@@ -165,103 +201,75 @@ offset_by : (word byte kind : ℕ) → kind_of word ≡ kind → offset_of word 
     ≡ cond (kind == 0) byte (cond (kind == 3) (below byte (boundaries_of word)) 0)
 offset_by word byte kind e = ap (λ k. cond (k == 0) byte (cond (k == 3) (below byte (boundaries_of word)) 0)) e
 
-single_word : (place : ℕ) (runs : List Run) → length runs ≡ 1 → node_word place runs ≡ word_of 0 1 place
+-- what holds of the words into a node of one run, of a few and of more holds of the word into a node
+node_cases : (P : ℕ → Type 0) (place : ℕ) (runs : List Run) → (length runs ≡ 1 → P (word_of 0 1 place)) →
+    (length runs ≢ 1 → length runs ≤ few_runs → P (word_of (as_number (boundaries runs)) 3 place)) →
+    (few_runs < length runs → P (word_of 0 0 place)) → P (node_word place runs)
 unfolding node_word
-single_word place runs one =
-    ap (λ n. cond (n == 1) (word_of 0 1 place)
-    (cond (nat_le n 5) (word_of (as_number (boundaries runs)) 3 place) (word_of 0 0 place))) one
+node_cases P place runs single quad full = elim (eqb_tells (length runs) 1) [
+  | inl one ↦ rw one.0 (single one.1)
+  | inr more ↦ elim (cases_lt few_runs (length runs)) [
+    | inl many ↦ rw (more.0, lt-leb (length runs) few_runs many) (full many)
+    | inr few ↦ rw (more.0, le-leb (length runs) few_runs few) (quad more.1 few)
+  ]
+]
 
-quad_word : (place : ℕ) (runs : List Run) → length runs ≢ 1 → length runs ≤ few_runs → node_word place runs
-    ≡ word_of (as_number (boundaries runs)) 3 place
-unfolding node_word
-quad_word place runs more few = grind (arith, nat_tests)
-
-full_word : (place : ℕ) (runs : List Run) → few_runs < length runs → node_word place runs ≡ word_of 0 0 place
-unfolding node_word
-full_word place runs many = grind (arith, nat_tests)
+-- a run that stands for none
+abbrev pub no_run : Run
+no_run = record { last = 0; to = Dead }
 
 module _ (words targets : List ℕ) (place : ℕ) (runs : List Run) (byte : ℕ) (hold : HoldBytes 0 runs)
     (small : byte < 256) (fits : place < indexes)
     (has : HasPart 0 words place (node_words targets runs)) where
-  d : Run
-  d = record { last = 0; to = Dead }
-
-  f : Run → ℕ
+  abbrev f : Run → ℕ
   f run = succ_word targets run.to
 
-  n : ℕ
+  -- the number of the byte's run
+  abbrev n : ℕ
   n = below byte (inner_lasts runs)
 
-  next_by : (kind offset : ℕ) → kind_of (node_word place runs) ≡ kind → index_of (node_word place runs) ≡ place →
-      cond (kind == 0) byte (cond (kind == 3) (below byte (boundaries_of (node_word place runs))) 0) ≡ offset →
+  next_by : (numbers kind offset : ℕ) → kind < 8 →
+      cond (kind == 0) byte (cond (kind == 3) (below byte (boundaries_of (word_of numbers kind place))) 0) ≡ offset →
       offset < length (node_words targets runs) →
-      next_word words (node_word place runs) byte ≡ get_or (node_words targets runs) offset 0
-  next_by kind offset k i is within =
-      let at : index_of (node_word place runs) + offset_of (node_word place runs) byte ≡ place + offset =
-      omega (arith, i, offset_by (node_word place runs) byte kind k, is) in
+      next_word words (word_of numbers kind place) byte ≡ get_or (node_words targets runs) offset 0
+  next_by numbers kind offset k is within =
+      let word : ℕ = word_of numbers kind place in
+      let p = parts numbers kind place k fits in
+      let at : index_of word + offset_of word byte ≡ place + offset =
+      omega (arith, p.index_is, offset_by word byte kind p.kind_is, is) in
       ap (λ n. get_or words n 0) at ∙ has offset within
 
-  of_run : get_or (map f runs) n 0 ≡ succ_word targets (run_to runs byte)
-  unfolding f n d
-  of_run =
-      let is = run_is byte 0 runs d hold small in
-      get_or-map f runs n d 0 is.0 ∙ ap (succ_word targets) is.1
-
   -- a word of a few runs is that of the byte's run
-  by_few : length runs ≤ few_runs → (kind : ℕ) → kind_of (node_word place runs) ≡ kind →
-      index_of (node_word place runs) ≡ place →
-      cond (kind == 0) byte (cond (kind == 3) (below byte (boundaries_of (node_word place runs))) 0) ≡ n →
-      next_word words (node_word place runs) byte ≡ succ_word targets (run_to runs byte)
-  unfolding f n d
-  by_few few kind k i is =
-      let run = run_is byte 0 runs d hold small in
+  by_few : length runs ≤ few_runs → (numbers kind : ℕ) → kind < 8 →
+      cond (kind == 0) byte (cond (kind == 3) (below byte (boundaries_of (word_of numbers kind place))) 0) ≡ n →
+      next_word words (word_of numbers kind place) byte ≡ succ_word targets (run_to runs byte)
+  by_few few numbers kind k is =
+      let run = run_is byte 0 runs no_run hold small in
       let enough : length runs ≤ cost_of (length runs) = grind (arith, nat_tests) in
-      next_by kind n k i is (omega (arith, run.0, enough, length-node_words targets runs))
+      next_by numbers kind n k is (omega (arith, run.0, enough, length-node_words targets runs))
       ∙ ap (λ (l : List ℕ). get_or l n 0) (few_words targets runs few)
       ∙ get_or_append_left (map f runs) (replicate (cost_of (length runs) - length runs) (match_of 0)) 0 n
       (omega (arith, run.0, length-map runs f))
-      ∙ of_run
+      ∙ get_or-map f runs n no_run 0 run.0
+      ∙ ap (succ_word targets) run.1
 
-  by_single : length runs ≡ 1 → next_word words (node_word place runs) byte ≡ succ_word targets (run_to runs byte)
-  unfolding n d
-  by_single one =
-      let is = single_word place runs one in
-      let p = parts 0 1 place (omega arith) fits in
-      let run = run_is byte 0 runs d hold small in
-      by_few (omega (arith, one)) 1 (ap kind_of is ∙ p.kind_is) (ap index_of is ∙ p.index_is)
-      (omega (arith, run.0, one))
-
-  by_quad : length runs ≢ 1 → length runs ≤ few_runs → next_word words (node_word place runs) byte
-      ≡ succ_word targets (run_to runs byte)
-  unfolding n
-  by_quad more few =
-      let is = quad_word place runs more few in
-      let p = parts (as_number (boundaries runs)) 3 place (omega arith) fits in
-      by_few few 3 (ap kind_of is ∙ p.kind_is) (ap index_of is ∙ p.index_is)
-      (ap (λ w. below byte (boundaries_of w)) is
-      ∙ four (inner_lasts runs) (omega (arith, few, length-inner runs)) (inner_small 0 runs hold) byte small 3 place
-      (omega arith) fits)
-
-  by_full : few_runs < length runs → next_word words (node_word place runs) byte ≡ succ_word targets (run_to runs byte)
-  unfolding f n d all_bytes
+  by_full : few_runs < length runs → next_word words (word_of 0 0 place) byte ≡ succ_word targets (run_to runs byte)
+  unfolding all_bytes
   by_full many =
-      let is = full_word place runs many in
-      let p = parts 0 0 place (omega arith) fits in
       let all = many_words targets runs many in
       let of_byte : ℕ → ℕ = λ b. succ_word targets (run_to runs b) in
-      next_by 0 byte (ap kind_of is ∙ p.kind_is) (ap index_of is ∙ p.index_is) refl
-      (omega (arith, ap length all, length-map-range_with_len of_byte 0 256))
+      next_by 0 0 byte (omega arith) refl (omega (arith, ap length all, length-map-range_with_len of_byte 0 256))
       ∙ ap (λ (l : List ℕ). get_or l byte 0) all
       ∙ get_or-map-range_with_len of_byte 0 256 byte byte 0 small (omega arith)
 
-  pub node_next : next_word words (node_word place runs) byte ≡ succ_word targets (run_to runs byte)
-  node_next = elim (cases_eq (length runs) 1) [
-    | inl one ↦ by_single one
-    | inr more ↦ elim (cases_lt few_runs (length runs)) [
-      | inl many ↦ by_full many
-      | inr few ↦ by_quad more few
-    ]
-  ]
+  node_next : next_word words (node_word place runs) byte ≡ succ_word targets (run_to runs byte)
+  node_next =
+      node_cases (λ word. next_word words word byte ≡ succ_word targets (run_to runs byte)) place runs
+      (λ one. by_few (omega (arith, one)) 0 1 (omega arith)
+      (omega (arith, (run_is byte 0 runs no_run hold small).0, one)))
+      (λ more few. by_few few (as_number (boundaries runs)) 3 (omega arith)
+      (four (inner_lasts runs) (omega (arith, few, length-inner runs)) (inner_small 0 runs hold) byte small 3 place
+      (omega arith) fits)) by_full
 
 -- the word into a node names its place, and has the length of the node
 pub record IsInto (place len word : ℕ) : Type 0 where
@@ -286,13 +294,146 @@ into_by boundaries kind place len fits cases =
 
 pub node_into : (place : ℕ) (runs : List Run) → place < indexes → IsInto place (cost_of (length runs))
     (node_word place runs)
-node_into place runs fits = elim (cases_eq (length runs) 1) [
-  | inl one ↦ subst (λ w. IsInto place (cost_of (length runs)) w) (sym (single_word place runs one))
-      (into_by 0 1 place _ fits (inr (inl (refl, refl, ap cost_of one))))
-  | inr more ↦ elim (cases_lt few_runs (length runs)) [
-    | inl many ↦ subst (λ w. IsInto place (cost_of (length runs)) w) (sym (full_word place runs many))
-        (into_by 0 0 place _ fits (inl (refl, refl, grind (arith, nat_tests))))
-    | inr few ↦ subst (λ w. IsInto place (cost_of (length runs)) w) (sym (quad_word place runs more few))
-        (into_by (as_number (boundaries runs)) 3 place _ fits (inr (inr (refl, grind (arith, nat_tests)))))
-  ]
+node_into place runs fits =
+    node_cases (IsInto place (cost_of (length runs))) place runs
+    (λ one. into_by 0 1 place _ fits (inr (inl (refl, refl, ap cost_of one))))
+    (λ more few. into_by (as_number (boundaries runs)) 3 place _ fits (inr (inr (refl, grind (arith, nat_tests)))))
+    (λ many. into_by 0 0 place _ fits (inl (refl, refl, grind (arith, nat_tests))))
+
+-- ---- the levels of a trie: where a walk over their words leads, and that each word leads on
+
+-- ---- the nodes of a level
+
+-- a state's node: where it begins, and that its words stand there
+pub record NodeAt (words targets : List ℕ) (until : ℕ) (runs : List Run) (word : ℕ) : Type 0 where
+  pub at : ℕ
+  pub word_is : word ≡ node_word at runs
+  pub within : at + cost_of (length runs) ≤ until
+  pub has : HasPart 0 words at (node_words targets runs)
+
+pub level_len-cons : (runs : List Run) (states : List (List Run)) → level_len (runs ∷ states)
+    ≡ cost_of (length runs) + level_len states
+level_len-cons runs states = sum_by-cons (λ (r : List Run). cost_of (length r)) runs states
+
+pub length-level : (targets : List ℕ) (states : List (List Run)) → length (flat_map (node_words targets) states)
+    ≡ level_len states
+length-level targets [] = refl
+length-level targets (runs ∷ states) =
+    length-append (node_words targets runs) (flat_map (node_words targets) states)
+    ∙ (λ i. length-node_words targets runs i + length-level targets states i)
+    ∙ sym (level_len-cons runs states)
+
+module _ (words targets : List ℕ) (until : ℕ) where
+  node_at : (place : ℕ) (states : List (List Run)) (number : ℕ) → number < length states →
+      HasPart 0 words place (flat_map (node_words targets) states) → place + level_len states ≤ until →
+      NodeAt words targets until (get_or states number []) (get_or (words_into place states) number 0)
+  node_at place [] number within has fits = absurd (omega (arith, within))
+  node_at place (runs ∷ states) zero within has fits = record {
+    at = place;
+    word_is = refl;
+    within = omega (arith, fits, level_len-cons runs states);
+    has = has_front 0 words place (node_words targets runs) (flat_map (node_words targets) states) has;
+  }
+  node_at place (runs ∷ states) (suc number) within has fits =
+      let after : ℕ = place + cost_of (length runs) in
+      node_at after states number (omega (arith, within))
+      (has_rest 0 words place (node_words targets runs) (flat_map (node_words targets) states) has after
+      (omega (arith, length-node_words targets runs))) (omega (arith, fits, level_len-cons runs states))
+
+-- ---- walks
+
+dead_stays : (words bytes : List ℕ) → fold (moved words) (match_of 0) bytes ≡ match_of 0
+dead_stays words bytes = match_stays words (match_of 0) bytes (match_parts 0 (omega arith)).matches
+
+-- what all runs of a list have in common, the byte's run has too
+pub there_by : (rows : ℕ) (levels : List (List (List Run))) (runs : List Run) (byte : ℕ) →
+    AllByRecursion (λ (run : Run). IsThere rows levels run.to) runs → IsThere rows levels (run_to runs byte)
+there_by rows levels [] byte all = tt
+there_by rows levels (run ∷ runs) byte all = elim (cases_lt run.last byte) [
+  | inr here ↦ subst (IsThere rows levels) (sym (run_here run runs byte here)) all.0
+  | inl later ↦ subst (IsThere rows levels) (sym (run_later run runs byte later)) (there_by rows levels runs byte all.1)
 ]
+
+-- the words of a level's nodes, which begin at the place
+abbrev pub words_here : ℕ → List ℕ → List (List Run) → List (List (List Run)) → List ℕ
+words_here place matches states levels =
+    flat_map (node_words (targets_of (place + level_len states) matches levels)) states
+
+-- and those of the levels after it
+abbrev pub words_after : ℕ → List ℕ → List (List Run) → List (List (List Run)) → List ℕ
+words_after place matches states levels = words_of_levels (place + level_len states) matches levels
+
+-- which stand after those of the level
+pub has_after : (words : List ℕ) (place : ℕ) (matches : List ℕ) (states : List (List Run))
+    (levels : List (List (List Run))) → HasPart 0 words place (words_of_levels place matches (states ∷ levels)) →
+    HasPart 0 words (place + level_len states) (words_after place matches states levels)
+has_after words place matches states levels has =
+    has_rest 0 words place (words_here place matches states levels) (words_after place matches states levels) has
+    (place + level_len states)
+    (omega (arith, length-level (targets_of (place + level_len states) matches levels) states))
+
+module _ (words matches key : List ℕ) where
+  -- one step from a state's node, to where its successor is
+  one_step : (place : ℕ) (states : List (List Run)) (levels : List (List (List Run))) (at number : ℕ) →
+      All (AreRuns (length matches) levels) states → get_or key at 0 < 256 →
+      HasPart 0 words place (words_of_levels place matches (states ∷ levels)) →
+      place + sum_by level_len (states ∷ levels) ≤ indexes → number < length states →
+      (moved words (get_or (words_into place states) number 0) (get_or key at 0)
+      ≡ succ_word (targets_of (place + level_len states) matches levels)
+      (run_to (get_or states number []) (get_or key at 0)))
+      × IsThere (length matches) levels (run_to (get_or states number []) (get_or key at 0))
+  one_step place states levels at number are small has fits within =
+      let targets : List ℕ = targets_of (place + level_len states) matches levels in
+      let runs : List Run = get_or states number [] in
+      let node = node_at words targets indexes place states number within
+      (has_front 0 words place (words_here place matches states levels) (words_after place matches states levels) has)
+      (omega (arith, sum_by-cons level_len states levels, fits)) in
+      let some : 1 ≤ cost_of (length runs) = grind (arith, nat_tests) in
+      let fit : node.at < indexes = omega (arith, node.within, some) in
+      let is = are number [] within in (
+        ap (λ w. moved words w (get_or key at 0)) node.word_is
+            ∙ ap (λ b. cond b (node_word node.at runs) (next_word words (node_word node.at runs) (get_or key at 0)))
+            (node_into node.at runs fit).no_match
+            ∙ node_next words targets node.at runs (get_or key at 0) is.bytes small fit node.has,
+        there_by (length matches) levels runs (get_or key at 0)
+            (recursion_from_All (λ (run : Run). IsThere (length matches) levels run.to) runs is.there),
+      )
+
+  -- after the last level stands a match
+  last_of : (on : ℕ → Succ) (place : ℕ) (succ : Succ) → IsThere (length matches) [] succ →
+      succ_word (targets_of place matches []) succ ≡ succ_word matches (on_from on succ)
+  last_of on place Dead there = refl
+  last_of on place (State n) there = absurd there
+  last_of on place (Row n) there = refl
+
+  -- and else the walk goes on
+  more_of : (place : ℕ) (next : List (List Run)) (levels : List (List (List Run))) (bytes : List ℕ) (on : ℕ → Succ)
+      (succ : Succ) → IsThere (length matches) (next ∷ levels) succ →
+      ((n : ℕ) → n < length next → fold (moved words) (get_or (words_into place next) n 0) bytes
+      ≡ succ_word matches (on n)) →
+      fold (moved words) (succ_word (targets_of place matches (next ∷ levels)) succ) bytes
+      ≡ succ_word matches (on_from on succ)
+  more_of place next levels bytes on Dead there rest = dead_stays words bytes
+  more_of place next levels bytes on (State n) there rest = rest n there
+  more_of place next levels bytes on (Row n) there rest = absurd there
+
+  pub walk_follows : (place : ℕ) (states : List (List Run)) (levels : List (List (List Run))) (at : ℕ) (places : List ℕ)
+      (number : ℕ) →
+      AreLevels (length matches) (states ∷ levels) → AllByRecursion (λ p. get_or key p 0 < 256) (at ∷ places) →
+      HasPart 0 words place (words_of_levels place matches (states ∷ levels)) →
+      place + sum_by level_len (states ∷ levels) ≤ indexes → length places ≡ length levels → number < length states →
+      fold (moved words) (get_or (words_into place states) number 0) (map (λ p. get_or key p 0) (at ∷ places))
+      ≡ succ_word matches (followed (states ∷ levels) (at ∷ places) key number)
+  walk_follows place states [] at [] number are small has fits long within =
+      let step = one_step place states [] at number are.0 small.0 has fits within in
+      step.0 ∙ last_of (λ n. Dead) (place + level_len states) _ step.1
+  walk_follows place states [] at (p ∷ places) number are small has fits long within = absurd (omega (arith, long))
+  walk_follows place states (next ∷ levels) at [] number are small has fits long within = absurd (omega (arith, long))
+  walk_follows place states (next ∷ levels) at (p ∷ places) number are small has fits long within =
+      let step = one_step place states (next ∷ levels) at number are.0 small.0 has fits within in
+      ap (λ w. fold (moved words) w (map (λ q. get_or key q 0) (p ∷ places))) step.0
+      ∙ more_of (place + level_len states) next levels (map (λ q. get_or key q 0) (p ∷ places))
+      (λ n. followed (next ∷ levels) (p ∷ places) key n) _ step.1
+      (λ n below. walk_follows (place + level_len states) next levels p places n are.1 small.1
+      (has_after words place matches states (next ∷ levels) has)
+      (omega (arith, sum_by-cons level_len states (next ∷ levels), fits)) (omega (arith, long)) below)

@@ -11,19 +11,12 @@ from_sound-requires c =
     let is = given_by c.in_ok-parts.ensures.can c.requires.few c.requires.levels c.requires.size in
     ap sound_fault c.in_ok-parts.ensures.parts ∙ sound is
 
-pub returns-clause-table : goal.returns-clause-table
-returns-clause-table c =
+pub returns : goal.returns
+returns c =
     let is = given_by c.in_ok-parts.ensures.can c.requires.few c.requires.levels c.requires.size in
-    c.from_sound.ensures ∙ c.in_ok-parts.ensures.parts ∙ table_is is
-
-pub returns-clause-serves : goal.returns-clause-serves
-returns-clause-serves c =
-    let is = given_by c.in_ok-parts.ensures.can c.requires.few c.requires.levels c.requires.size in
-    subst (Serves c.args.rules.now) (sym (c.from_sound.ensures ∙ c.in_ok-parts.ensures.parts)) (serves is)
-
-pub returns-clause-words : goal.returns-clause-words
-returns-clause-words c =
-    let is = given_by c.in_ok-parts.ensures.can c.requires.few c.requires.levels c.requires.size in
-    ap (λ (table : TableView). length table.words + row_len * length table.rows)
-    (c.from_sound.ensures ∙ c.in_ok-parts.ensures.parts)
-    ∙ size_is is
+    let same = c.from_sound.ensures ∙ c.in_ok-parts.ensures.parts in
+    record {
+      table = same ∙ table_is is;
+      serves = subst (Serves c.args.rules.now) (sym same) (serves is);
+      words = ap (λ (table : TableView). length table.words + row_len * length table.rows) same ∙ size_is is;
+    }

@@ -1,8 +1,8 @@
 use Rattle.std.proofs.Common.{◌≡◌, All, length, ap, sym, ◌∙◌, subst}
 use Rattle.std.proofs.lemmas.List.FromFn.{length-map-range_with_len}
-use Rattle.table_fill.specs.Filled.{rule_word}
+use Rattle.table_fill.specs.Filled.{rule_word, table_of_tries}
 use Rattle.table_fill.specs.Tries.{HasWinners}
-use Rattle.table_fill.proofs.Given.{given, parts_are}
+use Rattle.table_fill.proofs.Given.{given, rows_are}
 use Rattle.table_fill.proofs.filling.parts_of.Goals as goal
 
 pub roots_of-requires : goal.roots_of-requires
@@ -31,22 +31,20 @@ rows_of-requires-clause-winners c =
     (length set.rules) in
     subst (λ n. All (HasWinners n) c.args.levels.now) (sym count) is.winners
 
-pub returns-clause-parts : goal.returns-clause-parts
-returns-clause-parts c =
-    parts_are
-    (given c.sizes-key_len.ensures.lawful c.sizes-key_len.ensures.layout c.in_ok-words.ensures.userdata c.requires) _
-    c.deref.result.now
+pub returns : goal.returns
+unfolding table_of_tries
+returns c =
+    let is = given c.sizes-key_len.ensures.lawful c.sizes-key_len.ensures.layout c.in_ok-words.ensures.userdata
+    c.requires in
     record {
-      key_len = c.sizes-key_len.ensures.key_len;
-      rules = c.sizes-key_len.ensures.rules;
-      kept = c.in_ok-kept_of.ensures;
-      roots = c.in_ok-roots_of.ensures;
-      level_lens = c.in_ok-level_lens_of.ensures;
-      words = c.in_ok-words_of.ensures;
-      of_rules = c.deref.ensures.value ∙ c.in_ok-words.ensures.words;
-      rows = c.in_ok-rows_of.ensures;
+      parts = λ i. record {
+        key_len = c.sizes-key_len.ensures.key_len i;
+        rules = c.sizes-key_len.ensures.rules i;
+        kept = c.in_ok-kept_of.ensures i;
+        roots = c.in_ok-roots_of.ensures i;
+        level_lens = c.in_ok-level_lens_of.ensures i;
+        words = c.in_ok-words_of.ensures i;
+        rows = (c.in_ok-rows_of.ensures ∙ rows_are is _ (c.deref.ensures.value ∙ c.in_ok-words.ensures.words)) i;
+      };
+      can = is.can;
     }
-
-pub returns-clause-can : goal.returns-clause-can
-returns-clause-can c =
-    (given c.sizes-key_len.ensures.lawful c.sizes-key_len.ensures.layout c.in_ok-words.ensures.userdata c.requires).can

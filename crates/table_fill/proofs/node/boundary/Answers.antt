@@ -1,4 +1,4 @@
-use Rattle.table_fill.proofs.Written.{boundary_past}
+use Rattle.table_fill.proofs.Given.{boundary_past}
 use Rattle.table_fill.proofs.node.boundary.Goals as goal
 
 pub returns-else-n-runs : goal.returns-else-n-runs

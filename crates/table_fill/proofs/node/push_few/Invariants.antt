@@ -1,7 +1,9 @@
 -- the words of the runs so far
-use Rattle.std.proofs.Common.{◌≡◌, ◌++◌, take}
-use Rattle.table_fill.proofs.Nodes.{run_words}
+use Rattle.group_states.specs.declared.run.Run.{Run}
+use Rattle.table_fill.specs.Filled.{succ_word}
+use Rattle.list_lemmas.proofs.Loops.{Mapped}
 use Rattle.table_fill.proofs.node.push_few.Given as goal
 
 abbrev pub invariant-loop-run : goal.invariant-loop-run
-invariant-loop-run l = l.words.items ≡ l.fn.words.items ++ run_words l.targets (take l.run-index l.runs)
+invariant-loop-run l =
+    Mapped (λ (run : Run). succ_word l.targets run.to) l.runs l.run-index l.fn.words.items l.words.items

@@ -1,6 +1,5 @@
 -- the rows so far, with those of the tries that are left, are those of all tries
-use Rattle.std.proofs.Common.{◌≡◌, ◌+◌, drop}
-use Rattle.std.specs.List.{sum_by}
+use Rattle.std.proofs.Common.{◌≡◌, ◌+◌, drop, sum_by}
 use Rattle.table_fill.specs.Tries.{row_count}
 use Rattle.table_fill.proofs.rows.count_rows.Given as goal
 

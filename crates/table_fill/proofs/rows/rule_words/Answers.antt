@@ -5,14 +5,13 @@ use Rattle.std.proofs.lemmas.List.FromFn.{map-range_with_len_more}
 use Rattle.rule_set.specs.Rule.{RuleView}
 use Rattle.flat_table.specs.Walk.{userdatas}
 use Rattle.table_fill.specs.Filled.{rule_word}
-use Rattle.table_fill.proofs.Room.{length-ranks, rank_at, rule_word_is}
+use Rattle.table_fill.proofs.Deciding.{length-ranks, rank_at, rule_word_is}
 use Rattle.std.proofs.lemmas.Option.{get_or_from_slice_get}
 use Rattle.table_fill.proofs.rows.rule_words.Goals as goal
 
 pub index-requires : goal.index-requires
 index-requires c =
-    let rules = c.args.rules.now.rules in
-    omega (arith, c.in_ok-ranks.ranks.ok.0, ap length c.in_ok-ranks.ensures, length-ranks rules)
+    omega (arith, c.in_ok-ranks.ranks.ok.0, ap length c.in_ok-ranks.ensures, length-ranks c.args.rules.now.rules)
 
 pub loop-place-preserved : goal.loop-place-preserved
 loop-place-preserved c =
