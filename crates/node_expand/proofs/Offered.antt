@@ -1,7 +1,7 @@
 -- What the proofs of other crates may cite.
 
 -- rest_whole: after all its bytes a field is live exactly where its number matches
-pub use Rattle.node_expand.proofs.Ranges.{rest_whole}
+pub use Rattle.node_expand.proofs.Steps.{rest_whole}
 -- rest_steps: the rest after one more byte is the step of the rest
 pub use Rattle.node_expand.proofs.Steps.{rest_steps}
 -- rests_compared: rests are compared by their numbers
@@ -14,10 +14,10 @@ pub use Rattle.node_expand.proofs.EdgeRests.{edges_say, edges_are_one}
 -- bitmask_start: and a bitmask is live
 -- starts: what is said of the edge before the first byte follows from its form
 -- step_form: the step from an edge is the form of the rest after one more byte
-pub use Rattle.node_expand.proofs.Standing.{range_start, mask_start, bitmask_start, starts, step_form}
+pub use Rattle.node_expand.proofs.EdgeRests.{range_start, mask_start, bitmask_start, starts, step_form}
 -- wild_stays_free: where a value leaves all numbers it leaves all of them after more bytes
 -- all_left_step: where neither end of what is left is inner, each byte leaves all numbers again
-pub use Rattle.node_expand.proofs.Free.{wild_stays_free, all_left_step}
+pub use Rattle.node_expand.proofs.EdgeRests.{wild_stays_free, all_left_step}
 -- cuts_are_changes: a byte is a cut exactly where it answers otherwise than the byte before it
 -- stays_alike: answers that are alike stay so for what answers each byte the same
 pub use Rattle.node_expand.proofs.Changes.{cuts_are_changes, stays_alike}

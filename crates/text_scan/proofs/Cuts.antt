@@ -1,18 +1,22 @@
--- Texts that are cut at the first separator.
+-- Texts that are cut at separators, at the ends of lines and at blanks.
 use Rattle.std.proofs.Common.{◌≡◌, ℕ, suc, ◌+◌, ◌<◌, eqb, true, List, [], ◌∷◌, length, take, drop, map, Some, None}
 use Rattle.std.proofs.Common.{refl, ap, ◌∙◌, arith, get_or, ◌-◌, ◌++◌, ◌&&◌, not, Bool, sym, append_assoc, add-one}
+use Rattle.std.proofs.Common.{false}
 use Rattle.std.proofs.lemmas.Bool.{cond-false, ne_eqb, false_from_ne_true, and_parts, eq-eqb, not-true}
 use Rattle.std.proofs.lemmas.List.Sums.{position_or_len_is, AllPass-from_list_all}
 use Rattle.std.specs.Str.Lines.{strip_carriage_return}
 use Rattle.std.specs.List.{list_all, position_or_len}
 use Rattle.memchr.specs.Find.{Nowhere, NoneBefore, Passes, is_byte}
-use Rattle.text_scan.specs.Parts.{carriage_return, line_feed, parts_of, cut_at, without_empty_end, lines_of}
+use Rattle.text_scan.specs.Parts.{carriage_return, line_feed, parts_of, cut_at, without_empty_end, lines_of, is_blank}
+use Rattle.text_scan.specs.Parts.{after_blanks, first_word, after_word, words_of}
 use Rattle.std.proofs.Math.Seq.{take-append_seam}
 use Rattle.std.proofs.lemmas.List.{length_push, drop_at, get_or_default}
 use Rattle.std.proofs.lemmas.List.Folds.{list_any_none, list_any_at}
 use Rattle.std.proofs.lemmas.List.Splits.{slice_split_at, slice_split_first}
-use Rattle.text_scan.proofs.Separators.{Lacks, parts_of_one, some_part}
 use Rattle.list_lemmas.proofs.Elements.{any-append, place-append}
+use Rattle.list_lemmas.proofs.Texts.{Lacks, parts_of_one, some_part, past_blanks-blank, past_blanks-other, LacksBlanks}
+use Rattle.list_lemmas.proofs.Texts.{EndsRun, front_word-append, past_word-append, all_words-append, all_words-blank}
+use Rattle.list_lemmas.proofs.Texts.{past_blanks-word}
 
 -- a text in which no separator is found lacks it
 lacks : (separator : ℕ) (text : List ℕ) → Nowhere (Passes (is_byte separator) text) 0 (length text)
@@ -109,3 +113,36 @@ lines_of-one text plain =
     let cut = slice_split_at (λ c. eqb c line_feed) text line_feed [] (lacks_line_feed text plain) refl in
     ap (λ parts. map strip_carriage_return (without_empty_end parts)) cut
     ∙ ap (λ line. line ∷ []) (strip-plain text plain)
+
+-- A text that is a word, as long as it has a byte, and what follows one.
+abbrev pub IsWord : List ℕ → Type 0
+IsWord text = LacksBlanks is_blank text
+
+abbrev pub EndsWord : List ℕ → Type 0
+EndsWord rest = EndsRun is_blank rest
+
+-- a blank at the beginning is passed over, another byte isn't, and nor is a word
+pub after_blanks-blank : (c : ℕ) (cs : List ℕ) → is_blank c ≡ true → after_blanks (c ∷ cs) ≡ after_blanks cs
+after_blanks-blank = past_blanks-blank is_blank
+
+pub after_blanks-other : (c : ℕ) (cs : List ℕ) → is_blank c ≡ false → after_blanks (c ∷ cs) ≡ c ∷ cs
+after_blanks-other = past_blanks-other is_blank
+
+pub after_blanks-word : (word rest : List ℕ) → IsWord word → 0 < length word
+    → after_blanks (word ++ rest) ≡ word ++ rest
+after_blanks-word = past_blanks-word is_blank
+
+-- the first word, and what follows it
+pub first_word-append : (word rest : List ℕ) → IsWord word → EndsWord rest → first_word (word ++ rest) ≡ word
+first_word-append = front_word-append is_blank
+
+pub after_word-append : (word rest : List ℕ) → IsWord word → EndsWord rest → after_word (word ++ rest) ≡ rest
+after_word-append = past_word-append is_blank
+
+-- the words of a text that begins with one, and of one that begins with a blank
+pub words_of-append : (word rest : List ℕ) → IsWord word → 0 < length word → EndsWord rest
+    → words_of (word ++ rest) ≡ word ∷ words_of rest
+words_of-append = all_words-append is_blank
+
+pub words_of-blank : (c : ℕ) (rest : List ℕ) → is_blank c ≡ true → words_of (c ∷ rest) ≡ words_of rest
+words_of-blank = all_words-blank is_blank

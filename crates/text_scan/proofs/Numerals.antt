@@ -1,19 +1,176 @@
--- Numbers in decimal, read back from where they stand.
-use Rattle.std.proofs.Common.{◌≡◌, ℕ, ◌<◌, ◌≤◌, Bool, true, false, ◌&&◌, eqb, nat_le, List, [], ◌∷◌, ◌++◌, length, take}
-use Rattle.std.proofs.Common.{drop, Some, refl, sym, ap, ◌∙◌, arith, append-nil, ◌||◌, inl, inr, take_all}
-use Rattle.std.proofs.lemmas.Bool.{and_from, and_parts, cond-true, le-leb, eq-eqb, ne_eqb, false≢true, cases_Bool}
+-- What digits spell, and numbers in text: in decimal or hexadecimal, read back from where they stand.
+use Rattle.std.proofs.lemmas.Bool.Decides.{nat_tests}
+use Rattle.std.proofs.Common.{◌≡◌, ℕ, ◌+◌, ◌*◌, ◌^◌, ◌<◌, ◌≤◌, true, false, nat_le, List, [], ◌∷◌, ◌++◌, length, take}
+use Rattle.std.proofs.Common.{drop, get_or, refl, sym, ap, ◌∙◌, arith, length-append, suc, ◌-◌, ◌&&◌, eqb}
+use Rattle.std.proofs.Common.{Some, append-nil, Bool, ◌||◌, cond, Option, None, inl, inr, length-take, length-drop}
+use Rattle.std.proofs.Common.{zero-add, take_all}
+use Rattle.std.proofs.Math.Nat.{pow-suc, pow-zero, mul-le-mul, le-mul_of_pos_right, one-le-pow, le_refl}
+use Rattle.std.proofs.Math.Nat.{pow-le-pow_right, pow-le-pow_left}
+use Rattle.std.proofs.lemmas.Nat.{pow-add}
+use Rattle.std.proofs.lemmas.Bool.{and_parts, and_from, ltb-true, lt-leb, cond-true, cond-false, le-leb}
+use Rattle.std.proofs.lemmas.Bool.{ne_eqb, eq-eqb, cases_Bool, false≢true}
 use Rattle.std.proofs.lemmas.Bool.{eqb-true, leb-true}
 use Rattle.std.proofs.lemmas.List.Folds.{length-prefix_len}
-use Rattle.std.proofs.Math.Seq.{take-append_seam, drop-append_seam}
-use Rattle.std.specs.Char.{is_digit}
+use Rattle.std.proofs.lemmas.List.{take_more, take-append-drop}
+use Rattle.std.specs.Char.{is_digit, digit_value}
+use Rattle.text_scan.specs.Digits.{place_value, are_digits, run_of, is_group}
+use Rattle.std.proofs.lemmas.Fmt.{digits_is_IsNumeral}
+use Rattle.std.specs.Fmt.{digits, decimal}
 use Rattle.std.specs.List.{prefix_len}
-use Rattle.text_scan.specs.Digits.{place_value, are_digits, run_of}
-use Rattle.text_scan.specs.Numeral.{begins_hexadecimal, digits_of, numeral_value, numeral_len, begins_numeral}
-use Rattle.text_scan.specs.Numeral.{whole_number}
-use Rattle.text_scan.proofs.ReadBack.{Spelled}
-use Rattle.list_lemmas.proofs.Tests.{and_false, test_passed, passes_other}
-use Rattle.list_lemmas.proofs.Digits.{no_decimal}
+use Rattle.std.specs.Str.Parse.{digits_value_after}
 use Rattle.list_lemmas.proofs.Elements.{all_pass_run, prefix_len-whole}
+use Rattle.list_lemmas.proofs.Digits.{length-digits-le, list_all-digits, no_decimal}
+use Rattle.std.specs.Bool.{then_some}
+use Rattle.text_scan.specs.Numeral.{begins_hexadecimal, begins_numeral, digits_of, numeral_at, numeral_len}
+use Rattle.text_scan.specs.Numeral.{numeral_value, whole_number}
+use Rattle.list_lemmas.proofs.Tests.{and_false, test_passed, passes_other}
+use Rattle.std.proofs.Math.Seq.{take-append_seam, drop-append_seam}
+use Rattle.list_lemmas.proofs.Texts.{then_some-cond}
+
+-- digits in front count as often as the power that the digits after them leave
+pub place_value-append : (base : ℕ) (cs ds : List ℕ)
+    → place_value base (cs ++ ds) ≡ place_value base cs * base ^ length ds + place_value base ds
+place_value-append base [] ds = omega arith
+place_value-append base (c ∷ cs) ds =
+    let powers : base ^ length (cs ++ ds) ≡ base ^ length cs * base ^ length ds =
+    ap (λ n. base ^ n) (length-append cs ds) ∙ pow-add base (length cs) (length ds) in
+    rw (powers, place_value-append base cs ds) (omega arith)
+
+-- a front of the digits, one digit on
+pub place_value_more : (base : ℕ) (cs : List ℕ) (i : ℕ) → i < length cs
+    → place_value base (take (i + 1) cs) ≡ place_value base (take i cs) * base + digit_value (get_or cs i 0)
+place_value_more base cs i lt =
+    let c = get_or cs i 0 in
+    ap (place_value base) (take_more cs i 0 lt) ∙ place_value-append base (take i cs) (c ∷ [])
+    ∙ rw (pow-suc base 0, pow-zero base) (omega arith)
+
+-- a front of the digits spells no more than all of them
+pub place_value-take_le : (base : ℕ) (cs : List ℕ) (i : ℕ) → 1 ≤ base
+    → place_value base (take i cs) ≤ place_value base cs
+place_value-take_le base cs i positive =
+    let whole : place_value base cs ≡ place_value base (take i cs) * base ^ length (drop i cs) + place_value base
+    (drop i cs) = ap (place_value base) (sym (take-append-drop i cs))
+    ∙ place_value-append base (take i cs) (drop i cs) in
+    let power = one-le-pow (length (drop i cs)) base positive in
+    omega (arith, whole, le-mul_of_pos_right (place_value base (take i cs)) power)
+
+-- digits of the base spell less than the power after them
+pub place_value-lt : (base : ℕ) (cs : List ℕ) → are_digits base cs ≡ true → place_value base cs < base ^ length cs
+place_value-lt base [] all = omega (arith, pow-zero base)
+place_value-lt base (c ∷ cs) all =
+    let parts = and_parts (is_digit c base) (are_digits base cs) all in
+    let low : digit_value c < base = ltb-true (digit_value c) base parts.0 in
+    rw (pow-suc base (length cs))
+    (omega (arith, place_value-lt base cs parts.1, mul-le-mul low (le_refl (base ^ length cs))))
+
+-- where a front of the digits and one digit more spell too much, so do all of them
+pub place_value_above : (base : ℕ) (cs : List ℕ) (i greatest : ℕ) → 1 ≤ base → i < length cs
+    → greatest < place_value base (take i cs) * base + digit_value (get_or cs i 0)
+    → nat_le (place_value base cs) greatest ≡ false
+place_value_above base cs i greatest positive inside above =
+    lt-leb (place_value base cs) greatest
+    (omega (arith, place_value_more base cs i inside, place_value-take_le base cs (i + 1) positive))
+
+-- four digits spell a number of 16 bits
+pub short_group : (base : ℕ) (cs : List ℕ) → 2 ≤ base → base ≤ 16 → length cs ≤ 4 → are_digits base cs ≡ true
+    → place_value base cs < 65536
+short_group base cs low high short all =
+    let power = pow-le-pow_right {n = base} (omega arith) {i = length cs} {j = 4} short in
+    omega (arith, place_value-lt base cs all, power, pow-le-pow_left {n = base} {m = 16} high 4)
+
+-- what std takes digits to spell, said in our words
+pub digits_value_after-place_value : (base n : ℕ) (text : List ℕ)
+    → digits_value_after base n text ≡ n * base ^ length text + place_value base text
+digits_value_after-place_value base n [] = rw (pow-zero base) (omega arith)
+digits_value_after-place_value base n (c ∷ cs) =
+    rw (digits_value_after-place_value base (n * base + digit_value c) cs, pow-suc base (length cs)) (omega arith)
+
+-- digits that spell a number
+pub record Spelled (base n : ℕ) (text : List ℕ) : Type 0 where
+  pub digits : are_digits base text ≡ true
+  pub some : 0 < length text
+  pub value : place_value base text ≡ n
+
+-- what a number is written as spells it
+pub digits_spelled : (base n : ℕ) → 2 ≤ base → base ≤ 16 → n < 2 ^ 64 → Spelled base n (digits base false n)
+digits_spelled base n low high small =
+    let text = digits base false n in
+    let numeral =
+    digits_is_IsNumeral base false low high n (omega (arith, pow-le-pow_left {n = 2} {m = base} low 64)) in
+    record {
+      digits = list_all-digits base text numeral.0.1;
+      some = numeral.0.0;
+      value = omega (arith, digits_value_after-place_value base 0 text, numeral.1);
+    }
+
+pub decimal_spelled : (n : ℕ) → n < 2 ^ 64 → Spelled 10 n (decimal n)
+decimal_spelled n small = digits_spelled 10 n (omega arith) (omega arith) small
+
+-- and is a group, where it has few digits
+pub group_spelled : (base k n : ℕ) → 2 ≤ base → base ≤ 16 → n < base ^ suc k → n < 2 ^ 16
+    → is_group base (suc k) (digits base false n) ≡ true
+group_spelled base k n low high below small =
+    let spelled = digits_spelled base n low high (omega arith) in
+    let short = length-digits-le base k n low below small in
+    grind (arith, nat_tests)
+
+-- a text with a mark has its two bytes and a digit
+pub marked_len : (text : List ℕ) → begins_hexadecimal text ≡ true → 3 ≤ length text
+marked_len [] mark = absurd (false≢true mark)
+marked_len (a ∷ []) mark = absurd (false≢true (sym (and_false (eqb a 48 && false)) ∙ mark))
+marked_len (a ∷ b ∷ []) mark = absurd (false≢true (sym (and_false (eqb a 48 && (eqb b 120 || eqb b 88))) ∙ mark))
+marked_len (a ∷ b ∷ d ∷ rest) mark = omega arith
+
+-- a run is no longer than its text
+run_within : (base : ℕ) (text : List ℕ) → length (run_of base text) ≤ length text
+run_within base text = omega (arith, length-take (prefix_len (λ c. is_digit c base) text) text)
+
+-- a number takes no more bytes than there are
+pub numeral_len-within : (text : List ℕ) → numeral_len text ≤ length text
+numeral_len-within text = elim (cases_Bool (begins_hexadecimal text)) [
+  | inl mark ↦ rw mark (omega (arith, run_within 16 (drop 2 text), length-drop 2 text, marked_len text mark))
+  | inr none ↦ rw none (omega (arith, run_within 10 text))
+]
+
+-- what is answered of the number that a text begins with, where it has 64 bits
+abbrev pub leading : List ℕ → Option (ℕ × ℕ)
+leading text = cond (begins_numeral (2 ^ 64 - 1) text) (Some (numeral_value text, numeral_len text)) None
+
+-- what is answered of digits of a base, after so many bytes
+abbrev pub leading_run : ℕ → ℕ → List ℕ → Option (ℕ × ℕ)
+leading_run base before digits =
+    cond (nat_le 1 (length digits) && nat_le (place_value base digits) (2 ^ 64 - 1))
+    (Some (place_value base digits, before + length digits)) None
+
+-- with a mark, and without one
+pub leading-marked : (text : List ℕ) → begins_hexadecimal text ≡ true
+    → leading text ≡ leading_run 16 2 (run_of 16 (drop 2 text))
+leading-marked text mark = rw mark refl
+
+pub leading-plain : (text : List ℕ) → begins_hexadecimal text ≡ false
+    → leading text ≡ cond (nat_le 1 (length (run_of 10 text)) && nat_le (place_value 10 (run_of 10 text)) (2 ^ 64 - 1))
+    (Some (place_value 10 (run_of 10 text), length (run_of 10 text))) None
+leading-plain text none =
+    let run = run_of 10 text in
+    rw none
+    (ap (λ n. cond (nat_le 1 (length run) && nat_le (place_value 10 run) (2 ^ 64 - 1)) (Some (place_value 10 run, n))
+    None) (zero-add (length run)))
+
+-- where no number is within a bound, none is within a smaller one
+begins_numeral-smaller : (greatest smaller : ℕ) (text : List ℕ) → smaller ≤ greatest
+    → begins_numeral greatest text ≡ false → begins_numeral smaller text ≡ false
+begins_numeral-smaller greatest smaller text below none = grind (arith, nat_tests)
+
+pub numeral_at-none : (text : List ℕ) (at greatest : ℕ) → greatest ≤ 2 ^ 64 - 1
+    → begins_numeral (2 ^ 64 - 1) (drop at text) ≡ false → numeral_at text at greatest ≡ None
+numeral_at-none text at greatest within none =
+    cond-false _ _ _ (begins_numeral-smaller (2 ^ 64 - 1) greatest (drop at text) within none)
+
+-- where one has 64 bits, its value decides
+pub numeral_at-some : (text : List ℕ) (at greatest : ℕ) → begins_numeral (2 ^ 64 - 1) (drop at text) ≡ true
+    → then_some (nat_le (numeral_value (drop at text)) greatest)
+    (numeral_value (drop at text), at + numeral_len (drop at text)) ≡ numeral_at text at greatest
+numeral_at-some text at greatest begins = then_some-cond _ _ ∙ grind (arith, nat_tests)
 
 -- What follows a number in a base so that it ends there: nothing, or a byte that is neither a digit nor an `x`.
 abbrev pub EndsNumber : ℕ → List ℕ → Type 0
@@ -162,9 +319,5 @@ whole_stands greatest n (a ∷ b ∷ d ∷ digits) rest is ends =
 pub whole_within : (greatest n : ℕ) (text : List ℕ) → whole_number greatest text ≡ Some n → n ≤ greatest
 whole_within greatest n text is =
     let whole = is_whole greatest n text is in
-    omega (
-      arith,
-      whole.value,
-      leb-true (numeral_value text) greatest
-          (and_parts (nat_le 1 (length (digits_of text))) _ whole.begins).1,
-    )
+    let small = leb-true _ _ (and_parts (nat_le 1 (length (digits_of text))) _ whole.begins).1 in
+    omega (arith, whole.value, small)

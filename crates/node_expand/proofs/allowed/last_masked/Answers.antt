@@ -2,7 +2,7 @@ use Rattle.std.proofs.Common.{false, arith, subst, sym}
 use Rattle.node_expand.specs.declared.allowed.Allowed.TheVariants.{Between, Agreeing}
 use Rattle.node_expand.specs.Edges.{AnswersAlike}
 use Rattle.node_expand.specs.Allowed.{answer_of}
-use Rattle.node_expand.proofs.Agreeing.{whole_mask, no_mask}
+use Rattle.node_expand.proofs.Changes.{whole_mask, no_mask}
 use Rattle.node_expand.proofs.Changes.{stays_alike}
 use Rattle.node_expand.proofs.allowed.last_masked.Goals as goal
 

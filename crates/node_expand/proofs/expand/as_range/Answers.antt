@@ -2,7 +2,7 @@ use Rattle.std.proofs.Common.{◌≡◌, IsTrue, sym, subst}
 use Rattle.field_defs.specs.declared.field.FieldValue.TheVariants.{Range}
 use Rattle.field_defs.specs.FieldMatch.{is_range_filled, is_wild}
 use Rattle.node_expand.specs.Rest.{as_range}
-use Rattle.node_expand.proofs.AsRange.{as_its_range}
+use Rattle.node_expand.proofs.EdgeRests.{as_its_range}
 use Rattle.node_expand.proofs.expand.as_range.Goals as goal
 use Rattle.node_expand.proofs.expand.as_range.Goals.{After-mask_ends-first}
 

@@ -2,13 +2,13 @@ use Rattle.std.proofs.Common.{◌-◌, ◌||◌, false, get_or, sym, ap, ◌∙�
 use Rattle.node_expand.specs.Edges.{edge_step, is_cut}
 use Rattle.node_expand.specs.Allowed.{answer_of}
 use Rattle.node_expand.proofs.Changes.{change_alike}
-use Rattle.node_expand.proofs.Free.{all_left_uncut}
+use Rattle.node_expand.proofs.EdgeRests.{all_left_uncut}
 use Rattle.node_expand.proofs.expand.cuts.Goals as goal
 
 pub returns-then-leaves_all : goal.returns-then-leaves_all
 returns-then-leaves_all c = λ byte within.
-    rw (all_left_uncut c.args.value.now c.args.size c.args.place byte c.args.edge
-    (sym c.leaves_all.ensures ∙ c.if-leaves_all.true) c.requires.place within)
+    rw (all_left_uncut c.args.value.now c.args.size c.args.place c.args.edge
+    (sym c.leaves_all.ensures ∙ c.if-leaves_all.true) c.requires.place byte within)
 
 pub returns : goal.returns
 unfolding is_cut

@@ -1,23 +1,12 @@
-use Rattle.std.proofs.Common.{◌≡◌, ℕ, List, Some, ◌-◌, ◌*◌, ◌^◌, ◌<◌, true, nat_le, take, get_or, arith, sym, ap, ◌∙◌}
-use Rattle.std.proofs.lemmas.Bool.{and_from, and_right, lt-ltb, le-leb, cond-true, cond-false}
+use Rattle.std.proofs.Common.{◌≡◌, Some, ◌-◌, ◌^◌, true, nat_le, take, arith, sym, ap, ◌∙◌}
+use Rattle.std.proofs.lemmas.Bool.{and_from, and_right, le-leb, cond-true, cond-false}
 use Rattle.std.proofs.lemmas.List.Folds.{list_all_more}
 use Rattle.std.proofs.lemmas.List.{take_all}
-use Rattle.std.specs.Char.{is_digit, digit_value}
+use Rattle.std.specs.Char.{is_digit}
 use Rattle.text_scan.specs.Digits.{place_value, are_digits}
-use Rattle.text_scan.proofs.PlaceValues.{place_value_more, place_value_above}
+use Rattle.text_scan.proofs.Numerals.{place_value_more, place_value_above}
 use Rattle.text_scan.proofs.digits.digits_value.Goals as goal
-
--- the digit that was read is the byte's at its place, and a digit of the base
-digit_at : (base : ℕ) (text : List ℕ) (i code digit : ℕ) → code ≡ get_or text i 0
-    → (digit_value code < base) × (digit ≡ digit_value code)
-    → (digit ≡ digit_value (get_or text i 0)) × (is_digit (get_or text i 0) base ≡ true)
-digit_at base text i code digit read is =
-    let value : digit ≡ digit_value (get_or text i 0) = is.1 ∙ ap digit_value read in
-    (value, lt-ltb (digit_value (get_or text i 0)) base (omega (arith, is, value)))
-
--- the product that was taken is that of what the digits before it spell
-product_is : (value by base before : ℕ) → by ≡ base → value ≡ before → value * by ≡ before * base
-product_is value by base before is held = ap (λ n. value * n) is ∙ ap (λ n. n * base) held
+use Rattle.list_lemmas.proofs.Texts.{digit_at, product_is}
 
 pub returns-in_err-checked_mul : goal.returns-in_err-checked_mul
 returns-in_err-checked_mul c =

@@ -1,24 +1,16 @@
-use Rattle.std.proofs.Common.{◌≡◌, ℕ, List, ◌^◌, ◌-◌, ◌≤◌, false, ◌&&◌, nat_le, length, arith, sym, ◌∙◌, inl, inr}
-use Rattle.std.proofs.lemmas.Bool.{and_parts, and_right, cases_Bool, leb-false, cond-false}
+use Rattle.std.proofs.lemmas.Bool.Decides.{nat_tests}
+use Rattle.std.proofs.Common.{◌≡◌, ℕ, List, ◌^◌, ◌-◌, ◌≤◌, false, ◌&&◌, nat_le, length, arith, sym, ◌∙◌}
+use Rattle.std.proofs.lemmas.Bool.{and_parts, and_right, cond-false}
 use Rattle.text_scan.specs.Digits.{place_value, are_digits, is_group}
-use Rattle.text_scan.proofs.PlaceValues.{short_group}
+use Rattle.text_scan.proofs.Numerals.{short_group}
 use Rattle.text_scan.proofs.digits.group_value.Goals as goal
-use Rattle.list_lemmas.proofs.Tests.{test_passed, test_failed, second_failed}
+use Rattle.list_lemmas.proofs.Tests.{test_passed, test_failed}
 
 -- up to four digits spell no more than 64 bits hold, so only another byte is refused
 other_byte : (base : ℕ) (text : List ℕ) → 2 ≤ base → base ≤ 16 → length text ≤ 4
     → (are_digits base text && nat_le (place_value base text) (2 ^ 64 - 1)) ≡ false → are_digits base text ≡ false
 other_byte base text low high short refused =
-    elim (cases_Bool (are_digits base text)) [
-      | inl digits ↦
-          absurd (omega (
-            arith,
-            short_group base text low high short digits,
-            leb-false (place_value base text) (2 ^ 64 - 1)
-                (second_failed (are_digits base text) _ refused digits),
-          ))
-      | inr other ↦ other
-    ]
+    let small = short_group base text low high short in grind (arith, nat_tests)
 
 pub returns-in_err-digits_value : goal.returns-in_err-digits_value
 returns-in_err-digits_value c =
@@ -34,9 +26,5 @@ pub overflow_cast-result : goal.overflow_cast-result
 overflow_cast-result c =
     let text = c.args.text.now in
     let passed = test_passed _ _ _ c.in_ok-digits_value.ensures in
-    omega (
-      arith,
-      passed.1,
-      short_group c.args.base text c.requires.low c.requires.high (omega arith)
-          (and_parts (are_digits c.args.base text) _ passed.0).0,
-    )
+    let digits = (and_parts (are_digits c.args.base text) _ passed.0).0 in
+    omega (arith, passed.1, short_group c.args.base text c.requires.low c.requires.high (omega arith) digits)

@@ -1,13 +1,14 @@
 use Rattle.std.proofs.Common.{◌≡◌, ℕ, List, Some, ◌^◌, ◌-◌, true, false, nat_le, take, length, arith, sym, ap, ◌∙◌}
 use Rattle.std.proofs.lemmas.Bool.{and_parts, and_from, and_right, le-leb, cond-true, cond-false}
+use Rattle.std.specs.Char.{is_digit}
 use Rattle.text_scan.specs.Digits.{place_value, are_digits, run_of}
-use Rattle.text_scan.proofs.PlaceValues.{are_digits_run, take-length-run}
+use Rattle.list_lemmas.proofs.Texts.{all-run, take-length-run}
 use Rattle.text_scan.proofs.digits.leading_digits.Goals as goal
 use Rattle.list_lemmas.proofs.Tests.{test_passed, test_failed, second_failed}
 
 -- the digits that were cut off are the run
 run_is : (base len : ℕ) (text : List ℕ) → len ≡ length (run_of base text) → take len text ≡ run_of base text
-run_is base len text is = ap (λ n. take n text) is ∙ take-length-run base text
+run_is base len text is = ap (λ n. take n text) is ∙ take-length-run (λ c. is_digit c base) text
 
 pub returns-in_err-digits_value : goal.returns-in_err-digits_value
 returns-in_err-digits_value c =
@@ -17,7 +18,7 @@ returns-in_err-digits_value c =
     let is = run_is base c.run_len-len.result text c.run_len-len.ensures in
     let refused = rw is at (test_failed _ _ c.in_err-digits_value.ensures) in
     let above : nat_le (place_value base run) (2 ^ 64 - 1) ≡ false =
-    second_failed (are_digits base run) _ refused (are_digits_run base text) in
+    second_failed (are_digits base run) _ refused (all-run (λ c. is_digit c base) text) in
     c.from_residual.ensures ∙ sym (cond-false _ _ _ (and_right (nat_le 1 (length run)) _ above))
 
 pub returns : goal.returns

@@ -3,7 +3,7 @@ use Rattle.std.proofs.Common.{◌∙◌, append_assoc, length-set}
 use Rattle.std.proofs.lemmas.List.{get_or-map, length-map}
 use Rattle.std.specs.Fmt.{digits}
 use Rattle.std.specs.List.{join_with_byte}
-use Rattle.text_scan.proofs.Writes.{Holds, Holds_byte, Holds_piece, Holds_text}
+use Rattle.list_lemmas.proofs.Texts.{Holds, Holds_byte, Holds_piece, Holds_text}
 use Rattle.text_scan.proofs.digits.put_groups.Goals as goal
 use Rattle.text_scan.proofs.digits.put_groups.Goals.{then-place-gt0, else-place-gt0}
 use Rattle.list_lemmas.proofs.Joins.{join_with_byte_more, join_with_byte_first, first_part_fits, next_part_fits}
@@ -12,12 +12,8 @@ pub bounds-into-len : goal.bounds-into-len
 bounds-into-len c =
     let parts : List (List ℕ) = map (digits c.args.base false) c.args.groups.now in
     let lengths = length-map c.args.groups.now (digits c.args.base false) in
-    omega (
-      arith,
-      c.loop-place.invariant.counted,
-      next_part_fits c.args.separator parts c.loop-place.place (omega arith)
-          (omega arith),
-    )
+    let fits = next_part_fits c.args.separator parts c.loop-place.place (omega arith) (omega arith) in
+    omega (arith, c.loop-place.invariant.counted)
 
 pub put_digits-len-requires-clause-room : goal.put_digits-len-requires-clause-room
 put_digits-len-requires-clause-room c =
@@ -28,24 +24,13 @@ put_digits-len-requires-clause-room c =
     let part = ap length (get_or-map write c.args.groups.now place 0 [] (omega arith)) in
     elim c.if-place-gt0.branch [
       | then-place-gt0 w ↦
-          omega (
-            arith,
-            part,
-            c.loop-place.invariant.counted,
-            next_part_fits c.args.separator parts place (omega arith)
-                (omega arith),
-          )
+          let fits = next_part_fits c.args.separator parts place (omega arith) (omega arith) in
+          omega (arith, c.loop-place.invariant.counted)
       | else-place-gt0 w ↦
           let first : place ≡ 0 = omega arith in
-          omega (
-            arith,
-            part,
-            ap (λ k. length (get_or parts k [])) first,
-            ap
-                (λ k. length (join_with_byte c.args.separator (take k parts))) first,
-            c.loop-place.invariant.counted,
-            first_part_fits c.args.separator parts (omega arith),
-          )
+          let long = ap (λ k. length (get_or parts k [])) first in
+          let before = ap (λ k. length (join_with_byte c.args.separator (take k parts))) first in
+          omega (arith, c.loop-place.invariant.counted, first_part_fits c.args.separator parts (omega arith))
     ]
 
 pub loop-place-preserved : goal.loop-place-preserved
@@ -62,15 +47,10 @@ loop-place-preserved c =
     let is = get_or-map write c.args.groups.now place 0 [] (omega arith) in
     elim c.if-place-gt0.branch [
       | then-place-gt0 w ↦
+          let fits = next_part_fits separator parts place (omega arith) (omega arith) in
+          let as_long = ap length w.into-is ∙ length-set c.loop-place.into c.loop-place.len separator in
           let room : c.loop-place.len < length c.loop-place.into =
-          omega (
-            arith,
-            c.loop-place.invariant.counted,
-            next_part_fits separator parts place (omega arith)
-                (omega arith),
-            ap length w.into-is,
-            length-set c.loop-place.into c.loop-place.len separator,
-          ) in
+          omega (arith, c.loop-place.invariant.counted) in
           let parted : Holds c.if-place-gt0.into start (joined ++ separator ∷ []) c.if-place-gt0.len =
           rw (w.into-is, w.len-is)
           (Holds_byte c.loop-place.into start joined c.loop-place.len separator c.loop-place.invariant room) in

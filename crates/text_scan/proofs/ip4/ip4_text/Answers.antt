@@ -1,7 +1,7 @@
 use Rattle.std.proofs.Common.{◌∷◌, length, refl, sym, ap, ◌∙◌, arith}
 use Rattle.std.proofs.lemmas.Bool.{ne_eqb}
 use Rattle.text_scan.specs.Parts.{dot, parts_of}
-use Rattle.text_scan.proofs.Ip4Texts.{ip4_of-four, ip4_of-other}
+use Rattle.text_scan.proofs.Addresses.{ip4_of-four, ip4_of-other}
 use Rattle.text_scan.proofs.ip4.ip4_text.Goals as goal
 
 pub returns-in_err-first : goal.returns-in_err-first

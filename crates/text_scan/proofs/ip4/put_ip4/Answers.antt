@@ -1,6 +1,7 @@
 use Rattle.std.proofs.Common.{◌≡◌, [], ◌∷◌, length, refl, rules, arith}
 use Rattle.text_scan.specs.Ip4.{ip4_spelling}
-use Rattle.text_scan.proofs.Spellings.{four_fit, length-ip4_spelling-le}
+use Rattle.list_lemmas.proofs.Texts.{four_fit}
+use Rattle.text_scan.proofs.Addresses.{length-ip4_spelling-le}
 use Rattle.text_scan.specs.Parts.{dot}
 use Rattle.text_scan.proofs.ip4.put_ip4.Goals as goal
 

@@ -2,7 +2,7 @@ use Rattle.std.proofs.Common.{◌≡◌, false, nat_eq, codes, drop, ap, ◌∙�
 use Rattle.std.proofs.lemmas.List.{take_rest}
 use Rattle.std.specs.List.{starts_with}
 use Rattle.text_scan.specs.Ip6.{gap_place}
-use Rattle.text_scan.proofs.Gaps.{gap_place-past}
+use Rattle.text_scan.proofs.Addresses.{gap_place-past}
 use Rattle.text_scan.proofs.ip6.find_gap.Goals as goal
 
 pub loop-place-preserved : goal.loop-place-preserved

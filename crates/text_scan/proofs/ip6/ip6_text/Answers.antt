@@ -1,7 +1,7 @@
 use Rattle.std.proofs.Common.{◌+◌, arith, ap}
 use Rattle.std.proofs.lemmas.Bool.{and_parts}
 use Rattle.std.proofs.lemmas.List.{take_rest}
-use Rattle.text_scan.proofs.Ip6Texts.{ip6_of_shortened}
+use Rattle.text_scan.proofs.Addresses.{ip6_of_shortened}
 use Rattle.text_scan.proofs.ip6.ip6_text.Goals as goal
 use Rattle.list_lemmas.proofs.Powers.{moved_to_top, top_and_bottom}
 use Rattle.list_lemmas.proofs.Tests.{test_passed}
@@ -10,13 +10,10 @@ pub overflow_add-result : goal.overflow_add-result
 overflow_add-result c =
     let before = c.in_ok-before.before in
     let after = c.in_ok-after.after in
-    omega (
-      arith,
-      moved_to_top before.value before.count
-          (omega arith) c.in_ok-before.ensures.fits,
-      top_and_bottom before.value before.count after.value after.count
-          c.if-before-after-gt-MOST_BESIDE_GAP.false c.in_ok-before.ensures.fits c.in_ok-after.ensures.fits,
-    )
+    let moved = moved_to_top before.value before.count (omega arith) c.in_ok-before.ensures.fits in
+    let both = top_and_bottom before.value before.count after.value after.count
+    c.if-before-after-gt-MOST_BESIDE_GAP.false c.in_ok-before.ensures.fits c.in_ok-after.ensures.fits in
+    omega arith
 
 pub returns : goal.returns
 returns c =

@@ -1,4 +1,4 @@
-use Rattle.text_scan.proofs.Forms.{ip6_of-gap}
+use Rattle.text_scan.proofs.Addresses.{ip6_of-gap}
 use Rattle.text_scan.proofs.laws.ip6_is_cut_anywhere.Goals as goal
 
 pub returns : goal.returns

@@ -3,7 +3,7 @@ use Rattle.std.proofs.lemmas.Bool.{cond-true, cond-false}
 use Rattle.std.proofs.lemmas.List.{take_rest}
 use Rattle.list_lemmas.proofs.Tests.{test_passed, test_failed}
 use Rattle.text_scan.specs.Digits.{run_of}
-use Rattle.text_scan.proofs.Leading.{leading_run, leading-marked, leading-plain}
+use Rattle.text_scan.proofs.Numerals.{leading_run, leading-marked, leading-plain}
 use Rattle.text_scan.proofs.numeral.leading_number.Goals as goal
 
 pub returns-then-is_hexadecimal : goal.returns-then-is_hexadecimal

@@ -3,7 +3,7 @@ use Rattle.std.proofs.lemmas.List.{take_rest}
 use Rattle.std.specs.Bool.{then_some}
 use Rattle.list_lemmas.proofs.Tests.{test_passed, test_failed}
 use Rattle.text_scan.specs.Numeral.{begins_numeral, numeral_value, numeral_len}
-use Rattle.text_scan.proofs.Leading.{numeral_at-none, numeral_at-some}
+use Rattle.text_scan.proofs.Numerals.{numeral_at-none, numeral_at-some}
 use Rattle.text_scan.proofs.numeral.number.Goals as goal
 
 pub returns-in_err-value : goal.returns-in_err-value

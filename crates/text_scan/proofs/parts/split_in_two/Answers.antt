@@ -1,5 +1,5 @@
 use Rattle.std.proofs.Common.{arith}
-use Rattle.text_scan.proofs.Separators.{some_part}
+use Rattle.list_lemmas.proofs.Texts.{some_part}
 use Rattle.text_scan.proofs.parts.split_in_two.Goals as goal
 
 -- a second separator makes a third part

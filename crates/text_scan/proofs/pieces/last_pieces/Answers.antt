@@ -6,8 +6,8 @@ use Rattle.text_scan.specs.declared.pieces.Pieces.{Pieces}
 use Rattle.text_scan.specs.Parts.{colon, parts_of}
 use Rattle.text_scan.specs.Ip6.{is_ip6_end, are_groups, are_last_groups, groups_of, pieces_of, pieces_of_all}
 use Rattle.text_scan.specs.Pieces.{pieces_from, with_pieces}
-use Rattle.text_scan.proofs.Ip6Texts.{read_last, refused_before_last}
-use Rattle.text_scan.proofs.Separators.{Lacks-drop, parts_of_one, parts_of_split}
+use Rattle.text_scan.proofs.Addresses.{read_last, refused_before_last}
+use Rattle.list_lemmas.proofs.Texts.{Lacks-drop, parts_of_one, parts_of_split}
 use Rattle.text_scan.proofs.pieces.last_pieces.Goals as goal
 use Rattle.list_lemmas.proofs.Tests.{test_passed, test_failed}
 
@@ -23,23 +23,19 @@ ended pieces last =
     cond (is_ip6_end last && nat_le (pieces.count + length (pieces_of last)) 8)
     (Some (with_pieces pieces (pieces_of last))) None
 
--- a text that isn't empty has its parts as groups
-groups_are_parts : (text : List ℕ) → eqb (length text) 0 ≡ false → groups_of text ≡ parts_of colon text
-groups_are_parts text some = cond-false _ _ _ some
-
 -- the groups of a text whose last part begins after a colon
 groups_split : (text : List ℕ) (last : ℕ) → eqb (length text) 0 ≡ false → 0 < last → last ≤ length text
     → get_or text (last - 1) 0 ≡ colon → ((k : ℕ) → last ≤ k → k < length text → get_or text k 0 ≢ colon)
     → groups_of text ≡ parts_of colon (take (last - 1) text) ++ drop last text ∷ []
 groups_split text last some after within here lacks =
-    groups_are_parts text some ∙ parts_of_split colon last text after within here lacks
+    cond-false _ _ _ some ∙ parts_of_split colon last text after within here lacks
 
 pub returns-then-last-eq0-clause-pieces : goal.returns-then-last-eq0-clause-pieces
 returns-then-last-eq0-clause-pieces c =
     let text = c.args.text.now in
     let found = c.last_part-last.ensures in
     let some : eqb (length text) 0 ≡ false = sym c.is_empty.ensures ∙ c.if-is_empty.false in
-    let one : groups_of text ≡ text ∷ [] = groups_are_parts text some
+    let one : groups_of text ≡ text ∷ [] = cond-false _ _ _ some
     ∙ parts_of_one colon text (Lacks-drop colon 0 text (λ k from inside. found.last k (omega arith) inside)) in
     c.with_end.ensures.pieces ∙ read_last [] text (record { count = 0; value = 0 }) refl refl ∙ ap answer (sym one)
 

@@ -8,7 +8,7 @@ use Rattle.std.proofs.lemmas.List.Folds.{list_all_at}
 use Rattle.text_scan.specs.Parts.{colon, parts_of}
 use Rattle.text_scan.specs.Ip6.{is_ip6_group, are_groups, pieces_of_all}
 use Rattle.text_scan.specs.Pieces.{pieces_from}
-use Rattle.text_scan.proofs.Ip6Texts.{more_pieces, pieces_next}
+use Rattle.text_scan.proofs.Addresses.{more_pieces, pieces_next}
 use Rattle.text_scan.proofs.pieces.pieces_of_groups.Goals as goal
 use Rattle.list_lemmas.proofs.Tests.{test_passed, test_failed}
 use Rattle.list_lemmas.proofs.Elements.{list_all_next}
