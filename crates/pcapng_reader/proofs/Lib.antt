@@ -4,6 +4,7 @@ mod BlockLaws
 mod CaptureLaws
 mod FollowLaws
 mod FrontLaws
+mod Fronts
 mod LongLaws
 mod NextLaws
 mod PacketLaws
