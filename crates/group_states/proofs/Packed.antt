@@ -411,33 +411,38 @@ packed_rests (def ∷ defs) (value ∷ values) key lawful = elim (cases_lt (leng
 free_only : (edge : Edge) → Some Free ≡ Some edge → edge ≡ Free
 free_only edge is = cc
 
-apart_in : (def : FieldDef) (value : FieldValue) (one other : List ℕ) (edge another : Edge) → AreBytes one
-    → AreBytes other → length one < def.size → length other ≡ length one →
-    kept_in value def.size one ≡ Some edge → kept_in value def.size other ≡ Some another →
+-- some bytes of a field, but not all, and the edge that is kept of them
+record Keeps (value : FieldValue) (size : ℕ) (bytes : List ℕ) (edge : Edge) : Type 0 where
+  small : AreBytes bytes
+  begun : length bytes < size
+  is : kept_in value size bytes ≡ Some edge
+
+apart_in : (def : FieldDef) (value : FieldValue) (one other : List ℕ) (edge another : Edge) →
+    Keeps value def.size one edge → Keeps value def.size other another → length other ≡ length one →
     cond (eqb (length one) 0) (unwrap_or (rest_after value def.size 0 0) Live)
     (rest_of value def.size (length one) edge)
     ≡ cond (eqb (length one) 0) (unwrap_or (rest_after value def.size 0 0) Live)
     (rest_of value def.size (length one) another) → edge ≡ another
-apart_in def value [] [] edge another small other_small begun long is other_is same = free_only edge is
-    ∙ sym (free_only another other_is)
-apart_in def value [] (o ∷ os) edge another small other_small begun long is other_is same = absurd (omega arith)
-apart_in def value (k ∷ ks) other edge another small other_small begun long is other_is same =
+apart_in def value [] [] edge another first second long same =
+    free_only edge first.is ∙ sym (free_only another second.is)
+apart_in def value [] (o ∷ os) edge another first second long same = absurd (omega arith)
+apart_in def value (k ∷ ks) other edge another first second long same =
     let place : ℕ = length (k ∷ ks) in
     let some : eqb place 0 ≡ false = ne_eqb place 0 (λ e. omega arith) in
     let other_some : eqb (length other) 0 ≡ false = ne_eqb (length other) 0 (λ e. omega (arith, long)) in
     let form : edge_after value def.size place (number_of (k ∷ ks)) ≡ Some edge =
-    sym (ap (λ b. cond b (Some Free) (edge_after value def.size place (number_of (k ∷ ks)))) some) ∙ is in
+    sym (ap (λ b. cond b (Some Free) (edge_after value def.size place (number_of (k ∷ ks)))) some) ∙ first.is in
     let other_form : edge_after value def.size place (number_of other) ≡ Some another =
     ap (λ n. edge_after value def.size n (number_of other)) (sym long)
     ∙ sym (ap (λ b. cond b (Some Free) (edge_after value def.size (length other) (number_of other))) other_some)
-    ∙ other_is in
+    ∙ second.is in
     let rests : rest_of value def.size place edge ≡ rest_of value def.size place another =
     sym (ap (λ b. cond b (unwrap_or (rest_after value def.size 0 0) Live) (rest_of value def.size place edge)) some)
     ∙ same
     ∙ ap (λ b. cond b (unwrap_or (rest_after value def.size 0 0) Live) (rest_of value def.size place another)) some in
-    (edges_are_one value def.size place edge another (omega arith)
-    (record { prefix = number_of (k ∷ ks); within = number_small (k ∷ ks) small; form = form })
-    (record { prefix = number_of other; within = rw long at (number_small other other_small); form = other_form })).1
+    (edges_are_one value def.size place edge another (omega (arith, first.begun))
+    (record { prefix = number_of (k ∷ ks); within = number_small (k ∷ ks) first.small; form = form })
+    (record { prefix = number_of other; within = rw long at (number_small other second.small); form = other_form })).1
     rests
 
 pub packed_apart : (defs : List FieldDef) (values : List FieldValue) (one other : List ℕ) (edge another : Edge)
@@ -452,10 +457,15 @@ packed_apart (def ∷ defs) (value ∷ values) one other edge another small othe
     elim (cases_lt (length one) def.size) [
       | inl begun ↦
           let yes : ltb (length one) def.size ≡ true = lt-ltb (length one) def.size begun in
-          apart_in def value one other edge another small other_small begun long
-          (sym (packed_in def defs value values one begun) ∙ is)
-          (sym (packed_in def defs value values other (omega (arith, long))) ∙ other_is)
-          (sym (cond-true _ _ _ yes) ∙ same ∙ cond-true _ _ _ yes)
+          let other_begun : length other < def.size = omega (arith, long) in
+          apart_in def value one other edge another
+          (record { small = small; begun = begun; is = sym (packed_in def defs value values one begun) ∙ is })
+          (record {
+            small = other_small;
+            begun = other_begun;
+            is = sym (packed_in def defs value values other other_begun) ∙ other_is;
+          })
+          long (sym (cond-true _ _ _ yes) ∙ same ∙ cond-true _ _ _ yes)
       | inr after ↦
           let no_more : ltb (length one) def.size ≡ false = le-ltb (length one) def.size after in
           let rest_long : length (drop def.size one) ≡ length one - def.size = length-drop def.size one in
