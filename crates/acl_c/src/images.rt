@@ -14,11 +14,8 @@ use crate::codes::{NO_IMAGE, NO_MEMORY, NO_ROOM, OK};
 use crate::shared::Shared;
 use flat_table::Table;
 use std::alloc::{AllocError, Global};
-use table_image::{ImageKind, LoadFault, load, save};
+use table_image::{ImageKind, LoadFault, MAX_RULES, load, save};
 use table_sizes::ROW_LEN;
-
-/// The most rules of a table in an image.
-const MAX_RULES: u32 = 262_144;
 
 /// The bytes of a key of the first table of an image.
 const IP4_KEY: usize = 13;

@@ -4,11 +4,10 @@ use Rattle.std.proofs.lemmas.List.{length-map}
 use Rattle.std.proofs.lemmas.List.Elements.{All-map}
 use Rattle.rule_set.specs.Rule.{RuleSetView}
 use Rattle.rule_set.specs.Groups.{IsPartition}
-use Rattle.table_sizes.specs.Sizes.{max_words, row_len}
+use Rattle.table_sizes.specs.Sizes.{max_tries, max_words, row_len}
 use Rattle.group_states.specs.Levels.{LevelsView, levels_of}
 use Rattle.rule_split.specs.Split.{groups_of, total_of, plan_of, PlanView}
 use Rattle.rule_split.proofs.Offered.{groups_hold, total_of_words}
-use Rattle.flat_table.specs.Sound.{most_tries}
 use Rattle.flat_table.specs.Table.{TableView, words_of}
 use Rattle.table_fill.specs.Filled.{filled}
 use Rattle.acl_context.specs.Context.{built_of}
@@ -65,7 +64,7 @@ filled_is set budget levels are =
 
 -- What filling asks of the merged states of a plan.
 pub record IsFillable (set : RuleSetView) (levels : List LevelsView) : Type 0 where
-  pub few : length levels ≤ most_tries
+  pub few : length levels ≤ max_tries
   pub groups : IsPartition (length set.rules) (map (λ (trie : LevelsView). trie.group) levels)
   pub each : All (λ (trie : LevelsView). trie ≡ levels_of set trie.group) levels
   pub size : row_len + sum_by (λ (trie : LevelsView). trie.words) levels ≤ max_words

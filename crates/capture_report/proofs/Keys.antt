@@ -11,7 +11,6 @@ use Rattle.std.proofs.Math.Seq.{take-append_seam, drop-append-add}
 use Rattle.std.proofs.Math.Nat.{mul-div_cancel, mul-le-mul}
 use Rattle.field_defs.specs.declared.field.Family.{Family}
 use Rattle.field_defs.specs.declared.field.Family.TheVariants as family
-use Rattle.flat_table.specs.Sound.{most_tries}
 use Rattle.flat_table.specs.Table.{TableView}
 use Rattle.flat_table.specs.Walk.{key_transitions, table_verdict}
 use Rattle.flat_table.specs.Batch.{LengthsFit, key_at, keys_in, key_verdicts, first_verdicts, first_transitions}
@@ -25,6 +24,7 @@ use Rattle.capture_report.specs.Report.{transitions_on, transitions_of_packets}
 use Rattle.capture_report.specs.Taken.{max_batch}
 use Rattle.flat_table.proofs.Offered.{key_bound}
 use Rattle.capture_report.specs.Batch.{is_of, keys_of, number_of, verdicts_of, transitions_of_family, max_transitions}
+use Rattle.table_sizes.specs.Sizes.{max_tries}
 
 zero-add : (n : ℕ) → 0 + n ≡ n
 zero-add n = omega arith
@@ -192,14 +192,14 @@ module _ (family : Family) (table : TableView) (len : table.key_len ≡ key_len_
       ap (first_transitions table (keys_of family packets)) (keys_number packets all some) ∙ transitions_are packets all
 
 -- the walks of a key take so many words at most, whatever the table
-key_transitions_bound : (table : TableView) (key : List ℕ) → length table.roots ≤ most_tries → table.key_len ≤ 37 →
+key_transitions_bound : (table : TableView) (key : List ℕ) → length table.roots ≤ max_tries → table.key_len ≤ 37 →
     key_transitions table key ≤ max_transitions
 key_transitions_bound table key tries len =
     omega (arith, key_bound table key, mul-le-mul {n₁ = length table.roots} {m₁ = table.key_len} tries len)
 
 -- and those of all packets
 pub family_transitions_bound : (family : Family) (table : TableView) (packets : List FrameClass) →
-    length table.roots ≤ most_tries → table.key_len ≤ 37 →
+    length table.roots ≤ max_tries → table.key_len ≤ 37 →
     transitions_of_family family table packets ≤ length packets * max_transitions
 family_transitions_bound family table [] tries len = omega arith
 family_transitions_bound family table (p ∷ ps) tries len =

@@ -3,7 +3,6 @@ use Rattle.std.specs.Prelude.{◌≡◌, ℕ, ◌+◌, ◌*◌, ◌≤◌, List,
 use Rattle.std.specs.Prelude.{All, Bool, false, not, if◌then◌else◌}
 use Rattle.field_defs.specs.declared.field.Family.{Family}
 use Rattle.field_defs.specs.declared.field.Family.TheVariants as family
-use Rattle.flat_table.specs.Sound.{most_tries}
 use Rattle.flat_table.specs.Table.{TableView}
 use Rattle.flat_table.specs.Walk.{key_transitions}
 use Rattle.flat_table.specs.Batch.{key_verdicts}
@@ -18,6 +17,7 @@ use Rattle.acl_report.specs.Counts.{same_class}
 use Rattle.capture_report.specs.Packet.{IsPacket}
 use Rattle.capture_report.specs.Classifier.{Tables}
 use Rattle.capture_report.specs.ReportForm.{ReportForm}
+use Rattle.table_sizes.specs.Sizes.{max_tries}
 
 -- the table of a family
 abbrev pub table_of : Family → Tables → TableView
@@ -29,8 +29,8 @@ table_of family.Ip6 tables = tables.ip6
 pub record IsFormByTables (tables : Tables) (categories : ℕ) : Type 0 where
   pub ip4_keys : tables.ip4.key_len ≡ 13
   pub ip6_keys : tables.ip6.key_len ≡ 37
-  pub ip4_tries : length tables.ip4.roots ≤ most_tries
-  pub ip6_tries : length tables.ip6.roots ≤ most_tries
+  pub ip4_tries : length tables.ip4.roots ≤ max_tries
+  pub ip6_tries : length tables.ip6.roots ≤ max_tries
   pub few : categories ≤ MAX_VERDICTS
 
 -- a frame that holds a packet of the family

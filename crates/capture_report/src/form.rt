@@ -2,23 +2,24 @@
 
 ghost use Rattle.std.specs.Prelude.{◌≡◌, ℕ, ◌≤◌, List, IfSome, length, map, not};
 ghost use Rattle.header_extract.specs.declared.class.Class.{Class};
-ghost use Rattle.flat_table.specs.Sound.{most_tries};
 ghost use Rattle.scalar_walk.specs.Rows.{winners_of};
 ghost use Rattle.acl_report.specs.declared.packet.TheConstants.{MAX_VERDICTS};
 ghost use Rattle.capture_report.specs.Classifier.{ByTables, key_len_of_family};
 ghost use Rattle.capture_report.specs.ReportForm.{form_by};
 ghost use Rattle.capture_report.specs.Packet.{IsPacket};
 ghost use Rattle.capture_report.specs.Batch.{dashes_on, table_of};
+ghost use Rattle.table_sizes.specs.Sizes.{max_tries};
 
 use crate::packet::Packet;
 use acl_report::MAX_VERDICTS;
 use field_defs::Family;
-use flat_table::{MAX_TRIES, Table};
+use flat_table::Table;
 use header_extract::Class;
 use lane_walk::Walk;
 use rule_set::Categories;
 use scalar_walk::winners;
 use std::marker::Model;
+use table_sizes::MAX_TRIES;
 
 /// What is printed of a capture.
 #[derive(Clone, Copy)]
@@ -79,7 +80,7 @@ impl<'a> FormByTables<'a> {
     pub fn table(&self, family: Family) -> &Table
         ensures table { result.now ≡ table_of family self.now.tables }
         ensures key_len { result.now.key_len ≡ key_len_of_family family }
-        ensures tries { length result.now.roots ≤ most_tries }
+        ensures tries { length result.now.roots ≤ max_tries }
     {
         match family {
             Family::Ip4 => self.ip4,

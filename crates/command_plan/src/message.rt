@@ -12,7 +12,7 @@ use acl_report::{LINE_ROOM, append, append_number};
 use classbench_reader::{LineFault, LineKind};
 use command_words::UsageKind;
 use field_defs::Family;
-use pcap_reader::CaptureFault;
+use pcap_reader::{CaptureFault, MAX_RECORDS};
 use table_image::ImageKind;
 
 /// Writes the line of a status to the front of `into`, and gives its length with the LF that ends
@@ -181,9 +181,6 @@ fn image_kind(kind: ImageKind) -> &'static [u8]
         ImageKind::KeptGroups => b"kept groups",
     }
 }
-
-/// How many records a capture may have.
-const MAX_RECORDS: u64 = 1_000_000_000;
 
 /// The number of the record that a fault names, and 0 for the file header.
 fn fault_record(fault: CaptureFault) -> u64

@@ -4,8 +4,8 @@ use Rattle.std.specs.List.{list_all}
 use Rattle.std.proofs.lemmas.Bool.{and_parts, eqb-true, leb-true, ltb-true}
 use Rattle.flat_table.specs.Groups.{group_len, longest_key, is_key_len, is_kept_word}
 use Rattle.flat_table.specs.Table.{TableView, depths_of, words_of}
-use Rattle.table_sizes.specs.Sizes.{max_words, row_len}
-use Rattle.flat_table.specs.Sound.{most_tries, begins_with_zeros, is_shaped, first_unsound_root}
+use Rattle.table_sizes.specs.Sizes.{max_tries, max_words, row_len}
+use Rattle.flat_table.specs.Sound.{begins_with_zeros, is_shaped, first_unsound_root}
 use Rattle.flat_table.specs.Sound.{first_unsound_word, sound_fault}
 use Rattle.std.specs.Option.{option_or}
 use Rattle.std.specs.Prelude.{Option, Some, None, option_map, if◌then◌else◌, refl}
@@ -13,7 +13,7 @@ use Rattle.flat_table.specs.declared.sound.SoundFault.TheVariants.{Shape, Root, 
 
 pub record IsShaped (table : TableView) : Type 0 where
   pub same : length table.kept ≡ length table.roots
-  pub few : length table.roots ≤ most_tries
+  pub few : length table.roots ≤ max_tries
   pub key_len : is_key_len table.key_len ≡ true
   pub key_some : 0 < table.key_len
   pub key_bound : table.key_len ≤ longest_key
@@ -38,7 +38,7 @@ each_of a b c d e f g h all =
 
 pub shaped : (table : TableView) → IsTrue (is_shaped table) → IsShaped table
 shaped table all =
-    let h = each_of (length table.kept == length table.roots) (nat_le (length table.roots) most_tries)
+    let h = each_of (length table.kept == length table.roots) (nat_le (length table.roots) max_tries)
     (is_key_len table.key_len) (list_all (is_kept_word table.key_len) table.kept)
     (length table.level_lens == sum (depths_of table)) (length table.words == sum table.level_lens)
     (begins_with_zeros table.rows) (nat_le (words_of table) max_words) all in
@@ -47,7 +47,7 @@ shaped table all =
     let long = ltb-true table.key_len (longest_key + 1) len.1 in
     record {
       same = eqb-true (length table.kept) (length table.roots) h.0;
-      few = leb-true (length table.roots) most_tries h.1;
+      few = leb-true (length table.roots) max_tries h.1;
       key_len = h.2;
       key_some = omega (arith, rest);
       key_bound = omega (arith, long);

@@ -10,11 +10,7 @@ use Rattle.flat_table.specs.Table.{TableView, words_of, depths_of, trie_levels, 
 use Rattle.flat_table.specs.declared.level.Level.{Level}
 use Rattle.flat_table.specs.declared.sound.SoundFault.{SoundFault}
 use Rattle.flat_table.specs.declared.sound.SoundFault.TheVariants.{Shape, Root, Word}
-use Rattle.table_sizes.specs.Sizes.{max_words}
-
--- how many tries a table has at most
-abbrev pub most_tries : ℕ
-most_tries = 8
+use Rattle.table_sizes.specs.Sizes.{max_tries, max_words}
 
 -- row 0 is there, and has a 0 for each category
 abbrev pub begins_with_zeros : List (List ℕ) → Bool
@@ -25,7 +21,7 @@ begins_with_zeros rows =
 abbrev pub is_shaped : TableView → Bool
 is_shaped table =
     length table.kept == length table.roots
-    && nat_le (length table.roots) most_tries
+    && nat_le (length table.roots) max_tries
     && is_key_len table.key_len
     && list_all (is_kept_word table.key_len) table.kept
     && length table.level_lens == sum (depths_of table)

@@ -37,9 +37,10 @@ mod word;
 pub use groups::{MAX_KEY_LEN, depth_of, is_kept_word};
 pub use level::Level;
 pub use parts::Parts;
-pub use sound::{MAX_TRIES, SoundFault, check_sound, is_sound_word};
+pub use sound::{SoundFault, check_sound, is_sound_word};
 pub use steps::Steps;
 pub use table::{NotSound, Table};
 pub use word::{
-    FULL, MATCH, QUAD, SINGLE, boundaries_below, index_of, is_match, kind_of, next_place,
+    BOUNDARY_BITS, FULL, INDEX_BITS, MATCH, QUAD, SINGLE, boundaries_below, index_of, is_match,
+    kind_of, next_place,
 };

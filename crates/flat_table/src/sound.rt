@@ -11,8 +11,8 @@ ghost use Rattle.std.specs.List.{list_all, position_from};
 ghost use Rattle.std.specs.Result.{result_err};
 ghost use Rattle.flat_table.specs.Groups.{longest_key, is_key_len, is_kept_word, depth_of};
 ghost use Rattle.flat_table.specs.Table.{view_of, levels_from};
-ghost use Rattle.table_sizes.specs.Sizes.{max_words, row_len};
-ghost use Rattle.flat_table.specs.Sound.{most_tries, begins_with_zeros};
+ghost use Rattle.table_sizes.specs.Sizes.{max_tries, max_words, row_len};
+ghost use Rattle.flat_table.specs.Sound.{begins_with_zeros};
 ghost use Rattle.flat_table.specs.Sound.{is_shaped, is_sound_word, unsound_word};
 ghost use Rattle.flat_table.specs.Sound.{first_unsound_root, first_unsound_word, sound_fault};
 
@@ -20,11 +20,8 @@ use crate::groups::{depth_of, is_kept_word, is_key_len};
 use crate::level::Level;
 use crate::parts::Parts;
 use crate::word::{index_of, is_match, is_unbounded};
-use table_sizes::{MAX_WORDS, ROW_LEN};
+use table_sizes::{MAX_TRIES, MAX_WORDS, ROW_LEN};
 use thiserror::Error;
-
-/// The most tries that a table has.
-pub const MAX_TRIES: usize = 8;
 
 /// Why parts make no table.
 #[derive(Clone, Copy, Debug, PartialEq, Eq, Error)]
@@ -58,9 +55,9 @@ fn are_kept_words(key_len: u32, kept: &[u128]) -> bool
 /// How many levels the tries have together.
 fn sum_of_depths(key_len: u32, kept: &[u128]) -> usize
     requires key { IsTrue (is_key_len key_len) }
-    requires few { length kept.now ≤ most_tries }
+    requires few { length kept.now ≤ max_tries }
     ensures value { result ≡ sum (map (depth_of key_len) kept.now) }
-    ensures bound { result ≤ most_tries * longest_key }
+    ensures bound { result ≤ max_tries * longest_key }
 {
     let mut depths = 0;
     for kept in kept {
@@ -71,7 +68,7 @@ fn sum_of_depths(key_len: u32, kept: &[u128]) -> usize
 
 /// How many words the levels have together.
 fn sum_of(lens: &[u32]) -> usize
-    requires { length lens.now ≤ most_tries * longest_key }
+    requires { length lens.now ≤ max_tries * longest_key }
     ensures value { result ≡ sum lens.now }
 {
     let mut words = 0;
@@ -165,7 +162,7 @@ fn unsound_word(rows: usize, words: &[u64], from: usize, lens: &[u32]) -> Option
 fn unsound_root(parts: &Parts) -> Option<usize>
     requires { IsTrue (is_shaped (view_of parts.now)) }
     ensures place { result ≡ first_unsound_root (view_of parts.now) }
-    ensures bound { IfSome result (λ trie. trie < most_tries) }
+    ensures bound { IfSome result (λ trie. trie < max_tries) }
 {
     let mut first = 0;
     let mut from = 0;

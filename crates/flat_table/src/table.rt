@@ -6,16 +6,17 @@ ghost use Rattle.std.specs.Prelude.{option_map};
 ghost use Rattle.std.specs.Result.{result_err};
 ghost use Rattle.flat_table.specs.Groups.{longest_key, kept_places};
 ghost use Rattle.flat_table.specs.Table.{view_of, words_of, depths_of, places_of, level_of};
-ghost use Rattle.flat_table.specs.Sound.{most_tries, leads_into, sound_fault};
+ghost use Rattle.flat_table.specs.Sound.{leads_into, sound_fault};
 ghost use Rattle.flat_table.specs.Walk.{root_of};
+ghost use Rattle.table_sizes.specs.Sizes.{max_tries};
 
 use crate::groups::{Places, kept_places};
 use crate::parts::Parts;
-use crate::sound::{MAX_TRIES, SoundFault, check_sound};
+use crate::sound::{SoundFault, check_sound};
 use arrayvec::ArrayVec;
 use std::fmt::{self, Debug, Formatter, Write};
 use std::marker::Model;
-use table_sizes::ROW_LEN;
+use table_sizes::{MAX_TRIES, ROW_LEN};
 
 /// Parts that make no table, and why.
 #[derive(Drop)]
@@ -69,7 +70,7 @@ impl Model for Table {
 
 /// The roots, to be kept in a table.
 fn roots_of(roots: &[u64]) -> ArrayVec<u64, MAX_TRIES>
-    requires { length roots.now ≤ most_tries }
+    requires { length roots.now ≤ max_tries }
     ensures { result.items ≡ roots.now }
 {
     let mut tries = ArrayVec::new();
@@ -82,7 +83,7 @@ fn roots_of(roots: &[u64]) -> ArrayVec<u64, MAX_TRIES>
 /// For each trie the places of its kept groups.
 fn places_of(key_len: u32, kept: &[u128]) -> ArrayVec<Places, MAX_TRIES>
     requires key { key_len ≤ longest_key }
-    requires few { length kept.now ≤ most_tries }
+    requires few { length kept.now ≤ max_tries }
     ensures { map (λ places. places.items) result.items ≡ map (kept_places key_len) kept.now }
 {
     let mut tries = ArrayVec::new();
@@ -128,7 +129,7 @@ impl Table {
     /// How many tries there are, at most 8.
     pub fn tries(&self) -> usize
         ensures value { result ≡ length self.now.roots }
-        ensures bound { result ≤ most_tries }
+        ensures bound { result ≤ max_tries }
         ensures sound { sound_fault self.now ≡ None }
     {
         self.parts.roots.len()

@@ -21,8 +21,8 @@ ghost use Rattle.flat_table.specs.Word.{next_place};
 
 use table_sizes::{FEW_RUNS, FULL_LEN};
 
-/// How many bits of a word are the index.
-const INDEX_BITS: u32 = 29;
+/// How many bits of a word are the index: the first bit of its kind.
+pub const INDEX_BITS: u32 = 29;
 
 /// The bits of the index.
 const INDEX_MASK: u64 = 0x1FFF_FFFF;
@@ -31,7 +31,7 @@ const INDEX_MASK: u64 = 0x1FFF_FFFF;
 const KIND_MASK: u64 = 7;
 
 /// The first bit of the first boundary.
-const BOUNDARY_BITS: u32 = 32;
+pub const BOUNDARY_BITS: u32 = 32;
 
 /// A node with a word for each byte value.
 pub const FULL: u64 = 0;

@@ -2,9 +2,10 @@
 
 ghost use Rattle.std.specs.Prelude.{◌≡◌, ◌≤◌, length, None};
 ghost use Rattle.flat_table.specs.Groups.{longest_key};
-ghost use Rattle.flat_table.specs.Sound.{most_tries, sound_fault};
+ghost use Rattle.flat_table.specs.Sound.{sound_fault};
 ghost use Rattle.flat_table.specs.Laws.{WalksStay};
 ghost use Rattle.flow_core.specs.Laws.{InvariantIsKept, EverySchedule};
+ghost use Rattle.table_sizes.specs.Sizes.{max_tries};
 
 use flat_table::Table;
 use flat_table::laws::walks_stay;
@@ -30,7 +31,7 @@ pub fn stay_in(table: &Table)
     ensures sound { sound_fault table.now ≡ None }
     ensures stay { WalksStay }
     ensures short { table.now.key_len ≤ longest_key }
-    ensures few { length table.now.roots ≤ most_tries }
+    ensures few { length table.now.roots ≤ max_tries }
 {
     walks_stay();
     table.tries();

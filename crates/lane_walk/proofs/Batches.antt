@@ -10,7 +10,7 @@ use Rattle.std.proofs.lemmas.List.Elements.{All-from_get_or}
 use Rattle.std.proofs.lemmas.List.Sums.{count_by_more_yes, count_by_more_no, fold-append}
 use Rattle.flat_table.specs.Groups.{longest_key}
 use Rattle.flat_table.specs.Table.{TableView}
-use Rattle.flat_table.specs.Sound.{most_tries, sound_fault}
+use Rattle.flat_table.specs.Sound.{sound_fault}
 use Rattle.flat_table.specs.Batch.{batch_transitions, keys_in, most_keys, most_of_batch}
 use Rattle.flat_table.specs.Laws.{WalksGoStepByStep, WalksStay}
 use Rattle.flat_table.proofs.Offered.{batch_bound}
@@ -24,6 +24,7 @@ use Rattle.flow_core.proofs.Offered.{flown_step, from_first, run_width, same_wid
 use Rattle.lane_walk.specs.Turn.{is_busy, busy_slots, flow_turn}
 use Rattle.lane_walk.proofs.Turns.{lane_more}
 use Rattle.lane_walk.proofs.Left.{words_left, step_left, other_slot, first_left, done_left}
+use Rattle.table_sizes.specs.Sizes.{max_tries}
 
 -- what turns go by
 pub record Flies (table : TableView) (keys : List ℕ) : Type 0 where
@@ -239,8 +240,8 @@ module _ {table : TableView} {keys : List ℕ} {width n : ℕ} {machine : Machin
 -- ---- the numbers fit
 
 pub words_fit : (table : TableView) (keys : List ℕ) → keys_in table keys ≤ most_keys →
-    length table.roots ≤ most_tries → table.key_len ≤ longest_key →
-    batch_transitions table keys ≤ most_keys * (most_tries * longest_key)
+    length table.roots ≤ max_tries → table.key_len ≤ longest_key →
+    batch_transitions table keys ≤ most_keys * (max_tries * longest_key)
 words_fit table keys few tries short = omega (
   arith,
   batch_bound table keys,
@@ -248,8 +249,8 @@ words_fit table keys few tries short = omega (
 )
 
 pub steps_fit : (table : TableView) (keys : List ℕ) → keys_in table keys ≤ most_keys →
-    length table.roots ≤ most_tries → table.key_len ≤ longest_key →
-    most_steps table keys ≤ most_keys * most_tries * (longest_key + 1)
+    length table.roots ≤ max_tries → table.key_len ≤ longest_key →
+    most_steps table keys ≤ most_keys * max_tries * (longest_key + 1)
 steps_fit table keys few tries short =
     let longer : table.key_len + 1 ≤ longest_key + 1 = omega (arith, short) in
     mul-le-mul (mul-le-mul few tries) longer

@@ -10,14 +10,11 @@ ghost use Rattle.flow_core.specs.Machine.{moved_to};
 ghost use Rattle.flow_core.specs.Standing.{LeadsOnward, held_after, rows_after};
 ghost use Rattle.lane_walk.specs.Turn.{EndsOrLeads, HasCome, held_in, no_one, rows_after_four};
 
-use flat_table::{MATCH, Table, index_of, is_match, kind_of};
+use flat_table::{INDEX_BITS, MATCH, Table, index_of, is_match, kind_of};
 use flow_core::{Flight, Scratch};
 
 /// How many lanes are stepped at once.
 pub(crate) const AT_ONCE: usize = 4;
-
-/// How many bits of a word are the index.
-const INDEX_BITS: u32 = 29;
 
 /// Whether the word ends a walk. It is a match or leads to a node, and no node has as great a kind.
 #[inline]

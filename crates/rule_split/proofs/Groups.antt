@@ -21,10 +21,11 @@ use Rattle.rule_set.proofs.Offered.{places_in, place_of_set}
 use Rattle.list_lemmas.proofs.Counts.{increasing_range}
 use Rattle.group_states.specs.Levels.{IsGroup}
 use Rattle.rule_split.specs.Split.{can_split, capped, total, most_words, split_place, split_at, turn, turns}
-use Rattle.rule_split.specs.Split.{first_groups, groups_by, groups_of, words_of_group, max_groups}
+use Rattle.rule_split.specs.Split.{first_groups, groups_by, groups_of, words_of_group}
 use Rattle.std.specs.Option.{option_map_or}
 use Rattle.rule_split.specs.Laws.{GroupsHoldEachRuleOnce}
 use Rattle.rule_split.proofs.Halves.{IsTwoOf, divided_is}
+use Rattle.table_sizes.specs.Sizes.{max_tries}
 
 -- the places of groups of which one has become two
 places_of_two : (before later : List (List ℕ)) (one other : List ℕ) →
@@ -207,7 +208,7 @@ groups_are set groups parts =
     }) groups (All-contains_itself groups)
 
 pub split_once : (set : RuleSetView) (budget : ℕ) →
-    IsPartition (length set.rules) (groups_of set budget) × (length (groups_of set budget) ≤ max_groups)
+    IsPartition (length set.rules) (groups_of set budget) × (length (groups_of set budget) ≤ max_tries)
 unfolding groups_of groups_by
 split_once set budget =
     let first = first_is set in

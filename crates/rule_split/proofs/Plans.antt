@@ -6,13 +6,12 @@ use Rattle.std.proofs.lemmas.List.Sums.{sum_by-cons}
 use Rattle.std.proofs.lemmas.List.Elements.{All-head, All-tail}
 use Rattle.rule_set.specs.Rule.{RuleSetView}
 use Rattle.rule_set.specs.Groups.{IsPartition}
-use Rattle.table_sizes.specs.Sizes.{row_len}
+use Rattle.table_sizes.specs.Sizes.{max_tries, row_len}
 use Rattle.group_states.specs.Levels.{levels_of}
 use Rattle.rule_split.specs.declared.counted.Counted.{Counted}
 use Rattle.rule_split.specs.declared.counted.Counted.TheVariants.{Fits, TooLarge}
 use Rattle.rule_split.specs.Counted.{group_in, levels_in, words_counted, IsCounted}
 use Rattle.rule_split.specs.Split.{turn, turns, first_groups, groups_by, groups_of, total, total_of, words_of_group}
-use Rattle.rule_split.specs.Split.{max_groups}
 use Rattle.rule_split.proofs.Counts.{total_is}
 use Rattle.rule_split.proofs.Groups.{turns_are, first_is, split_once}
 
@@ -55,7 +54,7 @@ module _ (set : RuleSetView) (budget : ℕ) where
         first.1,
       )
 
-  pub last_few : (groups : List Counted) → map group_in groups ≡ groups_of set budget → length groups ≤ max_groups
+  pub last_few : (groups : List Counted) → map group_in groups ≡ groups_of set budget → length groups ≤ max_tries
   last_few groups is = omega (arith, length-map groups group_in, ap length is, (split_once set budget).1)
 
   -- their total

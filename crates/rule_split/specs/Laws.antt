@@ -7,9 +7,9 @@ use Rattle.rule_set.specs.Among.{winner_among}
 use Rattle.rule_set.specs.Winner.{winner}
 use Rattle.rule_set.specs.Groups.{IsPartition, rank_or_none, greatest}
 use Rattle.rule_set.specs.GroupLaws.{winners_ranks}
-use Rattle.table_sizes.specs.Sizes.{row_len}
+use Rattle.table_sizes.specs.Sizes.{max_tries, row_len}
 use Rattle.group_states.specs.Levels.{IsGroup, LevelsView}
-use Rattle.rule_split.specs.Split.{groups_of, total_of, plan_of, max_groups}
+use Rattle.rule_split.specs.Split.{groups_of, total_of, plan_of}
 
 -- The groups of a set together hold each rule once, each of them is one of the set, and there are
 -- at most eight.
@@ -17,7 +17,7 @@ pub record GroupsHoldEachRuleOnce : Type 0 where
   pub once : (set : RuleSetView) (budget : ℕ) →
       IsPartition (length set.rules) (groups_of set budget)
   pub groups : (set : RuleSetView) (budget : ℕ) → All (IsGroup set) (groups_of set budget)
-  pub few : (set : RuleSetView) (budget : ℕ) → length (groups_of set budget) ≤ max_groups
+  pub few : (set : RuleSetView) (budget : ℕ) → length (groups_of set budget) ≤ max_tries
 
 -- Where the total of a set is within the budget, it is the words of all groups and of one row.
 abbrev pub TheTotalIsOfAllWords : Type 0

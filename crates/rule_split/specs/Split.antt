@@ -8,14 +8,9 @@ use Rattle.std.specs.Option.{option_map_or}
 use Rattle.std.proofs.Common.{zero, suc}
 use Rattle.rule_set.specs.Rule.{RuleSetView}
 use Rattle.rule_set.specs.Groups.{greatest}
-use Rattle.table_sizes.specs.Sizes.{row_len}
+use Rattle.table_sizes.specs.Sizes.{max_tries, row_len}
 use Rattle.group_states.specs.Levels.{LevelsView, levels_of}
 use Rattle.rule_split.specs.Divide.{divided}
-
--- how many groups there are at most, as DPDK's `lib/acl`, `acl.h`, has at most 8 tries
--- (RTE_ACL_MAX_TRIES)
-abbrev pub max_groups : ℕ
-max_groups = 8
 
 -- a group can be split where it has two rules or more
 abbrev pub can_split : List ℕ → Bool
@@ -66,7 +61,7 @@ first_groups set =
 
 -- The groups after the last turn. Each turn adds one group, so there are at most eight.
 unfoldable pub groups_by : (List ℕ → ℕ) → RuleSetView → ℕ → List (List ℕ)
-groups_by words set budget = turns words set budget (max_groups - 1) (first_groups set)
+groups_by words set budget = turns words set budget (max_tries - 1) (first_groups set)
 
 -- the words of a group's merged states
 abbrev pub words_of_group : RuleSetView → List ℕ → ℕ

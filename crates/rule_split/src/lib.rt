@@ -20,4 +20,4 @@ pub mod laws;
 mod split;
 
 pub use answer::{Plan, PlanFault};
-pub use split::{MAX_GROUPS, Split, plan};
+pub use split::{Split, plan};

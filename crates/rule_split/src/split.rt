@@ -5,13 +5,13 @@ ghost use Rattle.std.specs.Prelude.{All, [], slice_index_or, Err, IfErr, IfOk, O
 ghost use Rattle.std.specs.Option.{option_to_list};
 ghost use Rattle.std.specs.List.{filter_map, position, range_with_len, sum_by};
 ghost use Rattle.rule_set.specs.Groups.{IsPartition};
-ghost use Rattle.table_sizes.specs.Sizes.{max_words, row_len};
+ghost use Rattle.table_sizes.specs.Sizes.{max_tries, max_words, row_len};
 ghost use Rattle.rule_split.specs.declared.answer.PlanFault.TheVariants.{OutOfMemory, TooLarge};
 ghost use Rattle.rule_split.specs.Counted.{group_in, levels_in, words_counted, most_counted};
 ghost use Rattle.rule_split.specs.Counted.{is_most, IsCounted, IsWithin};
 ghost use Rattle.rule_split.specs.Ended.{IsSplit, plan_in};
 ghost use Rattle.rule_split.specs.Split.{plan_of, total_of, split_at, turn, groups_of};
-ghost use Rattle.rule_split.specs.Split.{words_of_group, first_groups, max_groups};
+ghost use Rattle.rule_split.specs.Split.{words_of_group, first_groups};
 
 use crate::answer::{Plan, PlanFault};
 use crate::counted::Counted;
@@ -19,16 +19,12 @@ use crate::divide::divide;
 use rule_set::RuleSet;
 use std::alloc::{AllocError, Global};
 use std::marker::Model;
-use table_sizes::ROW_LEN;
+use table_sizes::{MAX_TRIES, ROW_LEN};
 use trie_merge::Levels;
-
-/// How many groups the rules of a set are split into at most, as `RTE_ACL_MAX_TRIES` of DPDK's
-/// `lib/acl`, `acl.h`.
-pub const MAX_GROUPS: usize = 8;
 
 /// The words of a table of the groups: those of each, and one row for keys that no rule matches.
 fn total(groups: &[Counted], budget: u64) -> u64
-    requires few { length groups.now ≤ max_groups }
+    requires few { length groups.now ≤ max_tries }
     requires budget { budget ≤ max_words }
     requires within { All (IsWithin budget) groups.now }
     ensures { result ≡ row_len + sum_by (words_counted budget) groups.now }
@@ -122,7 +118,7 @@ fn take_turn(
     groups: &mut Vec<Counted>,
 ) -> Result<(), PlanFault>
     requires budget { budget ≤ max_words }
-    requires few { length groups.old.items ≤ max_groups }
+    requires few { length groups.old.items ≤ max_tries }
     requires partition { IsPartition (length rules.now.rules) (map group_in groups.old.items) }
     requires counted { All (IsCounted rules.now budget) groups.old.items }
     ensures groups { OnOk result (map group_in groups.new.items
@@ -158,7 +154,7 @@ fn first_groups(alloc: Global, rules: &RuleSet, budget: u64) -> Result<Vec<Count
     ensures counted { IfOk result (λ groups. All (IsCounted rules.now budget) groups.items) }
     ensures memory { IfErr result (λ fault. fault ≡ OutOfMemory) }
 {
-    let mut groups = Vec::with_capacity(alloc, MAX_GROUPS)?;
+    let mut groups = Vec::with_capacity(alloc, MAX_TRIES)?;
     if !rules.is_empty() {
         let all = all_rules(alloc, rules)?;
         let group = Counted::new(alloc, rules, all, budget)?;
@@ -176,7 +172,7 @@ fn last_groups(alloc: Global, rules: &RuleSet, budget: u64) -> Result<Vec<Counte
     ensures memory { IfErr result (λ fault. fault ≡ OutOfMemory) }
 {
     let mut groups = first_groups(alloc, rules, budget)?;
-    for _ in 0..MAX_GROUPS - 1 {
+    for _ in 0..MAX_TRIES - 1 {
         take_turn(alloc, rules, budget, &mut groups)?;
     }
     Ok(groups)

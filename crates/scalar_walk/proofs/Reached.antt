@@ -9,8 +9,7 @@ use Rattle.std.proofs.Math.ListN.{length-set}
 use Rattle.std.proofs.lemmas.Simd.{map-map}
 use borrow.Author.Count.{below_more}
 use Rattle.std.specs.Prelude.{slice_index, Bool, false, not, ◌==◌}
-use Rattle.table_sizes.specs.Sizes.{row_len}
-use Rattle.flat_table.specs.Sound.{most_tries}
+use Rattle.table_sizes.specs.Sizes.{max_tries, row_len}
 use Rattle.flat_table.specs.Table.{TableView}
 use Rattle.flat_table.specs.Walk.{walk_row, walk_transitions, tries_of, joined, greatest, key_transitions, userdatas}
 use Rattle.flat_table.specs.Batch.{key_verdicts}
@@ -19,7 +18,7 @@ use Rattle.list_lemmas.proofs.Positions.{range-push}
 use Rattle.scalar_walk.specs.Rows.{EndsAt, Reaches, joined_rows, row_verdicts, winners_of}
 
 -- no trie is walked yet
-pub reaches_none : {table : TableView} {key rows : List ℕ} → length rows ≡ most_tries → Reaches table key 0 rows
+pub reaches_none : {table : TableView} {key rows : List ℕ} → length rows ≡ max_tries → Reaches table key 0 rows
 reaches_none len = record {
   len = len;
   each = λ k h. absurd (omega (arith, h));
@@ -27,7 +26,7 @@ reaches_none len = record {
 }
 
 -- a row more is reached, where the walk through the next trie ends
-pub reaches_more : {table : TableView} {key rows : List ℕ} {n row : ℕ} → Reaches table key n rows → n < most_tries →
+pub reaches_more : {table : TableView} {key rows : List ℕ} {n row : ℕ} → Reaches table key n rows → n < max_tries →
     EndsAt table n key row → Reaches table key (n + 1) (set rows n row)
 reaches_more {rows = rows} {n = n} {row = row} r few ends = record {
   len = omega (arith, length-set rows n row, r.len);
@@ -67,7 +66,7 @@ one_transitions table key one = rw one (omega arith)
 
 -- of all tries
 module _ {table : TableView} {key rows : List ℕ} (r : Reaches table key (length table.roots) rows)
-    (few : length table.roots ≤ most_tries) where
+    (few : length table.roots ≤ max_tries) where
   pub rows_there : All (λ row. row < length table.rows) (take (length table.roots) rows)
   rows_there = λ k d h.
       let lt : k < length table.roots = omega (arith, h, length-take {A = ℕ}) in

@@ -3,9 +3,8 @@ use Rattle.std.specs.Prelude.{◌≡◌, ℕ, ◌+◌, ◌<◌, ◌%◌, List, [
 use Rattle.std.specs.Prelude.{slice_index_or, Bool, false, true, not, ◌==◌, if◌then◌else◌}
 use Rattle.std.specs.List.{range_with_len}
 use Rattle.flat_table.specs.Table.{TableView}
-use Rattle.table_sizes.specs.Sizes.{row_len}
+use Rattle.table_sizes.specs.Sizes.{max_tries, row_len}
 use Rattle.flat_table.specs.Groups.{longest_key}
-use Rattle.flat_table.specs.Sound.{most_tries}
 use Rattle.flat_table.specs.Word.{is_match, is_node, next_place}
 use Rattle.flat_table.specs.Walk.{greatest, joined, userdatas, walk_row, moved, walk_transitions}
 use Rattle.flat_table.specs.Walk.{key_transitions}
@@ -25,7 +24,7 @@ row_verdicts rows count row = map (λ category. slice_index (slice_index_or rows
 -- the first numbers of the list are the rows that the walks through the first tries reach, and
 -- these rows are there
 pub record Reaches (table : TableView) (key : List ℕ) (n : ℕ) (rows : List ℕ) : Type 0 where
-  pub len : length rows ≡ most_tries
+  pub len : length rows ≡ max_tries
   pub each : (k : ℕ) → k < n → slice_index rows k ≡ walk_row table k key
   pub there : (k : ℕ) → k < n → slice_index rows k < length table.rows
 

@@ -4,8 +4,7 @@ ghost use Rattle.std.specs.Prelude.{◌≡◌, ◌+◌, ◌*◌, ◌%◌, ◌<�
 ghost use Rattle.std.specs.Prelude.{ℕ, not, slice_index, slice_index_or, slice_set, [], All};
 ghost use Rattle.std.specs.List.{range_with_len};
 ghost use Rattle.flat_table.specs.Groups.{longest_key};
-ghost use Rattle.table_sizes.specs.Sizes.{row_len};
-ghost use Rattle.flat_table.specs.Sound.{most_tries};
+ghost use Rattle.table_sizes.specs.Sizes.{max_tries, row_len};
 ghost use Rattle.flat_table.specs.Walk.{joined, key_transitions, userdatas};
 ghost use Rattle.flat_table.specs.Batch.{LengthsFit, key_at, key_verdicts, batch_verdicts};
 ghost use Rattle.flat_table.specs.Batch.{batch_transitions};
@@ -16,11 +15,11 @@ ghost use Rattle.scalar_walk.specs.Rows.{transitions_below, verdicts_below};
 
 use crate::in_step::{IN_STEP, walk_sixteen};
 use crate::walk::walk_one;
-use flat_table::{MAX_TRIES, Steps, Table};
+use flat_table::{Steps, Table};
 use rule_set::Categories;
 use std::marker::Brand;
 use std::sync::ledger::{Blank, Ledger};
-use table_sizes::ROW_LEN;
+use table_sizes::{MAX_TRIES, ROW_LEN};
 
 /// The bits of a row word that are the userdata.
 const USERDATA_MASK: u64 = 0xFFFF_FFFF;
@@ -113,10 +112,10 @@ struct Reached {
 /// The walks of the key through all tries.
 fn reach<L: Ledger>(table: &Table, key: &[u8], steps: &mut Steps<L>) -> Reached
     requires { length key.now ≡ table.now.key_len }
-    ensures few { length table.now.roots ≤ most_tries }
+    ensures few { length table.now.roots ≤ max_tries }
     ensures rows { Reaches table.now key.now (length table.now.roots) result.rows }
     ensures taken { result.taken ≡ key_transitions table.now key.now }
-    ensures bound { result.taken ≤ most_tries * longest_key }
+    ensures bound { result.taken ≤ max_tries * longest_key }
     ensures steps { steps.new ≡ steps.old + key_transitions table.now key.now }
 {
     let mut rows = [0u32; MAX_TRIES];
@@ -140,7 +139,7 @@ fn classify_one<L: Ledger>(
     requires few { length verdicts.old ≤ row_len }
     ensures verdicts { verdicts.new ≡ key_verdicts table.now (length verdicts.old) key.now }
     ensures taken { result ≡ key_transitions table.now key.now }
-    ensures bound { result ≤ most_tries * longest_key }
+    ensures bound { result ≤ max_tries * longest_key }
     ensures steps { steps.new ≡ steps.old + key_transitions table.now key.now }
 {
     let reached = reach(table, key, steps);
@@ -153,9 +152,9 @@ type Sixteen = [[u32; MAX_TRIES]; IN_STEP];
 
 /// Writes the row that the walk of each key through the trie reached.
 fn put_rows(reached: &mut Sixteen, trie: usize, rows: &[u32; IN_STEP])
-    requires trie { trie < most_tries }
+    requires trie { trie < max_tries }
     requires len { (k : ℕ) → k < IN_STEP →
-        length (slice_index_or reached.old k []) ≡ most_tries }
+        length (slice_index_or reached.old k []) ≡ max_tries }
     ensures { (k : ℕ) → k < IN_STEP → slice_index_or reached.new k []
         ≡ slice_set (slice_index_or reached.old k []) trie (slice_index rows.now k) }
 {
@@ -176,12 +175,12 @@ fn reach_sixteen<L: Ledger>(
 ) -> u64
     requires keys { length keys.now ≡ IN_STEP * table.now.key_len }
     requires len { (k : ℕ) → k < IN_STEP →
-        length (slice_index_or reached.old k []) ≡ most_tries }
-    ensures few { length table.now.roots ≤ most_tries }
+        length (slice_index_or reached.old k []) ≡ max_tries }
+    ensures few { length table.now.roots ≤ max_tries }
     ensures rows { (k : ℕ) → k < IN_STEP → Reaches table.now (key_at table.now keys.now k)
         (length table.now.roots) (slice_index_or reached.new k []) }
     ensures taken { result ≡ transitions_below table.now keys.now IN_STEP }
-    ensures bound { result ≤ IN_STEP * (most_tries * longest_key) }
+    ensures bound { result ≤ IN_STEP * (max_tries * longest_key) }
     ensures steps { steps.new ≡ steps.old + result }
 {
     let mut taken = 0;
@@ -207,7 +206,7 @@ fn join_sixteen<L: Ledger>(
     requires room { length verdicts.old ≡ IN_STEP * count }
     ensures verdicts { verdicts.new ≡ verdicts_below table.now count keys.now IN_STEP }
     ensures taken { result ≡ transitions_below table.now keys.now IN_STEP }
-    ensures bound { result ≤ IN_STEP * (most_tries * longest_key) }
+    ensures bound { result ≤ IN_STEP * (max_tries * longest_key) }
     ensures steps { steps.new ≡ steps.old + result }
 {
     let mut reached = [[0; MAX_TRIES]; IN_STEP];
@@ -233,7 +232,7 @@ fn classify_sixteen<L: Ledger>(
     requires room { length verdicts.old ≡ IN_STEP * count }
     ensures verdicts { verdicts.new ≡ verdicts_below table.now count keys.now IN_STEP }
     ensures taken { result ≡ transitions_below table.now keys.now IN_STEP }
-    ensures bound { result ≤ IN_STEP * (most_tries * longest_key) }
+    ensures bound { result ≤ IN_STEP * (max_tries * longest_key) }
     ensures steps { steps.new ≡ steps.old + result }
 {
     // One trie is the common case, and its rows need no joining.

@@ -6,11 +6,10 @@
 ghost use Rattle.std.specs.Prelude.{◌≡◌};
 ghost use Rattle.flat_table.specs.Word.{kind_of};
 
-/// The bits of a word that are its index and its kind.
-const LOW_HALF: u64 = 0xFFFF_FFFF;
+use flat_table::INDEX_BITS;
 
-/// How many bits of a word are the index.
-const INDEX_BITS: u32 = 29;
+/// The bits of a word that are its index and its kind.
+pub(crate) const LOW_HALF: u64 = 0xFFFF_FFFF;
 
 /// The kind of a full node.
 pub(crate) const FULL: u32 = flat_table::FULL as u32;

@@ -20,20 +20,15 @@ ghost use Rattle.flat_table.specs.Word.{full, indexes, quad, is_node, next_place
 ghost use Rattle.scalar_walk.specs.Lanes.{IsGroupLen, word_in, sum_below};
 ghost use Rattle.scalar_walk.specs.Rows.{CanGoOn, GoesOn};
 
-use crate::kinds::FULL;
+use crate::kinds::{FULL, LOW_HALF};
+use flat_table::INDEX_BITS;
 use std::simd::{u8x16, u32x4, u64x2};
-
-/// How many bits of a word are the index.
-const INDEX_BITS: u32 = 29;
 
 /// The bits of the index.
 const INDEX_MASK: u32 = 0x1FFF_FFFF;
 
 /// The kind of a quad-range node.
 const QUAD: u32 = flat_table::QUAD as u32;
-
-/// The bits of a word that are its low half.
-const LOW_HALF: u64 = 0xFFFF_FFFF;
 
 /// The low half of the least word that ends a walk.
 const ENDED: u32 = 0x8000_0000;

@@ -16,7 +16,7 @@ use crate::values::read_values;
 use crate::verb::kind_named;
 use crate::words::{is_end, take_number, take_word};
 use field_defs::FieldKind;
-use rule_set::{Categories, MAX_RULES, RuleTag, StoredRule};
+use rule_set::{Categories, MAX_CATEGORIES, MAX_RULES, RuleTag, StoredRule};
 use std::alloc::{AllocError, Global};
 use table_sizes::MAX_WORDS;
 
@@ -26,8 +26,6 @@ const MAX_BYTE: u64 = 255;
 const MAX_WRITTEN_PRIORITY: u64 = 2_147_483_647;
 /// The greatest offset, category mask and userdata that may be written.
 const MAX_WRITTEN: u64 = 4_294_967_295;
-/// The greatest number of categories.
-const MAX_COUNT: u64 = 16;
 
 /// The definition of a field as it is written, without its place among the fields. Source: DPDK
 /// `lib/acl`, `rte_acl.h`, `rte_acl_field_def`.
@@ -157,6 +155,6 @@ fn take_count(text: &[u8]) -> Option<(Categories, &[u8])>
         (λ read. next_count (words_of text.now)
         ≡ Some (read_of read.0.count (words_of read.1.now))) }
 {
-    let (count, rest) = take_number(text, MAX_COUNT)?;
+    let (count, rest) = take_number(text, MAX_CATEGORIES as u64)?;
     Some((Categories::new(count as u32)?, rest))
 }

@@ -9,7 +9,7 @@ use Rattle.group_states.specs.declared.run.Succ.{Succ}
 use Rattle.group_states.specs.declared.run.Succ.TheVariants.{Dead, State, Row}
 use Rattle.group_states.specs.Found.{all_bytes}
 use Rattle.group_states.specs.Follow.{run_to}
-use Rattle.table_sizes.specs.Sizes.{cost_of, few_runs, max_words, row_len}
+use Rattle.table_sizes.specs.Sizes.{cost_of, few_runs, max_tries, max_words, row_len}
 use Rattle.table_fill.specs.Filled.{boundaries, inner_lasts, node_words, succ_word, level_len, words_into, targets_of}
 use Rattle.table_fill.specs.Filled.{words_of_levels, filled, table_of_tries, rule_word, rows_of_tries}
 use Rattle.table_fill.specs.Tries.{HoldBytes, IsThere, AreRuns, HasTarget, HasTargets, HasNodes, HasWinners, IsTrie}
@@ -27,7 +27,7 @@ use Rattle.group_states.specs.Levels.{LevelsView, levels_of}
 use Rattle.list_lemmas.proofs.Each.{all_weaker}
 use Rattle.list_lemmas.proofs.Elements.{map_back}
 use Rattle.list_lemmas.proofs.Sums.{sum_by-map}
-use Rattle.flat_table.specs.Sound.{most_tries, sound_fault}
+use Rattle.flat_table.specs.Sound.{sound_fault}
 use Rattle.flat_table.specs.Walk.{userdatas}
 use Rattle.table_fill.specs.Serves.{Serves}
 use Rattle.table_fill.specs.Laws.{CanBeFilled}
@@ -208,7 +208,7 @@ module _ {set : RuleSetView} {tries : List LevelsView} where
       }
 
   -- and from that the tries of groups can be filled
-  pub given_by : CanBeFilled set (groups_of_tries tries) → length tries ≤ most_tries →
+  pub given_by : CanBeFilled set (groups_of_tries tries) → length tries ≤ max_tries →
       All (λ (trie : LevelsView). trie ≡ levels_of set trie.group) tries →
       row_len + sum_by (λ (trie : LevelsView). trie.words) tries ≤ max_words → AreGiven set tries
   given_by can few levels size = given can.rules can.layout can.userdata

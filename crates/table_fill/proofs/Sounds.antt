@@ -25,12 +25,12 @@ use Rattle.group_states.specs.declared.run.Succ.{Succ}
 use Rattle.group_states.specs.declared.run.Succ.TheVariants.{Dead, State, Row}
 use Rattle.group_states.specs.Found.{all_bytes}
 use Rattle.group_states.specs.Follow.{run_to}
-use Rattle.table_sizes.specs.Sizes.{cost_of, few_runs, max_words, row_len}
+use Rattle.table_sizes.specs.Sizes.{cost_of, few_runs, max_tries, max_words, row_len}
 use Rattle.group_states.specs.Levels.{LevelsView}
 use Rattle.flat_table.specs.declared.level.Level.{Level}
 use Rattle.flat_table.specs.Word.{indexes, index_of, is_match, is_unbounded}
 use Rattle.flat_table.specs.Table.{TableView, levels_from, portions, depths_of, trie_levels}
-use Rattle.flat_table.specs.Sound.{leads_into, is_sound_word, first_level, unsound_word, first_some, most_tries}
+use Rattle.flat_table.specs.Sound.{leads_into, is_sound_word, first_level, unsound_word, first_some}
 use Rattle.flat_table.specs.Sound.{begins_with_zeros, is_shaped, sound_fault, first_unsound_root, first_unsound_word}
 use Rattle.flat_table.specs.Groups.{is_key_len, is_kept_word, depth_of}
 use Rattle.field_defs.specs.Layout.{key_len_of}
@@ -334,7 +334,7 @@ length-rows_of rules tries =
 -- Tries whose table isn't too large.
 pub record CanStand (set : RuleSetView) (tries : List LevelsView) : Type 0 where
   pub tries_are : AllByRecursion (IsTrie set) tries
-  pub few : length tries ≤ most_tries
+  pub few : length tries ≤ max_tries
   pub key : is_key_len (key_len_of set.layout) ≡ true
   pub size : row_len + (sum_by nodes_len tries + row_len * sum_by row_count tries) ≤ max_words
 
@@ -358,7 +358,7 @@ module _ (set : RuleSetView) (tries : List LevelsView) (can : CanStand set tries
       let roots = length-roots 0 tries in
       let s0 : (length (map (λ (trie : LevelsView). trie.kept) tries) == length (roots_of 0 tries))
       ≡ true = eq-eqb _ _ (omega (arith, length-map tries (λ (trie : LevelsView). trie.kept), roots)) in
-      let s1 : nat_le (length (roots_of 0 tries)) most_tries ≡ true = le-leb _ _ (omega (arith, roots, can.few)) in
+      let s1 : nat_le (length (roots_of 0 tries)) max_tries ≡ true = le-leb _ _ (omega (arith, roots, can.few)) in
       let s4 : (length (level_lens_of tries) == sum (depths_of table))
       ≡ true = eq-eqb _ _ (length-lens tries ∙ ap sum (sym (depths_are))) in
       let s5 : (length (words_of_tries 0 1 tries) == sum (level_lens_of tries))

@@ -5,8 +5,7 @@ use Rattle.rule_set.specs.Rule.{RuleView, RuleSetView}
 use Rattle.rule_set.specs.RuleSet.{IsRuleSet}
 use Rattle.rule_set.specs.Groups.{IsPartition}
 use Rattle.group_states.specs.Levels.{levels_of}
-use Rattle.table_sizes.specs.Sizes.{max_words, row_len}
-use Rattle.flat_table.specs.Sound.{most_tries}
+use Rattle.table_sizes.specs.Sizes.{max_tries, max_words, row_len}
 use Rattle.flat_table.specs.Walk.{userdatas}
 use Rattle.table_fill.specs.Filled.{filled}
 use Rattle.table_fill.specs.Serves.{Serves}
@@ -21,7 +20,7 @@ pub record CanBeFilled (set : RuleSetView) (groups : List (List ℕ)) : Type 0 w
   pub layout : IsLayout set.layout
   pub userdata : All (λ (rule : RuleView). rule.tag.userdata < userdatas) set.rules
   pub partition : IsPartition (length set.rules) groups
-  pub few : length groups ≤ most_tries
+  pub few : length groups ≤ max_tries
   pub size : words_needed set groups ≤ max_words
 
 -- Whatever the groups are, the filled table answers for each key and category as the rules do.

@@ -11,8 +11,7 @@ use Rattle.group_states.specs.declared.run.Succ.{Succ}
 use Rattle.group_states.specs.declared.run.Succ.TheVariants.{Dead, State, Row}
 use Rattle.group_states.specs.Levels.{LevelsView, levels_of, last_byte}
 use Rattle.flat_table.specs.Groups.{is_kept_word, depth_of}
-use Rattle.table_sizes.specs.Sizes.{max_words, row_len}
-use Rattle.flat_table.specs.Sound.{most_tries}
+use Rattle.table_sizes.specs.Sizes.{max_tries, max_words, row_len}
 use Rattle.table_fill.specs.Filled.{nodes_len}
 
 -- Runs that hold the bytes from the first one to the last.
@@ -87,7 +86,7 @@ groups_of_tries tries = map (λ (trie : LevelsView). trie.group) tries
 -- The tries of the groups of a rule set, which hold each rule once, and whose table isn't too
 -- large.
 pub record AreOfGroups (set : RuleSetView) (tries : List LevelsView) : Type 0 where
-  pub few : length tries ≤ most_tries
+  pub few : length tries ≤ max_tries
   pub groups : IsPartition (length set.rules) (groups_of_tries tries)
   pub levels : All (λ (trie : LevelsView). trie ≡ levels_of set trie.group) tries
   pub size : row_len + sum_by (λ (trie : LevelsView). trie.words) tries ≤ max_words

@@ -6,8 +6,7 @@ ghost use Rattle.field_defs.specs.Lawful.{IsLayout};
 ghost use Rattle.rule_set.specs.RuleSet.{IsRuleSet};
 ghost use Rattle.rule_set.specs.Groups.{IsPartition};
 ghost use Rattle.group_states.specs.Levels.{LevelsView, levels_of};
-ghost use Rattle.table_sizes.specs.Sizes.{max_words, row_len};
-ghost use Rattle.flat_table.specs.Sound.{most_tries};
+ghost use Rattle.table_sizes.specs.Sizes.{max_tries, max_words, row_len};
 ghost use Rattle.table_fill.specs.Filled.{table_of_tries, filled};
 ghost use Rattle.table_fill.specs.Serves.{Serves};
 ghost use Rattle.table_fill.specs.Tries.{groups_of_tries, AreOfGroups};
@@ -61,7 +60,7 @@ fn parts_of(alloc: Global, rules: &RuleSet, levels: &[Levels]) -> Result<Parts, 
 /// Source: DPDK Programmer's Guide, "Packet Classification and Access Control", and `lib/acl`,
 /// `acl_gen.c`.
 pub fn fill(alloc: Global, rules: &RuleSet, levels: &[Levels]) -> Result<Table, AllocError>
-    requires few { length levels.now ≤ most_tries }
+    requires few { length levels.now ≤ max_tries }
     requires groups { IsPartition (length rules.now.rules) (groups_of_tries levels.now) }
     requires levels { All (λ (trie : LevelsView). trie ≡ levels_of rules.now trie.group)
         levels.now }

@@ -8,16 +8,10 @@ ghost use Rattle.table_fill.specs.Filled.{word_of, match_of, boundaries, boundar
 ghost use Rattle.table_fill.specs.Filled.{node_word, node_words, succ_word};
 ghost use Rattle.table_fill.specs.Tries.{HoldBytes, HasTarget, HasTargets};
 
-use flat_table::{FULL, MATCH, QUAD, SINGLE};
+use flat_table::{BOUNDARY_BITS, FULL, INDEX_BITS, MATCH, QUAD, SINGLE};
 use std::alloc::AllocError;
 use table_sizes::{FEW_RUNS, node_len};
 use trie_merge::{Run, Succ};
-
-/// The lowest bit of a word's kind.
-const KIND_BIT: u32 = 29;
-
-/// The lowest bit of a word's boundaries.
-const BOUNDARY_BIT: u32 = 32;
 
 /// The last byte.
 const LAST_BYTE: u8 = 255;
@@ -29,7 +23,7 @@ fn word_of(boundaries: u64, kind: u64, index: usize) -> u64
     requires index { index < indexes }
     ensures { result ≡ word_of boundaries kind index }
 {
-    (boundaries << BOUNDARY_BIT) + (kind << KIND_BIT) + index as u64
+    (boundaries << BOUNDARY_BITS) + (kind << INDEX_BITS) + index as u64
 }
 
 /// The word that ends a walk with the row.

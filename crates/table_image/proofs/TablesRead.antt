@@ -8,8 +8,8 @@ use Rattle.std.proofs.lemmas.List.{append-nil}
 use Rattle.std.proofs.lemmas.Bool.{and_from, le-leb, leb-true, eq-eqb, eqb-true}
 use Rattle.flat_table.specs.Groups.{is_key_len, depth_of}
 use Rattle.flat_table.specs.Table.{TableView, depths_of, trie_levels}
-use Rattle.flat_table.specs.Sound.{most_tries, begins_with_zeros, is_shaped, first_unsound_root, first_unsound_word, sound_fault}
-use Rattle.table_sizes.specs.Sizes.{max_words, row_len}
+use Rattle.flat_table.specs.Sound.{begins_with_zeros, is_shaped, first_unsound_root, first_unsound_word, sound_fault}
+use Rattle.table_sizes.specs.Sizes.{max_tries, max_words, row_len}
 use Rattle.table_image.specs.declared.version.Version.{Version}
 use Rattle.table_image.specs.declared.version.Version.TheVariants.{One, Two}
 use Rattle.table_image.specs.declared.fault.ImageKind.TheVariants.{Family, TooMany}
@@ -26,7 +26,7 @@ use Rattle.table_image.proofs.RowsRead.{rows_read}
 -- what was read of the numbers before the tries
 pub record CountsAt (family : ℕ) (bytes : List ℕ) (at : ℕ) (c : Counts) : Type 0 where
   pub few_rules : c.rules ≤ most_rules
-  pub few_tries : c.tries ≤ most_tries
+  pub few_tries : c.tries ≤ max_tries
   pub few_rows : row_len * (c.rows + 1) ≤ max_words
   pub text : drop at bytes ≡ spelled short family ++ (spelled short c.rules ++ (spelled short c.tries
       ++ (spelled short c.rows ++ drop (at + 16) bytes)))
@@ -57,7 +57,7 @@ counts_read : (family : ℕ) (bytes : List ℕ) (at : ℕ) (c : Counts) → AreB
     CountsAt family bytes at c
 counts_read family bytes at c are e =
     let few_rules : ℕ → Bool = λ number. nat_le number most_rules in
-    let few_tries : ℕ → Bool = λ number. nat_le number most_tries in
+    let few_tries : ℕ → Bool = λ number. nat_le number max_tries in
     let few_rows : ℕ → Bool = λ number. nat_le (row_len * (number + 1)) max_words in
     let made : ℕ → ℕ → ℕ → Counts = λ rules tries rows. record { rules = rules; tries = tries; rows = rows } in
     let one = of_both (tested Family short (λ number. number == family) bytes at)
@@ -81,7 +81,7 @@ counts_read family bytes at c are e =
     let rows_is : four.0 ≡ c.rows = ap (λ (x : Counts). x.rows) is in
     record {
       few_rules = subst (λ (n : ℕ). n ≤ most_rules) rules_is (leb-true two.0 most_rules r.1);
-      few_tries = subst (λ (n : ℕ). n ≤ most_tries) tries_is (leb-true three.0 most_tries t.1);
+      few_tries = subst (λ (n : ℕ). n ≤ max_tries) tries_is (leb-true three.0 max_tries t.1);
       few_rows = subst (λ (n : ℕ). row_len * (n + 1) ≤ max_words) rows_is
           (leb-true (row_len * (four.0 + 1)) max_words w.1);
       text = counts_text bytes at family c
@@ -192,7 +192,7 @@ of_version One key_len taken from kept roots lens table s keys same = rw (keys, 
 of_version Two key_len taken from kept roots lens table s keys same = refl
 
 saved : (version : Version) (key_len : ℕ) (c : Counts) (tries : TriesView) (words : List ℕ) (rows : List (List ℕ)) →
-    is_key_len key_len ≡ true → c.rules ≤ most_rules → c.tries ≤ most_tries → row_len * (c.rows + 1) ≤ max_words →
+    is_key_len key_len ≡ true → c.rules ≤ most_rules → c.tries ≤ max_tries → row_len * (c.rows + 1) ≤ max_words →
     length tries.kept ≡ c.tries →
     AreSound version key_len (row_len * (c.rows + 1)) 0 tries.kept tries.roots tries.level_lens →
     length words ≡ sum tries.level_lens → length rows ≡ c.rows →
@@ -207,7 +207,7 @@ saved version key_len c tries words rows keyed few_rules few_tries few_rows coun
     let shape : is_shaped table ≡ true =
     and_from _ _ (and_from _ _ (and_from _ _ (and_from _ _ (and_from _ _ (and_from _ _ (and_from _ _
     (eq-eqb (length table.kept) (length table.roots) s.same)
-    (le-leb (length table.roots) most_tries (omega (arith, s.same, count)))) keyed) s.keeps)
+    (le-leb (length table.roots) max_tries (omega (arith, s.same, count)))) keyed) s.keeps)
     (eq-eqb (length table.level_lens) (sum (depths_of table)) s.levels))
     (eq-eqb (length table.words) (sum table.level_lens) words_count)) (zeros_begin rows))
     (le-leb (length table.words + row_len * length table.rows) max_words (omega (arith, s.fit, words_count, rows_len)))

@@ -7,8 +7,8 @@ use Rattle.std.proofs.lemmas.List.{append-nil}
 use Rattle.std.proofs.lemmas.Bool.{and_parts, lt-ltb, le-leb, eq-eqb, eqb-true}
 use Rattle.flat_table.specs.Groups.{groups_of, depth_of}
 use Rattle.flat_table.specs.Table.{TableView, trie_levels}
-use Rattle.flat_table.specs.Sound.{most_tries, begins_with_zeros}
-use Rattle.table_sizes.specs.Sizes.{max_words, row_len}
+use Rattle.flat_table.specs.Sound.{begins_with_zeros}
+use Rattle.table_sizes.specs.Sizes.{max_tries, max_words, row_len}
 use Rattle.flat_table.proofs.Offered.{IsSound, sound_parts}
 use Rattle.table_image.specs.declared.version.Version.{Version}
 use Rattle.table_image.specs.declared.version.Version.TheVariants.{One, Two}
@@ -35,13 +35,13 @@ record CountsOf (family : ℕ) (bytes : List ℕ) (at : ℕ) (c : Counts) (rest 
   pub within : at + 16 ≤ length bytes
 
 counts_spelled : (family : ℕ) (bytes : List ℕ) (at : ℕ) (c : Counts) (rest : List ℕ) → fits short family ≡ true →
-    c.rules ≤ most_rules → c.tries ≤ most_tries → row_len * (c.rows + 1) ≤ max_words →
+    c.rules ≤ most_rules → c.tries ≤ max_tries → row_len * (c.rows + 1) ≤ max_words →
     drop at bytes ≡ spelled short family
     ++ (spelled short c.rules ++ (spelled short c.tries ++ (spelled short c.rows ++ rest))) →
     CountsOf family bytes at c rest
 counts_spelled family bytes at c rest small few_rules few_tries few_rows e =
     let rules_test : ℕ → Bool = λ number. nat_le number most_rules in
-    let tries_test : ℕ → Bool = λ number. nat_le number most_tries in
+    let tries_test : ℕ → Bool = λ number. nat_le number max_tries in
     let rows_test : ℕ → Bool = λ number. nat_le (row_len * (number + 1)) max_words in
     let made : ℕ → ℕ → ℕ → Counts = λ rules tries rows. record { rules = rules; tries = tries; rows = rows } in
     let three : List ℕ = spelled short c.rows ++ rest in
@@ -57,7 +57,7 @@ counts_spelled family bytes at c rest small few_rules few_tries few_rows e =
     let rules_read = tested_spelled TooMany short rules_test bytes (at + 4) c.rules two (omega arith) rules_text
     (lt-ltb c.rules (256 ^ short) (omega arith)) (le-leb c.rules most_rules few_rules) in
     let tries_read = tested_spelled TooMany short tries_test bytes (at + 8) c.tries three (omega arith) tries_text
-    (lt-ltb c.tries (256 ^ short) (omega arith)) (le-leb c.tries most_tries few_tries) in
+    (lt-ltb c.tries (256 ^ short) (omega arith)) (le-leb c.tries max_tries few_tries) in
     let rows_read = tested_spelled TooMany short rows_test bytes (at + 12) c.rows rest (omega arith) rows_text
     (lt-ltb c.rows (256 ^ short) (omega arith)) (le-leb (row_len * (c.rows + 1)) max_words few_rows) in
     record {

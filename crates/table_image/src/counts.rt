@@ -1,18 +1,16 @@
 //! The numbers that an image has before the tries of a table.
 
 ghost use Rattle.std.specs.Prelude.{◌≡◌, ◌+◌, ◌*◌, ◌≤◌, length, nat_le, IfOk, IfErr, Ok, Err};
-ghost use Rattle.flat_table.specs.Sound.{most_tries};
-ghost use Rattle.table_sizes.specs.Sizes.{max_words, row_len};
+ghost use Rattle.table_sizes.specs.Sizes.{max_tries, max_words, row_len};
 ghost use Rattle.table_image.specs.Spelling.{most_rules};
 ghost use Rattle.table_image.specs.Reading.{counts};
 ghost use Rattle.table_image.specs.Loading.{counts_of};
 
 use crate::fault::{ImageFault, ImageKind};
 use crate::field::{checked, short};
-use flat_table::MAX_TRIES;
-use table_sizes::{MAX_WORDS, ROW_LEN};
+use table_sizes::{MAX_TRIES, MAX_WORDS, ROW_LEN};
 
-/// The most rules of a table.
+/// The most rules of a table in an image: as many as a set holds.
 pub const MAX_RULES: u32 = 262_144;
 
 /// How many rules, tries and rows a table has, row 0 not counted.
@@ -37,7 +35,7 @@ impl Counts {
         ensures ok { IfOk result (λ found. counts family bytes.now at ≡ Ok (counts_of found)) }
         ensures err { IfErr result (λ fault. counts family bytes.now at ≡ Err fault) }
         ensures rules { IfOk result (λ found. found.rules ≤ most_rules) }
-        ensures tries { IfOk result (λ found. found.tries ≤ most_tries) }
+        ensures tries { IfOk result (λ found. found.tries ≤ max_tries) }
         ensures rows { IfOk result (λ found. row_len * (found.rows + 1) ≤ max_words) }
         ensures inside { IfOk result (λ found. at + 16 ≤ length bytes.now) }
     {

@@ -25,6 +25,7 @@ mod tries;
 mod version;
 mod words;
 
+pub use counts::MAX_RULES;
 pub use fault::{ImageFault, ImageKind, LoadFault};
 pub use loading::load;
 pub use pair::TablePair;

@@ -9,12 +9,10 @@ ghost use Rattle.table_image.specs.Loading.{IsFaultOf, pair_of};
 use crate::fault::{ImageFault, ImageKind, LoadFault};
 use crate::field::{checked, short};
 use crate::pair::TablePair;
+use crate::saving::MAGIC;
 use crate::table::read_table;
 use crate::version::Version;
 use std::alloc::Global;
-
-/// `ACLT`.
-const MAGIC: u32 = 0x4143_4C54;
 
 /// The version of the number.
 fn version_of(number: u32) -> Version

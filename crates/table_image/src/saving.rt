@@ -15,8 +15,8 @@ use flat_table::Table;
 use std::alloc::{AllocError, Global};
 use table_sizes::ROW_LEN;
 
-/// `ACLT`.
-const MAGIC: u32 = 0x4143_4C54;
+/// `ACLT`, with which an image begins.
+pub(crate) const MAGIC: u32 = 0x4143_4C54;
 
 /// The version that is written.
 const VERSION: u32 = 2;

@@ -3,7 +3,7 @@
 ghost use Rattle.std.specs.Prelude.{◌≡◌, ◌+◌, ◌*◌, ◌-◌, ◌≤◌, ◌<◌, ◌^◌, length, sum, IfOk, IfErr, OnOk, Ok, Err, nat_le, IsTrue};
 ghost use Rattle.std.specs.Prelude.{[], ◌∷◌, ◌++◌};
 ghost use Rattle.flat_table.specs.Groups.{is_key_len, depth_of};
-ghost use Rattle.flat_table.specs.Sound.{most_tries, leads_into, first_level};
+ghost use Rattle.flat_table.specs.Sound.{leads_into, first_level};
 ghost use Rattle.flat_table.specs.Table.{levels_from};
 ghost use Rattle.table_sizes.specs.Sizes.{max_words};
 ghost use Rattle.table_image.specs.declared.fault.ImageKind.TheVariants.{TooMany, Unsound};

@@ -6,6 +6,11 @@ use Rattle.std.specs.Prelude.{ℕ, ◌==◌, nat_le, if◌then◌else◌}
 abbrev pub max_words : ℕ
 max_words = 67108864
 
+-- how many tries a table has at most, one for each group of rules, as DPDK's `lib/acl`, `acl.h`,
+-- has (RTE_ACL_MAX_TRIES)
+abbrev pub max_tries : ℕ
+max_tries = 8
+
 -- how many words a row has: one for each category
 abbrev pub row_len : ℕ
 row_len = 16

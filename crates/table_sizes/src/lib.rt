@@ -1,4 +1,5 @@
-//! nothing → how large a table may be, and how many words its rows and nodes take
+//! nothing → how large a table may be, how many tries it has, and how many words its rows and nodes
+//! take
 //!
 //! A table has words of 64 bits and rows of sixteen such words. What merges rules, fills a table
 //! and walks it agrees on these sizes, so they stand here alone, below all of them.
@@ -18,4 +19,4 @@
 pub mod laws;
 mod sizes;
 
-pub use sizes::{FEW_RUNS, FULL_LEN, MAX_WORDS, ROW_LEN, node_len};
+pub use sizes::{FEW_RUNS, FULL_LEN, MAX_TRIES, MAX_WORDS, ROW_LEN, node_len};

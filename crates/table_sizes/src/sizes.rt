@@ -6,6 +6,10 @@ ghost use Rattle.table_sizes.specs.Sizes.{cost_of, full_len};
 /// The most words of 64 bits that a table has, those of its rows counted: 512 MiB.
 pub const MAX_WORDS: usize = 67_108_864;
 
+/// The most tries that a table has: one for each group of rules (`RTE_ACL_MAX_TRIES` of DPDK's
+/// `lib/acl`, `acl.h`).
+pub const MAX_TRIES: usize = 8;
+
 /// How many words a row has: one for each of sixteen categories.
 pub const ROW_LEN: usize = 16;
 

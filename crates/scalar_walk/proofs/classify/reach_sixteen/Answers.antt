@@ -1,10 +1,10 @@
 use Rattle.std.proofs.Common.{◌+◌, ◌<◌, ℕ, arith, refl, sym, subst}
-use Rattle.flat_table.specs.Sound.{most_tries}
 use Rattle.flat_table.specs.Walk.{walk_transitions}
 use Rattle.flat_table.specs.Batch.{key_at}
 use Rattle.scalar_walk.specs.Rows.{Reaches}
 use Rattle.scalar_walk.proofs.Below.{sum_agree, sum_both, sum_zero}
 use Rattle.scalar_walk.proofs.Reached.{reaches_none, reaches_more, first_tries_transitions, first_tries_more}
+use Rattle.table_sizes.specs.Sizes.{max_tries}
 use Rattle.scalar_walk.proofs.classify.reach_sixteen.Goals as goal
 
 pub loop-trie-init : goal.loop-trie-init
@@ -19,7 +19,7 @@ loop-trie-preserved g c =
     let table = c.args.table.now in
     let l = c.loop-trie in
     let w = c.walk_sixteen-taken.ensures in
-    let few : l.trie < most_tries = omega arith in
+    let few : l.trie < max_tries = omega arith in
     let key = λ (k : ℕ). key_at table c.args.keys.now k in
     let so_far = λ (n k : ℕ). first_tries_transitions table (key k) n in (
       λ k h. subst (Reaches table (key k) (l.trie + 1)) (sym (c.put_rows.ensures k h))
