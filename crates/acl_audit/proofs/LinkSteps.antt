@@ -6,12 +6,12 @@ use Rattle.acl_audit.specs.declared.links.Link.{Link}
 use Rattle.acl_audit.specs.Links.{linked_with, runs_linked, states_linked, links_of}
 
 -- the links of one run more
-pub one_run_more : (links more all : List Link) (before byte next k : ℕ) (runs : List Run) (d : Run) → k < length runs
+pub one_run_more : (links more all : List Link) (before byte k : ℕ) (runs : List Run) (d : Run) → k < length runs
     → runs_linked links before byte (drop k runs) ≡ all
     → more ≡ linked_with links (record { before = before; byte = byte }) (get_or runs k d).to
-    → next ≡ ((get_or runs k d).last + 1) % 256 → runs_linked more before next (drop (k + 1) runs) ≡ all
-one_run_more links more all before byte next k runs d below so_far made next_is =
-    (λ i. runs_linked (made i) before (next_is i) (drop (k + 1) runs))
+    → runs_linked more before (((get_or runs k d).last + 1) % 256) (drop (k + 1) runs) ≡ all
+one_run_more links more all before byte k runs d below so_far made =
+    (λ i. runs_linked (made i) before (((get_or runs k d).last + 1) % 256) (drop (k + 1) runs))
     ∙ ap (runs_linked links before byte) (sym (drop_more runs k d below)) ∙ so_far
 
 -- those of all runs

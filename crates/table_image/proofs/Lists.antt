@@ -24,6 +24,11 @@ inside at bytes text rest begins e =
     let lens : length (drop at bytes) ≡ length text + length rest = ap length e ∙ length-append text rest in
     omega (arith, lens, length-drop at bytes)
 
+-- the rest of the bytes from a place on, which isn't beyond their end
+pub record RestAt (bytes : List ℕ) (at : ℕ) (rest : List ℕ) : Type 0 where
+  pub text : drop at bytes ≡ rest
+  pub within : at ≤ length bytes
+
 -- two parts, one after the other
 pub joined : {A : Type 0} (xs one other after rest : List A) → xs ≡ one ++ after → after ≡ other ++ rest →
     xs ≡ (one ++ other) ++ rest

@@ -15,7 +15,7 @@ use Rattle.table_image.specs.declared.fault.ImageKind.TheVariants.{Length}
 use Rattle.table_image.specs.Spelling.{spelled, all_spelled}
 use Rattle.table_image.specs.Reading.{checked, field, tested, numbers_after, level_fits}
 use Rattle.table_image.proofs.Fields.{AreBytes, spelled_again, length_spelled, read_again, fold_below}
-use Rattle.table_image.proofs.Lists.{after, within, joined, of_both, both, of_check, check_passed}
+use Rattle.table_image.proofs.Lists.{after, within, RestAt, joined, of_both, both, of_check, check_passed}
 
 -- a number of so many bytes
 abbrev pub fits : ℕ → ℕ → Bool
@@ -61,6 +61,16 @@ pub after_field : (size : ℕ) (bytes : List ℕ) (at n : ℕ) (rest : List ℕ)
     drop (at + size) bytes ≡ rest
 after_field size bytes at n rest e = ap (λ k. drop (at + k) bytes) (sym (length_spelled size n))
     ∙ after at bytes (spelled size n) rest e
+
+-- the field's end isn't beyond that of the bytes, and the rest stands there
+pub rest_after : (size : ℕ) (bytes : List ℕ) (at n : ℕ) (rest : List ℕ) → 0 < size →
+    drop at bytes ≡ spelled size n ++ rest → RestAt bytes (at + size) rest
+rest_after size bytes at n rest some e =
+    let len = length_spelled size n in
+    record {
+      text = after_field size bytes at n rest e;
+      within = omega (arith, len, within at bytes (spelled size n) rest e (omega (arith, len)));
+    }
 
 -- a field with a test
 pub tested_read : (kind : ImageKind) (size : ℕ) (test : ℕ → Bool) (bytes : List ℕ) (at n : ℕ) → AreBytes bytes →

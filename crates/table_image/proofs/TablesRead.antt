@@ -191,39 +191,34 @@ of_version : (version : Version) (key_len taken from : ℕ) (kept roots lens : L
 of_version One key_len taken from kept roots lens table s keys same = rw (keys, same) (s.groups refl)
 of_version Two key_len taken from kept roots lens table s keys same = refl
 
-saved : (version : Version) (key_len : ℕ) (c : Counts) (tries : TriesView) (words : List ℕ) (rows : List (List ℕ)) →
-    is_key_len key_len ≡ true → c.rules ≤ most_rules → c.tries ≤ max_tries → row_len * (c.rows + 1) ≤ max_words →
-    length tries.kept ≡ c.tries →
+-- a table can be saved whose numbers, lawful tries, words and rows were read
+saved : {family at : ℕ} {bytes : List ℕ} {read : TableRead} (version : Version) (key_len : ℕ) (c : Counts)
+    (tries : TriesView) → is_key_len key_len ≡ true → CountsAt family bytes at c → length tries.kept ≡ c.tries →
     AreSound version key_len (row_len * (c.rows + 1)) 0 tries.kept tries.roots tries.level_lens →
-    length words ≡ sum tries.level_lens → length rows ≡ c.rows →
-    tries_fault (c.rows + 1) (trie_levels (table_of key_len c.rules tries [] [])) words ≡ None →
-    list_all (fits long) words ≡ true → list_all (list_all (is_row_word c.rules)) rows ≡ true →
-    list_all is_row rows ≡ true →
-    IsSaved version key_len (table_of key_len c.rules tries words rows)
-saved version key_len c tries words rows keyed few_rules few_tries few_rows count s words_count rows_count sound small
-    ranked typed =
-    let table : TableView = table_of key_len c.rules tries words rows in
-    let rows_len : length table.rows ≡ c.rows + 1 = omega (arith, rows_count) in
+    TailAt key_len bytes c tries read → IsSaved version key_len read.table
+saved version key_len c tries keyed front count s back =
+    let table : TableView = table_of key_len c.rules tries back.words back.rows in
+    let rows_len : length table.rows ≡ c.rows + 1 = omega (arith, back.rows_count) in
     let shape : is_shaped table ≡ true =
     and_from _ _ (and_from _ _ (and_from _ _ (and_from _ _ (and_from _ _ (and_from _ _ (and_from _ _
     (eq-eqb (length table.kept) (length table.roots) s.same)
-    (le-leb (length table.roots) max_tries (omega (arith, s.same, count)))) keyed) s.keeps)
+    (le-leb (length table.roots) max_tries (omega (arith, s.same, count, front.few_tries)))) keyed) s.keeps)
     (eq-eqb (length table.level_lens) (sum (depths_of table)) s.levels))
-    (eq-eqb (length table.words) (sum table.level_lens) words_count)) (zeros_begin rows))
-    (le-leb (length table.words + row_len * length table.rows) max_words (omega (arith, s.fit, words_count, rows_len)))
+    (eq-eqb (length table.words) (sum table.level_lens) back.words_count)) (zeros_begin back.rows))
+    (le-leb (length table.words + row_len * length table.rows) max_words
+    (omega (arith, s.fit, back.words_count, rows_len)))
     in
-    record {
+    rw back.is (record {
       sound = sound_of table shape (none_found root_leads 0 (zip table.roots (trie_levels table)) s.leads)
-          (ap (λ n. tries_fault n (trie_levels table) words) rows_len ∙ sound);
-      saved = record { keys = refl; few = few_rules; ranked = ranked };
+          (ap (λ n. tries_fault n (trie_levels table) back.words) rows_len ∙ back.sound);
+      saved = record { keys = refl; few = front.few_rules; ranked = back.ranked };
       typed = record {
         roots = s.small;
-        words = small;
-        rows = and_from (is_row no_rule) (list_all is_row rows)
-            zeros_are_row typed;
+        words = back.small;
+        rows = and_from (is_row no_rule) (list_all is_row back.rows) zeros_are_row back.typed;
       };
       groups = of_version version key_len _ _ _ _ _ table s refl refl;
-    }
+    })
 
 pub table_at : (version : Version) (family key_len : ℕ) (bytes : List ℕ) (at : ℕ) (read : TableRead) → AreBytes bytes →
     is_key_len key_len ≡ true → table_read version family key_len bytes at ≡ Ok read →
@@ -247,9 +242,6 @@ table_at version family key_len bytes at read are keyed e =
     let back = tail_read key_len bytes c tries read are s.levels two.2 in
     let count : length tries.kept ≡ c.tries = ap length t.kept_are ∙ t.count_is in
     let table : TableView = table_of key_len c.rules tries back.words back.rows in
-    let is : IsSaved version key_len table = saved version key_len c tries back.words back.rows keyed front.few_rules
-    front.few_tries
-    front.few_rows count s back.words_count back.rows_count back.sound back.small back.ranked back.typed in
     let tries_text : drop (at + 16) bytes ≡ spelled_tries version key_len tries.kept tries.roots tries.level_lens
     ++ drop tries.end bytes =
     t.text ∙ ap (λ xs. spelled_tries version key_len xs t.roots t.lens ++ drop tries.end bytes) (sym t.kept_are)
@@ -273,5 +265,5 @@ table_at version family key_len bytes at read are keyed e =
     rw (tries_is, rows_is) (simp append_assoc) in
     record {
       text = whole ∙ sym spelling ∙ ap (λ t. spelled_table version family t ++ drop read.end bytes) (sym back.is);
-      is = rw back.is is;
+      is = saved version key_len c tries keyed front count s back;
     }

@@ -1,6 +1,7 @@
 -- A table that is spelled and can be saved is read.
 use Rattle.std.proofs.Common.{◌≡◌, ℕ, zero, suc, ◌+◌, ◌-◌, ◌*◌, ◌^◌, ◌≤◌, List, [], ◌∷◌, ◌++◌, length, drop, map, replicate}
-use Rattle.std.proofs.Common.{refl, sym, ap, ◌∙◌, arith, Bool, true, append_assoc, Ok, None}
+use Rattle.std.proofs.Common.{refl, sym, ap, ◌∙◌, arith, Bool, true, append_assoc, subst, Ok, None}
+use Rattle.std.proofs.Math.Nat.{add_assoc}
 use Rattle.std.specs.Prelude.{◌==◌, nat_le}
 use Rattle.std.specs.List.{list_all, flat_map, zip}
 use Rattle.std.proofs.lemmas.List.{append-nil}
@@ -15,9 +16,8 @@ use Rattle.table_image.specs.declared.version.Version.TheVariants.{One, Two}
 use Rattle.table_image.specs.declared.fault.ImageKind.TheVariants.{Family, TooMany}
 use Rattle.table_image.specs.Spelling.{most_rules, short, long, spelled, all_spelled, spelled_tries, spelled_table, is_of_version, all_groups, is_row, IsSaved}
 use Rattle.table_image.specs.Reading.{◌>>=◌, tested, Counts, counts, TriesView, no_tries, tries_after, words_of_tries, rows_after, row_bytes, no_rule, table_of, TableRead, words_and_rows, table_read}
-use Rattle.table_image.proofs.Fields.{length_spelled}
-use Rattle.table_image.proofs.Lists.{after, within, inside, both}
-use Rattle.table_image.proofs.NumbersRead.{fits, tested_spelled, after_field, length-all_spelled}
+use Rattle.table_image.proofs.Lists.{after, inside, RestAt, both}
+use Rattle.table_image.proofs.NumbersRead.{fits, tested_spelled, after_field, rest_after, length-all_spelled}
 use Rattle.table_image.proofs.WordsRead.{tries_fault, none_fails}
 use Rattle.table_image.proofs.WordsSpelled.{Spelled, tries_words_spelled}
 use Rattle.table_image.proofs.TriesSpelled.{with_tries, tries_spelled}
@@ -31,8 +31,7 @@ counts_of table = record { rules = table.rules; tries = length table.roots; rows
 -- they were read, and this stands after them
 record CountsOf (family : ℕ) (bytes : List ℕ) (at : ℕ) (c : Counts) (rest : List ℕ) : Type 0 where
   pub read : counts family bytes at ≡ Ok c
-  pub next : drop (at + 16) bytes ≡ rest
-  pub within : at + 16 ≤ length bytes
+  pub next : RestAt bytes (at + 16) rest
 
 counts_spelled : (family : ℕ) (bytes : List ℕ) (at : ℕ) (c : Counts) (rest : List ℕ) → fits short family ≡ true →
     c.rules ≤ most_rules → c.tries ≤ max_tries → row_len * (c.rows + 1) ≤ max_words →
@@ -73,12 +72,8 @@ counts_spelled family bytes at c rest small few_rules few_tries few_rows e =
           tries_read
           (both (tested TooMany short rows_test bytes (at + 12)) (λ rows. Ok (made c.rules c.tries rows)) c.rows _
           rows_read refl)));
-      next = ap (λ k. drop k bytes) (omega arith) ∙ after_field short bytes (at + 12) c.rows rest rows_text;
-      within = omega (
-        arith,
-        within (at + 12) bytes (spelled short c.rows) rest rows_text (omega (arith, length_spelled short c.rows)),
-        length_spelled short c.rows,
-      );
+      next = subst (λ k. RestAt bytes k rest) (add_assoc at 12 short)
+          (rest_after short bytes (at + 12) c.rows rest (omega arith) rows_text);
     }
 
 -- a row of so many zeros
@@ -157,25 +152,24 @@ table_spelled version family bytes at table rest small few is e =
       leads = none_fails root_leads 0 (zip table.roots (trie_levels table)) sound.roots;
       small = is.typed.roots;
     } in
-    let t = tries_spelled version key_len taken bytes (no_tries (at + 16)) table.kept table.roots table.level_lens
-    words_rest few
-    front.within (sound_are version key_len taken 0 table.kept table.roots table.level_lens s) front.next in
+    let t = tries_spelled version key_len taken (no_tries (at + 16)) table.kept table.roots table.level_lens
+    words_rest few (sound_are version key_len taken 0 table.kept table.roots table.level_lens s) front.next in
     let tries : TriesView = with_tries (no_tries (at + 16)) table.kept table.roots table.level_lens t.end in
     let tries_count : length table.kept ≡ c.tries = shape.same in
-    let words_text : Spelled bytes t.end [] table.words rows_rest = record {
-      text = ap (λ k. drop k bytes) (omega arith) ∙ t.next;
+    let words_text : Spelled bytes t.end 0 [] table.words rows_rest = record {
+      place = refl;
+      text = ap (λ k. drop k bytes) (omega arith) ∙ t.next.text;
       small = is.typed.words;
     } in
     let words_sound : tries_fault (c.rows + 1) (trie_levels table) ([] ++ (table.words ++ [])) ≡ None =
     ap (tries_fault (c.rows + 1) (trie_levels table)) (append-nil table.words)
     ∙ ap (λ n. tries_fault n (trie_levels table) table.words) b.some ∙ sound.words in
-    let words = tries_words_spelled (c.rows + 1) bytes t.end (map (depth_of key_len) table.kept) table.level_lens 0 []
-    table.words []
-    rows_rest refl shape.levels shape.words words_text words_sound in
+    let words = tries_words_spelled (c.rows + 1) bytes t.end (map (depth_of key_len) table.kept) table.level_lens
+    table.words [] shape.levels shape.words words_text words_sound in
     let rows_from : ℕ = t.end + long * length table.words in
     let rows_text : drop rows_from bytes ≡ rows_rest =
     ap (λ k. drop k bytes) (omega (arith, length-all_spelled long table.words))
-    ∙ after t.end bytes (all_spelled long table.words) rows_rest t.next in
+    ∙ after t.end bytes (all_spelled long table.words) rows_rest t.next.text in
     let none : List (List ℕ) = [] in
     let rows_at : drop (rows_from + row_bytes * length none) bytes ≡ rows_rest = ap (λ k. drop k bytes) (omega arith)
     ∙ rows_text in
@@ -216,7 +210,7 @@ table_spelled version family bytes at table rest small few is e =
         arith,
         inside rows_from bytes rows_bytes rest (omega (
           arith,
-          inside t.end bytes (all_spelled long table.words) rows_rest t.within t.next,
+          inside t.end bytes (all_spelled long table.words) rows_rest t.next.within t.next.text,
           length-all_spelled long table.words,
         )) rows_text,
         length-rows rows b.typed,

@@ -17,9 +17,8 @@ use Rattle.table_image.specs.declared.version.Version.TheVariants.{One, Two}
 use Rattle.table_image.specs.declared.fault.ImageKind.TheVariants.{TooMany, Unsound, KeptGroups}
 use Rattle.table_image.specs.Spelling.{short, long, kept_len, spelled, all_spelled, spelled_kept, spelled_trie, spelled_tries, all_groups}
 use Rattle.table_image.specs.Reading.{◌>>=◌, TriesView, tested, numbers, level_fits, kept_groups, trie_of, one_trie, tries_after}
-use Rattle.table_image.proofs.Fields.{length_spelled}
-use Rattle.table_image.proofs.Lists.{after, within, both}
-use Rattle.table_image.proofs.NumbersRead.{fits, tested_spelled, after_field, AllTested, numbers_spelled, length-all_spelled}
+use Rattle.table_image.proofs.Lists.{after, RestAt, both}
+use Rattle.table_image.proofs.NumbersRead.{fits, tested_spelled, after_field, rest_after, AllTested, numbers_spelled, length-all_spelled}
 use Rattle.table_image.proofs.TriesRead.{IsTrie, AreTries, small_lens}
 
 -- the kept groups of a trie, and what stands after them
@@ -83,8 +82,7 @@ record TrieOf (version : Version) (key_len taken : ℕ) (bytes : List ℕ) (trie
     : Type 0 where
   pub end : ℕ
   pub read : one_trie version key_len taken bytes tries ≡ Ok (with_trie tries kept root own end)
-  pub next : drop end bytes ≡ rest
-  pub within : end ≤ length bytes
+  pub next : RestAt bytes end rest
 
 one_spelled : (version : Version) (key_len taken : ℕ) (bytes : List ℕ) (tries : TriesView) (kept root : ℕ)
     (own rest : List ℕ) →
@@ -129,12 +127,7 @@ one_spelled version key_len taken bytes tries kept root own rest few is e =
           >>= λ r. Ok (with_trie tries kept r ls end)) own _ lens
           (both (tested Unsound long (leads_into (first_level (levels_from (sum tries.level_lens) own))) bytes root_at)
           (λ r. Ok (with_trie tries kept r own end)) root _ root_read refl));
-      next = after_field long bytes root_at root rest root_text;
-      within = omega (
-        arith,
-        within root_at bytes (spelled long root) rest root_text (omega (arith, length_spelled long root)),
-        length_spelled long root,
-      );
+      next = rest_after long bytes root_at root rest (omega arith) root_text;
     }
 
 -- tries after others
@@ -152,39 +145,38 @@ pub record TriesOf (version : Version) (key_len taken : ℕ) (bytes : List ℕ) 
     : Type 0 where
   pub end : ℕ
   pub read : tries_after version key_len taken bytes (length kept) tries ≡ Ok (with_tries tries kept roots lens end)
-  pub next : drop end bytes ≡ rest
-  pub within : end ≤ length bytes
+  pub next : RestAt bytes end rest
 
-pub tries_spelled : (version : Version) (key_len taken : ℕ) (bytes : List ℕ) (tries : TriesView)
-    (kept roots lens rest : List ℕ) →
-    2 ^ groups_of key_len ≤ 256 ^ short → tries.end ≤ length bytes →
+-- lawful tries that stand at the end of others are read
+pub tries_spelled : {bytes : List ℕ} (version : Version) (key_len taken : ℕ) (tries : TriesView)
+    (kept roots lens rest : List ℕ) → 2 ^ groups_of key_len ≤ 256 ^ short →
     AreTries version key_len taken (sum tries.level_lens) kept roots lens →
-    drop tries.end bytes ≡ spelled_tries version key_len kept roots lens ++ rest →
+    RestAt bytes tries.end (spelled_tries version key_len kept roots lens ++ rest) →
     TriesOf version key_len taken bytes tries kept roots lens rest
 unfolding tries_after
-tries_spelled version key_len taken bytes tries [] [] lens rest few begins are e = record {
+tries_spelled version key_len taken tries [] [] lens rest few are s = record {
   end = tries.end;
   read = ap Ok (λ i. with_tries_at (sym (append-nil tries.kept) i) (sym (append-nil tries.roots) i)
       ((sym (append-nil tries.level_lens) ∙ ap (λ xs. tries.level_lens ++ xs) (sym are)) i));
-  next = e;
-  within = begins;
+  next = s;
 }
   where
     with_tries_at : List ℕ → List ℕ → List ℕ → TriesView
     with_tries_at kept roots lens = record { kept = kept; roots = roots; level_lens = lens; end = tries.end }
-tries_spelled version key_len taken bytes tries [] (root ∷ roots) lens rest few begins are e = absurd are
-tries_spelled version key_len taken bytes tries (kept ∷ others) [] lens rest few begins are e = absurd are
-tries_spelled version key_len taken bytes tries (kept ∷ others) (root ∷ roots) lens rest few begins are e =
+tries_spelled version key_len taken tries [] (root ∷ roots) lens rest few are s = absurd are
+tries_spelled version key_len taken tries (kept ∷ others) [] lens rest few are s = absurd are
+tries_spelled {bytes = bytes} version key_len taken tries (kept ∷ others) (root ∷ roots) lens rest few are s =
     let d : ℕ = depth_of key_len kept in
     let own : List ℕ = take d lens in
     let back : List ℕ = drop d lens in
     let after_it : List ℕ = spelled_tries version key_len others roots back ++ rest in
     let here = one_spelled version key_len taken bytes tries kept root own after_it few are.0
-    (e ∙ append_assoc (spelled_trie version kept own root) (spelled_tries version key_len others roots back) rest) in
+    (s.text ∙ append_assoc (spelled_trie version kept own root) (spelled_tries version key_len others roots back) rest)
+    in
     let more : TriesView = with_trie tries kept root own here.end in
     let from : sum tries.level_lens + sum own ≡ sum (tries.level_lens ++ own) =
     sym (sum_by-append (λ n. n) tries.level_lens own) in
-    let left = tries_spelled version key_len taken bytes more others roots back rest few here.within
+    let left = tries_spelled version key_len taken more others roots back rest few
     (subst (λ k. AreTries version key_len taken k others roots back) from are.1) here.next in
     let kept_is = append_assoc tries.kept (kept ∷ []) others in
     let roots_is = append_assoc tries.roots (root ∷ []) roots in
@@ -196,7 +188,6 @@ tries_spelled version key_len taken bytes tries (kept ∷ others) (root ∷ root
           more _
           here.read (left.read ∙ ap Ok (λ i. tries_at left.end (kept_is i) (roots_is i) (lens_is i)));
       next = left.next;
-      within = left.within;
     }
   where
     tries_at : ℕ → List ℕ → List ℕ → List ℕ → TriesView

@@ -16,7 +16,7 @@ use Rattle.table_image.specs.declared.fault.ImageKind.TheVariants.{Unsound}
 use Rattle.table_image.specs.Spelling.{long, spelled, all_spelled}
 use Rattle.table_image.specs.Reading.{numbers_after, words_of_levels, words_of_tries}
 use Rattle.table_image.proofs.Fields.{AreBytes}
-use Rattle.table_image.proofs.Lists.{joined, of_both, both}
+use Rattle.table_image.proofs.Lists.{joined, of_both}
 use Rattle.table_image.proofs.NumbersRead.{fits, numbers_read, tested_all}
 
 -- where each number passes a test, none is found that fails it
@@ -62,10 +62,11 @@ pub record WordsAt (bytes : List ℕ) (from words : ℕ) (first all : List ℕ) 
   pub sound : (later : List ℕ) → fault (first ++ (more ++ later)) ≡ None
 
 -- words, and after them others
-words_joined : (bytes : List ℕ) (from n m : ℕ) (first mid all : List ℕ) (one other both : List ℕ → Option ℕ) →
+words_joined : {n m : ℕ} {all : List ℕ} {one other both : List ℕ → Option ℕ} (bytes : List ℕ) (from : ℕ)
+    (first mid : List ℕ) → WordsAt bytes from n first mid one → WordsAt bytes from m mid all other →
     ((words : List ℕ) → one words ≡ None → other words ≡ None → both words ≡ None) →
-    WordsAt bytes from n first mid one → WordsAt bytes from m mid all other → WordsAt bytes from (n + m) first all both
-words_joined bytes from n m first mid all one other both and here rest =
+    WordsAt bytes from (n + m) first all both
+words_joined {n = n} {m = m} {one = one} {other = other} bytes from first mid here rest and =
     let len : length mid ≡ length first + n = ap length here.are ∙ length-append first here.more
     ∙ omega (arith, here.count_is) in
     let text : drop (from + long * (length first + n)) bytes
@@ -136,10 +137,8 @@ words_read rows bytes from (len ∷ lens) p first all are place e =
           ∙ none_found test p here.more (tested_all test first here.more here.pass);
     } in
     rw (sum_by-cons (λ n. n) len lens)
-    (words_joined bytes from len (sum lens) first parts.0 all (level_fault rows level levels)
-    (λ words. unsound_word rows words levels) (λ words. unsound_word rows words (level ∷ levels))
-    (λ words one other. none_both (level_fault rows level levels words) (unsound_word rows words levels) one other) read
-    rest)
+    (words_joined bytes from first parts.0 read rest
+    (λ words. none_both (level_fault rows level levels words) (unsound_word rows words levels)))
 
 -- the fault of the words of tries
 abbrev pub tries_fault : ℕ → List (List Level) → List ℕ → Option ℕ
@@ -181,11 +180,8 @@ tries_words_read rows bytes from (depth ∷ depths) lens p first all are place c
     (ap (λ levels. words_of_tries rows bytes from (portions depths levels) parts.0) (sym (levels-drop depth p lens))
     ∙ parts.2) in
     rw (← sums)
-    (words_joined bytes from (sum own) (sum others) first parts.0 all
-    (λ words. unsound_word rows words (levels_from p own))
-    (tries_fault rows (portions depths (levels_from (p + sum own) others)))
-    (tries_fault rows (portions (depth ∷ depths) (levels_from p lens)))
+    (words_joined bytes from first parts.0 here rest
     (λ words one other. none_both (unsound_word rows words (take depth (levels_from p lens)))
     (tries_fault rows (portions depths (drop depth (levels_from p lens))) words)
     (ap (unsound_word rows words) (levels-take depth p lens) ∙ one)
-    (ap (λ levels. tries_fault rows (portions depths levels) words) (levels-drop depth p lens) ∙ other)) here rest)
+    (ap (λ levels. tries_fault rows (portions depths levels) words) (levels-drop depth p lens) ∙ other)))

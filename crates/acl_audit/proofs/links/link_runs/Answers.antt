@@ -1,4 +1,3 @@
-use Rattle.std.proofs.Common.{refl}
 use Rattle.group_states.specs.declared.run.Run.{Run}
 use Rattle.group_states.specs.declared.run.Succ.TheVariants.{Dead}
 use Rattle.acl_audit.proofs.LinkSteps.{one_run_more, all_runs}
@@ -8,8 +7,8 @@ pub loop-run-preserved : goal.loop-run-preserved
 loop-run-preserved c =
     let l = c.loop-run in
     let none : Run = record { last = 0; to = Dead } in
-    one_run_more l.links.items c.push_link.new.links.items _ c.args.before l.byte _ l.run-index c.args.runs.now none
-    c.loop-run-test.true l.invariant c.in_ok-push_link.ensures refl
+    one_run_more l.links.items c.push_link.new.links.items _ c.args.before l.byte l.run-index c.args.runs.now none
+    c.loop-run-test.true l.invariant c.in_ok-push_link.ensures
 
 pub returns : goal.returns
 returns c =
