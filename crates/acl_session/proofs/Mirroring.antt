@@ -1,7 +1,7 @@
 -- What each call makes of the state, and of what mirrors it.
 use Rattle.std.proofs.Common.{◌≡◌, ℕ, ◌+◌, ◌<◌, ◌≤◌, List, [], ◌∷◌, ◌++◌, length, Bool, true, false, Option, Some, None}
 use Rattle.std.proofs.Common.{Result, Ok, Err, refl, sym, ap, subst, ◌∙◌, nat_le}
-use Rattle.std.specs.Prelude.{OnOk, OnErr, IfErr, if◌then◌else◌}
+use Rattle.std.specs.Prelude.{OnOk, if◌then◌else◌}
 use Rattle.std.specs.Option.{option_map}
 use Rattle.std.proofs.lemmas.Bool.{le-leb, lt-leb}
 use Rattle.field_defs.specs.declared.field.FieldDef.{FieldDef}
@@ -24,8 +24,8 @@ use Rattle.session_lines.specs.declared.verb.Verb.{Verb}
 use Rattle.session_lines.specs.Command.{Command, command_of, placed, said_to, verb_named}
 use Rattle.session_lines.specs.Reading.{◌>>=◌, Read, are_none, ended, next_word, read_of}
 use Rattle.acl_session.specs.State.{Held, HeldAnswer, State, set_of}
-use Rattle.session_lines.specs.Replies.{bad_line_text, full_text, layout_fault_text, no_context_text, ok_text, rule_fault_text}
-use Rattle.session_lines.specs.Replies.{too_large_text, too_many_text}
+use Rattle.session_lines.specs.Replies.{bad_line_text, full_text, layout_fault_text, no_context_text, ok_text}
+use Rattle.session_lines.specs.Replies.{rule_fault_text, too_large_text, too_many_text}
 use Rattle.acl_session.specs.Session.{added, added_unless, built, cleared, collected, new_context, on_context, opened}
 use Rattle.acl_session.specs.Session.{said, step, step_if, within, without_rules}
 use Rattle.acl_session.specs.Mirrors.{Answers, AnswersHeld, Holds, IsAnswered, IsHeld, Mirrors}
@@ -49,30 +49,23 @@ nothing_said old new before after words none same text = λ state mirrors.
     subst (λ (w : Option Command). IsAnswered (step_if state w) new before after) (sym none)
     (record { state = subst (Mirrors state) (sym same) mirrors; text = text })
 
-called_within : (call : Held → HeldAnswer) (state : State) (held : Option Held) (old new : Made)
-    (context next : ContextView) (before after : List ℕ) → old.collected ≡ state.collected → IsHeld held old.context
-    → old.context ≡ Some context → new ≡ record old { context = Some next }
-    → AnswersHeld call context next before after → IsAnswered (within state call held) new before after
-called_within call state None old new context next before after defs is there now answers =
-    absurd (subst (λ c. IsHeld None c) there is)
-called_within call state (Some held) old new context next before after defs is there now answers =
-    let answered = answers held (subst (λ c. IsHeld (Some held) c) there is) in
-    record {
-      state = record {
-        collected = ap (λ (made : Made). made.collected) now ∙ defs;
-        context = subst (λ c. IsHeld (Some (call held).held) c) (sym (ap (λ (made : Made). made.context) now))
-            answered.held;
-      };
-      text = answered.text;
-    }
+-- a call on the context answers, where what it finds is held
+called_within : (call : Held → HeldAnswer) (state : State) (held : Option Held) (old : Made)
+    (context next : ContextView) (before after : List ℕ) → old.collected ≡ state.collected
+    → IsHeld held (Some context) → AnswersHeld call context next before after
+    → IsAnswered (within state call held) (record old { context = Some next }) before after
+called_within call state None old context next before after defs is answers = absurd is
+called_within call state (Some held) old context next before after defs is answers =
+    let answered = answers held is in
+    record { state = record { collected = defs; context = answered.held }; text = answered.text }
 
 -- a call on the context, which is there
 pub called : (call : Held → HeldAnswer) (old new : Made) (context next : ContextView) (before after : List ℕ)
     → old.context ≡ Some context → new ≡ record old { context = Some next }
     → AnswersHeld call context next before after → Answers (λ state. on_context state call) old new before after
 called call old new context next before after there now answers = λ state mirrors.
-    called_within call state state.context old new context next before after mirrors.collected mirrors.context there now
-    answers
+    rw now (called_within call state state.context old context next before after mirrors.collected
+    (subst (λ c. IsHeld state.context c) there mirrors.context) answers)
 
 missing_within : (call : Held → HeldAnswer) (state : State) (held : Option Held) (old new : Made)
     (before after : List ℕ) → Mirrors state old → IsHeld held old.context → old.context ≡ None → new ≡ old
@@ -203,35 +196,7 @@ record IsTold (answer : HeldAnswer) (new : ContextView) (text : List ℕ) : Type
 abbrev reason : Bool → Option RuleFault → Option AddFault
 reason room fault = first_of (fault_unless room Full ∷ option_map (RuleRefused 0) fault ∷ [])
 
-added_told : {T : Type 0} (rule : RuleView) (held : Held) (old new : ContextView) (room : Bool)
-    (fault : Option RuleFault) (result : Result T AddFault) → Holds held old
-    → ((f : AddFault) → reason room fault ≡ Some f → result ≡ Err f)
-    → (reason room fault ≡ None → IfErr result (λ f. f ≡ OutOfMemory))
-    → OnOk result (new ≡ with_rules old (old.set.rules ++ rule ∷ [])) → OnErr result (new ≡ old)
-    → (result ≡ Err OutOfMemory → ⊥)
-    → IsTold (if room then added_unless held rule fault else said held full_text) new (told result)
-added_told rule held old new false fault (Ok done) holds refused lawful adds kept memory =
-    absurd (let e = refused Full refl in cc)
-added_told rule held old new false fault (Err found) holds refused lawful adds kept memory =
-    record { held = subst (Holds held) (sym kept) holds; says = sym (ap told (refused Full refl)) }
-added_told rule held old new true (Some fault) (Ok done) holds refused lawful adds kept memory =
-    absurd (let e = refused (RuleRefused 0 fault) refl in cc)
-added_told rule held old new true (Some fault) (Err found) holds refused lawful adds kept memory =
-    record {
-      held = subst (Holds held) (sym kept) holds;
-      says = sym (ap told (refused (RuleRefused 0 fault) refl));
-    }
-added_told rule held old new true None (Ok done) holds refused lawful adds kept memory = record {
-  held = subst (Holds (added_unless held rule None).held) (sym adds) (record {
-    set = ap (λ (set : RuleSetView). record { layout = set.layout; rules = set.rules ++ rule ∷ [] }) holds.set;
-    limit = holds.limit;
-    table = holds.table;
-  });
-  says = refl;
-}
-added_told rule held old new true None (Err found) holds refused lawful adds kept memory =
-    absurd (memory (ap Err (lawful refl)))
-
+-- the reason that a context gives is read off what is held
 reason_is : (rule : RuleView) (held : Held) (old : ContextView) → Holds held old
     → add_fault old (rule ∷ [])
     ≡ reason (nat_le (length held.rules + 1) held.limit) (rule_fault held.layout rule.tag rule.fields)
@@ -242,15 +207,39 @@ reason_is rule held old holds =
     ∙ ap (λ (limit : ℕ). reason (nat_le (length held.rules + 1) limit)
     (rule_fault held.layout rule.tag rule.fields)) holds.limit
 
+-- what is told of a rule that was given is what the state's own addition says
+added_told : {T : Type 0} (rule : RuleView) (held : Held) (old new : ContextView) (room : Bool)
+    (fault : Option RuleFault) (result : Result T AddFault) → Holds held old → Adds (rule ∷ []) old new result
+    → add_fault old (rule ∷ []) ≡ reason room fault → (result ≡ Err OutOfMemory → ⊥)
+    → IsTold (if room then added_unless held rule fault else said held full_text) new (told result)
+added_told rule held old new false fault (Ok done) holds adds is memory =
+    absurd (let e = adds.refused Full is in cc)
+added_told rule held old new false fault (Err found) holds adds is memory =
+    record { held = subst (Holds held) (sym adds.kept) holds; says = sym (ap told (adds.refused Full is)) }
+added_told rule held old new true (Some fault) (Ok done) holds adds is memory =
+    absurd (let e = adds.refused (RuleRefused 0 fault) is in cc)
+added_told rule held old new true (Some fault) (Err found) holds adds is memory = record {
+  held = subst (Holds held) (sym adds.kept) holds;
+  says = sym (ap told (adds.refused (RuleRefused 0 fault) is));
+}
+added_told rule held old new true None (Ok done) holds adds is memory = record {
+  held = subst (Holds (added_unless held rule None).held) (sym adds.added) (record {
+    set = ap (λ (set : RuleSetView). record { layout = set.layout; rules = set.rules ++ rule ∷ [] }) holds.set;
+    limit = holds.limit;
+    table = holds.table;
+  });
+  says = refl;
+}
+added_told rule held old new true None (Err found) holds adds is memory =
+    absurd (memory (ap Err (adds.lawful is)))
+
 -- a rule was given to the context, which had memory for it
 pub adds_rule : {T : Type 0} (rule : RuleView) (old new : ContextView) (result : Result T AddFault)
     (before after : List ℕ) → Adds (rule ∷ []) old new result → (result ≡ Err OutOfMemory → ⊥)
     → after ≡ before ++ told result → AnswersHeld (λ held. added held rule) old new before after
 adds_rule rule old new result before after adds memory text = λ held holds.
-    let is = reason_is rule held old holds in
     let done = added_told rule held old new (nat_le (length held.rules + 1) held.limit)
-    (rule_fault held.layout rule.tag rule.fields) result holds
-    (λ f found. adds.refused f (is ∙ found)) (λ none. adds.lawful (is ∙ none)) adds.added adds.kept memory in
+    (rule_fault held.layout rule.tag rule.fields) result holds adds (reason_is rule held old holds) memory in
     record { held = done.held; text = text ∙ ap (λ t. before ++ t) (sym done.says) }
 
 -- the table was built
@@ -325,13 +314,3 @@ pub unnamed : (words : List (List ℕ)) (name : List ℕ) (rest : List (List ℕ
 unnamed words name rest read is =
     ap (λ (found : Option (Read (List ℕ))). found >>= λ word. verb_named word.value >>= λ v. said_to v word.rest) read
     ∙ ap (λ (found : Option Verb). found >>= λ v. said_to v rest) is
-
--- the call that a line names answers it
-pub answered_by : {T E : Type 0} (result : Result T E) (words : List (List ℕ)) (name : List ℕ) (rest : List (List ℕ))
-    (verb call : Verb) (old new : Made) (before after : List ℕ) → next_word words ≡ Some (read_of name rest)
-    → verb_named name ≡ Some verb → verb ≡ call
-    → OnOk result (Answers (λ state. step_if state (said_to call rest)) old new before after)
-    → OnOk result (Answers (λ state. step_if state (command_of words)) old new before after)
-answered_by result words name rest verb call old new before after read is same answers =
-    subst (λ (said : Option Command). OnOk result (Answers (λ state. step_if state said) old new before after))
-    (sym (said_is words name rest verb read is ∙ ap (λ v. said_to v rest) same)) answers

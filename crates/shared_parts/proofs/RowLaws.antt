@@ -1,14 +1,11 @@
 -- Rows of entries.
 use Rattle.std.proofs.Common.{◌≡◌, ℕ, zero, suc, ◌+◌, ◌-◌, ◌<◌, ◌≤◌, List, [], ◌∷◌, ◌++◌, length, get_or, max, map}
-use Rattle.std.proofs.Common.{true, cond, set, refl, sym, ◌∙◌, ap, arith, inl, inr, ◌==◌, ◌/◌, ◌%◌, ◌^◌}
+use Rattle.std.proofs.Common.{cond, set, refl, sym, ◌∙◌, ap, arith, inl, inr, ◌==◌, ◌/◌, ◌%◌, ◌^◌}
 use Rattle.std.proofs.lemmas.Bool.{cases_eq}
 use Rattle.std.proofs.lemmas.List.{get_or-set_same, get_or-set_other, ext_get_or, get_or_append_left}
 use Rattle.std.proofs.lemmas.List.FromFn.{get_or-map-range_with_len, length-map-range_with_len}
 use Rattle.std.specs.List.{range_with_len}
 use Rattle.std.specs.Str.{bytes_eq}
-use Rattle.std.specs.Bool.{Decides}
-use Rattle.std.proofs.lemmas.Slice.Eq.{slice_eq-Decides}
-use Rattle.std.proofs.lemmas.Bool.Decides.{Decides-eqb}
 use Rattle.shared_parts.specs.declared.rows.Ranked.{Ranked}
 use Rattle.shared_parts.specs.Keys.{KeyAt}
 use Rattle.shared_parts.specs.Rows.{row_of_rule, row_of_entry, join_rows, best_row, IsRow}

@@ -1,5 +1,5 @@
 -- The words of a state before the last place are told by its entries.
-use Rattle.std.proofs.Common.{◌≡◌, ℕ, ◌+◌, ◌-◌, ◌<◌, ◌≤◌, ◌==◌, List, [], ◌∷◌, length, map, Bool, false, not, Option}
+use Rattle.std.proofs.Common.{◌≡◌, ℕ, ◌+◌, ◌-◌, ◌<◌, ◌==◌, List, [], ◌∷◌, length, map, Bool, false, not, Option}
 use Rattle.std.proofs.Common.{Some, refl, sym, ◌∙◌, ap, arith}
 use Rattle.std.specs.List.{list_any, flat_map, AllByRecursion, sum_by}
 use Rattle.std.specs.Option.{option_map}
@@ -13,7 +13,7 @@ use Rattle.table_sizes.specs.Sizes.{cost_of}
 use Rattle.list_lemmas.proofs.Maps.{filter_on_range}
 use Rattle.list_lemmas.proofs.Options.{from_option_map}
 use Rattle.list_lemmas.proofs.Sums.{sum_by-map}
-use Rattle.list_lemmas.proofs.Spans.{opposite_tests, or_where, option_map_injective, keys_rise_lower, filter_map_apart}
+use Rattle.list_lemmas.proofs.Spans.{opposite_tests, or_where, option_map_injective, filter_map_apart}
 use Rattle.list_lemmas.proofs.Spans.{filter_map_alike, positions_tell, sum_by_where}
 use Rattle.list_lemmas.proofs.Tests.{bytes_eq_refl, bytes_eq_sound}
 use Rattle.list_lemmas.proofs.Each.{all_of_parts, all_weaker}

@@ -191,8 +191,7 @@ module _ {place : Place} {before : ℕ} {pairs : List (ℕ × ℕ)} {old : Targe
       byte_leads : (byte : ℕ) → byte < 256
           → IsIn set new.merged.reached.target tree (next_list byte) (next_number byte)
       byte_leads byte below =
-          state_leads set place.column place.is_last pairs new.merged.reached.target tree list state byte
-          (next_number byte)
+          state_leads set place.column place.is_last byte
           (for_grows set place.is_last old new.merged.reached.target (led_on so_far.led led).grows for) is
           (added.merged.leads byte below)
 

@@ -227,12 +227,13 @@ state_in set is_last (Rows rows) tree f number own last stands = rw last.0 (reco
   stands = subst (λ row. IsRow rows.rows row number) (row_arranged tree f rows.ranked) stands;
 })
 
-pub state_leads : (set : RuleSetView) (column : ColumnView) (is_last : Bool) (pairs : List (ℕ × ℕ)) (target : Target)
-    (tree : RuleTree) (list : List ℕ) (part byte number : ℕ) → IsFor set is_last target → IsState pairs tree list part
-    → Leads (step_of column byte) pairs target part number
+-- What a byte leads to from a state's number stands for the state's successor.
+pub state_leads : (set : RuleSetView) (column : ColumnView) (is_last : Bool) (byte : ℕ) {pairs : List (ℕ × ℕ)}
+    {target : Target} {tree : RuleTree} {list : List ℕ} {part number : ℕ} → IsFor set is_last target
+    → IsState pairs tree list part → Leads (step_of column byte) pairs target part number
     → IsIn set target tree (successor set column is_last list byte) number
 unfolding successor entries_step
-state_leads set column is_last pairs target tree list part byte number last a leads =
+state_leads set column is_last byte {target = target} {tree = tree} {number = number} last a leads =
     let step = step_of column byte in
     subst (λ after. IsIn set target tree (cond is_last (row_list set after) after) number)
     (filter_map-twice a.entries step tree.rules ∙ ap (filter_map step) (sym a.is))

@@ -9,8 +9,12 @@ returns-in_ok-push_verdicts-in-Differ c =
     let found : List ℕ → Option Difference = λ key. Some (record { key = key; category = c.in-Differ.category }) in
     let is : found c.as_slice-key.result.now ≡ difference c.args.one.now c.args.two.now =
     ap found c.as_slice-key.ensures.value ∙ sym (ap told_difference c.in-Differ.is) ∙ c.requires.told in
-    unlike_line c.args.family c.args.one.now c.args.two.now
-    (record { key = c.as_slice-key.result.now; category = c.in-Differ.category }) c.plain_verdict-first.result
-    c.plain_verdict-second.result c.args.text.now.items c.push_family.new.text.items c.push_place.new.text.items
-    c.push_verdicts.new.text.items is c.plain_verdict-first.ensures c.plain_verdict-second.ensures
-    c.in_ok-push_family.ensures c.in_ok-push_place-in-Differ.ensures c.in_ok-push_verdicts-in-Differ.ensures
+    rw (
+      c.in_ok-push_verdicts-in-Differ.ensures,
+      c.in_ok-push_place-in-Differ.ensures,
+      c.in_ok-push_family.ensures,
+      c.plain_verdict-first.ensures,
+      c.plain_verdict-second.ensures,
+    )
+    (unlike_line c.args.family c.args.one.now c.args.two.now
+    (record { key = c.as_slice-key.result.now; category = c.in-Differ.category }) c.args.text.now.items is)

@@ -1,9 +1,9 @@
-use Rattle.std.proofs.Common.{ℕ, ◌<◌, ◌≡◌, List, [], ◌∷◌, Option, None, Bool, Bor, length, get_or, sym, ap, ◌∙◌, arith}
+use Rattle.std.proofs.Common.{ℕ, ◌<◌, ◌≡◌, List, [], Option, None, Bor, length, get_or, sym, ap, ◌∙◌, arith}
 use Rattle.std.specs.Prelude.{◌||◌}
 use Rattle.std.specs.Option.{option_map}
 use Rattle.table_sizes.specs.Sizes.{row_len}
 use Rattle.acl_audit.specs.Least.{least_key}
-use Rattle.audit_report.specs.Audit.{is_live, is_some}
+use Rattle.audit_report.specs.Audit.{is_some}
 use Rattle.audit_report.proofs.Lines.{any_more, key_at, keys_long, wins_more}
 use Rattle.audit_report.proofs.rule.push_wins.Goals as goal
 

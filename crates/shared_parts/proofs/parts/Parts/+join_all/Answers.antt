@@ -1,7 +1,7 @@
 use Rattle.std.proofs.Common.{◌≡◌, ℕ, ◌+◌, List, [], ◌∷◌, ◌++◌, length, get_or, sym, ◌∙◌, ap, subst, arith}
 use Rattle.std.proofs.lemmas.List.{take-append-drop, drop_all, drop_more}
 use Rattle.shared_parts.specs.Joined.{IsAll}
-use Rattle.shared_parts.proofs.All.{one_entry, two_joined}
+use Rattle.shared_parts.proofs.All.{all_grow, one_entry, two_joined}
 use Rattle.shared_parts.proofs.parts.Parts.+join_all.Goals as goal
 
 -- a list of one element
@@ -20,6 +20,6 @@ returns-clause-all t c =
     let halves : c.split_at.result.0.now ++ c.split_at.result.1.now ≡ c.args.entries.now =
     (λ i. c.split_at.ensures.front i ++ c.split_at.ensures.back i) ∙ take-append-drop _ c.args.entries.now in
     subst (λ es. IsAll c.join.new.self es c.in_ok-number-2.number) halves
-    (two_joined c.join_all.new.self c.join_all-2.new.self c.join.new.self c.in_ok-other.ensures.grows
-    c.in_ok-number-2.ensures.grows c.split_at.result.0.now c.split_at.result.1.now c.in_ok-one.one c.in_ok-other.other
-    c.in_ok-number-2.number c.in_ok-one.ensures.all c.in_ok-other.ensures.all c.in_ok-number-2.ensures.joins)
+    (two_joined
+    (all_grow c.in_ok-number-2.ensures.grows (all_grow c.in_ok-other.ensures.grows c.in_ok-one.ensures.all))
+    (all_grow c.in_ok-number-2.ensures.grows c.in_ok-other.ensures.all) c.in_ok-number-2.ensures.joins)
