@@ -139,28 +139,27 @@ heard_more : (file : Heard) (old : List Heard) → old ≢ file ∷ old
 heard_more file old is = omega (arith, ap length is)
 
 -- a report hears the capture alone
-heard_before : (form : ReportForm) (name : List ℕ) (told : Option (List File)) (old mid new : List Heard)
-    (reached : Reached Outcome) (first rule_file file : Heard) → Follows told (reported form name) mid new reached →
-    mid ≡ first ∷ old → new ≡ file ∷ rule_file ∷ old → rule_file ≡ first
-heard_before form name told old mid new reached first rule_file file (inl before) at is =
-    absurd (heard_more rule_file old (let e = sym at ∙ sym (before.0) ∙ is in cc))
-heard_before form name told old mid new reached first rule_file file (inr (one, named, part, inl within)) at is =
-    let e = sym (within.0) ∙ is in let f = sym at in cc
-heard_before form name told old mid new reached first rule_file file (inr (one, named, part, inr (enough, rest))) at
-    is =
-    let e = sym (rest.0) ∙ is in let f = sym at in cc
+heard_before : (form : ReportForm) (name : List ℕ) (told : Option (List File)) (old : List Heard)
+    (first rule_file file : Heard) (reached : Reached Outcome) →
+    Follows told (reported form name) (first ∷ old) (file ∷ rule_file ∷ old) reached → rule_file ≡ first
+heard_before form name told old first rule_file file reached (inl before) =
+    absurd (heard_more rule_file old (let e = before.0 in cc))
+heard_before form name told old first rule_file file reached (inr (one, named, part, inl within)) =
+    let e = within.0 in cc
+heard_before form name told old first rule_file file reached (inr (one, named, part, inr (enough, rest))) =
+    let e = rest.0 in cc
 
 -- the words of the tables are the totals of the rules that were heard
-has_totals : (rules capture : List ℕ) (options : Options) (form : ReportForm) (told now : Option (List File))
-    (old mid new : List Heard) (first : Reached RuleLists) (last : Reached Outcome) (lists : RuleLists) →
-    Follows told (rules_in RulesRefused rules) old mid first → first ≡ Given lists →
-    Follows now (reported form capture) mid new last → WordsAreTotals lists options.max_words →
-    HasTotals (Classify rules capture options) old new
-has_totals rules capture options form told now old mid new first last lists follows is later totals rule_file file other
-    newest accepted =
-    let (heard, next, read) = rules_heard rules told old mid first lists follows is in
-    let same = heard_before form capture now old mid new last heard rule_file file later next newest in
-    let lists_same : other ≡ lists =
+has_totals : {X : Type 0} (rules capture : List ℕ) (options : Options) (form : ReportForm) (seen : X → RuleLists)
+    (old new : Outside) (status : Status) (has : HasRules rules seen old) →
+    WordsAreTotals (seen has.set) options.max_words → Reports form capture (with_rules rules seen old has) new status →
+    HasTotals (Classify rules capture options) (heard_of old.desk) (heard_of new.desk)
+has_totals rules capture options form seen old new status has totals reports rule_file file lists newest accepted =
+    let (heard, next, read) = rules_heard rules (files_of old.desk) (heard_of old.desk) (heard_of has.desk)
+    has.step.reached (seen has.set) has.step.follows has.step.answer in
+    let same = heard_before form capture (files_of has.desk) (heard_of old.desk) heard rule_file file
+    reports.ends.reached (rw (next, newest) at (reports.ends.follows)) in
+    let lists_same : lists ≡ seen has.set =
     (let e = sym accepted ∙ ap (λ (h : Heard). rule_file_of h.bytes) same ∙ read in cc) in
     subst (λ (l : RuleLists). WordsAreTotals l options.max_words) (sym lists_same) totals
 
@@ -181,9 +180,7 @@ Answers-reported rules capture options seen old new status has tables within tot
           (sym within) reports.ends);
       lawful = reports.lawful;
       totals = λ reported. has_totals rules capture options (form_of (ByRules (seen has.set)) tables options)
-          (files_of old.desk) (files_of has.desk) (heard_of old.desk) (heard_of has.desk) (heard_of new.desk)
-          has.step.reached reports.ends.reached (seen has.set) has.step.follows has.step.answer reports.ends.follows
-          totals;
+          seen old new status has totals reports;
       image = λ done. tt;
       opened = λ files told reported. reports.opened files (has.step.kept.files ∙ told) reported;
       keeps_up = λ w. keeps_up_later capture old new has.desk (reports.keeps_up w);

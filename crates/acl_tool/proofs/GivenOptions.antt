@@ -1,11 +1,11 @@
 -- The options of a command are what the first words say that begin so.
 use Rattle.std.proofs.Common.{◌≡◌, ◌≢◌, ℕ, ◌+◌, ◌<◌, List, [], ◌∷◌, Bool, true, false, Option, Some, None, Result}
-use Rattle.std.proofs.Common.{Ok, Err, refl, sym, ap, ◌∙◌, arith, length, take}
-use Rattle.std.specs.Prelude.{codes, get_or, nat_le, ◌^◌, ◌-◌, ◌&&◌, if◌then◌else◌}
+use Rattle.std.proofs.Common.{Ok, Err, refl, sym, ap, ◌∙◌, length, take}
+use Rattle.std.specs.Prelude.{codes, get_or, nat_le, ◌==◌, ◌^◌, ◌-◌, ◌&&◌, if◌then◌else◌}
 use Rattle.rule_set.specs.Categories.{is_count_of_categories}
 use Rattle.std.specs.Option.{option_map_or, unwrap_or}
 use Rattle.std.specs.Str.{bytes_eq}
-use Rattle.std.proofs.lemmas.Bool.{false≢true, ltb-true}
+use Rattle.std.proofs.lemmas.Bool.{eqb-false, false≢true, ltb-true}
 use Rattle.std.proofs.lemmas.List.{get_or-take}
 use Rattle.std.proofs.lemmas.Slice.Eq.{bytes_eq-Decides}
 use Rattle.text_scan.specs.Digits.{are_digits, place_value}
@@ -20,48 +20,6 @@ use Rattle.command_words.specs.Options.{categories_option, walk_option, max_word
 use Rattle.command_words.specs.Command.{options_from, option_then}
 use Rattle.acl_tool.specs.Headline.{value_given, categories_shown, is_on}
 use Rattle.acl_tool.specs.Sizes.{budget_given}
-
--- a word says a value to the option of this name, or says nothing to it
-record Says {A : Type 0} (name : List ℕ) (parse : List ℕ → A) (seen : Given → Option A) (given next : Given)
-    (word : List ℕ) : Type 0 where
-  pub new : begins_with name word ≡ true → seen next ≡ Some (parse (value_of name word))
-  pub first : begins_with name word ≡ true → seen given ≡ None
-  pub same : begins_with name word ≡ false → seen next ≡ seen given
-
--- what is said of an option by all words
-said : {A : Type 0} (allowed : Allowed) (name : List ℕ) (parse : List ℕ → A) (usual : A) (seen : Given → Option A)
-    (get : Options → A) →
-    ((given next : Given) (word : List ℕ) → with_option allowed given word ≡ Ok next →
-    Says name parse seen given next word) →
-    ((given : Given) → get (settled_options given) ≡ unwrap_or (seen given) usual) →
-    (number : ℕ) (given : Given) (words : List (List ℕ)) (options : Options) →
-    options_from allowed number given words ≡ Ok options →
-    get options ≡ unwrap_or (seen given) (option_map_or parse (value_given name words) usual)
-said {A = A} allowed name parse usual seen get says settles number given [] options is =
-    let same : settled_options given ≡ options = cc in
-    ap get (sym same) ∙ settles given
-said {A = A} allowed name parse usual seen get says settles number given (word ∷ words) options is =
-    go (with_option allowed given word) refl is
-    (λ next rest. said allowed name parse usual seen get says settles (number + 1) next words options rest)
-  where
-    one : (next : Given) → Says name parse seen given next word →
-        get options ≡ unwrap_or (seen next) (option_map_or parse (value_given name words) usual) → (begins : Bool) →
-        begins_with name word ≡ begins →
-        get options ≡ unwrap_or (seen given) (option_map_or parse (value_given name (word ∷ words)) usual)
-    one next add later true begins = rw (add.first begins, begins)
-        (later ∙ ap (λ (o : Option A). unwrap_or o (option_map_or parse (value_given name words) usual))
-        (add.new begins))
-    one next add later false begins = rw begins
-        (later ∙ ap (λ (o : Option A). unwrap_or o (option_map_or parse (value_given name words) usual))
-        (add.same begins))
-
-    go : (step : Result Given UsageKind) → with_option allowed given word ≡ step →
-        option_then number step (λ next. options_from allowed (number + 1) next words) ≡ Ok options →
-        ((next : Given) → options_from allowed (number + 1) next words ≡ Ok options →
-        get options ≡ unwrap_or (seen next) (option_map_or parse (value_given name words) usual)) →
-        get options ≡ unwrap_or (seen given) (option_map_or parse (value_given name (word ∷ words)) usual)
-    go (Ok next) at rest later = one next (says given next word at) (later next rest) (begins_with name word) refl
-    go (Err kind) at rest later = absurd (cc)
 
 -- a value was taken: it is the first, and lawful
 once-taken : {A : Type 0} (before value : Option A) (f : A → Given) (next : Given) →
@@ -205,10 +163,42 @@ adds_option allowed given next word is =
         TakesMarks v (second_passes allowed.marks _ at_k) first lawful_is at
     go false false false false false at_c at_w at_m at_s at_k e = absurd (cc)
 
+-- What an option is: its name, what its text says, what it is where no word gives it, and where it is kept.
+record KeptOption (A : Type 0) : Type 0 where
+  name : List ℕ
+  parse : List ℕ → A
+  usual : A
+  seen : Given → Option A
+
+-- how many categories are shown
+abbrev categories_kept : KeptOption ℕ
+categories_kept = record { name = categories_option; parse = place_value 10; usual = 1; seen = λ g. g.categories }
+
+-- how many words the tables may have
+abbrev max_words_kept : KeptOption ℕ
+max_words_kept =
+    record { name = max_words_option; parse = place_value 10; usual = usual_words; seen = λ g. g.max_words }
+
+-- whether the sizes of the tables are told
+abbrev stats_kept : KeptOption Bool
+stats_kept =
+    record { name = stats_option; parse = λ value. bytes_eq value (codes "on"); usual = false; seen = λ g. g.stats }
+
+-- whether what no rule matches is marked
+abbrev marks_kept : KeptOption Bool
+marks_kept =
+    record { name = marks_option; parse = λ value. bytes_eq value (codes "on"); usual = false; seen = λ g. g.marks }
+
+-- a word says a value to an option, or says nothing to it
+record Says {A : Type 0} (option : KeptOption A) (given next : Given) (word : List ℕ) : Type 0 where
+  new : begins_with option.name word ≡ true → option.seen next ≡ Some (option.parse (value_of option.name word))
+  first : begins_with option.name word ≡ true → option.seen given ≡ None
+  same : begins_with option.name word ≡ false → option.seen next ≡ option.seen given
+
 -- a word that gives an option its value
-says_own : {A : Type 0} {name : List ℕ} {parse : List ℕ → A} {seen : Given → Option A} {given next : Given}
-    {word : List ℕ} (v : A) → begins_with name word ≡ true → seen given ≡ None → seen next ≡ Some v →
-    v ≡ parse (value_of name word) → Says name parse seen given next word
+says_own : {A : Type 0} {option : KeptOption A} {given next : Given} {word : List ℕ} (v : A) →
+    begins_with option.name word ≡ true → option.seen given ≡ None → option.seen next ≡ Some v →
+    v ≡ option.parse (value_of option.name word) → Says option given next word
 says_own v begins first at is = record {
   new = λ b. at ∙ ap Some is;
   first = λ b. first;
@@ -216,70 +206,96 @@ says_own v begins first at is = record {
 }
 
 -- a word that begins with the name of another option says nothing to it
-says_other : {A : Type 0} {other name : List ℕ} {a b : ℕ} {parse : List ℕ → A} {seen : Given → Option A}
-    {given next : Given} {word : List ℕ} → IsOption other a → IsOption name b → a ≢ b →
-    begins_with other word ≡ true → seen next ≡ seen given → Says name parse seen given next word
-says_other {other = other} {name = name} {a = a} {b = b} {word = word} one own differ begins same = record {
+says_other : {A : Type 0} {other : List ℕ} {option : KeptOption A} {a b : ℕ} {given next changed : Given}
+    {word : List ℕ} → IsOption other a → IsOption option.name b → (a == b) ≡ false → begins_with other word ≡ true →
+    next ≡ changed → option.seen changed ≡ option.seen given → Says option given next word
+says_other {other = other} {option = option} {a = a} {b = b} {word = word} one own differ begins at same = record {
   new = λ also. absurd (never also);
   first = λ also. absurd (never also);
-  same = λ also. same;
+  same = λ also. ap option.seen at ∙ same;
 }
   where
-    never : begins_with name word ≡ true → ⊥
-    never also = apart other name word a b one.long own.long one.is own.is differ begins also
+    never : begins_with option.name word ≡ true → ⊥
+    never also =
+        apart other option.name word a b one.long own.long one.is own.is (eqb-false a b differ) begins also
 
-says_categories : (given next : Given) (word : List ℕ) → AddsOption given next word →
-    Says categories_option (place_value 10) (λ g. g.categories) given next word
-says_categories given next word (TakesCategories v begins first is at) =
-    says_own v begins first (ap (λ (g : Given). g.categories) at)
-    (categories-spelled (value_of categories_option word) v is)
-says_categories given next word (TakesWalk v begins at) =
-    says_other walk_is categories_is (λ e. omega (arith, e)) begins (ap (λ (g : Given). g.categories) at)
-says_categories given next word (TakesWords v begins first is at) =
-    says_other max_words_is categories_is (λ e. omega (arith, e)) begins (ap (λ (g : Given). g.categories) at)
-says_categories given next word (TakesStats v begins first is at) =
-    says_other stats_is categories_is (λ e. omega (arith, e)) begins (ap (λ (g : Given). g.categories) at)
-says_categories given next word (TakesMarks v begins first is at) =
-    says_other marks_is categories_is (λ e. omega (arith, e)) begins (ap (λ (g : Given). g.categories) at)
+-- what a lawful word says of each of them
+says_categories : {given next : Given} {word : List ℕ} → AddsOption given next word →
+    Says categories_kept given next word
+says_categories {word = word} (TakesCategories v begins first is at) =
+    says_own v begins first (ap categories_kept.seen at) (categories-spelled (value_of categories_option word) v is)
+says_categories (TakesWalk v begins at) = says_other walk_is categories_is refl begins at refl
+says_categories (TakesWords v begins first is at) = says_other max_words_is categories_is refl begins at refl
+says_categories (TakesStats v begins first is at) = says_other stats_is categories_is refl begins at refl
+says_categories (TakesMarks v begins first is at) = says_other marks_is categories_is refl begins at refl
 
-says_max_words : (given next : Given) (word : List ℕ) → AddsOption given next word →
-    Says max_words_option (place_value 10) (λ g. g.max_words) given next word
-says_max_words given next word (TakesCategories v begins first is at) =
-    says_other categories_is max_words_is (λ e. omega (arith, e)) begins (ap (λ (g : Given). g.max_words) at)
-says_max_words given next word (TakesWalk v begins at) =
-    says_other walk_is max_words_is (λ e. omega (arith, e)) begins (ap (λ (g : Given). g.max_words) at)
-says_max_words given next word (TakesWords v begins first is at) =
-    says_own v begins first (ap (λ (g : Given). g.max_words) at) (budget-spelled (value_of max_words_option word) v is)
-says_max_words given next word (TakesStats v begins first is at) =
-    says_other stats_is max_words_is (λ e. omega (arith, e)) begins (ap (λ (g : Given). g.max_words) at)
-says_max_words given next word (TakesMarks v begins first is at) =
-    says_other marks_is max_words_is (λ e. omega (arith, e)) begins (ap (λ (g : Given). g.max_words) at)
+says_max_words : {given next : Given} {word : List ℕ} → AddsOption given next word → Says max_words_kept given next word
+says_max_words (TakesCategories v begins first is at) = says_other categories_is max_words_is refl begins at refl
+says_max_words (TakesWalk v begins at) = says_other walk_is max_words_is refl begins at refl
+says_max_words {word = word} (TakesWords v begins first is at) =
+    says_own v begins first (ap max_words_kept.seen at) (budget-spelled (value_of max_words_option word) v is)
+says_max_words (TakesStats v begins first is at) = says_other stats_is max_words_is refl begins at refl
+says_max_words (TakesMarks v begins first is at) = says_other marks_is max_words_is refl begins at refl
 
-says_stats : (given next : Given) (word : List ℕ) → AddsOption given next word →
-    Says stats_option (λ value. bytes_eq value (codes "on")) (λ g. g.stats) given next word
-says_stats given next word (TakesCategories v begins first is at) =
-    says_other categories_is stats_is (λ e. omega (arith, e)) begins (ap (λ (g : Given). g.stats) at)
-says_stats given next word (TakesWalk v begins at) =
-    says_other walk_is stats_is (λ e. omega (arith, e)) begins (ap (λ (g : Given). g.stats) at)
-says_stats given next word (TakesWords v begins first is at) =
-    says_other max_words_is stats_is (λ e. omega (arith, e)) begins (ap (λ (g : Given). g.stats) at)
-says_stats given next word (TakesStats v begins first is at) =
-    says_own v begins first (ap (λ (g : Given). g.stats) at) (choice-spelled (value_of stats_option word) v is)
-says_stats given next word (TakesMarks v begins first is at) =
-    says_other marks_is stats_is (λ e. omega (arith, e)) begins (ap (λ (g : Given). g.stats) at)
+says_stats : {given next : Given} {word : List ℕ} → AddsOption given next word → Says stats_kept given next word
+says_stats (TakesCategories v begins first is at) = says_other categories_is stats_is refl begins at refl
+says_stats (TakesWalk v begins at) = says_other walk_is stats_is refl begins at refl
+says_stats (TakesWords v begins first is at) = says_other max_words_is stats_is refl begins at refl
+says_stats {word = word} (TakesStats v begins first is at) =
+    says_own v begins first (ap stats_kept.seen at) (choice-spelled (value_of stats_option word) v is)
+says_stats (TakesMarks v begins first is at) = says_other marks_is stats_is refl begins at refl
 
-says_marks : (given next : Given) (word : List ℕ) → AddsOption given next word →
-    Says marks_option (λ value. bytes_eq value (codes "on")) (λ g. g.marks) given next word
-says_marks given next word (TakesCategories v begins first is at) =
-    says_other categories_is marks_is (λ e. omega (arith, e)) begins (ap (λ (g : Given). g.marks) at)
-says_marks given next word (TakesWalk v begins at) =
-    says_other walk_is marks_is (λ e. omega (arith, e)) begins (ap (λ (g : Given). g.marks) at)
-says_marks given next word (TakesWords v begins first is at) =
-    says_other max_words_is marks_is (λ e. omega (arith, e)) begins (ap (λ (g : Given). g.marks) at)
-says_marks given next word (TakesStats v begins first is at) =
-    says_other stats_is marks_is (λ e. omega (arith, e)) begins (ap (λ (g : Given). g.marks) at)
-says_marks given next word (TakesMarks v begins first is at) =
-    says_own v begins first (ap (λ (g : Given). g.marks) at) (choice-spelled (value_of marks_option word) v is)
+says_marks : {given next : Given} {word : List ℕ} → AddsOption given next word → Says marks_kept given next word
+says_marks (TakesCategories v begins first is at) = says_other categories_is marks_is refl begins at refl
+says_marks (TakesWalk v begins at) = says_other walk_is marks_is refl begins at refl
+says_marks (TakesWords v begins first is at) = says_other max_words_is marks_is refl begins at refl
+says_marks (TakesStats v begins first is at) = says_other stats_is marks_is refl begins at refl
+says_marks {word = word} (TakesMarks v begins first is at) =
+    says_own v begins first (ap marks_kept.seen at) (choice-spelled (value_of marks_option word) v is)
+
+-- the words give options one after the other, and this is what was given then
+abbrev AddsOptions : Given → List (List ℕ) → Given → Type 0
+AddsOptions given [] last = last ≡ given
+AddsOptions given (word ∷ words) last = (next : Given) × AddsOption given next word × AddsOptions next words last
+
+-- options that are read are those of what was given last
+adds_options : (allowed : Allowed) (number : ℕ) (given : Given) (words : List (List ℕ)) (options : Options) →
+    options_from allowed number given words ≡ Ok options →
+    (last : Given) × (options ≡ settled_options last) × AddsOptions given words last
+adds_options allowed number given [] options is = (given, cc, refl)
+adds_options allowed number given (word ∷ words) options is =
+    go (with_option allowed given word) refl is
+    (λ next rest. adds_options allowed (number + 1) next words options rest)
+  where
+    go : (step : Result Given UsageKind) → with_option allowed given word ≡ step →
+        option_then number step (λ next. options_from allowed (number + 1) next words) ≡ Ok options →
+        ((next : Given) → options_from allowed (number + 1) next words ≡ Ok options →
+        (last : Given) × (options ≡ settled_options last) × AddsOptions next words last) →
+        (last : Given) × (options ≡ settled_options last) × AddsOptions given (word ∷ words) last
+    go (Ok next) at rest later =
+        let (last, settled, gives) = later next rest in
+        (last, settled, (next, adds_option allowed given next word at, gives))
+    go (Err kind) at rest later = absurd (cc)
+
+-- what an option is by what was given and the words that follow
+abbrev value_after : {A : Type 0} → KeptOption A → Given → List (List ℕ) → A
+value_after option given words =
+    unwrap_or (option.seen given) (option_map_or option.parse (value_given option.name words) option.usual)
+
+-- what was given last says of an option what all words say
+said : {A : Type 0} (option : KeptOption A) →
+    ((given next : Given) (word : List ℕ) → AddsOption given next word → Says option given next word) →
+    (given last : Given) (words : List (List ℕ)) → AddsOptions given words last →
+    value_after option last [] ≡ value_after option given words
+said option says given last [] is = ap (λ (g : Given). value_after option g []) is
+said option says given last (word ∷ words) (next, gives, rest) =
+    one (says given next word gives) (said option says next last words rest) (begins_with option.name word) refl
+  where
+    one : Says option given next word → value_after option last [] ≡ value_after option next words →
+        (begins : Bool) → begins_with option.name word ≡ begins →
+        value_after option last [] ≡ value_after option given (word ∷ words)
+    one add later true begins = rw (add.first begins, begins) (rw (add.new begins) at later)
+    one add later false begins = rw begins (rw (add.same begins) at later)
 
 -- What the options say, by the words alone.
 pub record SaidBy (words : List (List ℕ)) (options : Options) : Type 0 where
@@ -291,17 +307,11 @@ pub record SaidBy (words : List (List ℕ)) (options : Options) : Type 0 where
 -- whichever options the command allows, and wherever they begin
 pub options_said : (allowed : Allowed) (number : ℕ) (words : List (List ℕ)) (options : Options) →
     options_from allowed number none_given words ≡ Ok options → SaidBy words options
-options_said allowed number words options is = record {
-  categories = said allowed categories_option (place_value 10) 1 (λ g. g.categories) (λ o. o.categories)
-      (λ given next word at. says_categories given next word (adds_option allowed given next word at)) (λ given. refl)
-      number none_given words options is;
-  max_words = said allowed max_words_option (place_value 10) usual_words (λ g. g.max_words) (λ o. o.max_words)
-      (λ given next word at. says_max_words given next word (adds_option allowed given next word at)) (λ given. refl)
-      number none_given words options is;
-  stats = said allowed stats_option (λ value. bytes_eq value (codes "on")) false (λ g. g.stats) (λ o. o.stats)
-      (λ given next word at. says_stats given next word (adds_option allowed given next word at)) (λ given. refl)
-      number none_given words options is;
-  marks = said allowed marks_option (λ value. bytes_eq value (codes "on")) false (λ g. g.marks) (λ o. o.marks)
-      (λ given next word at. says_marks given next word (adds_option allowed given next word at)) (λ given. refl)
-      number none_given words options is;
-}
+options_said allowed number words options is =
+    let (last, settled, gives) = adds_options allowed number none_given words options is in
+    rw settled (record {
+      categories = said categories_kept (λ given next word. says_categories) none_given last words gives;
+      max_words = said max_words_kept (λ given next word. says_max_words) none_given last words gives;
+      stats = said stats_kept (λ given next word. says_stats) none_given last words gives;
+      marks = said marks_kept (λ given next word. says_marks) none_given last words gives;
+    })

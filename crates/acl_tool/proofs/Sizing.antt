@@ -105,47 +105,34 @@ table_large budget family lists status is = go (nat_le (total_of (set_of family 
     go true at e = absurd (cc)
     go false at e = (cc, leb-false (total_of (set_of family lists) budget) budget at)
 
--- What a `classify` heard whose rules are too large.
-record Large (rules : List ℕ) (options : Options) (status : Status) (old new : List Heard) (reached : Reached Outcome)
-    : Type 0 where
-  pub rule_file : Heard
-  pub named : rule_file.name ≡ rules
-  pub lists : RuleLists
-  pub family : Family
-  pub newest : new ≡ rule_file ∷ old
-  pub whole : rule_file.ending ≡ Ended
-  pub accepted : rule_file_of rule_file.bytes ≡ Ok lists
-  pub says : status ≡ TooLarge family (total_of (set_of family lists) options.max_words) options.max_words
-  pub above : options.max_words < total_of (set_of family lists) options.max_words
-  pub silent : (outcome_of reached).text ≡ []
+-- A `classify` that had its rules stopped since a table was too large, and heard nothing more.
+record StopsLarge (options : Options) (capture : List ℕ) (lists : RuleLists) (old new : List Heard)
+    (reached : Reached Outcome) : Type 0 where
+  family : Family
+  stops : stops_large (after_rules options capture lists) ≡ true
+  no_more : new ≡ old
+  is : reached ≡ Stopped (TooLarge family (total_of (set_of family lists) options.max_words) options.max_words)
+  above : options.max_words < total_of (set_of family lists) options.max_words
 
-large_tables : (rules capture : List ℕ) (options : Options) (status : Status) (told : Option (List File)) (file : Heard)
-    (lists : RuleLists) (old new : List Heard) (reached : Reached Outcome) → file.name ≡ rules →
-    rule_file_of file.bytes ≡ Ok lists →
-    (stops_large (after_rules options capture lists) ≡ true → file.ending ≡ Ended) →
-    status ≡ (outcome_of reached).status → is_large status ≡ true →
-    Follows told (after_rules options capture lists) (file ∷ old) new reached →
-    Large rules options status old new reached
-large_tables rules capture options status told file lists old new reached named accepted whole is large follows =
+-- only a table that is too large ends it with such a status
+large_tables : (options : Options) (capture : List ℕ) (lists : RuleLists) (told : Option (List File))
+    (old new : List Heard) (reached : Reached Outcome) → is_large (outcome_of reached).status ≡ true →
+    Follows told (after_rules options capture lists) old new reached →
+    StopsLarge options capture lists old new reached
+large_tables options capture lists told old new reached large follows =
     go (table_within options.max_words Ip4 lists) (table_within options.max_words Ip6 lists) refl refl follows
   where
     stopped : (family : Family) (refusal : Status) → table_within options.max_words family lists ≡ Err refusal →
         stops_large (after_rules options capture lists) ≡ is_large refusal →
-        (new ≡ file ∷ old) × (reached ≡ Stopped refusal) → Large rules options status old new reached
+        (new ≡ old) × (reached ≡ Stopped refusal) → StopsLarge options capture lists old new reached
     stopped family refusal at stops rest =
         let all = table_large options.max_words family lists refusal at in
         record {
-          rule_file = file;
-          named = named;
-          lists = lists;
           family = family;
-          newest = rest.0;
-          whole = whole
-              (stops ∙ ap is_large (sym (is ∙ ap (λ (r : Reached Outcome). (outcome_of r).status) (rest.1))) ∙ large);
-          accepted = accepted;
-          says = is ∙ ap (λ (r : Reached Outcome). (outcome_of r).status) (rest.1) ∙ all.0;
+          stops = stops ∙ ap is_large (all.0);
+          no_more = rest.0;
+          is = rest.1 ∙ ap Stopped (all.0);
           above = all.1;
-          silent = ap (λ (r : Reached Outcome). (outcome_of r).text) (rest.1);
         }
 
     go : (one two : Result TableView Status) → table_within options.max_words Ip4 lists ≡ one →
@@ -153,14 +140,14 @@ large_tables rules capture options status told file lists old new reached named 
         Follows told
         ((unless_refused one >>= λ ip4. unless_refused two >>= λ ip6. Give (record { ip4 = ip4; ip6 = ip6 }))
         >>= λ tables. reported (form_of (ByRules lists) tables options) capture)
-        (file ∷ old) new reached → Large rules options status old new reached
+        old new reached → StopsLarge options capture lists old new reached
     go (Ok ip4) (Ok ip6) at_ip4 at_ip6 rest =
         let tables : Tables = record { ip4 = ip4; ip6 = ip6 } in
         let form : ReportForm = form_of (ByRules lists) tables options in
         let second = read_on is_large large_test told capture (lines_so_far form) (λ bytes. Give (report form bytes))
-        (file ∷ old) new reached rest (ap is_large (sym is) ∙ large) in
-        let ended : status ≡ status_of_fault (fault_of_capture (capture_of second.file.bytes)) =
-        is ∙ ap (λ (r : Reached Outcome). (outcome_of r).status) (second.rest.1)
+        old new reached rest large in
+        let ended : (outcome_of reached).status ≡ status_of_fault (fault_of_capture (capture_of second.file.bytes)) =
+        ap (λ (r : Reached Outcome). (outcome_of r).status) (second.rest.1)
         ∙ report_status form (capture_of second.file.bytes) in
         absurd (false≢true (sym (small_report (fault_of_capture (capture_of second.file.bytes)))
         ∙ ap is_large (sym ended) ∙ large))
@@ -172,23 +159,37 @@ pub small_rules : (result : Result RuleLists LineFault) (status : Status) →
 small_rules (Ok all) status is = absurd (cc)
 small_rules (Err fault) status is = let same : RulesRefused fault ≡ status = cc in rw (← same) refl
 
+-- What a `classify` heard whose rules are too large.
+record Large (rules capture : List ℕ) (options : Options) (old new : List Heard) (reached : Reached Outcome)
+    : Type 0 where
+  rule_file : Heard
+  lists : RuleLists
+  named : rule_file.name ≡ rules
+  whole : rule_file.ending ≡ Ended
+  accepted : rule_file_of rule_file.bytes ≡ Ok lists
+  tables : StopsLarge options capture lists (rule_file ∷ old) new reached
+
 -- A `classify` whose rules are too large read the rule file alone.
-large_heard : (rules capture : List ℕ) (options : Options) (status : Status) (told : Option (List File))
-    (old new : List Heard) (reached : Reached Outcome) → status ≡ (outcome_of reached).status →
-    is_large status ≡ true → Follows told (classify_plan rules capture options) old new reached →
-    Large rules options status old new reached
-large_heard rules capture options status told old new reached is large follows =
-    let passed : is_large (outcome_of reached).status ≡ true = ap is_large (sym is) ∙ large in
+large_heard : (rules capture : List ℕ) (options : Options) (told : Option (List File)) (old new : List Heard)
+    (reached : Reached Outcome) → is_large (outcome_of reached).status ≡ true →
+    Follows told (classify_plan rules capture options) old new reached → Large rules capture options old new reached
+large_heard rules capture options told old new reached large follows =
     let first = read_on is_large large_test told rules nothing (after_bytes options capture) old new reached follows
-    passed in
+    large in
     let (lists, accepted, rest) =
     unless_on is_large told (rules_of_bytes RulesRefused first.file.bytes) (after_rules options capture)
-    (first.file ∷ old) new reached first.rest passed
+    (first.file ∷ old) new reached first.rest large
     (λ refusal e. small_rules (rule_file_of first.file.bytes) refusal e) in
-    large_tables rules capture options status told first.file lists old new reached first.named
-    (accepted_rules (rule_file_of first.file.bytes) lists accepted)
-    (λ stops. whole_by stops_large RulesRefused (λ fault. refl) (after_rules options capture) first.file lists accepted
-    stops first.enough) is large rest
+    let tables = large_tables options capture lists told (first.file ∷ old) new reached large rest in
+    record {
+      rule_file = first.file;
+      lists = lists;
+      named = first.named;
+      whole = whole_by stops_large RulesRefused (λ fault. refl) (after_rules options capture) first.file lists accepted
+          tables.stops first.enough;
+      accepted = accepted_rules (rule_file_of first.file.bytes) lists accepted;
+      tables = tables;
+    }
 
 -- where sizes are asked for, the last lines are those of the tables and of the transitions
 asked_stats : (form : ReportForm) (transitions : ℕ) → form.stats ≡ true →
@@ -259,15 +260,13 @@ needs_more : (words : List (List ℕ)) (old new : Outside) (family : Family) (si
 needs_more words old new family size budget asked =
     let ends = asked.ends in
     let same = large_status family size budget (outcome_of ends.reached).status ends.ended in
-    let l = large_heard asked.rules asked.capture asked.read (TooLarge family size budget) (files_of old.desk)
-    (heard_of old.desk) (heard_of new.desk) ends.reached same refl ends.follows in
-    let its : l.family ≡ family = same_family l.family family (sym (ap family_in l.says)) in
-    let most : budget ≡ asked.read.max_words = ap budget_in l.says in
+    let l = large_heard asked.rules asked.capture asked.read (files_of old.desk) (heard_of old.desk)
+    (heard_of new.desk) ends.reached (sym (ap is_large same)) ends.follows in
+    let t = l.tables in
+    let says = same ∙ ap (λ (r : Reached Outcome). (outcome_of r).status) t.is in
+    let its : t.family ≡ family = same_family t.family family (sym (ap family_in says)) in
+    let most : budget ≡ asked.read.max_words = ap budget_in says in
     let gains = ends.text (λ e. absurd (cc)) (λ e. absurd (cc)) in
-    let total : size ≡ total_of (set_of family l.lists) budget =
-    ap words_in l.says
-    ∙ ap (λ (f : Family). total_of (set_of f l.lists) asked.read.max_words) its
-    ∙ ap (λ (n : ℕ). total_of (set_of family l.lists) n) (sym most) in
     record {
       rule_file = l.rule_file;
       capture = asked.capture;
@@ -276,14 +275,20 @@ needs_more words old new family size budget asked =
       named =
           asked.is
           ∙ ap (λ (name : List ℕ). codes "classify" ∷ name ∷ asked.capture ∷ asked.options) (sym l.named);
-      once = l.newest;
+      once = t.no_more;
       whole = l.whole;
       accepted = l.accepted;
       given = most ∙ asked.said.max_words;
-      total = total;
-      above = subst (λ (n : ℕ). budget < n) (sym (ap words_in l.says))
-          (subst (λ (n : ℕ). n < total_of (set_of l.family l.lists) asked.read.max_words) (sym most) l.above);
-      taken = gains.taken ∙ ap (λ (l : List ℕ). old.out.taken ++ l) l.silent ∙ append-nil old.out.taken;
+      total =
+          ap words_in says
+          ∙ ap (λ (f : Family). total_of (set_of f l.lists) asked.read.max_words) its
+          ∙ ap (λ (n : ℕ). total_of (set_of family l.lists) n) (sym most);
+      above = subst (λ (n : ℕ). budget < n) (sym (ap words_in says))
+          (subst (λ (n : ℕ). n < total_of (set_of t.family l.lists) asked.read.max_words) (sym most) t.above);
+      taken =
+          gains.taken
+          ∙ ap (λ (r : Reached Outcome). old.out.taken ++ (outcome_of r).text) t.is
+          ∙ append-nil old.out.taken;
     }
 
 pub classify_sizes : (words : List (List ℕ)) (old new : Outside) (status : Status) →

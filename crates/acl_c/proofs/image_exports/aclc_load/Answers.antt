@@ -1,12 +1,14 @@
+use Rattle.std.proofs.Common.{Some, ap, ◌∙◌}
+use Rattle.table_image.specs.Loading.{pair_of_tables}
 use Rattle.acl_c.proofs.Loading.{loads_pair, loads_none}
 use Rattle.acl_c.proofs.image_exports.aclc_load.Goals as goal
 
 pub returns-in-Ok-clause-empty : goal.returns-in-Ok-clause-empty
 returns-in-Ok-clause-empty c = λ none4 none6.
     let held = c.in-Ok.ensures in
-    loads_pair c.args.image.now c.in-Ok.pair.ip4.value c.in-Ok.pair.ip6.value c.put.new.self.slot.inside
-    c.put-in-Ok.new.self.slot.inside c.args.place.now c.load_pair.new.place held.ip4 held.ip6 held.pair held.placed
-    c.put.ensures c.put-in-Ok.ensures
+    rw (c.put.ensures ∙ ap Some held.ip4, c.put-in-Ok.ensures ∙ ap Some held.ip6, held.placed)
+    (loads_pair c.args.image.now (pair_of_tables c.in-Ok.pair.ip4.value.table c.in-Ok.pair.ip6.value.table)
+    c.args.place.now held.pair)
 
 pub returns-in-Err-clause-empty : goal.returns-in-Err-clause-empty
 returns-in-Err-clause-empty c = λ none4 none6.
