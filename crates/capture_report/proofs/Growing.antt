@@ -48,7 +48,7 @@ IsTaking-more before mid after packets packets_new old between new stop h one = 
         ∙ sym (map-append packet_of h.records one.records);
     keys = subst (All IsPacket) (sym one.packets_are)
         (All-append IsPacket packets (map packet_of one.records) h.keys one.keys);
-    took = Took-then before mid after h.records one.records h.given one.given old between new stop h.took one.took;
+    took = Took-then h.took one.took;
   },
   omega (
     arith,

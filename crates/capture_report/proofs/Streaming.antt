@@ -106,9 +106,7 @@ module _ (form : ReportForm) (state : AnyState) (old : Outside) (now : Standing)
 
   -- what was taken with it
   all_taken : Took state next (h.records ++ batch.records) (h.given ++ batch.given) old.desk new.desk stop
-  all_taken =
-      Took-then state now.state next h.records batch.records h.given batch.given old.desk now.outside.desk new.desk
-      stop h.took batch.took
+  all_taken = Took-then h.took batch.took
 
   -- the lines with its lines
   all_lines : lines_of_records form (h.records ++ batch.records)

@@ -56,11 +56,11 @@ module _ (before mid : AnyState) (first : List CaptureRecord) (given : List ℕ)
   AreOfBatch-then (Fault fault) after second more ending b = AreAll-then second more ending (Some fault) b
 
 -- records, and then more of them
-pub Took-then : (before mid after : AnyState) (first second : List CaptureRecord) (given more : List ℕ)
-    (old between new : DeskView) (stop : BatchEnd) →
+pub Took-then : {before mid after : AnyState} {first second : List CaptureRecord} {given more : List ℕ}
+    {old between new : DeskView} {stop : BatchEnd} →
     Took before mid first given old between Full → Took mid after second more between new stop →
     Took before after (first ++ second) (given ++ more) old new stop
-Took-then before mid after first second given more old between new stop a b = record {
+Took-then {before} {mid} {after} {first} {second} {given} {more} {old} {between} {new} {stop} a b = record {
   ending = b.ending;
   stood = b.stood;
   bytes = AreOfBatch-then before mid first given a.bytes stop after second more b.ending b.bytes;

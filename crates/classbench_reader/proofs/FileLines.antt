@@ -138,35 +138,65 @@ holds-more lines line file family.Ip6 is holds =
       six = ap (set_with (rule_of line)) holds.six ∙ ap ip6_set (sym one);
     }
 
--- a line was read as a rule
-pub IsReadUpTo-more : (bytes : List ℕ) (file new : RuleFile) (number ordinal : ℕ) (left line rest : List ℕ)
-    → IsNextLine bytes file number ordinal left line rest → is_skipped line ≡ false → ReadsLine ordinal line file new
-    → IsReadUpTo bytes new (number + 1) (ordinal + 1) rest
-IsReadUpTo-more bytes file new number ordinal left line rest next kept says =
-    let read = next.read in
-    let others = numbered_from (number + 1 + 1) (lines_of rest) in
-    let more = holds-more read.lines says.says file (family_of_line says.says) refl
-    (record { four = read.ip4; six = read.ip6 }) in
-    record {
-      lines = read.lines ++ says.says ∷ [];
-      counted = omega (arith, read.counted, length-append read.lines (says.says ∷ []));
-      few = omega (arith, within_limit ordinal line says.says says.read);
-      long = omega (arith, read.long, next.shorter);
-      ip4 = ap (λ f. f.ip4) says.added ∙ more.four;
-      ip6 = ap (λ f. f.ip6) says.added ∙ more.six;
-      joined = read.joined
-          ∙ ap (λ numbered. after_lines read.lines (rule_lines_from ordinal numbered))
-          (ap (numbered_from (number + 1)) next.cut ∙ numbered-rule (number + 1) line (lines_of rest) kept)
-          ∙ ap (λ found. after_lines read.lines (line_then (number + 1) found (rule_lines_from (ordinal + 1) others)))
-          says.read
-          ∙ after_lines-more read.lines (number + 1) says.says (rule_lines_from (ordinal + 1) others);
-    }
+-- The next line isn't skipped.
+module _ {bytes : List ℕ} {file : RuleFile} {number ordinal : ℕ} {left line rest : List ℕ}
+    (next : IsNextLine bytes file number ordinal left line rest) (kept : is_skipped line ≡ false) where
+  -- it was read as a rule
+  pub IsReadUpTo-more : (new : RuleFile) → ReadsLine ordinal line file new
+      → IsReadUpTo bytes new (number + 1) (ordinal + 1) rest
+  IsReadUpTo-more new says =
+      let read = next.read in
+      let others = numbered_from (number + 1 + 1) (lines_of rest) in
+      let more = holds-more read.lines says.says file (family_of_line says.says) refl
+      (record { four = read.ip4; six = read.ip6 }) in
+      record {
+        lines = read.lines ++ says.says ∷ [];
+        counted = omega (arith, read.counted, length-append read.lines (says.says ∷ []));
+        few = omega (arith, within_limit ordinal line says.says says.read);
+        long = omega (arith, read.long, next.shorter);
+        ip4 = ap (λ f. f.ip4) says.added ∙ more.four;
+        ip6 = ap (λ f. f.ip6) says.added ∙ more.six;
+        joined = read.joined
+            ∙ ap (λ numbered. after_lines read.lines (rule_lines_from ordinal numbered))
+            (ap (numbered_from (number + 1)) next.cut ∙ numbered-rule (number + 1) line (lines_of rest) kept)
+            ∙ ap (λ found. after_lines read.lines (line_then (number + 1) found (rule_lines_from (ordinal + 1) others)))
+            says.read
+            ∙ after_lines-more read.lines (number + 1) says.says (rule_lines_from (ordinal + 1) others);
+      }
+
+  -- it is faulty
+  rule_file-faulty : (fault : LineFault) → IsFaulty (number + 1) ordinal line fault → rule_file_of bytes ≡ Err fault
+  unfolding after_lines
+  rule_file-faulty fault faulty =
+      let read = next.read in
+      let others = rule_lines_from (ordinal + 1) (numbered_from (number + 1 + 1) (lines_of rest)) in
+      let said : rule_lines_from 1 (numbered_from 1 (lines_of bytes)) ≡ Err fault =
+      read.joined
+      ∙ ap (λ numbered. after_lines read.lines (rule_lines_from ordinal numbered))
+      (ap (numbered_from (number + 1)) next.cut ∙ numbered-rule (number + 1) line (lines_of rest) kept)
+      ∙ ap (λ found. after_lines read.lines (line_then (number + 1) found others)) faulty.faulty
+      ∙ ap (λ (n : ℕ). Err (record { line = n; kind = fault.kind })) (sym faulty.numbered) in
+      rw (le-ltb max_rule_file (length bytes) next.short, said) refl
+
+  -- where it isn't added, this is the fault of the file, unless memory lacks
+  pub told_fault : (found : RulesFault) → RefusesLine (number + 1) ordinal line found → (fault : LineFault)
+      → found ≡ Line fault → rule_file_of bytes ≡ Err fault
+  told_fault (Line met) refuses fault same = rule_file-faulty met refuses ∙ (cc)
+  told_fault OutOfMemory refuses fault same = absurd (cc)
+
+  -- and the other way round
+  pub met_fault : (found : RulesFault) → RefusesLine (number + 1) ordinal line found → (fault : LineFault)
+      → rule_file_of bytes ≡ Err fault → (found ≡ Line fault) ⊎ (found ≡ OutOfMemory)
+  met_fault (Line met) refuses fault is =
+      let told = rule_file-faulty met refuses in
+      inl (cc)
+  met_fault OutOfMemory refuses fault is = inr refl
 
 -- a line was skipped
-pub IsReadUpTo-skipped : (bytes : List ℕ) (file : RuleFile) (number ordinal : ℕ) (left line rest : List ℕ)
+pub IsReadUpTo-skipped : {bytes : List ℕ} {file : RuleFile} {number ordinal : ℕ} {left line rest : List ℕ}
     → IsNextLine bytes file number ordinal left line rest → is_skipped line ≡ true
     → IsReadUpTo bytes file (number + 1) ordinal rest
-IsReadUpTo-skipped bytes file number ordinal left line rest next skipped =
+IsReadUpTo-skipped {number = number} {ordinal = ordinal} {line = line} {rest = rest} next skipped =
     let read = next.read in
     record {
       lines = read.lines;
@@ -179,42 +209,6 @@ IsReadUpTo-skipped bytes file number ordinal left line rest next skipped =
           ∙ ap (λ numbered. after_lines read.lines (rule_lines_from ordinal numbered))
           (ap (numbered_from (number + 1)) next.cut ∙ numbered-skipped (number + 1) line (lines_of rest) skipped);
     }
-
--- the next line is faulty
-rule_file-faulty : (bytes : List ℕ) (file : RuleFile) (number ordinal : ℕ) (left line rest : List ℕ) (fault : LineFault)
-    → IsNextLine bytes file number ordinal left line rest → is_skipped line ≡ false
-    → IsFaulty (number + 1) ordinal line fault
-    → rule_file_of bytes ≡ Err fault
-unfolding after_lines
-rule_file-faulty bytes file number ordinal left line rest fault next kept faulty =
-    let read = next.read in
-    let others = rule_lines_from (ordinal + 1) (numbered_from (number + 1 + 1) (lines_of rest)) in
-    let said : rule_lines_from 1 (numbered_from 1 (lines_of bytes)) ≡ Err fault =
-    read.joined
-    ∙ ap (λ numbered. after_lines read.lines (rule_lines_from ordinal numbered))
-    (ap (numbered_from (number + 1)) next.cut ∙ numbered-rule (number + 1) line (lines_of rest) kept)
-    ∙ ap (λ found. after_lines read.lines (line_then (number + 1) found others)) faulty.faulty
-    ∙ ap (λ (n : ℕ). Err (record { line = n; kind = fault.kind })) (sym faulty.numbered) in
-    rw (le-ltb max_rule_file (length bytes) next.short, said) refl
-
--- a line that isn't added is the fault of the file, unless memory lacks
-pub told_fault : (bytes : List ℕ) (file : RuleFile) (number ordinal : ℕ) (left line rest : List ℕ)
-    → IsNextLine bytes file number ordinal left line rest → is_skipped line ≡ false
-    → (found : RulesFault) → RefusesLine (number + 1) ordinal line found → (fault : LineFault) → found ≡ Line fault
-    → rule_file_of bytes ≡ Err fault
-told_fault bytes file number ordinal left line rest next kept (Line met) refuses fault same =
-    rule_file-faulty bytes file number ordinal left line rest met next kept refuses ∙ (cc)
-told_fault bytes file number ordinal left line rest next kept OutOfMemory refuses fault same = absurd (cc)
-
--- and the other way round
-pub met_fault : (bytes : List ℕ) (file : RuleFile) (number ordinal : ℕ) (left line rest : List ℕ)
-    → IsNextLine bytes file number ordinal left line rest → is_skipped line ≡ false
-    → (found : RulesFault) → RefusesLine (number + 1) ordinal line found → (fault : LineFault)
-    → rule_file_of bytes ≡ Err fault → (found ≡ Line fault) ⊎ (found ≡ OutOfMemory)
-met_fault bytes file number ordinal left line rest next kept (Line met) refuses fault is =
-    let told = rule_file-faulty bytes file number ordinal left line rest met next kept refuses in
-    inl (cc)
-met_fault bytes file number ordinal left line rest next kept OutOfMemory refuses fault is = inr refl
 
 -- no line is left
 pub rule_file-all : (bytes : List ℕ) (file : RuleFile) (number ordinal : ℕ) (left : List ℕ)

@@ -33,7 +33,8 @@ use Rattle.pcapng_reader.specs.declared.kind.Kind.{Kind}
 use Rattle.pcapng_reader.specs.declared.kind.Kind.TheVariants.{Section, Interface, Packet, Other}
 use Rattle.pcapng_reader.proofs.BlockLaws.{front-whole}
 use Rattle.pcapng_reader.specs.Reading.{HasRead, HasBroken, ReadsPart, ReadsMore, HasNoBlock, BlockStands, FaultStands}
-use Rattle.pcapng_reader.specs.Reading.{IsBlock, ReadsBlock, stands}
+use Rattle.pcapng_reader.specs.Reading.{IsBlock, ReadsBlock, block_read, stands}
+use Rattle.pcapng_reader.specs.declared.blocks.BlockRead.{BlockRead}
 
 -- nothing was read yet but what was read before
 pub HasRead-none : (state : BlockState) (view : DeskView) → HasRead state state.first GoesOn view view
@@ -281,17 +282,14 @@ ReadsPart-none {E} state before more (Ok count) old new is fits filled =
 ReadsPart-none {E} state before more (Err fault) old new is fits filled =
     ReadsPart-failed {E = E} state [] before more fault old new is fits filled
 
--- where fewer bytes were read of a block, it is cut or a read failed
-pub ReadsMore-refused : {T : Type 0} (Are : T → List ℕ → Type 0) (fault : CaptureFault) (state : BlockState)
-    (part : List ℕ) (count number : ℕ) (old new : DeskView) →
-    ReadsMore Are state part count number old new (Err fault) →
-    ((more : List ℕ) → length more < count → HasRead state (part ++ more) Ended old new →
-    ReadsBlock state old new (Fault (PngCut number))) →
-    (HasBroken state part (length part + count) old new → ReadsBlock state old new (Fault ReadFault)) →
-    ReadsBlock state old new (Fault fault)
-ReadsMore-refused Are ReadFault state part count number old new more cut broken = broken more
-ReadsMore-refused Are fault state part count number old new more cut broken =
-    subst (λ f. ReadsBlock state old new (Fault f)) (sym more.0) (cut more.1.0 more.1.1 more.1.2)
+-- the block that was read, by what the code has in place of its parts
+pub as_read : {state : BlockState} {old new : DeskView} {bytes buffer : List ℕ} {says now : BlockState}
+    {r s : BlockRead} → buffer ≡ bytes → now ≡ says → s ≡ r → ReadsBlock state old new (block_read says bytes (Ok r)) →
+    ReadsBlock state old new (block_read now buffer (Ok s))
+as_read {state} {old} {new} {bytes} {buffer} {says} {now} {r} {s} is_bytes is_said is_read reads =
+    subst (λ b. ReadsBlock state old new (block_read now b (Ok s))) (sym is_bytes)
+    (subst (λ x. ReadsBlock state old new (block_read x bytes (Ok s))) (sym is_said)
+    (subst (λ x. ReadsBlock state old new (block_read says bytes (Ok x))) (sym is_read) reads))
 
 -- So many bytes more were read.
 pub record Passes (state : BlockState) (part : List ℕ) (count : ℕ) (old new : DeskView) : Type 0 where
@@ -299,43 +297,51 @@ pub record Passes (state : BlockState) (part : List ℕ) (count : ℕ) (old new 
   pub len : length more ≡ count
   pub read : HasRead state (part ++ more) GoesOn old new
 
--- where fewer bytes were read after those, fewer were read in all
-pub ReadsMore-later : {T U : Type 0} (Are : T → List ℕ → Type 0) (Before : U → List ℕ → Type 0) (fault : CaptureFault)
-    (state : BlockState) (part first : List ℕ) (few count number : ℕ) (old new : DeskView) →
-    length first + few ≤ count → ReadsMore Before state (part ++ first) few number old new (Err fault) →
-    ReadsMore Are state part count number old new (Err fault)
-ReadsMore-later Are Before ReadFault state part first few count number old new within more = record {
-  rest = first ++ more.rest;
-  read = subst (λ l. HasRead state l BrokenOff old new) (append_assoc part first more.rest) more.read;
-  few = omega (
-    arith,
-    within,
-    more.few,
-    length-append part (first ++ more.rest),
-    length-append first more.rest,
-    length-append (part ++ first) more.rest,
-    length-append part first,
-  );
-  rose = more.rose;
-}
-ReadsMore-later Are Before fault state part first few count number old new within more = (
-  more.0,
-  (
-    first ++ more.1.0,
-    omega (arith, within, more.1.1, length-append first more.1.0),
-    subst (λ l. HasRead state l Ended old new) (append_assoc part first more.1.0) more.1.2,
-  ),
-)
+-- After these bytes of a block more were asked for.
+module _ (state : BlockState) (part : List ℕ) (number : ℕ) (old new : DeskView) where
+  -- where fewer were read, the block is cut or a read failed
+  pub ReadsMore-refused : {T : Type 0} (Are : T → List ℕ → Type 0) (fault : CaptureFault) (count : ℕ) →
+      ReadsMore Are state part count number old new (Err fault) →
+      ((more : List ℕ) → length more < count → HasRead state (part ++ more) Ended old new →
+      ReadsBlock state old new (Fault (PngCut number))) →
+      (HasBroken state part (length part + count) old new → ReadsBlock state old new (Fault ReadFault)) →
+      ReadsBlock state old new (Fault fault)
+  ReadsMore-refused Are ReadFault count more cut broken = broken more
+  ReadsMore-refused Are fault count more cut broken =
+      subst (λ f. ReadsBlock state old new (Fault f)) (sym more.0) (cut more.1.0 more.1.1 more.1.2)
 
--- the same of fewer words about what was read
-pub ReadsMore-weaker : {T : Type 0} (Are Less : T → List ℕ → Type 0) (result : Result T CaptureFault) (state :
-    BlockState)
-    (part : List ℕ) (count len number : ℕ) (old new : DeskView) → count ≡ len →
-    ((x : T) (more : List ℕ) → Are x more → Less x more) →
-    ReadsMore Are state part count number old new result → ReadsMore Less state part len number old new result
-ReadsMore-weaker Are Less (Ok x) state part count len number old new same weaker more =
-    (more.0, weaker x more.0 more.1, more.2)
-ReadsMore-weaker Are Less (Err ReadFault) state part count len number old new same weaker more =
-    subst (λ n. HasBroken state part (length part + n) old new) same more
-ReadsMore-weaker Are Less (Err fault) state part count len number old new same weaker more =
-    (more.0, (more.1.0, omega (arith, same, more.1.1), more.1.2))
+  -- where fewer were read after the first of them, fewer were read in all
+  pub ReadsMore-later : {T U : Type 0} (Are : T → List ℕ → Type 0) (Before : U → List ℕ → Type 0)
+      (fault : CaptureFault) (first : List ℕ) (few count : ℕ) → length first + few ≤ count →
+      ReadsMore Before state (part ++ first) few number old new (Err fault) →
+      ReadsMore Are state part count number old new (Err fault)
+  ReadsMore-later Are Before ReadFault first few count within more = record {
+    rest = first ++ more.rest;
+    read = subst (λ l. HasRead state l BrokenOff old new) (append_assoc part first more.rest) more.read;
+    few = omega (
+      arith,
+      within,
+      more.few,
+      length-append part (first ++ more.rest),
+      length-append first more.rest,
+      length-append (part ++ first) more.rest,
+      length-append part first,
+    );
+    rose = more.rose;
+  }
+  ReadsMore-later Are Before fault first few count within more = (
+    more.0,
+    (
+      first ++ more.1.0,
+      omega (arith, within, more.1.1, length-append first more.1.0),
+      subst (λ l. HasRead state l Ended old new) (append_assoc part first more.1.0) more.1.2,
+    ),
+  )
+
+  -- the same of fewer words about what was read
+  pub ReadsMore-weaker : {T : Type 0} (Are Less : T → List ℕ → Type 0) (result : Result T CaptureFault) (count : ℕ) →
+      ((x : T) (more : List ℕ) → Are x more → Less x more) →
+      ReadsMore Are state part count number old new result → ReadsMore Less state part count number old new result
+  ReadsMore-weaker Are Less (Ok x) count weaker more = (more.0, weaker x more.0 more.1, more.2)
+  ReadsMore-weaker Are Less (Err ReadFault) count weaker more = more
+  ReadsMore-weaker Are Less (Err fault) count weaker more = more

@@ -1,7 +1,7 @@
 -- What a block comes to that has room in the buffer.
 use Rattle.std.proofs.Common.{◌≡◌, ◌≢◌, ℕ, ◌+◌, ◌-◌, ◌<◌, ◌≤◌, List, [], ◌++◌, length, take, drop, true, false, Ok, Err}
 use Rattle.std.proofs.Common.{inl}
-use Rattle.std.proofs.Common.{refl, sym, subst, ap, ◌∙◌, append_assoc, append-nil, length-append, length-take}
+use Rattle.std.proofs.Common.{refl, sym, ap, ◌∙◌, append_assoc, append-nil, length-append, length-take}
 use Rattle.std.proofs.Common.{length-drop, arith}
 use Rattle.std.proofs.lemmas.Bool.{ne_eqb, eq-eqb}
 use Rattle.pcap_reader.specs.Headers.{number_in}
@@ -18,7 +18,6 @@ use Rattle.pcapng_reader.specs.Block.{has_other_end, is_last, said_by, state_sai
 use Rattle.pcapng_reader.specs.declared.front.Front.{Front}
 use Rattle.pcapng_reader.specs.declared.said.Said.{Said}
 use Rattle.pcapng_reader.specs.declared.said.Said.TheVariants as said
-use Rattle.pcapng_reader.specs.declared.blocks.BlockRead.{BlockRead}
 use Rattle.pcapng_reader.specs.Reading.{HasRead, BlockStands, ReadsBlock, block_read, read_of}
 use Rattle.pcapng_reader.proofs.BlockLaws.{HasFront-from, front_least, front-append, said-append, said-cut_head}
 use Rattle.pcapng_reader.proofs.BlockLaws.{said-fault, said-cut, said-other_end, said-whole, block-said_fault}
@@ -48,16 +47,6 @@ pub same_end : (front : Front) (block : List ℕ) (n : ℕ) → length block ≡
     n ≡ number_in front.order block (length block - 4) 4 → n ≡ front.total → has_other_end front block ≡ false
 same_end front block n len is same =
     rw (eq-eqb (number_in front.order block (front.total - 4) 4) front.total (sym (rw len at is) ∙ same)) refl
-
--- the block by what the code has in place of it
-pub as_read : (state : BlockState) (before new : DeskView) (bytes buffer : List ℕ) (says now : BlockState)
-    (r s : BlockRead) → buffer ≡ bytes → now ≡ says → s ≡ r →
-    ReadsBlock state before new (block_read says bytes (Ok r)) →
-    ReadsBlock state before new (block_read now buffer (Ok s))
-as_read state before new bytes buffer says now r s is_bytes is_said is_read reads =
-    subst (λ b. ReadsBlock state before new (block_read now b (Ok s))) (sym is_bytes)
-    (subst (λ x. ReadsBlock state before new (block_read x bytes (Ok s))) (sym is_said)
-    (subst (λ x. ReadsBlock state before new (block_read says bytes (Ok x))) (sym is_read) reads))
 
 -- A front was read that isn't refused, and the rest of the block after it.
 module _ (state : BlockState) (front : Front) (first before rest : List ℕ) (old mid new : DeskView)

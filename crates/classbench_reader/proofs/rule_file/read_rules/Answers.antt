@@ -22,7 +22,7 @@ returns-in_err-add_line-clause-line c = λ fault told.
     let kept = sym c.is_skipped.ensures ∙ c.if-not-is_skipped.true in
     let found = c.in_err-add_line.field-0.0 in
     let answer : c.from_residual.result ≡ Err found = search rules in
-    told_fault _ _ _ _ _ _ _ next kept found c.in_err-add_line.ensures.err fault (cc)
+    told_fault next kept found c.in_err-add_line.ensures.err fault (cc)
 
 pub returns-in_err-add_line-clause-refused : goal.returns-in_err-add_line-clause-refused
 returns-in_err-add_line-clause-refused c = λ fault is.
@@ -37,7 +37,7 @@ returns-in_err-add_line-clause-refused c = λ fault is.
     let found = c.in_err-add_line.field-0.0 in
     let answer : c.from_residual.result ≡ Err found = search rules in
     ⊎_elim (λ line. inl (answer ∙ ap Err line)) (λ memory. inr (answer ∙ ap Err memory))
-    (met_fault _ _ _ _ _ _ _ next kept found c.in_err-add_line.ensures.err fault is)
+    (met_fault next kept found c.in_err-add_line.ensures.err fault is)
 
 pub loop-line-preserved-in_ok-add_line : goal.loop-line-preserved-in_ok-add_line
 loop-line-preserved-in_ok-add_line c =
@@ -49,7 +49,7 @@ loop-line-preserved-in_ok-add_line c =
       shorter = c.in-Some.ensures.shorter;
     } in
     let kept = sym c.is_skipped.ensures ∙ c.if-not-is_skipped.true in
-    IsReadUpTo-more _ _ _ _ _ _ _ _ next kept c.in_ok-add_line.ensures.ok
+    IsReadUpTo-more next kept _ c.in_ok-add_line.ensures.ok
 
 pub loop-line-preserved : goal.loop-line-preserved
 loop-line-preserved c =
@@ -61,7 +61,7 @@ loop-line-preserved c =
       shorter = c.in-Some.ensures.shorter;
     } in
     let skipped = sym c.is_skipped.ensures ∙ c.if-not-is_skipped.false in
-    IsReadUpTo-skipped _ _ _ _ _ _ _ next skipped
+    IsReadUpTo-skipped next skipped
 
 pub returns-clause-rules : goal.returns-clause-rules
 returns-clause-rules c =

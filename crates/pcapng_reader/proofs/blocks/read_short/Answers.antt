@@ -5,14 +5,13 @@ use Rattle.std.proofs.lemmas.List.{take_at, drop_at}
 use borrow.Rule.Slice.PartMut.{put_mid}
 use Rattle.acl_outside.specs.Heard.{GoesOn}
 use Rattle.acl_outside.specs.declared.desk.Failed.{Failed}
-use Rattle.pcapng_reader.specs.Block.{BlockState, front_of, has_other_end, least_len, said_by, state_said}
+use Rattle.pcapng_reader.specs.Block.{BlockState, front_of, has_other_end, least_len, said_by}
 use Rattle.pcapng_reader.specs.declared.front.Front.{Front}
 use Rattle.pcapng_reader.specs.declared.said.Said.TheVariants as said
-use Rattle.pcapng_reader.specs.declared.blocks.BlockRead.TheVariants as read
 use Rattle.pcap_reader.specs.Fill.{Fills}
-use Rattle.pcapng_reader.specs.Reading.{HasRead, StandsWithin, read_of}
+use Rattle.pcapng_reader.specs.Reading.{HasRead, StandsWithin}
 use Rattle.pcapng_reader.proofs.BlockLaws.{HasFront-from}
-use Rattle.pcapng_reader.proofs.ShortLaws.{block-filled, short-broken, short-whole, as_read}
+use Rattle.pcapng_reader.proofs.ShortLaws.{block-filled, short-broken, short-whole}
 use Rattle.pcapng_reader.proofs.blocks.read_short.Goals as goal
 
 -- A block whose front was read has twelve bytes and as many more as its length says.
@@ -117,10 +116,7 @@ returns-in-Some-clause-block g c since h =
     let packet = c.in-Some.ensures.1 in
     let all : c.in-Ok.count ≡ length (take (length block - 12) (drop 12 block)) =
     omega (arith, packet.whole, now.len, is.rest, is.there) in
-    as_read state since new (take 12 block ++ c.fill.new.into) _
-    (state_said state front (said.Packet place.link place.len)) c.count_packet.new.self
-    (read_of (said.Packet place.link place.len) 28) (read.Given place) now.parts c.count_packet.ensures
-    (ap (λ n. read.Given (record { link = place.link; at = n; len = place.len })) packet.start)
+    rw (now.parts, c.count_packet.ensures, packet.start)
     (short-whole state front (take 12 block) _ c.fill.new.into since (g.D.Desk.view c.args.desk.now) new
     c.requires.front is.first c.fill.auto.into is.total h {E = Failed} (said.Packet place.link place.len)
     (rw all at c.in-Ok.ensures) (omega (arith, is.least))

@@ -6,12 +6,13 @@ use Rattle.acl_outside.specs.declared.desk.Failed.{Failed}
 use Rattle.acl_outside.specs.Desk.{DeskView}
 use Rattle.pcap_reader.specs.declared.fault.CaptureFault.TheVariants.{PngCut, PngLength}
 use Rattle.pcapng_reader.specs.Block.{BlockState, Fault, front_of, has_other_end, least_len}
-use Rattle.pcapng_reader.specs.Block.{said_by, state_said}
+use Rattle.pcapng_reader.specs.Block.{said_by}
 use Rattle.pcapng_reader.specs.declared.front.Front.{Front}
-use Rattle.pcapng_reader.specs.Reading.{HasRest, ReadsBlock, read_of}
+use Rattle.pcapng_reader.specs.Reading.{HasRest, ReadsBlock}
 use Rattle.pcapng_reader.proofs.BlockLaws.{HasFront-from}
 use Rattle.pcapng_reader.proofs.ShortLaws.{short-cut_head, short-refused, short-cut, other_end, same_end}
-use Rattle.pcapng_reader.proofs.ShortLaws.{short-other_end, short-whole, as_read}
+use Rattle.pcapng_reader.proofs.ShortLaws.{short-other_end, short-whole}
+use Rattle.pcapng_reader.proofs.ReadLaws.{as_read}
 use Rattle.pcapng_reader.proofs.blocks.settle.Goals as goal
 
 -- A block whose front was read has twelve bytes and as many more as its length says.
@@ -94,8 +95,7 @@ returns-clause-block c before after h =
     let is = cut state front block c.args.count before after c.requires.front c.requires.total h in
     let all : c.args.count ≡ length h.before =
     omega (arith, c.if-len-block.false, c.requires.within, c.requires.total, is.total) in
-    as_read state before after (take 12 block ++ drop 12 block) block (state_said state front c.in-Ok.said)
-    c.learn.new.self (read_of c.in-Ok.said 28) c.read_of.result (sym is.parts) c.learn.ensures c.read_of.ensures
+    as_read (sym is.parts) c.learn.ensures c.read_of.ensures
     (short-whole state front (take 12 block) h.before (drop 12 block) before h.mid after c.requires.front is.first
     is.rest is.total h.front {E = Failed} c.in-Ok.said (rw all at h.rest) (omega (arith, is.least))
     (ap (said_by front.kind state front) is.parts ∙ sym c.said.ensures.said ∙ c.in-Ok.is)

@@ -45,10 +45,9 @@ pub returns-in-Err : goal.returns-in-Err
 returns-in-Err g c = record {
   more = λ state part before read.
       (let passed = c.pieces.invariant.passes state part before read in
-      ReadsMore-later (λ (end : ℕ) (more : List ℕ). EndIn c.args.order c.args.count end more)
-      (λ (done : Unit {0}) (more : List ℕ). length more ≡ c.min-len.result) c.in-Err.fault state part passed.more _
-      c.args.count c.args.number before
-      (g.D.Desk.view c.pass_piece.new.desk)
+      ReadsMore-later state part c.args.number before (g.D.Desk.view c.pass_piece.new.desk)
+      (λ (end : ℕ) (more : List ℕ). EndIn c.args.order c.args.count end more)
+      (λ (done : Unit {0}) (more : List ℕ). length more ≡ c.min-len.result) c.in-Err.fault passed.more _ c.args.count
       (omega (arith, passed.len, c.min-len.ensures, c.pieces.invariant.within))
       (c.in-Err.ensures.more state (part ++ passed.more) before passed.read));
 }
@@ -82,10 +81,10 @@ pub returns-in-Err-fill_part : goal.returns-in-Err-fill_part
 returns-in-Err-fill_part g c = record {
   more = λ state part before read.
       (let passed = c.pieces.invariant.passes state part before read in
-      ReadsMore-later (λ (end : ℕ) (more : List ℕ). EndIn c.args.order c.args.count end more)
-      (λ (done : Unit {0}) (more : List ℕ). more ≡ c.fill_part.new.into) c.in-Err-fill_part.fault state part
-      passed.more _ c.args.count c.args.number before
-      (g.D.Desk.view c.fill_part.new.desk)
+      ReadsMore-later state part c.args.number before (g.D.Desk.view c.fill_part.new.desk)
+      (λ (end : ℕ) (more : List ℕ). EndIn c.args.order c.args.count end more)
+      (λ (done : Unit {0}) (more : List ℕ). more ≡ c.fill_part.new.into) c.in-Err-fill_part.fault passed.more _
+      c.args.count
       (omega (arith, passed.len, c.requires.some))
       (c.in-Err-fill_part.ensures.more state (part ++ passed.more) before passed.read));
 }

@@ -14,8 +14,8 @@ part_of bytes len room few = omega (arith, room, few, length-take len bytes)
 pub returns-clause-more : goal.returns-clause-more
 returns-clause-more g c state part before h =
     let len = c.args.len in
-    ReadsMore-weaker (λ (done : Unit {0}) (more : List ℕ). more ≡ c.fill_part.new.into)
-    (λ (done : Unit {0}) (more : List ℕ). length more ≡ len) c.fill_part.result state part _ len c.args.number before
-    (g.D.Desk.view c.fill_part.new.desk) (part_of zeros len refl c.requires.few)
-    (λ x more is. ap length is ∙ c.fill_part.auto.into ∙ part_of zeros len refl c.requires.few)
-    (c.fill_part.ensures.more state part before h)
+    let all = part_of zeros len refl c.requires.few in
+    ReadsMore-weaker state part c.args.number before (g.D.Desk.view c.fill_part.new.desk)
+    (λ (done : Unit {0}) (more : List ℕ). more ≡ c.fill_part.new.into)
+    (λ (done : Unit {0}) (more : List ℕ). length more ≡ len) c.fill_part.result len
+    (λ x more is. ap length is ∙ c.fill_part.auto.into ∙ all) (rw all at (c.fill_part.ensures.more state part before h))

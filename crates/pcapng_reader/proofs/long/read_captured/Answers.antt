@@ -1,15 +1,13 @@
 -- The captured bytes were read, and then what is after them.
-use Rattle.std.proofs.Common.{◌≡◌, ℕ, ◌+◌, ◌-◌, ◌≤◌, List, ◌++◌, length, take, drop, Ok, refl, sym, subst, ap, ◌∙◌}
+use Rattle.std.proofs.Common.{◌≡◌, ℕ, ◌+◌, ◌-◌, ◌≤◌, List, ◌++◌, length, take, drop, refl, sym, subst, ap, ◌∙◌}
 use Rattle.std.proofs.Common.{arith, length-append, length-take}
 use Rattle.std.proofs.lemmas.List.{take_at}
-use Rattle.acl_outside.specs.Desk.{DeskView}
 use Rattle.pcap_reader.specs.declared.fault.CaptureFault.TheVariants.{PngCut, PngLength}
 use Rattle.pcap_reader.specs.Headers.{number_in}
-use Rattle.pcapng_reader.specs.Block.{BlockState, Fault, state_said}
-use Rattle.pcapng_reader.specs.declared.blocks.BlockRead.{BlockRead}
-use Rattle.pcapng_reader.specs.Reading.{EndIn, ReadsBlock, block_read, captured_by, read_of}
+use Rattle.pcapng_reader.specs.Block.{Fault}
+use Rattle.pcapng_reader.specs.Reading.{EndIn, ReadsBlock, captured_by}
 use Rattle.pcapng_reader.proofs.LongLaws.{head-more, long-broken, long-cut, long-other_end, long-whole}
-use Rattle.pcapng_reader.proofs.ReadLaws.{ReadsMore-refused}
+use Rattle.pcapng_reader.proofs.ReadLaws.{ReadsMore-refused, as_read}
 use Rattle.pcapng_reader.proofs.long.read_captured.Goals as goal
 
 pub returns-in-Err-clause-block : goal.returns-in-Err-clause-block
@@ -27,8 +25,8 @@ returns-in-Err-clause-block g c before part head h =
       c.captured_by-captured.ensures,
       length-take n c.args.buffer.now,
     ) in
-    ReadsMore-refused (λ (done : Unit {0}) (more : List ℕ). more ≡ c.fill_part.new.into) c.in-Err.fault state part _
-    (c.reader.inside.count + 1) before new
+    ReadsMore-refused state part (c.reader.inside.count + 1) before new
+    (λ (done : Unit {0}) (more : List ℕ). more ≡ c.fill_part.new.into) c.in-Err.fault _
     (c.in-Err.ensures.more state part before h)
     (λ more less read. subst (λ k. ReadsBlock state before new (Fault (PngCut (k + 1))))
     (sym (ap (λ s. s.count) c.reader.view_is))
@@ -55,8 +53,9 @@ returns-in-Err-pass_over-clause-block g c before part head h =
       length-take n c.args.buffer.now,
       length-append part read.0,
     ) in
-    ReadsMore-refused (λ (end : ℕ) (more : List ℕ). EndIn front.order (front.total - c.args.head - n) end more)
-    c.in-Err-pass_over.fault state (part ++ read.0) _ (c.reader.inside.count + 1) before new
+    ReadsMore-refused state (part ++ read.0) (c.reader.inside.count + 1) before new
+    (λ (end : ℕ) (more : List ℕ). EndIn front.order (front.total - c.args.head - n) end more)
+    c.in-Err-pass_over.fault _
     (c.in-Err-pass_over.ensures.more state (part ++ read.0) before read.2)
     (λ rest less has. subst (λ k. ReadsBlock state before new (Fault (PngCut (k + 1))))
     (sym (ap (λ s. s.count) c.reader.view_is))
@@ -87,14 +86,6 @@ returns-then-end-front-clause-block g c before part head h =
     rest.1.number)
     rest.2 c.if-end-front.true)
 
--- the block by what the code has in place of it
-as_read : (state : BlockState) (before new : DeskView) (buffer : List ℕ) (says now : BlockState) (r s : BlockRead) →
-    now ≡ says → s ≡ r → ReadsBlock state before new (block_read says buffer (Ok r)) →
-    ReadsBlock state before new (block_read now buffer (Ok s))
-as_read state before new buffer says now r s is_said is_read reads =
-    subst (λ x. ReadsBlock state before new (block_read x buffer (Ok s))) (sym is_said)
-    (subst (λ x. ReadsBlock state before new (block_read says buffer (Ok x))) (sym is_read) reads)
-
 pub returns-clause-block : goal.returns-clause-block
 returns-clause-block g c before part head h =
     let state = c.args.reader.now in
@@ -109,8 +100,7 @@ returns-clause-block g c before part head h =
     let holds : take (captured_by c.args.said) buffer ≡ read.0 =
     ap (λ k. take k buffer) (sym c.captured_by-captured.ensures)
     ∙ take_at c.fill_part.new.into (drop n c.args.buffer.now) n (omega (arith, ap length read.1, len)) ∙ sym read.1 in
-    as_read state before new buffer (state_said state front c.args.said) c.learn.new.self (read_of c.args.said 0)
-    c.read_of.result c.learn.ensures c.read_of.ensures
+    as_read refl c.learn.ensures c.read_of.ensures
     (long-whole state front part read.0 rest.0 c.args.said c.in-Ok-pass_over.end before new head.front_is
     head.enough head.says
     (omega (arith, rest.1.len, c.requires.head, c.requires.total, c.captured_by-captured.ensures))

@@ -49,8 +49,8 @@ returns-in-Err-clause-block g c before h =
       length-take (head - 12) (drop 12 buffer),
       length-drop 12 buffer,
     ) in
-    ReadsMore-refused (λ (done : Unit {0}) (more : List ℕ). more ≡ c.fill_part.new.into) c.in-Err.fault state (take 12
-    buffer) _ (c.reader.inside.count + 1) before new
+    ReadsMore-refused state (take 12 buffer) (c.reader.inside.count + 1) before new
+    (λ (done : Unit {0}) (more : List ℕ). more ≡ c.fill_part.new.into) c.in-Err.fault _
     (c.in-Err.ensures.more state (take 12 buffer) before h)
     (λ more less read. subst (λ k. ReadsBlock state before new (Fault (PngCut (k + 1))))
     (sym (ap (λ s. s.count) c.reader.view_is))

@@ -1,7 +1,7 @@
-use Rattle.std.proofs.Common.{◌+◌, ◌∙◌, None, Ok, Err, refl, sym, ap}
-use Rattle.pcap_reader.specs.State.{state_after, state_of}
-use Rattle.pcap_reader.proofs.NextAnswers.{ended, not_ended, TakesNext-ended, TakesNext-none, TakesNext-some}
-use Rattle.pcap_reader.proofs.NextAnswers.{TakesNext-failed}
+use Rattle.std.proofs.Common.{◌≡◌, ◌+◌, ◌∙◌, length, take, drop, Some, None, Ok, Err, refl, sym, ap}
+use Rattle.std.proofs.lemmas.List.{take_at}
+use Rattle.pcap_reader.specs.State.{record_of, state_after, state_of}
+use Rattle.pcap_reader.proofs.NextAnswers.{ended, not_ended, TakesNext-ended, TakesNext-reads}
 use Rattle.pcap_reader.proofs.capture.Capture.next.Goals as goal
 
 pub returns-then-eq : goal.returns-then-eq
@@ -20,13 +20,14 @@ returns-then-eq g c =
 pub returns-in-Ok-Some : goal.returns-in-Ok-Some
 returns-in-Ok-Some g c =
     let going = not_ended c.self.inside.state.progress c.eq.result c.eq.ensures c.if-eq.false in
-    let whole = c.read_record.auto.buffer ∙ c.deref_mut.ensures.len in (
+    let whole = c.read_record.auto.buffer ∙ c.deref_mut.ensures.len in
+    let rest = drop (length c.read_record.new.buffer) c.self.inside.buffer.items in
+    let lent : c.deref.result.now ≡ c.read_record.new.buffer =
+    c.deref.ensures.value ∙ take_at c.read_record.new.buffer rest c.self.inside.buffer.len whole in (
       (refl, (λ whole. tt), ap (λ state. state_of state.start (state.count + 1) state.progress) c.self.view_is),
       record {
-        «record» = TakesNext-some _ c.args.self.now (g.D.Desk.view c.args.desk.now)
-            (g.D.Desk.view c.read_record.new.desk) c.read_record.new.buffer _ c.deref.result.now _ c.in-Ok-Some.len
-            c.in-Ok-Some.field-0 c.self.view_is going whole c.deref.ensures.value c.in-Ok-Some.field-0-is
-            c.in-Ok-Some.ensures.record;
+        «record» = TakesNext-reads (λ own. Ok (Some (record_of own (take c.in-Ok-Some.len c.deref.result.now))))
+            c.self.view_is going (rw lent (rw c.in-Ok-Some.field-0-is at c.in-Ok-Some.ensures.record));
         goes_on = tt;
       },
     )
@@ -36,9 +37,8 @@ returns-in-Ok-None g c =
     let going = not_ended c.self.inside.state.progress c.eq.result c.eq.ensures c.if-eq.false in (
       (refl, (λ whole. tt), ap (λ state. state_after state (Ok None)) c.self.view_is),
       record {
-        «record» = TakesNext-none _ c.args.self.now (g.D.Desk.view c.args.desk.now)
-            (g.D.Desk.view c.read_record.new.desk) c.read_record.new.buffer c.in-Ok-None.field-0 c.self.view_is going
-            c.in-Ok-None.field-0-is c.in-Ok-None.ensures.record;
+        «record» = TakesNext-reads (λ own. Ok None) c.self.view_is going
+            (rw c.in-Ok-None.field-0-is at c.in-Ok-None.ensures.record);
         goes_on = tt;
       },
     )
@@ -48,8 +48,7 @@ returns-in-Err g c =
     let going = not_ended c.self.inside.state.progress c.eq.result c.eq.ensures c.if-eq.false in (
       (refl, (λ whole. tt), ap (λ state. state_after state (Err c.in-Err.fault)) c.self.view_is),
       record {
-        «record» = TakesNext-failed _ c.args.self.now (g.D.Desk.view c.args.desk.now)
-            (g.D.Desk.view c.read_record.new.desk) c.in-Err.fault c.self.view_is going c.in-Err.ensures.record;
+        «record» = TakesNext-reads (λ own. Err c.in-Err.fault) c.self.view_is going c.in-Err.ensures.record;
         goes_on = tt;
       },
     )
