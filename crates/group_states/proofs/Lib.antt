@@ -1,6 +1,7 @@
 pub mod Finds
 pub mod Categories
 pub mod Packed
+pub mod PackedWild
 pub mod PackedState
 pub mod RestSteps
 pub mod Prefixes

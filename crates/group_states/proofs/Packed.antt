@@ -2,7 +2,7 @@
 -- it is the free one.
 use Rattle.std.proofs.Common.{◌≡◌, ℕ, zero, suc, ◌+◌, ◌-◌, ◌*◌, ◌^◌, ◌<◌, ◌≤◌, List, [], ◌∷◌, ◌++◌, length, take, drop}
 use Rattle.std.proofs.Common.{fold, get_or, Bool, true, false, cond, ltb, eqb, IsTrue, Option, Some, None, refl, sym}
-use Rattle.std.proofs.Common.{◌∙◌, ap, subst, inl, inr, arith, length-append, add-one}
+use Rattle.std.proofs.Common.{◌∙◌, ap, subst, inl, inr, arith, length-append}
 use Rattle.std.specs.Option.{option_map, option_and_then, unwrap_or}
 use Rattle.std.specs.List.{AllZip, AllByRecursion}
 use Rattle.std.proofs.lemmas.List.{length-drop, drop-append-le, take-append-le, take_all, drop_all}
@@ -15,7 +15,7 @@ use Rattle.byte_numbers.specs.Number.{number_of}
 use Rattle.field_defs.specs.declared.field.FieldDef.{FieldDef}
 use Rattle.field_defs.specs.declared.field.FieldValue.{FieldValue}
 use Rattle.field_defs.specs.declared.field.FieldValue.TheVariants.{Mask, Range, Bitmask}
-use Rattle.field_defs.specs.FieldMatch.{field_match, is_size, is_wild, CanMatch, is_range_filled}
+use Rattle.field_defs.specs.FieldMatch.{field_match, is_size, CanMatch, is_range_filled}
 use Rattle.field_defs.specs.Layout.{key_len_of}
 use Rattle.rule_set.specs.Lawful.{IsLawfulValue}
 use Rattle.node_expand.specs.declared.edge.Edge.{Edge}
@@ -24,9 +24,8 @@ use Rattle.node_expand.specs.Rest.{Rest, Live, live_where, rest_after, rest_step
 use Rattle.node_expand.specs.Edges.{edge_of, rest_of, edge_after, edge_step, StandsBefore}
 use Rattle.node_expand.proofs.Offered.{rest_whole, rest_steps}
 use Rattle.node_expand.proofs.Offered.{range_start, mask_start, bitmask_start, step_form, starts}
-use Rattle.node_expand.proofs.Offered.{edges_say, edges_are_one, wild_stays_free}
+use Rattle.node_expand.proofs.Offered.{edges_say, edges_are_one}
 use Rattle.group_states.specs.Entry.{FieldPlace, field_at}
-use Rattle.group_states.specs.Kept.{is_wild_at}
 use Rattle.group_states.specs.RuleRest.{values_rest}
 
 abbrev pub packed_edge : List FieldDef → List FieldValue → List ℕ → Option Edge
@@ -110,7 +109,7 @@ none_on value size place prefix byte begun below none =
 abbrev pub before_at : FieldValue → ℕ → ℕ → Edge → Edge
 before_at value size place edge = cond (eqb place 0) (unwrap_or (edge_after value size 0 0) Free) edge
 
-abbrev kept_in : FieldValue → ℕ → List ℕ → Option Edge
+abbrev pub kept_in : FieldValue → ℕ → List ℕ → Option Edge
 kept_in value size key = cond (eqb (length key) 0) (Some Free) (edge_after value size (length key) (number_of key))
 
 -- the step from the edge kept in a field is the edge after one more byte
@@ -178,7 +177,7 @@ module _ (def : FieldDef) (defs : List FieldDef) (value : FieldValue) (values : 
     (lawful : IsLawfulValue def value) (others : AllZip IsLawfulValue defs values)
     (key : List ℕ) (byte : ℕ) (small : byte < 256) where
   -- one more byte of the field
-  packed_goes_on : length key < def.size
+  pub packed_goes_on : length key < def.size
       → packed_edge (def ∷ defs) (value ∷ values) (key ++ byte ∷ [])
       ≡ edge_after value def.size (length key + 1) (number_of key * 256 + byte)
   packed_goes_on begun = elim (cases_lt (length key + 1) def.size) [
@@ -483,51 +482,4 @@ packed_apart (def ∷ defs) (value ∷ values) one other edge another small othe
           (ap (λ n. rest_at defs values n edge) rest_long ∙ sym (cond-false _ _ _ no_more)
           ∙ same ∙ cond-false _ _ _ no_more
           ∙ sym (ap (λ n. rest_at defs values n another) rest_long))
-    ]
-
--- ---- places at which a rule is wild
-
-wild_in : (def : FieldDef) (defs : List FieldDef) (value : FieldValue) (values : List FieldValue) (key : List ℕ)
-    (byte : ℕ) → IsLawfulValue def value → AllZip IsLawfulValue defs values → AreBytes key →
-    byte < 256 → length key < def.size → is_wild value def.size ≡ true
-    → packed_edge (def ∷ defs) (value ∷ values) (key ++ byte ∷ []) ≡ kept_in value def.size key
-wild_in def defs value values [] byte lawful others small below begun wild =
-    packed_goes_on def defs value values lawful others [] byte below begun
-    ∙ wild_stays_free.edge value def.size (length {A = ℕ} [] + 1) (0 * 256 + byte) lawful.can_match wild (omega arith)
-    (omega arith)
-wild_in def defs value values (k ∷ ks) byte lawful others small below begun wild =
-    let place : ℕ = length (k ∷ ks) in
-    let some : eqb place 0 ≡ false = ne_eqb place 0 (λ e. omega arith) in
-    let prefix : number_of (k ∷ ks) < 256 ^ place = number_small (k ∷ ks) small in
-    let next : 256 ^ (place + 1) ≡ 256 ^ place * 256 = rw add-one (pow-suc 256 place) in
-    packed_goes_on def defs value values lawful others (k ∷ ks) byte below begun
-    ∙ wild_stays_free.edge value def.size (place + 1) (number_of (k ∷ ks) * 256 + byte) lawful.can_match wild
-    (omega arith) (omega (arith, prefix, next))
-    ∙ sym (wild_stays_free.edge value def.size place (number_of (k ∷ ks)) lawful.can_match wild (omega arith) prefix)
-    ∙ sym (ap (λ b. cond b (Some Free) (edge_after value def.size place (number_of (k ∷ ks)))) some)
-
--- a byte at a place at which the rule is wild leaves the edge as it is
-pub packed_wild : (defs : List FieldDef) (values : List FieldValue) (key : List ℕ) (byte : ℕ)
-    → AllZip IsLawfulValue defs values → AreBytes key → byte < 256 → length key < key_len_of defs →
-    is_wild_at defs values (length key) ≡ true
-    → packed_edge defs values (key ++ byte ∷ []) ≡ packed_edge defs values key
-packed_wild [] values key byte lawful small below within wild = absurd (omega arith)
-packed_wild (def ∷ defs) [] key byte lawful small below within wild = absurd lawful
-packed_wild (def ∷ defs) (value ∷ values) key byte lawful small below within wild =
-    elim (cases_lt (length key) def.size) [
-      | inl begun ↦
-          wild_in def defs value values key byte lawful.0 lawful.1 small below begun
-          (sym (cond-true _ _ _ (lt-ltb (length key) def.size begun)) ∙ wild)
-          ∙ sym (packed_in def defs value values key begun)
-      | inr after ↦
-          let rest : List ℕ = drop def.size key in
-          let long : length rest ≡ length key - def.size = length-drop def.size key in
-          packed_after def defs value values (key ++ byte ∷ []) (omega (arith, length_one_more key byte))
-          ∙ (λ i. cond (field_match value def.size (number_of (take-append-le def.size key (byte ∷ []) after i)))
-          (packed_edge defs values (drop-append-le def.size key (byte ∷ []) after i)) None)
-          ∙ ap (λ found. cond (field_match value def.size (number_of (take def.size key))) found None)
-          (packed_wild defs values rest byte lawful.1 (bytes_after def.size key small) below
-          (omega (arith, long, within, sum_by-cons (λ (d : FieldDef). d.size) def defs))
-          (ap (is_wild_at defs values) long ∙ sym (cond-false _ _ _ (le-ltb (length key) def.size after)) ∙ wild))
-          ∙ sym (packed_after def defs value values key after)
     ]

@@ -27,7 +27,8 @@ use Rattle.node_expand.specs.Edges.{edge_step, StandsBefore}
 use Rattle.node_expand.proofs.Offered.{rests_compared}
 use Rattle.std.proofs.lemmas.Slice.Eq.{bytes_eq-Decides}
 use Rattle.group_states.proofs.Packed.{packed_edge, stepped, before_at, rest_at, AreBytes, Stands, packed_steps}
-use Rattle.group_states.proofs.Packed.{packed_rests, packed_apart, packed_wild, packed_nothing}
+use Rattle.group_states.proofs.Packed.{packed_rests, packed_apart, packed_nothing}
+use Rattle.group_states.proofs.PackedWild.{packed_wild}
 use Rattle.group_states.specs.Entry.{entry_of, number_in, edge_in, edge_coded, value_in, edge_before, field_at}
 use Rattle.group_states.specs.Entry.{column_at, entry_step, entries_step, CanStep}
 use Rattle.group_states.specs.Kept.{is_wild_at, is_wild_place}
