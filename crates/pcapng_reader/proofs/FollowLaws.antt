@@ -22,8 +22,8 @@ use Rattle.pcapng_reader.specs.Capture.{with_state}
 use Rattle.pcapng_reader.specs.Following.{FollowsWhole}
 use Rattle.pcapng_reader.specs.Reader.{count_of, progress_of, start_len, start_of}
 use Rattle.pcapng_reader.specs.Reading.{HasNoBlock}
-use Rattle.pcapng_reader.proofs.BlockLaws.{Came, Empty, Faulty, Whole, came, block_more, IsDecidedBlock}
-use Rattle.pcapng_reader.proofs.BlockLaws.{IsShorterBlock, block-shorter, front_least, HasFront-from, short-stuck}
+use Rattle.pcapng_reader.proofs.BlockLaws.{block_more, IsDecidedBlock}
+use Rattle.pcapng_reader.proofs.BlockLaws.{front_least, HasFront-from}
 use Rattle.pcapng_reader.proofs.PacketLaws.{CountsBlock, block-counts}
 use Rattle.pcapng_reader.proofs.NextLaws.{block_cases, block_of-append, next-passed, next-end, next-given, next-fault}
 use Rattle.pcapng_reader.proofs.NextLaws.{next_cases, next_more, next-append, IsDecidedNext, IsShorterNext}
@@ -31,6 +31,7 @@ use Rattle.pcapng_reader.proofs.NextLaws.{next-shorter}
 use Rattle.pcapng_reader.proofs.CaptureLaws.{records-end, records-fault, records-record, records-step, savefile-records}
 use Rattle.pcapng_reader.proofs.StartLaws.{len_cases, start-append, start-begun}
 use Rattle.pcapng_reader.proofs.BeginLaws.{capture-start, start-fault}
+use Rattle.pcapng_reader.proofs.BlockEnds.{Came, Empty, Faulty, Whole, came, IsShorterBlock, block-shorter, short-stuck}
 
 -- a reader that gave a record has counted it, and goes on as before
 abbrev pub CountsNext : AnyState → Next → Type 0

@@ -21,9 +21,10 @@ use Rattle.pcapng_reader.specs.declared.blocks.BlockRead.{BlockRead}
 use Rattle.pcapng_reader.specs.declared.blocks.BlockRead.TheVariants as read
 use Rattle.pcapng_reader.specs.Reading.{HasRead, HasBroken, ReadsBlock, StandsWithin, block_read}
 use Rattle.pcapng_reader.proofs.BlockLaws.{HasFront-from, front_least, block-none, block-front_fault, front-cut}
-use Rattle.pcapng_reader.proofs.BlockLaws.{front-whole, short-stuck}
+use Rattle.pcapng_reader.proofs.BlockLaws.{front-whole}
 use Rattle.pcapng_reader.proofs.Steps.{refuse-no}
 use Rattle.pcapng_reader.proofs.ReadLaws.{ReadsBlock-is, ReadsBlock-broken, ReadsBlock-plain, front-plain}
+use Rattle.pcapng_reader.proofs.BlockEnds.{short-stuck}
 
 -- no byte was left
 pub front-end : (state : BlockState) (part : List ℕ) (old new : DeskView) → length part ≡ 0 →

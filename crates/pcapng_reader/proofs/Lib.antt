@@ -1,5 +1,6 @@
 mod AnswersLaws
 mod BeginLaws
+mod BlockEnds
 mod BlockLaws
 mod CaptureLaws
 mod FollowLaws

@@ -30,8 +30,8 @@ use Rattle.pcapng_reader.specs.Reading.{captured_by, read_of}
 use Rattle.pcapng_reader.proofs.BlockLaws.{HasFront-from, front-append, said-append, said-cut_head}
 use Rattle.pcapng_reader.proofs.BlockLaws.{said-fault, said-cut, said-other_end, said-whole, block-said_fault}
 use Rattle.pcapng_reader.proofs.BlockLaws.{block-whole}
-use Rattle.pcapng_reader.proofs.BlockLaws.{short-stuck}
 use Rattle.pcapng_reader.proofs.ReadLaws.{ReadsBlock-is, ReadsBlock-broken, ReadsBlock-plain, said-plain}
+use Rattle.pcapng_reader.proofs.BlockEnds.{short-stuck}
 
 -- A block's front isn't refused, and these bytes of it were read, at least the front.
 module _ (state : BlockState) (front : Front) (part : List ℕ) (old new : DeskView)

@@ -15,12 +15,12 @@ use Rattle.pcapng_reader.specs.declared.said.Said.{Said}
 use Rattle.pcapng_reader.specs.declared.said.Said.TheVariants as said
 use Rattle.pcapng_reader.specs.Reader.{HasNoRecord}
 use Rattle.pcapng_reader.specs.Reading.{HasNoBlock}
-use Rattle.pcapng_reader.proofs.BlockLaws.{Came, Empty, Faulty, Whole, came, HasFront-from, front_least, short-stuck}
+use Rattle.pcapng_reader.proofs.BlockLaws.{HasFront-from, front_least}
 use Rattle.pcapng_reader.specs.Block as block
 use Rattle.pcapng_reader.specs.Capture.{AnyState, Savefile, Blocks, Next, End, Record, Fault, with_state, past_block}
 use Rattle.pcapng_reader.specs.Capture.{first_of, next_within, next_of, size_of}
 use Rattle.pcapng_reader.proofs.BlockLaws.{IsDecidedFault, IsDecidedBlock, block_more, block-append}
-use Rattle.pcapng_reader.proofs.BlockLaws.{IsShorterBlock, block-shorter}
+use Rattle.pcapng_reader.proofs.BlockEnds.{Came, Empty, Faulty, Whole, came, short-stuck, IsShorterBlock, block-shorter}
 
 -- the next block is one of four
 pub block_cases : (b : Block) → (b ≡ block.End) ⊎ (((now : BlockState) × (after : List ℕ) × (b ≡ block.Passed now

@@ -25,8 +25,9 @@ use Rattle.pcapng_reader.specs.declared.said.Said.TheVariants as said
 use Rattle.pcapng_reader.specs.Packets.{Finds, Counts}
 use Rattle.pcapng_reader.specs.Reader.{AnswerStands, HasNoRecord, IsEnd, IsNext}
 use Rattle.pcapng_reader.specs.Reading.{HasNoBlock, ReadsBlock, stands}
-use Rattle.pcapng_reader.proofs.BlockLaws.{Came, Empty, Faulty, Whole, came, IsDecidedBlock, block_more}
+use Rattle.pcapng_reader.proofs.BlockLaws.{IsDecidedBlock, block_more}
 use Rattle.pcapng_reader.proofs.NextLaws.{block_of-append, next-passed, next-given, next-end, next-fault}
+use Rattle.pcapng_reader.proofs.BlockEnds.{Came, Empty, Faulty, Whole, came}
 
 -- What a reader knows after a block: it has counted it.
 abbrev pub CountsBlock : BlockState → Block → Type 0

@@ -22,9 +22,9 @@ use Rattle.pcapng_reader.specs.Reading.{HasRead, BlockStands, ReadsBlock, block_
 use Rattle.pcapng_reader.proofs.BlockLaws.{HasFront-from, front_least, front-append, said-append, said-cut_head}
 use Rattle.pcapng_reader.proofs.BlockLaws.{said-fault, said-cut, said-other_end, said-whole, block-said_fault}
 use Rattle.pcapng_reader.proofs.BlockLaws.{block-whole}
-use Rattle.pcapng_reader.proofs.BlockLaws.{short-stuck}
 use Rattle.pcapng_reader.proofs.ReadLaws.{HasRead-full, HasRead-short, HasRead-either, HasBroken-from}
 use Rattle.pcapng_reader.proofs.ReadLaws.{ReadsBlock-is, ReadsBlock-broken, ReadsBlock-plain, said-plain}
+use Rattle.pcapng_reader.proofs.BlockEnds.{short-stuck}
 
 -- bytes of which the rest was read into its place, after so many
 pub block-filled : (n : ℕ) (bytes rest : List ℕ) → n ≤ length bytes → length rest ≡ length bytes - n →
