@@ -33,7 +33,7 @@ fn by_protocol(protocol: u64, mask: u64, priority: i32, userdata: u32) -> Rule<5
 fn build(rt: &impl Abort, context: &mut AclContext) -> Result<(), Fail> {
     context.add_rules(&[by_protocol(6, 255, 3, 60), by_protocol(0, 0, 1, 10)])?;
     context.add_rules(&[by_protocol(17, 255, 2, 170), by_protocol(1, 255, 2, 11)])?;
-    assert_eq!(rt; context.rules().len(), 4usize);
+    assert!(rt; context.rules().len() == 4usize);
     context.build(1000)?;
     Ok(())
 }

@@ -99,7 +99,7 @@ pub(crate) fn answered(
 /// The two walks said the same.
 fn assert_alike(rt: &impl Abort, scalar: &Said, lanes: &Said) {
     assert!(rt; scalar.taken.is_some());
-    assert_eq!(rt; scalar.taken, lanes.taken);
+    assert!(rt; scalar.taken == lanes.taken);
     assert!(rt; scalar.verdicts == lanes.verdicts);
 }
 
@@ -113,6 +113,6 @@ pub(crate) fn assert_answers(
     expected: &[u32],
 ) -> Result<(), Fail> {
     let said = answered(rt, alloc, context, keys, n, count)?;
-    assert_eq!(rt; said.as_slice(), expected);
+    assert!(rt; said.as_slice() == expected);
     Ok(())
 }

@@ -69,9 +69,9 @@ fn expect(
     expected: Option<[u32; 2]>,
 ) {
     let scalar = verdicts::<Brand>(Blank::new(1), context, Walk::Scalar, scratch);
-    assert_eq!(rt; scalar, expected);
+    assert!(rt; scalar == expected);
     let lanes = verdicts::<Brand>(Blank::new(1), context, Walk::Lanes, scratch);
-    assert_eq!(rt; lanes, expected);
+    assert!(rt; lanes == expected);
 }
 
 #[test]
@@ -89,12 +89,9 @@ fn a_context_answers_by_its_last_build(rt: HostRuntime) -> Result<(), Fail> {
 /// A rule more than there may be is refused, and one in no category.
 fn refuse_rules(rt: &impl Abort, context: &mut AclContext) {
     let two = context.add_rules(&[wild(1, 7), wild(1, 8)]);
-    assert_eq!(rt; two, Err(AddFault::Full));
+    assert!(rt; two == Err(AddFault::Full));
     let in_no_category = context.add_rules(&[wild(0x10000, 7)]);
-    assert_eq!(rt;
-        in_no_category,
-        Err(AddFault::RuleRefused(0, RuleFault::NoCategory))
-    );
+    assert!(rt; in_no_category == Err(AddFault::RuleRefused(0, RuleFault::NoCategory)));
 }
 
 /// There is no answer before the first build.
@@ -115,7 +112,7 @@ fn keep_first(rt: &impl Abort, scratch: &mut Scratch, context: &mut AclContext) 
         words: 33,
         budget: 32,
     });
-    assert_eq!(rt; context.build(32), too_large);
+    assert!(rt; context.build(32) == too_large);
     expect(rt, scratch, context, Some([7, 7]));
     context.reset_rules();
     expect(rt, scratch, context, Some([7, 7]));
@@ -139,7 +136,7 @@ fn a_list_that_is_half_refused_leaves_nothing(rt: HostRuntime) -> Result<(), Fai
     let mut context = AclContext::create(rt.alloc(), ip4_layout(), 8);
     refuse_half(&rt, &mut context);
     add_stored(rt.alloc(), &mut context)?;
-    assert_eq!(rt; context.rules().len(), 1);
+    assert!(rt; context.rules().len() == 1);
     assert!(rt; context.table().is_none());
     Ok(())
 }
@@ -147,7 +144,7 @@ fn a_list_that_is_half_refused_leaves_nothing(rt: HostRuntime) -> Result<(), Fai
 /// A rule in no category leaves out the one before it too.
 fn refuse_half(rt: &impl Abort, context: &mut AclContext) {
     let half = context.add_rules(&[wild(1, 7), wild(0x10000, 8)]);
-    assert_eq!(rt; half, Err(AddFault::RuleRefused(1, RuleFault::NoCategory)));
+    assert!(rt; half == Err(AddFault::RuleRefused(1, RuleFault::NoCategory)));
     assert!(rt; context.rules().is_empty());
 }
 
@@ -163,7 +160,7 @@ fn a_context_made_of_a_set_holds_its_rules(rt: HostRuntime) -> Result<(), Fail> 
     let set = set_of_one(rt.alloc())?;
     assert!(rt; set.len() == 1);
     let mut context = AclContext::holding(rt.alloc(), set, 1);
-    assert_eq!(rt; context.add_rules(&[wild(1, 8)]), Err(AddFault::Full));
+    assert!(rt; context.add_rules(&[wild(1, 8)]) == Err(AddFault::Full));
     build_first(&rt, &mut scratch, &mut context)?;
     context.reset();
     assert!(rt; context.rules().is_empty());

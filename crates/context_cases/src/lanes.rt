@@ -96,7 +96,7 @@ fn two_walks_of_thirteen_words_take_fourteen_turns(rt: HostRuntime) -> Result<()
     busy[0] = 0;
     let mut done = [false; 14];
     done[13] = true;
-    assert_eq!(rt; turns, Some((busy, done)));
+    assert!(rt; turns == Some((busy, done)));
     Ok(())
 }
 
@@ -199,7 +199,7 @@ fn expect(
             won,
         )),
     ];
-    assert_eq!(rt; found, wanted);
+    assert!(rt; found == wanted);
     Ok(())
 }
 

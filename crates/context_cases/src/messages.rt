@@ -17,7 +17,7 @@ fn assert_says<F: Display + Drop>(
     text: &str,
 ) -> Result<(), Fail> {
     let said = format!(in alloc; "{fault}")?;
-    assert_eq!(rt; said.as_str(), text);
+    assert!(rt; said.as_str() == text);
     Ok(())
 }
 

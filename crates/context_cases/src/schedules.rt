@@ -97,10 +97,7 @@ fn expect<const W: usize>(
     let mut out = [9u32; 2];
     let out = &mut out[..verdicts.len()];
     let keys = &KEYS[..13 * verdicts.len()];
-    assert_eq!(rt;
-        scheduled::<W>(table, keys, slots, scratch, out),
-        Some(done)
-    );
+    assert!(rt; scheduled::<W>(table, keys, slots, scratch, out) == Some(done));
     assert!(rt; &*out == verdicts);
 }
 

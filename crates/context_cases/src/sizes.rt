@@ -71,12 +71,12 @@ fn assert_plain(
 /// These are the verdicts of the plain filter over the rules, key by key.
 fn are_plain(rt: &impl Abort, said: &[u32], rules: &RuleSet, keys: &[[u8; KEY_LEN]], count: u32) {
     assert!(rt; count <= 16);
-    assert_eq!(rt; rules.layout().key_len(), KEY_LEN);
+    assert!(rt; rules.layout().key_len() == KEY_LEN);
     let mut said = said.iter();
     for key in keys {
         for category in 0..count {
             let plain = plain_verdict(rules, key, category);
-            assert_eq!(rt; said.next().copied(), Some(plain));
+            assert!(rt; said.next().copied() == Some(plain));
         }
     }
 }
@@ -95,8 +95,8 @@ fn context_of(rt: &impl Abort, alloc: Global, rules: &RuleSet) -> Result<AclCont
 /// The context's table has eight tries and the words that were counted.
 fn is_split(rt: &impl Abort, context: &AclContext) {
     let table = context.table().expect(rt, "a table");
-    assert_eq!(rt; table.tries(), 8usize);
-    assert_eq!(rt; table.total_words(), WORDS);
+    assert!(rt; table.tries() == 8usize);
+    assert!(rt; table.total_words() == WORDS);
 }
 
 /// A context of the rules answers as the plain filter in any number of categories.
@@ -119,7 +119,7 @@ fn a_context_of_1024_rules_answers_as_the_plain_filter(rt: HostRuntime) -> Resul
     let mut workload = make_rules(rt.alloc(), 1, RULES)?;
     let drawn = draw(rt.alloc(), &mut workload)?;
     let rules = workload.rules();
-    assert_eq!(rt; rules.len(), RULES as usize);
+    assert!(rt; rules.len() == RULES as usize);
     answers_plainly(&rt, rt.alloc(), rules, &drawn)
 }
 
@@ -127,9 +127,9 @@ fn a_context_of_1024_rules_answers_as_the_plain_filter(rt: HostRuntime) -> Resul
 fn as_many_rules_are_ranked_and_planned(rt: HostRuntime) -> Result<(), Fail> {
     let workload = make_rules(rt.alloc(), 1, RULES)?;
     let ranks = ranks(rt.alloc(), workload.rules())?;
-    assert_eq!(rt; ranks.iter().max().copied(), Some(RULES));
+    assert!(rt; ranks.iter().max().copied() == Some(RULES));
     let plan = plan(rt.alloc(), workload.rules(), BUDGET)?;
-    assert_eq!(rt; plan.levels().len(), 8usize);
-    assert_eq!(rt; plan.total(), WORDS);
+    assert!(rt; plan.levels().len() == 8usize);
+    assert!(rt; plan.total() == WORDS);
     Ok(())
 }

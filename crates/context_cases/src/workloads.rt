@@ -29,7 +29,7 @@ fn the_first_rule_of_seed_42_has_its_six_words(rt: HostRuntime) -> Result<(), Fa
             high: 33846,
         },
     ];
-    assert_eq!(rt; rules.len(), 1);
+    assert!(rt; rules.len() == 1);
     for rule in rules {
         is_first(&rt, rule, &fields);
     }
@@ -38,10 +38,10 @@ fn the_first_rule_of_seed_42_has_its_six_words(rt: HostRuntime) -> Result<(), Fa
 
 /// Asserts that the rule has these values, and the tag of the first rule.
 fn is_first(rt: &impl Abort, rule: &StoredRule, fields: &[FieldValue]) {
-    assert_eq!(rt; rule.fields(), fields);
-    assert_eq!(rt; rule.tag().priority, 955);
-    assert_eq!(rt; rule.tag().category_mask, 11357);
-    assert_eq!(rt; rule.tag().userdata, 1);
+    assert!(rt; rule.fields() == fields);
+    assert!(rt; rule.tag().priority == 955);
+    assert!(rt; rule.tag().category_mask == 11357);
+    assert!(rt; rule.tag().userdata == 1);
 }
 
 #[test]
@@ -52,6 +52,6 @@ fn a_key_without_rules_is_drawn_freely(rt: HostRuntime) -> Result<(), Fail> {
     let first = [
         0xA1, 10, 0x47, 0xF4, 9, 10, 0x1D, 0x33, 0x30, 0x83, 0xD2, 0xF2, 0x93,
     ];
-    assert_eq!(rt; key, first);
+    assert!(rt; key == first);
     Ok(())
 }

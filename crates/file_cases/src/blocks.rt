@@ -61,7 +61,7 @@ fn gives<D: Desk>(
     ensures { IsTrue (D.view desk.new).reading }
 {
     assert!(rt; !capture.failed());
-    assert_eq!(rt; capture.next(desk), want);
+    assert!(rt; capture.next(desk) == want);
 }
 
 /// Asserts that the capture has so many of the records and this ending.
@@ -81,8 +81,8 @@ fn has_records<D: Desk>(
         Ok(()) => gives(rt, desk, capture, Ok(None)),
         Err(fault) => gives(rt, desk, capture, Err(fault)),
     }
-    assert_eq!(rt; capture.failed(), ending.is_err());
-    assert_eq!(rt; capture.count(), records as u64);
+    assert!(rt; capture.failed() == ending.is_err());
+    assert!(rt; capture.count() == records as u64);
 }
 
 /// Asserts that the opened file is a capture with so many of the records and this ending.
@@ -96,7 +96,7 @@ fn shows<R: Abort + AllocGlobal, D: Desk>(
 {
     match AnyCapture::begin(rt.alloc(), desk) {
         Ok(mut capture) => has_records(rt, desk, &mut capture, records, ending),
-        Err(fault) => assert_eq!(rt; ending.map_err(BeginFault::Capture), Err(fault)),
+        Err(fault) => assert!(rt; ending.map_err(BeginFault::Capture) == Err(fault)),
     }
 }
 

@@ -42,7 +42,7 @@ fn gives<D: Desk>(
     ensures { IsTrue (D.view desk.new).reading }
 {
     assert!(rt; !capture.failed());
-    assert_eq!(rt; capture.next(desk), want);
+    assert!(rt; capture.next(desk) == want);
 }
 
 /// Asserts that the capture is of Ethernet frames with these records and this ending.
@@ -55,7 +55,7 @@ fn has_records<D: Desk>(
 )
     requires { IsTrue (D.view desk.old).reading }
 {
-    assert_eq!(rt; capture.link(), Link::Ethernet);
+    assert!(rt; capture.link() == Link::Ethernet);
     for record in records {
         gives(rt, desk, capture, Ok(Some(*record)));
     }
@@ -63,8 +63,8 @@ fn has_records<D: Desk>(
         Ok(()) => gives(rt, desk, capture, Ok(None)),
         Err(fault) => gives(rt, desk, capture, Err(fault)),
     }
-    assert_eq!(rt; capture.failed(), ending.is_err());
-    assert_eq!(rt; capture.count(), records.len() as u64);
+    assert!(rt; capture.failed() == ending.is_err());
+    assert!(rt; capture.count() == records.len() as u64);
 }
 
 /// Asserts that the opened file is a capture of Ethernet frames with these records and this ending.
@@ -78,7 +78,7 @@ fn shows<R: Abort + AllocGlobal, D: Desk>(
 {
     match Capture::begin(rt.alloc(), desk) {
         Ok(mut capture) => has_records(rt, desk, &mut capture, records, ending),
-        Err(fault) => assert_eq!(rt; ending.map_err(BeginFault::Capture), Err(fault)),
+        Err(fault) => assert!(rt; ending.map_err(BeginFault::Capture) == Err(fault)),
     }
 }
 
@@ -138,7 +138,7 @@ fn goes_on<R: Abort + AllocGlobal, D: Desk>(rt: &R, desk: &mut D, len: usize) ->
 fn has_first<D: Desk>(rt: &impl Abort, desk: &mut D, capture: &mut Capture)
     requires { IsTrue (D.view desk.old).reading }
 {
-    assert_eq!(rt; capture.link(), Link::Ethernet);
+    assert!(rt; capture.link() == Link::Ethernet);
     gives(rt, desk, capture, Ok(Some(RECORDS[0])));
 }
 

@@ -42,8 +42,8 @@ fn reads<R: Abort + AllocGlobal, D: Desk>(rt: &R, desk: &mut D, cap: usize, want
 /// These bytes were read, or none for a read fault.
 fn was_read(rt: &impl Abort, read: &Result<Vec<u8>, ReadAll>, want: Option<&[u8]>) {
     match read {
-        Ok(bytes) => assert_eq!(rt; Some(bytes.as_slice()), want),
-        Err(fault) => assert_eq!(rt; (*fault, want), (ReadAll::ReadFault, None)),
+        Ok(bytes) => assert!(rt; Some(bytes.as_slice()) == want),
+        Err(fault) => assert!(rt; (*fault, want) == (ReadAll::ReadFault, None)),
     }
 }
 
@@ -58,8 +58,8 @@ fn reads_twice<R: Abort + AllocGlobal>(
 ) -> Result<(), Fail> {
     let mut desk = memory_desk(rt, failing, 0)?;
     reads_digits(rt, &mut desk, cap, first, second)?;
-    assert_eq!(rt; desk.absent_count(), 1);
-    assert_eq!(rt; desk.read_fault_count(), u64::from(first.is_none()));
+    assert!(rt; desk.absent_count() == 1);
+    assert!(rt; desk.read_fault_count() == u64::from(first.is_none()));
     Ok(())
 }
 
@@ -71,7 +71,7 @@ fn reads_digits<R: Abort + AllocGlobal, D: Desk>(
     first: Option<&[u8]>,
     second: &[u8],
 ) -> Result<(), Failed> {
-    assert_eq!(rt; opens(desk, "digit"), Err(Failed));
+    assert!(rt; opens(desk, "digit") == Err(Failed));
     opens(desk, "digits")?;
     reads(rt, desk, cap, first);
     reads(rt, desk, 100, Some(second));
@@ -105,16 +105,16 @@ fn makes_up_to<R: Abort + AllocGlobal>(
 ) -> Result<(), Fail> {
     let mut desk = memory_desk(rt, 0, failing)?;
     let made = makes(&mut desk, "image", b"01234", second);
-    assert_eq!(rt; made.is_ok(), succeeds);
+    assert!(rt; made.is_ok() == succeeds);
     has_image(rt, &desk, want, succeeds);
     Ok(())
 }
 
 /// The made file has these bytes, no fault came but where it didn't succeed, and the digits stay.
 fn has_image(rt: &impl Abort, desk: &MemDesk, want: Option<&[u8]>, succeeds: bool) {
-    assert_eq!(rt; desk.file("image"), want);
-    assert_eq!(rt; desk.write_fault_count(), u64::from(!succeeds));
-    assert_eq!(rt; desk.file("digits"), Some(b"0123456789".as_slice()));
+    assert!(rt; desk.file("image") == want);
+    assert!(rt; desk.write_fault_count() == u64::from(!succeeds));
+    assert!(rt; desk.file("digits") == Some(b"0123456789".as_slice()));
 }
 
 #[test]
@@ -142,9 +142,9 @@ fn puts<R: Abort + AllocGlobal>(
 /// The sink takes these bytes of the piece, and fails where they aren't all.
 fn takes(rt: &impl Abort, sink: &mut MemSink, piece: &[u8], want: &[u8]) {
     let put = put_all(sink, piece);
-    assert_eq!(rt; put.is_ok(), piece == want);
-    assert_eq!(rt; sink.bytes(), want);
-    assert_eq!(rt; sink.fault_count(), u64::from(piece != want));
+    assert!(rt; put.is_ok() == (piece == want));
+    assert!(rt; sink.bytes() == want);
+    assert!(rt; sink.fault_count() == u64::from(piece != want));
 }
 
 #[test]
@@ -182,7 +182,7 @@ fn reads_back<R: Abort + AllocGlobal, D: Desk>(
     long: &[u8],
 ) -> Result<(), Failed> {
     makes(desk, SPACED, b"", long)?;
-    assert_eq!(rt; opens(desk, "acl_outside std_desk"), Err(Failed));
+    assert!(rt; opens(desk, "acl_outside std_desk") == Err(Failed));
     opens(desk, SPACED)?;
     // A few bytes by way of the buffer, the rest of it, and then straight into the list.
     reads(rt, desk, 24, long.get(..24));
@@ -209,11 +209,11 @@ fn a_file_of_the_system_is_made_and_read_back(rt: HostRuntime) -> Result<(), Fai
 fn takes_paths<R: Abort + AllocGlobal, D: Desk>(rt: &R, desk: &mut D) -> Result<(), Failed> {
     opens(desk, "/dev/null")?;
     reads(rt, desk, 10, Some(b""));
-    assert_eq!(rt; opens(desk, "dev/null"), Err(Failed));
+    assert!(rt; opens(desk, "dev/null") == Err(Failed));
     desk.create_file("/dev/null")?;
     opens(desk, ".")?;
     reads(rt, desk, 10, None);
-    assert_eq!(rt; desk.create_file("."), Err(Failed));
+    assert!(rt; desk.create_file(".") == Err(Failed));
     Ok(())
 }
 
@@ -274,19 +274,19 @@ impl Read for Stubborn<'_> {
 
 /// A put that takes nothing has failed, and so has one of another error.
 fn takes_once<O: Sink>(rt: &impl Abort, sink: &mut O) {
-    assert_eq!(rt; sink.put(b"packets"), Ok(2));
-    assert_eq!(rt; sink.put(b"ckets"), Err(Failed));
-    assert_eq!(rt; put_all(sink, b"ckets"), Err(Failed));
-    assert_eq!(rt; put_all(sink, b""), Ok(()));
+    assert!(rt; sink.put(b"packets") == Ok(2));
+    assert!(rt; sink.put(b"ckets") == Err(Failed));
+    assert!(rt; put_all(sink, b"ckets") == Err(Failed));
+    assert!(rt; put_all(sink, b"") == Ok(()));
 }
 
 /// A read that gives nothing is the end of the file, and one of another error has failed.
 fn gives_once(rt: &impl Abort, file: &mut Stubborn<'_>) {
     let mut into = [0; 4];
-    assert_eq!(rt; read_once(file, &mut into), Ok(2));
-    assert_eq!(rt; into, *b"pa\0\0");
-    assert_eq!(rt; read_once(file, &mut into), Ok(0));
-    assert_eq!(rt; read_once(file, &mut into), Err(Failed));
+    assert!(rt; read_once(file, &mut into) == Ok(2));
+    assert!(rt; into == *b"pa\0\0");
+    assert!(rt; read_once(file, &mut into) == Ok(0));
+    assert!(rt; read_once(file, &mut into) == Err(Failed));
 }
 
 #[test]
@@ -298,7 +298,7 @@ fn a_call_is_made_again_where_it_was_interrupted(rt: HostRuntime) {
     });
     takes_once(&rt, &mut sink);
     drop(sink);
-    assert_eq!(rt; taken, *b"pa");
+    assert!(rt; taken == *b"pa");
 
     let mut file = Stubborn {
         taken: &mut taken,

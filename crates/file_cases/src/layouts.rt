@@ -30,9 +30,9 @@ fn addresses_match_the_prefixes_of_the_guide(rt: HostRuntime) {
         (0x0A01_0101, false, false, true),
     ];
     for (address, in_wide, in_narrow, in_host) in cases.iter() {
-        assert_eq!(rt; field_matches(&wide, 4, *address), *in_wide);
-        assert_eq!(rt; field_matches(&narrow, 4, *address), *in_narrow);
-        assert_eq!(rt; field_matches(&host, 4, *address), *in_host);
+        assert!(rt; field_matches(&wide, 4, *address) == *in_wide);
+        assert!(rt; field_matches(&narrow, 4, *address) == *in_narrow);
+        assert!(rt; field_matches(&host, 4, *address) == *in_host);
     }
 }
 
@@ -68,8 +68,8 @@ fn guide() -> [FieldDef; 5] {
 #[test]
 fn the_fields_of_the_guide_are_a_layout(rt: HostRuntime) -> Result<(), Fail> {
     let layout = Layout::new(&guide())?;
-    assert_eq!(rt; layout.fields(), ip4_layout().fields());
-    assert_eq!(rt; (layout.key_len(), layout.buffer_len()), (13, 13));
+    assert!(rt; layout.fields() == ip4_layout().fields());
+    assert!(rt; (layout.key_len(), layout.buffer_len()) == (13, 13));
     Ok(())
 }
 
@@ -79,7 +79,7 @@ fn is_no_layout(rt: &impl Abort, place: usize, changed: FieldDef, fault: LayoutF
     if let Some(def) = defs.get_mut(place) {
         *def = changed;
     }
-    assert_eq!(rt; Layout::new(&defs).err(), Some(fault));
+    assert!(rt; Layout::new(&defs).err() == Some(fault));
 }
 
 #[test]
@@ -92,11 +92,8 @@ fn the_fields_of_the_guide_with_one_changed_are_no_layout(rt: HostRuntime) {
 
 #[test]
 fn fields_that_lack_are_no_layout(rt: HostRuntime) {
-    assert_eq!(rt;
-        Layout::of(&guide()[1..]).err(),
-        Some(LayoutFault::FieldIndex(0))
-    );
-    assert_eq!(rt; Layout::of(&[]).err(), Some(LayoutFault::NoFields));
+    assert!(rt; Layout::of(&guide()[1..]).err() == Some(LayoutFault::FieldIndex(0)));
+    assert!(rt; Layout::of(&[]).err() == Some(LayoutFault::NoFields));
 }
 
 #[test]
@@ -115,7 +112,7 @@ fn the_key_of_nine_fields_is_their_bytes_in_order(rt: HostRuntime) -> Result<(),
     let mut key = [0; 25];
     assert!(rt; layout.buffer_len() == 25 && layout.key_len() == 25);
     layout.gather(b"ABCDEFGHIJKLMNOPQRSTUVWXY", &mut key);
-    assert_eq!(rt; key.as_slice(), b"YABCDEFGHIJKLMNOPQRSTUVWX".as_slice());
+    assert!(rt; key.as_slice() == b"YABCDEFGHIJKLMNOPQRSTUVWX".as_slice());
     Ok(())
 }
 
@@ -127,5 +124,5 @@ fn the_key_of_an_ip6_packet_is_its_bytes_in_order(rt: HostRuntime) {
     buffer[36] = 2;
     let mut key = [0; 37];
     layout.gather(&buffer, &mut key);
-    assert_eq!(rt; key, buffer);
+    assert!(rt; key == buffer);
 }

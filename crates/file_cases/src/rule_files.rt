@@ -48,11 +48,11 @@ fn a_list_of_both_families_is_read(rt: HostRuntime) -> Result<(), Fail> {
 
 /// Asserts that these are the rules of the list.
 fn are_listed(rt: &impl Abort, ip4: &RuleSet, ip6: &RuleSet) {
-    assert_eq!(rt; ip4.len(), 2);
-    assert_eq!(rt; ip6.len(), 1);
-    assert_eq!(rt; ip4.at(0).fields(), GUIDE.as_slice());
-    assert_eq!(rt; ip4.at(1).tag(), tag(0xFFFF, 536_870_908, 0));
-    assert_eq!(rt; ip6.at(0).tag(), tag(3, 100, 7));
+    assert!(rt; ip4.len() == 2);
+    assert!(rt; ip6.len() == 1);
+    assert!(rt; ip4.at(0).fields() == GUIDE.as_slice());
+    assert!(rt; ip4.at(1).tag() == tag(0xFFFF, 536_870_908, 0));
+    assert!(rt; ip6.at(0).tag() == tag(3, 100, 7));
 }
 
 #[test]
@@ -65,9 +65,9 @@ fn a_rule_alone_has_the_first_priority(rt: HostRuntime) -> Result<(), Fail> {
 
 /// Asserts that there is one rule, which has the first priority and userdata 9.
 fn is_alone(rt: &impl Abort, ip4: &RuleSet, ip6: &RuleSet) {
-    assert_eq!(rt; ip4.len(), 1);
-    assert_eq!(rt; ip6.len(), 0);
-    assert_eq!(rt; ip4.at(0).tag(), tag(0xFFFF, 536_870_910, 9));
+    assert!(rt; ip4.len() == 1);
+    assert!(rt; ip6.len() == 0);
+    assert!(rt; ip4.at(0).tag() == tag(0xFFFF, 536_870_910, 9));
 }
 
 /// Whether the list with one more line has this fault there, its sixth line.
@@ -116,9 +116,9 @@ fn has_hundreds(rt: &impl Abort, alloc: Global, text: &[u8]) -> Result<(), Fail>
 
 /// Asserts that there are 300 rules of each family.
 fn are_hundreds(rt: &impl Abort, ip4: &RuleSet, ip6: &RuleSet) {
-    assert_eq!(rt; ip4.len(), 300);
-    assert_eq!(rt; ip6.len(), 300);
-    assert_eq!(rt; ip4.at(299).tag().userdata, 600);
+    assert!(rt; ip4.len() == 300);
+    assert!(rt; ip6.len() == 300);
+    assert!(rt; ip4.at(299).tag().userdata == 600);
 }
 
 /// The protocol, and the range of the ports.
@@ -139,12 +139,9 @@ const PORT_1234: FieldValue = FieldValue::Range {
 
 /// Asserts that the rule is one of IPv4, and has this line.
 fn prints_ip4(rt: &impl Abort, alloc: Global, rule: &StoredRule, want: &[u8]) -> Result<(), Fail> {
-    assert_eq!(rt;
-        check_rule(&ip4_layout(), &rule.tag(), rule.fields()),
-        Ok(())
-    );
+    assert!(rt; check_rule(&ip4_layout(), &rule.tag(), rule.fields()) == Ok(()));
     let line = print_rule(alloc, Family::Ip4, rule)?;
-    assert_eq!(rt; line.as_slice(), want);
+    assert!(rt; line.as_slice() == want);
     Ok(())
 }
 
@@ -170,13 +167,10 @@ fn a_printed_ip6_rule_is_one_line(rt: HostRuntime) -> Result<(), Fail> {
     let low = FieldValue::Mask { value: 1, bits: 64 };
     let fields = [UDP, prefix, rest, high, low, ANY_PORT, PORT_1234];
     let rule = StoredRule::new(rt.alloc(), tag(3, 5, 7), &fields)?;
-    assert_eq!(rt;
-        check_rule(&ip6_layout(), &rule.tag(), rule.fields()),
-        Ok(())
-    );
+    assert!(rt; check_rule(&ip6_layout(), &rule.tag(), rule.fields()) == Ok(()));
     let line = print_rule(rt.alloc(), Family::Ip6, &rule)?;
     let want = b"@2001:db8:0:0:0:0:0:0/48\t2001:db8:ab:0:0:0:0:1/128\t0 : 65535\t1234 : 1234\t\
         0x11/0xFF\tpri=5 cat=3 data=7\n";
-    assert_eq!(rt; line.as_slice(), want.as_slice());
+    assert!(rt; line.as_slice() == want.as_slice());
     Ok(())
 }

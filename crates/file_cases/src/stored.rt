@@ -13,8 +13,8 @@ const TAG: RuleTag = RuleTag {
 
 /// Asserts that the rule has these values and the tag.
 fn holds(rt: &impl Abort, rule: &StoredRule, fields: &[FieldValue]) {
-    assert_eq!(rt; rule.fields(), fields);
-    assert_eq!(rt; rule.tag(), TAG);
+    assert!(rt; rule.fields() == fields);
+    assert!(rt; rule.tag() == TAG);
 }
 
 #[test]

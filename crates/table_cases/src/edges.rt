@@ -39,12 +39,11 @@ fn shows(
         );
         place += 1;
     }
-    assert_eq!(rt; Some(reached), edge, "{value:?}");
+    assert!(rt; Some(reached) == edge, "{value:?}");
 
     for (byte, after) in answers {
-        assert_eq!(rt;
-            step_edge(&value, size, place, reached, *byte),
-            *after,
+        assert!(rt;
+            step_edge(&value, size, place, reached, *byte) == *after,
             "{value:?} at {byte}"
         );
     }
@@ -63,9 +62,8 @@ fn cuts_are(rt: &impl Abort, value: &FieldValue, size: u8, place: u8, edge: Edge
     marks[0] = true;
     cuts(value, size, place, edge, &mut marks);
     for byte in 0..=255u8 {
-        assert_eq!(rt;
-            marks[usize::from(byte)],
-            byte == 0 || marked.contains(&byte),
+        assert!(rt;
+            marks[usize::from(byte)] == (byte == 0 || marked.contains(&byte)),
             "{value:?} cut at {byte}"
         );
     }
@@ -158,12 +156,12 @@ fn first_bytes(value: FieldValue, size: u8) -> (u8, u8)
 #[test]
 fn a_mask_is_its_range_and_begins_with_its_first_bytes(rt: HostRuntime) {
     let pair = mask(0xC0A8021F, 31);
-    assert_eq!(rt; as_range(&pair, 4), range(0xC0A8021E, 0xC0A8021F));
-    assert_eq!(rt; first_bytes(pair, 4), (0xC0, 0xC0));
-    assert_eq!(rt; first_bytes(mask(7, 0), 8), (0, 255));
-    assert_eq!(rt; first_bytes(range(33746, 33846), 2), (131, 132));
+    assert!(rt; as_range(&pair, 4) == range(0xC0A8021E, 0xC0A8021F));
+    assert!(rt; first_bytes(pair, 4) == (0xC0, 0xC0));
+    assert!(rt; first_bytes(mask(7, 0), 8) == (0, 255));
+    assert!(rt; first_bytes(range(33746, 33846), 2) == (131, 132));
 
     let odd = bitmask(0x0100, 0x0180);
-    assert_eq!(rt; as_range(&odd, 2), odd);
-    assert_eq!(rt; first_bytes(odd, 2), (1, 255));
+    assert!(rt; as_range(&odd, 2) == odd);
+    assert!(rt; first_bytes(odd, 2) == (1, 255));
 }

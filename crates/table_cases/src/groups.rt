@@ -70,8 +70,8 @@ fn within_cap(rt: &impl Abort, alloc: Global, rules: &RuleSet, cap: u64) -> Resu
 {
     let (levels, count) = of_all(rt, alloc, rules, cap)?;
     let levels = levels?;
-    assert_eq!(rt; count, cap);
-    assert_eq!(rt; levels.words(), cap);
+    assert!(rt; count == cap);
+    assert!(rt; levels.words() == cap);
     Ok(levels)
 }
 
@@ -86,17 +86,17 @@ fn is_over_cap(
     requires { cap ≤ max_words }
 {
     let (levels, count) = of_all(rt, alloc, rules, cap)?;
-    assert_eq!(rt; count, counted);
+    assert!(rt; count == counted);
     assert!(rt; matches!(levels, Err(MergeFault::OverCap)));
     Ok(())
 }
 
 /// The states are of rule 0, at the first place alone, and have one row.
 fn has_one_place(rt: &impl Abort, levels: &Levels) {
-    assert_eq!(rt; levels.kept(), 1);
-    assert_eq!(rt; levels.group(), [0u32].as_slice());
-    assert_eq!(rt; levels.depths(), 1);
-    assert_eq!(rt; levels.rows(), 1);
+    assert!(rt; levels.kept() == 1);
+    assert!(rt; levels.group() == [0u32].as_slice());
+    assert!(rt; levels.depths() == 1);
+    assert!(rt; levels.rows() == 1);
 }
 
 #[test]

@@ -34,9 +34,9 @@ fn parts(alloc: Global, last: u64) -> Result<Parts, Fail> {
 fn a_table_made_by_hand_is_read_back(rt: HostRuntime) -> Result<(), Fail> {
     let table = Table::from_parts(parts(rt.alloc(), 0x8000_0001)?)?;
     assert!(rt; table.tries() == 1);
-    assert_eq!(rt; table.total_words(), 40);
-    assert_eq!(rt; table.places(0), [1u16, 2, 3, 4].as_slice());
-    assert_eq!(rt; table.kept(0), 2);
+    assert!(rt; table.total_words() == 40);
+    assert!(rt; table.places(0) == [1u16, 2, 3, 4].as_slice());
+    assert!(rt; table.kept(0) == 2);
     Ok(())
 }
 
@@ -45,8 +45,8 @@ fn a_refusal_names_the_word_and_gives_the_parts_back(rt: HostRuntime) -> Result<
     match Table::from_parts(parts(rt.alloc(), 0x8000_0002)?) {
         Ok(_) => Err(Fail::new("accepted")),
         Err(NotSound { fault, parts }) => {
-            assert_eq!(rt; fault, SoundFault::Word(7));
-            assert_eq!(rt; parts.words.len(), 8);
+            assert!(rt; fault == SoundFault::Word(7));
+            assert!(rt; parts.words.len() == 8);
             Ok(())
         }
     }

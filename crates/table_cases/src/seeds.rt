@@ -16,23 +16,23 @@ const RULES: u32 = 24;
 
 /// Each state has the runs that were counted.
 fn assert_levels(rt: &impl Abort, levels: &Levels, counted: &[Vec<Vec<Run>>]) {
-    assert_eq!(rt; levels.depths(), counted.len());
+    assert!(rt; levels.depths() == counted.len());
     for (depth, states) in counted.iter().enumerate() {
         assert!(rt; depth < levels.depths());
-        assert_eq!(rt; levels.states(depth), states.len());
+        assert!(rt; levels.states(depth) == states.len());
         for (state, runs) in states.iter().enumerate() {
             assert!(rt; state < levels.states(depth));
-            assert_eq!(rt; levels.runs(depth, state), runs.as_slice());
+            assert!(rt; levels.runs(depth, state) == runs.as_slice());
         }
     }
 }
 
 /// The rows are those that were counted.
 fn assert_rows(rt: &impl Abort, levels: &Levels, counted: &[Vec<u32>]) {
-    assert_eq!(rt; levels.rows(), counted.len());
+    assert!(rt; levels.rows() == counted.len());
     for (number, row) in counted.iter().enumerate() {
         assert!(rt; number < levels.rows());
-        assert_eq!(rt; levels.row(number).as_slice(), row.as_slice());
+        assert!(rt; levels.row(number).as_slice() == row.as_slice());
     }
 }
 
@@ -52,15 +52,15 @@ fn compare(
     let group = numbers(alloc, first, len)?;
     let levels = Levels::build(alloc, rules, group.as_slice(), MAX_WORDS as u64)?;
     let counted = recount(alloc, rules, group.as_slice())?;
-    assert_eq!(rt; levels.group(), group.as_slice());
+    assert!(rt; levels.group() == group.as_slice());
     assert_counted(rt, &levels, &counted);
     Ok(())
 }
 
 /// The states are those that were counted.
 fn assert_counted(rt: &impl Abort, levels: &Levels, counted: &Counted) {
-    assert_eq!(rt; levels.kept(), counted.kept);
-    assert_eq!(rt; levels.words(), counted.words);
+    assert!(rt; levels.kept() == counted.kept);
+    assert!(rt; levels.words() == counted.words);
     assert_levels(rt, levels, counted.levels.as_slice());
     assert_rows(rt, levels, counted.rows.as_slice());
 }

@@ -134,7 +134,7 @@ pub(crate) fn expect<R: Abort + AllocGlobal>(
     let mut desk = desk_of(rt, rules, capture, outside)?;
     let puts = (outside.put_piece, outside.failing_put);
     expect_over(rt, words, &mut desk, puts, (want.0, want.1, want.2))?;
-    assert_eq!(rt; desk.read_fault_count(), want.3);
+    assert!(rt; desk.read_fault_count() == want.3);
     Ok(())
 }
 
@@ -157,7 +157,7 @@ fn expect_over<R: Abort + AllocGlobal>(
 
 /// Compares the statuses.
 pub(crate) fn assert_ended(rt: &impl Abort, ended: Status, status: Status) {
-    assert_eq!(rt; ended, status);
+    assert!(rt; ended == status);
 }
 
 /// A desk over the files `r` and `c`.
@@ -202,8 +202,8 @@ pub(crate) fn assert_printed(
     printed: &str,
     told: &str,
 ) {
-    assert_eq!(rt; out.bytes(), printed.as_bytes());
-    assert_eq!(rt; err.bytes(), told.as_bytes());
+    assert!(rt; out.bytes() == printed.as_bytes());
+    assert!(rt; err.bytes() == told.as_bytes());
 }
 
 /// Runs one command.

@@ -192,7 +192,7 @@ classify 16 abFFff
 /// Compares the replies to a script.
 fn expect<R: Abort + AllocGlobal>(rt: &R, script: &[u8], replies: &[u8]) -> Result<(), AllocError> {
     let told = session(rt.alloc(), script)?;
-    assert_eq!(rt; told.as_slice(), replies);
+    assert!(rt; told.as_slice() == replies);
     Ok(())
 }
 

@@ -122,11 +122,11 @@ pub(crate) fn expect<R: Abort + AllocGlobal>(
     let status = run_words(alloc, words, &mut desk, &mut out, &mut err)?;
     let left = image_in(alloc, &desk)?;
     let (right, printed, told, image, counts) = want;
-    assert_eq!(rt; status, right);
-    assert_eq!(rt; out.bytes(), printed);
-    assert_eq!(rt; err.bytes(), told);
-    assert_eq!(rt; left.as_slice(), image);
-    assert_eq!(rt; counts_of(&desk, &out, &err), counts);
+    assert!(rt; status == right);
+    assert!(rt; out.bytes() == printed);
+    assert!(rt; err.bytes() == told);
+    assert!(rt; left.as_slice() == image);
+    assert!(rt; counts_of(&desk, &out, &err) == counts);
     Ok(())
 }
 
