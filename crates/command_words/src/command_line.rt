@@ -131,14 +131,12 @@ fn read_classify(words: &[String]) -> Result<Request<'_>, UsageFault>
     ensures fault { IfErr result (λ fault.
         asked_by classify_by (named_of for_classify (map string_bytes words.now)) ≡ Err fault) }
 {
-    match read_names(words, Allowed::for_classify()) {
-        Ok(names) => Ok(Request::Classify {
-            rules: names.first,
-            capture: names.second,
-            options: names.options,
-        }),
-        Err(fault) => Err(fault),
-    }
+    let names = read_names(words, Allowed::for_classify())?;
+    Ok(Request::Classify {
+        rules: names.first,
+        capture: names.second,
+        options: names.options,
+    })
 }
 
 /// The words after `build`.
@@ -149,14 +147,12 @@ fn read_build(words: &[String]) -> Result<Request<'_>, UsageFault>
     ensures fault { IfErr result (λ fault.
         asked_by build_by (named_of for_build (map string_bytes words.now)) ≡ Err fault) }
 {
-    match read_names(words, Allowed::for_build()) {
-        Ok(names) => Ok(Request::Build {
-            rules: names.first,
-            image: names.second,
-            max_words: names.options.max_words,
-        }),
-        Err(fault) => Err(fault),
-    }
+    let names = read_names(words, Allowed::for_build())?;
+    Ok(Request::Build {
+        rules: names.first,
+        image: names.second,
+        max_words: names.options.max_words,
+    })
 }
 
 /// The words after `replay`.
@@ -167,14 +163,12 @@ fn read_replay(words: &[String]) -> Result<Request<'_>, UsageFault>
     ensures fault { IfErr result (λ fault.
         asked_by replay_by (named_of for_replay (map string_bytes words.now)) ≡ Err fault) }
 {
-    match read_names(words, Allowed::for_replay()) {
-        Ok(names) => Ok(Request::Replay {
-            image: names.first,
-            capture: names.second,
-            options: names.options,
-        }),
-        Err(fault) => Err(fault),
-    }
+    let names = read_names(words, Allowed::for_replay())?;
+    Ok(Request::Replay {
+        image: names.first,
+        capture: names.second,
+        options: names.options,
+    })
 }
 
 /// The words after `bench`.
@@ -184,10 +178,8 @@ fn read_bench(words: &[String]) -> Result<Request<'_>, UsageFault>
     ensures fault { IfErr result (λ fault.
         asked_by Bench (numbers_of (map string_bytes words.now)) ≡ Err fault) }
 {
-    match read_numbers(words) {
-        Ok(numbers) => Ok(Request::Bench(numbers)),
-        Err(fault) => Err(fault),
-    }
+    let numbers = read_numbers(words)?;
+    Ok(Request::Bench(numbers))
 }
 
 /// The words after `audit`.
@@ -198,14 +190,12 @@ fn read_audit(words: &[String]) -> Result<Request<'_>, UsageFault>
     ensures fault { IfErr result (λ fault.
         asked_by audit_by (single_of for_audit (map string_bytes words.now)) ≡ Err fault) }
 {
-    match read_name(words, Allowed::for_audit()) {
-        Ok(one) => Ok(Request::Audit {
-            rules: one.name,
-            categories: one.options.categories,
-            max_words: one.options.max_words,
-        }),
-        Err(fault) => Err(fault),
-    }
+    let one = read_name(words, Allowed::for_audit())?;
+    Ok(Request::Audit {
+        rules: one.name,
+        categories: one.options.categories,
+        max_words: one.options.max_words,
+    })
 }
 
 /// The words after `compare`.
@@ -216,14 +206,12 @@ fn read_compare(words: &[String]) -> Result<Request<'_>, UsageFault>
     ensures fault { IfErr result (λ fault.
         asked_by compare_by (named_of for_compare (map string_bytes words.now)) ≡ Err fault) }
 {
-    match read_names(words, Allowed::for_compare()) {
-        Ok(names) => Ok(Request::Compare {
-            rules: names.first,
-            second: names.second,
-            max_words: names.options.max_words,
-        }),
-        Err(fault) => Err(fault),
-    }
+    let names = read_names(words, Allowed::for_compare())?;
+    Ok(Request::Compare {
+        rules: names.first,
+        second: names.second,
+        max_words: names.options.max_words,
+    })
 }
 
 /// The words after `session`.
@@ -234,10 +222,8 @@ fn read_session(words: &[String]) -> Result<Request<'_>, UsageFault>
     ensures fault { IfErr result (λ fault.
         asked_by session_by (single_of for_session (map string_bytes words.now)) ≡ Err fault) }
 {
-    match read_name(words, Allowed::for_session()) {
-        Ok(one) => Ok(Request::Session { script: one.name }),
-        Err(fault) => Err(fault),
-    }
+    let one = read_name(words, Allowed::for_session())?;
+    Ok(Request::Session { script: one.name })
 }
 
 /// The name of a file, and the options after it, of which the command allows these.
@@ -249,13 +235,13 @@ fn read_name(words: &[String], allowed: Allowed) -> Result<OneName<'_>, UsageFau
 {
     match words {
         [] => Err(fault_at(2, UsageKind::MissingName)),
-        [name, words @ ..] => match read_options(words, allowed, AFTER_ONE_NAME) {
-            Ok(options) => Ok(OneName {
+        [name, words @ ..] => {
+            let options = read_options(words, allowed, AFTER_ONE_NAME)?;
+            Ok(OneName {
                 name: name.as_str(),
                 options,
-            }),
-            Err(fault) => Err(fault),
-        },
+            })
+        }
     }
 }
 
@@ -269,14 +255,14 @@ fn read_names(words: &[String], allowed: Allowed) -> Result<TwoNames<'_>, UsageF
     match words {
         [] => Err(fault_at(2, UsageKind::MissingName)),
         [_] => Err(fault_at(3, UsageKind::MissingName)),
-        [first, second, words @ ..] => match read_options(words, allowed, AFTER_TWO_NAMES) {
-            Ok(options) => Ok(TwoNames {
+        [first, second, words @ ..] => {
+            let options = read_options(words, allowed, AFTER_TWO_NAMES)?;
+            Ok(TwoNames {
                 first: first.as_str(),
                 second: second.as_str(),
                 options,
-            }),
-            Err(fault) => Err(fault),
-        },
+            })
+        }
     }
 }
 
