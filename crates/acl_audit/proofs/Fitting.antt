@@ -22,7 +22,8 @@ use Rattle.rule_set.specs.Winner.{applies, is_greatest, winner}
 use Rattle.table_sizes.specs.Sizes.{cost_of, max_words, row_len}
 use Rattle.group_states.specs.declared.run.Run.{Run}
 use Rattle.group_states.specs.Found.{prefixes}
-use Rattle.group_states.specs.Kept.{group_of, is_kept, kept_places, kept_bits}
+use Rattle.table_sizes.specs.Groups.{group_of}
+use Rattle.group_states.specs.Kept.{is_kept, kept_places, kept_bits}
 use Rattle.group_states.specs.Laws.{IsGrouped}
 use Rattle.group_states.specs.Levels.{IsGroup, levels_of}
 use Rattle.group_states.specs.Row.{final_row, row_of, winner_of}

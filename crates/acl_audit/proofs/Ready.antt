@@ -8,6 +8,7 @@ use Rattle.field_defs.specs.Layout.{key_len_of}
 use Rattle.field_defs.proofs.Offered.{short_keys}
 use Rattle.rule_set.specs.Fault.{categories}
 use Rattle.rule_set.specs.Rule.{RuleSetView}
+use Rattle.table_sizes.specs.Groups.{max_key_len}
 use Rattle.table_sizes.specs.Sizes.{max_words, row_len}
 use Rattle.group_states.specs.declared.run.Run.{Run}
 use Rattle.group_states.specs.Kept.{kept_places}
@@ -118,7 +119,7 @@ module _ (set : RuleSetView) (levels : LevelsView) (its : AreMerged set levels) 
 
 module _ (set : RuleSetView) (levels : LevelsView) (links : List (List Link)) (places : List ℕ) (len : ℕ)
     (way : IsWay set levels links places len) where
-  pub way_short : len ≤ 505
+  pub way_short : len ≤ max_key_len
   way_short = omega (arith, way.len_is, (short_keys set.layout way.its.layout).1)
 
   pub way_chained : AreChained links

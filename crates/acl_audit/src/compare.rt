@@ -2,8 +2,7 @@
 
 ghost use Rattle.std.specs.Prelude.{◌≡◌, ◌≢◌, ℕ, ◌+◌, ◌*◌, ◌<◌, ◌≤◌, ◌↔◌, length, true, false, None};
 ghost use Rattle.std.specs.Prelude.{IfSome, OnOk, IfOk, Err};
-ghost use Rattle.rule_set.specs.Limits.{max_rules};
-ghost use Rattle.table_sizes.specs.Sizes.{max_words};
+ghost use Rattle.table_sizes.specs.Sizes.{max_rules, max_words};
 ghost use Rattle.group_states.specs.Levels.{levels_of};
 ghost use Rattle.acl_audit.specs.declared.compare.CompareFault.TheVariants.{TooManyRules, TooLarge};
 ghost use Rattle.acl_audit.specs.Compared.{told_difference, is_too_large, TellsHalf};
@@ -17,8 +16,9 @@ use crate::audit::{AuditFault, merged};
 use crate::half::{HALF_LEN, are_halves_equal, half_of};
 use crate::trace::{row_key, way_of};
 use crate::unlike::first_unlike;
-use rule_set::{MAX_RULES, RuleSet};
+use rule_set::RuleSet;
 use std::alloc::{AllocError, Global};
+use table_sizes::MAX_RULES;
 use thiserror::Error;
 use trie_merge::Levels;
 
@@ -245,7 +245,7 @@ fn compare_both(
 /// of both sets are merged in their categories below 8, and where these are alike in those from 8
 /// on; rules without such a category are left out, and no rules need no table. Where each rule of
 /// both sets has the same eight categories there, they aren't merged a second time.
-/// `TooManyRules` comes exactly where both sets together have more than [`rule_set::MAX_RULES`]
+/// `TooManyRules` comes exactly where both sets together have more than [`table_sizes::MAX_RULES`]
 /// rules, and `TooLarge` exactly where such a table of both has more words than the budget, unless
 /// memory ran out before that was known; its words are one more than the budget. It takes memory
 /// for a copy of the rules of both sets, for the merged states and for a number and a byte for each

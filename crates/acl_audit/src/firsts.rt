@@ -1,7 +1,7 @@
 //! The first row in which each rule is the winner of each category.
 
 ghost use Rattle.std.specs.Prelude.{◌≡◌, ◌≤◌, ◌<◌, ◌^◌, length, replicate, All, IfOk};
-ghost use Rattle.table_sizes.specs.Sizes.{row_len};
+ghost use Rattle.table_sizes.specs.Sizes.{max_rules, row_len};
 ghost use Rattle.acl_audit.specs.Firsts.{AreFirsts, entry_noted, row_noted, no_firsts};
 
 use std::alloc::{AllocError, Global};
@@ -33,7 +33,7 @@ fn note_row(table: &mut [[u32; ROW_LEN]], row: &[u32; ROW_LEN], number: u32)
 /// No row yet for so many rules.
 #[tactic(auto, unfolding(crate::specs::Firsts::no_firsts))]
 fn no_rows(alloc: Global, count: usize) -> Result<Vec<[u32; ROW_LEN]>, AllocError>
-    requires { count ≤ 262144 }
+    requires { count ≤ max_rules }
     ensures { IfOk result (λ table. table.items ≡ no_firsts count) }
 {
     let mut table = Vec::new(alloc);
@@ -48,7 +48,7 @@ pub(crate) fn first_rows(
     count: usize,
     levels: &Levels,
 ) -> Result<Vec<[u32; ROW_LEN]>, AllocError>
-    requires count { count ≤ 262144 }
+    requires count { count ≤ max_rules }
     requires rows { All (All (λ entry. entry ≤ count)) levels.now.rows }
     requires whole { All (λ row. length row ≡ row_len) levels.now.rows }
     requires few { length levels.now.rows < 2 ^ 32 }

@@ -2,7 +2,7 @@
 
 ghost use Rattle.std.specs.Prelude.{◌≡◌, ◌<◌, ◌≤◌, ◌+◌, ◌++◌, ◌∷◌, [], length, None, OnOk, IfOk};
 ghost use Rattle.rule_set.specs.Fault.{rule_fault};
-ghost use Rattle.rule_set.specs.Limits.{max_rules};
+ghost use Rattle.table_sizes.specs.Sizes.{max_rules};
 ghost use Rattle.acl_audit.specs.Half.{is_in_half, mask_of, halved_rules, half_of};
 ghost use Rattle.acl_audit.specs.Half.{has_equal_halves, have_equal_halves, are_halves_equal};
 

@@ -2,6 +2,7 @@
 
 ghost use Rattle.std.specs.Prelude.{◌≡◌, ◌+◌, ◌-◌, ◌<◌, ◌≤◌, ◌++◌, ℕ, [], length, replicate, All};
 ghost use Rattle.std.specs.Prelude.{slice_index_or, OnOk, IfOk};
+ghost use Rattle.table_sizes.specs.Groups.{max_key_len};
 ghost use Rattle.table_sizes.specs.Sizes.{max_words};
 ghost use Rattle.group_states.specs.Levels.{levels_of};
 ghost use Rattle.acl_audit.specs.Least.{all_rules};
@@ -61,7 +62,7 @@ fn trace(links: &[Links], places: &[usize], row: usize, key: &mut [u8])
 
 /// Puts so many bytes 0 after the others.
 fn push_zeros(keys: &mut Vec<u8>, count: usize) -> Result<(), AllocError>
-    requires { count ≤ 505 }
+    requires { count ≤ max_key_len }
     ensures { OnOk result (keys.new.items ≡ keys.old.items ++ replicate count 0) }
 {
     keys.resize(keys.len() + count, 0)
@@ -75,7 +76,7 @@ fn push_key(
     len: usize,
     row: usize,
 ) -> Result<(), AllocError>
-    requires len { len ≤ 505 }
+    requires len { len ≤ max_key_len }
     requires chained { AreChained links.now }
     requires row { row < length (slice_index_or links.now (length links.now - 1) []) }
     requires long { length places.now ≡ length links.now }
@@ -97,7 +98,7 @@ pub(crate) fn row_key(
     len: usize,
     row: usize,
 ) -> Result<Vec<u8>, AllocError>
-    requires len { len ≤ 505 }
+    requires len { len ≤ max_key_len }
     requires chained { AreChained links.now }
     requires row { row < length (slice_index_or links.now (length links.now - 1) []) }
     requires long { length places.now ≡ length links.now }
@@ -118,7 +119,7 @@ pub(crate) fn row_keys(
     len: usize,
     rows: usize,
 ) -> Result<Vec<u8>, AllocError>
-    requires len { len ≤ 505 }
+    requires len { len ≤ max_key_len }
     requires chained { AreChained links.now }
     requires rows { rows ≤ length (slice_index_or links.now (length links.now - 1) []) }
     requires long { length places.now ≡ length links.now }

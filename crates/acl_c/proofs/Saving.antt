@@ -3,6 +3,7 @@ use Rattle.std.proofs.Common.{◌≡◌, ℕ, ◌==◌, ◌&&◌, nat_le, Bool, 
 use Rattle.std.specs.List.{list_all}
 use Rattle.std.proofs.lemmas.Bool.{and_parts}
 use Rattle.std.proofs.lemmas.Bool.Decides.{nat_tests}
+use Rattle.table_sizes.specs.Sizes.{max_rules}
 use Rattle.flat_table.specs.Table.{TableView}
 use Rattle.table_image.specs.Spelling.{CanBeSaved}
 use Rattle.acl_c.specs.Images.{is_ranked_row, can_be_saved, are_saved}
@@ -12,8 +13,8 @@ can_be : (key_len : ℕ) (table : TableView) → can_be_saved key_len table ≡ 
 unfolding is_ranked_row
 can_be key_len table is =
     let ranked : Bool = list_all (is_ranked_row table.rules) (drop 1 table.rows) in
-    let (first, each) = and_parts (table.key_len == key_len && nat_le table.rules 262144) ranked is in
-    let (same, few) = and_parts (table.key_len == key_len) (nat_le table.rules 262144) first in
+    let (first, each) = and_parts (table.key_len == key_len && nat_le table.rules max_rules) ranked is in
+    let (same, few) = and_parts (table.key_len == key_len) (nat_le table.rules max_rules) first in
     record {
       keys = grind (arith, nat_tests, same);
       few = grind (arith, nat_tests, few);

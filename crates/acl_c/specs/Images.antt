@@ -3,13 +3,14 @@ use Rattle.std.specs.Prelude.{◌≡◌, ℕ, ◌<◌, ◌≤◌, ◌==◌, ◌&
 use Rattle.std.specs.Prelude.{Bool, true, false}
 use Rattle.std.specs.Prelude.{Option, Some, None, Ok, Err, ◌⊎◌}
 use Rattle.std.specs.List.{list_all}
+use Rattle.table_sizes.specs.Sizes.{max_rules}
 use Rattle.flat_table.specs.Table.{TableView}
 use Rattle.table_image.specs.declared.version.Version.{Version}
 use Rattle.table_image.specs.declared.version.Version.TheVariants.{Two}
 use Rattle.table_image.specs.declared.fault.ImageFault.{ImageFault}
 use Rattle.table_image.specs.declared.fault.ImageKind.{ImageKind}
 use Rattle.table_image.specs.declared.fault.ImageKind.TheVariants as kinds
-use Rattle.table_image.specs.Spelling.{PairView, is_row_word, most_rules, spelled_pair, IsImage}
+use Rattle.table_image.specs.Spelling.{PairView, is_row_word, spelled_pair, IsImage}
 use Rattle.table_image.specs.Reading.{image_of}
 use Rattle.table_image.specs.Loading.{pair_of_tables}
 use Rattle.acl_c.specs.Codes.{ok, no_memory, no_image, no_room}
@@ -34,7 +35,7 @@ is_ranked_row rules row = list_all (is_row_word rules) row
 -- an image may have the table as that of keys of so many bytes: each table that answers as rules do
 -- has no more than a context may hold, and rows of their ranks
 abbrev pub can_be_saved : ℕ → TableView → Bool
-can_be_saved key_len table = table.key_len == key_len && nat_le table.rules most_rules
+can_be_saved key_len table = table.key_len == key_len && nat_le table.rules max_rules
     && list_all (is_ranked_row table.rules) (drop 1 table.rows)
 
 -- both may be those of an image: keys have 13 bytes in the first and 37 in the second

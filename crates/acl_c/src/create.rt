@@ -1,7 +1,7 @@
 //! Contexts of field definitions that C gives.
 
 ghost use Rattle.std.specs.Prelude.{◌≡◌, ℕ, ◌<◌, ◌≤◌, Some, None, IfOk, IfErr, Err, map};
-ghost use Rattle.rule_set.specs.Limits.{max_rules as most_rules};
+ghost use Rattle.table_sizes.specs.Sizes.{max_rules as most_rules};
 ghost use Rattle.acl_c.specs.Codes.{no_memory, bad_limit};
 ghost use Rattle.acl_c.specs.Given.{def_of, fields_fault};
 ghost use Rattle.acl_c.specs.Calls.{new_context};
@@ -10,8 +10,8 @@ use crate::codes::{BAD_LIMIT, NO_MEMORY};
 use crate::context::Context;
 use crate::given::{Field, layout_of};
 use acl_context::AclContext;
-use rule_set::MAX_RULES;
 use std::alloc::{AllocError, Global};
+use table_sizes::MAX_RULES;
 
 /// A context without rules and without a table, on the heap, or the code of why there is none.
 ///

@@ -2,7 +2,7 @@
 
 ghost use Rattle.std.specs.Prelude.{◌≡◌, ℕ, ◌<◌, ◌≤◌, ◌⊎◌, Some, None, IsSome, map, length};
 ghost use Rattle.field_defs.specs.Layout.{key_len_of};
-ghost use Rattle.rule_set.specs.Limits.{max_rules as most_rules};
+ghost use Rattle.table_sizes.specs.Sizes.{max_rules as most_rules};
 ghost use Rattle.acl_c.specs.declared.context.Context.{Context};
 ghost use Rattle.acl_c.specs.Codes.{ok, no_memory, empty_handle, taken_handle, bad_limit};
 ghost use Rattle.acl_c.specs.Given.{def_of, fields_fault};

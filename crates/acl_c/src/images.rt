@@ -14,8 +14,8 @@ use crate::codes::{NO_IMAGE, NO_MEMORY, NO_ROOM, OK};
 use crate::shared::Shared;
 use flat_table::Table;
 use std::alloc::{AllocError, Global};
-use table_image::{ImageKind, LoadFault, MAX_RULES, load, save};
-use table_sizes::ROW_LEN;
+use table_image::{ImageKind, LoadFault, load, save};
+use table_sizes::{MAX_RULES, ROW_LEN};
 
 /// The bytes of a key of the first table of an image.
 const IP4_KEY: usize = 13;
@@ -67,7 +67,7 @@ fn can_be_saved(key_len: usize, table: &Table) -> bool
     ensures { result ≡ can_be_saved key_len table.now }
 {
     table.key_len() == key_len
-        && table.rules() <= MAX_RULES
+        && table.rules() as usize <= MAX_RULES
         && are_ranked(table.rules(), table.rows())
 }
 

@@ -4,7 +4,7 @@
 use Rattle.std.specs.Prelude.{◌≡◌, ℕ, ◌≤◌, List, length, Option, IfSome}
 use Rattle.field_defs.specs.Layout.{key_len_of}
 use Rattle.rule_set.specs.declared.rule.Rule.{Rule}
-use Rattle.rule_set.specs.Limits.{max_rules}
+use Rattle.table_sizes.specs.Sizes.{max_rules}
 use Rattle.rule_set.specs.Rule.{RuleView, RuleSetView}
 use Rattle.rule_split.specs.Split.{groups_of}
 use Rattle.flat_table.specs.Table.{TableView}

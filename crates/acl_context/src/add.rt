@@ -4,7 +4,7 @@ ghost use Rattle.std.specs.Prelude.{◌≡◌, ◌+◌, ◌<◌, ◌≤◌, ◌�
 ghost use Rattle.std.specs.Prelude.{OnOk, OnErr};
 ghost use Rattle.std.specs.Result.{result_err};
 ghost use Rattle.field_defs.specs.Faults.{first_of};
-ghost use Rattle.rule_set.specs.Limits.{max_rules};
+ghost use Rattle.table_sizes.specs.Sizes.{max_rules};
 ghost use Rattle.rule_set.specs.Fault.{rule_fault};
 ghost use Rattle.rule_set.specs.Rule.{RuleView};
 ghost use Rattle.acl_context.specs.Add.{refusals};

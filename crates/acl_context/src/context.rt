@@ -4,8 +4,7 @@ ghost use Rattle.std.specs.Prelude.{◌≡◌, ◌↔◌, ℕ, ◌+◌, ◌<◌,
 ghost use Rattle.std.specs.Prelude.{Some, None, Ok, Err, IfOk, IfSome, IsErr, OnOk, OnErr, option_copied};
 ghost use Rattle.field_defs.specs.Layout.{key_len_of, max_fields};
 ghost use Rattle.rule_set.specs.Rule.{RuleSetView};
-ghost use Rattle.rule_set.specs.declared.set.TheConstants.{MAX_RULES};
-ghost use Rattle.table_sizes.specs.Sizes.{max_words};
+ghost use Rattle.table_sizes.specs.Sizes.{max_rules as most_rules, max_words};
 ghost use Rattle.rule_split.specs.Split.{total_of};
 ghost use Rattle.flat_table.specs.Batch.{KeysFit, batch_verdicts, batch_transitions};
 ghost use Rattle.flat_table.specs.Batch.{keys_of_len, most_of_batch};
@@ -75,7 +74,7 @@ impl AclContext {
     ///
     /// It may hold up to `max_rules` rules, which is at most 262,144.
     pub fn create(alloc: Global, layout: Layout, max_rules: u32) -> Self
-        requires { max_rules ≤ MAX_RULES }
+        requires { max_rules ≤ most_rules }
         ensures { result ≡ record {
           set = record { layout = layout; rules = [] };
           max_rules = max_rules;
@@ -92,7 +91,7 @@ impl AclContext {
     /// no memory.
     pub fn holding(alloc: Global, set: RuleSet, max_rules: u32) -> Self
         requires few { length set.rules ≤ max_rules }
-        requires limit { max_rules ≤ MAX_RULES }
+        requires limit { max_rules ≤ most_rules }
         ensures { result ≡ record { set = set; max_rules = max_rules; table = None } }
     {
         AclContext {

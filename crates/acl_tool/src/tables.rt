@@ -3,8 +3,7 @@
 ghost use Rattle.std.specs.Prelude.{◌≡◌, ◌<◌, ◌≤◌, ◌⊎◌, Ok, None, Some, IsSome, IfOk, IfErr, OnOk};
 ghost use Rattle.std.specs.Prelude.{OnErr, length};
 ghost use Rattle.field_defs.specs.Layout.{ip4_fields, ip6_fields};
-ghost use Rattle.rule_set.specs.Limits.{max_rules};
-ghost use Rattle.table_sizes.specs.Sizes.{max_words};
+ghost use Rattle.table_sizes.specs.Sizes.{max_rules, max_words};
 ghost use Rattle.table_fill.specs.Serves.{Serves};
 ghost use Rattle.acl_context.specs.Context.{built_of};
 ghost use Rattle.capture_report.specs.Classifier.{lists_of};

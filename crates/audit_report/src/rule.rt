@@ -3,8 +3,7 @@
 ghost use Rattle.std.specs.Prelude.{◌≡◌, ◌<◌, ◌≤◌, ◌++◌, length, OnOk, IfOk};
 ghost use Rattle.std.specs.Option.{option_map};
 ghost use Rattle.field_defs.specs.declared.field.Family.{Family};
-ghost use Rattle.rule_set.specs.Limits.{max_rules};
-ghost use Rattle.table_sizes.specs.Sizes.{row_len};
+ghost use Rattle.table_sizes.specs.Sizes.{max_rules, row_len};
 ghost use Rattle.acl_audit.specs.Least.{least_key, least_keys};
 ghost use Rattle.audit_report.specs.Audit.{family_front, rule_front, category_text, wins_text};
 ghost use Rattle.audit_report.specs.Audit.{is_live, is_some, never_text, rule_text};

@@ -7,7 +7,7 @@ use Rattle.field_defs.specs.Layout.{ip4_fields, ip6_fields}
 use Rattle.field_defs.specs.declared.field.Family.{Family}
 use Rattle.field_defs.specs.declared.field.Family.TheVariants as family
 use Rattle.rule_set.specs.Fault.{rule_fault}
-use Rattle.rule_set.specs.Limits.{max_rules}
+use Rattle.table_sizes.specs.Sizes.{max_rules}
 use Rattle.rule_set.specs.Rule.{RuleView}
 use Rattle.text_scan.specs.Parts.{lines_of}
 use Rattle.classbench_reader.specs.declared.fault.LineFault.{LineFault}

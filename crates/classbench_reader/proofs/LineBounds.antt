@@ -13,7 +13,8 @@ use Rattle.field_defs.specs.declared.field.FieldKind.TheVariants as kinds
 use Rattle.field_defs.specs.declared.field.FieldValue.{FieldValue}
 use Rattle.field_defs.specs.declared.field.FieldValue.TheVariants.{Bitmask}
 use Rattle.rule_set.specs.declared.rule.RuleTag.{RuleTag}
-use Rattle.rule_set.specs.Limits.{max_priority, max_rules}
+use Rattle.rule_set.specs.Limits.{max_priority}
+use Rattle.table_sizes.specs.Sizes.{max_rules}
 use Rattle.rule_set.specs.Lawful.{IsLawfulTag}
 use Rattle.rule_set.proofs.Offered.{some_category}
 use Rattle.text_scan.specs.Parts.{slash, cut_at}

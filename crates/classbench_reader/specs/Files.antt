@@ -4,7 +4,7 @@ use Rattle.field_defs.specs.Layout.{ip4_fields, ip6_fields}
 use Rattle.field_defs.specs.declared.field.Family.{Family}
 use Rattle.field_defs.specs.declared.field.Family.TheVariants as family
 use Rattle.rule_set.specs.Rule.{RuleView}
-use Rattle.rule_set.specs.Limits.{max_rules}
+use Rattle.table_sizes.specs.Sizes.{max_rules}
 use Rattle.classbench_reader.specs.declared.line.RuleLine.{RuleLine}
 use Rattle.classbench_reader.specs.declared.rule_file.RuleFile.{RuleFile}
 use Rattle.classbench_reader.specs.declared.fault.LineFault.{LineFault}

@@ -5,7 +5,7 @@ use Rattle.std.specs.Prelude.{filter, Result, Ok, Err}
 use Rattle.std.specs.List.{enumerate_from}
 use Rattle.field_defs.specs.declared.field.Family.{Family}
 use Rattle.field_defs.specs.declared.field.Family.TheVariants as family
-use Rattle.rule_set.specs.Limits.{max_rules}
+use Rattle.table_sizes.specs.Sizes.{max_rules}
 use Rattle.rule_set.specs.Rule.{RuleView}
 use Rattle.text_scan.specs.Parts.{lines_of}
 use Rattle.classbench_reader.specs.declared.fault.LineFault.{LineFault}

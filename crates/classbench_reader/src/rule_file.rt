@@ -6,7 +6,7 @@ ghost use Rattle.field_defs.specs.Layout.{ip4_fields, ip6_fields};
 ghost use Rattle.classbench_reader.specs.Limits.{max_rule_file};
 ghost use Rattle.classbench_reader.specs.RuleFile.{rule_file_of};
 ghost use Rattle.rule_set.specs.Fault.{rule_fault};
-ghost use Rattle.rule_set.specs.Limits.{max_rules};
+ghost use Rattle.table_sizes.specs.Sizes.{max_rules};
 ghost use Rattle.classbench_reader.specs.Files.{Adds, HasRoom, HoldsRules, ReadsLine, RefusesLine};
 ghost use Rattle.classbench_reader.specs.Lawful.{IsLawfulLine};
 ghost use Rattle.classbench_reader.specs.declared.fault.LineFault.{LineFault};
@@ -14,8 +14,9 @@ ghost use Rattle.classbench_reader.specs.declared.fault.LineFault.{LineFault};
 use crate::fault::{LineFault, LineKind, RulesFault};
 use crate::line::{RuleLine, is_skipped};
 use field_defs::{Family, ip4_layout, ip6_layout};
-use rule_set::{MAX_RULES, RuleSet};
+use rule_set::RuleSet;
 use std::alloc::{AllocError, Global};
+use table_sizes::MAX_RULES;
 use text_scan::split_line;
 
 /// How many bytes a rule file may have.

@@ -1,11 +1,11 @@
 -- Laws of field values, over the definitions alone.
 use Rattle.std.specs.Prelude.{ℕ, ◌≡◌, ◌+◌, ◌*◌, ◌<◌, ◌≤◌, ◌↔◌, List, IsTrue}
 use Rattle.std.specs.List.{list_all}
+use Rattle.table_sizes.specs.Groups.{group_len, max_key_len}
 use Rattle.field_defs.specs.declared.field.FieldDef.{FieldDef}
 use Rattle.field_defs.specs.declared.field.FieldValue.{FieldValue}
 use Rattle.field_defs.specs.FieldMatch.{is_size, CanMatch, IsWild, is_wild}
-use Rattle.field_defs.specs.Layout.{key_len_of, max_key_len, group_count}
-use Rattle.field_defs.specs.LayoutFault.{group_bytes}
+use Rattle.field_defs.specs.Layout.{key_len_of, group_count}
 use Rattle.field_defs.specs.Lawful.{IsLayout}
 
 -- A value is wild by its numbers exactly where every number of the size matches.
@@ -27,4 +27,4 @@ LawfulLayoutsHaveShortKeys =
 -- A key of a lawful layout has the byte of the first field and four for each group after it.
 abbrev pub LawfulLayoutsFillTheirGroups : Type 0
 LawfulLayoutsFillTheirGroups =
-    (defs : List FieldDef) → IsLayout defs → key_len_of defs ≡ 1 + group_bytes * group_count defs
+    (defs : List FieldDef) → IsLayout defs → key_len_of defs ≡ 1 + group_len * group_count defs

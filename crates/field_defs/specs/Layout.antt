@@ -24,10 +24,6 @@ buffer_len_of defs = fold (λ n d. max n (d.offset + d.size)) 0 defs
 abbrev pub max_fields : ℕ
 max_fields = MAX_FIELDS
 
--- how many bytes a key may have: the first field has one, and each other one at most eight
-abbrev pub max_key_len : ℕ
-max_key_len = 505
-
 -- a field fills the group: its own, or of 8 bytes the one after it too
 abbrev pub fills : ℕ → FieldDef → Bool
 fills group def =

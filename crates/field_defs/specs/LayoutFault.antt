@@ -6,9 +6,10 @@ use Rattle.std.specs.Prelude.{ℕ, ◌+◌, ◌-◌, ◌==◌, List, [], ◌∷�
 use Rattle.std.specs.Prelude.{slice_index_or, Bool, not, ◌&&◌, ◌||◌, nat_le, nat_lt, Option}
 use Rattle.std.specs.Prelude.{if◌then◌else◌}
 use Rattle.std.specs.Option.{option_map}
+use Rattle.table_sizes.specs.Groups.{group_len}
 use Rattle.field_defs.specs.declared.field.FieldKind.TheVariants.{Mask}
 use Rattle.field_defs.specs.declared.field.FieldDef.{FieldDef}
-use Rattle.field_defs.specs.declared.lawful.TheConstants.{MAX_OFFSET, GROUP_BYTES, WIDE_SIZE}
+use Rattle.field_defs.specs.declared.lawful.TheConstants.{MAX_OFFSET, WIDE_SIZE}
 use Rattle.field_defs.specs.declared.lawful.TheConstants.{GROUP_NUMBERS}
 use Rattle.field_defs.specs.declared.lawful.DefCheck.{DefCheck}
 use Rattle.field_defs.specs.declared.lawful.DefCheck.TheVariants.{Index, Size, Order, Offset, Reach}
@@ -23,10 +24,6 @@ use Rattle.field_defs.specs.Faults.{fault_unless, first_of, failing_number}
 -- the greatest offset of a field
 abbrev pub max_offset : ℕ
 max_offset = MAX_OFFSET
-
--- how many bytes of a key make one group
-abbrev pub group_bytes : ℕ
-group_bytes = GROUP_BYTES
 
 -- the size of a field that fills two groups
 abbrev pub wide_size : ℕ
@@ -70,7 +67,7 @@ abbrev pub is_filled_group : List FieldDef → ℕ → Bool
 is_filled_group defs group =
     let members = filter (λ def. def.input_index == group) defs in
     let bytes = sum_by (λ def. def.size) members in
-    length members == 0 || (bytes == group_bytes || (length members == 1 && bytes == wide_size))
+    length members == 0 || (bytes == group_len || (length members == 1 && bytes == wide_size))
 
 -- a definition that shares a group past 0 with the one before it lies after it in the buffer
 abbrev pub is_after : List FieldDef → ℕ → Bool

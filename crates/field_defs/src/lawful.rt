@@ -8,13 +8,11 @@ ghost use Rattle.field_defs.specs.LayoutFault.{layout_fault, is_in_order, is_aft
 ghost use Rattle.field_defs.specs.LayoutFault.{is_filled_group, group_numbers};
 
 use crate::field::{FieldDef, is_field_size};
+use table_sizes::GROUP_LEN;
 use thiserror::Error;
 
 /// The greatest offset of a field.
 const MAX_OFFSET: u32 = 65_535;
-
-/// How many bytes of a key make one group.
-const GROUP_BYTES: u32 = 4;
 
 /// The size of a field that fills two groups.
 const WIDE_SIZE: u8 = 8;
@@ -178,15 +176,15 @@ fn is_filled_group(later: &[FieldDef], group: u8) -> bool
     ensures { result ≡ is_filled_group later.now group }
 {
     let mut count = 0u32;
-    let mut bytes = 0u32;
+    let mut bytes = 0usize;
     for def in later {
         let size = def.size;
         if def.input_index == group {
             count += 1;
-            bytes += u32::from(size);
+            bytes += usize::from(size);
         }
     }
-    count == 0 || bytes == GROUP_BYTES || count == 1 && bytes == u32::from(WIDE_SIZE)
+    count == 0 || bytes == GROUP_LEN || count == 1 && bytes == usize::from(WIDE_SIZE)
 }
 
 /// The number of the first group that its fields don't fill.

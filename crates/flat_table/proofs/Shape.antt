@@ -2,7 +2,8 @@
 use Rattle.std.proofs.Common.{◌≡◌, ◌==◌, ◌&&◌, ℕ, ◌+◌, ◌*◌, ◌%◌, ◌<◌, ◌≤◌, nat_le, nat_lt, Bool, true, false, IsTrue, length, sum, arith}
 use Rattle.std.specs.List.{list_all}
 use Rattle.std.proofs.lemmas.Bool.{and_parts, eqb-true, leb-true, ltb-true}
-use Rattle.flat_table.specs.Groups.{group_len, longest_key, is_key_len, is_kept_word}
+use Rattle.table_sizes.specs.Groups.{group_len, max_key_len}
+use Rattle.flat_table.specs.Groups.{is_key_len, is_kept_word}
 use Rattle.flat_table.specs.Table.{TableView, depths_of, words_of}
 use Rattle.table_sizes.specs.Sizes.{max_tries, max_words, row_len}
 use Rattle.flat_table.specs.Sound.{begins_with_zeros, is_shaped, first_unsound_root}
@@ -16,7 +17,7 @@ pub record IsShaped (table : TableView) : Type 0 where
   pub few : length table.roots ≤ max_tries
   pub key_len : is_key_len table.key_len ≡ true
   pub key_some : 0 < table.key_len
-  pub key_bound : table.key_len ≤ longest_key
+  pub key_bound : table.key_len ≤ max_key_len
   pub kept : list_all (is_kept_word table.key_len) table.kept ≡ true
   pub levels : length table.level_lens ≡ sum (depths_of table)
   pub words : length table.words ≡ sum table.level_lens
@@ -42,9 +43,9 @@ shaped table all =
     (is_key_len table.key_len) (list_all (is_kept_word table.key_len) table.kept)
     (length table.level_lens == sum (depths_of table)) (length table.words == sum table.level_lens)
     (begins_with_zeros table.rows) (nat_le (words_of table) max_words) all in
-    let len = and_parts (table.key_len % group_len == 1) (nat_lt table.key_len (longest_key + 1)) h.2 in
+    let len = and_parts (table.key_len % group_len == 1) (nat_lt table.key_len (max_key_len + 1)) h.2 in
     let rest = eqb-true (table.key_len % group_len) 1 len.0 in
-    let long = ltb-true table.key_len (longest_key + 1) len.1 in
+    let long = ltb-true table.key_len (max_key_len + 1) len.1 in
     record {
       same = eqb-true (length table.kept) (length table.roots) h.0;
       few = leb-true (length table.roots) max_tries h.1;

@@ -1,30 +1,17 @@
--- Groups of key bytes (DPDK Programmer's Guide, "Packet Classification and Access Control": the
--- first field is one byte, and all later input comes in groups of four consecutive bytes). A trie
--- reads the groups that it keeps and passes over the others.
+-- The groups of key bytes that a trie keeps: it reads their bytes and passes over the others.
 use Rattle.std.specs.Prelude.{ℕ, ◌+◌, ◌-◌, ◌/◌, ◌%◌, ◌^◌, ◌==◌, nat_lt, List, length, filter, Bool}
 use Rattle.std.specs.Prelude.{◌&&◌}
 use Rattle.std.specs.List.{range_with_len}
 use Rattle.std.specs.Int.{bit_at}
-
--- how many bytes a group has, but for group 0, which has one
-abbrev pub group_len : ℕ
-group_len = 4
-
--- the most bytes that a key has: those of a byte and 63 fields of 8 bytes
-abbrev pub longest_key : ℕ
-longest_key = 505
+use Rattle.table_sizes.specs.Groups.{group_len, group_of, max_key_len}
 
 -- a key is one byte and whole groups
 abbrev pub is_key_len : ℕ → Bool
-is_key_len key_len = key_len % group_len == 1 && nat_lt key_len (longest_key + 1)
+is_key_len key_len = key_len % group_len == 1 && nat_lt key_len (max_key_len + 1)
 
 -- how many groups such a key has
 abbrev pub groups_of : ℕ → ℕ
 groups_of key_len = 1 + (key_len - 1) / group_len
-
--- the group in which the place lies
-abbrev pub group_of : ℕ → ℕ
-group_of place = (place + (group_len - 1)) / group_len
 
 -- bit g of a trie's word of kept groups says that group g is kept
 abbrev pub is_kept : ℕ → ℕ → Bool

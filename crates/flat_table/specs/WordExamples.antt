@@ -3,7 +3,7 @@ use Rattle.std.specs.Prelude.{◌≡◌, ℕ, [], ◌∷◌, map, filter, true, 
 use Rattle.std.specs.List.{range_with_len}
 use Rattle.flat_table.specs.Word.{index_of, kind_of, boundaries_of, full, single, quad, matching}
 use Rattle.flat_table.specs.Word.{is_match, is_node, node_len, offset_of, next_place}
-use Rattle.flat_table.specs.Groups.{is_key_len, is_kept_word, groups_of, group_of, kept_places}
+use Rattle.flat_table.specs.Groups.{is_key_len, is_kept_word, groups_of, kept_places}
 use Rattle.flat_table.specs.Groups.{depth_of}
 
 -- a quad-range node at 291 with the boundaries 9, 10, 64 and 255
@@ -73,10 +73,6 @@ longest_key_lens = refl
 
 group_counts : map groups_of (1 ∷ 5 ∷ 13 ∷ 37 ∷ 505 ∷ []) ≡ 1 ∷ 2 ∷ 4 ∷ 10 ∷ 127 ∷ []
 group_counts = refl
-
-groups_of_places : map group_of (range_with_len 0 13)
-    ≡ 0 ∷ 1 ∷ 1 ∷ 1 ∷ 1 ∷ 2 ∷ 2 ∷ 2 ∷ 2 ∷ 3 ∷ 3 ∷ 3 ∷ 3 ∷ []
-groups_of_places = refl
 
 -- none kept, group 0 alone, groups 0 and 2, all, and a bit too high
 kept_words : map (is_kept_word 13) (0 ∷ 1 ∷ 5 ∷ 15 ∷ 16 ∷ [])

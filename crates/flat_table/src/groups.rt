@@ -1,20 +1,15 @@
 //! Groups of key bytes: which places of a key a trie reads.
 //!
-//! Group 0 of a key is its first byte, and group g from 1 on the four bytes at the places 4g - 3 to
-//! 4g. A trie keeps some groups, bit g of its word for group g, and its walks pass over the bytes
+//! A trie keeps some groups, bit g of its word for group g, and its walks pass over the bytes
 //! of the others: a group in which every rule of the trie lets every byte through decides nothing.
 
 ghost use Rattle.std.specs.Prelude.{◌≡◌, ◌+◌, ◌-◌, ◌*◌, ◌/◌, ◌%◌, ◌^◌, ◌<◌, ◌≤◌, IsTrue};
-ghost use Rattle.flat_table.specs.Groups.{longest_key, is_key_len, groups_of, group_of, is_kept};
-ghost use Rattle.flat_table.specs.Groups.{is_kept_word, kept_places, depth_of};
+ghost use Rattle.table_sizes.specs.Groups.{max_key_len};
+ghost use Rattle.flat_table.specs.Groups.{is_key_len, is_kept, is_kept_word, groups_of};
+ghost use Rattle.flat_table.specs.Groups.{kept_places, depth_of};
 
 use arrayvec::ArrayVec;
-
-/// The most bytes that a key has: one, and 63 fields of 8.
-pub const MAX_KEY_LEN: usize = 505;
-
-/// How many bytes a group has, but for group 0.
-const GROUP_LEN: usize = 4;
+use table_sizes::{GROUP_LEN, MAX_KEY_LEN, group_of};
 
 /// The places of a key that a trie reads, ascending.
 pub(crate) type Places = ArrayVec<u16, MAX_KEY_LEN>;
@@ -38,16 +33,15 @@ pub fn is_kept_word(key_len: u32, kept: u128) -> bool
 
 /// Whether the group of the place is kept.
 fn is_kept(kept: u128, place: usize) -> bool
-    requires { place < longest_key }
+    requires { place < max_key_len }
     ensures { result ≡ is_kept kept place }
 {
-    let group = (place + (GROUP_LEN - 1)) / GROUP_LEN;
-    kept >> group & 1 == 1
+    kept >> group_of(place) & 1 == 1
 }
 
 /// How many places of a key are kept.
 pub fn depth_of(key_len: u32, kept: u128) -> usize
-    requires { key_len ≤ longest_key }
+    requires { key_len ≤ max_key_len }
     ensures value { result ≡ depth_of key_len kept }
     ensures bound { result ≤ key_len }
 {
@@ -58,7 +52,7 @@ pub fn depth_of(key_len: u32, kept: u128) -> usize
 
 /// The places of a key that are kept, ascending.
 pub(crate) fn kept_places(key_len: u32, kept: u128) -> Places
-    requires { key_len ≤ longest_key }
+    requires { key_len ≤ max_key_len }
     ensures { result.items ≡ kept_places key_len kept }
 {
     let mut places = Places::new();

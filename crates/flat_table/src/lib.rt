@@ -15,7 +15,7 @@
 //! ```
 //!
 //! - `parts`: what a table is made of.
-//! - `word`: a transition word, bit by bit, and the place of the next one.
+//! - `word`: a transition word, bit by bit, and the place of the next one; the userdata of a row.
 //! - `groups`: which places of a key a trie reads.
 //! - `level`, `sound`: where the words of a trie's depth lie, and which parts are sound.
 //! - `table`: a sound table.
@@ -34,7 +34,7 @@ mod steps;
 mod table;
 mod word;
 
-pub use groups::{MAX_KEY_LEN, depth_of, is_kept_word};
+pub use groups::{depth_of, is_kept_word};
 pub use level::Level;
 pub use parts::Parts;
 pub use sound::{SoundFault, check_sound, is_sound_word};
@@ -42,5 +42,5 @@ pub use steps::Steps;
 pub use table::{NotSound, Table};
 pub use word::{
     BOUNDARY_BITS, FULL, INDEX_BITS, MATCH, QUAD, SINGLE, boundaries_below, index_of, is_match,
-    kind_of, next_place,
+    kind_of, next_place, userdata_of,
 };

@@ -9,7 +9,8 @@ ghost use Rattle.std.specs.Prelude.{◌≡◌, ◌==◌, ◌+◌, ◌*◌, ◌^�
 ghost use Rattle.std.specs.Prelude.{not, true, IsTrue, IfSome};
 ghost use Rattle.std.specs.List.{list_all, position_from};
 ghost use Rattle.std.specs.Result.{result_err};
-ghost use Rattle.flat_table.specs.Groups.{longest_key, is_key_len, is_kept_word, depth_of};
+ghost use Rattle.table_sizes.specs.Groups.{max_key_len};
+ghost use Rattle.flat_table.specs.Groups.{is_key_len, is_kept_word, depth_of};
 ghost use Rattle.flat_table.specs.Table.{view_of, levels_from};
 ghost use Rattle.table_sizes.specs.Sizes.{max_tries, max_words, row_len};
 ghost use Rattle.flat_table.specs.Sound.{begins_with_zeros};
@@ -57,7 +58,7 @@ fn sum_of_depths(key_len: u32, kept: &[u128]) -> usize
     requires key { IsTrue (is_key_len key_len) }
     requires few { length kept.now ≤ max_tries }
     ensures value { result ≡ sum (map (depth_of key_len) kept.now) }
-    ensures bound { result ≤ max_tries * longest_key }
+    ensures bound { result ≤ max_tries * max_key_len }
 {
     let mut depths = 0;
     for kept in kept {
@@ -68,7 +69,7 @@ fn sum_of_depths(key_len: u32, kept: &[u128]) -> usize
 
 /// How many words the levels have together.
 fn sum_of(lens: &[u32]) -> usize
-    requires { length lens.now ≤ max_tries * longest_key }
+    requires { length lens.now ≤ max_tries * max_key_len }
     ensures value { result ≡ sum lens.now }
 {
     let mut words = 0;

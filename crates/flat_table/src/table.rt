@@ -4,7 +4,8 @@ ghost use Rattle.std.specs.Prelude.{◌≡◌, ◌+◌, ◌*◌, ◌<◌, ◌≤
 ghost use Rattle.std.specs.Prelude.{slice_index_or, None, IfOk, IfErr, Some, map, sum, take};
 ghost use Rattle.std.specs.Prelude.{option_map};
 ghost use Rattle.std.specs.Result.{result_err};
-ghost use Rattle.flat_table.specs.Groups.{longest_key, kept_places};
+ghost use Rattle.table_sizes.specs.Groups.{max_key_len};
+ghost use Rattle.flat_table.specs.Groups.{kept_places};
 ghost use Rattle.flat_table.specs.Table.{view_of, words_of, depths_of, places_of, level_of};
 ghost use Rattle.flat_table.specs.Sound.{leads_into, sound_fault};
 ghost use Rattle.flat_table.specs.Walk.{root_of};
@@ -82,7 +83,7 @@ fn roots_of(roots: &[u64]) -> ArrayVec<u64, MAX_TRIES>
 
 /// For each trie the places of its kept groups.
 fn places_of(key_len: u32, kept: &[u128]) -> ArrayVec<Places, MAX_TRIES>
-    requires key { key_len ≤ longest_key }
+    requires key { key_len ≤ max_key_len }
     requires few { length kept.now ≤ max_tries }
     ensures { map (λ places. places.items) result.items ≡ map (kept_places key_len) kept.now }
 {
@@ -146,7 +147,7 @@ impl Table {
     pub fn key_len(&self) -> usize
         ensures value { result ≡ self.now.key_len }
         ensures some { 0 < result }
-        ensures bound { result ≤ longest_key }
+        ensures bound { result ≤ max_key_len }
     {
         self.parts.key_len as usize
     }
@@ -170,7 +171,7 @@ impl Table {
     pub fn depths(&self, trie: usize) -> usize
         requires { trie < length self.now.roots }
         ensures value { result ≡ length (places_of self.now trie) }
-        ensures bound { result ≤ longest_key }
+        ensures bound { result ≤ max_key_len }
     {
         self.places(trie).len()
     }
@@ -179,7 +180,7 @@ impl Table {
     pub fn places(&self, trie: usize) -> &[u16]
         requires { trie < length self.now.roots }
         ensures places { result.now ≡ places_of self.now trie }
-        ensures bound { length result.now ≤ longest_key }
+        ensures bound { length result.now ≤ max_key_len }
     {
         let places = &self.places.as_slice()[trie];
         places.as_slice()

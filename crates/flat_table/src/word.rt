@@ -1,4 +1,4 @@
-//! Transition words, of which a table is made, and the nodes that they lead to.
+//! Transition words, of which a table is made, the nodes that they lead to, and the words of rows.
 //!
 //! ```text
 //!     | boundaries: 32 | kind: 3 | index: 29 |      bit 0 is the lowest of the index
@@ -18,6 +18,7 @@ ghost use Rattle.table_sizes.specs.Sizes.{full_len};
 ghost use Rattle.flat_table.specs.Word.{indexes, index_of, kind_of, boundaries_of};
 ghost use Rattle.flat_table.specs.Word.{is_match, is_node, is_unbounded, node_len, offset_of};
 ghost use Rattle.flat_table.specs.Word.{next_place};
+ghost use Rattle.flat_table.specs.Walk.{userdatas};
 
 use table_sizes::{FEW_RUNS, FULL_LEN};
 
@@ -32,6 +33,9 @@ const KIND_MASK: u64 = 7;
 
 /// The first bit of the first boundary.
 pub const BOUNDARY_BITS: u32 = 32;
+
+/// The bits of a row's word that are the userdata.
+const USERDATA_MASK: u64 = 0xFFFF_FFFF;
 
 /// A node with a word for each byte value.
 pub const FULL: u64 = 0;
@@ -95,6 +99,13 @@ pub(crate) fn node_len(word: u64) -> usize
         QUAD => FEW_RUNS,
         _ => 1,
     }
+}
+
+/// The userdata of a row's word: its low half. The high half is a rank.
+pub fn userdata_of(word: u64) -> u32
+    ensures { result ≡ word % userdatas }
+{
+    (word & USERDATA_MASK) as u32
 }
 
 /// How many of the word's boundaries are below the byte.

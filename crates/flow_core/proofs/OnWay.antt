@@ -3,7 +3,7 @@ use Rattle.std.proofs.Common.{◌≡◌, ℕ, ◌+◌, ◌*◌, ◌<◌, ◌≤�
 use Rattle.std.specs.Prelude.{slice_index, None}
 use Rattle.std.proofs.Math.Nat.{mul-le-mul_right}
 use Rattle.std.proofs.lemmas.List.{get_or-take, get_or-drop}
-use Rattle.flat_table.specs.Groups.{longest_key}
+use Rattle.table_sizes.specs.Groups.{max_key_len}
 use Rattle.flat_table.specs.Word.{next_place}
 use Rattle.flat_table.specs.Table.{TableView, places_of}
 use Rattle.flat_table.specs.Sound.{sound_fault}
@@ -54,8 +54,8 @@ module _ {table : TableView} {keys : List ℕ} {given : ℕ} {flight : Flight} (
         ∙ get_or-drop (flight.key * table.key_len) keys place 0)
         ∙ ap (λ (p : ℕ). slice_index (key_at table keys flight.key) p) place_is
 
-  pub product_fits : {len : ℕ} → len ≡ table.key_len → len ≤ longest_key → keys_in table keys ≤ most_keys →
-      flight.key * len ≤ most_keys * longest_key
+  pub product_fits : {len : ℕ} → len ≡ table.key_len → len ≤ max_key_len → keys_in table keys ≤ most_keys →
+      flight.key * len ≤ most_keys * max_key_len
   product_fits {len = len} e short few =
       let left : flight.key * len ≤ most_keys * len = mul-le-mul_right len
       (let below : flight.key ≤ most_keys = omega (arith, key_of_flight, few) in below) in

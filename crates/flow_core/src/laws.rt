@@ -1,7 +1,7 @@
 //! Laws of flow machines, over their definitions alone. They do nothing when they are run.
 
 ghost use Rattle.std.specs.Prelude.{◌≡◌, ◌≤◌, length, None};
-ghost use Rattle.flat_table.specs.Groups.{longest_key};
+ghost use Rattle.table_sizes.specs.Groups.{max_key_len};
 ghost use Rattle.flat_table.specs.Sound.{sound_fault};
 ghost use Rattle.flat_table.specs.Laws.{WalksStay};
 ghost use Rattle.flow_core.specs.Laws.{InvariantIsKept, EverySchedule};
@@ -30,7 +30,7 @@ pub fn every_schedule()
 pub fn stay_in(table: &Table)
     ensures sound { sound_fault table.now ≡ None }
     ensures stay { WalksStay }
-    ensures short { table.now.key_len ≤ longest_key }
+    ensures short { table.now.key_len ≤ max_key_len }
     ensures few { length table.now.roots ≤ max_tries }
 {
     walks_stay();

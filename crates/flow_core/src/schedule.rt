@@ -3,7 +3,6 @@
 ghost use Rattle.std.specs.Prelude.{◌≡◌, ◌+◌, ◌*◌, ◌%◌, ◌<◌, ◌≤◌, length, drop, take, true, false};
 ghost use Rattle.std.specs.Prelude.{flat_map};
 ghost use Rattle.table_sizes.specs.Sizes.{row_len};
-ghost use Rattle.flat_table.specs.Walk.{userdatas};
 ghost use Rattle.flat_table.specs.Batch.{LengthsFit, keys_in, batch_verdicts};
 ghost use Rattle.flow_core.specs.Rows.{row_verdicts};
 ghost use Rattle.flow_core.specs.Machine.{is_done, flow_from_first};
@@ -13,19 +12,9 @@ ghost use Rattle.flow_core.specs.Laws.{AreSlots, AreEnough};
 use crate::flows::Flows;
 use crate::laws::stay_in;
 use crate::scratch::Scratch;
-use flat_table::Table;
+use flat_table::{Table, userdata_of};
 use rule_set::Categories;
 use table_sizes::ROW_LEN;
-
-/// The bits of a row word that are the userdata.
-const USERDATA_MASK: u64 = 0xFFFF_FFFF;
-
-/// The userdata of the word of a row.
-fn userdata_of(word: u64) -> u32
-    ensures { result ≡ word % userdatas }
-{
-    (word & USERDATA_MASK) as u32
-}
 
 /// Writes for so many categories from 0 on the userdata of the row's word.
 fn write_row(row: &[u64; ROW_LEN], verdicts: &mut [u32])

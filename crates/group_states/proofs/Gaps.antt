@@ -8,7 +8,8 @@ use Rattle.field_defs.specs.Layout.{key_len_of}
 use Rattle.rule_set.specs.Rule.{RuleSetView}
 use Rattle.list_lemmas.proofs.Ranges.{not_all_numbers, each_in_range, all_or_some_not}
 use Rattle.group_states.proofs.Reached.{IsGap}
-use Rattle.group_states.specs.Kept.{group_of, is_wild_place, is_idle, is_kept, key_places, kept_places}
+use Rattle.table_sizes.specs.Groups.{group_of}
+use Rattle.group_states.specs.Kept.{is_wild_place, is_idle, is_kept, key_places, kept_places}
 
 module _ (set : RuleSetView) (group : List ℕ) where
   -- The kept places with the gaps between them, to the end of the key.

@@ -1,24 +1,15 @@
--- The input groups of a key that a trie keeps. Byte 0 of a key is group 0, and then four bytes each
--- make a group (DPDK Programmer's Guide: the first field has one byte, and the others are grouped
--- into four consecutive bytes). A group in which each rule of the trie lets every number through
--- decides nothing, so it is left out.
-use Rattle.std.specs.Prelude.{ℕ, ◌+◌, ◌-◌, ◌/◌, ◌^◌, ◌==◌, List, [], ◌∷◌, filter, nat_lt, Bool}
+-- The input groups of a key that a trie keeps. A group in which each rule of the trie lets every
+-- number through decides nothing, so it is left out.
+use Rattle.std.specs.Prelude.{ℕ, ◌+◌, ◌-◌, ◌^◌, ◌==◌, List, [], ◌∷◌, filter, nat_lt, Bool}
 use Rattle.std.specs.Prelude.{true, not, ◌&&◌, ◌||◌, if◌then◌else◌}
 use Rattle.std.specs.List.{list_all, range_with_len, sum_by}
+use Rattle.table_sizes.specs.Groups.{group_of}
 use Rattle.field_defs.specs.declared.field.FieldDef.{FieldDef}
 use Rattle.field_defs.specs.declared.field.FieldValue.{FieldValue}
 use Rattle.field_defs.specs.FieldMatch.{is_wild}
 use Rattle.field_defs.specs.Layout.{key_len_of}
 use Rattle.rule_set.specs.Rule.{RuleSetView}
 use Rattle.group_states.specs.RuleRest.{values_of}
-
--- how many bytes a group has, but for group 0, which has one
-abbrev pub group_size : ℕ
-group_size = 4
-
--- the group of a place of the key
-abbrev pub group_of : ℕ → ℕ
-group_of place = (place + (group_size - 1)) / group_size
 
 -- the value of the field that has the place is wild
 abbrev pub is_wild_at : List FieldDef → List FieldValue → ℕ → Bool

@@ -12,7 +12,8 @@ use Rattle.rule_set.specs.Winner.{rule_match}
 use Rattle.node_expand.specs.Rest.{Live}
 use Rattle.group_states.specs.Follow.{followed, matching, IsAnswer}
 use Rattle.group_states.specs.Found.{found_in, all_bytes}
-use Rattle.group_states.specs.Kept.{group_of, is_idle, kept_places}
+use Rattle.table_sizes.specs.Groups.{group_of}
+use Rattle.group_states.specs.Kept.{is_idle, kept_places}
 use Rattle.group_states.specs.Levels.{states_at, reached, levels_of, IsGroup}
 use Rattle.group_states.specs.RuleRest.{values_rest}
 use Rattle.group_states.specs.State.{state, state_step, same_state, is_live}

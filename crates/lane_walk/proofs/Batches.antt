@@ -8,7 +8,7 @@ use Rattle.std.proofs.lemmas.Bool.{cases_Bool, cases_lt, cases_eq}
 use Rattle.std.proofs.lemmas.List.{drop_at, length-replicate, take_all}
 use Rattle.std.proofs.lemmas.List.Elements.{All-from_get_or}
 use Rattle.std.proofs.lemmas.List.Sums.{count_by_more_yes, count_by_more_no, fold-append}
-use Rattle.flat_table.specs.Groups.{longest_key}
+use Rattle.table_sizes.specs.Groups.{max_key_len}
 use Rattle.flat_table.specs.Table.{TableView}
 use Rattle.flat_table.specs.Sound.{sound_fault}
 use Rattle.flat_table.specs.Batch.{batch_transitions, keys_in, most_keys, most_of_batch}
@@ -240,8 +240,8 @@ module _ {table : TableView} {keys : List ℕ} {width n : ℕ} {machine : Machin
 -- ---- the numbers fit
 
 pub words_fit : (table : TableView) (keys : List ℕ) → keys_in table keys ≤ most_keys →
-    length table.roots ≤ max_tries → table.key_len ≤ longest_key →
-    batch_transitions table keys ≤ most_keys * (max_tries * longest_key)
+    length table.roots ≤ max_tries → table.key_len ≤ max_key_len →
+    batch_transitions table keys ≤ most_keys * (max_tries * max_key_len)
 words_fit table keys few tries short = omega (
   arith,
   batch_bound table keys,
@@ -249,10 +249,10 @@ words_fit table keys few tries short = omega (
 )
 
 pub steps_fit : (table : TableView) (keys : List ℕ) → keys_in table keys ≤ most_keys →
-    length table.roots ≤ max_tries → table.key_len ≤ longest_key →
-    most_steps table keys ≤ most_keys * max_tries * (longest_key + 1)
+    length table.roots ≤ max_tries → table.key_len ≤ max_key_len →
+    most_steps table keys ≤ most_keys * max_tries * (max_key_len + 1)
 steps_fit table keys few tries short =
-    let longer : table.key_len + 1 ≤ longest_key + 1 = omega (arith, short) in
+    let longer : table.key_len + 1 ≤ max_key_len + 1 = omega (arith, short) in
     mul-le-mul (mul-le-mul few tries) longer
 
 -- what all keys take is within their bound

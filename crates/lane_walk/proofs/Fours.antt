@@ -5,7 +5,7 @@ use Rattle.std.proofs.lemmas.List.Elements.{All-set}
 use Rattle.std.specs.Prelude.{All, slice_index, slice_index_or, None, Some}
 use Rattle.std.proofs.lemmas.List.{get_or-map}
 use Rattle.flat_table.proofs.Offered.{places_bound}
-use Rattle.flat_table.specs.Groups.{longest_key}
+use Rattle.table_sizes.specs.Groups.{max_key_len}
 use Rattle.flat_table.specs.Laws.{WalksStay}
 use Rattle.flat_table.specs.Sound.{sound_fault}
 use Rattle.flat_table.specs.Table.{TableView}
@@ -41,7 +41,7 @@ lawful before onward is =
 
 -- the depth of a flight on its way is below the greatest length of a key
 pub depth_below : {table : TableView} {keys : List ℕ} {flight : Flight} {word : ℕ} → Goes table keys flight word →
-    table.key_len ≤ longest_key → flight.depth < longest_key
+    table.key_len ≤ max_key_len → flight.depth < max_key_len
 depth_below {table = table} {flight = flight} g short =
     omega (arith, g.on_way.depth, places_bound table flight.trie, short)
 

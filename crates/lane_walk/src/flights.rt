@@ -3,7 +3,7 @@
 ghost use Rattle.std.specs.Prelude.{◌≡◌, ℕ, ◌+◌, ◌<◌, ◌≤◌, length, true, false, None, []};
 ghost use Rattle.std.specs.Prelude.{slice_index, slice_index_or};
 ghost use Rattle.std.specs.List.{list_all};
-ghost use Rattle.flat_table.specs.Groups.{longest_key};
+ghost use Rattle.table_sizes.specs.Groups.{max_key_len};
 ghost use Rattle.flat_table.specs.Word.{index_of, is_match, is_node};
 ghost use Rattle.flow_core.specs.Rows.{joined_into};
 ghost use Rattle.flow_core.specs.Machine.{moved_to};
@@ -99,7 +99,7 @@ pub(crate) fn join_ended(table: &Table, scratch: &mut Scratch, flight: &Flight)
 /// The flight at its next word.
 #[inline]
 pub(crate) fn go_on(flight: &mut Flight, word: u64)
-    requires { flight.old.depth < longest_key }
+    requires { flight.old.depth < max_key_len }
     ensures { flight.new ≡ moved_to word flight.old }
 {
     flight.depth += 1;
@@ -111,7 +111,7 @@ pub(crate) fn go_on(flight: &mut Flight, word: u64)
 #[inline]
 pub(crate) fn land(table: &Table, scratch: &mut Scratch, flight: &mut Flight, word: u64)
     requires onward { LeadsOnward table.now flight.old word }
-    requires depth { flight.old.depth < longest_key }
+    requires depth { flight.old.depth < max_key_len }
     requires key { flight.old.key < length scratch.old }
     ensures held { held_in flight.new ≡ held_after flight.old word }
     ensures lawful { EndsOrLeads flight.new }

@@ -3,7 +3,7 @@
 ghost use Rattle.std.specs.Prelude.{◌≡◌, ℕ, ◌+◌, ◌*◌, ◌<◌, ◌≤◌, length, drop, true, false, None, []};
 ghost use Rattle.std.specs.Prelude.{slice_index, slice_index_or};
 ghost use Rattle.std.specs.List.{list_all};
-ghost use Rattle.flat_table.specs.Groups.{longest_key};
+ghost use Rattle.table_sizes.specs.Groups.{max_key_len};
 ghost use Rattle.flat_table.specs.Batch.{keys_in};
 ghost use Rattle.flat_table.specs.Word.{index_of, is_match, is_node};
 ghost use Rattle.flow_core.specs.Rows.{cleared, joined_into};

@@ -4,7 +4,8 @@ use Rattle.std.specs.Prelude.{map, true, slice_index_or}
 use Rattle.std.specs.List.{count_by, range_with_len}
 use Rattle.std.specs.Int.Signed.{le_z}
 use Rattle.rule_set.specs.Rule.{RuleView}
-use Rattle.rule_set.specs.Limits.{max_priority, max_rules}
+use Rattle.rule_set.specs.Limits.{max_priority}
+use Rattle.table_sizes.specs.Sizes.{max_rules}
 use Rattle.rule_set.specs.Among.{priority_at}
 
 -- the priority, and for equal priorities the number of places up to the last

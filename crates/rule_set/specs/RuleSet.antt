@@ -1,6 +1,6 @@
 -- What holds of every rule set.
 use Rattle.std.specs.Prelude.{◌≡◌, ◌≤◌, length, All, None}
-use Rattle.rule_set.specs.Limits.{max_rules}
+use Rattle.table_sizes.specs.Sizes.{max_rules}
 use Rattle.rule_set.specs.Fault.{rule_fault}
 use Rattle.rule_set.specs.Rule.{RuleView, RuleSetView}
 

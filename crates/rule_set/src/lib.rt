@@ -27,4 +27,4 @@ pub use check::{MAX_PRIORITY, RuleFault, check_rule};
 pub use plain::plain_verdict;
 pub use rank::ranks;
 pub use rule::{Rule, RuleTag, StoredRule};
-pub use set::{MAX_RULES, PushFault, RuleSet};
+pub use set::{PushFault, RuleSet};

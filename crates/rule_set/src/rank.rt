@@ -2,14 +2,16 @@
 
 ghost use Rattle.std.specs.Prelude.{◌≡◌, ◌≤◌, ◌<◌, pos, true, length, map, All, IfOk};
 ghost use Rattle.std.specs.Int.Signed.{le_z};
-ghost use Rattle.rule_set.specs.Limits.{max_priority, max_rules};
+ghost use Rattle.rule_set.specs.Limits.{max_priority};
+ghost use Rattle.table_sizes.specs.Sizes.{max_rules};
 ghost use Rattle.rule_set.specs.Rank.{ranks_of};
 ghost use Rattle.rule_set.specs.Keys.{order_key, place_of, keys_of, rank_among, TellPlaces};
 ghost use Rattle.rule_set.specs.Keys.{HasLawfulPriority};
 
 use crate::rule::{RuleTag, StoredRule};
-use crate::set::{MAX_RULES, RuleSet};
+use crate::set::RuleSet;
 use std::alloc::{AllocError, Global};
+use table_sizes::MAX_RULES;
 
 /// The rank of each rule, in order: 1 plus the number of rules that have a lower priority, or the
 /// same priority and were added later.

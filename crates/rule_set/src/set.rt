@@ -4,7 +4,7 @@ ghost use Rattle.std.specs.Prelude.{◌≡◌, ◌==◌, ◌<◌, ◌≤◌, ◌
 ghost use Rattle.std.specs.Prelude.{slice_get};
 ghost use Rattle.std.specs.Prelude.{Some, None, OnOk, OnErr};
 ghost use Rattle.rule_set.specs.declared.check.RuleFault.{RuleFault};
-ghost use Rattle.rule_set.specs.Limits.{max_rules};
+ghost use Rattle.table_sizes.specs.Sizes.{max_rules};
 ghost use Rattle.rule_set.specs.Fault.{rule_fault};
 
 use crate::check::{RuleFault, check_rule};
@@ -12,10 +12,8 @@ use crate::rule::StoredRule;
 use field_defs::Layout;
 use std::alloc::{AllocError, Global};
 use std::marker::Model;
+use table_sizes::MAX_RULES;
 use thiserror::Error;
-
-/// How many rules a set holds at most.
-pub const MAX_RULES: usize = 262_144;
 
 /// Why a rule isn't added.
 #[derive(Clone, Copy, Debug, Error)]

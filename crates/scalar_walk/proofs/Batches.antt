@@ -11,7 +11,7 @@ use Rattle.std.proofs.lemmas.List.FromFn.{length-range_with_len}
 use Rattle.std.proofs.Math.Nat.{mul-le-mul_right, div-mul-le_self}
 use borrow.Rule.Slice.PartMut.{put_mid}
 use Rattle.list_lemmas.proofs.Positions.{range-push, piece_written}
-use Rattle.flat_table.specs.Groups.{longest_key}
+use Rattle.table_sizes.specs.Groups.{max_key_len}
 use Rattle.flat_table.specs.Table.{TableView}
 use Rattle.flat_table.specs.Walk.{key_transitions}
 use Rattle.flat_table.specs.Batch.{key_at, key_verdicts, first_verdicts, first_transitions, batch_transitions}
@@ -110,7 +110,7 @@ pub record Classified (table : TableView) (keys : List ℕ) (count k : ℕ) (old
     : Type 0 where
   pub verdicts : out ≡ first_verdicts table count keys k ++ drop (k * count) old
   pub taken_is : taken ≡ first_transitions table keys k
-  pub most : taken ≤ k * (max_tries * longest_key)
+  pub most : taken ≤ k * (max_tries * max_key_len)
   pub counted : steps ≡ begun + taken
 
 pub classified_up_to : {table : TableView} {keys old out : List ℕ} {count k n taken begun steps : ℕ} → k ≡ n →
@@ -123,7 +123,7 @@ pub record PartClassified (table : TableView) (part : List ℕ) (count m : ℕ) 
     (taken steps new_steps : ℕ) : Type 0 where
   pub verdicts_are : verdicts ≡ first_verdicts table count part m
   pub taken_is : taken ≡ first_transitions table part m
-  pub most : taken ≤ m * (max_tries * longest_key)
+  pub most : taken ≤ m * (max_tries * max_key_len)
   pub counted : new_steps ≡ steps + taken
 
 -- m keys more
@@ -184,7 +184,7 @@ part_len {X = X} xs k m width fits =
 pub one_key : {table : TableView} {verdicts : List ℕ} {count len n taken steps new_steps : ℕ} →
     (keys out : List ℕ) (k : ℕ) → len ≡ table.key_len → length out ≡ n * count → k + 1 ≤ n →
     verdicts ≡ key_verdicts table (length (part_of out count k 1)) (part_of keys len k 1) →
-    taken ≡ key_transitions table (part_of keys len k 1) → taken ≤ max_tries * longest_key →
+    taken ≡ key_transitions table (part_of keys len k 1) → taken ≤ max_tries * max_key_len →
     new_steps ≡ steps + key_transitions table (part_of keys len k 1) →
     PartClassified table (part_of keys len k 1) count 1 verdicts taken steps new_steps
 one_key {table = table} {count = count} {len = len} {n = n} keys out k e room within verdicts taken most steps =

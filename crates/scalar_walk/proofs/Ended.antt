@@ -5,7 +5,7 @@ use Rattle.std.specs.Prelude.{bit_and}
 use Rattle.std.proofs.lemmas.Nat.{and_mask}
 use Rattle.std.proofs.Math.ListN.{length-set}
 use borrow.Author.Count.{below_more}
-use Rattle.flat_table.specs.Groups.{longest_key}
+use Rattle.table_sizes.specs.Groups.{max_key_len}
 use Rattle.flat_table.specs.Word.{indexes}
 use Rattle.scalar_walk.specs.Lanes.{sum_below}
 use Rattle.scalar_walk.proofs.Below.{sum_none, sum_more}
@@ -16,7 +16,7 @@ pub record RowsTo (lows counts old : List ℕ) (at n : ℕ) (rows : List ℕ) (t
   pub written : (k : ℕ) → k < n → get_or rows (at + k) 0 ≡ get_or lows k 0 % indexes
   pub others : (k : ℕ) → k < at → get_or rows k 0 ≡ get_or old k 0
   pub taken_is : taken ≡ sum_below (λ (k : ℕ). get_or counts k 0) n
-  pub most : taken ≤ n * longest_key
+  pub most : taken ≤ n * max_key_len
 
 pub rows_none : (lows counts old : List ℕ) (at : ℕ) → length old ≡ 16 → RowsTo lows counts old at 0 old 0
 rows_none lows counts old at len = record {
@@ -28,7 +28,7 @@ rows_none lows counts old at len = record {
 }
 
 pub rows_more : {lows counts old rows : List ℕ} {at n taken row count : ℕ} → RowsTo lows counts old at n rows taken →
-    n < 4 → at + 4 ≤ 16 → row ≡ bit_and (get_or lows n 0) 536870911 → count ≡ get_or counts n 0 → count ≤ longest_key →
+    n < 4 → at + 4 ≤ 16 → row ≡ bit_and (get_or lows n 0) 536870911 → count ≡ get_or counts n 0 → count ≤ max_key_len →
     RowsTo lows counts old at (n + 1) (set rows (at + n) row) (taken + count)
 rows_more {lows = lows} {counts = counts} {rows = rows} {at = at} {n = n} {row = row} r few room row_is count_is most =
     record {

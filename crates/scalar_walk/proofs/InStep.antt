@@ -5,7 +5,7 @@ use Rattle.std.specs.Prelude.{slice_index, if◌then◌else◌}
 use Rattle.std.proofs.lemmas.List.{get_or-take, get_or-drop}
 use Rattle.std.proofs.lemmas.Bool.{cases_lt}
 use Rattle.std.proofs.Math.Nat.{mul-le-mul_right}
-use Rattle.flat_table.specs.Groups.{longest_key}
+use Rattle.table_sizes.specs.Groups.{max_key_len}
 use Rattle.flat_table.specs.Word.{index_of, is_match}
 use Rattle.flat_table.specs.Table.{TableView, places_of}
 use Rattle.flat_table.specs.Walk.{root_of, transitions_after, walk_transitions}
@@ -140,7 +140,7 @@ module _ {way : Way} {keys : List ℕ} {first n count k : ℕ} {groups : List �
       step w.is_way (key_at way.table keys (first + i)) (n + k) place (slice_index groups (4 * i + k))
       (word_in walks.lows walks.highs i) within place_is byte small (w.stands i few)
 
-  pub group_ready : WalksStay → length way.places ≤ longest_key → (i : ℕ) → i < 4 →
+  pub group_ready : WalksStay → length way.places ≤ max_key_len → (i : ℕ) → i < 4 →
       CanGoOn way.words (word_in walks.lows walks.highs i) (slice_index groups (4 * i + k)) (slice_index walks.taken i)
   group_ready stay short i few =
       let s = lane_step i few in
@@ -207,7 +207,7 @@ module _ {way : Way} {keys : List ℕ} {first n : ℕ} {walks : Four} (w : FourW
       ∙ ap (λ (k : ℕ). transitions_after way.table way.trie (key_at way.table keys (first + i)) k) all_read
       ∙ sym (transitions_are way.table way.trie (key_at way.table keys (first + i)))
 
-  pub lane_took_few : length way.places ≤ longest_key → (i : ℕ) → i < 4 → slice_index walks.taken i ≤ longest_key
+  pub lane_took_few : length way.places ≤ max_key_len → (i : ℕ) → i < 4 → slice_index walks.taken i ≤ max_key_len
   lane_took_few short i few = omega (arith, w.few i few, all, short)
 
 -- what holds of each of four fours holds of each of sixteen

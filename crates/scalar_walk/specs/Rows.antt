@@ -4,7 +4,7 @@ use Rattle.std.specs.Prelude.{slice_index_or, Bool, false, true, not, ◌==◌, 
 use Rattle.std.specs.List.{range_with_len}
 use Rattle.flat_table.specs.Table.{TableView}
 use Rattle.table_sizes.specs.Sizes.{max_tries, row_len}
-use Rattle.flat_table.specs.Groups.{longest_key}
+use Rattle.table_sizes.specs.Groups.{max_key_len}
 use Rattle.flat_table.specs.Word.{is_match, is_node, next_place}
 use Rattle.flat_table.specs.Walk.{greatest, joined, userdatas, walk_row, moved, walk_transitions}
 use Rattle.flat_table.specs.Walk.{key_transitions}
@@ -44,7 +44,7 @@ pub record CanGoOn (words : List ℕ) (word byte taken : ℕ) : Type 0 where
   pub some : 0 < length words
   pub node : is_match word ≡ false → is_node word ≡ true
   pub in_words : is_match word ≡ false → next_place word byte < length words
-  pub few : taken < longest_key
+  pub few : taken < max_key_len
 
 -- A walk that stands at the word goes on by the byte. The next word is the one that stands then,
 -- and the count of words that it took is raised by one, unless the word is a match.

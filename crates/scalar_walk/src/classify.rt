@@ -3,7 +3,7 @@
 ghost use Rattle.std.specs.Prelude.{◌≡◌, ◌+◌, ◌*◌, ◌%◌, ◌<◌, ◌≤◌, ◌^◌, ◌==◌, length, map, take};
 ghost use Rattle.std.specs.Prelude.{ℕ, not, slice_index, slice_index_or, slice_set, [], All};
 ghost use Rattle.std.specs.List.{range_with_len};
-ghost use Rattle.flat_table.specs.Groups.{longest_key};
+ghost use Rattle.table_sizes.specs.Groups.{max_key_len};
 ghost use Rattle.table_sizes.specs.Sizes.{max_tries, row_len};
 ghost use Rattle.flat_table.specs.Walk.{joined, key_transitions, userdatas};
 ghost use Rattle.flat_table.specs.Batch.{LengthsFit, key_at, key_verdicts, batch_verdicts};
@@ -15,14 +15,11 @@ ghost use Rattle.scalar_walk.specs.Rows.{transitions_below, verdicts_below};
 
 use crate::in_step::{IN_STEP, walk_sixteen};
 use crate::walk::walk_one;
-use flat_table::{Steps, Table};
+use flat_table::{Steps, Table, userdata_of};
 use rule_set::Categories;
 use std::marker::Brand;
 use std::sync::ledger::{Blank, Ledger};
 use table_sizes::{MAX_TRIES, ROW_LEN};
-
-/// The bits of a row word that are the userdata.
-const USERDATA_MASK: u64 = 0xFFFF_FFFF;
 
 /// The greatest word of the category over the rows of these numbers.
 fn greatest_word(rows: &[[u64; ROW_LEN]], reached: &[u32], category: usize) -> u64
@@ -35,13 +32,6 @@ fn greatest_word(rows: &[[u64; ROW_LEN]], reached: &[u32], category: usize) -> u
         greatest = rows[*row as usize][category].max(greatest);
     }
     greatest
-}
-
-/// The userdata of the word of a row.
-fn userdata_of(word: u64) -> u32
-    ensures { result ≡ word % userdatas }
-{
-    (word & USERDATA_MASK) as u32
 }
 
 /// Writes for so many categories from 0 on the userdata of the row's word.
@@ -115,7 +105,7 @@ fn reach<L: Ledger>(table: &Table, key: &[u8], steps: &mut Steps<L>) -> Reached
     ensures few { length table.now.roots ≤ max_tries }
     ensures rows { Reaches table.now key.now (length table.now.roots) result.rows }
     ensures taken { result.taken ≡ key_transitions table.now key.now }
-    ensures bound { result.taken ≤ max_tries * longest_key }
+    ensures bound { result.taken ≤ max_tries * max_key_len }
     ensures steps { steps.new ≡ steps.old + key_transitions table.now key.now }
 {
     let mut rows = [0u32; MAX_TRIES];
@@ -139,7 +129,7 @@ fn classify_one<L: Ledger>(
     requires few { length verdicts.old ≤ row_len }
     ensures verdicts { verdicts.new ≡ key_verdicts table.now (length verdicts.old) key.now }
     ensures taken { result ≡ key_transitions table.now key.now }
-    ensures bound { result ≤ max_tries * longest_key }
+    ensures bound { result ≤ max_tries * max_key_len }
     ensures steps { steps.new ≡ steps.old + key_transitions table.now key.now }
 {
     let reached = reach(table, key, steps);
@@ -180,7 +170,7 @@ fn reach_sixteen<L: Ledger>(
     ensures rows { (k : ℕ) → k < IN_STEP → Reaches table.now (key_at table.now keys.now k)
         (length table.now.roots) (slice_index_or reached.new k []) }
     ensures taken { result ≡ transitions_below table.now keys.now IN_STEP }
-    ensures bound { result ≤ IN_STEP * (max_tries * longest_key) }
+    ensures bound { result ≤ IN_STEP * (max_tries * max_key_len) }
     ensures steps { steps.new ≡ steps.old + result }
 {
     let mut taken = 0;
@@ -206,7 +196,7 @@ fn join_sixteen<L: Ledger>(
     requires room { length verdicts.old ≡ IN_STEP * count }
     ensures verdicts { verdicts.new ≡ verdicts_below table.now count keys.now IN_STEP }
     ensures taken { result ≡ transitions_below table.now keys.now IN_STEP }
-    ensures bound { result ≤ IN_STEP * (max_tries * longest_key) }
+    ensures bound { result ≤ IN_STEP * (max_tries * max_key_len) }
     ensures steps { steps.new ≡ steps.old + result }
 {
     let mut reached = [[0; MAX_TRIES]; IN_STEP];
@@ -232,7 +222,7 @@ fn classify_sixteen<L: Ledger>(
     requires room { length verdicts.old ≡ IN_STEP * count }
     ensures verdicts { verdicts.new ≡ verdicts_below table.now count keys.now IN_STEP }
     ensures taken { result ≡ transitions_below table.now keys.now IN_STEP }
-    ensures bound { result ≤ IN_STEP * (max_tries * longest_key) }
+    ensures bound { result ≤ IN_STEP * (max_tries * max_key_len) }
     ensures steps { steps.new ≡ steps.old + result }
 {
     // One trie is the common case, and its rows need no joining.

@@ -1,7 +1,7 @@
 //! Sixteen walks through one trie, in step: their loads of words don't wait for each other.
 
 ghost use Rattle.std.specs.Prelude.{◌≡◌, ℕ, ◌+◌, ◌*◌, ◌<◌, ◌≤◌, ◌==◌, ◌&&◌, length, slice_index};
-ghost use Rattle.flat_table.specs.Groups.{longest_key};
+ghost use Rattle.table_sizes.specs.Groups.{max_key_len};
 ghost use Rattle.flat_table.specs.Batch.{key_at};
 ghost use Rattle.scalar_walk.specs.Lanes.{IsGroupLen};
 ghost use Rattle.scalar_walk.specs.Rows.{EndsAt, walks_below};
@@ -70,7 +70,7 @@ pub(crate) fn walk_sixteen<L: Ledger>(
     ensures rows { (k : ℕ) → k < IN_STEP →
         EndsAt table.now trie (key_at table.now keys.now k) (slice_index rows.new k) }
     ensures taken { result ≡ walks_below table.now trie keys.now IN_STEP }
-    ensures limit { result ≤ IN_STEP * longest_key }
+    ensures limit { result ≤ IN_STEP * max_key_len }
     ensures steps { steps.new ≡ steps.old + result }
 {
     walks_stay();

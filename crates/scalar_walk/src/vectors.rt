@@ -15,7 +15,7 @@
 
 ghost use Rattle.std.specs.Prelude.{◌≡◌, ℕ, ◌+◌, ◌-◌, ◌*◌, ◌/◌, ◌%◌, ◌<◌, ◌≤◌, ◌^◌, ◌==◌, true, length};
 ghost use Rattle.std.specs.Prelude.{slice_index, All, min, if◌then◌else◌};
-ghost use Rattle.flat_table.specs.Groups.{longest_key};
+ghost use Rattle.table_sizes.specs.Groups.{max_key_len};
 ghost use Rattle.flat_table.specs.Word.{full, indexes, quad, is_node, next_place};
 ghost use Rattle.scalar_walk.specs.Lanes.{IsGroupLen, word_in, sum_below};
 ghost use Rattle.scalar_walk.specs.Rows.{CanGoOn, GoesOn};
@@ -288,12 +288,12 @@ pub(crate) fn step(words: &[u64], walks: Four, groups: u8x16, place: usize) -> F
 #[inline]
 pub(crate) fn end(walks: Four, rows: &mut [u32; 16], at: usize) -> u64
     requires room { at + 4 ≤ 16 }
-    requires few { (i : ℕ) → i < 4 → slice_index walks.taken i ≤ longest_key }
+    requires few { (i : ℕ) → i < 4 → slice_index walks.taken i ≤ max_key_len }
     ensures rows { (i : ℕ) → i < 4 →
         slice_index rows.new (at + i) ≡ slice_index walks.lows i % indexes }
     ensures others { (k : ℕ) → k < at → slice_index rows.new k ≡ slice_index rows.old k }
     ensures taken { result ≡ sum_below (λ i. slice_index walks.taken i) 4 }
-    ensures limit { result ≤ 4 * longest_key }
+    ensures limit { result ≤ 4 * max_key_len }
 {
     let lows = walks.lows.to_array();
     let counts = walks.taken.to_array();

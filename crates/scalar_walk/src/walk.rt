@@ -1,7 +1,7 @@
 //! The walk of one key through one trie.
 
 ghost use Rattle.std.specs.Prelude.{◌≡◌, ◌+◌, ◌<◌, ◌≤◌, length, true, false};
-ghost use Rattle.flat_table.specs.Groups.{longest_key};
+ghost use Rattle.table_sizes.specs.Groups.{max_key_len};
 ghost use Rattle.flat_table.specs.Table.{places_of};
 ghost use Rattle.flat_table.specs.Word.{is_match, is_node, next_place};
 ghost use Rattle.flat_table.specs.Walk.{walk_row, walk_transitions};
@@ -55,7 +55,7 @@ pub fn walk_one<L: Ledger>(table: &Table, trie: usize, key: &[u8], steps: &mut S
     ensures there { result.row < length table.now.rows }
     ensures bound { result.taken ≤ length (places_of table.now trie) }
     ensures short { result.taken ≤ table.now.key_len }
-    ensures limit { result.taken ≤ longest_key }
+    ensures limit { result.taken ≤ max_key_len }
 {
     let words = table.words();
     let places = table.places(trie);

@@ -11,10 +11,10 @@ use Rattle.field_defs.specs.declared.field.FieldDef.{FieldDef}
 use Rattle.field_defs.specs.declared.field.FieldKind.{FieldKind}
 use Rattle.field_defs.specs.declared.field.FieldKind.TheVariants.{Mask, Range, Bitmask}
 use Rattle.rule_set.specs.Categories.{is_count_of_categories}
-use Rattle.rule_set.specs.Limits.{max_categories, max_rules}
+use Rattle.rule_set.specs.Limits.{max_categories}
+use Rattle.table_sizes.specs.Sizes.{max_rules, max_words}
 use Rattle.rule_set.specs.Rule.{RuleView}
 use Rattle.rule_set.specs.declared.rule.RuleTag.{RuleTag}
-use Rattle.table_sizes.specs.Sizes.{max_words}
 use Rattle.session_lines.specs.declared.arguments.WrittenField.{WrittenField}
 use Rattle.session_lines.specs.declared.verb.Verb.{Verb}
 use Rattle.session_lines.specs.declared.verb.Verb.TheVariants as verb

@@ -2,8 +2,7 @@
 
 ghost use Rattle.std.specs.Prelude.{◌≡◌, ◌<◌, ◌≤◌, None, Some, IfOk, IfSome, MatchOption, IsTrue};
 ghost use Rattle.std.specs.Option.{option_map};
-ghost use Rattle.rule_set.specs.Limits.{max_rules};
-ghost use Rattle.table_sizes.specs.Sizes.{max_words};
+ghost use Rattle.table_sizes.specs.Sizes.{max_rules, max_words};
 ghost use Rattle.text_scan.specs.Parts.{words_of};
 ghost use Rattle.session_lines.specs.Reading.{read_of};
 ghost use Rattle.session_lines.specs.Hex.{are_bytes_in_hex, bytes_in_hex};
@@ -16,9 +15,9 @@ use crate::values::read_values;
 use crate::verb::kind_named;
 use crate::words::{is_end, take_number, take_word};
 use field_defs::FieldKind;
-use rule_set::{Categories, MAX_CATEGORIES, MAX_RULES, RuleTag, StoredRule};
+use rule_set::{Categories, MAX_CATEGORIES, RuleTag, StoredRule};
 use std::alloc::{AllocError, Global};
-use table_sizes::MAX_WORDS;
+use table_sizes::{MAX_RULES, MAX_WORDS};
 
 /// The greatest size, and the greatest input index, that may be written.
 const MAX_BYTE: u64 = 255;
@@ -72,7 +71,7 @@ fn take_kind(text: &[u8]) -> Option<(FieldKind, &[u8])>
 }
 
 /// How many rules a context may hold, by the words after `context`: one number, at most
-/// [`rule_set::MAX_RULES`]. None where they are anything else. It takes no memory.
+/// [`table_sizes::MAX_RULES`]. None where they are anything else. It takes no memory.
 pub fn read_limit(text: &[u8]) -> Option<u32>
     ensures limit { result ≡ limit_of (words_of text.now) }
     ensures bound { IfSome result (λ limit. limit ≤ max_rules) }

@@ -6,10 +6,11 @@ ghost use Rattle.field_defs.specs.Layout.{ip4_fields};
 use crate::audits::{ANY, TEN, add, add_source, def};
 use acl_audit::{CompareFault, Compared, compare_rules};
 use field_defs::{FieldValue, Layout, ip4_layout};
-use rule_set::{MAX_RULES, RuleSet, RuleTag, plain_verdict};
+use rule_set::{RuleSet, RuleTag, plain_verdict};
 use std::alloc::Global;
 use std::process::Abort;
 use std::test::Fail;
+use table_sizes::MAX_RULES;
 
 /// A rule for all packets from a source: the source, the category mask and the userdata.
 type Source = (FieldValue, u32, u32);

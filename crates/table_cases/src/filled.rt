@@ -5,11 +5,12 @@ ghost use Rattle.std.specs.Prelude.{◌+◌};
 use crate::numbers::numbers;
 use field_defs::{FieldValue, ip4_layout};
 use flat_table::Table;
-use rule_set::{MAX_RULES, RuleSet, RuleTag, StoredRule};
+use rule_set::{RuleSet, RuleTag, StoredRule};
 use std::alloc::Global;
 use std::process::Abort;
 use std::test::Fail;
 use table_fill::fill;
+use table_sizes::MAX_RULES;
 use trie_merge::Levels;
 
 /// The most words that the levels of a table may have, beside the row of no rule.

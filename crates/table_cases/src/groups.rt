@@ -5,10 +5,11 @@ ghost use Rattle.table_sizes.specs.Sizes.{max_words};
 
 use crate::numbers::numbers;
 use field_defs::{FieldValue, ip4_layout};
-use rule_set::{MAX_RULES, RuleSet, RuleTag, StoredRule};
+use rule_set::{RuleSet, RuleTag, StoredRule};
 use std::alloc::Global;
 use std::process::Abort;
 use std::test::Fail;
+use table_sizes::MAX_RULES;
 use trie_merge::{Levels, MergeFault, count_capped};
 
 const ANY: FieldValue = FieldValue::Mask { value: 0, bits: 0 };

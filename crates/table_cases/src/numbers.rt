@@ -2,7 +2,7 @@
 
 ghost use Rattle.std.specs.Prelude.{◌≡◌, ◌+◌, ◌≤◌, IfOk};
 ghost use Rattle.std.specs.List.{range_with_len};
-ghost use Rattle.rule_set.specs.Limits.{max_rules};
+ghost use Rattle.table_sizes.specs.Sizes.{max_rules};
 
 use std::alloc::{AllocError, Global};
 

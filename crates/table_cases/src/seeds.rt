@@ -3,11 +3,11 @@
 use crate::numbers::numbers;
 use crate::recount::{Counted, recount};
 use field_defs::{FieldValue, ip4_layout};
-use rule_set::{MAX_RULES, RuleSet, RuleTag, StoredRule};
+use rule_set::{RuleSet, RuleTag, StoredRule};
 use std::alloc::{AllocError, Global};
 use std::process::Abort;
 use std::test::Fail;
-use table_sizes::MAX_WORDS;
+use table_sizes::{MAX_RULES, MAX_WORDS};
 use trie_merge::{Levels, Run};
 use workload_gen::make_rules;
 

@@ -19,7 +19,8 @@ use Rattle.field_defs.specs.Layout.{key_len_of}
 use Rattle.rule_set.specs.Rule.{RuleSetView, RuleView}
 use Rattle.group_states.specs.declared.run.Succ.TheVariants.{Dead, State}
 use Rattle.group_states.specs.State.{Held, state, state_through, same_state, is_live}
-use Rattle.group_states.specs.Kept.{is_wild_place, group_of, is_kept, kept_places, kept_bits}
+use Rattle.table_sizes.specs.Groups.{group_of}
+use Rattle.group_states.specs.Kept.{is_wild_place, is_kept, kept_places, kept_bits}
 use Rattle.group_states.specs.Row.{final_row, rows_of, winner_of, row_of}
 use Rattle.list_lemmas.proofs.Tests.{bytes_eq_refl, bytes_eq_sound}
 use Rattle.list_lemmas.proofs.Each.{all-append, all-map, all_weaker}

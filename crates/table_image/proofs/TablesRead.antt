@@ -9,11 +9,11 @@ use Rattle.std.proofs.lemmas.Bool.{and_from, le-leb, leb-true, eq-eqb, eqb-true}
 use Rattle.flat_table.specs.Groups.{is_key_len, depth_of}
 use Rattle.flat_table.specs.Table.{TableView, depths_of, trie_levels}
 use Rattle.flat_table.specs.Sound.{begins_with_zeros, is_shaped, first_unsound_root, first_unsound_word, sound_fault}
-use Rattle.table_sizes.specs.Sizes.{max_tries, max_words, row_len}
+use Rattle.table_sizes.specs.Sizes.{max_rules, max_tries, max_words, row_len}
 use Rattle.table_image.specs.declared.version.Version.{Version}
 use Rattle.table_image.specs.declared.version.Version.TheVariants.{One, Two}
 use Rattle.table_image.specs.declared.fault.ImageKind.TheVariants.{Family, TooMany}
-use Rattle.table_image.specs.Spelling.{most_rules, short, long, spelled, all_spelled, spelled_tries, spelled_table, is_of_version, is_row_word, is_row, IsSaved}
+use Rattle.table_image.specs.Spelling.{short, long, spelled, all_spelled, spelled_tries, spelled_table, is_of_version, is_row_word, is_row, IsSaved}
 use Rattle.table_image.specs.Reading.{Reading, ◌>>=◌, tested, Counts, counts, TriesView, no_tries, tries_after, words_of_tries, rows_after, row_bytes, no_rule, table_of, TableRead, words_and_rows, table_read}
 use Rattle.table_image.proofs.Fields.{AreBytes}
 use Rattle.table_image.proofs.Lists.{joined, of_both}
@@ -25,7 +25,7 @@ use Rattle.table_image.proofs.RowsRead.{rows_read}
 
 -- what was read of the numbers before the tries
 pub record CountsAt (family : ℕ) (bytes : List ℕ) (at : ℕ) (c : Counts) : Type 0 where
-  pub few_rules : c.rules ≤ most_rules
+  pub few_rules : c.rules ≤ max_rules
   pub few_tries : c.tries ≤ max_tries
   pub few_rows : row_len * (c.rows + 1) ≤ max_words
   pub text : drop at bytes ≡ spelled short family ++ (spelled short c.rules ++ (spelled short c.tries
@@ -56,7 +56,7 @@ counts_text bytes at family c one two three four =
 counts_read : (family : ℕ) (bytes : List ℕ) (at : ℕ) (c : Counts) → AreBytes bytes → counts family bytes at ≡ Ok c →
     CountsAt family bytes at c
 counts_read family bytes at c are e =
-    let few_rules : ℕ → Bool = λ number. nat_le number most_rules in
+    let few_rules : ℕ → Bool = λ number. nat_le number max_rules in
     let few_tries : ℕ → Bool = λ number. nat_le number max_tries in
     let few_rows : ℕ → Bool = λ number. nat_le (row_len * (number + 1)) max_words in
     let made : ℕ → ℕ → ℕ → Counts = λ rules tries rows. record { rules = rules; tries = tries; rows = rows } in
@@ -80,7 +80,7 @@ counts_read family bytes at c are e =
     let tries_is : three.0 ≡ c.tries = ap (λ (x : Counts). x.tries) is in
     let rows_is : four.0 ≡ c.rows = ap (λ (x : Counts). x.rows) is in
     record {
-      few_rules = subst (λ (n : ℕ). n ≤ most_rules) rules_is (leb-true two.0 most_rules r.1);
+      few_rules = subst (λ (n : ℕ). n ≤ max_rules) rules_is (leb-true two.0 max_rules r.1);
       few_tries = subst (λ (n : ℕ). n ≤ max_tries) tries_is (leb-true three.0 max_tries t.1);
       few_rows = subst (λ (n : ℕ). row_len * (n + 1) ≤ max_words) rows_is
           (leb-true (row_len * (four.0 + 1)) max_words w.1);

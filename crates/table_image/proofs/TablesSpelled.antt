@@ -9,12 +9,12 @@ use Rattle.std.proofs.lemmas.Bool.{and_parts, lt-ltb, le-leb, eq-eqb, eqb-true}
 use Rattle.flat_table.specs.Groups.{groups_of, depth_of}
 use Rattle.flat_table.specs.Table.{TableView, trie_levels}
 use Rattle.flat_table.specs.Sound.{begins_with_zeros}
-use Rattle.table_sizes.specs.Sizes.{max_tries, max_words, row_len}
+use Rattle.table_sizes.specs.Sizes.{max_rules, max_tries, max_words, row_len}
 use Rattle.flat_table.proofs.Offered.{IsSound, sound_parts}
 use Rattle.table_image.specs.declared.version.Version.{Version}
 use Rattle.table_image.specs.declared.version.Version.TheVariants.{One, Two}
 use Rattle.table_image.specs.declared.fault.ImageKind.TheVariants.{Family, TooMany}
-use Rattle.table_image.specs.Spelling.{most_rules, short, long, spelled, all_spelled, spelled_tries, spelled_table, is_of_version, all_groups, is_row, IsSaved}
+use Rattle.table_image.specs.Spelling.{short, long, spelled, all_spelled, spelled_tries, spelled_table, is_of_version, all_groups, is_row, IsSaved}
 use Rattle.table_image.specs.Reading.{◌>>=◌, tested, Counts, counts, TriesView, no_tries, tries_after, words_of_tries, rows_after, row_bytes, no_rule, table_of, TableRead, words_and_rows, table_read}
 use Rattle.table_image.proofs.Lists.{after, inside, RestAt, both}
 use Rattle.table_image.proofs.NumbersRead.{fits, tested_spelled, after_field, rest_after, length-all_spelled}
@@ -34,12 +34,12 @@ record CountsOf (family : ℕ) (bytes : List ℕ) (at : ℕ) (c : Counts) (rest 
   pub next : RestAt bytes (at + 16) rest
 
 counts_spelled : (family : ℕ) (bytes : List ℕ) (at : ℕ) (c : Counts) (rest : List ℕ) → fits short family ≡ true →
-    c.rules ≤ most_rules → c.tries ≤ max_tries → row_len * (c.rows + 1) ≤ max_words →
+    c.rules ≤ max_rules → c.tries ≤ max_tries → row_len * (c.rows + 1) ≤ max_words →
     drop at bytes ≡ spelled short family
     ++ (spelled short c.rules ++ (spelled short c.tries ++ (spelled short c.rows ++ rest))) →
     CountsOf family bytes at c rest
 counts_spelled family bytes at c rest small few_rules few_tries few_rows e =
-    let rules_test : ℕ → Bool = λ number. nat_le number most_rules in
+    let rules_test : ℕ → Bool = λ number. nat_le number max_rules in
     let tries_test : ℕ → Bool = λ number. nat_le number max_tries in
     let rows_test : ℕ → Bool = λ number. nat_le (row_len * (number + 1)) max_words in
     let made : ℕ → ℕ → ℕ → Counts = λ rules tries rows. record { rules = rules; tries = tries; rows = rows } in
@@ -54,7 +54,7 @@ counts_spelled family bytes at c rest small few_rules few_tries few_rows e =
     let family_read = tested_spelled Family short (λ number. number == family) bytes at family one (omega arith) e small
     (eq-eqb family family refl) in
     let rules_read = tested_spelled TooMany short rules_test bytes (at + 4) c.rules two (omega arith) rules_text
-    (lt-ltb c.rules (256 ^ short) (omega arith)) (le-leb c.rules most_rules few_rules) in
+    (lt-ltb c.rules (256 ^ short) (omega arith)) (le-leb c.rules max_rules few_rules) in
     let tries_read = tested_spelled TooMany short tries_test bytes (at + 8) c.tries three (omega arith) tries_text
     (lt-ltb c.tries (256 ^ short) (omega arith)) (le-leb c.tries max_tries few_tries) in
     let rows_read = tested_spelled TooMany short rows_test bytes (at + 12) c.rows rest (omega arith) rows_text

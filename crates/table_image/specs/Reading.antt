@@ -7,14 +7,14 @@ use Rattle.flat_table.specs.declared.level.Level.{Level}
 use Rattle.flat_table.specs.Groups.{is_kept_word, depth_of}
 use Rattle.flat_table.specs.Table.{TableView, levels_from, trie_levels}
 use Rattle.flat_table.specs.Sound.{leads_into, first_level, is_sound_word}
-use Rattle.table_sizes.specs.Sizes.{max_tries, max_words, row_len}
+use Rattle.table_sizes.specs.Sizes.{max_rules, max_tries, max_words, row_len}
 use Rattle.table_image.specs.declared.fault.ImageFault.{ImageFault}
 use Rattle.table_image.specs.declared.fault.ImageKind.{ImageKind}
 use Rattle.table_image.specs.declared.fault.ImageKind.TheVariants.{Magic, Family, Length, TooMany, Unsound, RowForm, Trailing, KeptGroups}
 use Rattle.table_image.specs.declared.fault.ImageKind.TheVariants as kind
 use Rattle.table_image.specs.declared.version.Version.{Version}
 use Rattle.table_image.specs.declared.version.Version.TheVariants.{One, Two}
-use Rattle.table_image.specs.Spelling.{PairView, most_rules, magic, short, long, kept_len, all_groups, is_row_word}
+use Rattle.table_image.specs.Spelling.{PairView, magic, short, long, kept_len, all_groups, is_row_word}
 
 -- what is read of an image, or its first failing check
 abbrev pub Reading : Type 0 → Type 0
@@ -160,7 +160,7 @@ pub record Counts : Type 0 where
 abbrev pub counts : ℕ → List ℕ → ℕ → Reading Counts
 counts family bytes at =
     tested Family short (λ number. number == family) bytes at >>= λ number.
-    tested TooMany short (λ number. nat_le number most_rules) bytes (at + 4) >>= λ rules.
+    tested TooMany short (λ number. nat_le number max_rules) bytes (at + 4) >>= λ rules.
     tested TooMany short (λ number. nat_le number max_tries) bytes (at + 8) >>= λ tries.
     tested TooMany short (λ number. nat_le (row_len * (number + 1)) max_words) bytes (at + 12)
     >>= λ rows.

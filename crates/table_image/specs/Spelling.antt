@@ -15,7 +15,7 @@ use Rattle.std.specs.Int.{bytes_high_first}
 use Rattle.flat_table.specs.Groups.{groups_of, depth_of}
 use Rattle.flat_table.specs.Table.{TableView}
 use Rattle.flat_table.specs.Sound.{sound_fault}
-use Rattle.table_sizes.specs.Sizes.{row_len}
+use Rattle.table_sizes.specs.Sizes.{max_rules, row_len}
 use Rattle.table_image.specs.declared.version.Version.{Version}
 use Rattle.table_image.specs.declared.version.Version.TheVariants.{One, Two}
 
@@ -23,10 +23,6 @@ use Rattle.table_image.specs.declared.version.Version.TheVariants.{One, Two}
 pub record PairView : Type 0 where
   pub ip4 : TableView  -- of IPv4 packets
   pub ip6 : TableView  -- of IPv6 packets
-
--- the most rules of a table
-abbrev pub most_rules : ℕ
-most_rules = 262144
 
 -- `ACLT`
 abbrev pub magic : ℕ
@@ -114,7 +110,7 @@ is_row_word rules word = word == 0 || (nat_le 1 (word / 2 ^ 32) && nat_le (word 
 -- a table of keys of so many bytes can be saved: it has few enough rules, and rows of their ranks
 pub record CanBeSaved (key_len : ℕ) (table : TableView) : Type 0 where
   pub keys : table.key_len ≡ key_len
-  pub few : table.rules ≤ most_rules
+  pub few : table.rules ≤ max_rules
   pub ranked : list_all (list_all (is_row_word table.rules)) (drop 1 table.rows) ≡ true
 
 -- a word has 64 bits

@@ -1,17 +1,13 @@
 //! The numbers that an image has before the tries of a table.
 
 ghost use Rattle.std.specs.Prelude.{◌≡◌, ◌+◌, ◌*◌, ◌≤◌, length, nat_le, IfOk, IfErr, Ok, Err};
-ghost use Rattle.table_sizes.specs.Sizes.{max_tries, max_words, row_len};
-ghost use Rattle.table_image.specs.Spelling.{most_rules};
+ghost use Rattle.table_sizes.specs.Sizes.{max_rules, max_tries, max_words, row_len};
 ghost use Rattle.table_image.specs.Reading.{counts};
 ghost use Rattle.table_image.specs.Loading.{counts_of};
 
 use crate::fault::{ImageFault, ImageKind};
 use crate::field::{checked, short};
-use table_sizes::{MAX_TRIES, MAX_WORDS, ROW_LEN};
-
-/// The most rules of a table in an image: as many as a set holds.
-pub const MAX_RULES: u32 = 262_144;
+use table_sizes::{MAX_RULES, MAX_TRIES, MAX_WORDS, ROW_LEN};
 
 /// How many rules, tries and rows a table has, row 0 not counted.
 #[derive(Clone, Copy)]
@@ -34,7 +30,7 @@ impl Counts {
         requires { at ≤ length bytes.now }
         ensures ok { IfOk result (λ found. counts family bytes.now at ≡ Ok (counts_of found)) }
         ensures err { IfErr result (λ fault. counts family bytes.now at ≡ Err fault) }
-        ensures rules { IfOk result (λ found. found.rules ≤ most_rules) }
+        ensures rules { IfOk result (λ found. found.rules ≤ max_rules) }
         ensures tries { IfOk result (λ found. found.tries ≤ max_tries) }
         ensures rows { IfOk result (λ found. row_len * (found.rows + 1) ≤ max_words) }
         ensures inside { IfOk result (λ found. at + 16 ≤ length bytes.now) }
@@ -42,7 +38,12 @@ impl Counts {
         let number = short(bytes, at)?;
         checked(number, number == family, ImageKind::Family, at)?;
         let rules = short(bytes, at + 4)?;
-        let rules = checked(rules, rules <= MAX_RULES, ImageKind::TooMany, at + 4)?;
+        let rules = checked(
+            rules,
+            rules as usize <= MAX_RULES,
+            ImageKind::TooMany,
+            at + 4,
+        )?;
         let tries = short(bytes, at + 8)?;
         let tries = checked(
             tries,

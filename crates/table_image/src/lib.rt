@@ -25,7 +25,6 @@ mod tries;
 mod version;
 mod words;
 
-pub use counts::MAX_RULES;
 pub use fault::{ImageFault, ImageKind, LoadFault};
 pub use loading::load;
 pub use pair::TablePair;

@@ -5,7 +5,8 @@ ghost use Rattle.flat_table.specs.Table.{levels_from};
 ghost use Rattle.flat_table.specs.Sound.{first_level, is_sound_word};
 ghost use Rattle.flat_table.specs.Word.{index_of, is_match, is_unbounded};
 ghost use Rattle.table_sizes.specs.Sizes.{max_words};
-ghost use Rattle.flat_table.specs.Groups.{depth_of, longest_key};
+ghost use Rattle.table_sizes.specs.Groups.{max_key_len};
+ghost use Rattle.flat_table.specs.Groups.{depth_of};
 ghost use Rattle.table_image.specs.declared.fault.ImageKind.TheVariants.{Unsound};
 ghost use Rattle.table_image.specs.Reading.{checked, numbers_after, words_of_levels, words_of_tries};
 ghost use Rattle.table_image.specs.Loading.{IsFaultOf, levels_of_tries};
@@ -169,7 +170,7 @@ pub(crate) fn read_words(
     rows: usize,
     bytes: &[u8],
 ) -> Result<Vec<u64>, LoadFault>
-    requires key { key_len ≤ longest_key }
+    requires key { key_len ≤ max_key_len }
     requires levels { length tries.now.level_lens.items
         ≡ sum (map (depth_of key_len) tries.now.kept.items) }
     requires words { tries.now.words ≡ sum tries.now.level_lens.items }

@@ -1,2 +1,4 @@
+pub mod GroupExamples
+pub mod Groups
 pub mod SizeExamples
 pub mod Sizes

@@ -1,6 +1,11 @@
--- The sizes of a table: how many words it has at most, and how many its rows and nodes take (after
--- DPDK's `lib/acl`, `acl.h` and `acl_gen.c`; our full node has a word for each byte value).
+-- The sizes of a table: how many rules it is made of at most, how many words it has at most, and how
+-- many its rows and nodes take (after DPDK's `lib/acl`, `acl.h` and `acl_gen.c`; our full node has a
+-- word for each byte value).
 use Rattle.std.specs.Prelude.{ℕ, ◌==◌, nat_le, if◌then◌else◌}
+
+-- how many rules a set has at most, and so the table that is made of it
+abbrev pub max_rules : ℕ
+max_rules = 262144
 
 -- how many words a table has at most, those of its rows counted
 abbrev pub max_words : ℕ

@@ -1,8 +1,9 @@
-//! nothing → how large a table may be, how many tries it has, and how many words its rows and nodes
-//! take
+//! nothing → how long a key and how large a table may be, the groups of a key's bytes, and how many
+//! words rows and nodes take
 //!
-//! A table has words of 64 bits and rows of sixteen such words. What merges rules, fills a table
-//! and walks it agrees on these sizes, so they stand here alone, below all of them.
+//! A key has groups of four bytes after its first byte. A table has words of 64 bits and rows of
+//! sixteen such words. What checks layouts and rules, merges them, fills a table, walks and saves
+//! it agrees on these sizes, so they stand here alone, below all of them.
 //!
 //! | node | leads on by | words |
 //! |---|---|---|
@@ -12,11 +13,14 @@
 //!
 //! After DPDK's `lib/acl`: `acl.h` names the nodes, `acl_gen.c` counts their words.
 //!
-//! - `sizes`: the sizes, and the words of a node
+//! - `groups`: the bytes of a key, and the groups in which they are read
+//! - `sizes`: the sizes of a table, and the words of a node
 //! - `laws`: each constant is the number that the definitions say
 #![tactic(auto)]
 
+mod groups;
 pub mod laws;
 mod sizes;
 
-pub use sizes::{FEW_RUNS, FULL_LEN, MAX_TRIES, MAX_WORDS, ROW_LEN, node_len};
+pub use groups::{GROUP_LEN, MAX_KEY_LEN, group_of};
+pub use sizes::{FEW_RUNS, FULL_LEN, MAX_RULES, MAX_TRIES, MAX_WORDS, ROW_LEN, node_len};

@@ -3,6 +3,9 @@
 ghost use Rattle.std.specs.Prelude.{◌≡◌, ◌<◌, ◌≤◌};
 ghost use Rattle.table_sizes.specs.Sizes.{cost_of, full_len};
 
+/// The most rules that a set has, and so the table that is made of it.
+pub const MAX_RULES: usize = 262_144;
+
 /// The most words of 64 bits that a table has, those of its rows counted: 512 MiB.
 pub const MAX_WORDS: usize = 67_108_864;
 

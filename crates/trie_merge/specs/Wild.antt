@@ -2,7 +2,7 @@
 use Rattle.std.specs.Prelude.{ℕ, ◌+◌, ◌-◌, ◌^◌, ◌==◌, List, length, filter, slice_index_or, Bool}
 use Rattle.std.specs.Prelude.{true, not, ◌&&◌, ◌||◌}
 use Rattle.std.specs.List.{list_all, range_with_len, sum_by}
-use Rattle.group_states.specs.Kept.{group_of}
+use Rattle.table_sizes.specs.Groups.{group_of}
 
 -- each place of the input group is wild
 unfoldable pub is_idle_by : List Bool → ℕ → Bool

@@ -6,16 +6,15 @@ ghost use Rattle.std.specs.List.{list_all};
 ghost use Rattle.field_defs.specs.declared.field.FieldValue.TheVariants.{Mask};
 ghost use Rattle.field_defs.specs.FieldMatch.{CanMatch, is_wild};
 ghost use Rattle.field_defs.specs.Layout.{key_len_of};
-ghost use Rattle.group_states.specs.Kept.{group_of, is_wild_place, key_places};
+ghost use Rattle.table_sizes.specs.Groups.{group_of, max_key_len};
+ghost use Rattle.group_states.specs.Kept.{is_wild_place, key_places};
 ghost use Rattle.trie_merge.specs.Wild.{is_idle_by, is_kept_by, places_by, bits_by};
 
 use crate::column::{FieldPlace, field_at};
 use field_defs::is_wild;
 use rule_set::{RuleSet, StoredRule};
 use std::alloc::{AllocError, Global};
-
-/// How many bytes an input group has, but for group 0, which has one.
-const GROUP_SIZE: usize = 4;
+use table_sizes::group_of;
 
 /// The kept groups of a trie.
 #[derive(Drop)]
@@ -29,13 +28,14 @@ pub(crate) struct Kept {
 impl Kept {
     ghost use Rattle.std.specs.Prelude.{◌≡◌, ◌<◌, ◌≤◌, length, All, IfOk};
     ghost use Rattle.field_defs.specs.Layout.{key_len_of};
+    ghost use Rattle.table_sizes.specs.Groups.{max_key_len};
     ghost use Rattle.group_states.specs.Kept.{kept_places, kept_bits};
 
     /// The groups that the rules keep, and their places.
     pub(crate) fn new(alloc: Global, rules: &RuleSet, group: &[u32]) -> Result<Self, AllocError>
         requires numbers { All (λ number. number < length rules.now.rules) group.now }
         requires some { 0 < key_len_of rules.now.layout }
-        requires few { key_len_of rules.now.layout ≤ 505 }
+        requires few { key_len_of rules.now.layout ≤ max_key_len }
         ensures places { IfOk result (λ kept. kept.places.items ≡ kept_places rules.now group.now) }
         ensures bits { IfOk result (λ kept. kept.bits ≡ kept_bits rules.now group.now) }
     {
@@ -44,14 +44,6 @@ impl Kept {
         let bits = kept_bits(wild.as_slice());
         Ok(Kept { places, bits })
     }
-}
-
-/// The input group of a place.
-fn group_of(place: usize) -> usize
-    requires { place < 1000 }
-    ensures { result ≡ group_of place }
-{
-    (place + GROUP_SIZE - 1) / GROUP_SIZE
 }
 
 /// Whether a rule's value of that field is wild.
@@ -93,7 +85,7 @@ fn wild_places(alloc: Global, rules: &RuleSet, group: &[u32]) -> Result<Vec<bool
 
 /// Whether the place is of another input group, or wild.
 fn decides_nothing(wild: &[bool], input: usize, place: usize) -> bool
-    requires few { length wild.now ≤ 505 }
+    requires few { length wild.now ≤ max_key_len }
     requires place { place < length wild.now }
     ensures { result ≡ (not (group_of place == input) || slice_index_or wild.now place true) }
 {
@@ -102,7 +94,7 @@ fn decides_nothing(wild: &[bool], input: usize, place: usize) -> bool
 
 /// Whether the places of the input group are all wild.
 fn is_idle(wild: &[bool], input: usize) -> bool
-    requires { length wild.now ≤ 505 }
+    requires { length wild.now ≤ max_key_len }
     ensures { result ≡ is_idle_by wild.now input }
 {
     for place in 0..wild.len() {
@@ -128,7 +120,7 @@ fn all_wild(wild: &[bool]) -> bool
 /// Whether the input group is kept.
 #[tactic(auto, unfolding(crate::specs::Wild::is_kept_by))]
 fn is_kept(wild: &[bool], input: usize) -> bool
-    requires { length wild.now ≤ 505 }
+    requires { length wild.now ≤ max_key_len }
     ensures { result ≡ is_kept_by wild.now input }
 {
     !is_idle(wild, input) || (input == 0 && all_wild(wild))
@@ -136,7 +128,7 @@ fn is_kept(wild: &[bool], input: usize) -> bool
 
 /// The places of the kept groups, ascending.
 fn kept_places(alloc: Global, wild: &[bool]) -> Result<Vec<usize>, AllocError>
-    requires { length wild.now ≤ 505 }
+    requires { length wild.now ≤ max_key_len }
     ensures { IfOk result (λ places. places.items ≡ places_by wild.now) }
 {
     let mut places = Vec::new(alloc);
@@ -159,7 +151,7 @@ fn bit(place: usize) -> u128
 /// The kept groups, bit g for group g.
 fn kept_bits(wild: &[bool]) -> u128
     requires some { 0 < length wild.now }
-    requires few { length wild.now ≤ 505 }
+    requires few { length wild.now ≤ max_key_len }
     ensures { result ≡ bits_by wild.now }
 {
     let mut bits = 0u128;

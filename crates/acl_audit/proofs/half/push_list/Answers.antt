@@ -1,5 +1,5 @@
 use Rattle.std.proofs.Common.{length, get_or, ap, ◌∙◌, arith}
-use Rattle.rule_set.specs.Limits.{max_rules}
+use Rattle.table_sizes.specs.Sizes.{max_rules}
 use Rattle.acl_audit.proofs.Masking.{halved_start, halved_more, halved_room}
 use Rattle.acl_audit.proofs.half.push_list.Goals as goal
 

@@ -1,6 +1,6 @@
 -- the rows that the tries so far reach, and the words that they took
 use Rattle.std.proofs.Common.{◌≡◌, ◌+◌, ◌*◌, ◌≤◌, ◌<◌, ℕ, [], get_or}
-use Rattle.flat_table.specs.Groups.{longest_key}
+use Rattle.table_sizes.specs.Groups.{max_key_len}
 use Rattle.flat_table.specs.Batch.{key_at}
 use Rattle.scalar_walk.specs.Lanes.{sum_below}
 use Rattle.scalar_walk.specs.Rows.{Reaches}
@@ -11,5 +11,5 @@ abbrev pub invariant-loop-trie : goal.invariant-loop-trie
 invariant-loop-trie g l =
     ((k : ℕ) → k < 16 → Reaches l.table (key_at l.table l.keys k) l.trie (get_or l.reached k []))
     × (l.taken ≡ sum_below (λ (k : ℕ). first_tries_transitions l.table (key_at l.table l.keys k) l.trie) 16)
-    × (l.taken ≤ l.trie * (16 * longest_key))
+    × (l.taken ≤ l.trie * (16 * max_key_len))
     × (l.steps ≡ l.initial.steps + l.taken)

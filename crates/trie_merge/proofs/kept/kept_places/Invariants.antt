@@ -1,7 +1,7 @@
 use Rattle.std.proofs.Common.{◌≡◌, filter}
 use Rattle.std.specs.List.{range_with_len}
 use Rattle.trie_merge.proofs.kept.kept_places.Given as goal
-use Rattle.group_states.specs.Kept.{group_of}
+use Rattle.table_sizes.specs.Groups.{group_of}
 use Rattle.trie_merge.specs.Wild.{is_kept_by}
 
 abbrev pub invariant-loop-place : goal.invariant-loop-place

@@ -5,7 +5,7 @@ use Rattle.lane_walk.specs.Turn.{no_one}
 use Rattle.lane_walk.proofs.Fours.{at_once, depth_below, four_come, four_go, four_goes, four_there, fourth_is}
 use Rattle.lane_walk.proofs.Fours.{four_lawful, leads, none_end}
 use Rattle.lane_walk.proofs.Fours.{second_is, third_is}
-use Rattle.flat_table.specs.Groups.{longest_key}
+use Rattle.table_sizes.specs.Groups.{max_key_len}
 use Rattle.lane_walk.proofs.lanes.LaneFlows.land_four.Goals as goal
 
 pub words_at-words-requires : goal.words_at-words-requires
@@ -69,7 +69,7 @@ go_on-requires g c =
     c.places_from-places.ensures c.stay_in.ensures.stay c.stay_in.ensures.sound bytes in
     let goes = four_goes flights a c.words_at-words.result c.words.ensures c.words_at-words.ensures in
     let here : c.args.first + 0 ≡ c.args.first = omega arith in
-    subst (λ (lane : ℕ). (get_or flights lane no_one).depth < longest_key) here
+    subst (λ (lane : ℕ). (get_or flights lane no_one).depth < max_key_len) here
     (depth_below (goes 0 (lit< tt)) c.stay_in.ensures.short)
 
 pub go_on-requires-2 : goal.go_on-requires-2
@@ -79,7 +79,7 @@ go_on-requires-2 g c =
     let a = at_once c.self.view_is c.requires.stands c.requires.first c.self.told c.requires.busy
     c.places_from-places.ensures c.stay_in.ensures.stay c.stay_in.ensures.sound bytes in
     let goes = four_goes flights a c.words_at-words.result c.words.ensures c.words_at-words.ensures in
-    subst (λ (flight : Flight). flight.depth < longest_key)
+    subst (λ (flight : Flight). flight.depth < max_key_len)
     (sym (second_is flights c.args.first c.go_on.new.flight c.go_on.new.flight c.go_on.new.flight))
     (depth_below (goes 1 (lit< tt)) c.stay_in.ensures.short)
 
@@ -90,7 +90,7 @@ go_on-requires-3 g c =
     let a = at_once c.self.view_is c.requires.stands c.requires.first c.self.told c.requires.busy
     c.places_from-places.ensures c.stay_in.ensures.stay c.stay_in.ensures.sound bytes in
     let goes = four_goes flights a c.words_at-words.result c.words.ensures c.words_at-words.ensures in
-    subst (λ (flight : Flight). flight.depth < longest_key)
+    subst (λ (flight : Flight). flight.depth < max_key_len)
     (sym (third_is flights c.args.first c.go_on.new.flight c.go_on-2.new.flight c.go_on.new.flight))
     (depth_below (goes 2 (lit< tt)) c.stay_in.ensures.short)
 
@@ -101,7 +101,7 @@ go_on-requires-4 g c =
     let a = at_once c.self.view_is c.requires.stands c.requires.first c.self.told c.requires.busy
     c.places_from-places.ensures c.stay_in.ensures.stay c.stay_in.ensures.sound bytes in
     let goes = four_goes flights a c.words_at-words.result c.words.ensures c.words_at-words.ensures in
-    subst (λ (flight : Flight). flight.depth < longest_key)
+    subst (λ (flight : Flight). flight.depth < max_key_len)
     (sym (fourth_is flights c.args.first c.go_on.new.flight c.go_on-2.new.flight c.go_on-3.new.flight))
     (depth_below (goes 3 (lit< tt)) c.stay_in.ensures.short)
 

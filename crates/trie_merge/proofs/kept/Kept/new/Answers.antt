@@ -6,7 +6,8 @@ use Rattle.std.proofs.lemmas.List.Folds.{list_all-map}
 use Rattle.std.proofs.lemmas.List.FromFn.{length-range_with_len, get_or-map-range_with_len}
 use Rattle.field_defs.specs.Layout.{key_len_of}
 use Rattle.rule_set.specs.Rule.{RuleSetView}
-use Rattle.group_states.specs.Kept.{group_of, is_wild_place, is_idle, is_kept, key_places, kept_places, kept_bits}
+use Rattle.table_sizes.specs.Groups.{group_of}
+use Rattle.group_states.specs.Kept.{is_wild_place, is_idle, is_kept, key_places, kept_places, kept_bits}
 use Rattle.list_lemmas.proofs.Spans.{list_all_on_range}
 use Rattle.trie_merge.specs.Wild.{is_idle_by, is_kept_by, places_by, bits_by}
 use Rattle.trie_merge.proofs.kept.Kept.new.Goals as goal
