@@ -23,6 +23,7 @@ use Rattle.table_sizes.specs.Sizes.{cost_of, max_words, row_len}
 use Rattle.group_states.specs.declared.run.Run.{Run}
 use Rattle.group_states.specs.Found.{prefixes}
 use Rattle.table_sizes.specs.Groups.{group_of}
+use Rattle.table_sizes.specs.Groups as bits
 use Rattle.group_states.specs.Kept.{is_kept, kept_places, kept_bits}
 use Rattle.group_states.specs.Laws.{IsGrouped}
 use Rattle.group_states.specs.Levels.{IsGroup, levels_of}
@@ -31,7 +32,6 @@ use Rattle.group_states.specs.State.{Held, state, is_live}
 use Rattle.list_lemmas.proofs.Each.{all_weaker, all-map}
 use Rattle.group_states.proofs.Offered.{All-found_in, prefixes_are, IsPrefix, whole_numbers}
 use Rattle.acl_audit.specs.Least.{all_rules}
-use Rattle.acl_audit.specs.Traced.{is_kept_in, places_of}
 use Rattle.acl_audit.proofs.Telling.{rows_are}
 use Rattle.acl_audit.proofs.Winning.{row_at, entry_for, entry_is, winner_matching}
 
@@ -55,7 +55,7 @@ all_are_group set some =
 -- ---- the kept places
 
 module _ (set : RuleSetView) (group : List ℕ) where
-  bit_says : (place : ℕ) → place < key_len_of set.layout → is_kept_in (kept_bits set group) place
+  bit_says : (place : ℕ) → place < key_len_of set.layout → bits.is_kept (kept_bits set group) place
       ≡ is_kept set group (group_of place)
   unfolding kept_bits
   bit_says place within =
@@ -67,10 +67,10 @@ module _ (set : RuleSetView) (group : List ℕ) where
       by true = refl
       by false = refl
 
-  pub places_are : places_of (levels_of set group).kept (key_len_of set.layout) ≡ kept_places set group
+  pub places_are : bits.kept_places (key_len_of set.layout) (levels_of set group).kept ≡ kept_places set group
   unfolding kept_places levels_of
   places_are =
-      filter_on_range (is_kept_in (kept_bits set group)) (λ place. is_kept set group (group_of place)) 0
+      filter_on_range (bits.is_kept (kept_bits set group)) (λ place. is_kept set group (group_of place)) 0
       (key_len_of set.layout) (λ k from below. bit_says k (omega (arith, below)))
 
   pub places_below : All (λ place. place < key_len_of set.layout) (kept_places set group)

@@ -8,7 +8,7 @@ use Rattle.field_defs.specs.Layout.{key_len_of}
 use Rattle.field_defs.proofs.Offered.{short_keys}
 use Rattle.rule_set.specs.Fault.{categories}
 use Rattle.rule_set.specs.Rule.{RuleSetView}
-use Rattle.table_sizes.specs.Groups.{max_key_len}
+use Rattle.table_sizes.specs.Groups.{kept_places, max_key_len}
 use Rattle.table_sizes.specs.Sizes.{max_words, row_len}
 use Rattle.group_states.specs.declared.run.Run.{Run}
 use Rattle.group_states.specs.Kept.{kept_places}
@@ -19,7 +19,7 @@ use Rattle.acl_audit.specs.Audited.{keys_of, HasKeys}
 use Rattle.acl_audit.specs.Firsts.{AreFirsts}
 use Rattle.acl_audit.specs.Least.{all_rules, least_key, least_keys}
 use Rattle.acl_audit.specs.Links.{links_of}
-use Rattle.acl_audit.specs.Traced.{places_of, traced, keys_traced, key_of_row, AreChained}
+use Rattle.acl_audit.specs.Traced.{traced, keys_traced, key_of_row, AreChained}
 use Rattle.acl_audit.specs.Ways.{AreMerged, IsWay}
 use Rattle.acl_audit.proofs.Fitting.{all_are_group, places_are, places_below, few_states, few_rows, rows_long, rows_low}
 use Rattle.acl_audit.proofs.Telling.{keys, row_count, chain, levels_long, last_links, key_read, told, has_keys}
@@ -29,7 +29,7 @@ abbrev pub all_links : LevelsView → List (List Link)
 all_links levels = map links_of levels.levels
 
 abbrev pub all_places : RuleSetView → LevelsView → List ℕ
-all_places set levels = places_of levels.kept (key_len_of set.layout)
+all_places set levels = kept_places (key_len_of set.layout) levels.kept
 
 module _ (set : RuleSetView) (levels : LevelsView) (its : AreMerged set levels) where
   pub grouped : IsGrouped set (all_rules set)
@@ -67,7 +67,7 @@ module _ (set : RuleSetView) (levels : LevelsView) (its : AreMerged set levels) 
       (last_links set grouped its.among)
 
   places_same : all_places set levels ≡ kept_places set (all_rules set)
-  places_same = ap (λ (l : LevelsView). places_of l.kept (key_len_of set.layout)) its.merged
+  places_same = ap (λ (l : LevelsView). kept_places (key_len_of set.layout) l.kept) its.merged
       ∙ places_are set (all_rules set)
 
   pub long_fit : length (all_places set levels) ≡ length (all_links levels)

@@ -1,12 +1,11 @@
 -- The key that is read off the links, from a row back to the first byte.
-use Rattle.std.specs.Prelude.{ℕ, ◌+◌, ◌<◌, ◌==◌, List, [], length, slice_index_or, slice_set}
-use Rattle.std.specs.Prelude.{map, filter, replicate, Bool}
-use Rattle.std.specs.Int.{bit_at}
+use Rattle.std.specs.Prelude.{ℕ, ◌+◌, ◌<◌, List, [], length, slice_index_or, slice_set}
+use Rattle.std.specs.Prelude.{map, replicate}
 use Rattle.std.specs.List.{range_with_len, flat_map}
 use Rattle.std.proofs.Common.{zero, suc}
 use Rattle.field_defs.specs.Layout.{key_len_of}
 use Rattle.rule_set.specs.Rule.{RuleSetView}
-use Rattle.table_sizes.specs.Groups.{group_of}
+use Rattle.table_sizes.specs.Groups.{kept_places}
 use Rattle.group_states.specs.Levels.{LevelsView}
 use Rattle.acl_audit.specs.declared.links.Link.{Link}
 use Rattle.acl_audit.specs.Links.{no_link, links_of}
@@ -30,20 +29,12 @@ pub record AreChained (levels : List (List Link)) : Type 0 where
 
 -- the keys of the rows, one after the other
 unfoldable pub keys_traced : List (List Link) → List ℕ → ℕ → ℕ → List ℕ
-keys_traced levels places len count =
-    flat_map (λ row. traced levels places (length levels) row (replicate len 0))
+keys_traced levels places key_len count =
+    flat_map (λ row. traced levels places (length levels) row (replicate key_len 0))
     (range_with_len 0 count)
-
--- the place is one of a kept group
-abbrev pub is_kept_in : ℕ → ℕ → Bool
-is_kept_in kept place = bit_at kept (group_of place) == 1
-
--- the places of a key that are kept
-abbrev pub places_of : ℕ → ℕ → List ℕ
-places_of kept len = filter (is_kept_in kept) (range_with_len 0 len)
 
 -- the least key of the row of that number in the merged states of all rules
 abbrev pub key_of_row : RuleSetView → LevelsView → ℕ → List ℕ
 key_of_row set levels row =
-    traced (map links_of levels.levels) (places_of levels.kept (key_len_of set.layout))
+    traced (map links_of levels.levels) (kept_places (key_len_of set.layout) levels.kept)
     (length (map links_of levels.levels)) row (replicate (key_len_of set.layout) 0)

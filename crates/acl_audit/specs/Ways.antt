@@ -9,7 +9,7 @@ use Rattle.group_states.specs.Levels.{LevelsView, levels_of}
 use Rattle.acl_audit.specs.declared.links.Link.{Link}
 use Rattle.acl_audit.specs.Least.{all_rules}
 use Rattle.acl_audit.specs.Links.{links_of}
-use Rattle.acl_audit.specs.Traced.{places_of}
+use Rattle.table_sizes.specs.Groups.{kept_places}
 
 -- The merged states of all rules of a set that has some.
 pub record AreMerged (set : RuleSetView) (levels : LevelsView) : Type 0 where
@@ -24,5 +24,5 @@ pub record IsWay (set : RuleSetView) (levels : LevelsView) (links : List (List L
     (places : List ℕ) (len : ℕ) : Type 0 where
   pub its : AreMerged set levels
   pub links_are : links ≡ map links_of levels.levels
-  pub places_are : places ≡ places_of levels.kept (key_len_of set.layout)
+  pub places_are : places ≡ kept_places (key_len_of set.layout) levels.kept
   pub len_is : len ≡ key_len_of set.layout

@@ -2,7 +2,7 @@
 use Rattle.std.specs.Prelude.{ℕ, ◌/◌, ◌%◌, ◌==◌, ◌&&◌, nat_lt, not, Option, Some, None}
 use Rattle.std.specs.Prelude.{if◌then◌else◌}
 use Rattle.rule_set.specs.Categories.{is_count_of_categories}
-use Rattle.flat_table.specs.Batch.{most_keys}
+use Rattle.table_sizes.specs.Sizes.{max_keys}
 use Rattle.lane_walk.specs.declared.walk.Walk.{Walk}
 use Rattle.lane_walk.specs.declared.walk.Walk.TheVariants.{Scalar, Lanes}
 use Rattle.acl_c.specs.Codes.{ok, bad_length, bad_categories, bad_walk, too_many_keys, no_lanes}
@@ -16,7 +16,7 @@ walk_of number = if number == 0 then Some Scalar else (if number == 1 then Some 
 abbrev pub lengths_code : ℕ → ℕ → ℕ → ℕ → ℕ
 lengths_code key_len keys count room =
     if not (keys % key_len == 0) then bad_length
-    else (if nat_lt most_keys (keys / key_len) then too_many_keys
+    else (if nat_lt max_keys (keys / key_len) then too_many_keys
     else (if room % count == 0 && room / count == keys / key_len then ok else bad_length))
 
 -- a walk by lanes has room for its keys

@@ -21,7 +21,8 @@ use Rattle.acl_c.specs.declared.rules.Tag.{Tag}
 use Rattle.acl_c.specs.declared.rules.Value.{Value}
 use Rattle.rule_set.specs.Rule.{RuleView, RuleSetView}
 use Rattle.flat_table.specs.Table.{TableView, words_of}
-use Rattle.flat_table.specs.Batch.{most_keys, batch_verdicts, batch_transitions}
+use Rattle.table_sizes.specs.Sizes.{max_keys}
+use Rattle.flat_table.specs.Batch.{batch_verdicts, batch_transitions}
 use Rattle.acl_c.specs.declared.context.Context.{Context}
 
 -- how many words a table may have
@@ -94,8 +95,8 @@ place_of rule field = record { rule = rule; field = field }
 
 -- What making room for keys by lanes makes of a context, and what it answers.
 pub record Reserves (keys : ℕ) (old new : Context) (code : ℕ) : Type 0 where
-  pub many : most_keys < keys → code ≡ too_many_keys
-  pub few : keys ≤ most_keys → (code ≡ ok) ⊎ (code ≡ no_memory)
+  pub many : max_keys < keys → code ≡ too_many_keys
+  pub few : keys ≤ max_keys → (code ≡ ok) ⊎ (code ≡ no_memory)
   pub room : code ≡ ok → length new.lanes ≡ keys
   pub acl : new.acl ≡ old.acl
   pub kept : (code == ok) ≡ false → new ≡ old

@@ -3,6 +3,7 @@ use Rattle.std.specs.Prelude.{◌≡◌, ℕ, ◌<◌, ◌≤◌, ◌==◌, ◌&
 use Rattle.std.specs.Prelude.{Bool, true, false}
 use Rattle.std.specs.Prelude.{Option, Some, None, Ok, Err, ◌⊎◌}
 use Rattle.std.specs.List.{list_all}
+use Rattle.table_sizes.specs.Groups.{ip4_key_len, ip6_key_len}
 use Rattle.table_sizes.specs.Sizes.{max_rules}
 use Rattle.flat_table.specs.Table.{TableView}
 use Rattle.table_image.specs.declared.version.Version.{Version}
@@ -40,7 +41,7 @@ can_be_saved key_len table = table.key_len == key_len && nat_le table.rules max_
 
 -- both may be those of an image: keys have 13 bytes in the first and 37 in the second
 abbrev pub are_saved : TableView → TableView → Bool
-are_saved ip4 ip6 = can_be_saved 13 ip4 && can_be_saved 37 ip6
+are_saved ip4 ip6 = can_be_saved ip4_key_len ip4 && can_be_saved ip6_key_len ip6
 
 -- the bytes of their image
 abbrev pub image_bytes : TableView → TableView → List ℕ

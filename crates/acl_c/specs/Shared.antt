@@ -3,7 +3,8 @@ use Rattle.std.specs.Prelude.{◌≡◌, ℕ, ◌<◌, ◌≤◌, ◌⊎◌, ◌
 use Rattle.std.specs.Prelude.{false}
 use Rattle.rule_set.specs.Rule.{RuleSetView}
 use Rattle.flat_table.specs.Table.{TableView}
-use Rattle.flat_table.specs.Batch.{most_keys, batch_verdicts, batch_transitions}
+use Rattle.table_sizes.specs.Sizes.{max_keys}
+use Rattle.flat_table.specs.Batch.{batch_verdicts, batch_transitions}
 use Rattle.table_fill.specs.Serves.{Serves}
 use Rattle.acl_context.specs.Batch.{verdicts_by_rules}
 use Rattle.acl_c.specs.Codes.{ok, no_memory, too_many_keys}
@@ -24,8 +25,8 @@ IfShared inside holds = IsSome inside × IfSome inside holds
 
 -- What making room for keys by lanes makes of it, and what it answers.
 pub record MakesRoom (keys : ℕ) (old new : SharedView) (code : ℕ) : Type 0 where
-  pub many : most_keys < keys → code ≡ too_many_keys
-  pub few : keys ≤ most_keys → (code ≡ ok) ⊎ (code ≡ no_memory)
+  pub many : max_keys < keys → code ≡ too_many_keys
+  pub few : keys ≤ max_keys → (code ≡ ok) ⊎ (code ≡ no_memory)
   pub room : code ≡ ok → length new.lanes ≡ keys
   pub table : new.table ≡ old.table
   pub kept : (code == ok) ≡ false → new ≡ old

@@ -15,9 +15,7 @@ use flat_table::{Steps, Table};
 use lane_walk::classify_by;
 use rule_set::Categories;
 use std::sync::ledger::{Blank, Ledger};
-
-/// How many keys a batch has at most.
-pub(crate) const MAX_KEYS: usize = 65_536;
+use table_sizes::MAX_KEYS;
 
 /// The walk of the number.
 fn walk_of(number: u32) -> Option<Walk>

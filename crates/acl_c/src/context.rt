@@ -6,7 +6,8 @@ ghost use Rattle.rule_set.specs.Rule.{RuleSetView};
 ghost use Rattle.rule_split.specs.Split.{total_of};
 ghost use Rattle.table_fill.specs.Serves.{Serves};
 ghost use Rattle.flat_table.specs.Table.{TableView};
-ghost use Rattle.flat_table.specs.Batch.{most_keys, batch_verdicts, batch_transitions};
+ghost use Rattle.table_sizes.specs.Sizes.{max_keys};
+ghost use Rattle.flat_table.specs.Batch.{batch_verdicts, batch_transitions};
 ghost use Rattle.acl_context.specs.Context.{built_of};
 ghost use Rattle.acl_context.specs.Batch.{verdicts_by_rules};
 ghost use Rattle.acl_c.specs.Codes.{ok, no_memory, not_built, bad_budget, too_large, too_many_keys};
@@ -15,7 +16,7 @@ ghost use Rattle.acl_c.specs.Calls.{is_budget, with_table, without_rules, withou
 ghost use Rattle.acl_c.specs.Calls.{context_code, code_of, told_of, AddsStored, AddsGiven};
 ghost use Rattle.acl_c.specs.Marks.{Marks};
 
-use crate::batch::{MAX_KEYS, ask, walk_keys};
+use crate::batch::{ask, walk_keys};
 use crate::codes::{
     BAD_BUDGET, BAD_LENGTH, FULL, NO_MEMORY, NOT_BUILT, OK, TOO_LARGE, TOO_MANY_KEYS, rule_code,
 };
@@ -27,7 +28,7 @@ use rule_set::StoredRule;
 use std::alloc::{AllocError, Global};
 use std::marker::Brand;
 use std::sync::ledger::Blank;
-use table_sizes::MAX_WORDS;
+use table_sizes::{MAX_KEYS, MAX_WORDS};
 
 /// A context, and the rows of its walks by lanes.
 #[derive(Drop)]
@@ -120,8 +121,8 @@ impl Context {
 
     /// Makes room for so many keys of a walk by lanes, in place of the room that was there.
     pub(crate) fn reserve(&mut self, alloc: Global, keys: u32) -> u32
-        ensures many { most_keys < keys → result ≡ too_many_keys }
-        ensures few { keys ≤ most_keys → (result ≡ ok) ⊎ (result ≡ no_memory) }
+        ensures many { max_keys < keys → result ≡ too_many_keys }
+        ensures few { keys ≤ max_keys → (result ≡ ok) ⊎ (result ≡ no_memory) }
         ensures room { result ≡ ok → length self.new.lanes ≡ keys }
         ensures acl { self.new.acl ≡ self.old.acl }
         ensures kept { (result == ok) ≡ false → self.new ≡ self.old }

@@ -7,16 +7,7 @@ ghost use Rattle.field_defs.specs.Layout.{max_fields};
 ghost use Rattle.acl_c.specs.Given.{kind_of, def_of, is_unknown, fields_fault};
 
 use crate::codes::{BAD_KIND, TOO_MANY_FIELDS, layout_code};
-use field_defs::{FieldDef, FieldKind, Layout, MAX_FIELDS};
-
-/// What stands after the last definition that is given.
-const UNUSED: FieldDef = FieldDef {
-    kind: FieldKind::Mask,
-    size: 1,
-    field_index: 0,
-    input_index: 0,
-    offset: 0,
-};
+use field_defs::{FieldDef, FieldKind, Layout, MAX_FIELDS, UNUSED_FIELD};
 
 /// `struct aclc_field`: the definition of a field.
 #[repr(C)]
@@ -61,7 +52,7 @@ fn defs_of(fields: &[Field]) -> [FieldDef; MAX_FIELDS]
     requires { length fields.now ≤ max_fields }
     ensures { take (length fields.now) result ≡ map def_of fields.now }
 {
-    let mut defs = [UNUSED; MAX_FIELDS];
+    let mut defs = [UNUSED_FIELD; MAX_FIELDS];
     for place in 0..fields.len() {
         defs[place] = def_of(&fields[place]);
     }

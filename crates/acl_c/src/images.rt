@@ -15,13 +15,7 @@ use crate::shared::Shared;
 use flat_table::Table;
 use std::alloc::{AllocError, Global};
 use table_image::{ImageKind, LoadFault, load, save};
-use table_sizes::{MAX_RULES, ROW_LEN};
-
-/// The bytes of a key of the first table of an image.
-const IP4_KEY: usize = 13;
-
-/// The bytes of a key of the second table of an image.
-const IP6_KEY: usize = 37;
+use table_sizes::{IP4_KEY_LEN, IP6_KEY_LEN, MAX_RULES, ROW_LEN};
 
 /// The code of what a check of an image found.
 fn image_code(kind: ImageKind) -> u32
@@ -75,7 +69,7 @@ fn can_be_saved(key_len: usize, table: &Table) -> bool
 fn are_saved(ip4: &Table, ip6: &Table) -> bool
     ensures { result ≡ are_saved ip4.now ip6.now }
 {
-    can_be_saved(IP4_KEY, ip4) && can_be_saved(IP6_KEY, ip6)
+    can_be_saved(IP4_KEY_LEN, ip4) && can_be_saved(IP6_KEY_LEN, ip6)
 }
 
 /// Writes the bytes of an image where there is room for them, and tells how many they are.

@@ -4,7 +4,7 @@ ghost use Rattle.std.specs.Prelude.{◌≡◌, IfOk};
 ghost use Rattle.std.specs.Arc.{arc_value};
 ghost use Rattle.acl_c.specs.Shared.{without_lanes, MakesRoom, ClassifiesShared};
 
-use crate::batch::{MAX_KEYS, ask, walk_table};
+use crate::batch::{ask, walk_table};
 use crate::codes::{NO_MEMORY, OK, TOO_MANY_KEYS};
 use crate::copy::copy_of;
 use acl_context::Scratch;
@@ -13,6 +13,7 @@ use std::alloc::{AllocError, Global};
 use std::marker::{Brand, Model};
 use std::sync::Arc;
 use std::sync::ledger::Blank;
+use table_sizes::MAX_KEYS;
 
 /// A table that nothing changes and that other handles may have too, and the rows of the walks by
 /// lanes of this handle.

@@ -6,18 +6,9 @@ ghost use Rattle.field_defs.specs.Layout.{max_fields};
 ghost use Rattle.field_defs.specs.LayoutFault.{layout_fault};
 ghost use Rattle.session_lines.specs.Command.{placed};
 
-use field_defs::{FieldDef, FieldKind, Layout, LayoutFault, MAX_FIELDS};
+use field_defs::{FieldDef, Layout, LayoutFault, MAX_FIELDS, UNUSED_FIELD};
 use session_lines::WrittenField;
 use std::marker::Model;
-
-/// What stands after the last definition.
-const UNUSED: FieldDef = FieldDef {
-    kind: FieldKind::Mask,
-    size: 1,
-    field_index: 0,
-    input_index: 0,
-    offset: 0,
-};
 
 /// At most as many definitions as a layout may have. Contracts see the list of them.
 #[derive(Drop)]
@@ -44,7 +35,7 @@ impl Collected {
         ensures { result ≡ [] }
     {
         Collected {
-            defs: [UNUSED; MAX_FIELDS],
+            defs: [UNUSED_FIELD; MAX_FIELDS],
             count: 0,
         }
     }

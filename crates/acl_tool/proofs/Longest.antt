@@ -9,7 +9,8 @@ use Rattle.std.proofs.lemmas.List.Concat.{flat_map-cons}
 use Rattle.std.proofs.lemmas.List.FromFn.{length-range_with_len}
 use Rattle.std.proofs.lemmas.List.Sums.{count_by-le-length, length-filter, sum_by-cons}
 use Rattle.table_sizes.specs.Sizes.{max_words, row_len}
-use Rattle.flat_table.specs.Groups.{depth_of, is_kept}
+use Rattle.table_sizes.specs.Groups.{is_kept}
+use Rattle.flat_table.specs.Groups.{depth_of}
 use Rattle.flat_table.specs.Sound.{begins_with_zeros}
 use Rattle.flat_table.specs.Table.{TableView}
 use Rattle.flat_table.proofs.Offered.{IsShaped, sound_parts}

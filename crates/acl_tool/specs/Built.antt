@@ -1,5 +1,6 @@
 -- What building the tables of a rule file comes to.
 use Rattle.std.specs.Prelude.{◌≡◌, ℕ, ◌<◌, ◌≤◌, ◌⊎◌, Option, Some}
+use Rattle.table_sizes.specs.Groups.{ip4_key_len, ip6_key_len}
 use Rattle.field_defs.specs.declared.field.Family.{Family}
 use Rattle.field_defs.specs.declared.field.Family.TheVariants.{Ip4, Ip6}
 use Rattle.rule_set.specs.Rule.{RuleSetView}
@@ -51,8 +52,8 @@ pub record IsBuilt (budget : ℕ) (lists : RuleLists) (ip4 ip6 : Option TableVie
   pub ip4_is : ip4 ≡ Some tables.ip4
   pub ip6_is : ip6 ≡ Some tables.ip6
   pub within : tables_within budget lists ≡ Give tables
-  pub ip4_keys : tables.ip4.key_len ≡ 13
-  pub ip6_keys : tables.ip6.key_len ≡ 37
+  pub ip4_keys : tables.ip4.key_len ≡ ip4_key_len
+  pub ip6_keys : tables.ip6.key_len ≡ ip6_key_len
   pub answers : AnswersAs (ByRules lists) tables
   pub totals : WordsAreTotals lists budget
   pub serve : TablesServe lists budget

@@ -1,6 +1,7 @@
 //! `replay`: the report of a capture, by the tables of an image.
 
 ghost use Rattle.std.specs.Prelude.{◌≡◌, ◌≢◌, ◌≤◌, ◌⊎◌, false, length, Ok, Err, IfOk, IfErr};
+ghost use Rattle.table_sizes.specs.Groups.{ip4_key_len, ip6_key_len};
 ghost use Rattle.command_words.specs.Command.{Replay};
 ghost use Rattle.command_words.specs.CommandLine.{options_of};
 ghost use Rattle.command_plan.specs.Endings.{is_reported, is_usage};
@@ -57,8 +58,8 @@ pub fn replay<D: Desk, O: Sink, L: Ledger>(
 fn read_image<D: Desk>(alloc: Global, name: &str, desk: &mut D) -> Result<TablePair, Status>
     ensures taken { Takes (tables_in name.now) tables_of (D.view desk.old) (D.view desk.new)
         result }
-    ensures ip4 { IfOk result (λ pair. pair.ip4.key_len ≡ 13) }
-    ensures ip6 { IfOk result (λ pair. pair.ip6.key_len ≡ 37) }
+    ensures ip4 { IfOk result (λ pair. pair.ip4.key_len ≡ ip4_key_len) }
+    ensures ip6 { IfOk result (λ pair. pair.ip6.key_len ≡ ip6_key_len) }
 {
     match read_file(alloc, name, IMAGE_CAP, desk) {
         Ok(bytes) => load_image(alloc, &bytes),
@@ -75,8 +76,8 @@ fn load_image(alloc: Global, bytes: &[u8]) -> Result<TablePair, Status>
     ensures unread { IfErr result (λ status. status ≢ Status.ReadFault) }
     ensures unreported { IfErr result (λ status. is_reported status ≡ false) }
     ensures lawful { IfErr result (λ status. is_usage status ≡ false) }
-    ensures ip4 { IfOk result (λ pair. pair.ip4.key_len ≡ 13) }
-    ensures ip6 { IfOk result (λ pair. pair.ip6.key_len ≡ 37) }
+    ensures ip4 { IfOk result (λ pair. pair.ip4.key_len ≡ ip4_key_len) }
+    ensures ip6 { IfOk result (λ pair. pair.ip6.key_len ≡ ip6_key_len) }
 {
     match load(alloc, bytes) {
         Ok(pair) => Ok(pair),

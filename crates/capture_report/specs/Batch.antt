@@ -17,6 +17,7 @@ use Rattle.acl_report.specs.Counts.{same_class}
 use Rattle.capture_report.specs.Packet.{IsPacket}
 use Rattle.capture_report.specs.Classifier.{Tables}
 use Rattle.capture_report.specs.ReportForm.{ReportForm}
+use Rattle.table_sizes.specs.Groups.{ip4_key_len, ip6_key_len}
 use Rattle.table_sizes.specs.Sizes.{max_tries}
 
 -- the table of a family
@@ -27,8 +28,8 @@ table_of family.Ip6 tables = tables.ip6
 -- The keys of the tables are those of their families, the tables have at most eight tries, and so
 -- many categories are lawful.
 pub record IsFormByTables (tables : Tables) (categories : ℕ) : Type 0 where
-  pub ip4_keys : tables.ip4.key_len ≡ 13
-  pub ip6_keys : tables.ip6.key_len ≡ 37
+  pub ip4_keys : tables.ip4.key_len ≡ ip4_key_len
+  pub ip6_keys : tables.ip6.key_len ≡ ip6_key_len
   pub ip4_tries : length tables.ip4.roots ≤ max_tries
   pub ip6_tries : length tables.ip6.roots ≤ max_tries
   pub few : categories ≤ MAX_VERDICTS
@@ -82,7 +83,7 @@ transitions_of_family family table (packet ∷ packets) =
 
 -- how many transitions a packet takes at most: one for each trie and byte of the key
 abbrev pub max_transitions : ℕ
-max_transitions = 8 * 37
+max_transitions = max_tries * ip6_key_len
 
 -- the verdicts of the tables on the key of a class
 abbrev pub verdicts_on : Class → ReportForm → List ℕ → List ℕ

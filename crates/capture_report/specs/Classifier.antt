@@ -1,6 +1,7 @@
 -- What answers for packets: the rules of both families, or the tables that were made of them.
 use Rattle.std.specs.Prelude.{◌≡◌, ℕ, ◌<◌, ◌==◌, List, length, All, Option, Some, None}
 use Rattle.std.specs.Prelude.{if◌then◌else◌}
+use Rattle.table_sizes.specs.Groups.{ip4_key_len, ip6_key_len}
 use Rattle.field_defs.specs.declared.field.Family.{Family}
 use Rattle.field_defs.specs.declared.field.Family.TheVariants.{Ip4, Ip6}
 use Rattle.field_defs.specs.Layout.{ip4_fields, ip6_fields}
@@ -39,8 +40,8 @@ answer_of (ByTables tables) Ip6 key category = answer_of_table tables.ip6 key ca
 
 -- how many bytes a key of the family has
 abbrev pub key_len_of_family : Family → ℕ
-key_len_of_family Ip4 = 13
-key_len_of_family Ip6 = 37
+key_len_of_family Ip4 = ip4_key_len
+key_len_of_family Ip6 = ip6_key_len
 
 -- A key of the family: so many bytes.
 pub record IsKey (family : Family) (key : List ℕ) : Type 0 where

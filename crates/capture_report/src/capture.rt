@@ -1,6 +1,7 @@
 //! The report of a named capture, from the tables of both families.
 
 ghost use Rattle.std.specs.Prelude.{◌≡◌};
+ghost use Rattle.table_sizes.specs.Groups.{ip4_key_len, ip6_key_len};
 ghost use Rattle.command_plan.specs.Effects.{outside};
 ghost use Rattle.capture_report.specs.CaptureOutcome.{refusal};
 ghost use Rattle.capture_report.specs.PrintsCapture.{PrintsCapture};
@@ -36,8 +37,8 @@ pub fn print_packets<D: Desk, O: Sink, L: Ledger>(
     out: &mut O,
     steps: &mut Steps<L>,
 ) -> Status
-    requires ip4 { ip4.now.key_len ≡ 13 }
-    requires ip6 { ip6.now.key_len ≡ 37 }
+    requires ip4 { ip4.now.key_len ≡ ip4_key_len }
+    requires ip6 { ip6.now.key_len ≡ ip6_key_len }
     ensures { PrintsCapture (record { ip4 = ip4.now; ip6 = ip6.now }) options.now capture.now
         (outside (D.view desk.old) (O.view out.old) steps.old)
         (outside (D.view desk.new) (O.view out.new) steps.new) result }

@@ -46,6 +46,7 @@ pub struct FormByTables<'a> {
 
 impl<'a> Model for FormByTables<'a> {
     ghost use Rattle.std.specs.Prelude.{◌≡◌, ◌≤◌, length};
+    ghost use Rattle.table_sizes.specs.Groups.{ip4_key_len, ip6_key_len};
     ghost use Rattle.capture_report.specs.Classifier.{ByTables};
     ghost use Rattle.capture_report.specs.ReportForm.{ReportForm, form_by};
     ghost use Rattle.capture_report.specs.Batch.{IsFormByTables};
@@ -65,8 +66,8 @@ const NO_DASHES: [bool; MAX_VERDICTS] = [false; MAX_VERDICTS];
 impl<'a> FormByTables<'a> {
     /// What prints by these tables, whose keys have 13 and 37 bytes. It takes no memory.
     pub fn new(ip4: &'a Table, ip6: &'a Table, options: PrintOptions) -> FormByTables<'a>
-        requires ip4 { ip4.now.key_len ≡ 13 }
-        requires ip6 { ip6.now.key_len ≡ 37 }
+        requires ip4 { ip4.now.key_len ≡ ip4_key_len }
+        requires ip6 { ip6.now.key_len ≡ ip6_key_len }
         ensures { result ≡ form_by (ByTables (record { ip4 = ip4.now; ip6 = ip6.now }))
             (record { ip4 = ip4.now; ip6 = ip6.now }) options }
     {

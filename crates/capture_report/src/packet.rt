@@ -1,6 +1,7 @@
 //! The packet of a record.
 
 ghost use Rattle.std.specs.Prelude.{◌≡◌, ◌<◌, ◌≤◌, All, length};
+ghost use Rattle.table_sizes.specs.Groups.{ip6_key_len};
 ghost use Rattle.header_extract.specs.Class.{key_len, settled};
 ghost use Rattle.header_extract.specs.Link.{frame_class};
 ghost use Rattle.capture_report.specs.Packet.{IsPacket};
@@ -8,12 +9,7 @@ ghost use Rattle.capture_report.specs.Packet.{IsPacket};
 use header_extract::{Class, KeyBuf, extract};
 use pcap_reader::Link;
 use std::marker::Model;
-
-/// How many bytes the key of an IPv4 packet has.
-const IP4_KEY: usize = 13;
-
-/// How many bytes the key of an IPv6 packet has.
-pub const IP6_KEY: usize = 37;
+use table_sizes::{IP4_KEY_LEN, IP6_KEY_LEN};
 
 /// The class of a record's frame, and the key of the packet in it. Contracts see the bytes of the
 /// key, which are none where the frame has no packet.
@@ -42,7 +38,7 @@ impl Packet {
         Packet {
             class: Class::Other,
             room: KeyBuf {
-                bytes: [0; IP6_KEY],
+                bytes: [0; IP6_KEY_LEN],
             },
         }
     }
@@ -68,10 +64,10 @@ impl Packet {
     pub fn key(&self) -> &[u8]
         ensures key { result.now ≡ self.now.key }
         ensures len { length result.now ≡ key_len self.now.class }
-        ensures bound { length result.now ≤ IP6_KEY }
+        ensures bound { length result.now ≤ ip6_key_len }
     {
         match self.class {
-            Class::Ip4 => &self.room.bytes[..IP4_KEY],
+            Class::Ip4 => &self.room.bytes[..IP4_KEY_LEN],
             Class::Ip6 => &self.room.bytes,
             Class::Other | Class::Short => &[],
         }

@@ -10,7 +10,7 @@ ghost use Rattle.capture_report.specs.declared.verdicts.TheConstants.{BATCH_KEYS
 use crate::batch::MAX_BATCH;
 use crate::form::FormByTables;
 use crate::lines::put_at;
-use crate::packet::{IP6_KEY, Packet};
+use crate::packet::Packet;
 use acl_report::MAX_VERDICTS;
 use field_defs::Family;
 use flat_table::Steps;
@@ -18,9 +18,10 @@ use flow_core::Scratch;
 use header_extract::Class;
 use lane_walk::classify_by;
 use std::sync::ledger::Ledger;
+use table_sizes::IP6_KEY_LEN;
 
 /// How many bytes the keys of a batch have at most.
-pub const BATCH_KEYS: usize = MAX_BATCH * IP6_KEY;
+pub const BATCH_KEYS: usize = MAX_BATCH * IP6_KEY_LEN;
 
 /// How many verdicts there are on the packets of a batch at most.
 pub const BATCH_VERDICTS: usize = MAX_BATCH * MAX_VERDICTS;
@@ -30,7 +31,7 @@ pub const BATCH_VERDICTS: usize = MAX_BATCH * MAX_VERDICTS;
 pub struct FamilyVerdicts {
     /// How many verdicts were written.
     pub verdicts: usize,
-    /// How many words the walks took.
+    /// How many transitions the walks took.
     pub transitions: u64,
 }
 

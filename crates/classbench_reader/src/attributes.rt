@@ -7,7 +7,7 @@ ghost use Rattle.classbench_reader.specs.Attributes.{attributes_of, number_once,
 ghost use Rattle.classbench_reader.specs.Attributes.{with_named, with_word};
 
 use crate::fault::LineKind;
-use rule_set::RuleTag;
+use rule_set::{ALL_CATEGORIES, RuleTag};
 use text_scan::{next_word, split_once, whole_number};
 
 /// The greatest priority of a rule.
@@ -16,8 +16,6 @@ const MAX_PRIORITY: u32 = rule_set::MAX_PRIORITY as u32;
 const MAX_WRITTEN_PRIORITY: u64 = 2_147_483_647;
 /// The greatest number after `cat=` and after `data=`.
 const MAX_WRITTEN: u64 = 4_294_967_295;
-/// All sixteen categories, one bit for each.
-const ALL_CATEGORIES: u32 = 0xFFFF;
 
 /// The attributes of a line, each with the number that was written, if it was.
 #[derive(Clone, Copy)]

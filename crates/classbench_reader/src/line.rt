@@ -21,7 +21,7 @@ use std::alloc::Global;
 use text_scan::{after_blanks, split_word};
 
 /// How many bits each half of an IPv6 address has.
-const HALF_BITS: u8 = 64;
+pub(crate) const HALF_BITS: u8 = 64;
 
 /// What a line says: a rule whose source and destination are of one family.
 #[derive(Clone, Copy)]

@@ -11,7 +11,7 @@ ghost use Rattle.classbench_reader.specs.Print.{network_text, networks_text, por
 ghost use Rattle.classbench_reader.specs.Print.{protocol_text, rule_alone, rule_text, tag_text};
 ghost use Rattle.classbench_reader.specs.RuleFile.{rule_file_of};
 
-use crate::line::RuleLine;
+use crate::line::{HALF_BITS, RuleLine};
 use crate::network::{Address, Network};
 use field_defs::{Family, FieldKind, FieldValue};
 use itoa::{Buffer, Integer};
@@ -21,8 +21,6 @@ use text_scan::{put_ip4, put_ip6};
 
 /// How many bytes the text of an address has at most, with room to spare.
 const ADDRESS_ROOM: usize = 40;
-/// How many bits each half of an IPv6 address has.
-const HALF_BITS: u32 = 64;
 
 /// The line of a rule, ended by LF, from which [`crate::read_rules`] reads that one rule.
 ///

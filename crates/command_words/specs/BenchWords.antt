@@ -3,7 +3,7 @@ use Rattle.std.specs.Prelude.{ℕ, ◌+◌, ◌^◌, ◌-◌, nat_le, List, leng
 use Rattle.std.specs.Prelude.{Result, Ok, Err, if◌then◌else◌}
 use Rattle.std.specs.Option.{ok_or}
 use Rattle.workload_gen.specs.declared.workload.TheConstants.{MAX_WORKLOAD_RULES}
-use Rattle.flat_table.specs.Batch.{most_keys}
+use Rattle.table_sizes.specs.Sizes.{max_keys}
 use Rattle.command_words.specs.declared.fault.UsageFault.{UsageFault}
 use Rattle.command_words.specs.declared.fault.UsageKind.TheVariants.{MissingName, UnknownOption}
 use Rattle.command_words.specs.declared.fault.UsageKind.TheVariants.{BadValue}
@@ -48,5 +48,5 @@ abbrev pub numbers_of : List (List ℕ) → Result BenchNumbers UsageFault
 numbers_of words = do
   seed ← number_at words 0 greatest_seed
   rules ← number_at words 1 MAX_WORKLOAD_RULES
-  packets ← number_at words 2 most_keys
+  packets ← number_at words 2 max_keys
   alone words (record { seed = seed; rules = rules; packets = packets })

@@ -12,8 +12,8 @@ use std::marker::Model;
 /// How many fields a layout may have.
 pub const MAX_FIELDS: usize = 64;
 
-/// What stands in a layout after its last definition.
-const UNUSED: FieldDef = FieldDef {
+/// What stands after the last definition, where there is room for more.
+pub const UNUSED_FIELD: FieldDef = FieldDef {
     kind: FieldKind::Mask,
     size: 1,
     field_index: 0,
@@ -169,7 +169,7 @@ impl Layout {
         requires { IsLayout defs.now }
         ensures { result ≡ defs.now }
     {
-        let mut kept = [UNUSED; MAX_FIELDS];
+        let mut kept = [UNUSED_FIELD; MAX_FIELDS];
         kept[..defs.len()].copy_from_slice(defs);
         Layout {
             defs: kept,

@@ -21,5 +21,5 @@ mod matching;
 
 pub use field::{Family, FieldDef, FieldKind, FieldValue};
 pub use lawful::LayoutFault;
-pub use layout::{Layout, MAX_FIELDS, ip4_layout, ip6_layout};
+pub use layout::{Layout, MAX_FIELDS, UNUSED_FIELD, ip4_layout, ip6_layout};
 pub use matching::{field_matches, is_wild};

@@ -7,7 +7,7 @@ use Rattle.std.proofs.lemmas.Bool.{cases_Bool}
 use Rattle.std.proofs.lemmas.List.Sums.{length-filter, count_by-le-length}
 use Rattle.std.proofs.lemmas.List.FromFn.{length-range_with_len}
 use Rattle.flat_table.specs.Word.{index_of, is_match, is_node, next_place, next_word}
-use Rattle.flat_table.specs.Groups.{is_kept}
+use Rattle.table_sizes.specs.Groups.{is_kept}
 use Rattle.flat_table.specs.declared.level.Level.{Level}
 use Rattle.std.proofs.lemmas.Bool.Decides.{nat_tests}
 use Rattle.flat_table.specs.Table.{TableView, level_of, places_of}

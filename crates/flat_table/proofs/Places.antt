@@ -5,7 +5,8 @@ use Rattle.arrayvec.specs.ArrayVec.{ArrayVec}
 use Rattle.std.proofs.lemmas.List.{get_or-map, length-map, drop-drop, get_or-take, get_or-drop}
 use Rattle.std.proofs.lemmas.List.Sums.{sum_by-cons, sum_by_more, sum_by_more_le}
 use Rattle.flat_table.specs.declared.level.Level.{Level}
-use Rattle.flat_table.specs.Groups.{kept_places, depth_of}
+use Rattle.table_sizes.specs.Groups.{kept_places}
+use Rattle.flat_table.specs.Groups.{depth_of}
 use Rattle.flat_table.specs.Table.{TableView, levels_from, portions, depths_of, no_level, level_of, places_of}
 use Rattle.flat_table.specs.TableInvariant.{IsTable}
 use Rattle.flat_table.proofs.Shape.{IsShaped, sound_parts}

@@ -2,12 +2,9 @@
 use Rattle.std.specs.Prelude.{◌≡◌, ℕ, ◌+◌, ◌*◌, ◌/◌, ◌≤◌, List, map, take, drop, length, fold}
 use Rattle.std.specs.Prelude.{flat_map}
 use Rattle.std.specs.List.{range_with_len}
+use Rattle.table_sizes.specs.Sizes.{max_keys}
 use Rattle.flat_table.specs.Table.{TableView}
 use Rattle.flat_table.specs.Walk.{table_verdict, key_transitions, most_of_key}
-
--- how many keys a batch has at most
-abbrev pub most_keys : ℕ
-most_keys = 65536
 
 -- how many keys of a length the bytes are
 abbrev pub keys_of_len : ℕ → List ℕ → ℕ
@@ -21,7 +18,7 @@ key_of_len key_len keys k = take key_len (drop (k * key_len) keys)
 -- each.
 pub record KeysFit (key_len : ℕ) (keys : List ℕ) (count room : ℕ) : Type 0 where
   pub whole : length keys ≡ keys_of_len key_len keys * key_len
-  pub few : keys_of_len key_len keys ≤ most_keys
+  pub few : keys_of_len key_len keys ≤ max_keys
   pub room_fits : room ≡ keys_of_len key_len keys * count
 
 -- how many keys of a table the bytes are

@@ -3,7 +3,7 @@ use Rattle.std.specs.Prelude.{ℕ, ◌+◌, ◌-◌, ◌/◌, ◌%◌, ◌^◌, 
 use Rattle.std.specs.Prelude.{◌&&◌}
 use Rattle.std.specs.List.{range_with_len}
 use Rattle.std.specs.Int.{bit_at}
-use Rattle.table_sizes.specs.Groups.{group_len, group_of, max_key_len}
+use Rattle.table_sizes.specs.Groups.{group_len, kept_places, max_key_len}
 
 -- a key is one byte and whole groups
 abbrev pub is_key_len : ℕ → Bool
@@ -13,17 +13,9 @@ is_key_len key_len = key_len % group_len == 1 && nat_lt key_len (max_key_len + 1
 abbrev pub groups_of : ℕ → ℕ
 groups_of key_len = 1 + (key_len - 1) / group_len
 
--- bit g of a trie's word of kept groups says that group g is kept
-abbrev pub is_kept : ℕ → ℕ → Bool
-is_kept kept place = bit_at kept (group_of place) == 1
-
 -- some group of the key is kept, and none that it hasn't
 abbrev pub is_kept_word : ℕ → ℕ → Bool
 is_kept_word key_len kept = nat_lt 0 kept && kept / 2 ^ groups_of key_len == 0
-
--- the places of the kept groups, ascending
-abbrev pub kept_places : ℕ → ℕ → List ℕ
-kept_places key_len kept = filter (is_kept kept) (range_with_len 0 key_len)
 
 -- how many bytes a walk through the trie reads at most: one for each kept place
 abbrev pub depth_of : ℕ → ℕ → ℕ

@@ -1,7 +1,8 @@
 -- Tables as contracts see them: numbers and lists of numbers.
 use Rattle.std.specs.Prelude.{ℕ, ◌+◌, ◌*◌, List, length, [], ◌∷◌, map, take, drop, slice_index_or}
 use Rattle.table_sizes.specs.Sizes.{row_len}
-use Rattle.flat_table.specs.Groups.{kept_places, depth_of}
+use Rattle.table_sizes.specs.Groups.{kept_places}
+use Rattle.flat_table.specs.Groups.{depth_of}
 use Rattle.flat_table.specs.declared.level.Level.{Level}
 use Rattle.flat_table.specs.declared.parts.Parts.{Parts}
 

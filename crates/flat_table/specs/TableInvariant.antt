@@ -1,7 +1,7 @@
 -- What holds of every table.
 use Rattle.std.specs.Prelude.{◌≡◌, ℕ, List, map, None}
 use Rattle.arrayvec.specs.ArrayVec.{ArrayVec}
-use Rattle.flat_table.specs.Groups.{kept_places}
+use Rattle.table_sizes.specs.Groups.{kept_places}
 use Rattle.flat_table.specs.Table.{TableView}
 use Rattle.flat_table.specs.Sound.{sound_fault}
 

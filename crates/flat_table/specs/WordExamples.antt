@@ -3,7 +3,7 @@ use Rattle.std.specs.Prelude.{◌≡◌, ℕ, [], ◌∷◌, map, filter, true, 
 use Rattle.std.specs.List.{range_with_len}
 use Rattle.flat_table.specs.Word.{index_of, kind_of, boundaries_of, full, single, quad, matching}
 use Rattle.flat_table.specs.Word.{is_match, is_node, node_len, offset_of, next_place}
-use Rattle.flat_table.specs.Groups.{is_key_len, is_kept_word, groups_of, kept_places}
+use Rattle.flat_table.specs.Groups.{is_key_len, is_kept_word, groups_of}
 use Rattle.flat_table.specs.Groups.{depth_of}
 
 -- a quad-range node at 291 with the boundaries 9, 10, 64 and 255
@@ -78,10 +78,6 @@ group_counts = refl
 kept_words : map (is_kept_word 13) (0 ∷ 1 ∷ 5 ∷ 15 ∷ 16 ∷ [])
     ≡ false ∷ true ∷ true ∷ true ∷ false ∷ []
 kept_words = refl
-
-places_of_groups : map (kept_places 13) (1 ∷ 2 ∷ 9 ∷ [])
-    ≡ (0 ∷ []) ∷ (1 ∷ 2 ∷ 3 ∷ 4 ∷ []) ∷ (0 ∷ 9 ∷ 10 ∷ 11 ∷ 12 ∷ []) ∷ []
-places_of_groups = refl
 
 depths : map (depth_of 13) (1 ∷ 2 ∷ 15 ∷ []) ≡ 1 ∷ 4 ∷ 13 ∷ []
 depths = refl

@@ -4,12 +4,11 @@
 //! of the others: a group in which every rule of the trie lets every byte through decides nothing.
 
 ghost use Rattle.std.specs.Prelude.{◌≡◌, ◌+◌, ◌-◌, ◌*◌, ◌/◌, ◌%◌, ◌^◌, ◌<◌, ◌≤◌, IsTrue};
-ghost use Rattle.table_sizes.specs.Groups.{max_key_len};
-ghost use Rattle.flat_table.specs.Groups.{is_key_len, is_kept, is_kept_word, groups_of};
-ghost use Rattle.flat_table.specs.Groups.{kept_places, depth_of};
+ghost use Rattle.table_sizes.specs.Groups.{kept_places, max_key_len};
+ghost use Rattle.flat_table.specs.Groups.{is_key_len, is_kept_word, groups_of, depth_of};
 
 use arrayvec::ArrayVec;
-use table_sizes::{GROUP_LEN, MAX_KEY_LEN, group_of};
+use table_sizes::{GROUP_LEN, MAX_KEY_LEN, is_kept};
 
 /// The places of a key that a trie reads, ascending.
 pub(crate) type Places = ArrayVec<u16, MAX_KEY_LEN>;
@@ -29,14 +28,6 @@ pub fn is_kept_word(key_len: u32, kept: u128) -> bool
 {
     let groups = 1 + (key_len as usize - 1) / GROUP_LEN;
     kept > 0 && kept >> groups == 0
-}
-
-/// Whether the group of the place is kept.
-fn is_kept(kept: u128, place: usize) -> bool
-    requires { place < max_key_len }
-    ensures { result ≡ is_kept kept place }
-{
-    kept >> group_of(place) & 1 == 1
 }
 
 /// How many places of a key are kept.

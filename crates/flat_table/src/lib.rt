@@ -41,6 +41,6 @@ pub use sound::{SoundFault, check_sound, is_sound_word};
 pub use steps::Steps;
 pub use table::{NotSound, Table};
 pub use word::{
-    BOUNDARY_BITS, FULL, INDEX_BITS, MATCH, QUAD, SINGLE, boundaries_below, index_of, is_match,
-    kind_of, next_place, userdata_of,
+    BOUNDARY_BITS, FULL, INDEX_BITS, INDEX_MASK, MATCH, QUAD, SINGLE, boundaries_below, index_of,
+    is_match, kind_of, next_place, userdata_of,
 };

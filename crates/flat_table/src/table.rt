@@ -5,7 +5,7 @@ ghost use Rattle.std.specs.Prelude.{slice_index_or, None, IfOk, IfErr, Some, map
 ghost use Rattle.std.specs.Prelude.{option_map};
 ghost use Rattle.std.specs.Result.{result_err};
 ghost use Rattle.table_sizes.specs.Groups.{max_key_len};
-ghost use Rattle.flat_table.specs.Groups.{kept_places};
+ghost use Rattle.table_sizes.specs.Groups.{kept_places};
 ghost use Rattle.flat_table.specs.Table.{view_of, words_of, depths_of, places_of, level_of};
 ghost use Rattle.flat_table.specs.Sound.{leads_into, sound_fault};
 ghost use Rattle.flat_table.specs.Walk.{root_of};

@@ -26,7 +26,7 @@ use table_sizes::{FEW_RUNS, FULL_LEN};
 pub const INDEX_BITS: u32 = 29;
 
 /// The bits of the index.
-const INDEX_MASK: u64 = 0x1FFF_FFFF;
+pub const INDEX_MASK: u64 = 0x1FFF_FFFF;
 
 /// The bits of the kind, moved down.
 const KIND_MASK: u64 = 7;

@@ -7,7 +7,8 @@ use Rattle.table_sizes.specs.Groups.{max_key_len}
 use Rattle.flat_table.specs.Word.{next_place}
 use Rattle.flat_table.specs.Table.{TableView, places_of}
 use Rattle.flat_table.specs.Sound.{sound_fault}
-use Rattle.flat_table.specs.Batch.{key_at, keys_in, most_keys}
+use Rattle.table_sizes.specs.Sizes.{max_keys}
+use Rattle.flat_table.specs.Batch.{key_at, keys_in}
 use Rattle.flat_table.specs.Laws.{WalksStay, LeadsOn}
 use Rattle.flat_table.proofs.Offered.{place_below}
 use Rattle.flow_core.specs.declared.flight.Flight.{Flight}
@@ -54,11 +55,11 @@ module _ {table : TableView} {keys : List ℕ} {given : ℕ} {flight : Flight} (
         ∙ get_or-drop (flight.key * table.key_len) keys place 0)
         ∙ ap (λ (p : ℕ). slice_index (key_at table keys flight.key) p) place_is
 
-  pub product_fits : {len : ℕ} → len ≡ table.key_len → len ≤ max_key_len → keys_in table keys ≤ most_keys →
-      flight.key * len ≤ most_keys * max_key_len
+  pub product_fits : {len : ℕ} → len ≡ table.key_len → len ≤ max_key_len → keys_in table keys ≤ max_keys →
+      flight.key * len ≤ max_keys * max_key_len
   product_fits {len = len} e short few =
-      let left : flight.key * len ≤ most_keys * len = mul-le-mul_right len
-      (let below : flight.key ≤ most_keys = omega (arith, key_of_flight, few) in below) in
+      let left : flight.key * len ≤ max_keys * len = mul-le-mul_right len
+      (let below : flight.key ≤ max_keys = omega (arith, key_of_flight, few) in below) in
       omega (arith, left, short)
 
   -- the word that it takes

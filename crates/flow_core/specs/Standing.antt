@@ -4,7 +4,8 @@ use Rattle.std.specs.Prelude.{Contains, All, Option, Some, None, if◌then◌els
 use Rattle.flat_table.specs.Word.{index_of, is_match}
 use Rattle.flat_table.specs.Table.{TableView, level_of, places_of}
 use Rattle.flat_table.specs.Sound.{leads_into}
-use Rattle.flat_table.specs.Batch.{keys_in, most_keys}
+use Rattle.table_sizes.specs.Sizes.{max_keys}
+use Rattle.flat_table.specs.Batch.{keys_in}
 use Rattle.flow_core.specs.declared.flight.Flight.{Flight}
 use Rattle.flow_core.specs.Jobs.{Job, jobs_of, job_count}
 use Rattle.flow_core.specs.Rows.{joined_into}
@@ -17,7 +18,7 @@ most_slots = 16
 -- the bytes are whole keys of the table, not too many, and there is a row for each
 pub record BatchFits (table : TableView) (keys : List ℕ) (rows : ℕ) : Type 0 where
   pub whole : length keys ≡ keys_in table keys * table.key_len
-  pub few : keys_in table keys ≤ most_keys
+  pub few : keys_in table keys ≤ max_keys
   pub room : keys_in table keys ≤ rows
 
 -- the job that the flight is of

@@ -3,7 +3,8 @@
 ghost use Rattle.std.specs.Prelude.{◌≡◌, ℕ, ◌+◌, ◌*◌, ◌<◌, ◌≤◌, length, drop, None};
 ghost use Rattle.std.specs.List.{list_all};
 ghost use Rattle.flat_table.specs.Word.{index_of, is_match};
-ghost use Rattle.flat_table.specs.Batch.{keys_in, most_keys};
+ghost use Rattle.table_sizes.specs.Sizes.{max_keys};
+ghost use Rattle.flat_table.specs.Batch.{keys_in};
 ghost use Rattle.flow_core.specs.Rows.{cleared};
 ghost use Rattle.flow_core.specs.Machine.{Machine, state_of, first_state, is_empty, is_done};
 ghost use Rattle.flow_core.specs.Machine.{byte_of, word_of, flow_step};
@@ -51,7 +52,7 @@ impl<const W: usize> Model for Flows<W> {
 #[inline]
 pub fn byte_of(table: &Table, keys: &[u8], flight: Flight) -> u8
     requires whole { length keys.now ≡ keys_in table.now keys.now * table.now.key_len }
-    requires few { keys_in table.now keys.now ≤ most_keys }
+    requires few { keys_in table.now keys.now ≤ max_keys }
     requires on_way { (given : ℕ) × IsOnWay table.now keys.now given flight }
     ensures { result ≡ byte_of table.now keys.now flight }
 {
@@ -64,7 +65,7 @@ pub fn byte_of(table: &Table, keys: &[u8], flight: Flight) -> u8
 #[inline]
 fn word_after(table: &Table, keys: &[u8], flight: Flight) -> u64
     requires whole { length keys.now ≡ keys_in table.now keys.now * table.now.key_len }
-    requires few { keys_in table.now keys.now ≤ most_keys }
+    requires few { keys_in table.now keys.now ≤ max_keys }
     requires on_way { (given : ℕ) × IsOnWay table.now keys.now given flight }
     ensures value { result ≡ word_of table.now keys.now flight }
     ensures onward { LeadsOnward table.now flight result }

@@ -1,7 +1,7 @@
 //! Rows of the keys of a batch, which are used again from batch to batch.
 
 ghost use Rattle.std.specs.Prelude.{◌≡◌, ◌<◌, ◌≤◌, length, replicate, slice_get, Some, IfOk, true};
-ghost use Rattle.flat_table.specs.Batch.{most_keys};
+ghost use Rattle.table_sizes.specs.Sizes.{max_keys};
 ghost use Rattle.flow_core.specs.Rows.{zero_row, cleared, joined_row, joined_into};
 
 use std::alloc::{AllocError, Global};
@@ -68,7 +68,7 @@ impl Scratch {
     /// A row of zeros for each of so many keys, at most 65,536. It takes 128 bytes of memory for
     /// each, and refuses nothing but for want of it.
     pub fn new(alloc: Global, room: usize) -> Result<Scratch, AllocError>
-        requires { room ≤ most_keys }
+        requires { room ≤ max_keys }
         ensures { IfOk result (λ scratch. scratch ≡ replicate room zero_row) }
     {
         let mut rows = Vec::with_capacity(alloc, room)?;

@@ -1,5 +1,6 @@
 -- The class of a frame and the key of the packet in it, and how layers follow one another.
 use Rattle.std.specs.Prelude.{◌≡◌, ℕ, List, [], ◌++◌, length, drop, nat_le, Option, Some, None, Result, Ok, Err, if◌then◌else◌}
+use Rattle.table_sizes.specs.Groups.{ip4_key_len, ip6_key_len}
 use Rattle.header_extract.specs.declared.class.Class.{Class}
 use Rattle.header_extract.specs.declared.class.Class.TheVariants.{Ip4, Ip6, Other, Short}
 
@@ -31,8 +32,8 @@ settled (Err class) = record { class = class; key = [] }
 
 -- how many bytes the key of a class has
 abbrev pub key_len : Class → ℕ
-key_len Ip4 = 13
-key_len Ip6 = 37
+key_len Ip4 = ip4_key_len
+key_len Ip6 = ip6_key_len
 key_len Other = 0
 key_len Short = 0
 

@@ -4,9 +4,7 @@
 ghost use Rattle.std.specs.Prelude.{◌≡◌, ◌+◌, ◌≤◌, ◌∷◌, ◌++◌, length, drop};
 
 use crate::ports::{PORTS, Ports};
-
-/// How many bytes the key of an IPv6 packet has, which is the longest.
-const KEY: usize = 37;
+use table_sizes::IP6_KEY_LEN;
 
 /// Room for the key of a packet, in network order:
 ///
@@ -17,7 +15,7 @@ const KEY: usize = 37;
 /// were.
 #[derive(Clone, Copy)]
 pub struct KeyBuf {
-    pub bytes: [u8; KEY],
+    pub bytes: [u8; IP6_KEY_LEN],
 }
 
 impl KeyBuf {

@@ -11,7 +11,8 @@ use Rattle.std.proofs.lemmas.List.Sums.{count_by_more_yes, count_by_more_no, fol
 use Rattle.table_sizes.specs.Groups.{max_key_len}
 use Rattle.flat_table.specs.Table.{TableView}
 use Rattle.flat_table.specs.Sound.{sound_fault}
-use Rattle.flat_table.specs.Batch.{batch_transitions, keys_in, most_keys, most_of_batch}
+use Rattle.table_sizes.specs.Sizes.{max_keys}
+use Rattle.flat_table.specs.Batch.{batch_transitions, keys_in, most_of_batch}
 use Rattle.flat_table.specs.Laws.{WalksGoStepByStep, WalksStay}
 use Rattle.flat_table.proofs.Offered.{batch_bound}
 use Rattle.flow_core.specs.Rows.{zero_row, cleared}
@@ -239,18 +240,18 @@ module _ {table : TableView} {keys : List ℕ} {width n : ℕ} {machine : Machin
 
 -- ---- the numbers fit
 
-pub words_fit : (table : TableView) (keys : List ℕ) → keys_in table keys ≤ most_keys →
+pub words_fit : (table : TableView) (keys : List ℕ) → keys_in table keys ≤ max_keys →
     length table.roots ≤ max_tries → table.key_len ≤ max_key_len →
-    batch_transitions table keys ≤ most_keys * (max_tries * max_key_len)
+    batch_transitions table keys ≤ max_keys * (max_tries * max_key_len)
 words_fit table keys few tries short = omega (
   arith,
   batch_bound table keys,
   mul-le-mul few (mul-le-mul tries short),
 )
 
-pub steps_fit : (table : TableView) (keys : List ℕ) → keys_in table keys ≤ most_keys →
+pub steps_fit : (table : TableView) (keys : List ℕ) → keys_in table keys ≤ max_keys →
     length table.roots ≤ max_tries → table.key_len ≤ max_key_len →
-    most_steps table keys ≤ most_keys * max_tries * (max_key_len + 1)
+    most_steps table keys ≤ max_keys * max_tries * (max_key_len + 1)
 steps_fit table keys few tries short =
     let longer : table.key_len + 1 ≤ max_key_len + 1 = omega (arith, short) in
     mul-le-mul (mul-le-mul few tries) longer

@@ -15,8 +15,8 @@ use thiserror::Error;
 /// The greatest priority of a rule. The least is 0.
 pub const MAX_PRIORITY: i32 = 536_870_911;
 
-/// The bits of a category mask that stand for categories.
-const CATEGORY_BITS: u32 = 0xFFFF;
+/// The bits of a category mask that stand for categories, all sixteen.
+pub const ALL_CATEGORIES: u32 = 0xFFFF;
 
 /// Why a rule is refused. A number is the place of the first field that the check fails for.
 #[derive(Clone, Copy, Debug, PartialEq, Eq, Error)]
@@ -82,7 +82,7 @@ pub fn check_rule(layout: &Layout, tag: &RuleTag, fields: &[FieldValue]) -> Resu
 fn has_category(tag: &RuleTag) -> bool
     ensures { result ≡ list_any (is_in_category tag.now) categories }
 {
-    tag.category_mask & CATEGORY_BITS != 0
+    tag.category_mask & ALL_CATEGORIES != 0
 }
 
 /// Whether the priority is one that a rule may have.

@@ -23,7 +23,7 @@ mod rule;
 mod set;
 
 pub use categories::{Categories, MAX_CATEGORIES};
-pub use check::{MAX_PRIORITY, RuleFault, check_rule};
+pub use check::{ALL_CATEGORIES, MAX_PRIORITY, RuleFault, check_rule};
 pub use plain::plain_verdict;
 pub use rank::ranks;
 pub use rule::{Rule, RuleTag, StoredRule};

@@ -25,7 +25,7 @@ use flat_table::INDEX_BITS;
 use std::simd::{u8x16, u32x4, u64x2};
 
 /// The bits of the index.
-const INDEX_MASK: u32 = 0x1FFF_FFFF;
+const INDEX_MASK: u32 = flat_table::INDEX_MASK as u32;
 
 /// The kind of a quad-range node.
 const QUAD: u32 = flat_table::QUAD as u32;

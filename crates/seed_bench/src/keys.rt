@@ -3,7 +3,7 @@
 ghost use Rattle.std.specs.Prelude.{◌≡◌, ◌+◌, ◌*◌, ◌^◌, ◌<◌, ◌≤◌, length, IfOk};
 ghost use Rattle.std.specs.List.{concat};
 ghost use Rattle.field_defs.specs.Layout.{ip4_fields, key_len_of};
-ghost use Rattle.flat_table.specs.Batch.{most_keys};
+ghost use Rattle.table_sizes.specs.Sizes.{max_keys};
 ghost use Rattle.workload_gen.specs.Workload.{keys_of};
 ghost use Rattle.seed_bench.specs.Tally.{HasRoom, tally_of, with_verdicts};
 ghost use Rattle.seed_bench.specs.Bench.{verdicts_on_key, verdicts_on_keys};
@@ -30,7 +30,7 @@ pub fn draw_keys(
     packets: u32,
     cats: Categories,
 ) -> Result<Drawn, AllocError>
-    requires { packets ≤ most_keys }
+    requires { packets ≤ max_keys }
     ensures keys { IfOk result (λ drawn. drawn.keys.items
         ≡ concat (keys_of workload.old.rules workload.old.generator packets)) }
     ensures plain { IfOk result (λ drawn. drawn.plain ≡ tally_of (verdicts_on_keys

@@ -4,7 +4,8 @@ ghost use Rattle.std.specs.Prelude.{◌≡◌, ◌+◌, ◌*◌, ◌/◌, ◌≤
 ghost use Rattle.std.specs.Prelude.{IsSome, OnOk, OnErr};
 ghost use Rattle.field_defs.specs.Layout.{ip4_fields};
 ghost use Rattle.rule_split.specs.Split.{total_of};
-ghost use Rattle.flat_table.specs.Batch.{batch_transitions, most_keys};
+ghost use Rattle.table_sizes.specs.Sizes.{max_keys};
+ghost use Rattle.flat_table.specs.Batch.{batch_transitions};
 ghost use Rattle.table_fill.specs.Serves.{Serves};
 ghost use Rattle.acl_context.specs.Batch.{verdicts_by_rules};
 ghost use Rattle.acl_context.specs.Context.{built_of};
@@ -74,7 +75,7 @@ pub fn table_tally<L: Ledger>(
     requires built { IsSome context.now.table }
     requires serves { IfSome context.now.table (λ table. Serves context.now.set table) }
     requires whole { length keys.now ≡ length keys.now / KEY_LEN * KEY_LEN }
-    requires few { length keys.now / KEY_LEN ≤ most_keys }
+    requires few { length keys.now / KEY_LEN ≤ max_keys }
     ensures tally { IfOk result (λ tally.
         tally ≡ tally_of (verdicts_by_rules context.now.set cats.count keys.now)) }
     ensures steps { OnOk result (IfSome context.now.table
@@ -100,7 +101,7 @@ fn classify<L: Ledger>(
     requires built { IsSome context.now.table }
     requires serves { IfSome context.now.table (λ table. Serves context.now.set table) }
     requires whole { length keys.now ≡ length keys.now / KEY_LEN * KEY_LEN }
-    requires few { length keys.now / KEY_LEN ≤ most_keys }
+    requires few { length keys.now / KEY_LEN ≤ max_keys }
     requires room { length verdicts.old ≡ length keys.now / KEY_LEN * cats.count }
     ensures tally { result ≡ tally_of (verdicts_by_rules context.now.set cats.count keys.now) }
     ensures steps { IfSome context.now.table
@@ -114,7 +115,7 @@ fn classify<L: Ledger>(
 
 /// What verdicts come to, of which there are at most those of 65,536 keys in 16 categories.
 fn tally_of(verdicts: &[u32]) -> Tally
-    requires { length verdicts.now ≤ most_keys * 16 }
+    requires { length verdicts.now ≤ max_keys * 16 }
     ensures { result ≡ tally_of verdicts.now }
 {
     let mut tally = Tally::default();

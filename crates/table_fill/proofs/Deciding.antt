@@ -57,7 +57,7 @@ use Rattle.list_lemmas.proofs.Folds.{greatest_attained, greatest_above, greatest
 use Rattle.list_lemmas.proofs.Sums.{sum_by-map}
 use Rattle.table_fill.specs.Laws.{CanBeFilled, FilledTablesDecide}
 use Rattle.table_fill.proofs.Merged.{places_are, whole_keys, trie_is}
-use Rattle.flat_table.specs.Groups as table
+use Rattle.table_sizes.specs.Groups as bits
 
 -- ---- words of rows
 
@@ -402,7 +402,7 @@ module _ (set : RuleSetView) (groups : List (List ℕ)) (can : CanBeFilled set g
         get_or-map (λ (t : LevelsView). t.kept) ts t no_trie 0 (omega (arith, below, length-map groups (levels_of set)))
         ∙ ap (λ (t : LevelsView). t.kept) trie_eq ∙ level_parts group in
         let bytes_are : bytes_of tbl t key ≡ map (λ p. get_or key p 0) places =
-        ap (λ k. map (λ p. get_or key p 0) (table.kept_places (key_len_of set.layout) k)) kept_is
+        ap (λ k. map (λ p. get_or key p 0) (bits.kept_places (key_len_of set.layout) k)) kept_is
         ∙ ap (map (λ p. get_or key p 0)) (places_are set group) in
         let to : walk_row tbl t key ≡ index_of (succ_word matches (followed trie.levels places key 0)) =
         walk_to tbl t key

@@ -44,6 +44,7 @@ use Rattle.rule_set.specs.Winner.{is_in_category}
 use Rattle.rule_set.specs.Among.{passes_at, best_among, is_greatest_at}
 use Rattle.rule_set.proofs.Offered.{passes_there}
 use Rattle.group_states.specs.Laws.{IsGrouped}
+use Rattle.table_sizes.specs.Groups as bits
 use Rattle.flat_table.specs.Groups as table
 
 -- ---- the runs of a state
@@ -242,7 +243,7 @@ module _ (set : RuleSetView) (group : List ℕ) (held : AllByRecursion (IsHeld s
 
 module _ (set : RuleSetView) (group : List ℕ) where
   -- a bit is set exactly where its group is kept
-  bit_says : (place : ℕ) → place < key_len_of set.layout → table.is_kept (kept_bits set group) place
+  bit_says : (place : ℕ) → place < key_len_of set.layout → bits.is_kept (kept_bits set group) place
       ≡ is_kept set group (group_of place)
   unfolding kept_bits
   bit_says place within =
@@ -250,10 +251,10 @@ module _ (set : RuleSetView) (group : List ℕ) where
       (omega (arith, within)))
       ∙ one_says (is_kept set group (group_of place))
 
-  pub places_are : table.kept_places (key_len_of set.layout) (kept_bits set group) ≡ kept_places set group
+  pub places_are : bits.kept_places (key_len_of set.layout) (kept_bits set group) ≡ kept_places set group
   unfolding kept_places
   places_are =
-      filter_on_range (table.is_kept (kept_bits set group)) (λ place. is_kept set group (group_of place)) 0
+      filter_on_range (bits.is_kept (kept_bits set group)) (λ place. is_kept set group (group_of place)) 0
       (key_len_of set.layout) (λ k from below. bit_says k (omega (arith, below)))
 
   kept_word : table.is_key_len (key_len_of set.layout) ≡ true → HasFirst set group (kept_places set group) →
@@ -271,8 +272,8 @@ module _ (set : RuleSetView) (group : List ℕ) where
             absurd (omega (
               arith,
               first.some,
-              ap length (sym places_are ∙ ap (λ k. table.kept_places (key_len_of set.layout) k) zero
-                  ∙ filter-none (table.is_kept 0) (range_with_len 0 (key_len_of set.layout))
+              ap length (sym places_are ∙ ap (λ k. bits.kept_places (key_len_of set.layout) k) zero
+                  ∙ filter-none (bits.is_kept 0) (range_with_len 0 (key_len_of set.layout))
                   (λ place has. ap (λ b. b == 1) (bit_at-zero (group_of place)))),
             ))
       ] in

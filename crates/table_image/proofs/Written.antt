@@ -9,7 +9,8 @@ use Rattle.std.proofs.lemmas.Bool.{and_parts, and_from, lt-ltb, ltb-true}
 use Rattle.std.proofs.lemmas.List.FromFn.{length-range_with_len}
 use Rattle.std.proofs.lemmas.List.Sums.{count_by-le-length}
 use Rattle.std.proofs.lemmas.List.Sums.{length-filter}
-use Rattle.flat_table.specs.Groups.{groups_of, is_kept, is_kept_word, depth_of}
+use Rattle.table_sizes.specs.Groups.{is_kept}
+use Rattle.flat_table.specs.Groups.{groups_of, is_kept_word, depth_of}
 use Rattle.flat_table.specs.Sound.{begins_with_zeros}
 use Rattle.flat_table.specs.Table.{TableView}
 use Rattle.flat_table.specs.Sound.{sound_fault}

@@ -1,5 +1,6 @@
 -- Laws of images, over their definitions alone.
 use Rattle.std.specs.Prelude.{◌≡◌, ℕ, ◌<◌, ◌⊎◌, List, All, Ok}
+use Rattle.table_sizes.specs.Groups.{ip4_key_len, ip6_key_len}
 use Rattle.table_image.specs.declared.version.Version.{Version}
 use Rattle.table_image.specs.declared.version.Version.TheVariants.{One, Two}
 use Rattle.table_image.specs.Spelling.{PairView, spelled_pair, IsSaved, IsImage}
@@ -20,5 +21,5 @@ pub record ReadsImages : Type 0 where
       image_of bytes ≡ Ok pair → IsImage One bytes pair ⊎ IsImage Two bytes pair
   pub image : (version : Version) (bytes : List ℕ) (pair : PairView) →
       IsImage version bytes pair → image_of bytes ≡ Ok pair
-  pub saved : (version : Version) (pair : PairView) → IsSaved version 13 pair.ip4 →
-      IsSaved version 37 pair.ip6 → image_of (spelled_pair version pair) ≡ Ok pair
+  pub saved : (version : Version) (pair : PairView) → IsSaved version ip4_key_len pair.ip4 →
+      IsSaved version ip6_key_len pair.ip6 → image_of (spelled_pair version pair) ≡ Ok pair

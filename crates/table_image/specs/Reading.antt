@@ -7,6 +7,7 @@ use Rattle.flat_table.specs.declared.level.Level.{Level}
 use Rattle.flat_table.specs.Groups.{is_kept_word, depth_of}
 use Rattle.flat_table.specs.Table.{TableView, levels_from, trie_levels}
 use Rattle.flat_table.specs.Sound.{leads_into, first_level, is_sound_word}
+use Rattle.table_sizes.specs.Groups.{ip4_key_len, ip6_key_len}
 use Rattle.table_sizes.specs.Sizes.{max_rules, max_tries, max_words, row_len}
 use Rattle.table_image.specs.declared.fault.ImageFault.{ImageFault}
 use Rattle.table_image.specs.declared.fault.ImageKind.{ImageKind}
@@ -198,8 +199,8 @@ version_of number = if number == 1 then One else Two
 -- the two tables, and no byte after them
 abbrev pub pair_read : Version → List ℕ → Reading PairView
 pair_read version bytes =
-    table_read version 4 13 bytes 8 >>= λ ip4.
-    table_read version 6 37 bytes ip4.end >>= λ ip6.
+    table_read version 4 ip4_key_len bytes 8 >>= λ ip4.
+    table_read version 6 ip6_key_len bytes ip4.end >>= λ ip6.
     checked (length bytes == ip6.end) Trailing ip6.end
     (record { ip4 = ip4.table; ip6 = ip6.table })
 

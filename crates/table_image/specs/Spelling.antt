@@ -15,6 +15,7 @@ use Rattle.std.specs.Int.{bytes_high_first}
 use Rattle.flat_table.specs.Groups.{groups_of, depth_of}
 use Rattle.flat_table.specs.Table.{TableView}
 use Rattle.flat_table.specs.Sound.{sound_fault}
+use Rattle.table_sizes.specs.Groups.{ip4_key_len, ip6_key_len}
 use Rattle.table_sizes.specs.Sizes.{max_rules, row_len}
 use Rattle.table_image.specs.declared.version.Version.{Version}
 use Rattle.table_image.specs.declared.version.Version.TheVariants.{One, Two}
@@ -137,5 +138,5 @@ pub record IsSaved (version : Version) (key_len : ℕ) (table : TableView) : Typ
 -- the bytes are the image of the pair in the version
 pub record IsImage (version : Version) (bytes : List ℕ) (pair : PairView) : Type 0 where
   pub spelling : bytes ≡ spelled_pair version pair
-  pub ip4 : IsSaved version 13 pair.ip4
-  pub ip6 : IsSaved version 37 pair.ip6
+  pub ip4 : IsSaved version ip4_key_len pair.ip4
+  pub ip6 : IsSaved version ip6_key_len pair.ip6

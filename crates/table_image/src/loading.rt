@@ -13,6 +13,7 @@ use crate::saving::MAGIC;
 use crate::table::read_table;
 use crate::version::Version;
 use std::alloc::Global;
+use table_sizes::{IP4_KEY_LEN, IP6_KEY_LEN};
 
 /// The version of the number.
 fn version_of(number: u32) -> Version
@@ -56,8 +57,8 @@ pub fn load(alloc: Global, bytes: &[u8]) -> Result<TablePair, LoadFault>
     ensures fault { IfErr result (IsFaultOf (image_of bytes.now)) }
 {
     let version = read_version(bytes)?;
-    let ip4 = read_table(alloc, version, 4, 13, bytes, 8)?;
-    let ip6 = read_table(alloc, version, 6, 37, bytes, ip4.end)?;
+    let ip4 = read_table(alloc, version, 4, IP4_KEY_LEN as u32, bytes, 8)?;
+    let ip6 = read_table(alloc, version, 6, IP6_KEY_LEN as u32, bytes, ip4.end)?;
     checked((), bytes.len() == ip6.end, ImageKind::Trailing, ip6.end)?;
     Ok(TablePair {
         ip4: ip4.table,

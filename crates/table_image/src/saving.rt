@@ -2,6 +2,7 @@
 
 ghost use Rattle.std.specs.Prelude.{◌≡◌, ◌+◌, ◌-◌, ◌*◌, ◌≤◌, ◌<◌, ◌^◌, ◌++◌, length, take, OnOk, IfOk, true, None};
 ghost use Rattle.std.specs.List.{flat_map, list_all};
+ghost use Rattle.table_sizes.specs.Groups.{ip4_key_len, ip6_key_len};
 ghost use Rattle.flat_table.specs.Sound.{begins_with_zeros, sound_fault};
 ghost use Rattle.table_image.specs.declared.version.Version.TheVariants.{Two};
 ghost use Rattle.table_image.specs.Spelling.{spelled, all_spelled, spelled_tries, spelled_rows, spelled_table, spelled_pair};
@@ -117,7 +118,7 @@ fn rows_after_first(table: &Table) -> u32
 
 /// Puts the bytes of the tries after the others: of each its kept groups, level lengths and root.
 fn put_tries(out: &mut Vec<u8>, table: &Table) -> Result<(), AllocError>
-    requires keys { table.now.key_len ≤ 37 }
+    requires keys { table.now.key_len ≤ ip6_key_len }
     ensures text { OnOk result (out.new.items ≡ out.old.items ++ spelled_tries Two
         table.now.key_len table.now.kept table.now.roots table.now.level_lens) }
     ensures typed { OnOk result (list_all is_word table.now.roots ≡ true) }
@@ -136,7 +137,7 @@ fn put_tries(out: &mut Vec<u8>, table: &Table) -> Result<(), AllocError>
 
 /// Puts the bytes of a table of the family after the others.
 fn put_table(out: &mut Vec<u8>, family: u32, table: &Table) -> Result<(), AllocError>
-    requires keys { table.now.key_len ≤ 37 }
+    requires keys { table.now.key_len ≤ ip6_key_len }
     ensures text { OnOk result
         (out.new.items ≡ out.old.items ++ spelled_table Two family table.now) }
     ensures typed { OnOk result (HasWords table.now) }
@@ -166,8 +167,8 @@ fn table_bytes(table: &Table) -> usize
 /// were filled or loaded. It refuses nothing. Memory is taken once, for the image: its length is
 /// known before.
 pub fn save(alloc: Global, ip4: &Table, ip6: &Table) -> Result<Vec<u8>, AllocError>
-    requires ip4 { CanBeSaved 13 ip4.now }
-    requires ip6 { CanBeSaved 37 ip6.now }
+    requires ip4 { CanBeSaved ip4_key_len ip4.now }
+    requires ip6 { CanBeSaved ip6_key_len ip6.now }
     ensures spelling { IfOk result
         (λ image. image.items ≡ spelled_pair Two (pair_of_tables ip4.now ip6.now)) }
     ensures image { IfOk result

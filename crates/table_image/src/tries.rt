@@ -19,9 +19,6 @@ use flat_table::{Level, depth_of, is_kept_word};
 use std::alloc::{AllocError, Global};
 use table_sizes::MAX_WORDS;
 
-/// The longest key of a table that an image has.
-const LONGEST_KEY: u32 = 37;
-
 /// The tries of a table that were read so far.
 #[derive(Drop)]
 pub(crate) struct Tries {

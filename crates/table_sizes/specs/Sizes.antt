@@ -1,6 +1,6 @@
--- The sizes of a table: how many rules it is made of at most, how many words it has at most, and how
--- many its rows and nodes take (after DPDK's `lib/acl`, `acl.h` and `acl_gen.c`; our full node has a
--- word for each byte value).
+-- The sizes of a table: how many rules it is made of at most, how many words it has at most, and
+-- how many its rows and nodes take (after DPDK's `lib/acl`, `acl.h` and `acl_gen.c`; our full node
+-- has a word for each byte value). And how many keys are walked at once.
 use Rattle.std.specs.Prelude.{ℕ, ◌==◌, nat_le, if◌then◌else◌}
 
 -- how many rules a set has at most, and so the table that is made of it
@@ -15,6 +15,10 @@ max_words = 67108864
 -- has (RTE_ACL_MAX_TRIES)
 abbrev pub max_tries : ℕ
 max_tries = 8
+
+-- how many keys a batch has at most
+abbrev pub max_keys : ℕ
+max_keys = 65536
 
 -- how many words a row has: one for each category
 abbrev pub row_len : ℕ

@@ -1,5 +1,5 @@
-//! nothing → how long a key and how large a table may be, the groups of a key's bytes, and how many
-//! words rows and nodes take
+//! nothing → how long keys are and how large a table may be, the groups of a key's bytes, and how
+//! many words rows and nodes take
 //!
 //! A key has groups of four bytes after its first byte. A table has words of 64 bits and rows of
 //! sixteen such words. What checks layouts and rules, merges them, fills a table, walks and saves
@@ -22,5 +22,5 @@ mod groups;
 pub mod laws;
 mod sizes;
 
-pub use groups::{GROUP_LEN, MAX_KEY_LEN, group_of};
-pub use sizes::{FEW_RUNS, FULL_LEN, MAX_RULES, MAX_TRIES, MAX_WORDS, ROW_LEN, node_len};
+pub use groups::{GROUP_LEN, IP4_KEY_LEN, IP6_KEY_LEN, MAX_KEY_LEN, group_of, is_kept};
+pub use sizes::{FEW_RUNS, FULL_LEN, MAX_KEYS, MAX_RULES, MAX_TRIES, MAX_WORDS, ROW_LEN, node_len};

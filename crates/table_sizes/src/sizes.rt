@@ -13,6 +13,9 @@ pub const MAX_WORDS: usize = 67_108_864;
 /// `lib/acl`, `acl.h`).
 pub const MAX_TRIES: usize = 8;
 
+/// The most keys that a batch has.
+pub const MAX_KEYS: usize = 65_536;
+
 /// How many words a row has: one for each of sixteen categories.
 pub const ROW_LEN: usize = 16;
 

@@ -234,7 +234,7 @@ fn price(
         IsStrictlyIncreasing tree.rules → IsIn set target.now tree list number →
         words ≤ price place.now.next place.now.is_last list) }
     ensures bound { IfOk result (λ words. (0 < words) × (words ≤ 256)) }
-    ensures row { IfOk result (λ words. place.now.is_last ≡ true → words ≡ 16) }
+    ensures row { IfOk result (λ words. place.now.is_last ≡ true → words ≡ row_len) }
 {
     if place.is_last {
         return Ok(ROW_LEN as u64);

@@ -5,7 +5,7 @@ use Rattle.field_defs.specs.declared.field.FieldValue.{FieldValue}
 use Rattle.field_defs.specs.declared.field.FieldValue.TheVariants.{Mask, Range, Bitmask}
 use Rattle.rule_set.specs.declared.rule.RuleTag.{RuleTag}
 use Rattle.rule_set.specs.Rule.{RuleView}
-use Rattle.workload_gen.specs.declared.rule.TheConstants.{LAST_PORT, FIRST_USER_PORT, PORTS_BEHIND}
+use Rattle.workload_gen.specs.declared.rule.TheConstants.{LAST_PORT, FIRST_USER_PORT, PORTS_AFTER}
 use Rattle.workload_gen.specs.declared.rule.TheConstants.{PRIORITIES, CATEGORY_MASKS}
 
 -- the protocol number of TCP (IANA)
@@ -34,7 +34,7 @@ first_user_port = FIRST_USER_PORT
 
 -- how many ports a range has after its first one, at most
 abbrev pub ports_after : ℕ
-ports_after = PORTS_BEHIND
+ports_after = PORTS_AFTER
 
 -- how many bits of a source decide
 abbrev pub source_bits : List ℕ

@@ -8,12 +8,13 @@ ghost use Rattle.workload_gen.specs.Packet.{aimed_packet, drawn_packet, first_nu
 use crate::rule::{PORTS, address};
 use field_defs::FieldValue;
 use rule_set::StoredRule;
+use table_sizes::IP4_KEY_LEN;
 
 /// How many words a key takes.
 pub const KEY_WORDS: usize = 4;
 
-/// How many bytes a key has.
-pub const KEY_LEN: usize = 13;
+/// How many bytes a key has: those of an IPv4 packet.
+pub const KEY_LEN: usize = IP4_KEY_LEN;
 
 /// The numbers of an IPv4 packet that rules ask for.
 #[derive(Clone, Copy)]

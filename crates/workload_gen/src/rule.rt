@@ -44,7 +44,7 @@ const LAST_PORT: u64 = 65_535;
 const FIRST_USER_PORT: u64 = 1024;
 
 /// How many ports after its first a range of ports has.
-const PORTS_BEHIND: u64 = 100;
+const PORTS_AFTER: u64 = 100;
 
 /// How many priorities there are.
 const PRIORITIES: u32 = 1000;
@@ -148,7 +148,7 @@ fn destination_ports(word: u32) -> FieldValue
         },
         _ => FieldValue::Range {
             low: first,
-            high: (first + PORTS_BEHIND).min(LAST_PORT),
+            high: (first + PORTS_AFTER).min(LAST_PORT),
         },
     }
 }

@@ -2,7 +2,7 @@ use Rattle.std.proofs.Common.{◌≡◌, ap, ◌∙◌, arith}
 use Rattle.field_defs.specs.Layout.{key_len_of}
 use Rattle.field_defs.specs.Lawful.{IsLayout}
 use Rattle.field_defs.proofs.Offered.{short_keys}
-use Rattle.acl_audit.specs.Traced.{places_of}
+use Rattle.table_sizes.specs.Groups.{kept_places}
 use Rattle.acl_audit.specs.Ways.{AreMerged}
 use Rattle.acl_audit.proofs.Ready.{states_fit}
 use Rattle.acl_audit.proofs.trace.way_of.Goals as goal
@@ -41,6 +41,6 @@ returns c =
     record {
       its = its;
       links_are = c.in_ok-links.ensures;
-      places_are = c.in_ok-places.ensures ∙ (λ i. places_of (c.kept.ensures i) (len_is i));
+      places_are = c.in_ok-places.ensures ∙ (λ i. kept_places (len_is i) (c.kept.ensures i));
       len_is = len_is;
     }

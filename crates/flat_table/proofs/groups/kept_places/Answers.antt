@@ -1,7 +1,7 @@
 use Rattle.std.proofs.Common.{arith}
 use Rattle.std.proofs.lemmas.Grind.{common_steps}
 use Rattle.list_lemmas.proofs.Positions.{filter-range-push}
-use Rattle.flat_table.specs.Groups.{is_kept}
+use Rattle.table_sizes.specs.Groups.{is_kept}
 use Rattle.flat_table.proofs.groups.kept_places.Goals.{then-is_kept, else-is_kept}
 use Rattle.flat_table.proofs.groups.kept_places.Goals as goal
 

@@ -1,7 +1,7 @@
 -- the kept places below the one at hand, of which there are no more than places
 use Rattle.std.proofs.Common.{◌≡◌, ◌≤◌, length, filter}
 use Rattle.std.specs.List.{range_with_len}
-use Rattle.flat_table.specs.Groups.{is_kept}
+use Rattle.table_sizes.specs.Groups.{is_kept}
 use Rattle.flat_table.proofs.groups.kept_places.Given as goal
 
 abbrev pub invariant-loop-place : goal.invariant-loop-place

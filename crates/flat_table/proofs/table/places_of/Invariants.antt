@@ -1,7 +1,7 @@
 -- the places of the tries so far
 use Rattle.std.proofs.Common.{◌≡◌, ℕ, length, map, take}
 use Rattle.arrayvec.specs.ArrayVec.{ArrayVec}
-use Rattle.flat_table.specs.Groups.{kept_places}
+use Rattle.table_sizes.specs.Groups.{kept_places}
 use Rattle.flat_table.proofs.table.places_of.Given as goal
 
 abbrev pub invariant-loop-kept : goal.invariant-loop-kept

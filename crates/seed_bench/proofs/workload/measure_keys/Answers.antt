@@ -3,7 +3,8 @@ use Rattle.std.proofs.Common.{◌≡◌, ◌+◌, length, Option, Some, IfSome, 
 use Rattle.std.specs.List.{concat}
 use Rattle.std.specs.Option.{unwrap_or}
 use Rattle.rule_set.specs.Rule.{RuleSetView}
-use Rattle.flat_table.specs.Batch.{batch_transitions, most_keys}
+use Rattle.table_sizes.specs.Sizes.{max_keys}
+use Rattle.flat_table.specs.Batch.{batch_transitions}
 use Rattle.flat_table.specs.Table.{TableView, words_of}
 use Rattle.acl_context.specs.Batch.{verdicts_by_rules}
 use Rattle.command_words.specs.CommandLine.{numbers_in}
@@ -23,7 +24,7 @@ pub table_tally-requires-clause-few : goal.table_tally-requires-clause-few
 table_tally-requires-clause-few g c =
     let numbers = numbers_in c.args.numbers in
     let bytes : c.deref.result.now ≡ concat (keys_drawn numbers) = c.deref.ensures.value ∙ c.requires.keys in
-    few_bytes c.deref.result.now numbers.packets most_keys (ap (λ b. length b) bytes ∙ length-drawn numbers)
+    few_bytes c.deref.result.now numbers.packets max_keys (ap (λ b. length b) bytes ∙ length-drawn numbers)
     c.args.numbers.few_packets
 
 pub returns-clause-measured : goal.returns-clause-measured
