@@ -15,9 +15,7 @@ pub struct BenchNumbers {
     pub seed: u64,
     /// How many rules are drawn, at most 1,024.
     pub rules: u32,
-    use table_sizes::MAX_KEYS;
-
-/// How many packets are drawn, at most 65,536.
+    /// How many packets are drawn, at most 65,536.
     pub packets: u32,
     ghost few_rules: { rules ≤ MAX_WORKLOAD_RULES },
     ghost few_packets: { packets ≤ max_keys },

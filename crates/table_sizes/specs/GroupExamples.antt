@@ -18,7 +18,7 @@ longest : max_key_len ≡ 1 + 63 * 8
 longest = refl
 
 -- the keys of packets: a byte, and what two addresses and two ports take
-of_packets : ip4_key_len ∷ ip6_key_len ∷ [] ≡ 1 + 2 * 4 + 2 * 2 ∷ 1 + 2 * 16 + 2 * 2 ∷ []
+of_packets : ip4_key_len ∷ ip6_key_len ∷ [] ≡ (1 + 2 * 4 + 2 * 2) ∷ (1 + 2 * 16 + 2 * 2) ∷ []
 of_packets = refl
 
 -- the places of group 0, of group 1, and of groups 0 and 3
