@@ -4,5 +4,6 @@
 pub use Rattle.capture_report.proofs.WholeRecords.{report-begins}
 -- a report tells at most a transition for each trie and byte of the key of each packet
 pub use Rattle.capture_report.proofs.Bounds.{report_bound}
--- what answers as the tables do reports the same of a capture whose packets are of bytes
+-- report_alike: what answers as the tables do reports the same of a capture whose packets are of bytes
+-- categories_few: a lawful number of categories is at most the most verdicts of a packet
 pub use Rattle.capture_report.proofs.Alike.{report_alike, categories_few}

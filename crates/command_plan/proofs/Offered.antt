@@ -2,10 +2,11 @@
 
 -- what a sink gained that was given nothing
 pub use Rattle.command_plan.proofs.Gained.{Gains-none}
--- a text begins with another, of which nothing is one
+-- BeginsWith: a text begins with another
+-- BeginsWith-nothing: and each text with the one of no byte
 pub use Rattle.command_plan.proofs.Told.{BeginsWith, BeginsWith-nothing}
--- What a plan prints while it reads a file is the first part of what is printed in all; and so it is after a value that
--- needs no file.
+-- IsFaithful: what a plan prints while it reads a file is the first part of what is printed in all
+-- faithful_unless: so it is of a plan that stops where a result is refused, and else goes on faithfully with its value
 pub use Rattle.command_plan.proofs.Told.{IsFaithful, faithful_unless}
 -- where the files are told, a command ends by the outcome of the files
 pub use Rattle.command_plan.proofs.Told.{Ends-told}
@@ -21,19 +22,25 @@ pub use Rattle.command_plan.proofs.Stops.{Ends-stopped}
 pub use Rattle.command_plan.proofs.Stops.{Ends-full}
 -- the lines of an outcome were put, and the transitions counted
 pub use Rattle.command_plan.proofs.Stops.{Ends-put}
--- the file of an outcome was made, or it couldn't be made whole
+-- Ends-made: the file of an outcome was made, and the command ends with Done
+-- Ends-broken: it couldn't be made whole, and the command ends with a write fault
 pub use Rattle.command_plan.proofs.Stops.{Ends-made, Ends-broken}
--- a file was read and its bytes give a value or are refused, or it wasn't read to its end
+-- Takes-read: a file was read, and its bytes give a value or are refused
+-- Takes-unread: it wasn't read to its end, and the step ends with the status of the reading
 pub use Rattle.command_plan.proofs.Links.{Takes-read, Takes-unread}
--- a step ended the command, or gave its value to the rest
+-- Ends-cut: a step ended the command
+-- Ends-then: a step gave its value, and the rest ended the command
 pub use Rattle.command_plan.proofs.Links.{Ends-cut, Ends-then}
 -- a fault of the desk, for a reason that follows from another
 pub use Rattle.command_plan.proofs.Links.{CannotRead-because}
--- what was heard of a file that was opened and read, and that it is a part of the told file
+-- heard_file: what was heard of a file that was opened and read stands before what was heard earlier
+-- part_told: what was read is a part of the told file
 pub use Rattle.command_plan.proofs.Inputs.{heard_file, part_told}
--- the opened file is told, and it was there
+-- opened_told: where files are told, so is the opened one, and it is the one of the name
+-- opened_absent: an opened file was there, so no absent one is counted
 pub use Rattle.command_plan.proofs.Inputs.{opened_told, opened_absent}
--- a file that was opened and read is kept, and so is all where none was opened
+-- kept_files: the files are kept where one was opened and read
+-- unopened_kept: and where one couldn't be opened
 pub use Rattle.command_plan.proofs.Inputs.{kept_files, unopened_kept}
 -- a file that can't be opened is a fault of the desk, or it is absent
 pub use Rattle.command_plan.proofs.Inputs.{cannot_open}

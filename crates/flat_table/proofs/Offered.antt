@@ -20,7 +20,8 @@ pub use Rattle.flat_table.proofs.Transitions.{row_is}
 pub use Rattle.flat_table.proofs.Transitions.{transitions_are}
 -- and at most one for each kept place
 pub use Rattle.flat_table.proofs.Transitions.{transitions_bound}
--- where a match stands after n bytes, the walk has ended: its row, and its transitions
+-- row_at_match: where a match stands after n bytes, the walk has ended: its row is the one that the match names
+-- transitions_at_match: and its transitions are those of the n bytes
 pub use Rattle.flat_table.proofs.Transitions.{row_at_match, transitions_at_match}
 -- ---- a walk on its way through a sound table
 
@@ -36,9 +37,11 @@ pub use Rattle.flat_table.proofs.Lanes.{goes}
 pub use Rattle.flat_table.proofs.Lanes.{ends_at_match}
 -- ---- what makes a table sound
 
--- the levels of a trie, and those after them
+-- levels-take: the first few levels are those of the first few lengths
+-- levels-drop: the levels after them begin where they end
 pub use Rattle.flat_table.proofs.Levels.{levels-take, levels-drop}
 -- what the shape of parts says, fact by fact
 pub use Rattle.flat_table.proofs.Shape.{IsShaped}
--- what is sound is shaped, and no root and no word is unsound
+-- IsSound: a table is shaped, and no root and no word is unsound
+-- sound_parts: so it is of a table without a fault
 pub use Rattle.flat_table.proofs.Shape.{IsSound, sound_parts}

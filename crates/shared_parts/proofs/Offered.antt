@@ -28,7 +28,7 @@ pub use Rattle.shared_parts.proofs.Leading.{entry_is_led}
 pub use Rattle.shared_parts.proofs.Covering.{RestIs, rest_all, piece_from, piece_small, piece_at, rest_on, rest_below}
 pub use Rattle.shared_parts.proofs.Covering.{rest_some, rest_end, no_piece}
 -- row_grows, row_alone, row_is: a number of a row among more; a row has one number, and a number one row
--- get-join: the rank of a category in two rows as one
+-- get-join-any: the rank of a category in two rows as one, where either may be missing
 pub use Rattle.shared_parts.proofs.RowLaws.{row_grows, row_alone, row_is, get-join-any}
 -- set_done, set_left: a list that is written element by element
 pub use Rattle.shared_parts.proofs.RowLaws.{set_done, set_left}

@@ -2,6 +2,7 @@
 
 -- of every image its pair is read
 pub use Rattle.table_image.proofs.Images.{image_spelled}
--- how many bytes a number has that is spelled, and a list of them
+-- a number that is spelled by so many bytes has as many
 pub use Rattle.table_image.proofs.Fields.{length_spelled}
+-- and a list of numbers has as many for each of them
 pub use Rattle.table_image.proofs.NumbersRead.{length-all_spelled}
