@@ -26,7 +26,7 @@ use Rattle.pcapng_reader.specs.declared.front.Front.{Front}
 use Rattle.pcapng_reader.specs.declared.said.Said.{Said}
 use Rattle.pcapng_reader.specs.declared.said.Said.TheVariants as said
 use Rattle.pcapng_reader.specs.Reading.{HasRead, HasBroken, HasRoom, BlockStands, IsHead, ReadsBlock, block_read}
-use Rattle.pcapng_reader.specs.Reading.{captured_by, read_of}
+use Rattle.pcapng_reader.specs.Reading.{EndIn, captured_by, read_of}
 use Rattle.pcapng_reader.proofs.BlockLaws.{HasFront-from, front-append, said-append, said-cut_head}
 use Rattle.pcapng_reader.proofs.BlockLaws.{said-fault, said-cut, said-other_end, said-whole, block-said_fault}
 use Rattle.pcapng_reader.proofs.BlockLaws.{block-whole}
@@ -112,11 +112,10 @@ said_kind Packet state front bytes link n is = refl
 said_kind Other state front bytes link n is = absurd (cc)
 
 -- All of it was read: what says what the block is, the captured bytes, and the rest.
-module _ (state : BlockState) (front : Front) (head captured tail : List ℕ) (x : Said) (end : ℕ) (old new : DeskView)
-    (is : front_of state head ≡ Ok front) (there : least_len front.kind - 4 ≤ length head)
-    (says : said_by front.kind state front head ≡ Ok x) (some : 4 ≤ length tail)
-    (total : length head + length captured + length tail ≡ front.total)
-    (ends : number_in front.order (drop (length tail - 4) tail) 0 4 ≡ end)
+module _ {state : BlockState} {front : Front} {x : Said} {head_size size end : ℕ} {head tail : List ℕ}
+    {old new : DeskView} (captured : List ℕ) (its : IsHead state front x head_size head)
+    (rest : EndIn front.order size end tail) (some : 4 ≤ size)
+    (total : length head + length captured + size ≡ front.total)
     (read : HasRead state ((head ++ captured) ++ tail) GoesOn old new) where
   abbrev all : List ℕ
   all = (head ++ captured) ++ tail
@@ -125,24 +124,27 @@ module _ (state : BlockState) (front : Front) (head captured tail : List ℕ) (x
   as_one = append_assoc head captured tail
 
   len : length all ≡ front.total
-  len = omega (arith, total, length-append (head ++ captured) tail, length-append head captured)
+  len = omega (arith, total, rest.len, length-append (head ++ captured) tail, length-append head captured)
 
   fronted : front_of state all ≡ Ok front
   fronted =
-      let facts = HasFront-from state head front is in
-      ap (front_of state) as_one ∙ front-append state head (captured ++ tail) facts.few facts.there ∙ is
+      let facts = HasFront-from state head front its.front_is in
+      ap (front_of state) as_one ∙ front-append state head (captured ++ tail) facts.few facts.there ∙ its.front_is
 
   says_all : said_by front.kind state front all ≡ Ok x
   says_all =
-      ap (said_by front.kind state front) as_one ∙ said-append front.kind state front head (captured ++ tail) there ∙
-      says
+      ap (said_by front.kind state front) as_one
+      ∙ said-append front.kind state front head (captured ++ tail) its.enough ∙ its.says
 
   there_all : least_len front.kind - 4 ≤ length all
-  there_all = omega (arith, there, length-append (head ++ captured) tail, length-append head captured)
+  there_all = omega (arith, its.enough, length-append (head ++ captured) tail, length-append head captured)
 
   end_is : number_in front.order all (front.total - 4) 4 ≡ end
-  end_is = end_of_tail front (head ++ captured) tail some len ∙ ends
+  end_is =
+      end_of_tail front (head ++ captured) tail (omega (arith, some, rest.len)) len
+      ∙ ap (λ n. number_in front.order (drop (n - 4) tail) 0 4) rest.len ∙ rest.number
 
+  -- the block ends in another number than its length
   pub long-other_end : end ≢ front.total → ReadsBlock state old new (Fault (PngLength (state.count + 1)))
   long-other_end isnt =
       ReadsBlock-plain state all GoesOn old new (PngLength (state.count + 1)) read (inl refl)
@@ -150,15 +152,16 @@ module _ (state : BlockState) (front : Front) (head captured tail : List ℕ) (x
       (said-other_end state front all x there_all says_all (omega (arith, len))
       (rw (ne_eqb (number_in front.order all (front.total - 4) 4) front.total (λ e. isnt (sym end_is ∙ e))) refl))) tt
 
+  -- or in its length
   pub long-whole : (buffer : List ℕ) → end ≡ front.total → take (captured_by x) buffer ≡ captured →
-      length captured ≡ captured_by x → (front.kind ≡ Packet → length head ≡ 28) →
+      length captured ≡ captured_by x →
       ReadsBlock state old new (block_read (state_said state front x) buffer (Ok (read_of x 0)))
-  long-whole buffer same holds fits at =
+  long-whole buffer same holds fits =
       ReadsBlock-is state all GoesOn old new _ read
       (block-whole state all front x fronted
       (said-whole state front all x there_all says_all (omega (arith, len))
       (rw (eq-eqb (number_in front.order all (front.total - 4) 4) front.total (end_is ∙ same)) refl))
-      ∙ came_to x says holds fits (drop_all front.total all (omega (arith, len))))
+      ∙ came_to x its.says holds fits (drop_all front.total all (omega (arith, len))))
       (stood x) (no_fault x)
     where
       came_to : (y : Said) → said_by front.kind state front head ≡ Ok y → take (captured_by y) buffer ≡ captured →
@@ -171,8 +174,8 @@ module _ (state : BlockState) (front : Front) (head captured tail : List ℕ) (x
       came_to (said.Packet link n) is_said holds fits none =
           let now = state_said state front (said.Packet link n) in
           let at_28 : drop 28 all ≡ captured ++ tail =
-          ap (drop 28) as_one ∙ drop_at head (captured ++ tail) 28 (at (said_kind front.kind state front head link n
-          is_said)) in
+          ap (drop 28) as_one ∙ drop_at head (captured ++ tail) 28
+          (its.len_is ∙ its.packet (said_kind front.kind state front head link n is_said)) in
           let bytes : take n (drop 28 all) ≡ take n buffer =
           ap (take n) at_28 ∙ take_at captured tail n fits ∙ sym holds in
           ap (λ (l : List ℕ). Given (record { link = link; bytes = l }) now (drop front.total all)) bytes

@@ -48,42 +48,51 @@ pub same_end : (front : Front) (block : List ℕ) (n : ℕ) → length block ≡
 same_end front block n len is same =
     rw (eq-eqb (number_in front.order block (front.total - 4) 4) front.total (sym (rw len at is) ∙ same)) refl
 
--- A front was read that isn't refused, and the rest of the block after it.
-module _ (state : BlockState) (front : Front) (first before rest : List ℕ) (old mid new : DeskView)
-    (is : front_of state first ≡ Ok front) (whole : length first ≡ front_len)
-    (fits : length rest ≡ length before) (total : front_len + length before ≡ front.total)
-    (read : HasRead state first GoesOn old mid) where
+-- A front was read that isn't refused, and the rest of the block has as much room as its length says.
+pub record HasFrontRead (state : BlockState) (front : Front) (first before rest : List ℕ) (old mid : DeskView) : Type 0
+  where
+  pub is : front_of state first ≡ Ok front
+  pub whole : length first ≡ front_len
+  pub fits : length rest ≡ length before
+  pub total : front_len + length before ≡ front.total
+  pub read : HasRead state first GoesOn old mid
+
+-- And then the rest of the block was read.
+module _ {state : BlockState} {front : Front} {first before rest : List ℕ} {old mid : DeskView}
+    (its : HasFrontRead state front first before rest old mid) where
   few : is_last state ≡ false
-  few = (HasFront-from state first front is).few
+  few = (HasFront-from state first front its.is).few
 
   -- the front stays whatever stands after it
   longer : (more : List ℕ) → front_of state (first ++ more) ≡ Ok front
-  longer more = front-append state first more few (omega (arith, whole)) ∙ is
+  longer more = front-append state first more few (omega (arith, its.whole)) ∙ its.is
 
   least : front_len ≤ least_len front.kind
   least = front_least front.kind
 
-  pub short-broken : {E : Type 0} (fault : E) → Fills before rest mid new (Err fault) →
+  -- a read failed in the rest
+  pub short-broken : {new : DeskView} {E : Type 0} (fault : E) → Fills before rest mid new (Err fault) →
       ReadsBlock state old new (Fault ReadFault)
-  short-broken fault filled =
+  short-broken {new} fault filled =
       ReadsBlock-broken state first (length first + length before) old new
-      (HasBroken-from state first before rest fault old mid new read filled)
-      (λ more less. short-stuck state (first ++ more) front.total (omega (arith, less, whole, total))
+      (HasBroken-from state first before rest fault old mid new its.read filled)
+      (λ more less. short-stuck state (first ++ more) front.total (omega (arith, less, its.whole, its.total))
       (λ other says. omega (arith, ap (λ f. f.total) (same other more says))))
     where
       same : (other : Front) (more : List ℕ) → front_of state (first ++ more) ≡ Ok other → front ≡ other
       same other more says = (let e = sym (longer more) ∙ says in cc)
 
-  pub short-cut_head : {E : Type 0} (count : ℕ) → Fills {E = E} before rest mid new (Ok count) →
+  -- the end of the file cuts what says what the block is
+  pub short-cut_head : {new : DeskView} {E : Type 0} (count : ℕ) → Fills {E = E} before rest mid new (Ok count) →
       count + front_len < least_len front.kind - 4 → least_len front.kind ≤ front.total →
       ReadsBlock state old new (Fault (PngCut (state.count + 1)))
-  short-cut_head count filled cut room =
+  short-cut_head {new} count filled cut room =
       let part : List ℕ = first ++ take count rest in
-      let less : count < length before = omega (arith, cut, room, total) in
+      let less : count < length before = omega (arith, cut, room, its.total) in
       let len : length part ≡ front_len + count =
-      omega (arith, whole, fits, less, length-append first (take count rest), length-take count rest) in
+      omega (arith, its.whole, its.fits, less, length-append first (take count rest), length-take count rest) in
       ReadsBlock-is state part Ended old new (Fault (PngCut (state.count + 1)))
-      (HasRead-short state first before rest count old mid new read less filled)
+      (HasRead-short state first before rest count old mid new its.read less filled)
       (block-said_fault state part front _ (longer (take count rest))
       (said-cut_head state front part (omega (arith, len, cut)))) refl (λ e. absurd (cc))
 
@@ -92,60 +101,66 @@ module _ (state : BlockState) (front : Front) (first before rest : List ℕ) (ol
   parts count = ap (λ (l : List ℕ). first ++ l) (sym (take-append-drop count rest))
       ∙ sym (append_assoc first (take count rest) (drop count rest))
 
-  pub short-refused : {E : Type 0} (count : ℕ) (fault : CaptureFault) → Fills {E = E} before rest mid new (Ok count) →
-      least_len front.kind - 4 ≤ front_len + count → count ≤ length before →
+  -- what the block says is refused
+  pub short-refused : {new : DeskView} {E : Type 0} (count : ℕ) (fault : CaptureFault) →
+      Fills {E = E} before rest mid new (Ok count) → least_len front.kind - 4 ≤ front_len + count →
+      count ≤ length before →
       said_by front.kind state front (first ++ rest) ≡ Err fault → ReadsBlock state old new (Fault fault)
-  short-refused count fault filled there within says =
+  short-refused {new} count fault filled there within says =
       let part : List ℕ = first ++ take count rest in
       let len : length part ≡ front_len + count =
-      omega (arith, whole, fits, within, length-append first (take count rest), length-take count rest) in
+      omega (arith, its.whole, its.fits, within, length-append first (take count rest), length-take count rest) in
       let enough : least_len front.kind - 4 ≤ length part = omega (arith, len, there) in
       let alone : said_by front.kind state front part ≡ Err fault =
       sym (said-append front.kind state front part (drop count rest) enough)
       ∙ ap (said_by front.kind state front) (sym (parts count)) ∙ says in
-      let either = HasRead-either state first before rest count old mid new read fits within filled in
+      let either = HasRead-either state first before rest count old mid new its.read its.fits within filled in
       ReadsBlock-plain state part either.0 old new fault either.2 either.1
       (block-said_fault state part front fault (longer (take count rest))
       (said-fault state front part fault enough alone))
       (said-plain front.kind state front part fault alone)
 
-  pub short-cut : {E : Type 0} (count : ℕ) (x : Said) → Fills {E = E} before rest mid new (Ok count) →
+  -- the end of the file cuts the block after that
+  pub short-cut : {new : DeskView} {E : Type 0} (count : ℕ) (x : Said) → Fills {E = E} before rest mid new (Ok count) →
       least_len front.kind - 4 ≤ front_len + count → count < length before →
       said_by front.kind state front (first ++ rest) ≡ Ok x →
       ReadsBlock state old new (Fault (PngCut (state.count + 1)))
-  short-cut count x filled there less says =
+  short-cut {new} count x filled there less says =
       let part : List ℕ = first ++ take count rest in
       let len : length part ≡ front_len + count =
-      omega (arith, whole, fits, less, length-append first (take count rest), length-take count rest) in
+      omega (arith, its.whole, its.fits, less, length-append first (take count rest), length-take count rest) in
       let enough : least_len front.kind - 4 ≤ length part = omega (arith, len, there) in
       let alone : said_by front.kind state front part ≡ Ok x =
       sym (said-append front.kind state front part (drop count rest) enough)
       ∙ ap (said_by front.kind state front) (sym (parts count)) ∙ says in
       ReadsBlock-is state part Ended old new (Fault (PngCut (state.count + 1)))
-      (HasRead-short state first before rest count old mid new read less filled)
+      (HasRead-short state first before rest count old mid new its.read less filled)
       (block-said_fault state part front _ (longer (take count rest))
-      (said-cut state front part x enough alone (omega (arith, len, less, total)))) refl (λ e. absurd (cc))
+      (said-cut state front part x enough alone (omega (arith, len, less, its.total)))) refl (λ e. absurd (cc))
 
   all_len : length (first ++ rest) ≡ front.total
-  all_len = omega (arith, whole, fits, total, length-append first rest)
+  all_len = omega (arith, its.whole, its.fits, its.total, length-append first rest)
 
-  pub short-other_end : {E : Type 0} (x : Said) → Fills {E = E} before rest mid new (Ok (length before)) →
+  -- the block ends in another number than its length
+  pub short-other_end : {new : DeskView} {E : Type 0} (x : Said) →
+      Fills {E = E} before rest mid new (Ok (length before)) →
       least_len front.kind - 4 ≤ front.total → said_by front.kind state front (first ++ rest) ≡ Ok x →
       has_other_end front (first ++ rest) ≡ true → ReadsBlock state old new (Fault (PngLength (state.count + 1)))
-  short-other_end x filled there says other =
+  short-other_end {new} x filled there says other =
       ReadsBlock-plain state (first ++ rest) GoesOn old new (PngLength (state.count + 1))
-      (HasRead-full state first before rest old mid new read fits filled) (inl refl)
+      (HasRead-full state first before rest old mid new its.read its.fits filled) (inl refl)
       (block-said_fault state (first ++ rest) front _ (longer rest)
       (said-other_end state front (first ++ rest) x (omega (arith, all_len, there)) says (omega (arith, all_len))
       other)) tt
 
-  pub short-whole : {E : Type 0} (x : Said) → Fills {E = E} before rest mid new (Ok (length before)) →
+  -- or in its length
+  pub short-whole : {new : DeskView} {E : Type 0} (x : Said) → Fills {E = E} before rest mid new (Ok (length before)) →
       least_len front.kind - 4 ≤ front.total → said_by front.kind state front (first ++ rest) ≡ Ok x →
       has_other_end front (first ++ rest) ≡ false →
       ReadsBlock state old new (block_read (state_said state front x) (first ++ rest) (Ok (read_of x 28)))
-  short-whole x filled there says same =
+  short-whole {new} x filled there says same =
       ReadsBlock-is state (first ++ rest) GoesOn old new _
-      (HasRead-full state first before rest old mid new read fits filled)
+      (HasRead-full state first before rest old mid new its.read its.fits filled)
       (block-whole state (first ++ rest) front x (longer rest)
       (said-whole state front (first ++ rest) x (omega (arith, all_len, there)) says (omega (arith, all_len)) same)
       ∙ none_after x (drop_all front.total (first ++ rest) (omega (arith, all_len))))

@@ -8,7 +8,7 @@ use Rattle.shared_parts.specs.declared.target.Target.{Target}
 use Rattle.shared_parts.specs.Keys.{KeyAt, same_pair}
 use Rattle.shared_parts.specs.Target.{count, Grows, JoinsIn, HasEntry, Leads}
 use Rattle.shared_parts.specs.Pieces.{number_at, Covers, PiecesLead, Pushed, Merges}
-use Rattle.shared_parts.proofs.Leading.{count_grows, grows_on, leads_grow, pair_is_led}
+use Rattle.shared_parts.proofs.Leading.{count_grows, grows_on, leads_grow, PairLeads, pair_is_led}
 
 pub covers_rise : (first end : ℕ) (pieces : List Piece) → Covers first pieces end → first ≤ end
 covers_rise first end [] is = omega (arith, is)
@@ -181,21 +181,37 @@ pub record Merged (old now : Target) (one other pieces : List Piece) (i j first 
       0 < a → 0 < b → PiecesLead step pairs old a one → PiecesLead step pairs old b other →
       (byte : ℕ) → byte < first → Leads (step byte) pairs now part (number_at pieces byte)
 
-module _ (old now new : Target) (one other pieces pieces' : List Piece) (i j first : ℕ) (below : first < 256)
-    (so_far : Merged old now one other pieces i j first) (mine its : Piece) (mine_is : mine ≡ get_or one i no_piece)
-    (its_is : its ≡ get_or other j no_piece) where
+-- The target has grown, by no entries, and has the number that stands for two together.
+pub record HasJoined (now new : Target) (mine its to : ℕ) : Type 0 where
+  pub grows : Grows now new
+  pub entries : (entry : ℕ) → HasEntry new entry → HasEntry now entry
+  pub joins : JoinsIn new mine its to
+  pub within : to ≤ count new
+
+module _ {old now : Target} {one other pieces : List Piece} {i j first : ℕ} (below : first < 256)
+    (so_far : Merged old now one other pieces i j first) where
+  -- the piece of the one list that has the first byte
+  abbrev mine : Piece
+  mine = get_or one i no_piece
+
+  -- and that of the other list
+  abbrev its : Piece
+  its = get_or other j no_piece
+
+  -- neither ends before that byte
   pub left_from : first ≤ mine.last
-  left_from = piece_from one i first below so_far.left mine mine_is
+  left_from = piece_from one i first below so_far.left mine refl
 
   pub right_from : first ≤ its.last
-  right_from = piece_from other j first below so_far.right its its_is
+  right_from = piece_from other j first below so_far.right its refl
 
+  -- the numbers of both are there
   pub left_within : ((byte : ℕ) → byte < 256 → number_at one byte ≤ count old) → mine.to ≤ count now
   left_within all =
       omega (
         arith,
         all first below,
-        piece_at one i first below so_far.left mine mine_is first (omega arith) left_from,
+        piece_at one i first below so_far.left mine refl first (omega arith) left_from,
         count_grows old now so_far.grows,
       )
 
@@ -204,45 +220,50 @@ module _ (old now new : Target) (one other pieces pieces' : List Piece) (i j fir
       omega (
         arith,
         all first below,
-        piece_at other j first below so_far.right its its_is first (omega arith) right_from,
+        piece_at other j first below so_far.right its refl first (omega arith) right_from,
         count_grows old now so_far.grows,
       )
 
-  pub one_merged : (last to : ℕ) → first ≤ last → last ≤ mine.last → last ≤ its.last → Grows now new →
-      ((entry : ℕ) → HasEntry new entry → HasEntry now entry) →
-      JoinsIn new mine.to its.to to → to ≤ count new → Pushed pieces pieces' last to →
+  -- the numbers of both pieces are joined, and those of the bytes up to the last are that of both
+  pub one_merged : {new : Target} {pieces' : List Piece} {last to : ℕ} → first ≤ last → last ≤ mine.last →
+      last ≤ its.last → HasJoined now new mine.to its.to to → Pushed pieces pieces' last to →
       Merged old new one other pieces' (cond (mine.last == last) (i + 1) i) (cond (its.last == last) (j + 1) j)
       (last + 1)
-  one_merged last to from in_mine in_its grows entries joins within pushed = record {
-    grows = grows_on old now new so_far.grows grows;
-    entries = λ entry has. so_far.entries entry (entries entry has);
-    left = rest_on one i first below so_far.left mine mine_is last from in_mine;
-    right = rest_on other j first below so_far.right its its_is last from in_its;
+  one_merged {new} {pieces'} {last} {to} from in_mine in_its joined pushed = record {
+    grows = grows_on old now new so_far.grows joined.grows;
+    entries = λ entry has. so_far.entries entry (joined.entries entry has);
+    left = rest_on one i first below so_far.left mine refl last from in_mine;
+    right = rest_on other j first below so_far.right its refl last from in_its;
     covers = pushed.covers first so_far.covers from;
     leads = λ step pairs a b part at some more lead_a lead_b byte under. elim (cases_lt byte first) [
       | inl early ↦
           subst (Leads (step byte) pairs new part) (sym (pushed.before first byte so_far.covers from early))
-          (leads_grow (step byte) pairs now new part (number_at pieces byte) grows
+          (leads_grow (step byte) pairs now new part (number_at pieces byte) joined.grows
           (so_far.leads step pairs a b part at some more lead_a lead_b byte early))
       | inr late ↦
-          let all : Grows old new = grows_on old now new so_far.grows grows in
-          let small : byte < 256 =
-          omega (arith, under, in_mine, piece_small one i first below so_far.left mine mine_is) in
-          let mine_at = piece_at one i first below so_far.left mine mine_is byte late (omega (arith, under, in_mine)) in
-          let its_at = piece_at other j first below so_far.right its its_is byte late (omega (arith, under, in_its)) in
+          let all : Grows old new = grows_on old now new so_far.grows joined.grows in
+          let small : byte < 256 = omega (arith, under, in_mine, piece_small one i first below so_far.left mine refl) in
+          let mine_at = piece_at one i first below so_far.left mine refl byte late (omega (arith, under, in_mine)) in
+          let its_at = piece_at other j first below so_far.right its refl byte late (omega (arith, under, in_its)) in
+          let leads : PairLeads (step byte) pairs new part to a b mine.to its.to =
+          record {
+            pair = record { some = some; more = more; at = at };
+            left = leads_grow (step byte) pairs old new a mine.to all
+                (subst (Leads (step byte) pairs old a) mine_at (lead_a byte small));
+            right = leads_grow (step byte) pairs old new b its.to all
+                (subst (Leads (step byte) pairs old b) its_at (lead_b byte small));
+            joins = joined.joins;
+          } in
           subst (Leads (step byte) pairs new part)
           (sym (pushed.here first byte so_far.covers late (omega (arith, under))))
-          (pair_is_led (step byte) pairs new part to a b mine.to its.to at some more
-          (leads_grow (step byte) pairs old new a mine.to all
-          (subst (Leads (step byte) pairs old a) mine_at (lead_a byte small)))
-          (leads_grow (step byte) pairs old new b its.to all
-          (subst (Leads (step byte) pairs old b) its_at (lead_b byte small))) joins within)
+          (pair_is_led (step byte) pairs new part to leads joined.within)
     ];
   }
 
-pub all_merged : (old now : Target) (one other pieces : List Piece) (i j first : ℕ) → 256 ≤ first
+-- at the end the pieces are those of the pair
+pub all_merged : {old now : Target} {one other pieces : List Piece} {i j first : ℕ} → 256 ≤ first
     → Merged old now one other pieces i j first → Merges old now one other pieces
-all_merged old now one other pieces i j first end so_far =
+all_merged {one = one} {pieces = pieces} {i = i} {first = first} end so_far =
     let last : first ≡ 256 = omega (arith, end, covers_rise first 256 (drop i one) so_far.left.covers) in
     record {
       grows = so_far.grows;

@@ -1,5 +1,5 @@
 -- Where parts lead.
-use Rattle.std.proofs.Common.{◌≡◌, ℕ, ◌<◌, ◌≤◌, List, [], ◌++◌, length, Option, Some, None, refl, sym, ◌∙◌}
+use Rattle.std.proofs.Common.{◌≡◌, ℕ, ◌≤◌, List, [], ◌++◌, length, Option, Some, None, refl, sym, ◌∙◌}
 use Rattle.std.proofs.Common.{ap, subst, inl, inr, arith, length-append}
 use Rattle.std.specs.List.{filter_map, cons_option}
 use Rattle.std.specs.Str.{bytes_eq}
@@ -15,7 +15,7 @@ use Rattle.shared_parts.specs.Rows.{row_of_entry, best_row, IsRow}
 use Rattle.shared_parts.specs.Target.{count, StandsIn, Grows, JoinsIn, IsEntryIn, IsFoundIn, Leads}
 use Rattle.shared_parts.proofs.Keys.{key_grows, key_some, key_is}
 use Rattle.shared_parts.proofs.RowLaws.{join-none, best_append, entry_has_rank, row_grows, some_row}
-use Rattle.shared_parts.proofs.Standing.{pair_sound, stands_grow, none_joined}
+use Rattle.shared_parts.proofs.Standing.{IsPair, pair_sound, stands_grow, none_joined}
 
 -- ---- numbers that come later
 
@@ -198,44 +198,44 @@ module _ (step : ℕ → Option ℕ) (pairs : List (ℕ × ℕ)) (target : Targe
       let same = key_is same_pair pair_sound pairs (x, y) (0, entry) part to at in
       absurd (omega (arith, some, ap (λ p. p.0) same))
 
+  -- A pair of parts, and where each of them leads: what those numbers are joined to is that of the pair.
+  pub record PairLeads (one other mine its : ℕ) : Type 0 where
+    pub pair : IsPair pairs one other part
+    pub left : Leads step pairs target one mine
+    pub right : Leads step pairs target other its
+    pub joins : JoinsIn target mine its number
+
   -- a pair leads to what its parts lead to, joined
-  pair_leads : (one other mine its : ℕ) → KeyAt same_pair pairs (one, other) part → 0 < one → 0 < other →
-      Leads step pairs target one mine → Leads step pairs target other its → JoinsIn target mine its number
-      → (tree : Tree) (entries : ℕ → Option ℕ) → Stands pairs tree entries part
-      → StandsIn target tree (stepped step entries) number
-  pair_leads one other mine its at some more a b joins (Leaf rule) entries stands = absurd (by (entries rule) stands)
+  pair_leads : {one other mine its : ℕ} → PairLeads one other mine its → (tree : Tree) (entries : ℕ → Option ℕ)
+      → Stands pairs tree entries part → StandsIn target tree (stepped step entries) number
+  pair_leads {one = one} {other = other} leads (Leaf rule) entries stands = absurd (by (entries rule) stands)
     where
       by : (before : Option ℕ) → IsLeaf pairs before part → ⊥
-      by None is = omega (arith, is, key_some same_pair pairs (one, other) part at)
+      by None is = omega (arith, is, key_some same_pair pairs (one, other) part leads.pair.at)
       by (Some e) is =
-          omega (arith, some, ap (λ p. p.0) (key_is same_pair pair_sound pairs (0, e) (one, other) part is at))
-  pair_leads one other mine its at some more a b joins (Node left right) entries (x, y, sl, sr, inl (none, is)) =
+          let same = key_is same_pair pair_sound pairs (0, e) (one, other) part is leads.pair.at in
+          omega (arith, leads.pair.some, ap (λ p. p.0) same)
+  pair_leads leads (Node left right) entries (x, y, sl, sr, inl (none, is)) =
       only_right left right (stepped step entries) target number
       (nothing_after step left entries (nothing pairs left entries (subst (Stands pairs left entries) none sl)))
-      (pair_leads one other mine its at some more a b joins right entries
-      (subst (Stands pairs right entries) (sym is) sr))
-  pair_leads one other mine its at some more a b joins (Node left right) entries (x, y, sl, sr, inr (inl (none, is))) =
+      (pair_leads leads right entries (subst (Stands pairs right entries) (sym is) sr))
+  pair_leads leads (Node left right) entries (x, y, sl, sr, inr (inl (none, is))) =
       only_left left right (stepped step entries) target number
       (nothing_after step right entries (nothing pairs right entries (subst (Stands pairs right entries) none sr)))
-      (pair_leads one other mine its at some more a b joins left entries
-      (subst (Stands pairs left entries) (sym is) sl))
-  pair_leads one other mine its at some more a b joins (Node left right) entries
-      (x, y, sl, sr, inr (inr (some', more', to))) =
-      let same = key_is same_pair pair_sound pairs (x, y) (one, other) part to at in
+      (pair_leads leads left entries (subst (Stands pairs left entries) (sym is) sl))
+  pair_leads {one} {other} {mine} {its} leads (Node left right) entries (x, y, sl, sr, inr (inr (some, more, to))) =
+      let same = key_is same_pair pair_sound pairs (x, y) (one, other) part to leads.pair.at in
       let e : x ≡ one = ap (λ p. p.0) same in
       let d : y ≡ other = ap (λ p. p.1) same in
-      joined_stands left right (stepped step entries) target mine its number joins
-      (a.stands left entries (subst (Stands pairs left entries) e sl))
-      (b.stands right entries (subst (Stands pairs right entries) d sr))
+      joined_stands left right (stepped step entries) target mine its number leads.joins
+      (leads.left.stands left entries (subst (Stands pairs left entries) e sl))
+      (leads.right.stands right entries (subst (Stands pairs right entries) d sr))
 
   pub entry_is_led : (entry : ℕ) → KeyAt same_pair pairs (0, entry) part → IsFoundIn target (step entry) number
       → number ≤ count target → Leads step pairs target part number
   entry_is_led entry at found within = record { within = within; stands = entry_leads entry at found }
 
-  pub pair_is_led : (one other mine its : ℕ) → KeyAt same_pair pairs (one, other) part → 0 < one → 0 < other →
-      Leads step pairs target one mine → Leads step pairs target other its → JoinsIn target mine its number
-      → number ≤ count target → Leads step pairs target part number
-  pair_is_led one other mine its at some more a b joins within = record {
-    within = within;
-    stands = pair_leads one other mine its at some more a b joins;
-  }
+  -- and to a number that is there
+  pub pair_is_led : {one other mine its : ℕ} → PairLeads one other mine its → number ≤ count target
+      → Leads step pairs target part number
+  pair_is_led leads within = record { within = within; stands = pair_leads leads }

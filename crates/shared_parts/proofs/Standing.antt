@@ -20,6 +20,12 @@ abbrev pub SameOn : Tree → (ℕ → Option ℕ) → (ℕ → Option ℕ) → T
 SameOn (Leaf rule) f g = f rule ≡ g rule
 SameOn (Node left right) f g = SameOn left f g × SameOn right f g
 
+-- The number is that of a pair of two parts.
+pub record IsPair (pairs : List (ℕ × ℕ)) (one other number : ℕ) : Type 0 where
+  pub some : 0 < one
+  pub more : 0 < other
+  pub at : KeyAt same_pair pairs (one, other) number
+
 module _ (pairs more : List (ℕ × ℕ)) where
   pub joins_grow : (left right number : ℕ) → Joins pairs left right number → Joins (pairs ++ more) left right number
   joins_grow left right number (inl a) = inl a
@@ -156,29 +162,33 @@ module _ (pairs : List (ℕ × ℕ)) where
         by None is = omega (arith, is, key_some same_pair pairs (x, y) number at)
         by (Some e) is = omega (arith, some, (one_key (0, e) (x, y) number is at).0)
 
+    -- A pair of parts stands for the rules of two trees, and what their numbers stand for is known.
+    record PairStands (left right : Tree) (x y number : ℕ) : Type 0 where
+      pair : IsPair pairs x y number
+      one : Stands pairs left f x
+      other : Stands pairs right f y
+      on_left : (tree : Tree) → Same left tree
+      on_right : (tree : Tree) → Same right tree
+
     -- a pair of parts and any tree
-    pair_same : (left right : Tree) (x y number : ℕ) → Stands pairs left f x → Stands pairs right f y → 0 < x → 0 < y →
-        KeyAt same_pair pairs (x, y) number → ((other : Tree) → Same left other)
-        → ((other : Tree) → Same right other) → (other : Tree) → Stands pairs other g number
-        → filter_map f (leaves (Node left right)) ≡ filter_map g (leaves other)
-    pair_same left right x y number sl sr some more at on_left on_right (Leaf rule) b = absurd (by (g rule) b)
+    pair_same : {left right : Tree} {x y number : ℕ} → PairStands left right x y number → (other : Tree)
+        → Stands pairs other g number → filter_map f (leaves (Node left right)) ≡ filter_map g (leaves other)
+    pair_same {x = x} {y = y} {number = number} stands (Leaf rule) b = absurd (by (g rule) b)
       where
         by : (found : Option ℕ) → IsLeaf pairs found number → ⊥
-        by None is = omega (arith, is, key_some same_pair pairs (x, y) number at)
-        by (Some e) is = omega (arith, some, (one_key (x, y) (0, e) number at is).0)
-    pair_same left right x y number sl sr some more at on_left on_right (Node l r) (x', y', tl, tr, inl (none, is)) =
-        pair_same left right x y number sl sr some more at on_left on_right r (subst (Stands pairs r g) (sym is) tr)
+        by None is = omega (arith, is, key_some same_pair pairs (x, y) number stands.pair.at)
+        by (Some e) is = omega (arith, stands.pair.some, (one_key (x, y) (0, e) number stands.pair.at is).0)
+    pair_same stands (Node l r) (x', y', tl, tr, inl (none, is)) =
+        pair_same stands r (subst (Stands pairs r g) (sym is) tr)
         ∙ sym (none_before l r g (subst (Stands pairs l g) none tl))
-    pair_same left right x y number sl sr some more at on_left on_right (Node l r)
-        (x', y', tl, tr, inr (inl (none, is))) =
-        pair_same left right x y number sl sr some more at on_left on_right l (subst (Stands pairs l g) (sym is) tl)
+    pair_same stands (Node l r) (x', y', tl, tr, inr (inl (none, is))) =
+        pair_same stands l (subst (Stands pairs l g) (sym is) tl)
         ∙ sym (none_after l r g (subst (Stands pairs r g) none tr))
-    pair_same left right x y number sl sr some more at on_left on_right (Node l r)
-        (x', y', tl, tr, inr (inr (some', more', to))) =
-        let same = one_key (x, y) (x', y') number at to in
+    pair_same {left} {right} {x} {y} {number} stands (Node l r) (x', y', tl, tr, inr (inr (some, more, to))) =
+        let same = one_key (x, y) (x', y') number stands.pair.at to in
         filter_map-append f (leaves left) (leaves right)
-        ∙ (λ i. on_left l x sl (subst (Stands pairs l g) (sym same.0) tl) i
-        ++ on_right r y sr (subst (Stands pairs r g) (sym same.1) tr) i)
+        ∙ (λ i. stands.on_left l x stands.one (subst (Stands pairs l g) (sym same.0) tl) i
+        ++ stands.on_right r y stands.other (subst (Stands pairs r g) (sym same.1) tr) i)
         ∙ sym (filter_map-append g (leaves l) (leaves r))
 
     -- parts of one number are equal
@@ -197,4 +207,11 @@ module _ (pairs : List (ℕ × ℕ)) where
             none_after left right f (subst (Stands pairs right f) none sr)
             ∙ on_left other number (subst (Stands pairs left f) (sym is) sl) b
         by number (x, y, sl, sr, inr (inr (some, more, at))) b on_left on_right =
-            pair_same left right x y number sl sr some more at on_left on_right other b
+            let stands : PairStands left right x y number =
+            record {
+              pair = record { some = some; more = more; at = at };
+              one = sl;
+              other = sr;
+              on_left = on_left;
+              on_right = on_right;
+            } in pair_same stands other b

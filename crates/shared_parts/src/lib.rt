@@ -12,21 +12,21 @@
 //! - `rows`: numbered rows, which follow the last place: the greatest rank of each category.
 //! - `target`: what bytes lead to, numbered parts or numbered rows.
 //! - `pieces`: where each byte leads from a part, and the merge of two parts' pieces.
-//! - `steps`, `slices`: the pieces of many parts, in one list with the ends of each.
+//! - `part_pieces`, `slices`: the pieces of many parts, in one list with the ends of each.
 //! - `room`: numbers that run out.
 #![tactic(auto)]
 
+mod part_pieces;
 mod parts;
 mod pieces;
 mod room;
 mod rows;
 mod slices;
-mod steps;
 mod target;
 
+pub use part_pieces::PartPieces;
 pub use parts::Parts;
 pub use pieces::{Piece, merge, push_piece};
 pub use rows::{Ranked, Rows};
 pub use slices::slice;
-pub use steps::Steps;
 pub use target::Target;

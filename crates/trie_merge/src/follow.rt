@@ -8,7 +8,7 @@ ghost use Rattle.group_states.specs.Entry.{ColumnView, entry_step, CanStep};
 ghost use Rattle.trie_merge.specs.Led.{EntryLed, PartLed, StepsLed, AllLed};
 
 use crate::column::Column;
-use shared_parts::{Parts, Piece, Steps, Target, merge, push_piece};
+use shared_parts::{PartPieces, Parts, Piece, Target, merge, push_piece};
 use std::alloc::AllocError;
 
 /// The number of what is left of one rule.
@@ -69,7 +69,7 @@ fn lead_entry(
 fn lead_part(
     column: &Column,
     parts: &Parts,
-    steps: &Steps,
+    steps: &PartPieces,
     target: &mut Target,
     index: usize,
     pieces: &mut Vec<Piece>,
@@ -95,7 +95,7 @@ fn lead_part(
 pub(crate) fn lead_parts(
     column: &Column,
     parts: &Parts,
-    steps: &mut Steps,
+    steps: &mut PartPieces,
     target: &mut Target,
     until: usize,
     pieces: &mut Vec<Piece>,

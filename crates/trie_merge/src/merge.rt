@@ -22,7 +22,7 @@ use crate::follow::lead_parts;
 use crate::number::join_runs;
 use group_states::Run;
 use indexmap::IndexSet;
-use shared_parts::{Parts, Piece, Rows, Steps, Target};
+use shared_parts::{PartPieces, Parts, Piece, Rows, Target};
 use std::alloc::{AllocError, Global};
 use table_sizes::{ROW_LEN, node_len};
 
@@ -144,7 +144,7 @@ pub(crate) struct Merged {
 /// and room for the pieces of a part.
 #[derive(Drop)]
 struct Work {
-    steps: Steps,
+    steps: PartPieces,
     cuts: Vec<Cuts>,
     buffer: Vec<Piece>,
 }
@@ -303,7 +303,7 @@ impl Progress {
         let found = IndexSet::with_capacity(alloc, states.min(FIRST_ROOM))?;
         Ok(Progress {
             work: Work {
-                steps: Steps::with_room(alloc, parts)?,
+                steps: PartPieces::with_room(alloc, parts)?,
                 cuts: Vec::with_capacity(alloc, parts.min(FIRST_ROOM))?,
                 buffer: Vec::new(alloc),
             },

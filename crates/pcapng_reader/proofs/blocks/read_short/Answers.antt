@@ -11,7 +11,7 @@ use Rattle.pcapng_reader.specs.declared.said.Said.TheVariants as said
 use Rattle.pcap_reader.specs.Fill.{Fills}
 use Rattle.pcapng_reader.specs.Reading.{HasRead, StandsWithin}
 use Rattle.pcapng_reader.proofs.BlockLaws.{HasFront-from}
-use Rattle.pcapng_reader.proofs.ShortLaws.{block-filled, short-broken, short-whole}
+use Rattle.pcapng_reader.proofs.ShortLaws.{HasFrontRead, block-filled, short-broken, short-whole}
 use Rattle.pcapng_reader.proofs.blocks.read_short.Goals as goal
 
 -- A block whose front was read has twelve bytes and as many more as its length says.
@@ -59,9 +59,16 @@ returns-in-Err-clause-block g c before h =
     let state = c.args.reader.now in
     let block = c.args.block.now in
     let is = cut state c.args.front.now block c.requires.front c.requires.total in
-    short-broken state c.args.front.now (take 12 block) _ c.fill.new.into before (g.D.Desk.view c.args.desk.now)
-    (g.D.Desk.view c.fill.new.desk) c.requires.front is.first c.fill.auto.into is.total h c.in-Err.field-0
-    c.in-Err.ensures
+    let of_front : HasFrontRead state c.args.front.now (take 12 block) (take (length block - 12) (drop 12 block))
+    c.fill.new.into before (g.D.Desk.view c.args.desk.now) =
+    record {
+      is = c.requires.front;
+      whole = is.first;
+      fits = c.fill.auto.into;
+      total = is.total;
+      read = h;
+    } in
+    short-broken of_front c.in-Err.field-0 c.in-Err.ensures
 
 pub packet_at-requires-clause-there : goal.packet_at-requires-clause-there
 packet_at-requires-clause-there g c =
@@ -109,16 +116,23 @@ returns-in-Some-clause-block g c since h =
     let front = c.args.front.now in
     let block = c.args.block.now in
     let place = c.in-Some.place in
-    let new = g.D.Desk.view c.fill.new.desk in
     let is = cut state front block c.requires.front c.requires.total in
     let now = is_filled block c.fill.new.into is.there (c.fill.auto.into ∙ is.rest) in
     let kind = c.in-Some.ensures.0 in
     let packet = c.in-Some.ensures.1 in
     let all : c.in-Ok.count ≡ length (take (length block - 12) (drop 12 block)) =
     omega (arith, packet.whole, now.len, is.rest, is.there) in
+    let of_front : HasFrontRead state front (take 12 block) (take (length block - 12) (drop 12 block))
+    c.fill.new.into since (g.D.Desk.view c.args.desk.now) =
+    record {
+      is = c.requires.front;
+      whole = is.first;
+      fits = c.fill.auto.into;
+      total = is.total;
+      read = h;
+    } in
     rw (now.parts, c.count_packet.ensures, packet.start)
-    (short-whole state front (take 12 block) _ c.fill.new.into since (g.D.Desk.view c.args.desk.now) new
-    c.requires.front is.first c.fill.auto.into is.total h {E = Failed} (said.Packet place.link place.len)
+    (short-whole of_front {E = Failed} (said.Packet place.link place.len)
     (rw all at c.in-Ok.ensures) (omega (arith, is.least))
     (ap (said_by front.kind state front) (sym now.parts)
     ∙ ap (λ k. said_by k state front (put_mid 12 (length block - 12) block c.fill.new.into)) kind ∙ packet.says)

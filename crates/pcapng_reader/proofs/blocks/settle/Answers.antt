@@ -11,28 +11,30 @@ use Rattle.pcapng_reader.specs.declared.front.Front.{Front}
 use Rattle.pcapng_reader.specs.Reading.{HasRest, ReadsBlock}
 use Rattle.pcapng_reader.proofs.BlockLaws.{HasFront-from}
 use Rattle.pcapng_reader.proofs.ShortLaws.{short-cut_head, short-refused, short-cut, other_end, same_end}
-use Rattle.pcapng_reader.proofs.ShortLaws.{short-other_end, short-whole}
+use Rattle.pcapng_reader.proofs.ShortLaws.{HasFrontRead, short-other_end, short-whole}
 use Rattle.pcapng_reader.proofs.ReadLaws.{as_read}
 use Rattle.pcapng_reader.proofs.blocks.settle.Goals as goal
 
--- A block whose front was read has twelve bytes and as many more as its length says.
-record IsCut (state : BlockState) (front : Front) (block before : List ℕ) : Type 0 where
-  first : length (take 12 block) ≡ 12
-  rest : length (drop 12 block) ≡ length before
-  total : 12 + length before ≡ front.total
+-- The front of a block was read, which has as many bytes more as its length says.
+record IsCut (state : BlockState) (front : Front) (block before : List ℕ) (old mid : DeskView) : Type 0 where
+  of_front : HasFrontRead state front (take 12 block) before (drop 12 block) old mid
   parts : take 12 block ++ drop 12 block ≡ block
   least : least_len front.kind ≤ front.total
 
 cut : (state : BlockState) (front : Front) (block : List ℕ) (count : ℕ) (old new : DeskView) →
     front_of state (take 12 block) ≡ Ok front → length block ≡ front.total →
-    (read : HasRest state block count old new) → IsCut state front block read.before
+    (read : HasRest state block count old new) → IsCut state front block read.before old read.mid
 cut state front block count old new is total read =
     let facts = HasFront-from state (take 12 block) front is in
     let there : 12 ≤ length block = omega (arith, facts.there, length-take 12 block) in
     record {
-      first = omega (arith, there, length-take 12 block);
-      rest = omega (arith, there, read.room, length-drop 12 block);
-      total = omega (arith, there, total, read.room);
+      of_front = record {
+        is = is;
+        whole = omega (arith, there, length-take 12 block);
+        fits = omega (arith, there, read.room, length-drop 12 block);
+        total = omega (arith, there, total, read.room);
+        read = read.front;
+      };
       parts = take-append-drop 12 block;
       least = facts.least;
     }
@@ -43,8 +45,7 @@ returns-then-len-least_len-clause-block c before after h =
     let block = c.args.block.now in
     let is = cut state c.args.front block c.args.count before after c.requires.front c.requires.total h in
     subst (λ n. ReadsBlock state before after (Fault (PngCut (n + 1)))) (sym (ap (λ s. s.count) c.reader.view_is))
-    (short-cut_head state c.args.front (take 12 block) h.before (drop 12 block) before h.mid after c.requires.front
-    is.first is.rest is.total h.front c.args.count h.rest
+    (short-cut_head is.of_front c.args.count h.rest
     (omega (arith, c.if-len-least_len.true, c.least_len.ensures)) is.least)
 
 pub returns-in-Err-clause-block : goal.returns-in-Err-clause-block
@@ -53,10 +54,9 @@ returns-in-Err-clause-block c before after h =
     let front = c.args.front in
     let block = c.args.block.now in
     let is = cut state front block c.args.count before after c.requires.front c.requires.total h in
-    short-refused state front (take 12 block) h.before (drop 12 block) before h.mid after c.requires.front is.first
-    is.rest is.total h.front c.args.count c.in-Err.fault h.rest
+    short-refused is.of_front c.args.count c.in-Err.fault h.rest
     (omega (arith, c.if-len-least_len.false, c.least_len.ensures))
-    (omega (arith, c.requires.within, c.requires.total, is.total))
+    (omega (arith, c.requires.within, c.requires.total, is.of_front.total))
     (ap (said_by front.kind state front) is.parts ∙ sym c.said.ensures.said ∙ c.in-Err.is)
 
 pub returns-then-len-block-clause-block : goal.returns-then-len-block-clause-block
@@ -66,10 +66,9 @@ returns-then-len-block-clause-block c before after h =
     let block = c.args.block.now in
     let is = cut state front block c.args.count before after c.requires.front c.requires.total h in
     subst (λ n. ReadsBlock state before after (Fault (PngCut (n + 1)))) (sym (ap (λ s. s.count) c.reader.view_is))
-    (short-cut state front (take 12 block) h.before (drop 12 block) before h.mid after c.requires.front is.first
-    is.rest is.total h.front c.args.count c.in-Ok.said h.rest
+    (short-cut is.of_front c.args.count c.in-Ok.said h.rest
     (omega (arith, c.if-len-least_len.false, c.least_len.ensures))
-    (omega (arith, c.if-len-block.true, c.requires.total, is.total))
+    (omega (arith, c.if-len-block.true, c.requires.total, is.of_front.total))
     (ap (said_by front.kind state front) is.parts ∙ sym c.said.ensures.said ∙ c.in-Ok.is))
 
 pub returns-then-u32_in-front-clause-block : goal.returns-then-u32_in-front-clause-block
@@ -79,10 +78,9 @@ returns-then-u32_in-front-clause-block c before after h =
     let block = c.args.block.now in
     let is = cut state front block c.args.count before after c.requires.front c.requires.total h in
     let all : c.args.count ≡ length h.before =
-    omega (arith, c.if-len-block.false, c.requires.within, c.requires.total, is.total) in
+    omega (arith, c.if-len-block.false, c.requires.within, c.requires.total, is.of_front.total) in
     subst (λ n. ReadsBlock state before after (Fault (PngLength (n + 1)))) (sym (ap (λ s. s.count) c.reader.view_is))
-    (short-other_end state front (take 12 block) h.before (drop 12 block) before h.mid after c.requires.front is.first
-    is.rest is.total h.front {E = Failed} c.in-Ok.said (rw all at h.rest) (omega (arith, is.least))
+    (short-other_end is.of_front {E = Failed} c.in-Ok.said (rw all at h.rest) (omega (arith, is.least))
     (ap (said_by front.kind state front) is.parts ∙ sym c.said.ensures.said ∙ c.in-Ok.is)
     (ap (has_other_end front) is.parts
     ∙ other_end front block c.u32_in.result c.requires.total c.u32_in.ensures c.if-u32_in-front.true))
@@ -94,10 +92,9 @@ returns-clause-block c before after h =
     let block = c.args.block.now in
     let is = cut state front block c.args.count before after c.requires.front c.requires.total h in
     let all : c.args.count ≡ length h.before =
-    omega (arith, c.if-len-block.false, c.requires.within, c.requires.total, is.total) in
+    omega (arith, c.if-len-block.false, c.requires.within, c.requires.total, is.of_front.total) in
     as_read (sym is.parts) c.learn.ensures c.read_of.ensures
-    (short-whole state front (take 12 block) h.before (drop 12 block) before h.mid after c.requires.front is.first
-    is.rest is.total h.front {E = Failed} c.in-Ok.said (rw all at h.rest) (omega (arith, is.least))
+    (short-whole is.of_front {E = Failed} c.in-Ok.said (rw all at h.rest) (omega (arith, is.least))
     (ap (said_by front.kind state front) is.parts ∙ sym c.said.ensures.said ∙ c.in-Ok.is)
     (ap (has_other_end front) is.parts
     ∙ same_end front block c.u32_in.result c.requires.total c.u32_in.ensures c.if-u32_in-front.false))

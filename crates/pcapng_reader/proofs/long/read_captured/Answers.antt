@@ -3,7 +3,6 @@ use Rattle.std.proofs.Common.{◌≡◌, ℕ, ◌+◌, ◌-◌, ◌≤◌, List,
 use Rattle.std.proofs.Common.{arith, length-append, length-take}
 use Rattle.std.proofs.lemmas.List.{take_at}
 use Rattle.pcap_reader.specs.declared.fault.CaptureFault.TheVariants.{PngCut, PngLength}
-use Rattle.pcap_reader.specs.Headers.{number_in}
 use Rattle.pcapng_reader.specs.Block.{Fault}
 use Rattle.pcapng_reader.specs.Reading.{EndIn, ReadsBlock, captured_by}
 use Rattle.pcapng_reader.proofs.LongLaws.{head-more, long-broken, long-cut, long-other_end, long-whole}
@@ -78,12 +77,9 @@ returns-then-end-front-clause-block g c before part head h =
     let len = captured_len c.args.buffer.now c.fill_part.new.into read.0 n read.1 c.fill_part.auto.into
     (omega (arith, c.requires.captured, c.captured_by-captured.ensures, c.requires.room)) in
     subst (λ k. ReadsBlock state before new (Fault (PngLength (k + 1)))) (sym (ap (λ s. s.count) c.reader.view_is))
-    (long-other_end state front part read.0 rest.0 c.args.said c.in-Ok-pass_over.end before new head.front_is
-    head.enough head.says
-    (omega (arith, rest.1.len, c.requires.head, c.requires.total, c.captured_by-captured.ensures))
-    (omega (arith, rest.1.len, len, head.len_is, c.requires.head, c.requires.total, c.captured_by-captured.ensures))
-    (subst (λ k. number_in front.order (drop (k - 4) rest.0) 0 4 ≡ c.in-Ok-pass_over.end) (sym rest.1.len)
-    rest.1.number)
+    (long-other_end read.0 head rest.1
+    (omega (arith, c.requires.head, c.requires.total, c.captured_by-captured.ensures))
+    (omega (arith, len, head.len_is, c.requires.head, c.requires.total, c.captured_by-captured.ensures))
     rest.2 c.if-end-front.true)
 
 pub returns-clause-block : goal.returns-clause-block
@@ -101,14 +97,10 @@ returns-clause-block g c before part head h =
     ap (λ k. take k buffer) (sym c.captured_by-captured.ensures)
     ∙ take_at c.fill_part.new.into (drop n c.args.buffer.now) n (omega (arith, ap length read.1, len)) ∙ sym read.1 in
     as_read refl c.learn.ensures c.read_of.ensures
-    (long-whole state front part read.0 rest.0 c.args.said c.in-Ok-pass_over.end before new head.front_is
-    head.enough head.says
-    (omega (arith, rest.1.len, c.requires.head, c.requires.total, c.captured_by-captured.ensures))
-    (omega (arith, rest.1.len, len, head.len_is, c.requires.head, c.requires.total, c.captured_by-captured.ensures))
-    (subst (λ k. number_in front.order (drop (k - 4) rest.0) 0 4 ≡ c.in-Ok-pass_over.end) (sym rest.1.len)
-    rest.1.number)
-    rest.2 buffer c.if-end-front.false holds (len ∙ c.captured_by-captured.ensures)
-    (λ packet. head.len_is ∙ head.packet packet))
+    (long-whole read.0 head rest.1
+    (omega (arith, c.requires.head, c.requires.total, c.captured_by-captured.ensures))
+    (omega (arith, len, head.len_is, c.requires.head, c.requires.total, c.captured_by-captured.ensures))
+    rest.2 buffer c.if-end-front.false holds (len ∙ c.captured_by-captured.ensures))
 
 pub returns-in-Err-clause-stays : goal.returns-in-Err-clause-stays
 returns-in-Err-clause-stays g c = refl

@@ -8,12 +8,12 @@ use std::marker::Model;
 /// The pieces of parts, in the order of their numbers. Contracts see the list of the pieces of each
 /// part.
 #[derive(Drop)]
-pub struct Steps {
+pub struct PartPieces {
     pieces: Vec<Piece>,
     ends: Vec<usize>,
 }
 
-impl Model for Steps {
+impl Model for PartPieces {
     ghost use Rattle.std.specs.Prelude.{List, length};
     ghost use Rattle.shared_parts.specs.declared.pieces.Piece.{Piece};
     ghost use Rattle.shared_parts.specs.Slices.{pieces_of, IsPieces};
@@ -25,15 +25,15 @@ impl Model for Steps {
     ghost invariant = { λ s. IsPieces 0 s.ends.items (length s.pieces.items) };
 }
 
-impl Steps {
+impl PartPieces {
     ghost use Rattle.std.specs.Prelude.{◌≡◌, ◌<◌, ◌++◌, ◌∷◌, [], length, slice_index_or};
     ghost use Rattle.std.specs.Prelude.{OnOk, IfOk};
 
     /// Of no parts, with room for so many of one piece each. It takes the memory of that room.
     pub fn with_room(alloc: Global, count: usize) -> Result<Self, AllocError>
-        ensures { IfOk result (λ steps. steps ≡ []) }
+        ensures { IfOk result (λ pieces. pieces ≡ []) }
     {
-        Ok(Steps {
+        Ok(PartPieces {
             pieces: Vec::with_capacity(alloc, count)?,
             ends: Vec::with_capacity(alloc, count)?,
         })

@@ -1,10 +1,10 @@
 use Rattle.std.proofs.Common.{◌≡◌, length, sym, ◌∙◌, ap, arith}
 use Rattle.shared_parts.proofs.SliceLaws.{length-pieces}
-use Rattle.shared_parts.proofs.steps.Steps.len.Goals as goal
+use Rattle.shared_parts.proofs.part_pieces.PartPieces.pieces.Goals as goal
 
-pub returns : goal.returns
-returns c =
+pub slice-requires-clause-k : goal.slice-requires-clause-k
+slice-requires-clause-k c =
     let inside = c.self.inside in
     let long : length c.args.self.now ≡ length inside.ends.items = sym (ap length c.self.view_is)
     ∙ length-pieces inside.pieces.items 0 inside.ends.items in
-    omega (arith, long, c.len.ensures, inside.ends.ok)
+    omega (arith, long, c.requires, ap length c.as_slice-2.ensures.value)

@@ -2,7 +2,7 @@ use Rattle.std.proofs.Common.{◌≡◌, ℕ, ◌+◌, List, [], ◌∷◌, ◌+
 use Rattle.shared_parts.specs.declared.pieces.Piece.{Piece}
 use Rattle.shared_parts.specs.Slices.{pieces_of, IsPieces}
 use Rattle.shared_parts.proofs.SliceLaws.{pieces-push, IsPieces-push}
-use Rattle.shared_parts.proofs.steps.Steps.push.Goals as goal
+use Rattle.shared_parts.proofs.part_pieces.PartPieces.push.Goals as goal
 
 pub invariant_of-self-2 : goal.invariant_of-self-2
 invariant_of-self-2 c =
