@@ -1,6 +1,8 @@
 -- The first row of a half that answers unlike says the least key and category at which its two sets differ.
-use Rattle.std.proofs.Common.{◌≡◌, ℕ, zero, suc, ◌+◌, ◌-◌, ◌*◌, ◌<◌, ◌≤◌, ◌==◌, List, [], ◌∷◌, length, map, get_or, cond}
-use Rattle.std.proofs.Common.{Bool, true, false, not, ◌||◌, true≢false, ◌⊎◌, Option, Some, None, refl, sym, ◌∙◌, ap, subst}
+use Rattle.std.proofs.Common.{◌≡◌, ℕ, suc, ◌+◌, ◌-◌, ◌*◌, ◌<◌, ◌==◌, List, [], ◌∷◌, length, map, get_or}
+use Rattle.std.proofs.Common.{cond}
+use Rattle.std.proofs.Common.{Bool, true, false, not, true≢false, ◌⊎◌, Option, Some, None, refl, sym, ◌∙◌, ap}
+use Rattle.std.proofs.Common.{subst}
 use Rattle.std.proofs.Common.{inl, inr, arith, ◌↔◌, IfSome, IfOk, Result, Ok, Err}
 use Rattle.std.specs.List.{AllByRecursion, find, list_any, range_with_len}
 use Rattle.std.specs.Option.{option_map, is_some}
@@ -42,45 +44,9 @@ use Rattle.acl_audit.proofs.Ready.{grouped, row_key_is}
 use Rattle.acl_audit.proofs.Telling.{keys, rows_are, row_count, all_long}
 use Rattle.acl_audit.proofs.Tracing.{all_at}
 use Rattle.acl_audit.proofs.Winning.{entry_for}
+use Rattle.list_lemmas.proofs.Searches.{any_is_some, find_shifted, find_on_range}
 
 -- ---- tests that agree
-
-any_is_some : {X : Type 0} (p : X → Bool) (xs : List X) → list_any p xs ≡ is_some (find p xs)
-any_is_some p [] = refl
-any_is_some p (x ∷ xs) = by (p x) (any_is_some p xs)
-  where
-    by : (b : Bool) → list_any p xs ≡ is_some (find p xs)
-        → (b || list_any p xs) ≡ is_some (cond b (Some x) (find p xs))
-    by true rest = refl
-    by false rest = rest
-
-find_shifted : (p q : ℕ → Bool) (more first count : ℕ)
-    → ((n : ℕ) → first ≤ n → n < first + count → p (more + n) ≡ q n)
-    → find p (range_with_len (more + first) count) ≡ option_map (λ n. more + n) (find q (range_with_len first count))
-find_shifted p q more first zero same = refl
-find_shifted p q more first (suc count) same =
-    let e : more + first + 1 ≡ more + (first + 1) = omega arith in
-    let rest : find p (range_with_len (more + first + 1) count)
-    ≡ option_map (λ n. more + n) (find q (range_with_len (first + 1) count)) =
-    ap (λ n. find p (range_with_len n count)) e
-    ∙ find_shifted p q more (first + 1) count (λ n from below. same n (omega (arith, from)) (omega (arith, below))) in
-    ap (λ b. cond b (Some (more + first)) (find p (range_with_len (more + first + 1) count)))
-    (same first (omega arith) (omega arith))
-    ∙ by (q first) rest
-  where
-    by : (b : Bool) → find p (range_with_len (more + first + 1) count)
-        ≡ option_map (λ n. more + n) (find q (range_with_len (first + 1) count))
-        → cond b (Some (more + first)) (find p (range_with_len (more + first + 1) count))
-        ≡ option_map (λ n. more + n) (cond b (Some first) (find q (range_with_len (first + 1) count)))
-    by true rest = refl
-    by false rest = rest
-
-find_on_range : (p q : ℕ → Bool) (first count : ℕ) → ((n : ℕ) → first ≤ n → n < first + count → p n ≡ q n)
-    → find p (range_with_len first count) ≡ find q (range_with_len first count)
-find_on_range p q first zero same = refl
-find_on_range p q first (suc count) same =
-    λ i. cond (same first (omega arith) (omega arith) i) (Some first)
-    (find_on_range p q (first + 1) count (λ n from below. same n (omega (arith, from)) (omega (arith, below))) i)
 
 find_where : (p q : List ℕ → Bool) (ks : List (List ℕ)) → AllByRecursion (λ key. p key ≡ q key) ks
     → find p ks ≡ find q ks

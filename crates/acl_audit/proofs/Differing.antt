@@ -1,10 +1,11 @@
 -- Where there is a difference verdicts are unlike, and where there is none they are equal everywhere.
 use Rattle.std.proofs.Common.{◌≡◌, ℕ, zero, suc, ◌+◌, ◌<◌, ◌≤◌, ◌==◌, List, [], ◌∷◌, ◌++◌, length, map, cond, Bool}
-use Rattle.std.proofs.Common.{true, false, not, ◌||◌, ◌⊎◌, true≢false, Option, Some, None, refl, sym, ◌∙◌, ap, subst, inl}
+use Rattle.std.proofs.Common.{true, false, not, ◌||◌, ◌⊎◌, true≢false, Option, Some, None, refl, sym, ◌∙◌, ap, subst}
+use Rattle.std.proofs.Common.{inl}
 use Rattle.std.proofs.Common.{inr, arith}
 use Rattle.std.specs.List.{AllByRecursion, find, list_any, range_with_len}
 use Rattle.std.specs.Option.{option_map}
-use Rattle.std.proofs.lemmas.Bool.{cases_eq, cases_lt, eqb-true, eq-eqb, not-false}
+use Rattle.std.proofs.lemmas.Bool.{cases_eq, cases_lt, eqb-true, eq-eqb, not-false, or_parts}
 use Rattle.std.proofs.lemmas.List.{append-nil, append_assoc}
 use Rattle.std.proofs.lemmas.List.Elements.{All-from_recursion, recursion_from_All}
 use Rattle.list_lemmas.proofs.First.{find_passes}
@@ -50,16 +51,12 @@ range_within low high first (suc count) from below = (
   range_within low high (first + 1) count (omega (arith, from)) (omega (arith, below)),
 )
 
-both_fail : (a b : Bool) → (a || b) ≡ false → (a ≡ false) × (b ≡ false)
-both_fail true b h = absurd (true≢false h)
-both_fail false b h = (refl, h)
-
 -- a number of a range in which none passes fails
 none_in_range : (p : ℕ → Bool) (first count n : ℕ) → list_any p (range_with_len first count) ≡ false → first ≤ n
     → n < first + count → p n ≡ false
 none_in_range p first zero n none from below = absurd (omega (arith, from, below))
 none_in_range p first (suc count) n none from below =
-    let parts = both_fail (p first) (list_any p (range_with_len (first + 1) count)) none in
+    let parts = or_parts (p first) (list_any p (range_with_len (first + 1) count)) none in
     elim (cases_eq n first) [
       | inl here ↦ ap p here ∙ parts.0
       | inr apart ↦ none_in_range p (first + 1) count n parts.1 (omega (arith, from, apart)) (omega (arith, below))

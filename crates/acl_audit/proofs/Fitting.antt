@@ -7,7 +7,7 @@ use Rattle.std.specs.Str.{bytes_eq}
 use Rattle.std.proofs.lemmas.Bool.{cases_Bool}
 use Rattle.std.proofs.lemmas.List.{get_or_default}
 use Rattle.std.proofs.lemmas.List.Elements.{All-weaker, All-contains_itself, All-from_recursion}
-use Rattle.std.proofs.lemmas.List.FromFn.{get_or-range_with_len, length-range_with_len, length-map-range_with_len}
+use Rattle.std.proofs.lemmas.List.FromFn.{length-range_with_len, length-map-range_with_len}
 use Rattle.std.proofs.lemmas.List.Sums.{sum_by-cons, get_or-le-sum_by}
 use Rattle.list_lemmas.proofs.Counts.{increasing_range}
 use Rattle.list_lemmas.proofs.Maps.{filter_on_range}
@@ -34,13 +34,9 @@ use Rattle.group_states.proofs.Offered.{All-found_in, prefixes_are, IsPrefix, wh
 use Rattle.acl_audit.specs.Least.{all_rules}
 use Rattle.acl_audit.proofs.Telling.{rows_are}
 use Rattle.acl_audit.proofs.Winning.{row_at, entry_for, entry_is, winner_matching}
+use Rattle.list_lemmas.proofs.Loops.{below_count}
 
 -- ---- the group of all rules
-
-below_end : (n number : ℕ) → Contains (range_with_len 0 n) number → number < n
-below_end n number among =
-    let long = length-range_with_len 0 n in
-    omega (arith, among.1, among.2, get_or-range_with_len 0 n among.0 number (omega (arith, among.1)))
 
 pub all_are_group : (set : RuleSetView) → 0 < length set.rules → IsGroup set (all_rules set)
 all_are_group set some =
@@ -49,7 +45,7 @@ all_are_group set some =
     record {
       some = omega (arith, some, length-range_with_len 0 n);
       ascending = increasing_range n;
-      within = All-weaker (Contains all) (λ number. number < n) (below_end n) all (All-contains_itself all);
+      within = All-weaker (Contains all) (λ number. number < n) (below_count n) all (All-contains_itself all);
     }
 
 -- ---- the kept places

@@ -13,9 +13,9 @@ use Rattle.group_states.specs.Laws.{IsGrouped}
 use Rattle.group_states.specs.Levels.{reached}
 use Rattle.group_states.specs.State.{Held, state, state_step, state_through, same_state, is_live}
 use Rattle.list_lemmas.proofs.Each.{all-map, all-flat_map, all_weaker, map_same, map-map}
-use Rattle.group_states.proofs.Offered.{AreBytes, IsPrefix, prefixes_are, bytes_below}
-use Rattle.group_states.proofs.Offered.{state_goes_through}
-use Rattle.group_states.proofs.Offered.{held_of, state_is, decoded, packed_state, packed_state_wild, same_state-Decides}
+use Rattle.group_states.proofs.Offered.{AreBytes, IsPrefix, prefixes_are, bytes_below, zeros_small, same_state_refl}
+use Rattle.group_states.proofs.Offered.{state_goes_through, same_state_sound}
+use Rattle.group_states.proofs.Offered.{held_of, state_is, decoded, packed_state, packed_state_wild}
 use Rattle.acl_audit.proofs.Finding.{found_by, found_after, found_firsts}
 use Rattle.acl_audit.proofs.Least.{longer}
 
@@ -30,10 +30,6 @@ bytes_with : (key : List ℕ) (i byte : ℕ) → AreBytes key → byte < 256 →
 bytes_with [] i byte small below = tt
 bytes_with (b ∷ key) zero byte small below = (below, small.1)
 bytes_with (b ∷ key) (suc i) byte small below = (small.0, bytes_with key i byte small.1 below)
-
-pub zeros_small : (count : ℕ) → AreBytes (replicate count 0)
-zeros_small zero = tt
-zeros_small (suc count) = (omega arith, zeros_small count)
 
 -- elements that are 0 from a number on
 zeros_after : (key : List ℕ) (n count : ℕ) → n + count ≤ length key → ((i : ℕ) → n ≤ i → get_or key i 0 ≡ 0)
@@ -126,12 +122,6 @@ written_begins len place (key ∷ keys) within are =
         (λ byte. take (place + 1) (slice_set key place byte) ≡ take place key ++ byte ∷ []) all_bytes
         (λ byte below. take_more_set key place byte (omega (arith, within, are.0.long))) bytes_below)
         ∙ singles (λ byte. take place key ++ byte ∷ []) all_bytes
-
-pub same_state_sound : (s t : List Held) → same_state s t ≡ true → s ≡ t
-same_state_sound s t = (same_state-Decides s t).0
-
-pub same_state_refl : (s : List Held) → same_state s s ≡ true
-same_state_refl s = (same_state-Decides s s).1 refl
 
 pub not_live : (s : List Held) → is_live s ≡ false → s ≡ []
 not_live [] dead = refl

@@ -1,5 +1,6 @@
 -- The links of a level lead from the least keys of its states to those of the next ones.
-use Rattle.std.proofs.Common.{◌≡◌, ℕ, zero, suc, ◌+◌, ◌-◌, ◌<◌, ◌≤◌, ◌==◌, List, [], ◌∷◌, ◌++◌, length, map, take, get_or}
+use Rattle.std.proofs.Common.{◌≡◌, ℕ, zero, suc, ◌+◌, ◌-◌, ◌<◌, ◌≤◌, ◌==◌, List, [], ◌∷◌, ◌++◌, length, map, take}
+use Rattle.std.proofs.Common.{get_or}
 use Rattle.std.proofs.Common.{replicate, slice_set, Bool, true, false, cond, ◌&&◌, refl, sym, ◌∙◌, ap, subst, arith}
 use Rattle.std.specs.List.{flat_map, AllByRecursion, position_or_len}
 use Rattle.std.specs.Str.{bytes_eq}
@@ -17,13 +18,13 @@ use Rattle.group_states.specs.Row.{final_row}
 use Rattle.group_states.specs.State.{Held, state, same_state, is_live}
 use Rattle.list_lemmas.proofs.Each.{all_weaker, map_same, map-map}
 use Rattle.list_lemmas.proofs.Tests.{bytes_eq_refl}
-use Rattle.group_states.proofs.Offered.{All-found_in, same_runs}
+use Rattle.group_states.proofs.Offered.{All-found_in, same_runs, same_state_sound}
 use Rattle.acl_audit.specs.declared.links.Link.{Link}
 use Rattle.acl_audit.specs.Keyed.{keyed}
 use Rattle.acl_audit.specs.Links.{is_next, links_of}
 use Rattle.acl_audit.proofs.Finding.{found_by, found_by-map, found_after, values_found}
 use Rattle.acl_audit.proofs.Keys.{KeyFrom, written, keys_with}
-use Rattle.acl_audit.proofs.Keys.{same_state_sound, not_live, Lead, AreLeast, lead_first, lead_over, reached_by}
+use Rattle.acl_audit.proofs.Keys.{not_live, Lead, AreLeast, lead_first, lead_over, reached_by}
 use Rattle.acl_audit.proofs.Numbering.{pairs_from, links_are}
 
 -- the keys of the pairs of state and byte are those of the states with each byte

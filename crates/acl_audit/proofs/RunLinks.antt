@@ -1,9 +1,9 @@
 -- The links over the runs of a state are those over all bytes.
 use Rattle.std.proofs.Common.{◌≡◌, ◌≢◌, ℕ, zero, suc, ◌+◌, ◌%◌, ◌≤◌, ◌==◌, List, [], ◌∷◌, ◌++◌, length, map, fold}
-use Rattle.std.proofs.Common.{filter, Bool, true, false, cond, not, ◌||◌, true≢false, refl, sym, ◌∙◌, ap, inl, inr, arith}
+use Rattle.std.proofs.Common.{filter, true, false, cond, not, true≢false, refl, sym, ◌∙◌, ap, inl, inr, arith}
 use Rattle.std.proofs.Common.{length-append}
 use Rattle.std.specs.List.{range_with_len}
-use Rattle.std.proofs.lemmas.Bool.{cases_Bool, eqb-true, eq-eqb, not-false}
+use Rattle.std.proofs.lemmas.Bool.{cases_Bool, eqb-true, eq-eqb, not-false, or_parts}
 use Rattle.group_states.specs.declared.run.Run.{Run}
 use Rattle.group_states.specs.declared.run.Succ.{Succ}
 use Rattle.group_states.specs.declared.run.Succ.TheVariants.{Dead, State, Row}
@@ -39,10 +39,6 @@ linked_twice links one other (Row number) = elim (cases_Bool (number == length l
   | inl is ↦ rw is (rw (not_again number links one is) refl)
   | inr differs ↦ rw differs (rw differs refl)
 ]
-
-both_not : (a b : Bool) → (a || b) ≡ false → (a ≡ false) × (b ≡ false)
-both_not true b h = absurd (true≢false h)
-both_not false b h = (refl, h)
 
 module _ (before : ℕ) (succ : ℕ → Succ) where
   -- the link of a byte
@@ -80,12 +76,12 @@ module _ (before : ℕ) (succ : ℕ → Succ) where
   not_last : (first : ℕ) → is_end succ first ≡ false → first ≢ 255
   not_last first goes e =
       true≢false (sym (eq-eqb first 255 e)
-      ∙ (both_not (first == 255) (not (same_succ (succ first) (succ (first + 1)))) goes).0)
+      ∙ (or_parts (first == 255) (not (same_succ (succ first) (succ (first + 1)))) goes).0)
 
   same_next : (first : ℕ) → is_end succ first ≡ false → succ first ≡ succ (first + 1)
   same_next first goes =
       same_is (succ first) (succ (first + 1))
-      (not-false _ (both_not (first == 255) (not (same_succ (succ first) (succ (first + 1)))) goes).1)
+      (not-false _ (or_parts (first == 255) (not (same_succ (succ first) (succ (first + 1)))) goes).1)
 
   -- from a byte on, which is in a run that began at another
   linked_on : (links : List Link) (start first count : ℕ) → first + suc count ≡ 256 → start ≤ first

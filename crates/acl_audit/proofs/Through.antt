@@ -17,14 +17,15 @@ use Rattle.group_states.specs.Row.{final_row, rows_of}
 use Rattle.group_states.specs.State.{Held, state, same_state, is_live}
 use Rattle.list_lemmas.proofs.Each.{all_weaker}
 use Rattle.list_lemmas.proofs.Tests.{bytes_eq_refl}
-use Rattle.group_states.proofs.Offered.{All-found_in, Gaps, HasFirst, kept_places_first}
+use Rattle.group_states.proofs.Offered.{All-found_in, Gaps, HasFirst, kept_places_first, zeros_small, same_state_refl}
 use Rattle.acl_audit.specs.declared.links.Link.{Link}
 use Rattle.acl_audit.specs.Keyed.{keyed, keys_after}
 use Rattle.acl_audit.specs.Links.{is_next, links_of}
 use Rattle.acl_audit.proofs.Finding.{found_by, found_by-map, values_found}
-use Rattle.acl_audit.proofs.Keys.{KeyFrom, key_later, written, zeros_small, same_state_refl, states_found, Lead}
+use Rattle.acl_audit.proofs.Keys.{KeyFrom, key_later, written, states_found, Lead}
 use Rattle.acl_audit.proofs.Keys.{AreLeast, lead_over}
-use Rattle.acl_audit.proofs.Leading.{next_begins, next_keys, links_below, live_says, live_says_row, row_for, rows_found}
+use Rattle.acl_audit.proofs.Leading.{next_begins, next_keys, links_below, live_says, live_says_row, row_for}
+use Rattle.acl_audit.proofs.Leading.{rows_found}
 use Rattle.acl_audit.proofs.Leading.{level_is, rows_by_states, lead_next}
 
 -- Each link of a level leads back to one of so many states, and so on.

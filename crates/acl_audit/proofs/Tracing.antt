@@ -1,12 +1,11 @@
 -- The key that is read off the links from a row back is the row's least key.
-use Rattle.std.proofs.Common.{◌≡◌, ◌≢◌, ℕ, zero, suc, ◌+◌, ◌-◌, ◌*◌, ◌<◌, List, [], ◌∷◌, ◌++◌, length, map, take, drop}
+use Rattle.std.proofs.Common.{◌≡◌, ◌≢◌, ℕ, zero, suc, ◌+◌, ◌-◌, ◌*◌, ◌<◌, List, [], ◌∷◌, ◌++◌, length, map, take}
+use Rattle.std.proofs.Common.{drop}
 use Rattle.std.proofs.Common.{get_or, slice_set, refl, sym, ◌∙◌, ap, subst, arith}
 use Rattle.std.specs.List.{AllByRecursion, flat_map, range_with_len}
-use Rattle.std.proofs.lemmas.List.{take_all, take_more, length-map, get_or-map, length-take-le, append-nil}
+use Rattle.std.proofs.lemmas.List.{take_all, take_more, length-map, get_or-map, length-take-le}
 use Rattle.rule_set.specs.Rule.{RuleSetView}
-use Rattle.list_lemmas.proofs.Ranges.{range_more}
 use Rattle.group_states.proofs.Offered.{Gaps}
-use Rattle.std.proofs.lemmas.List.Concat.{flat_map-append}
 use Rattle.acl_audit.specs.declared.links.Link.{Link}
 use Rattle.acl_audit.specs.Keyed.{keyed, keys_after}
 use Rattle.acl_audit.specs.Links.{no_link}
@@ -221,10 +220,3 @@ key_of_number len (key ∷ keys) long (suc n) below =
     dropped [] n more = (let e : 0 + n ≡ n = omega arith in ap (λ m. drop m more) e)
     dropped (k ∷ key) n more = (let e : suc (length key) + n ≡ suc (length key + n) = omega arith in
         ap (λ m. drop m (k ∷ key ++ more)) e ∙ dropped key n more)
-
--- one more list at the end
-pub flat_more : (f : ℕ → List ℕ) (n : ℕ)
-    → flat_map f (range_with_len 0 (n + 1)) ≡ flat_map f (range_with_len 0 n) ++ f n
-flat_more f n =
-    ap (flat_map f) (range_more n) ∙ flat_map-append f (range_with_len 0 n) (n ∷ [])
-    ∙ ap (λ l. flat_map f (range_with_len 0 n) ++ l) (append-nil (f n))

@@ -8,7 +8,6 @@ use Rattle.std.specs.Str.{bytes_eq}
 use Rattle.std.proofs.lemmas.Bool.{cases_Bool, cases_eq, eqb-true, eq-eqb}
 use Rattle.std.proofs.lemmas.List.FromFn.{get_or-map-range_with_len}
 use Rattle.std.proofs.lemmas.List.Elements.{filter_agree}
-use Rattle.field_defs.specs.declared.field.FieldDef.{FieldDef}
 use Rattle.field_defs.specs.Layout.{key_len_of}
 use Rattle.field_defs.proofs.Offered.{short_keys}
 use Rattle.rule_set.specs.Among.{passes_at, best_among}
@@ -26,7 +25,7 @@ use Rattle.group_states.specs.RuleRest.{values_of}
 use Rattle.group_states.specs.State.{Held, state, is_live}
 use Rattle.list_lemmas.proofs.Tests.{bytes_eq_sound}
 use Rattle.list_lemmas.proofs.Each.{all_weaker}
-use Rattle.group_states.proofs.Offered.{whole_numbers, prefixes_are, IsPrefix}
+use Rattle.group_states.proofs.Offered.{whole_numbers, prefixes_are, IsPrefix, some_field}
 use Rattle.acl_audit.specs.Firsts.{first_from}
 use Rattle.acl_audit.specs.Least.{wins_at, least_key, all_rules}
 use Rattle.acl_audit.proofs.Finding.{find_found}
@@ -34,10 +33,6 @@ use Rattle.acl_audit.proofs.Leading.{rows_found}
 use Rattle.acl_audit.proofs.Least.{least_is_first}
 
 -- ---- the winner of all rules by the matching ones
-
-some_field : (layout : List FieldDef) (key : List ℕ) → 0 < key_len_of layout → rule_match layout [] key ≡ false
-some_field [] key some = absurd (omega (arith, some))
-some_field (def ∷ layout) key some = refl
 
 module _ (set : RuleSetView) (key : List ℕ) (some : 0 < key_len_of set.layout) where
   same_match : (number : ℕ) → rule_match set.layout (values_of set number) key

@@ -1,13 +1,10 @@
 -- A table that answers as rules do gives their verdicts for the keys of a batch.
-use Rattle.std.proofs.Common.{◌≡◌, ◌↔◌, ℕ, zero, suc, ◌*◌, ◌/◌, ◌<◌, ◌≤◌, ◌==◌, List, map, take, drop, length, get_or}
-use Rattle.std.proofs.Common.{Option, Some, None, refl, inl, inr, ap, ◌∙◌, subst, arith}
-use Rattle.std.proofs.Common.{length-take, length-drop}
+use Rattle.std.proofs.Common.{◌≡◌, ◌↔◌, ℕ, zero, suc, ◌*◌, ◌/◌, ◌<◌, ◌≤◌, ◌==◌, List, map, take, drop, length}
+use Rattle.std.proofs.Common.{Option, Some, None, refl, inl, inr, ap, ◌∙◌, arith}
 use Rattle.std.specs.Prelude.{flat_map, if◌then◌else◌}
 use Rattle.std.specs.List.{range_with_len}
 use Rattle.std.proofs.lemmas.Bool.Decides.{eqb_tells}
-use Rattle.std.proofs.lemmas.List.{get_or_default}
 use Rattle.std.proofs.lemmas.List.Elements.{All-take, All-drop}
-use Rattle.std.proofs.Math.Nat.{mul-le-mul_right}
 use Rattle.list_lemmas.proofs.Maps.{map_on_range, flat_map_on_range}
 use Rattle.field_defs.specs.Layout.{key_len_of}
 use Rattle.rule_set.specs.Rule.{RuleSetView}
@@ -20,25 +17,8 @@ use Rattle.flat_table.specs.Batch.{keys_in, keys_of_len, key_at, batch_verdicts}
 use Rattle.table_fill.specs.Serves.{Serves}
 use Rattle.acl_context.specs.Batch.{key_of_batch, verdicts_by_rules}
 use Rattle.acl_c.specs.Marks.{none_is_one, table_mark, rules_mark, batch_marks, marks_by_rules as by_rules}
-
--- numbers that fit eight bits are bytes
-pub are_bytes_from_fits : (keys : List ℕ) → ((k : ℕ) → get_or keys k 0 < 256) → AreBytes keys
-are_bytes_from_fits keys fits = λ k d below. rw (get_or_default keys k d 0 below) (fits k)
-
--- bytes that are whole keys of a length are so of the same length
-whole_of_lengths : (keys : List ℕ) (len other : ℕ) → len ≡ other → length keys ≡ length keys / len * len →
-    length keys ≡ length keys / other * other
-whole_of_lengths keys len other same whole = subst (λ (n : ℕ). length keys ≡ length keys / n * n) same whole
-
--- a key of a batch has the layout's length
-key_length : (set : RuleSetView) (keys : List ℕ) (k : ℕ) →
-    length keys ≡ keys_of_len (key_len_of set.layout) keys * key_len_of set.layout →
-    k < keys_of_len (key_len_of set.layout) keys →
-    length (key_of_batch set.layout keys k) ≡ key_len_of set.layout
-key_length set keys k whole below =
-    let len = key_len_of set.layout in
-    let within = mul-le-mul_right len below in
-    length-take len (drop (k * len) keys) ∙ omega (arith, length-drop (k * len) keys, within, whole)
+use Rattle.list_lemmas.proofs.Numbers.{whole_of_lengths}
+use Rattle.acl_context.proofs.Offered.{key_length}
 
 -- what a table says of each key of a batch and each category is what the rules say, where it is so of every key
 batch_agrees : (by_table by_rules : List ℕ → ℕ → ℕ) (set : RuleSetView) (table : TableView) (count : ℕ)

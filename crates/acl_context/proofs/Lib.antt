@@ -2,3 +2,4 @@ mod Adding
 mod Building
 mod Refusals
 mod Serving
+pub mod Offered

@@ -1,5 +1,5 @@
 -- A table that answers as rules do gives their verdicts for the keys of a batch.
-use Rattle.std.proofs.Common.{◌≡◌, ℕ, ◌*◌, ◌/◌, ◌<◌, ◌≤◌, List, map, take, drop, length, get_or, ap, ◌∙◌, subst, arith}
+use Rattle.std.proofs.Common.{◌≡◌, ℕ, ◌*◌, ◌/◌, ◌<◌, ◌≤◌, List, map, take, drop, length, get_or, ap, ◌∙◌, arith}
 use Rattle.std.proofs.Common.{length-take, length-drop}
 use Rattle.std.specs.Prelude.{flat_map}
 use Rattle.std.specs.List.{range_with_len}
@@ -22,13 +22,8 @@ use Rattle.acl_context.specs.Batch.{key_of_batch, verdicts_by_rules}
 pub are_bytes_from_fits : (keys : List ℕ) → ((k : ℕ) → get_or keys k 0 < 256) → AreBytes keys
 are_bytes_from_fits keys fits = λ k d below. rw (get_or_default keys k d 0 below) (fits k)
 
--- bytes that are whole keys of a length are so of the same length
-pub whole_of_lengths : (keys : List ℕ) (len other : ℕ) → len ≡ other → length keys ≡ length keys / len * len →
-    length keys ≡ length keys / other * other
-whole_of_lengths keys len other same whole = subst (λ (n : ℕ). length keys ≡ length keys / n * n) same whole
-
 -- a key of a batch has the layout's length
-key_length : (set : RuleSetView) (keys : List ℕ) (k : ℕ) →
+pub key_length : (set : RuleSetView) (keys : List ℕ) (k : ℕ) →
     length keys ≡ keys_of_len (key_len_of set.layout) keys * key_len_of set.layout →
     k < keys_of_len (key_len_of set.layout) keys →
     length (key_of_batch set.layout keys k) ≡ key_len_of set.layout

@@ -1,7 +1,8 @@
 -- What each call makes of the state, and of what mirrors it.
-use Rattle.std.proofs.Common.{◌≡◌, ℕ, ◌+◌, ◌<◌, ◌≤◌, List, [], ◌∷◌, ◌++◌, length, Bool, true, false, Option, Some, None}
+use Rattle.std.proofs.Common.{◌≡◌, ℕ, ◌+◌, ◌<◌, ◌≤◌, List, [], ◌∷◌, ◌++◌, length, Bool, true, false, Option, Some}
+use Rattle.std.proofs.Common.{None}
 use Rattle.std.proofs.Common.{Result, Ok, Err, refl, sym, ap, subst, ◌∙◌, nat_le}
-use Rattle.std.specs.Prelude.{OnOk, if◌then◌else◌}
+use Rattle.std.specs.Prelude.{if◌then◌else◌}
 use Rattle.std.specs.Option.{option_map}
 use Rattle.std.proofs.lemmas.Bool.{le-leb, lt-leb}
 use Rattle.field_defs.specs.declared.field.FieldDef.{FieldDef}
@@ -29,11 +30,6 @@ use Rattle.session_lines.specs.Replies.{rule_fault_text, too_large_text, too_man
 use Rattle.acl_session.specs.Session.{added, added_unless, built, cleared, collected, new_context, on_context, opened}
 use Rattle.acl_session.specs.Session.{said, step, step_if, within, without_rules}
 use Rattle.acl_session.specs.Mirrors.{Answers, AnswersHeld, Holds, IsAnswered, IsHeld, Mirrors}
-
--- where a call succeeds, what follows from its promise holds
-pub on_ok : {T E P Q : Type 0} (result : Result T E) → (P → Q) → OnOk result P → OnOk result Q
-on_ok (Ok value) step held = step held
-on_ok (Err fault) step held = tt
 
 -- what a line says that says this call
 pub asked : (command : Command) (words : Option Command) (old new : Made) (before after : List ℕ)

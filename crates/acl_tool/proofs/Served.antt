@@ -3,6 +3,7 @@ use Rattle.std.proofs.Common.{◌≡◌, ℕ, ◌<◌, ◌≤◌, List, Ok, All,
 use Rattle.field_defs.specs.Lawful.{IsLayout}
 use Rattle.field_defs.specs.declared.field.Family.{Family}
 use Rattle.field_defs.specs.declared.field.Family.TheVariants.{Ip4, Ip6}
+use Rattle.field_defs.proofs.Offered.{ip4_is_layout, ip6_is_layout}
 use Rattle.rule_set.specs.Rule.{RuleView, RuleSetView}
 use Rattle.rule_set.specs.RuleSet.{IsRuleSet}
 use Rattle.group_states.specs.Levels.{LevelsView, levels_of}
@@ -13,7 +14,6 @@ use Rattle.flat_table.specs.Walk.{userdatas}
 use Rattle.table_fill.specs.Laws.{CanBeFilled, FilledTablesDecide}
 use Rattle.classbench_reader.specs.Accepted.{AcceptedRulesAreLawful}
 use Rattle.classbench_reader.specs.RuleFile.{RuleLists, rule_file_of}
-use Rattle.classbench_reader.proofs.Offered.{ip4_is_layout, ip6_is_layout}
 use Rattle.acl_tool.specs.FamilySet.{set_of}
 use Rattle.acl_tool.specs.Built.{TablesServe}
 use Rattle.list_lemmas.proofs.Sums.{sum_by-map}

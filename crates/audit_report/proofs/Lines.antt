@@ -1,10 +1,10 @@
 -- Lines that are put one after the other, and what the audit of a set says of its rules.
-use Rattle.std.proofs.Common.{◌≡◌, ℕ, ◌+◌, ◌<◌, ◌≤◌, List, [], ◌∷◌, ◌++◌, Bool, true, false, filter, length, map, get_or}
-use Rattle.std.proofs.Common.{Option, None, refl, sym, ◌∙◌, ap, arith, append-nil, append_assoc, length-append, Some}
+use Rattle.std.proofs.Common.{◌≡◌, ℕ, ◌+◌, ◌<◌, ◌≤◌, List, [], ◌∷◌, ◌++◌, Bool, true, false, filter, length, map}
+use Rattle.std.proofs.Common.{get_or}
+use Rattle.std.proofs.Common.{Option, None, refl, sym, ◌∙◌, ap, arith, append_assoc, length-append, Some}
 use Rattle.std.specs.Prelude.{cond, ◌||◌}
 use Rattle.std.specs.Int.{from_bool}
 use Rattle.std.specs.List.{flat_map, list_any, range_with_len}
-use Rattle.std.proofs.lemmas.List.Concat.{flat_map-append}
 use Rattle.std.proofs.lemmas.List.Folds.{list_any-append}
 use Rattle.std.proofs.lemmas.List.FromFn.{get_or-map-range_with_len, length-map-range_with_len}
 use Rattle.list_lemmas.proofs.Positions.{range-push, filter-range-push}
@@ -15,14 +15,7 @@ use Rattle.acl_audit.specs.Least.{least_key, least_keys}
 use Rattle.audit_report.specs.Audit.{category_text, rule_text, wins_text}
 use Rattle.field_defs.specs.declared.field.Family.{Family}
 use Rattle.rule_set.specs.Winner.{userdata_at}
-
--- one more part of a text
-pub parts_more : (f : ℕ → List ℕ) (n : ℕ) →
-    flat_map f (range_with_len 0 (n + 1)) ≡ flat_map f (range_with_len 0 n) ++ f n
-parts_more f n =
-    ap (flat_map f) (range-push 0 n) ∙ flat_map-append f (range_with_len 0 n) ((0 + n) ∷ [])
-    ∙ ap (λ l. flat_map f (range_with_len 0 n) ++ l) (append-nil (f (0 + n)))
-    ∙ ap (λ k. flat_map f (range_with_len 0 n) ++ f k) (omega arith)
+use Rattle.list_lemmas.proofs.Ranges.{parts_more}
 
 -- one more of those of which one may pass
 pub any_more : (p : ℕ → Bool) (n : ℕ) →

@@ -6,6 +6,8 @@ use Rattle.std.proofs.lemmas.Bool.Decides.{eqb_tells}
 use Rattle.std.proofs.lemmas.List.{take-replicate}
 use Rattle.std.proofs.lemmas.List.FromFn.{length-range_with_len, length-map-range_with_len, take-map-range_with_len}
 use Rattle.std.proofs.lemmas.Simd.{splat_is_map}
+use Rattle.list_lemmas.proofs.Each.{map-map}
+use Rattle.list_lemmas.proofs.Maps.{map_agree}
 use Rattle.flat_table.specs.Table.{TableView}
 use Rattle.flat_table.specs.Walk.{joined, table_verdict, userdatas}
 use Rattle.flat_table.specs.Batch.{key_verdicts}
@@ -27,14 +29,6 @@ pair_up : (f : ℕ → ℕ) (d : ℕ → Bool) (r : List ℕ) → answers (map f
 pair_up f d [] = refl
 pair_up f d (x ∷ xs) = ap (λ l. answer (f x) (d x) ∷ l) (pair_up f d xs)
 
-map_same : {X : Type 0} (f g : ℕ → X) → ((k : ℕ) → f k ≡ g k) → (r : List ℕ) → map f r ≡ map g r
-map_same f g same [] = refl
-map_same f g same (x ∷ xs) = ap (λ l. f x ∷ l) (map_same f g same xs) ∙ ap (λ y. y ∷ map g xs) (same x)
-
-map_twice : {X Y : Type 0} (f : X → Y) (g : ℕ → X) (r : List ℕ) → map f (map g r) ≡ map (λ k. f (g k)) r
-map_twice f g [] = refl
-map_twice f g (x ∷ xs) = ap (λ l. f (g x) ∷ l) (map_twice f g xs)
-
 module _ (table : TableView) (key : List ℕ) where
   -- whether a dash stands for the category
   is_dash : Bool → ℕ → Bool
@@ -46,7 +40,7 @@ module _ (table : TableView) (key : List ℕ) where
   unfolding winners_of is_dash
   first_dashes true form is n few =
       rw is
-      (ap (take n) (map_twice not (λ category. not (joined table key category == 0)) (range_with_len 0 16))
+      (ap (take n) (map-map not (λ category. not (joined table key category == 0)) (range_with_len 0 16))
       ∙ take-map-range_with_len (λ category. not (not (joined table key category == 0))) 0 16 n few)
   first_dashes false form is n few =
       rw is
@@ -78,9 +72,9 @@ module _ (table : TableView) (key : List ℕ) where
       (length-map-range_with_len verdict 0 n)
       ∙ ap (answers (key_verdicts table n key)) (first_dashes form.marks form refl n few)
       ∙ pair_up verdict (is_dash form.marks) (range_with_len 0 n)
-      ∙ map_same (λ category. answer (verdict category) (is_dash form.marks category))
-      (λ category. shown form.marks (answer_of_table table key category)) (one_shown form.marks)
-      (range_with_len 0 n)
+      ∙ map_agree (λ category. answer (verdict category) (is_dash form.marks category))
+      (λ category. shown form.marks (answer_of_table table key category)) (range_with_len 0 n)
+      (one_shown form.marks)
 
 -- what is shown of a packet by the tables
 shown_is : (form : ReportForm) (class : Class) (key : List ℕ) → form.classifier ≡ ByTables form.tables →

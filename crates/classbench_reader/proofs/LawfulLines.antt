@@ -12,9 +12,7 @@ use Rattle.field_defs.specs.declared.field.FieldValue.{FieldValue}
 use Rattle.field_defs.specs.declared.field.FieldValue.TheVariants.{Mask}
 use Rattle.field_defs.specs.FieldMatch.{is_size}
 use Rattle.field_defs.specs.Layout.{ip4_fields, ip6_fields}
-use Rattle.field_defs.specs.Faults.{failing_number}
-use Rattle.field_defs.specs.Lawful.{IsLayout}
-use Rattle.field_defs.specs.LayoutFault.{layout_fault}
+use Rattle.field_defs.proofs.Offered.{ip4_is_layout, ip6_is_layout}
 use Rattle.rule_set.specs.Fault.{rule_fault}
 use Rattle.rule_set.specs.Lawful.{IsLawfulValue}
 use Rattle.rule_set.proofs.Offered.{faultless_rules}
@@ -67,15 +65,6 @@ one_family family.Ip4 family.Ip4 same = refl
 one_family family.Ip4 family.Ip6 same = absurd (cc)
 one_family family.Ip6 family.Ip4 same = absurd (cc)
 one_family family.Ip6 family.Ip6 same = refl
-
--- the layouts
-pub ip4_is_layout : IsLayout ip4_fields
-unfolding layout_fault failing_number
-ip4_is_layout = record { few = omega arith; faultless = refl }
-
-pub ip6_is_layout : IsLayout ip6_fields
-unfolding layout_fault failing_number
-ip6_is_layout = record { few = omega arith; faultless = refl }
 
 -- the values of an address of either family
 lawful_ip4 : (source destination bits others : ℕ) (line : RuleLine) → source < 2 ^ 32 → bits ≤ 32 → destination < 2 ^ 32

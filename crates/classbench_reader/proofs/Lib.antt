@@ -1,4 +1,3 @@
-pub mod Offered
 pub mod AttributeWords
 pub mod LawfulLines
 pub mod FileLines

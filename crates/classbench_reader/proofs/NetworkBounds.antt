@@ -10,7 +10,6 @@ use Rattle.std.proofs.lemmas.List.{length-map, length-replicate}
 use Rattle.std.proofs.lemmas.List.Concat.{flat_map-cons}
 use Rattle.std.proofs.lemmas.List.Folds.{list_all-map}
 use Rattle.std.proofs.lemmas.Nat.{div_below, mod_below}
-use Rattle.std.specs.Char.{is_digit, digit_value}
 use Rattle.list_lemmas.proofs.Elements.{list_all_weaker, list_all_both}
 use Rattle.list_lemmas.proofs.Options.{from_option_map}
 use Rattle.text_scan.specs.Digits.{place_value, are_digits, is_group}
@@ -20,7 +19,7 @@ use Rattle.text_scan.specs.Ip4.{is_ip4_group, is_ip4, ip4_value, ip4_of}
 use Rattle.text_scan.specs.Ip6.{is_ip6_group, is_ip6_end, pieces_of, groups_of, are_groups, are_last_groups}
 use Rattle.text_scan.specs.Ip6.{has_gap, groups_before, groups_after, is_full, is_shortened, filled_pieces, joined}
 use Rattle.text_scan.specs.Ip6.{shortened_pieces, pieces_of_all, ip6_of}
-use Rattle.text_scan.proofs.Offered.{whole_within}
+use Rattle.text_scan.proofs.Offered.{whole_within, place_value-lt}
 use Rattle.classbench_reader.specs.declared.network.Address.{Address}
 use Rattle.classbench_reader.specs.declared.network.Address.TheVariants.{Ip4, Ip6}
 use Rattle.classbench_reader.specs.declared.network.Network.{Network}
@@ -74,15 +73,6 @@ ip4_of_below text number is = elim (cases_Bool (is_ip4 text)) [
   | inr none ↦ absurd (let fault = rw none at is in cc)
 ]
 
--- digits of a base spell less than the power of their count
-place_value_below : (base : ℕ) (cs : List ℕ) → are_digits base cs ≡ true → place_value base cs < base ^ length cs
-place_value_below base [] all = omega (arith, pow-zero base)
-place_value_below base (c ∷ cs) all =
-    let parts = and_parts (is_digit c base) (are_digits base cs) all in
-    let low : digit_value c < base = ltb-true (digit_value c) base parts.0 in
-    rw (pow-suc base (length cs))
-    (omega (arith, place_value_below base cs parts.1, mul-le-mul low (le_refl (base ^ length cs))))
-
 -- a group is a number of 16 bits
 ip6_group_below : (group : List ℕ) → is_ip6_group group ≡ true → place_value 16 group < 65536
 ip6_group_below group is =
@@ -91,7 +81,7 @@ ip6_group_below group is =
     leb-true (length group) 4 (and_parts (nat_le 1 (length group)) (nat_le (length group) 4) parts.0).1 in
     omega (
       arith,
-      place_value_below 16 group parts.1,
+      place_value-lt 16 group parts.1,
       pow-le-pow_right {n = 16} (omega arith) {i = length group} {j = 4} short,
     )
 

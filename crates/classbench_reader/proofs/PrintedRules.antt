@@ -10,6 +10,7 @@ use Rattle.field_defs.specs.declared.field.FieldDef.{FieldDef}
 use Rattle.field_defs.specs.declared.field.FieldValue.{FieldValue}
 use Rattle.field_defs.specs.declared.field.FieldValue.TheVariants.{Mask, Range, Bitmask}
 use Rattle.field_defs.specs.Layout.{ip4_fields, ip6_fields}
+use Rattle.field_defs.proofs.Offered.{ip4_is_layout, ip6_is_layout}
 use Rattle.rule_set.specs.declared.rule.RuleTag.{RuleTag}
 use Rattle.rule_set.specs.Rule.{RuleView}
 use Rattle.rule_set.specs.Lawful.{IsLawfulValue, IsLawfulTag, IsLawfulRule}
@@ -20,7 +21,6 @@ use Rattle.classbench_reader.specs.Lawful.{is_lawful, IsLawfulLine}
 use Rattle.classbench_reader.specs.Print.{fields_of, is_one_prefix, has_prefixes, IsPrintable, line_of_rule, rule_text}
 use Rattle.classbench_reader.specs.Print.{rule_alone}
 use Rattle.classbench_reader.specs.RuleFile.{rule_file_of}
-use Rattle.classbench_reader.proofs.LawfulLines.{ip4_is_layout, ip6_is_layout}
 use Rattle.classbench_reader.proofs.PrintedLines.{FitsTag}
 use Rattle.classbench_reader.proofs.PrintedFiles.{rule_file_of-text}
 use Rattle.std.specs.Prelude.{Ok}

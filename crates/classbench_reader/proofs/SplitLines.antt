@@ -18,8 +18,9 @@ use Rattle.classbench_reader.specs.Line.{rule_line_of}
 use Rattle.classbench_reader.specs.Joined.{IsJoined, ReadLinesAreJoinedParts}
 use Rattle.classbench_reader.proofs.PrintedLines.{made, with_attributes, with_words, with_protocol, with_others}
 use Rattle.classbench_reader.proofs.PrintedLines.{with_ports, with_destination, with_another, with_source, with_text}
-use Rattle.classbench_reader.proofs.SplitParts.{bound, split_again, all_pass, WordSplit, word_split, no_network}
+use Rattle.classbench_reader.proofs.SplitParts.{bound, split_again, WordSplit, word_split, no_network}
 use Rattle.classbench_reader.proofs.SplitParts.{no_protocol, PortsSplit, ports_split}
+use Rattle.list_lemmas.proofs.Texts.{all-run}
 
 -- the `@` after blanks
 sign_split : (text after : List ℕ) → after_at_sign text ≡ Ok after → at_sign ∷ after ≡ text
@@ -175,7 +176,7 @@ joined_of_reads ordinal text line networks columns last =
           rw (protocol.joined, others.joined, ports.joined, to.joined, from.joined, networks.sign)
           (split_again is_blank text);
       says = record {
-        indent = all_pass is_blank text;
+        indent = all-run is_blank text;
         after_sign = from.blanks;
         source_word = from.no_blank;
         source = from.reads;

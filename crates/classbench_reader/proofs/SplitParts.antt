@@ -1,7 +1,9 @@
 -- The words and the ports of a line that is read, split off one by one.
-use Rattle.std.proofs.Common.{◌≡◌, ℕ, suc, ◌+◌, ◌<◌, ◌≤◌, Bool, true, false, not, ◌&&◌, ◌||◌, eqb, nat_le, List, [], ◌∷◌, ◌++◌, length}
-use Rattle.std.proofs.Common.{take, drop, Some, Result, Ok, Err, refl, sym, ap, subst, ◌∙◌, arith, append_assoc, append-nil, inl, inr}
-use Rattle.std.specs.List.{list_all, take_while, prefix_len}
+use Rattle.std.proofs.Common.{◌≡◌, ℕ, suc, ◌+◌, ◌<◌, ◌≤◌, Bool, true, false, not, ◌&&◌, ◌||◌, eqb, nat_le, List, []}
+use Rattle.std.proofs.Common.{◌∷◌, ◌++◌, length}
+use Rattle.std.proofs.Common.{take, drop, Some, Result, Ok, Err, refl, sym, ap, subst, ◌∙◌, arith, append_assoc}
+use Rattle.std.proofs.Common.{append-nil, inl, inr}
+use Rattle.std.specs.List.{take_while, prefix_len}
 use Rattle.std.specs.Char.{is_digit}
 use Rattle.std.proofs.lemmas.Bool.{and_from, and_parts, cases_Bool, cond-true, eqb-true, eq-eqb, leb-true, false≢true}
 use Rattle.std.proofs.lemmas.List.{take-append-drop}
@@ -13,7 +15,8 @@ use Rattle.field_defs.specs.declared.field.FieldValue.{FieldValue}
 use Rattle.field_defs.specs.declared.field.FieldValue.TheVariants.{Range}
 use Rattle.text_scan.specs.Parts.{colon, is_blank, after_blanks, first_word, after_word}
 use Rattle.text_scan.specs.Digits.{run_of, place_value}
-use Rattle.text_scan.specs.Numeral.{whole_number, begins_numeral, begins_hexadecimal, numeral_len, numeral_value, digits_of}
+use Rattle.text_scan.specs.Numeral.{whole_number, begins_numeral, begins_hexadecimal, numeral_len, numeral_value}
+use Rattle.text_scan.specs.Numeral.{digits_of}
 use Rattle.text_scan.proofs.Offered.{whole_number-spelled}
 use Rattle.classbench_reader.specs.declared.network.Network.{Network}
 use Rattle.classbench_reader.specs.declared.fault.LineKind.{LineKind}
@@ -21,8 +24,10 @@ use Rattle.classbench_reader.specs.Limits.{max_port}
 use Rattle.classbench_reader.specs.Reading.{◌>>=◌, Read, read_of}
 use Rattle.classbench_reader.specs.Network.{network_of}
 use Rattle.classbench_reader.specs.Columns.{port_of, after_colon_of, range_of, ports_of, protocol_of}
-use Rattle.classbench_reader.specs.Joined.{IsBlanks, IsGap, PortTexts, port_text, SpellsRange, EndsTheWord, HasNoBlank}
+use Rattle.classbench_reader.specs.Joined.{IsBlanks, IsGap, PortTexts, port_text, SpellsRange, EndsTheWord}
+use Rattle.classbench_reader.specs.Joined.{HasNoBlank}
 use Rattle.classbench_reader.proofs.PrintedParts.{after_high, after_colon, after_low}
+use Rattle.list_lemmas.proofs.Texts.{all-run}
 
 -- what was read first, and what was read of it
 pub bound : {A B K : Type 0} (read : Result A K) (next : A → Result B K) (b : B) → (read >>= next) ≡ Ok b →
@@ -34,20 +39,12 @@ bound (Err kind) next b is = absurd (cc)
 pub split_again : (p : ℕ → Bool) (text : List ℕ) → take_while p text ++ drop (length (take_while p text)) text ≡ text
 split_again p text = rw (length-prefix_len p text) (take-append-drop (prefix_len p text) text)
 
-pub all_pass : (p : ℕ → Bool) (text : List ℕ) → list_all p (take_while p text) ≡ true
-all_pass p [] = refl
-all_pass p (c ∷ cs) = elim (cases_Bool (p c)) [
-  | inl passes ↦ let more : 1 + prefix_len p cs ≡ suc (prefix_len p cs) = omega arith in
-      rw (passes, more) (and_from (p c) _ passes (all_pass p cs))
-  | inr fails ↦ rw fails refl
-]
-
 -- the longest such bytes of them are all of them
 run_again : (p : ℕ → Bool) (text : List ℕ) → take_while p (take_while p text) ≡ take_while p text
 run_again p text =
     let run = take_while p text in
     let whole : prefix_len p run ≡ length run =
-    ap (prefix_len p) (sym (append-nil run)) ∙ prefix_len-whole p run [] (all_pass p text) refl in
+    ap (prefix_len p) (sym (append-nil run)) ∙ prefix_len-whole p run [] (all-run p text) refl in
     ap (λ n. take n run) whole ∙ take-length run
 
 -- a word ends at a blank, or with the text
@@ -69,7 +66,7 @@ gap_of : (text : List ℕ) → EndsTheWord text → 0 < length text → IsGap (t
 gap_of [] ends some = absurd (omega (arith, some))
 gap_of (c ∷ cs) ends some =
     let more : 1 + prefix_len is_blank cs ≡ suc (prefix_len is_blank cs) = omega arith in
-    record { blanks = all_pass is_blank (c ∷ cs); some = rw (ends, more) (omega arith) }
+    record { blanks = all-run is_blank (c ∷ cs); some = rw (ends, more) (omega arith) }
 
 -- A text that begins with a word that f reads, after blanks.
 pub record WordSplit {A : Type 0} (f : List ℕ → Result A LineKind) (text : List ℕ) (read : Read A) : Type 0 where
@@ -102,9 +99,9 @@ word_split {A = A} f text read none is =
       word = first_word left;
       joined = ap (λ rest. take_while is_blank text ++ rest) (split_again (λ c. not (is_blank c)) left)
           ∙ split_again is_blank text;
-      blanks = all_pass is_blank text;
+      blanks = all-run is_blank text;
       spaced = λ ends. gap_of text ends (text_some f text found.0 (none found.0) found.1);
-      no_blank = all_pass (λ c. not (is_blank c)) left;
+      no_blank = all-run (λ c. not (is_blank c)) left;
       reads = found.1;
       ends = after_word_ends left;
     }
@@ -162,7 +159,7 @@ decimal_cut greatest text mark begins =
     ap (λ n. whole_number greatest (take n text)) len
     ∙ whole_number-spelled greatest (numeral_value text) run
     record {
-      digits = all_pass p text;
+      digits = all-run p text;
       some = omega (arith, some, ap length had);
       value = sym value;
     }
@@ -202,7 +199,7 @@ port_split text read is = elim (cases_Bool (begins_numeral max_port (after_blank
         number = take (numeral_len left) left;
         joined = ap (λ rest. take_while is_blank text ++ rest) (take-append-drop (numeral_len left) left)
             ∙ split_again is_blank text;
-        blanks = all_pass is_blank text;
+        blanks = all-run is_blank text;
         spaced = λ ends. gap_of text ends (port_some text begins);
         spelled = number_cut max_port left begins;
       }
@@ -297,7 +294,7 @@ ports_of_parts text read low second high first colon_is last range =
         filled = range.filled;
         low_spelled = first.spelled;
         high_spelled = last.spelled;
-        before = all_pass is_blank low.rest;
+        before = all-run is_blank low.rest;
         after = last.blanks;
       };
       ends = range.ends;

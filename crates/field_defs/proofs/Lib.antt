@@ -1,4 +1,5 @@
 pub mod Offered
+mod Families
 mod Faultless
 mod Filled
 mod FirstFault

@@ -6,6 +6,8 @@
 -- lawful_sizes: the fields of a lawful layout have lawful sizes
 -- short_keys: the key of a lawful layout has at least one byte, and no more than the limit
 pub use Rattle.field_defs.proofs.Faultless.{none_at, passes_test, passes_each, lawful_sizes, short_keys}
+-- ip4_is_layout, ip6_is_layout: the fields of either family are a lawful layout
+pub use Rattle.field_defs.proofs.Families.{ip4_is_layout, ip6_is_layout}
 -- size_at_least_1: a field has at least one byte
 -- size_at_most_8: and at most eight
 pub use Rattle.field_defs.proofs.Sizes.{size_at_least_1, size_at_most_8}

@@ -1,11 +1,11 @@
 -- Parts have no first fault exactly where every root and every word is sound.
-use Rattle.std.proofs.Common.{◌≡◌, ℕ, zero, suc, ◌+◌, ◌<◌, Bool, true, false, not, Option, Some, None, List, []}
+use Rattle.std.proofs.Common.{◌≡◌, ℕ, suc, ◌+◌, ◌<◌, Bool, true, not, Option, Some, None, List, []}
 use Rattle.std.proofs.Common.{◌∷◌, refl, sym, ap, ◌∙◌, arith, map, take, drop, length, get_or, length-take, add-one}
 use Rattle.std.specs.Prelude.{slice_index, option_map}
 use Rattle.std.specs.List.{zip, position_from}
 use Rattle.std.specs.Option.{option_or}
 use Rattle.std.proofs.lemmas.List.{get_or-map, length-map}
-use Rattle.std.proofs.lemmas.Slice.Zip.{get_or-zip}
+use Rattle.std.proofs.lemmas.Slice.Zip.{get_or-zip, length-zip}
 use Rattle.flat_table.specs.declared.level.Level.{Level}
 use Rattle.flat_table.specs.Table.{TableView, trie_levels, no_level, level_of}
 use Rattle.flat_table.specs.Sound.{leads_into, is_sound_word, first_level, words_in, unsound_word, first_some}
@@ -14,7 +14,8 @@ use Rattle.flat_table.specs.Walk.{root_of}
 use Rattle.flat_table.specs.Laws.{IsEachSound}
 use Rattle.flat_table.proofs.Shape.{IsShaped, shaped, shape_is}
 use Rattle.flat_table.proofs.Unsound.{is_unsound_root}
-use Rattle.flat_table.proofs.Safe.{levels_len, lt_levels, levels_few, word_in, root_leads, word_sound, first-is, length-zip}
+use Rattle.flat_table.proofs.Safe.{levels_len, lt_levels, levels_few, word_in, root_leads, word_sound, first-is}
+use Rattle.list_lemmas.proofs.Searches.{none_passes}
 
 pub each_is_sound : (table : TableView) → sound_fault table ≡ None → IsEachSound table
 each_is_sound table sound = record {
@@ -22,13 +23,6 @@ each_is_sound table sound = record {
   root = λ trie lt. root_leads table trie sound lt;
   word = λ trie depth place lt _ from to. word_sound table trie sound lt depth place from to;
 }
-
--- where nothing passes, a search finds nothing
-none_passes : {A : Type 0} (p : A → Bool) (place : ℕ) (xs : List A) (d : A) →
-    ((k : ℕ) → k < length xs → p (get_or xs k d) ≡ false) → position_from p place xs ≡ None
-none_passes p place [] d each = refl
-none_passes p place (x ∷ xs) d each =
-    rw (each 0 (omega arith)) (none_passes p (place + 1) xs d (λ k lt. each (suc k) (omega (arith, lt))))
 
 -- where none is there, the first isn't
 none_there : (answers : List (Option ℕ)) → ((k : ℕ) → k < length answers → get_or answers k None ≡ None) →
@@ -61,7 +55,7 @@ module _ (table : TableView) (each : IsEachSound table) where
       let count = levels_len table shape in
       none_passes is_unsound_root 0 (zip table.roots (trie_levels table)) (0, []) (λ trie below.
       let lt : trie < length table.roots =
-      omega (arith, below, length-zip table.roots (trie_levels table) (sym count)) in
+      omega (arith, below, length-zip table.roots (trie_levels table), count) in
       rw (get_or-zip table.roots (trie_levels table) trie (0, []) lt (lt_levels table trie shape lt))
       (ap not (ap (λ (level : Level). leads_into level (root_of table trie))
       (first-is (get_or (trie_levels table) trie [])) ∙ each.root trie lt)))

@@ -3,14 +3,13 @@ use Rattle.std.proofs.Common.{◌≡◌, ℕ, zero, suc, ◌+◌, ◌<◌, ◌�
 use Rattle.std.proofs.Common.{◌∷◌, refl, sym, ap, ◌∙◌, arith, map, take, drop, length, sum, get_or, ◌-◌, length-take}
 use Rattle.std.proofs.Common.{length-drop, inl, inr, add-one}
 use Rattle.std.specs.Prelude.{slice_index}
-use Rattle.std.specs.List.{zip, position_from}
-use Rattle.std.specs.Option.{option_or}
+use Rattle.std.specs.List.{zip}
 use Rattle.std.proofs.lemmas.List.{get_or-map, length-map, get_or-take, get_or-drop, get_or_past}
 use Rattle.std.proofs.lemmas.List.Sums.{sum_by-cons, sum_by-take-drop}
 use Rattle.flat_table.proofs.Levels.{levels-drop, levels-take}
 use Rattle.flat_table.proofs.Places.{portion-at}
 use Rattle.std.proofs.lemmas.Bool.Decides.{nat_tests}
-use Rattle.std.proofs.lemmas.Bool.{cases_Bool}
+use Rattle.std.proofs.lemmas.Bool.{cases_Bool, not-false}
 use Rattle.flat_table.specs.declared.level.Level.{Level}
 use Rattle.flat_table.specs.Word.{index_of, is_match, node_len, offset_of, next_place}
 use Rattle.flat_table.specs.Groups.{depth_of}
@@ -21,16 +20,10 @@ use Rattle.flat_table.specs.Sound.{sound_fault}
 use Rattle.flat_table.specs.Walk.{root_of}
 use Rattle.flat_table.proofs.Shape.{IsShaped, sound_parts}
 use Rattle.flat_table.specs.Laws.{LeadsOn}
-use Rattle.std.proofs.lemmas.Slice.Zip.{get_or-zip}
+use Rattle.std.proofs.lemmas.Slice.Zip.{get_or-zip, length-zip}
 use Rattle.flat_table.proofs.Unsound.{is_unsound_root}
-
--- where a search finds nothing, nothing passes
-position_none : {A : Type 0} (p : A → Bool) (place : ℕ) (xs : List A) (k : ℕ) (d : A) →
-    position_from p place xs ≡ None → k < length xs → p (get_or xs k d) ≡ false
-position_none p place [] k d e h = absurd (omega arith)
-position_none p place (x ∷ xs) zero d e h = elim (cases_Bool (p x)) [ inl w ↦ cc (rw w at e) | inr w ↦ w ]
-position_none p place (x ∷ xs) (suc k) d e h = elim (cases_Bool (p x))
-    [ inl w ↦ cc (rw w at e) | inr w ↦ position_none p (place + 1) xs k d (rw w at e) (omega arith) ]
+use Rattle.list_lemmas.proofs.Options.{both_none}
+use Rattle.list_lemmas.proofs.Searches.{position_none}
 
 -- where the first that is there isn't, none is
 first_none : (answers : List (Option ℕ)) (k : ℕ) → first_some answers ≡ None → k < length answers →
@@ -39,15 +32,6 @@ first_none [] k e h = absurd (omega arith)
 first_none (None ∷ answers) zero e h = refl
 first_none (None ∷ answers) (suc k) e h = first_none answers k e (omega arith)
 first_none (Some place ∷ answers) k e h = cc
-
--- where two answers together are none, both are
-both_none : (one other : Option ℕ) → option_or one other ≡ None → (one ≡ None) × (other ≡ None)
-both_none None other e = (refl, e)
-both_none (Some place) other e = cc
-
-not_false : (b : Bool) → not b ≡ false → b ≡ true
-not_false true e = refl
-not_false false e = cc
 
 -- the words of each level are sound for the next one
 level_sound : (rows : ℕ) (words : List ℕ) (levels : List Level) (depth : ℕ) (k : ℕ) →
@@ -58,11 +42,11 @@ level_sound : (rows : ℕ) (words : List ℕ) (levels : List Level) (depth : ℕ
     ≡ true
 level_sound rows words [] depth k e h = absurd (omega arith)
 level_sound rows words (level ∷ []) zero k e h =
-    not_false _ (position_none (λ (word : ℕ). not (is_sound_word rows no_level word)) level.from
+    not-false _ (position_none (λ (word : ℕ). not (is_sound_word rows no_level word)) level.from
     (words_in words level)
     k 0 (both_none _ _ e).0 h)
 level_sound rows words (level ∷ next ∷ levels) zero k e h =
-    not_false _ (position_none (λ (word : ℕ). not (is_sound_word rows next word)) level.from (words_in words level) k
+    not-false _ (position_none (λ (word : ℕ). not (is_sound_word rows next word)) level.from (words_in words level) k
     0
     (both_none _ _ e).0 h)
 level_sound rows words (level ∷ levels) (suc depth) k e h =
@@ -108,13 +92,7 @@ sound_word rows word next e =
           (λ match. cc, λ _. rw w at e)
     ]
 
--- two lists side by side
-
-pub length-zip : {A B : Type 0} (xs : List A) (ys : List B) → length xs ≡ length ys → length (zip xs ys) ≡ length xs
-length-zip [] ys e = refl
-length-zip (x ∷ xs) [] e = absurd (omega arith)
-length-zip (x ∷ xs) (y ∷ ys) e = ap suc (length-zip xs ys (omega arith))
-
+-- there are as many portions as sizes
 length-portions : {A : Type 0} (sizes : List ℕ) (xs : List A) → length (portions sizes xs) ≡ length sizes
 length-portions [] xs = refl
 length-portions (size ∷ sizes) xs = ap suc (length-portions sizes (drop size xs))
@@ -183,13 +161,13 @@ module _ (table : TableView) (trie : ℕ) (sound : sound_fault table ≡ None) (
   root_leads =
       let count = levels_len table shape in
       let lens : trie < length (zip table.roots (trie_levels table)) =
-      omega (arith, length-zip table.roots (trie_levels table) (sym count)) in
+      omega (arith, length-zip table.roots (trie_levels table), count) in
       let none = position_none is_unsound_root 0 (zip table.roots (trie_levels table)) trie (0, [])
       (sound_parts table sound).roots lens in
       let at = get_or-zip table.roots (trie_levels table) trie (0, []) lt (lt_levels table trie shape lt) in
       ap (λ (level : Level). leads_into level (root_of table trie))
       (sym (first-is (get_or (trie_levels table) trie [])))
-      ∙ not_false _ (rw at at none)
+      ∙ not-false _ (rw at at none)
 
   sound_levels : unsound_word (length table.rows) table.words (get_or (trie_levels table) trie []) ≡ None
   sound_levels =

@@ -1,15 +1,16 @@
 -- A flow machine is done where each slot was stepped often enough.
 use Rattle.std.proofs.Common.{◌≡◌, ℕ, zero, suc, ◌+◌, ◌-◌, ◌*◌, ◌<◌, ◌≤◌, ◌==◌, List, [], ◌∷◌, ◌++◌, sym, ap, ◌∙◌}
-use Rattle.std.proofs.Common.{refl, arith, cond, length, get_or, true, false, not, Bool, ◌||◌, inl, inr, subst}
+use Rattle.std.proofs.Common.{refl, arith, cond, length, get_or, true, false, not, Bool, inl, inr, subst}
 use Rattle.std.proofs.Common.{add-one, append-nil, ◌⊎◌}
 use Rattle.std.specs.Prelude.{None, count_by, replicate, nat_lt, nat_le, flat_map}
 use Rattle.std.specs.List.{list_all, sum_by, range_with_len}
-use Rattle.std.proofs.lemmas.Bool.{cases_Bool, cases_lt, cases_eq, eqb-true, eq-eqb, and_from}
+use Rattle.std.proofs.lemmas.Bool.{cases_Bool, cases_lt, cases_eq, eqb-true, eq-eqb, and_from, or_parts, not-false}
 use Rattle.std.proofs.lemmas.Bool.Decides.{nat_tests}
 use Rattle.std.proofs.lemmas.Grind.{flat_map-append}
 use Rattle.std.proofs.lemmas.List.{length-replicate}
 use Rattle.std.proofs.lemmas.List.Sums.{sum_by-cons}
-use Rattle.std.proofs.lemmas.List.Elements.{All-head, All-tail, All-append, recursion_from_All, All-from_get_or, All-nil}
+use Rattle.std.proofs.lemmas.List.Elements.{All-head, All-tail, All-append, recursion_from_All, All-from_get_or}
+use Rattle.std.proofs.lemmas.List.Elements.{All-nil}
 use Rattle.std.proofs.lemmas.List.FromFn.{get_or-range_with_len, length-range_with_len}
 use Rattle.list_lemmas.proofs.Counts.{count_by-cons}
 use Rattle.list_lemmas.proofs.Elements.{list_all_from}
@@ -98,21 +99,13 @@ module _ (table : TableView) (keys : List ℕ) (stay : WalksStay) (sound : sound
         | inr asleep ↦ asleep
       ]
 
-or_false : (a b : Bool) → (a || b) ≡ false → (a ≡ false) × (b ≡ false)
-or_false true b e = absurd (cc e)
-or_false false b e = (refl, e)
-
-not_false : (b : Bool) → not b ≡ false → b ≡ true
-not_false true e = refl
-not_false false e = absurd (cc e)
-
 -- a machine without a slot that is awake is done
 module _ (table : TableView) (keys : List ℕ) (state : FlowState) (flown : IsFlown table keys state) where
   none_left : (slot : ℕ) → is_awake table keys slot state ≡ false →
       nat_le state.machine.jobs state.machine.given ≡ true
   none_left slot asleep =
       let none : nat_lt state.machine.given (job_count table keys) ≡ false =
-      (or_false (nat_lt state.machine.given (job_count table keys))
+      (or_parts (nat_lt state.machine.given (job_count table keys))
       (not (is_empty (get_or state.machine.slots slot None))) asleep).0 in
       let over : nat_le (job_count table keys) state.machine.given ≡ true = grind (arith, nat_tests) in
       ap (λ (n : ℕ). nat_le n state.machine.given) flown.jobs ∙ over
@@ -123,8 +116,8 @@ module _ (table : TableView) (keys : List ℕ) (state : FlowState) (flown : IsFl
       list_all_from (λ held. is_empty held ≡ true) is_empty (λ held empty. empty) state.machine.slots
       (recursion_from_All (λ held. is_empty held ≡ true) state.machine.slots
       (All-from_get_or (λ held. is_empty held ≡ true) state.machine.slots None (λ slot within.
-      not_false (is_empty (get_or state.machine.slots slot None))
-      (or_false (nat_lt state.machine.given (job_count table keys))
+      not-false (is_empty (get_or state.machine.slots slot None))
+      (or_parts (nat_lt state.machine.given (job_count table keys))
       (not (is_empty (get_or state.machine.slots slot None))) (asleep slot within)).1)))
 
   pub done_asleep : 0 < length state.machine.slots →

@@ -21,8 +21,11 @@ use Rattle.flow_core.specs.Standing.{job_of}
 use Rattle.flow_core.specs.Invariant.{IsFlown, IsInWalk, same_job, holds, is_held, is_ended, ended_jobs, word_reached}
 use Rattle.flow_core.proofs.Given.{given_out, still_given, is_new, given_more}
 use Rattle.flow_core.proofs.Given.{same_job-path}
-use Rattle.flow_core.proofs.Slots.{any-set_alike, filter_where, one_more_passes}
+use Rattle.flow_core.proofs.Slots.{one_more_passes}
 use Rattle.flow_core.proofs.Flying.{Takes}
+use Rattle.list_lemmas.proofs.Maps.{filter_where}
+use Rattle.list_lemmas.proofs.Elements.{any-set_alike}
+use Rattle.list_lemmas.proofs.Tests.{and_false}
 
 -- a slot past the last holds nothing
 nothing_past : (slots : List (Option Flight)) (i : ℕ) (job : Job) → holds job (get_or slots i None) ≡ true →
@@ -121,10 +124,6 @@ later table keys given few (Some flight) in' = record {
   word = in'.word;
 }
 
-and_false_right : (b : Bool) → (b && not true) ≡ false
-and_false_right true = refl
-and_false_right false = refl
-
 not_same_key : (a b c : ℕ) → a ≡ b → b ≢ c → (a == c) ≡ false
 not_same_key a b c is other = elim (cases_Bool (a == c)) [
   | inl same ↦ absurd (other (sym is ∙ eqb-true a c same))
@@ -164,7 +163,7 @@ module _ (table : TableView) (keys : List ℕ) where
             let held : is_held slots job ≡ true =
             held_now state.machine.slots i within job (Some (begun table job)) (same_itself job) in
             let not_ended : is_ended slots key job ≡ false =
-            ap (λ (b : Bool). job.key == key && not b) held ∙ and_false_right (job.key == key) in
+            ap (λ (b : Bool). job.key == key && not b) held ∙ and_false (job.key == key) in
             let none : filter (is_ended slots key) (job ∷ []) ≡ [] = rw not_ended refl in
             ap (λ (jobs : List Job). filter (is_ended slots key) jobs)
             (given_more table keys state.machine.given few)

@@ -19,6 +19,7 @@ use Rattle.flow_core.specs.Machine.{after_empty, after_word, after_match}
 use Rattle.flow_core.specs.Invariant.{IsFlown, IsInWalk}
 use Rattle.flow_core.proofs.Given.{job_got}
 use Rattle.flow_core.proofs.Runs.{past_last}
+use Rattle.list_lemmas.proofs.Tests.{or_true}
 
 -- the steps that a slot has yet to take for what it holds
 abbrev pub slot_load : TableView → Option Flight → ℕ
@@ -80,10 +81,6 @@ module _ (table : TableView) (keys : List ℕ) (state : FlowState) (i : ℕ) (wi
         whole,
         slots_change None (Some (begun table (job_at table state.machine.given))) empty,
       )
-
-or_true : (b : Bool) → (b || true) ≡ true
-or_true true = refl
-or_true false = refl
 
 -- what a step does to the load, and which slots are awake after it
 pub record Lessens (table : TableView) (keys : List ℕ) (old new : FlowState) (i : ℕ) : Type 0 where

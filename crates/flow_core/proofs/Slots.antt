@@ -1,27 +1,10 @@
 -- What slots hold when one of them changes, and which jobs are ended then.
 use Rattle.std.proofs.Common.{◌≡◌, ℕ, zero, suc, ◌<◌, ◌≤◌, List, [], ◌∷◌, refl, ap, ◌∙◌}
-use Rattle.std.proofs.Common.{arith, length, map, get_or, set, fold, true, false, Bool, ◌||◌, inl, inr}
-use Rattle.std.proofs.Common.{filter, cond}
-use Rattle.std.specs.Prelude.{Contains, max, All}
-use Rattle.std.specs.List.{list_any}
+use Rattle.std.proofs.Common.{arith, length, map, get_or, fold, true, false, Bool, inl, inr}
+use Rattle.std.proofs.Common.{filter}
+use Rattle.std.specs.Prelude.{Contains, max}
 use Rattle.std.proofs.lemmas.Bool.{cases_Bool}
-use Rattle.std.proofs.lemmas.List.Elements.{All-head, All-tail}
 use Rattle.flat_table.specs.Walk.{greatest}
-
--- where an element is changed to one that passes alike, as many pass
-pub any-set_alike : {X : Type 0} (p : X → Bool) (xs : List X) (i : ℕ) (x d : X) → i < length xs →
-    p x ≡ p (get_or xs i d) → list_any p (set xs i x) ≡ list_any p xs
-any-set_alike p [] i x d within same = refl
-any-set_alike p (y ∷ xs) zero x d within same = ap (λ (b : Bool). b || list_any p xs) same
-any-set_alike p (y ∷ xs) (suc i) x d within same =
-    ap (λ (b : Bool). p y || b) (any-set_alike p xs i x d (omega arith) same)
-
--- two tests that agree at each element of a list keep the same elements of it
-pub filter_where : {X : Type 0} (p q : X → Bool) (xs : List X) → All (λ x. p x ≡ q x) xs → filter p xs ≡ filter q xs
-filter_where p q [] all = refl
-filter_where p q (x ∷ xs) all =
-    let rest = filter_where p q xs (All-tail (λ y. p y ≡ q y) x xs all) in
-    λ i. cond (All-head (λ y. p y ≡ q y) x xs all i) (x ∷ rest i) (rest i)
 
 -- ---- the greatest
 

@@ -1,14 +1,15 @@
 -- The verdicts of rows, key by key.
-use Rattle.std.proofs.Common.{◌≡◌, ℕ, ◌+◌, ◌-◌, ◌*◌, ◌%◌, ◌<◌, ◌≤◌, List, [], ◌∷◌, ◌++◌, sym, ap, ◌∙◌, refl, arith, length}
-use Rattle.std.proofs.Common.{take, drop, map, get_or, subst, append-nil, length-take, length-drop}
-use Rattle.std.specs.Prelude.{flat_map, slice_get, slice_index, Some, All}
+use Rattle.std.proofs.Common.{◌≡◌, ℕ, ◌+◌, ◌-◌, ◌*◌, ◌%◌, ◌<◌, ◌≤◌, List, [], ◌∷◌, ◌++◌, sym, ap, ◌∙◌, refl, arith}
+use Rattle.std.proofs.Common.{length}
+use Rattle.std.proofs.Common.{take, drop, map, get_or, append-nil, length-take, length-drop}
+use Rattle.std.specs.Prelude.{flat_map, slice_get, slice_index, Some}
 use Rattle.std.specs.List.{range_with_len}
 use Rattle.std.proofs.Math.Nat.{mul-le-mul_right}
 use Rattle.std.proofs.lemmas.Grind.{flat_map-append}
 use Rattle.std.proofs.lemmas.List.{length-map, length-take-le, take_more}
-use Rattle.std.proofs.lemmas.List.Elements.{All-from_get_or}
-use Rattle.std.proofs.lemmas.List.FromFn.{length-range_with_len, get_or-range_with_len, fill_by_all}
+use Rattle.std.proofs.lemmas.List.FromFn.{length-range_with_len, fill_by_all}
 use Rattle.std.proofs.lemmas.Option.{get_or_from_slice_get}
+use Rattle.std.proofs.lemmas.List.Folds.{flat_map-map}
 use borrow.Rule.Slice.PartMut.{put_mid}
 use Rattle.list_lemmas.proofs.Maps.{map_where, flat_map_where}
 use Rattle.list_lemmas.proofs.Positions.{piece_written}
@@ -19,6 +20,7 @@ use Rattle.flat_table.specs.Batch.{key_at, keys_in, key_verdicts, batch_verdicts
 use Rattle.flow_core.specs.Rows.{row_verdicts}
 use Rattle.flow_core.specs.Laws.{AreJoined}
 use Rattle.flow_core.proofs.Given.{even_pieces}
+use Rattle.list_lemmas.proofs.Ranges.{All-range}
 
 verdicts_len : (count : ℕ) (row : List ℕ) → length (row_verdicts count row) ≡ count
 verdicts_len count row = length-map (range_with_len 0 count) (λ category. slice_index row category % userdatas)
@@ -73,16 +75,6 @@ module _ (rows : List (List ℕ)) (count keys : ℕ) (old : List ℕ) (few : key
       ∙ ap (λ (front : List ℕ). front ++ drop ((k + 1) * count) old) (sym more)
 
 -- ---- of rows that are joined they are those of the table
-in_range : (P : ℕ → Type 0) (n : ℕ) → ((k : ℕ) → k < n → P k) → All P (range_with_len 0 n)
-in_range P n each = All-from_get_or P (range_with_len 0 n) 0 (λ i below.
-    let less : i < n = omega (arith, below, length-range_with_len 0 n) in
-    subst P (sym (get_or-range_with_len 0 n i 0 less ∙ omega arith)) (each i less))
-
-made_flat : {A B : Type 0} (f : A → List B) (g : ℕ → A) (xs : List ℕ) →
-    flat_map f (map g xs) ≡ flat_map (λ x. f (g x)) xs
-made_flat f g [] = refl
-made_flat {B = B} f g (x ∷ xs) = ap (λ (ys : List B). f (g x) ++ ys) (made_flat f g xs)
-
 module _ (table : TableView) (keys : List ℕ) (count : ℕ) (few : count ≤ row_len) (rows : List (List ℕ))
     (joined : AreJoined table keys rows) where
   verdicts_of_key : (k : ℕ) → k < keys_in table keys →
@@ -90,7 +82,7 @@ module _ (table : TableView) (keys : List ℕ) (count : ℕ) (few : count ≤ ro
   verdicts_of_key k below =
       map_where (λ category. slice_index (get_or rows k []) category % userdatas)
       (λ category. table_verdict table (key_at table keys k) category) (range_with_len 0 count)
-      (in_range (λ category. slice_index (get_or rows k []) category % userdatas
+      (All-range (λ category. slice_index (get_or rows k []) category % userdatas
       ≡ table_verdict table (key_at table keys k) category) count
       (λ category narrow. joined.verdict_is k category below (omega (arith, narrow, few))))
 
@@ -99,9 +91,9 @@ module _ (table : TableView) (keys : List ℕ) (count : ℕ) (few : count ≤ ro
       let n : ℕ = keys_in table keys in
       ap (flat_map (row_verdicts count))
       (fill_by_all (λ k. get_or rows k []) rows n [] joined.len (λ k below. refl))
-      ∙ made_flat (row_verdicts count) (λ k. get_or rows k []) (range_with_len 0 n)
+      ∙ flat_map-map (row_verdicts count) (λ k. get_or rows k []) (range_with_len 0 n)
       ∙ flat_map_where (λ k. row_verdicts count (get_or rows k []))
       (λ k. key_verdicts table count (key_at table keys k))
       (range_with_len 0 n)
-      (in_range (λ k. row_verdicts count (get_or rows k []) ≡ key_verdicts table count (key_at table keys k)) n
+      (All-range (λ k. row_verdicts count (get_or rows k []) ≡ key_verdicts table count (key_at table keys k)) n
       verdicts_of_key)

@@ -1,5 +1,6 @@
 -- The runs lead to the row of the matching rules.
-use Rattle.std.proofs.Common.{◌≡◌, ◌≢◌, ℕ, zero, suc, ◌+◌, ◌-◌, ◌<◌, ◌≤◌, ◌==◌, List, [], ◌∷◌, ◌++◌, length, map, fold}
+use Rattle.std.proofs.Common.{◌≡◌, ◌≢◌, ℕ, zero, suc, ◌+◌, ◌-◌, ◌<◌, ◌≤◌, ◌==◌, List, [], ◌∷◌, ◌++◌, length, map}
+use Rattle.std.proofs.Common.{fold}
 use Rattle.std.proofs.Common.{filter, take, drop, get_or, slice_get, Bool, true, false, cond, leb, not, ◌&&◌, ◌||◌}
 use Rattle.std.proofs.Common.{true≢false, Some, None, refl, sym, ◌∙◌, ap, subst, inl, inr, ◌⊎◌, arith, take-add}
 use Rattle.std.specs.List.{AllByRecursion, range_with_len, flat_map, find, list_any, position_or_len, cons_option}
@@ -33,7 +34,8 @@ use Rattle.group_states.specs.Follow.{run_to, on_from, followed, matching, IsAns
 use Rattle.group_states.specs.Found.{found_with, found_in, all_bytes, prefixes}
 use Rattle.group_states.specs.Kept.{is_wild_place, kept_places}
 use Rattle.group_states.specs.Laws.{RunsLeadToTheRowOfTheMatchingRules}
-use Rattle.group_states.specs.Levels.{same_succ, is_end, runs_of, states_at, reached, state_succ, row_succ, level_runs}
+use Rattle.group_states.specs.Levels.{same_succ, is_end, runs_of, states_at, reached, state_succ, row_succ}
+use Rattle.group_states.specs.Levels.{level_runs}
 use Rattle.group_states.specs.Levels.{levels_of}
 use Rattle.group_states.specs.Row.{row_of, winner_of, final_row, rows_of}
 use Rattle.group_states.specs.RuleRest.{values_of, rule_rest}
@@ -41,6 +43,7 @@ use Rattle.group_states.specs.State.{Held, state, state_step, state_through, sam
 use Rattle.group_states.specs.declared.run.Run.{Run}
 use Rattle.group_states.specs.declared.run.Succ.{Succ}
 use Rattle.group_states.specs.declared.run.Succ.TheVariants.{Dead, State, Row}
+use Rattle.field_defs.specs.declared.field.FieldDef.{FieldDef}
 
 -- ---- the run of a byte
 
@@ -181,10 +184,12 @@ module _ {X : Type 0} (same : X → X → Bool) (live : X → Bool) (reflexive :
       found_at same sound (f key) found
       (not-false _ (sym (ap (λ b. b && not (list_any (same (f key)) found)) alive) ∙ old))
 
-same_state_refl : (s : List Held) → same_state s s ≡ true
+-- a state is itself by the test
+pub same_state_refl : (s : List Held) → same_state s s ≡ true
 same_state_refl s = (same_state-Decides s s).1 refl
 
-same_state_sound : (s t : List Held) → same_state s t ≡ true → s ≡ t
+-- and states that pass it are one
+pub same_state_sound : (s t : List Held) → same_state s t ≡ true → s ≡ t
 same_state_sound s t = (same_state-Decides s t).0
 
 -- ---- whole keys
@@ -408,3 +413,8 @@ unfolding levels_of
 runs_lead set group key is small long =
     from_first set group (held_of set group is) key (recursion_from_All (λ byte. byte < 256) key small) long
     is.group.some (kept_places set group) (kept_places_first set group (short_keys set.layout is.layout).0)
+
+-- a rule without values matches no key of a layout with a field
+pub some_field : (layout : List FieldDef) (key : List ℕ) → 0 < key_len_of layout → rule_match layout [] key ≡ false
+some_field [] key some = absurd (omega (arith, some))
+some_field (def ∷ layout) key some = refl

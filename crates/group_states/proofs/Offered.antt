@@ -22,7 +22,10 @@ pub use Rattle.group_states.proofs.Finds.{none_new_once_found, found_in-map}
 -- runs_lead: the runs of a group lead a key to the row of the rules that match it
 -- same_is: two successors that pass the test are one
 -- whole_numbers: the rules of the state after a whole key are those that match
-pub use Rattle.group_states.proofs.Following.{found_for_key, runs_lead, same_is, whole_numbers}
+-- some_field: a rule without values matches no key of a layout with a field
+-- same_state_refl, same_state_sound: a state is itself by the test, and states that pass it are one
+pub use Rattle.group_states.proofs.Following.{found_for_key, runs_lead, same_is, whole_numbers, some_field}
+pub use Rattle.group_states.proofs.Following.{same_state_refl, same_state_sound}
 -- Gaps: the places between two kept places, for each kept place
 -- HasFirst: a list of places has a first one
 -- kept_places_first: the first kept place, and those after it

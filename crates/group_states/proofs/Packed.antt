@@ -1,6 +1,7 @@
 -- The edge that is kept of one rule after some bytes of a key. Before the first byte of a field and after a whole key
 -- it is the free one.
-use Rattle.std.proofs.Common.{◌≡◌, ℕ, zero, suc, ◌+◌, ◌-◌, ◌*◌, ◌^◌, ◌<◌, ◌≤◌, List, [], ◌∷◌, ◌++◌, length, take, drop}
+use Rattle.std.proofs.Common.{◌≡◌, ℕ, zero, suc, ◌+◌, ◌-◌, ◌*◌, ◌^◌, ◌<◌, ◌≤◌, List, [], ◌∷◌, ◌++◌, length, take}
+use Rattle.std.proofs.Common.{drop}
 use Rattle.std.proofs.Common.{fold, get_or, Bool, true, false, cond, ltb, eqb, IsTrue, Option, Some, None, refl, sym}
 use Rattle.std.proofs.Common.{◌∙◌, ap, subst, inl, inr, arith, length-append}
 use Rattle.std.specs.Option.{option_map, option_and_then, unwrap_or}
@@ -9,13 +10,12 @@ use Rattle.std.proofs.lemmas.List.{length-drop, drop-append-le, take-append-le, 
 use Rattle.std.proofs.lemmas.List.Sums.{fold-append, sum_by-cons}
 use Rattle.std.proofs.lemmas.Bool.{cases_lt, cond-true, cond-false, lt-ltb, le-ltb, ne_eqb, ltb-true, leb-true}
 use Rattle.std.proofs.lemmas.Bool.{and_parts}
-use Rattle.std.proofs.lemmas.Bool.Decides.{nat_tests}
 use Rattle.std.proofs.Math.Nat.{pow-suc, mul-le-mul_right}
 use Rattle.byte_numbers.specs.Number.{number_of}
 use Rattle.field_defs.specs.declared.field.FieldDef.{FieldDef}
 use Rattle.field_defs.specs.declared.field.FieldValue.{FieldValue}
 use Rattle.field_defs.specs.declared.field.FieldValue.TheVariants.{Mask, Range, Bitmask}
-use Rattle.field_defs.specs.FieldMatch.{field_match, is_size, CanMatch, is_range_filled}
+use Rattle.field_defs.specs.FieldMatch.{field_match, CanMatch, is_range_filled}
 use Rattle.field_defs.specs.Layout.{key_len_of}
 use Rattle.rule_set.specs.Lawful.{IsLawfulValue}
 use Rattle.node_expand.specs.declared.edge.Edge.{Edge}
@@ -27,6 +27,7 @@ use Rattle.node_expand.proofs.Offered.{range_start, mask_start, bitmask_start, s
 use Rattle.node_expand.proofs.Offered.{edges_say, edges_are_one}
 use Rattle.group_states.specs.Entry.{FieldPlace, field_at}
 use Rattle.group_states.specs.RuleRest.{values_rest}
+use Rattle.field_defs.proofs.Offered.{size_at_least_1}
 
 abbrev pub packed_edge : List FieldDef → List FieldValue → List ℕ → Option Edge
 packed_edge [] [] key = Some Free
@@ -65,9 +66,6 @@ number_small bytes below = let h = number_from 0 bytes below in omega arith
 
 -- ---- one field
 
-size_some : (size : ℕ) → IsTrue (is_size size) → 0 < size
-size_some size h = grind (arith, nat_tests)
-
 -- before its first byte a lawful value has an edge
 start_some : (def : FieldDef) (value : FieldValue) → IsLawfulValue def value
     → (edge : Edge) × (edge_after value def.size 0 0 ≡ Some edge)
@@ -77,13 +75,13 @@ start_some def value lawful = by value lawful.can_match lawful.filled
         → (edge : Edge) × (edge_after v def.size 0 0 ≡ Some edge)
     by (Mask value bits) can filled = (
       _,
-      mask_start value bits def.size (size_some def.size can.lawful_size) (leb-true _ _ can.mask_within)
+      mask_start value bits def.size (size_at_least_1 def.size can.lawful_size) (leb-true _ _ can.mask_within)
           (ltb-true _ _ can.within_size),
     )
     by (Range low high) can filled =
         let both = and_parts (ltb low (256 ^ def.size)) (ltb high (256 ^ def.size)) can.within_size in (
           _,
-          range_start low high def.size (size_some def.size can.lawful_size) (leb-true _ _ filled)
+          range_start low high def.size (size_at_least_1 def.size can.lawful_size) (leb-true _ _ filled)
               (ltb-true _ _ both.1),
         )
     by (Bitmask value mask) can filled =
@@ -158,7 +156,7 @@ pub packed_nothing : (defs : List FieldDef) (values : List FieldValue) → AllZi
 packed_nothing [] [] lawful = refl
 packed_nothing [] (v ∷ vs) lawful = absurd lawful
 packed_nothing (d ∷ ds) [] lawful = absurd lawful
-packed_nothing (d ∷ ds) (v ∷ vs) lawful = packed_in d ds v vs [] (size_some d.size lawful.0.can_match.lawful_size)
+packed_nothing (d ∷ ds) (v ∷ vs) lawful = packed_in d ds v vs [] (size_at_least_1 d.size lawful.0.can_match.lawful_size)
 
 -- the edge after the last byte of a field
 whole_edge : (value : FieldValue) (size number : ℕ)

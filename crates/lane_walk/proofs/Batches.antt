@@ -1,6 +1,7 @@
 -- Turns of all lanes, from the first state on until the machine is done.
 use Rattle.std.proofs.Common.{◌≡◌, ℕ, zero, suc, ◌+◌, ◌*◌, ◌<◌, ◌≤◌, List, sym, ap, ◌∙◌, refl, arith}
-use Rattle.std.proofs.Common.{length, take, drop, get_or, true, false, inl, inr, subst, add-one, length-take, length-drop}
+use Rattle.std.proofs.Common.{length, take, drop, get_or, true, false, inl, inr, subst, add-one, length-take}
+use Rattle.std.proofs.Common.{length-drop}
 use Rattle.std.specs.Prelude.{None, count_by, replicate}
 use Rattle.std.specs.List.{range_with_len}
 use Rattle.std.proofs.Math.Nat.{mul-le-mul}
@@ -12,7 +13,7 @@ use Rattle.table_sizes.specs.Groups.{max_key_len}
 use Rattle.flat_table.specs.Table.{TableView}
 use Rattle.flat_table.specs.Sound.{sound_fault}
 use Rattle.table_sizes.specs.Sizes.{max_keys}
-use Rattle.flat_table.specs.Batch.{batch_transitions, keys_in, most_of_batch}
+use Rattle.flat_table.specs.Batch.{batch_transitions, keys_in}
 use Rattle.flat_table.specs.Laws.{WalksGoStepByStep, WalksStay}
 use Rattle.flat_table.proofs.Offered.{batch_bound}
 use Rattle.flow_core.specs.Rows.{zero_row, cleared}
@@ -255,8 +256,3 @@ pub steps_fit : (table : TableView) (keys : List ℕ) → keys_in table keys ≤
 steps_fit table keys few tries short =
     let longer : table.key_len + 1 ≤ max_key_len + 1 = omega (arith, short) in
     mul-le-mul (mul-le-mul few tries) longer
-
--- what all keys take is within their bound
-pub taken_bound : (table : TableView) (keys : List ℕ) {taken : ℕ} → taken ≡ batch_transitions table keys →
-    taken ≤ most_of_batch table keys
-taken_bound table keys is = omega (arith, is, batch_bound table keys)

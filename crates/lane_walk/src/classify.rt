@@ -77,7 +77,7 @@ fn fly<const W: usize, L: Ledger>(
 /// the first key, then those of the second. A verdict is the userdata of the winner, or 0 where no
 /// rule wins. The rows of the keys are left in the scratch, and all its other rows stay. It refuses
 /// nothing and takes no memory.
-#[tactic(auto, using(crate::proofs::Batches::taken_bound))]
+#[tactic(auto, using(scalar_walk::proofs::Offered::taken_bound))]
 pub fn classify_lanes<const W: usize, L: Ledger>(
     table: &Table,
     keys: &[u8],

@@ -1,6 +1,8 @@
 -- Tests of all elements of a list and of some, and the elements that come first.
-use Rattle.std.proofs.Common.{◌≡◌, ℕ, suc, ◌+◌, ◌<◌, ◌≤◌, Bool, true, false, not, ◌&&◌, cond, eqb, List, [], ◌∷◌, ◌++◌}
-use Rattle.std.proofs.Common.{length, take, drop, get_or, map, filter, refl, sym, ap, ◌∙◌, inl, inr, arith}
+use Rattle.std.proofs.Common.{◌≡◌, ℕ, suc, ◌+◌, ◌<◌, ◌≤◌, Bool, true, false, not, ◌&&◌, cond, eqb, List, [], ◌∷◌}
+use Rattle.std.proofs.Common.{◌++◌}
+use Rattle.std.proofs.Common.{◌||◌, length, take, drop, get_or, map, filter, set, zero, refl, sym, ap, ◌∙◌, inl, inr}
+use Rattle.std.proofs.Common.{arith}
 use Rattle.std.proofs.lemmas.Bool.{cases_Bool, and_parts, and_from, or_left, or_right}
 use Rattle.std.proofs.lemmas.List.{take-append-drop}
 use Rattle.std.proofs.lemmas.List.Folds.{list_all-append, list_any-append, list_all_more}
@@ -117,3 +119,11 @@ filter_twice p q both (x ∷ xs) same = elim (cases_Bool (p x)) [
   | inl e ↦ rw (same x, e) (ap (λ rest. cond (q x) (x ∷ rest) rest) (filter_twice p q both xs same))
   | inr e ↦ rw (same x, e) (filter_twice p q both xs same)
 ]
+
+-- where an element is changed to one that passes alike, as many pass
+pub any-set_alike : {X : Type 0} (p : X → Bool) (xs : List X) (i : ℕ) (x d : X) → i < length xs →
+    p x ≡ p (get_or xs i d) → list_any p (set xs i x) ≡ list_any p xs
+any-set_alike p [] i x d within same = refl
+any-set_alike p (y ∷ xs) zero x d within same = ap (λ (b : Bool). b || list_any p xs) same
+any-set_alike p (y ∷ xs) (suc i) x d within same =
+    ap (λ (b : Bool). p y || b) (any-set_alike p xs i x d (omega arith) same)

@@ -21,6 +21,8 @@ pub mod Passing
 pub mod Positions
 pub mod Powers
 pub mod Ranges
+pub mod Rests
+pub mod Searches
 pub mod Spans
 pub mod Sums
 pub mod Tests

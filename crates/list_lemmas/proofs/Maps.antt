@@ -88,3 +88,10 @@ find_in_filter {X = X} q p xs w found = among (filter p xs) (filter_passes p xs)
           ap p (sym same) ∙ All-head (λ z. p z ≡ true) y ys all)
       | inr later ↦ among ys (All-tail (λ z. p z ≡ true) y ys all) (rw later at e)
     ]
+
+-- two tests that agree at each element of a list keep the same elements of it
+pub filter_where : {X : Type 0} (p q : X → Bool) (xs : List X) → All (λ x. p x ≡ q x) xs → filter p xs ≡ filter q xs
+filter_where p q [] all = refl
+filter_where p q (x ∷ xs) all =
+    let rest = filter_where p q xs (All-tail (λ y. p y ≡ q y) x xs all) in
+    λ i. cond (All-head (λ y. p y ≡ q y) x xs all i) (x ∷ rest i) (rest i)

@@ -1,7 +1,8 @@
 -- Numbers, their quotients and remainders, and bounds of them.
 use Rattle.std.proofs.lemmas.Bool.{ne_eqb, lt-leb, le-leb, cases_order, eq-eqb}
-use Rattle.std.proofs.Common.{leb, inl, inr, ap, arith, eqb, ℕ, ◌≡◌, ◌+◌, ◌-◌, ◌*◌, ◌/◌, ◌%◌, ◌<◌, ◌&&◌, cond, ltb, ◌≤◌}
-use Rattle.std.proofs.Common.{true, ◌||◌, min, max}
+use Rattle.std.proofs.Common.{leb, inl, inr, ap, arith, eqb, ℕ, ◌≡◌, ◌+◌, ◌-◌, ◌*◌, ◌/◌, ◌%◌, ◌<◌, ◌&&◌, cond, ltb}
+use Rattle.std.proofs.Common.{◌≤◌}
+use Rattle.std.proofs.Common.{true, ◌||◌, min, max, List, length, subst}
 use Rattle.std.proofs.lemmas.Nat.{mod_below, div-mul-add, mod-mul-add}
 use Rattle.std.proofs.Math.Nat.{mul-le-mul_right, div-add-mod'}
 use Rattle.std.proofs.Math.Arith.{mod-mul}
@@ -63,3 +64,8 @@ first_half first second one other prefix = grind (arith, nat_tests)
 pub second_half : (first second : ℕ) → first ≤ 64 → second ≤ 64 → (eqb second 0 || eqb first 64) ≡ true →
     max (first + second) 64 - 64 ≡ second
 second_half first second one other prefix = grind (arith, nat_tests)
+
+-- numbers that are whole parts of a length are so of the same length
+pub whole_of_lengths : (xs : List ℕ) (len other : ℕ) → len ≡ other → length xs ≡ length xs / len * len →
+    length xs ≡ length xs / other * other
+whole_of_lengths xs len other same whole = subst (λ (n : ℕ). length xs ≡ length xs / n * n) same whole

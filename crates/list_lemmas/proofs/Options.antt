@@ -1,7 +1,7 @@
 -- Options that a function was given, or that it made.
 use Rattle.std.proofs.Common.{ℕ, ◌<◌, arith, ap, ◌≡◌, Some, None, Option, refl}
 use Rattle.std.specs.Prelude.{unwrap_or}
-use Rattle.std.specs.Option.{option_map}
+use Rattle.std.specs.Option.{option_map, option_or}
 
 -- a function makes None of None alone
 pub no_number : {A B : Type 0} (f : A → B) (found : Option A) → option_map f found ≡ None → found ≡ None
@@ -18,3 +18,8 @@ from_option_map f (Some x) made is = (x, refl, cc)
 pub some_below : (read : Option ℕ) (default n : ℕ) → unwrap_or read default ≡ n → n < default → read ≡ Some n
 some_below None default n is small = absurd (omega arith)
 some_below (Some m) default n is small = ap Some is
+
+-- where two answers together are none, both are
+pub both_none : {A : Type 0} (one other : Option A) → option_or one other ≡ None → (one ≡ None) × (other ≡ None)
+both_none None other none = (refl, none)
+both_none (Some x) other none = absurd cc

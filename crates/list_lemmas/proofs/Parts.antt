@@ -1,8 +1,10 @@
 -- Parts of lists: what stands before a place and after it, and parts that are written over others.
-use Rattle.std.proofs.Common.{length-append, ◌≡◌, ℕ, suc, ◌+◌, ◌-◌, ◌<◌, ◌≤◌, List, [], ◌∷◌, ◌++◌, length, take, drop}
+use Rattle.std.proofs.Common.{length-append, length-take, length-drop, ◌*◌, ◌≡◌, ℕ, suc, ◌+◌, ◌-◌, ◌<◌, ◌≤◌, List, []}
+use Rattle.std.proofs.Common.{◌∷◌, ◌++◌, length, take, drop}
 use Rattle.std.proofs.Common.{get_or, slice_set, refl, sym, ap, ◌∙◌, arith, append_assoc}
 use Rattle.std.proofs.Math.ListN.{set}
-use Rattle.std.proofs.Math.Seq.{take-add}
+use Rattle.std.proofs.Math.Seq.{take-add, take-append_seam, drop-append_seam}
+use Rattle.std.specs.List.{remove}
 use Rattle.std.proofs.lemmas.List.{take_at, drop_at, take_more_set, drop-drop, drop_more, take-append-drop}
 use borrow.Rule.Slice.PartMut.{put_mid}
 
@@ -51,3 +53,22 @@ set_last xs place x before inside is = take_more_set xs place x inside ∙ ap (�
 pub length-append-le : {X : Type 0} (first second : List X) (n m : ℕ) → length first ≤ n → length second ≤ m →
     length (first ++ second) ≤ n + m
 length-append-le first second n m one other = omega (arith, length-append first second)
+
+-- two elements in the place of one that was taken out
+pub two_for_one : {X : Type 0} (xs : List X) (place : ℕ) (one other : X) → place < length xs →
+    take place (remove xs place) ++ one ∷ other ∷ drop place (remove xs place)
+    ≡ take place xs ++ one ∷ other ∷ drop (place + 1) xs
+two_for_one xs place one other within =
+    let before = take place xs in
+    let after = drop (suc place) xs in
+    let long : place ≡ length before = omega (arith, length-take place xs) in
+    let next : suc place ≡ place + 1 = omega arith in
+    (λ i. (ap (λ n. take n (before ++ after)) long ∙ take-append_seam before after) i
+    ++ one ∷ other ∷ (ap (λ n. drop n (before ++ after)) long ∙ drop-append_seam before after) i)
+    ∙ ap (λ n. before ++ one ∷ other ∷ drop n xs) next
+
+-- a part of m pieces of the same width
+pub part_len : {X : Type 0} (xs : List X) (k m width : ℕ) → (k + m) * width ≤ length xs →
+    length (take ((k + m) * width - k * width) (drop (k * width) xs)) ≡ m * width
+part_len {X = X} xs k m width fits =
+    omega (arith, fits, length-take ((k + m) * width - k * width) (drop (k * width) xs), length-drop (k * width) xs)

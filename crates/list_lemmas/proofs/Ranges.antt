@@ -1,9 +1,13 @@
 -- Tests and functions over the numbers of a range.
-use Rattle.std.proofs.Common.{◌≡◌, ℕ, zero, suc, ◌+◌, ◌<◌, ◌≤◌, ◌⊎◌, [], ◌∷◌, ◌++◌, map, filter, Bool, true, false, ◌&&◌}
-use Rattle.std.proofs.Common.{cond, refl, ◌∙◌, ap, inl, inr, arith, append-nil}
-use Rattle.std.specs.List.{range_with_len, list_all}
+use Rattle.std.proofs.Common.{◌≡◌, ℕ, zero, suc, ◌+◌, ◌<◌, ◌≤◌, ◌⊎◌, List, [], ◌∷◌, ◌++◌, map, filter, Bool, true}
+use Rattle.std.proofs.Common.{false}
+use Rattle.std.proofs.Common.{◌&&◌, cond, refl, ◌∙◌, ap, inl, inr, arith, append-nil, subst, sym}
+use Rattle.std.specs.List.{flat_map, range_with_len, list_all}
+use Rattle.std.specs.Prelude.{All}
 use Rattle.std.proofs.lemmas.Bool.{cases_Bool, cases_eq, and_parts}
 use Rattle.std.proofs.lemmas.List.{map-append}
+use Rattle.std.proofs.lemmas.List.Concat.{flat_map-append}
+use Rattle.std.proofs.lemmas.List.Elements.{All-from_get_or}
 use Rattle.std.proofs.lemmas.List.Folds.{list_all-append, list_all_at}
 use Rattle.std.proofs.lemmas.List.FromFn.{length-range_with_len, get_or-range_with_len}
 use Rattle.list_lemmas.proofs.Positions.{range-push, filter-range-push}
@@ -16,6 +20,13 @@ range_more count = range-push 0 count ∙ ap (λ n. range_with_len 0 count ++ n 
 pub map_more_numbers : {X : Type 0} (f : ℕ → X) (count : ℕ)
     → map f (range_with_len 0 (count + 1)) ≡ map f (range_with_len 0 count) ++ f count ∷ []
 map_more_numbers f count = ap (map f) (range_more count) ∙ map-append f (range_with_len 0 count) (count ∷ [])
+
+-- and the lists that a function makes of the numbers, one after the other
+pub parts_more : {X : Type 0} (f : ℕ → List X) (count : ℕ)
+    → flat_map f (range_with_len 0 (count + 1)) ≡ flat_map f (range_with_len 0 count) ++ f count
+parts_more f count =
+    ap (flat_map f) (range_more count) ∙ flat_map-append f (range_with_len 0 count) (count ∷ [])
+    ∙ ap (λ last. flat_map f (range_with_len 0 count) ++ last) (append-nil (f count))
 
 -- a test that passes for it, too, passes for all of them
 pub all_more_numbers : (p : ℕ → Bool) (count : ℕ) → list_all p (range_with_len 0 count) ≡ true → p count ≡ true
@@ -66,3 +77,9 @@ all_or_some_not p first (suc count) = elim (cases_Bool (p first)) [
     | inr one ↦ inr (one.0, omega (arith, one.1), omega (arith, one.2), one.3)
   ]
 ]
+
+-- what holds of each number below the end of a range holds of all of its numbers
+pub All-range : (P : ℕ → Type 0) (n : ℕ) → ((k : ℕ) → k < n → P k) → All P (range_with_len 0 n)
+All-range P n each = All-from_get_or P (range_with_len 0 n) 0 (λ i below.
+    let less : i < n = omega (arith, below, length-range_with_len 0 n) in
+    subst P (sym (get_or-range_with_len 0 n i 0 less ∙ omega arith)) (each i less))

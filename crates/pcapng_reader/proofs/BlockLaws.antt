@@ -3,8 +3,8 @@ use Rattle.std.proofs.Common.{◌≡◌, ℕ, ◌+◌, ◌-◌, ◌%◌, ◌<◌
 use Rattle.std.proofs.Common.{true, false}
 use Rattle.std.proofs.Common.{Option, Some, None, Result, Ok, Err, inl, inr, refl, sym, subst, ap, ◌∙◌, arith}
 use Rattle.std.proofs.Common.{length-append}
-use Rattle.std.specs.Prelude.{◌==◌, ⊤, Bool, ◌||◌, not, nat_lt, slice_get}
-use Rattle.std.proofs.lemmas.Bool.{cases_eq, cases_lt, lt-ltb, le-ltb, ne_eqb, eq-eqb, false≢true}
+use Rattle.std.specs.Prelude.{◌==◌, ⊤, Bool, not, nat_lt, slice_get}
+use Rattle.std.proofs.lemmas.Bool.{cases_eq, cases_lt, lt-ltb, le-ltb, ne_eqb, eq-eqb, false≢true, or_parts}
 use Rattle.std.proofs.lemmas.List.{drop-append-le}
 use Rattle.pcap_reader.specs.declared.fault.CaptureFault.{CaptureFault}
 use Rattle.pcap_reader.specs.declared.fault.CaptureFault.TheVariants.{RecordCut, RecordTooLong}
@@ -77,14 +77,6 @@ not_less a b is = elim (cases_lt a b) [
   | inr more ↦ more
 ]
 
-or_right : (a b : Bool) → (a || b) ≡ false → b ≡ false
-or_right true b is = absurd (false≢true (sym is))
-or_right false b is = is
-
-or_left : (a b : Bool) → (a || b) ≡ false → a ≡ false
-or_left true b is = absurd (false≢true (sym is))
-or_left false b is = refl
-
 -- a test that a number is no multiple of 4 failed
 multiple_of_4 : (n : ℕ) → not (n % 4 == 0) ≡ false → n % 4 ≡ 0
 multiple_of_4 n is = elim (cases_eq (n % 4) 0) [
@@ -110,11 +102,11 @@ HasFront-from state bytes front is =
           (refuse_ok (nat_lt (length bytes) front_len) (PngCut (state.count + 1)) there.0 there.1);
       total = refl;
       least = not_less total (least_len kind)
-          (or_right (not (total % 4 == 0)) (nat_lt total (least_len kind))
-          (refuse_ok (is_no_len kind total) (PngLength (state.count + 1)) long.0 long.1));
+          (or_parts (not (total % 4 == 0)) (nat_lt total (least_len kind))
+          (refuse_ok (is_no_len kind total) (PngLength (state.count + 1)) long.0 long.1)).1;
       multiple = multiple_of_4 total
-          (or_left (not (total % 4 == 0)) (nat_lt total (least_len kind))
-          (refuse_ok (is_no_len kind total) (PngLength (state.count + 1)) long.0 long.1));
+          (or_parts (not (total % 4 == 0)) (nat_lt total (least_len kind))
+          (refuse_ok (is_no_len kind total) (PngLength (state.count + 1)) long.0 long.1)).0;
     }
 
 -- a front is at least as long as any block

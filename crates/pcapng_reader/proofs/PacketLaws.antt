@@ -1,9 +1,9 @@
 -- How the next packet is found among blocks.
 use Rattle.std.proofs.Common.{◌≡◌, ℕ, ◌+◌, ◌<◌, List, [], ◌++◌, Some, None, Ok, Err}
 use Rattle.std.proofs.Common.{inl, inr}
-use Rattle.std.proofs.Common.{refl, sym, subst, ap, ◌∙◌, append_assoc, append-nil, arith, true, false}
-use Rattle.std.specs.Prelude.{⊤, Bool, ◌||◌, nat_lt}
-use Rattle.std.proofs.lemmas.Bool.{cases_lt, lt-ltb, false≢true}
+use Rattle.std.proofs.Common.{refl, sym, subst, ap, ◌∙◌, append_assoc, append-nil, arith, false}
+use Rattle.std.specs.Prelude.{⊤, nat_lt}
+use Rattle.std.proofs.lemmas.Bool.{cases_lt, lt-ltb, false≢true, or_parts}
 use Rattle.acl_outside.specs.Desk.{DeskView}
 use Rattle.acl_outside.specs.Heard.{Ending, GoesOn, Ended}
 use Rattle.acl_outside.specs.Reading.{ReadsOn, and_goes_on}
@@ -45,24 +45,16 @@ below limit count is = elim (cases_lt limit (count + 1)) [
   | inr more ↦ omega (arith, more)
 ]
 
-or_left : (a b : Bool) → (a || b) ≡ false → a ≡ false
-or_left true b is = absurd (false≢true (sym is))
-or_left false b is = refl
-
-or_right : (a b : Bool) → (a || b) ≡ false → b ≡ false
-or_right true b is = absurd (false≢true (sym is))
-or_right false b is = is
-
 said_counts : (x : Said) (state : BlockState) (front : Front) (bytes : List ℕ) → is_last state ≡ false →
     CountsBlock state (block_said state front x bytes)
 said_counts said.Section state front bytes few =
-    (refl, below max_blocks state.blocks (or_right (nat_lt max_records (state.count + 1)) _ few), refl, refl)
+    (refl, below max_blocks state.blocks (or_parts (nat_lt max_records (state.count + 1)) _ few).1, refl, refl)
 said_counts (said.Interface link) state front bytes few =
-    (refl, below max_blocks state.blocks (or_right (nat_lt max_records (state.count + 1)) _ few), refl, refl)
+    (refl, below max_blocks state.blocks (or_parts (nat_lt max_records (state.count + 1)) _ few).1, refl, refl)
 said_counts (said.Packet link captured) state front bytes few =
-    (below max_records state.count (or_left (nat_lt max_records (state.count + 1)) _ few), refl, refl)
+    (below max_records state.count (or_parts (nat_lt max_records (state.count + 1)) _ few).0, refl, refl)
 said_counts said.Other state front bytes few =
-    (refl, below max_blocks state.blocks (or_right (nat_lt max_records (state.count + 1)) _ few), refl, refl)
+    (refl, below max_blocks state.blocks (or_parts (nat_lt max_records (state.count + 1)) _ few).1, refl, refl)
 
 pub block-counts : (state : BlockState) (bytes : List ℕ) → CountsBlock state (block_at state bytes)
 block-counts state bytes = go (came state bytes)

@@ -5,9 +5,10 @@ use Rattle.std.specs.Prelude.{nat_le}
 use Rattle.std.specs.List.{Contains, range_with_len}
 use Rattle.std.specs.List.Sorted.{IsStrictlyIncreasing}
 use Rattle.std.proofs.lemmas.Bool.{cases_Bool, and_parts, leb-true, eqb-true, eqb-false}
-use Rattle.std.proofs.lemmas.List.{take-append-drop, append-nil, append_assoc, length-append, length-take, length-drop}
+use Rattle.std.proofs.lemmas.List.{take-append-drop, append-nil, append_assoc, length-append, length-take}
+use Rattle.std.proofs.lemmas.List.{length-drop}
 use Rattle.std.proofs.lemmas.List.Concat.{flat_map-cons}
-use Rattle.std.proofs.lemmas.List.FromFn.{get_or-range_with_len, length-range_with_len}
+use Rattle.std.proofs.lemmas.List.FromFn.{length-range_with_len}
 use Rattle.std.proofs.lemmas.Grind.{flat_map-append}
 use Rattle.std.proofs.lemmas.List.Elements.{All-append, All-cons, All-nil, All-take, All-drop, All-get_or, All-weaker}
 use Rattle.std.proofs.lemmas.List.Elements.{All-contains, All-contains_itself}
@@ -26,6 +27,7 @@ use Rattle.std.specs.Option.{option_map_or}
 use Rattle.rule_split.specs.Laws.{GroupsHoldEachRuleOnce}
 use Rattle.rule_split.proofs.Halves.{IsTwoOf, divided_is}
 use Rattle.table_sizes.specs.Sizes.{max_tries}
+use Rattle.list_lemmas.proofs.Loops.{below_count}
 
 -- the places of groups of which one has become two
 places_of_two : (before later : List (List ℕ)) (one other : List ℕ) →
@@ -177,12 +179,6 @@ first_is set = elim (cases_Bool (length set.rules == 0)) [
       )
 ]
 
--- a number of a range is below its end
-below_end : (n number : ℕ) → Contains (range_with_len 0 n) number → number < n
-below_end n number among =
-    let long = length-range_with_len 0 n in
-    omega (arith, among.1, among.2, get_or-range_with_len 0 n among.0 number (omega (arith, among.1)))
-
 -- all rules are a group, where there are some
 pub all_are_group : (set : RuleSetView) → length set.rules ≢ 0 → IsGroup set (range_with_len 0 (length set.rules))
 all_are_group set some =
@@ -191,7 +187,7 @@ all_are_group set some =
     record {
       some = omega (arith, some, length-range_with_len 0 n);
       ascending = increasing_range n;
-      within = All-weaker (Contains all) (λ number. number < n) (below_end n) all (All-contains_itself all);
+      within = All-weaker (Contains all) (λ number. number < n) (below_count n) all (All-contains_itself all);
     }
 
 -- each group of a partition is one of the set
@@ -203,7 +199,7 @@ groups_are set groups parts =
       some = All-contains (λ group. 0 < length group) groups group parts.some at;
       ascending = All-contains IsStrictlyIncreasing groups group parts.ascending at;
       within = All-weaker (Contains group) (λ number. number < n)
-          (λ number has. below_end n number (place_of_set n groups group number parts at has)) group
+          (λ number has. below_count n number (place_of_set n groups group number parts at has)) group
           (All-contains_itself group);
     }) groups (All-contains_itself groups)
 

@@ -1,10 +1,8 @@
 -- What it comes to that a group which was counted becomes two.
-use Rattle.std.proofs.Common.{◌≡◌, ℕ, suc, ◌+◌, ◌<◌, ◌++◌, List, [], ◌∷◌, length, map, take, drop, get_or, All, Result}
-use Rattle.std.proofs.Common.{Ok, Err, OnOk, sym, ap, ◌∙◌, arith}
-use Rattle.std.specs.List.{remove}
-use Rattle.std.proofs.lemmas.List.{append_assoc, length-map, length-take, map-append, take-map, drop-map, get_or-map}
+use Rattle.std.proofs.Common.{◌≡◌, ℕ, ◌+◌, ◌<◌, ◌++◌, List, [], ◌∷◌, length, map, take, drop, get_or, All}
+use Rattle.std.proofs.Common.{sym, ap, ◌∙◌, arith}
+use Rattle.std.proofs.lemmas.List.{append_assoc, length-map, map-append, take-map, drop-map, get_or-map}
 use Rattle.std.proofs.lemmas.List.Elements.{All-append, All-cons, All-take, All-drop, All-get_or}
-use Rattle.std.proofs.Math.Seq.{take-append_seam, drop-append_seam}
 use Rattle.rule_set.specs.Rule.{RuleSetView}
 use Rattle.rule_set.specs.Groups.{IsPartition}
 use Rattle.group_states.specs.Levels.{IsGroup}
@@ -13,24 +11,6 @@ use Rattle.rule_split.specs.Counted.{group_in, IsCounted}
 use Rattle.rule_split.specs.Divide.{divided}
 use Rattle.rule_split.specs.Split.{split_at}
 use Rattle.rule_split.proofs.Groups.{groups_are}
-
--- what follows where a call succeeded
-pub on_ok : {A E P Q : Type 0} (result : Result A E) → (P → Q) → OnOk result P → OnOk result Q
-on_ok (Ok x) then h = then h
-on_ok (Err e) then h = h
-
--- two elements in the place of one that was taken out
-pub two_for_one : {X : Type 0} (xs : List X) (place : ℕ) (one other : X) → place < length xs →
-    take place (remove xs place) ++ one ∷ other ∷ drop place (remove xs place)
-    ≡ take place xs ++ one ∷ other ∷ drop (place + 1) xs
-two_for_one xs place one other within =
-    let before = take place xs in
-    let after = drop (suc place) xs in
-    let long : place ≡ length before = omega (arith, length-take place xs) in
-    let next : suc place ≡ place + 1 = omega arith in
-    (λ i. (ap (λ n. take n (before ++ after)) long ∙ take-append_seam before after) i
-    ++ one ∷ other ∷ (ap (λ n. drop n (before ++ after)) long ∙ drop-append_seam before after) i)
-    ∙ ap (λ n. before ++ one ∷ other ∷ drop n xs) next
 
 -- the group at a place
 pub group_at : (groups : List Counted) (place : ℕ) (group : Counted) → place < length groups →

@@ -1,5 +1,6 @@
 -- The verdicts of a batch, some keys after others.
-use Rattle.std.proofs.Common.{◌≡◌, ℕ, zero, suc, ◌+◌, ◌-◌, ◌*◌, ◌/◌, ◌<◌, ◌≤◌, List, [], ◌∷◌, ◌++◌, sym, ap, ◌∙◌, arith}
+use Rattle.std.proofs.Common.{◌≡◌, ℕ, zero, suc, ◌+◌, ◌-◌, ◌*◌, ◌/◌, ◌<◌, ◌≤◌, List, [], ◌∷◌, ◌++◌, sym, ap, ◌∙◌}
+use Rattle.std.proofs.Common.{arith}
 use Rattle.std.proofs.Common.{add-one, subst, length, take, drop, fold, append_assoc, append-nil, length-append}
 use Rattle.std.proofs.Common.{length-take, length-drop}
 use Rattle.std.specs.Prelude.{flat_map}
@@ -173,12 +174,6 @@ pub room_fits : (bytes len count out k m : ℕ) {of many old : ℕ} → len ≡ 
 room_fits bytes len count out k m is counts same room within =
     let whole : out ≡ bytes / len * count = same ∙ room ∙ (λ i. bytes / sym is i * sym counts i) in
     omega (arith, mul-le-mul_right count within, whole)
-
--- a part of m pieces of the same width
-pub part_len : {X : Type 0} (xs : List X) (k m width : ℕ) → (k + m) * width ≤ length xs →
-    length (take ((k + m) * width - k * width) (drop (k * width) xs)) ≡ m * width
-part_len {X = X} xs k m width fits =
-    omega (arith, fits, length-take ((k + m) * width - k * width) (drop (k * width) xs), length-drop (k * width) xs)
 
 -- one key, as the code cuts it and the room for its verdicts
 pub one_key : {table : TableView} {verdicts : List ℕ} {count len n taken steps new_steps : ℕ} →

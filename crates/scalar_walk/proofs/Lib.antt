@@ -8,3 +8,4 @@ pub mod Reached
 pub mod Stepping
 pub mod Walks
 pub mod Ways
+pub mod Offered

@@ -1,31 +1,25 @@
 -- Keys that a generator gives, one more at a time.
-use Rattle.std.proofs.Common.{◌≡◌, ℕ, zero, suc, ◌+◌, ◌*◌, List, [], ◌∷◌, ◌++◌, refl, ap, ◌∙◌, arith, length}
+use Rattle.std.proofs.Common.{◌≡◌, ℕ, ◌+◌, ◌*◌, List, [], ◌∷◌, ◌++◌, refl, ap, ◌∙◌, arith, length}
 use Rattle.std.proofs.Common.{append-nil}
 use Rattle.std.specs.Prelude.{flat_map}
 use Rattle.std.specs.List.{concat, range_with_len}
 use Rattle.std.proofs.lemmas.List.Folds.{concat-append}
 use Rattle.std.proofs.lemmas.List.FromFn.{map-range_with_len_more, length-map-range_with_len}
 use Rattle.std.proofs.lemmas.Grind.{flat_map-append}
-use Rattle.rand_pcg.specs.Lcg.{Lcg, next_state, state_after}
+use Rattle.rand_pcg.specs.Lcg.{Lcg, state_after}
 use Rattle.rand_pcg.specs.Pcg.{multiplier_64}
 use Rattle.rule_set.specs.Rule.{RuleView, RuleSetView}
 use Rattle.workload_gen.specs.declared.packet.TheConstants.{KEY_LEN, KEY_WORDS}
 use Rattle.workload_gen.specs.Draws.{after_words, words_of}
 use Rattle.workload_gen.specs.Packet.{key_of_words}
 use Rattle.workload_gen.specs.Workload.{key_at, keys_of}
+use Rattle.workload_gen.proofs.Offered.{state_after_both}
 use Rattle.seed_bench.specs.Bench.{verdicts_on_key, verdicts_on_keys}
 use Rattle.seed_bench.proofs.KeyBytes.{AreOf, AreOf-map}
 
 -- the key after so many others
 abbrev pub next_key : List RuleView → Lcg → ℕ → List ℕ
 next_key rules generator place = key_of_words rules (words_of KEY_WORDS (after_words (KEY_WORDS * place) generator))
-
-state_after_both : (w m p a b s : ℕ) → state_after w m p b (state_after w m p a s) ≡ state_after w m p (a + b) s
-unfolding state_after
-state_after_both w m p zero b s = let same : b ≡ zero + b = omega arith in ap (λ n. state_after w m p n s) same
-state_after_both w m p (suc a) b s =
-    let same : suc (a + b) ≡ suc a + b = omega arith in
-    state_after_both w m p a b (next_state w m p s) ∙ ap (λ n. state_after w m p n s) same
 
 -- before the first key
 pub state-none : (generator : Lcg) → generator ≡ after_words (KEY_WORDS * 0) generator

@@ -2,14 +2,12 @@
 use Rattle.std.proofs.Common.{◌≡◌, ℕ, ◌+◌, List, ◌++◌, cond, sym, ap, ◌∙◌, arith}
 use Rattle.std.proofs.lemmas.List.Sums.{sum_by-append}
 use Rattle.std.specs.Prelude.{count_by, sum}
+use Rattle.list_lemmas.proofs.Sums.{sum-append}
 use Rattle.seed_bench.specs.declared.tally.Tally.{Tally}
 use Rattle.seed_bench.specs.Tally.{is_hit, tally_of, with_verdicts}
 
 pub hits-append : (xs ys : List ℕ) → count_by is_hit (xs ++ ys) ≡ count_by is_hit xs + count_by is_hit ys
 hits-append xs ys = sum_by-append (λ x. cond (is_hit x) 1 0) xs ys
-
-pub sum-append : (xs ys : List ℕ) → sum (xs ++ ys) ≡ sum xs + sum ys
-sum-append xs ys = sum_by-append (λ x. x) xs ys
 
 -- some verdicts, and then others
 pub with-append : (tally : Tally) (xs ys : List ℕ) →

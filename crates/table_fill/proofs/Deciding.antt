@@ -5,7 +5,8 @@ use Rattle.std.proofs.Common.{fold, replicate, ◌/◌, true, ◌%◌, ◌↔◌
 use Rattle.std.proofs.Common.{slice_index, slice_index_or, max}
 use Rattle.std.specs.List.{range_with_len, AllByRecursion, list_all}
 use Rattle.std.specs.Option.{option_map_or}
-use Rattle.list_lemmas.proofs.Loops.{all_each, below_anywhere, list_all_map, list_all_flat_map, below_count, same_some}
+use Rattle.list_lemmas.proofs.Loops.{all_each, below_anywhere, list_all_map, list_all_flat_map, below_count}
+use Rattle.list_lemmas.proofs.Loops.{same_some}
 use Rattle.std.proofs.lemmas.Bool.{cases_eq}
 use Rattle.list_lemmas.proofs.Maps.{map_where, flat_map_where, map_by_place}
 use Rattle.std.proofs.lemmas.List.FromFn.{get_or-map-range_with_len, length-map-range_with_len, length-range_with_len}
@@ -15,7 +16,8 @@ use Rattle.rule_set.specs.Winner.{userdata_at, rule_match, is_in_category, winne
 use Rattle.group_states.specs.Levels.{LevelsView, levels_of}
 use Rattle.table_sizes.specs.Sizes.{row_len}
 use Rattle.flat_table.specs.Walk.{userdatas, moved, root_of, walk_row, bytes_of, joined}
-use Rattle.table_fill.specs.Filled.{level_len, rule_word, winner_word, match_of, node_word, succ_word, words_of_levels}
+use Rattle.table_fill.specs.Filled.{level_len, rule_word, winner_word, match_of, node_word, succ_word}
+use Rattle.table_fill.specs.Filled.{words_of_levels}
 use Rattle.table_fill.specs.Filled.{matches_of, words_of_tries, roots_of, table_of_tries, rows_of_tries, filled}
 use Rattle.table_fill.specs.Tries.{HasNodes, HasWinners, winner_in, AreLevels, IsTrie}
 use Rattle.std.proofs.lemmas.Bool.Decides.{nat_tests, eqb_tells}
@@ -52,7 +54,7 @@ use Rattle.rule_set.specs.Groups.{IsPartition, rank_or_none, greatest}
 use Rattle.group_states.specs.RuleRest.{values_of}
 use Rattle.group_states.specs.Kept.{kept_places, kept_bits}
 use Rattle.list_lemmas.proofs.Each.{all-map, all_weaker, map-map}
-use Rattle.group_states.proofs.Offered.{runs_lead}
+use Rattle.group_states.proofs.Offered.{runs_lead, some_field}
 use Rattle.list_lemmas.proofs.Folds.{greatest_attained, greatest_above, greatest_least}
 use Rattle.list_lemmas.proofs.Sums.{sum_by-map}
 use Rattle.table_fill.specs.Laws.{CanBeFilled, FilledTablesDecide}
@@ -231,10 +233,6 @@ module _ (rules : List RuleView) (small : All (λ (rule : RuleView). rule.tag.us
       (λ w winner in_row. ranked_winner _ (all t trie in_tries r row in_rows w winner in_row))))
 
 -- ---- the winner of a group is the best of its rules that match
-
-some_field : (layout : List FieldDef) (key : List ℕ) → 0 < key_len_of layout → rule_match layout [] key ≡ false
-some_field [] key some = absurd (omega (arith, some))
-some_field (def ∷ layout) key some = refl
 
 module _ (set : RuleSetView) (key : List ℕ) (some : 0 < key_len_of set.layout) where
   same_match : (number : ℕ) → rule_match set.layout (values_of set number) key

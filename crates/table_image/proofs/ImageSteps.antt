@@ -8,7 +8,7 @@ use Rattle.table_image.specs.declared.fault.ImageKind.TheVariants.{Trailing}
 use Rattle.table_image.specs.declared.version.Version.{Version}
 use Rattle.table_image.specs.Reading.{◌>>=◌, checked, TableRead, table_read, version_read, pair_read, image_of}
 use Rattle.table_image.specs.Loading.{IsFaultOf}
-use Rattle.table_image.proofs.Lists.{of_check, check_passed}
+use Rattle.table_image.proofs.Readings.{of_check, check_passed}
 use Rattle.table_image.proofs.Loops.{fault_of_both, fault_of_same}
 
 -- a check that fails for one value fails for another

@@ -1,6 +1,6 @@
 pub mod Offered
 pub mod Fields
-pub mod Lists
+pub mod Readings
 pub mod NumbersRead
 pub mod WordsRead
 pub mod WordsSpelled

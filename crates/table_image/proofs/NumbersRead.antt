@@ -1,5 +1,6 @@
 -- A list of numbers is read exactly where it is spelled and each of them passes its test.
-use Rattle.std.proofs.Common.{◌≡◌, ℕ, zero, suc, ◌+◌, ◌*◌, ◌^◌, ◌<◌, ◌≤◌, List, [], ◌∷◌, ◌++◌, length, take, drop, sum}
+use Rattle.std.proofs.Common.{◌≡◌, ℕ, zero, suc, ◌+◌, ◌*◌, ◌^◌, ◌<◌, ◌≤◌, List, [], ◌∷◌, ◌++◌, length, take, drop}
+use Rattle.std.proofs.Common.{sum}
 use Rattle.std.proofs.Common.{refl, sym, ap, ◌∙◌, arith, Bool, true, length-append, length-drop, append_assoc, Ok}
 use Rattle.std.specs.Prelude.{nat_lt, nat_le}
 use Rattle.std.specs.List.{list_all}
@@ -15,7 +16,8 @@ use Rattle.table_image.specs.declared.fault.ImageKind.TheVariants.{Length}
 use Rattle.table_image.specs.Spelling.{spelled, all_spelled}
 use Rattle.table_image.specs.Reading.{checked, field, tested, numbers_after, level_fits}
 use Rattle.table_image.proofs.Fields.{AreBytes, spelled_again, length_spelled, read_again, fold_below}
-use Rattle.table_image.proofs.Lists.{after, within, RestAt, joined, of_both, both, of_check, check_passed}
+use Rattle.list_lemmas.proofs.Rests.{after, within, RestAt, joined}
+use Rattle.table_image.proofs.Readings.{of_both, both, of_check, check_passed}
 
 -- a number of so many bytes
 abbrev pub fits : ℕ → ℕ → Bool

@@ -1,5 +1,6 @@
 -- A list of numbers is read in portions.
-use Rattle.std.proofs.Common.{◌≡◌, ℕ, zero, suc, ◌+◌, ◌-◌, ◌*◌, ◌<◌, ◌≤◌, List, [], ◌∷◌, ◌++◌, length, refl, sym, ap, ◌∙◌, arith, Bool, true, false, Ok, Err, length-append, take, drop, replicate}
+use Rattle.std.proofs.Common.{◌≡◌, ℕ, zero, suc, ◌+◌, ◌-◌, ◌*◌, ◌<◌, ◌≤◌, List, [], ◌∷◌, ◌++◌, length, refl, sym, ap}
+use Rattle.std.proofs.Common.{◌∙◌, arith, Bool, true, false, Ok, Err, length-append, take, drop, replicate}
 use Rattle.std.specs.Prelude.{nat_le, ◌==◌}
 use Rattle.std.proofs.lemmas.Bool.Decides.{nat_tests}
 use Rattle.std.proofs.lemmas.List.{length-replicate, drop-drop}
@@ -9,7 +10,7 @@ use Rattle.table_image.specs.declared.fault.ImageKind.{ImageKind}
 use Rattle.table_image.specs.declared.fault.ImageKind.TheVariants.{Length}
 use Rattle.table_image.specs.declared.fault.ImageFault.{ImageFault}
 use Rattle.table_image.specs.Reading.{Reading, ◌>>=◌, checked, field, tested, fault_at, numbers_after}
-use Rattle.table_image.proofs.Lists.{check_passed}
+use Rattle.table_image.proofs.Readings.{check_passed}
 use Rattle.table_image.proofs.Loops.{number_cut}
 
 -- readings that agree after the same first part

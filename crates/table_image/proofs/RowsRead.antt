@@ -10,8 +10,10 @@ use Rattle.table_image.specs.declared.fault.ImageKind.TheVariants.{RowForm}
 use Rattle.table_image.specs.Spelling.{long, all_spelled, is_row_word, is_row}
 use Rattle.table_image.specs.Reading.{numbers, rows_after, row_bytes}
 use Rattle.table_image.proofs.Fields.{AreBytes}
-use Rattle.table_image.proofs.Lists.{after, joined, of_both, both}
-use Rattle.table_image.proofs.NumbersRead.{fits, numbers_read, numbers_spelled, length-all_spelled, tested_all, all_tested}
+use Rattle.list_lemmas.proofs.Rests.{after, joined}
+use Rattle.table_image.proofs.Readings.{of_both, both}
+use Rattle.table_image.proofs.NumbersRead.{fits, numbers_read, numbers_spelled, length-all_spelled, tested_all}
+use Rattle.table_image.proofs.NumbersRead.{all_tested}
 
 -- what was read of rows after the first ones
 pub record RowsAt (rules : ℕ) (bytes : List ℕ) (from count : ℕ) (first all : List (List ℕ)) : Type 0 where

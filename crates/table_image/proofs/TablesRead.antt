@@ -13,15 +13,20 @@ use Rattle.table_sizes.specs.Sizes.{max_rules, max_tries, max_words, row_len}
 use Rattle.table_image.specs.declared.version.Version.{Version}
 use Rattle.table_image.specs.declared.version.Version.TheVariants.{One, Two}
 use Rattle.table_image.specs.declared.fault.ImageKind.TheVariants.{Family, TooMany}
-use Rattle.table_image.specs.Spelling.{short, long, spelled, all_spelled, spelled_tries, spelled_table, is_of_version, is_row_word, is_row, IsSaved}
-use Rattle.table_image.specs.Reading.{Reading, ◌>>=◌, tested, Counts, counts, TriesView, no_tries, tries_after, words_of_tries, rows_after, row_bytes, no_rule, table_of, TableRead, words_and_rows, table_read}
+use Rattle.table_image.specs.Spelling.{short, long, spelled, all_spelled, spelled_tries, spelled_table, is_of_version}
+use Rattle.table_image.specs.Spelling.{is_row_word, is_row, IsSaved}
+use Rattle.table_image.specs.Reading.{Reading, ◌>>=◌, tested, Counts, counts, TriesView, no_tries, tries_after}
+use Rattle.table_image.specs.Reading.{words_of_tries, rows_after, row_bytes, no_rule, table_of, TableRead}
+use Rattle.table_image.specs.Reading.{words_and_rows, table_read}
 use Rattle.table_image.proofs.Fields.{AreBytes}
-use Rattle.table_image.proofs.Lists.{joined, of_both}
+use Rattle.list_lemmas.proofs.Rests.{joined}
+use Rattle.table_image.proofs.Readings.{of_both}
 use Rattle.table_image.proofs.NumbersRead.{fits, FieldAt, tested_read}
-use Rattle.table_image.proofs.WordsRead.{tries_fault, tries_words_read, none_found}
+use Rattle.table_image.proofs.WordsRead.{tries_fault, tries_words_read}
 use Rattle.table_image.proofs.TriesRead.{tries_read}
 use Rattle.table_image.proofs.TriesSound.{root_leads, AreSound, are_sound}
 use Rattle.table_image.proofs.RowsRead.{rows_read}
+use Rattle.list_lemmas.proofs.Searches.{none_found}
 
 -- what was read of the numbers before the tries
 pub record CountsAt (family : ℕ) (bytes : List ℕ) (at : ℕ) (c : Counts) : Type 0 where

@@ -1,5 +1,6 @@
 -- A table that is spelled and can be saved is read.
-use Rattle.std.proofs.Common.{◌≡◌, ℕ, zero, suc, ◌+◌, ◌-◌, ◌*◌, ◌^◌, ◌≤◌, List, [], ◌∷◌, ◌++◌, length, drop, map, replicate}
+use Rattle.std.proofs.Common.{◌≡◌, ℕ, zero, suc, ◌+◌, ◌-◌, ◌*◌, ◌^◌, ◌≤◌, List, [], ◌∷◌, ◌++◌, length, drop, map}
+use Rattle.std.proofs.Common.{replicate}
 use Rattle.std.proofs.Common.{refl, sym, ap, ◌∙◌, arith, Bool, true, append_assoc, subst, Ok, None}
 use Rattle.std.proofs.Math.Nat.{add_assoc}
 use Rattle.std.specs.Prelude.{◌==◌, nat_le}
@@ -14,15 +15,19 @@ use Rattle.flat_table.proofs.Offered.{IsSound, sound_parts}
 use Rattle.table_image.specs.declared.version.Version.{Version}
 use Rattle.table_image.specs.declared.version.Version.TheVariants.{One, Two}
 use Rattle.table_image.specs.declared.fault.ImageKind.TheVariants.{Family, TooMany}
-use Rattle.table_image.specs.Spelling.{short, long, spelled, all_spelled, spelled_tries, spelled_table, is_of_version, all_groups, is_row, IsSaved}
-use Rattle.table_image.specs.Reading.{◌>>=◌, tested, Counts, counts, TriesView, no_tries, tries_after, words_of_tries, rows_after, row_bytes, no_rule, table_of, TableRead, words_and_rows, table_read}
-use Rattle.table_image.proofs.Lists.{after, inside, RestAt, both}
+use Rattle.table_image.specs.Spelling.{short, long, spelled, all_spelled, spelled_tries, spelled_table, is_of_version}
+use Rattle.table_image.specs.Spelling.{all_groups, is_row, IsSaved}
+use Rattle.table_image.specs.Reading.{◌>>=◌, tested, Counts, counts, TriesView, no_tries, tries_after, words_of_tries}
+use Rattle.table_image.specs.Reading.{rows_after, row_bytes, no_rule, table_of, TableRead, words_and_rows, table_read}
+use Rattle.list_lemmas.proofs.Rests.{after, inside, RestAt}
+use Rattle.table_image.proofs.Readings.{both}
 use Rattle.table_image.proofs.NumbersRead.{fits, tested_spelled, after_field, rest_after, length-all_spelled}
-use Rattle.table_image.proofs.WordsRead.{tries_fault, none_fails}
+use Rattle.table_image.proofs.WordsRead.{tries_fault}
 use Rattle.table_image.proofs.WordsSpelled.{Spelled, tries_words_spelled}
 use Rattle.table_image.proofs.TriesSpelled.{with_tries, tries_spelled}
 use Rattle.table_image.proofs.TriesSound.{root_leads, AreSound, sound_are}
 use Rattle.table_image.proofs.RowsRead.{rows_spelled, length-rows}
+use Rattle.list_lemmas.proofs.Searches.{none_fails}
 
 -- the counts of a table
 abbrev pub counts_of : TableView → Counts

@@ -1,5 +1,6 @@
 -- The tries of a table are read exactly where they are spelled and lawful.
-use Rattle.std.proofs.Common.{◌≡◌, ℕ, zero, suc, ◌+◌, ◌-◌, ◌*◌, ◌/◌, ◌^◌, ◌≤◌, List, [], ◌∷◌, ◌++◌, length, take, drop, sum}
+use Rattle.std.proofs.Common.{◌≡◌, ℕ, zero, suc, ◌+◌, ◌-◌, ◌*◌, ◌/◌, ◌^◌, ◌≤◌, List, [], ◌∷◌, ◌++◌, length, take}
+use Rattle.std.proofs.Common.{drop, sum}
 use Rattle.std.proofs.Common.{refl, sym, ap, ◌∙◌, arith, true, append_assoc, Ok}
 use Rattle.std.specs.Prelude.{nat_lt, ◌==◌}
 use Rattle.std.specs.List.{list_all}
@@ -16,10 +17,13 @@ use Rattle.table_sizes.specs.Sizes.{max_words}
 use Rattle.table_image.specs.declared.version.Version.{Version}
 use Rattle.table_image.specs.declared.version.Version.TheVariants.{One, Two}
 use Rattle.table_image.specs.declared.fault.ImageKind.TheVariants.{TooMany, Unsound, KeptGroups}
-use Rattle.table_image.specs.Spelling.{short, long, kept_len, spelled, all_spelled, spelled_kept, spelled_trie, spelled_tries, all_groups}
-use Rattle.table_image.specs.Reading.{Reading, ◌>>=◌, TriesView, tested, numbers, level_fits, kept_groups, trie_of, one_trie, tries_after}
+use Rattle.table_image.specs.Spelling.{short, long, kept_len, spelled, all_spelled, spelled_kept, spelled_trie}
+use Rattle.table_image.specs.Spelling.{spelled_tries, all_groups}
+use Rattle.table_image.specs.Reading.{Reading, ◌>>=◌, TriesView, tested, numbers, level_fits, kept_groups, trie_of}
+use Rattle.table_image.specs.Reading.{one_trie, tries_after}
 use Rattle.table_image.proofs.Fields.{AreBytes}
-use Rattle.table_image.proofs.Lists.{joined, of_both}
+use Rattle.list_lemmas.proofs.Rests.{joined}
+use Rattle.table_image.proofs.Readings.{of_both}
 use Rattle.table_image.proofs.NumbersRead.{fits, tested_read, numbers_read, levels_fit}
 
 -- a trie of these kept groups, this root and these level lengths is lawful, where the rows take some of the words of

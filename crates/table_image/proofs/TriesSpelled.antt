@@ -15,10 +15,14 @@ use Rattle.table_sizes.specs.Sizes.{max_words}
 use Rattle.table_image.specs.declared.version.Version.{Version}
 use Rattle.table_image.specs.declared.version.Version.TheVariants.{One, Two}
 use Rattle.table_image.specs.declared.fault.ImageKind.TheVariants.{TooMany, Unsound, KeptGroups}
-use Rattle.table_image.specs.Spelling.{short, long, kept_len, spelled, all_spelled, spelled_kept, spelled_trie, spelled_tries, all_groups}
-use Rattle.table_image.specs.Reading.{◌>>=◌, TriesView, tested, numbers, level_fits, kept_groups, trie_of, one_trie, tries_after}
-use Rattle.table_image.proofs.Lists.{after, RestAt, both}
-use Rattle.table_image.proofs.NumbersRead.{fits, tested_spelled, after_field, rest_after, AllTested, numbers_spelled, length-all_spelled}
+use Rattle.table_image.specs.Spelling.{short, long, kept_len, spelled, all_spelled, spelled_kept, spelled_trie}
+use Rattle.table_image.specs.Spelling.{spelled_tries, all_groups}
+use Rattle.table_image.specs.Reading.{◌>>=◌, TriesView, tested, numbers, level_fits, kept_groups, trie_of, one_trie}
+use Rattle.table_image.specs.Reading.{tries_after}
+use Rattle.list_lemmas.proofs.Rests.{after, RestAt}
+use Rattle.table_image.proofs.Readings.{both}
+use Rattle.table_image.proofs.NumbersRead.{fits, tested_spelled, after_field, rest_after, AllTested, numbers_spelled}
+use Rattle.table_image.proofs.NumbersRead.{length-all_spelled}
 use Rattle.table_image.proofs.TriesRead.{IsTrie, AreTries, small_lens}
 
 -- the kept groups of a trie, and what stands after them

@@ -1,11 +1,12 @@
 -- The words of a table are read exactly where they are spelled and sound.
 use Rattle.std.proofs.Common.{◌≡◌, ℕ, ◌+◌, ◌*◌, List, [], ◌∷◌, ◌++◌, length, take, drop, sum, map}
-use Rattle.std.proofs.Common.{refl, sym, ap, ◌∙◌, arith, Bool, true, not, length-append, length-drop, append_assoc, Ok, Option, Some, None, inl, inr}
+use Rattle.std.proofs.Common.{refl, sym, ap, ◌∙◌, arith, Bool, true, not, length-append, length-drop, append_assoc}
+use Rattle.std.proofs.Common.{Ok, Option, None}
 use Rattle.std.specs.List.{list_all, position_from}
 use Rattle.std.specs.Option.{option_or}
-use Rattle.std.proofs.lemmas.List.{append-nil, take_at, drop_at}
+use Rattle.std.proofs.lemmas.List.{append-nil}
 use Rattle.std.proofs.lemmas.List.Sums.{sum_by-cons, sum_by-take-drop}
-use Rattle.std.proofs.lemmas.Bool.{and_parts, and_from, cases_Bool}
+use Rattle.std.proofs.lemmas.Bool.{and_from}
 use Rattle.std.proofs.lemmas.List.Folds.{list_all-append}
 use Rattle.std.proofs.lemmas.Grind.{flat_map-append}
 use Rattle.flat_table.specs.declared.level.Level.{Level}
@@ -16,40 +17,14 @@ use Rattle.table_image.specs.declared.fault.ImageKind.TheVariants.{Unsound}
 use Rattle.table_image.specs.Spelling.{long, spelled, all_spelled}
 use Rattle.table_image.specs.Reading.{numbers_after, words_of_levels, words_of_tries}
 use Rattle.table_image.proofs.Fields.{AreBytes}
-use Rattle.table_image.proofs.Lists.{joined, of_both}
+use Rattle.list_lemmas.proofs.Rests.{joined, part_of}
+use Rattle.table_image.proofs.Readings.{of_both}
 use Rattle.table_image.proofs.NumbersRead.{fits, numbers_read, tested_all}
+use Rattle.list_lemmas.proofs.Searches.{none_found}
 
--- where each number passes a test, none is found that fails it
-pub none_found : {A : Type 0} (test : A → Bool) (place : ℕ) (ns : List A) → list_all test ns ≡ true →
-    position_from (λ n. not (test n)) place ns ≡ None
-none_found test place [] all = refl
-none_found test place (n ∷ ns) all =
-    let parts = and_parts (test n) (list_all test ns) all in
-    rw parts.0 (none_found test (place + 1) ns parts.1)
-
--- and the other way round
-pub none_fails : {A : Type 0} (test : A → Bool) (place : ℕ) (ns : List A) →
-    position_from (λ n. not (test n)) place ns ≡ None →
-    list_all test ns ≡ true
-none_fails test place [] none = refl
-none_fails test place (n ∷ ns) none = elim (cases_Bool (test n)) [
-  | inl e ↦ and_from (test n) (list_all test ns) e (none_fails test (place + 1) ns (rw e at none))
-  | inr e ↦ cc (rw e at none)
-]
-
--- where two answers together are none, both are, and the other way round
-pub both_none : (one other : Option ℕ) → option_or one other ≡ None → (one ≡ None) × (other ≡ None)
-both_none None other e = (refl, e)
-both_none (Some place) other e = cc
-
+-- where two answers are none, they are so together
 pub none_both : (one other : Option ℕ) → one ≡ None → other ≡ None → option_or one other ≡ None
 none_both one other e f = rw (e, f) refl
-
--- the part that stands after the first elements of a list
-pub part_of : (p n : ℕ) (first part rest : List ℕ) → p ≡ length first → n ≡ length part →
-    take n (drop p (first ++ (part ++ rest))) ≡ part
-part_of p n first part rest e f =
-    ap (take n) (drop_at first (part ++ rest) p (sym e)) ∙ take_at part rest n (sym f)
 
 -- what was read of words after the first ones: these words, which have no fault, whatever stands after them
 pub record WordsAt (bytes : List ℕ) (from words : ℕ) (first all : List ℕ) (fault : List ℕ → Option ℕ) : Type 0 where

@@ -1,6 +1,7 @@
 -- Words that are spelled and sound are read.
 use Rattle.std.proofs.Common.{◌≡◌, ℕ, ◌+◌, ◌*◌, ◌≤◌, List, [], ◌∷◌, ◌++◌, length, take, drop, sum}
-use Rattle.std.proofs.Common.{sym, ap, ◌∙◌, arith, Bool, true, not, length-append, length-drop, append_assoc, Ok, None}
+use Rattle.std.proofs.Common.{sym, ap, ◌∙◌, arith, Bool, true, not, length-append, length-drop, append_assoc, Ok}
+use Rattle.std.proofs.Common.{None}
 use Rattle.std.specs.List.{list_all, position_from}
 use Rattle.std.proofs.lemmas.List.{append-nil, take-append-drop, length-take-le}
 use Rattle.std.proofs.lemmas.List.Sums.{sum_by-cons, sum_by-take-drop}
@@ -14,9 +15,12 @@ use Rattle.flat_table.proofs.Offered.{levels-take, levels-drop}
 use Rattle.table_image.specs.declared.fault.ImageKind.TheVariants.{Unsound}
 use Rattle.table_image.specs.Spelling.{long, spelled, all_spelled}
 use Rattle.table_image.specs.Reading.{numbers_after, words_of_levels, words_of_tries}
-use Rattle.table_image.proofs.Lists.{after, both}
+use Rattle.list_lemmas.proofs.Rests.{after, part_of}
+use Rattle.table_image.proofs.Readings.{both}
 use Rattle.table_image.proofs.NumbersRead.{fits, numbers_spelled, length-all_spelled, all_tested}
-use Rattle.table_image.proofs.WordsRead.{part_of, both_none, none_fails, tries_fault}
+use Rattle.table_image.proofs.WordsRead.{tries_fault}
+use Rattle.list_lemmas.proofs.Options.{both_none}
+use Rattle.list_lemmas.proofs.Searches.{none_fails}
 
 -- numbers, and after them others of the same list
 pub record InParts (size : ℕ) (bytes : List ℕ) (from : ℕ) (first one other rest : List ℕ) : Type 0 where

@@ -1,6 +1,6 @@
 -- Bytes that are written one part after the other.
-use Rattle.std.proofs.Common.{◌≡◌, ℕ, zero, suc, ◌+◌, ◌*◌, ◌^◌, ◌<◌, ◌≤◌, List, [], ◌∷◌, ◌++◌, length, take, drop, map, sum, refl, sym, ap, ◌∙◌, arith, append_assoc, get_or, Bool, true, None}
-use Rattle.std.specs.Prelude.{Result, Ok, Err, OnOk}
+use Rattle.std.proofs.Common.{◌≡◌, ℕ, zero, suc, ◌+◌, ◌*◌, ◌^◌, ◌<◌, ◌≤◌, List, [], ◌∷◌, ◌++◌, length, take, drop}
+use Rattle.std.proofs.Common.{map, sum, refl, sym, ap, ◌∙◌, arith, append_assoc, get_or, Bool, true, None}
 use Rattle.std.specs.List.{flat_map, list_all, range_with_len}
 use Rattle.std.proofs.lemmas.List.{append-nil, take-append-drop, take_more, take_all, flat_map_more, drop_more}
 use Rattle.std.proofs.lemmas.Grind.{flat_map-append}
@@ -16,7 +16,8 @@ use Rattle.flat_table.specs.Table.{TableView}
 use Rattle.flat_table.specs.Sound.{sound_fault}
 use Rattle.flat_table.proofs.Offered.{sound_parts}
 use Rattle.table_image.specs.declared.version.Version.TheVariants.{Two}
-use Rattle.table_image.specs.Spelling.{PairView, magic, spelled_table, spelled_pair, short, long, spelled, all_spelled, spelled_trie, spelled_tries, is_word, is_row}
+use Rattle.table_image.specs.Spelling.{PairView, magic, spelled_table, spelled_pair, short, long, spelled}
+use Rattle.table_image.specs.Spelling.{all_spelled, spelled_trie, spelled_tries, is_word, is_row}
 use Rattle.table_image.proofs.TablesSpelled.{zeros_are}
 use Rattle.table_image.proofs.TriesSpelled.{kept_small}
 use Rattle.std.proofs.Math.Pow.{pow_mono}
@@ -171,8 +172,3 @@ pub pair_written : (pair : PairView) (none one two three all : List ℕ) → non
     all ≡ spelled_pair Two pair
 unfolding spelled_pair
 pair_written pair none one two three all a b c d e = rw (e, d, c, b, a) (simp append_assoc)
-
--- what follows from a fact about an answer that is Ok
-pub on_ok : {A E P Q : Type 0} (result : Result A E) → (P → Q) → OnOk result P → OnOk result Q
-on_ok (Ok x) then h = then h
-on_ok (Err fault) then h = tt

@@ -16,7 +16,8 @@ pub use Rattle.text_scan.proofs.Cuts.{first_word-append, after_word-append, word
 -- lines_of-one: bytes that end no line and LF are one line
 pub use Rattle.text_scan.proofs.Cuts.{cut_at-append, ends_no_line, lines_of-one}
 -- decimal_spelled: what a number is written as in decimal spells it
-pub use Rattle.text_scan.proofs.Numerals.{decimal_spelled}
+-- place_value-lt: digits of a base spell a number below its power of their length
+pub use Rattle.text_scan.proofs.Numerals.{decimal_spelled, place_value-lt}
 -- EndsNumber: what follows a number in a base so that it ends there
 -- Begins: a number stands at the beginning of a text, and ends where the rest begins
 -- spelled_begins: digits that spell a number stand so before what ends them

@@ -11,6 +11,7 @@ use Rattle.field_defs.specs.declared.field.FieldValue.{FieldValue}
 use Rattle.field_defs.specs.declared.field.FieldValue.TheVariants.{Mask, Range, Bitmask}
 use Rattle.field_defs.specs.FieldMatch.{field_match}
 use Rattle.field_defs.specs.Layout.{ip4_fields}
+use Rattle.field_defs.proofs.Offered.{ip4_is_layout}
 use Rattle.rule_set.specs.Rule.{RuleView}
 use Rattle.rule_set.specs.Lawful.{IsLawfulValue}
 use Rattle.rule_set.specs.Winner.{rule_match}
@@ -19,7 +20,6 @@ use Rattle.workload_gen.specs.Laws.{AimedPacketsMatch}
 use Rattle.workload_gen.specs.Packet.{aimed_packet, first_number, packet_key}
 use Rattle.workload_gen.specs.Rule.{last_port}
 use Rattle.workload_gen.proofs.Held.{first_number_fits}
-use Rattle.workload_gen.proofs.Lawful.{ip4_is_layout}
 
 -- a lawful value lets its first number through
 first_number_matches : (def : FieldDef) (value : FieldValue) → IsLawfulValue def value →

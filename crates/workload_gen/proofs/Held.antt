@@ -6,12 +6,12 @@ use Rattle.field_defs.specs.declared.field.FieldDef.{FieldDef}
 use Rattle.field_defs.specs.declared.field.FieldValue.{FieldValue}
 use Rattle.field_defs.specs.declared.field.FieldValue.TheVariants.{Mask, Range, Bitmask}
 use Rattle.field_defs.specs.Layout.{ip4_fields}
+use Rattle.field_defs.proofs.Offered.{ip4_is_layout}
 use Rattle.rule_set.specs.Fault.{rule_fault}
 use Rattle.rule_set.specs.Lawful.{IsLawfulValue}
 use Rattle.rule_set.specs.Rule.{RuleView}
 use Rattle.rule_set.proofs.Offered.{faultless_rules}
 use Rattle.workload_gen.specs.Packet.{first_number}
-use Rattle.workload_gen.proofs.Lawful.{ip4_is_layout}
 
 -- the first number of a lawful value is one of the field's size
 pub first_number_fits : (def : FieldDef) (value : FieldValue) → IsLawfulValue def value →

@@ -10,20 +10,14 @@ use Rattle.field_defs.specs.declared.field.FieldDef.{FieldDef}
 use Rattle.field_defs.specs.declared.field.FieldKind.{FieldKind}
 use Rattle.field_defs.specs.declared.field.FieldKind.TheVariants as kinds
 use Rattle.field_defs.specs.declared.field.FieldValue.TheVariants.{Range, Bitmask}
-use Rattle.field_defs.specs.Faults.{failing_number}
-use Rattle.field_defs.specs.LayoutFault.{layout_fault}
 use Rattle.field_defs.specs.Layout.{ip4_fields}
-use Rattle.field_defs.specs.Lawful.{IsLayout}
+use Rattle.field_defs.proofs.Offered.{ip4_is_layout}
 use Rattle.rule_set.specs.Fault.{rule_fault}
 use Rattle.rule_set.specs.Lawful.{IsLawfulTag, IsLawfulValue}
 use Rattle.rule_set.proofs.Offered.{some_category, faultless_rules}
 use Rattle.workload_gen.specs.Rule.{address, category_masks, protocol_value, source_value, destination_value}
 use Rattle.workload_gen.specs.Rule.{choice, destination_bits, destination_ports, first_user_port, last_port}
 use Rattle.workload_gen.specs.Rule.{ports_after, rule_of, source_bits}
-
-pub ip4_is_layout : IsLayout ip4_fields
-unfolding layout_fault failing_number
-ip4_is_layout = record { few = omega arith; faultless = refl }
 
 -- some category is named, and the priority is a lawful one
 tag_of_words : (number : ℕ) (words : List ℕ) → IsLawfulTag (rule_of number words).tag

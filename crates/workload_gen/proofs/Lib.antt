@@ -3,3 +3,4 @@ mod Drawing
 mod Held
 mod Lawful
 mod Words
+pub mod Offered

@@ -6,7 +6,7 @@ use Rattle.rand_pcg.specs.Pcg.{multiplier_64}
 use Rattle.workload_gen.specs.Draws.{after_words, word_at, words_of}
 
 -- the state after two numbers of steps, one after the other
-state_after_both : (w m p a b s : ℕ) → state_after w m p b (state_after w m p a s) ≡ state_after w m p (a + b) s
+pub state_after_both : (w m p a b s : ℕ) → state_after w m p b (state_after w m p a s) ≡ state_after w m p (a + b) s
 unfolding state_after
 state_after_both w m p zero b s = let same : b ≡ zero + b = omega arith in ap (λ n. state_after w m p n s) same
 state_after_both w m p (suc a) b s =

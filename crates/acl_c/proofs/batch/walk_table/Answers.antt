@@ -1,7 +1,8 @@
 use Rattle.std.proofs.Common.{◌≤◌, ◌∙◌, arith}
 use Rattle.std.proofs.lemmas.Bool.Decides.{nat_tests}
 use Rattle.table_sizes.specs.Sizes.{row_len}
-use Rattle.acl_c.proofs.Serving.{batch_by_rules, are_bytes_from_fits}
+use Rattle.acl_c.proofs.Serving.{batch_by_rules}
+use Rattle.acl_context.proofs.Offered.{are_bytes_from_fits}
 use Rattle.acl_c.proofs.batch.walk_table.Goals as goal
 
 pub returns-clause-served : goal.returns-clause-served

@@ -4,7 +4,8 @@ use Rattle.table_sizes.specs.Sizes.{row_len}
 use Rattle.acl_c.specs.Batch.{lengths_code, batch_code}
 use Rattle.acl_c.specs.Marks.{batch_marks}
 use Rattle.acl_c.proofs.Lengths.{fits}
-use Rattle.acl_c.proofs.Serving.{are_bytes_from_fits, marks_by_rules}
+use Rattle.acl_c.proofs.Serving.{marks_by_rules}
+use Rattle.acl_context.proofs.Offered.{are_bytes_from_fits}
 use Rattle.acl_c.proofs.marks.mark.Goals as goal
 
 pub returns : goal.returns

@@ -1,18 +1,18 @@
 use Rattle.std.proofs.Common.{ℕ, List, ◌++◌, Some, None, length, sym, ap, ◌∙◌}
 use Rattle.std.specs.Prelude.{nat_lt}
 use Rattle.std.specs.Option.{option_map}
+use Rattle.std.proofs.lemmas.Result.{on_ok_weaker}
 use Rattle.field_defs.specs.declared.field.FieldDef.{FieldDef}
 use Rattle.field_defs.specs.Layout.{buffer_len_of}
 use Rattle.rule_set.specs.Rule.{RuleSetView}
 use Rattle.session_lines.specs.Replies.{verdicts_text}
-use Rattle.acl_session.proofs.Mirroring.{on_ok}
 use Rattle.acl_session.proofs.Verdicts.{short_reply, whole_reply}
 use Rattle.acl_session.proofs.buffer.push_reply.Goals as goal
 
 pub returns-then-is_short : goal.returns-then-is_short
 returns-then-is_short c =
     let layout = c.layout.ensures ∙ ap (λ (set : RuleSetView). set.layout) c.rules.ensures in
-    on_ok c.push_piece.result
+    on_ok_weaker c.push_piece.result
     (λ text held holds. text ∙ ap (λ (t : List ℕ). c.args.replies.now.items ++ t)
     (sym (short_reply held c.args.context.now c.args.cats.count c.args.buffer.now holds
     (ap (λ (defs : List FieldDef). nat_lt (length c.args.buffer.now) (buffer_len_of defs)) (sym layout)
@@ -22,7 +22,7 @@ returns-then-is_short c =
 pub returns-in-Some : goal.returns-in-Some
 returns-in-Some c =
     let layout = c.layout.ensures ∙ ap (λ (set : RuleSetView). set.layout) c.rules.ensures in
-    on_ok c.push_verdicts.result
+    on_ok_weaker c.push_verdicts.result
     (λ text held holds. text ∙ ap (λ (vs : List ℕ). c.args.replies.now.items ++ verdicts_text vs) c.deref.ensures.value
     ∙ ap (λ (t : List ℕ). c.args.replies.now.items ++ t)
     (sym (whole_reply held c.args.context.now c.args.cats.count c.args.buffer.now (Some c.in-Some.verdicts.items) holds
@@ -34,7 +34,7 @@ returns-in-Some c =
 pub returns-in-None : goal.returns-in-None
 returns-in-None c =
     let layout = c.layout.ensures ∙ ap (λ (set : RuleSetView). set.layout) c.rules.ensures in
-    on_ok c.push_piece-in-None.result
+    on_ok_weaker c.push_piece-in-None.result
     (λ text held holds. text ∙ ap (λ (t : List ℕ). c.args.replies.now.items ++ t)
     (sym (whole_reply held c.args.context.now c.args.cats.count c.args.buffer.now None holds
     (ap (λ (defs : List FieldDef). nat_lt (length c.args.buffer.now) (buffer_len_of defs)) (sym layout)

@@ -1,10 +1,11 @@
 use Rattle.std.proofs.Common.{◌++◌, Err, sym, ap, ◌∙◌}
-use Rattle.acl_session.proofs.Mirroring.{adds_rule, on_ok, told}
+use Rattle.std.proofs.lemmas.Result.{on_ok_weaker}
+use Rattle.acl_session.proofs.Mirroring.{adds_rule, told}
 use Rattle.acl_session.proofs.context.add_rule.Goals as goal
 
 pub returns-in-Ok : goal.returns-in-Ok
 returns-in-Ok c =
-    on_ok c.push_piece.result
+    on_ok_weaker c.push_piece.result
     (λ text. adds_rule c.args.rule c.args.context.now c.add_stored.new.self c.add_stored.result
     c.args.replies.now.items c.push_piece.new.text.items c.add_stored.ensures
     (λ full. absurd (let is = c.in-Ok.is in cc))
@@ -14,7 +15,7 @@ returns-in-Ok c =
 pub returns-in-Err-Full : goal.returns-in-Err-Full
 returns-in-Err-Full c =
     let is = c.in-Err-Full.is ∙ ap Err c.in-Err-Full.field-0-is in
-    on_ok c.push_piece-in-Err-Full.result
+    on_ok_weaker c.push_piece-in-Err-Full.result
     (λ text. adds_rule c.args.rule c.args.context.now c.add_stored.new.self c.add_stored.result
     c.args.replies.now.items c.push_piece-in-Err-Full.new.text.items c.add_stored.ensures
     (λ full. absurd (cc))
@@ -24,7 +25,7 @@ returns-in-Err-Full c =
 pub returns-in-Err-RuleRefused : goal.returns-in-Err-RuleRefused
 returns-in-Err-RuleRefused c =
     let is = c.in-Err-RuleRefused.is ∙ ap Err c.in-Err-RuleRefused.field-0-is in
-    on_ok c.push_rule_fault.result
+    on_ok_weaker c.push_rule_fault.result
     (λ text. adds_rule c.args.rule c.args.context.now c.add_stored.new.self c.add_stored.result
     c.args.replies.now.items c.push_rule_fault.new.text.items c.add_stored.ensures
     (λ full. absurd (cc))

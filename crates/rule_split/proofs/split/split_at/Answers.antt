@@ -4,8 +4,9 @@ use Rattle.rule_split.specs.declared.counted.Counted.{Counted}
 use Rattle.rule_split.specs.Counted.{group_in, IsCounted}
 use Rattle.rule_split.specs.Divide.{divided}
 use Rattle.rule_split.proofs.Halves.{groups_of_two}
-use Rattle.rule_split.proofs.Splitting.{two_for_one, group_at, group_is, split_groups, split_counted}
+use Rattle.rule_split.proofs.Splitting.{group_at, group_is, split_groups, split_counted}
 use Rattle.rule_split.proofs.split.split_at.Goals as goal
+use Rattle.list_lemmas.proofs.Parts.{two_for_one}
 
 pub divide-requires : goal.divide-requires
 divide-requires c =

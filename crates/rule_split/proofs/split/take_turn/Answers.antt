@@ -1,9 +1,9 @@
 use Rattle.std.proofs.Common.{None, Some, map, ◌∙◌, sym}
+use Rattle.std.proofs.lemmas.Result.{on_ok_weaker}
 use Rattle.rule_split.specs.Counted.{group_in}
 use Rattle.rule_split.specs.Split.{words_of_group}
 use Rattle.rule_split.proofs.Counts.{turn_fits, turn_over, place_is}
 use Rattle.rule_split.proofs.Groups.{found_is}
-use Rattle.rule_split.proofs.Splitting.{on_ok}
 use Rattle.rule_split.proofs.split.take_turn.Goals as goal
 
 pub returns-then-total-budget-clause-groups : goal.returns-then-total-budget-clause-groups
@@ -27,7 +27,7 @@ returns-in-None-clause-groups c =
 
 pub returns-in-Some-clause-groups : goal.returns-in-Some-clause-groups
 returns-in-Some-clause-groups c =
-    on_ok c.split_at.result (λ split.
+    on_ok_weaker c.split_at.result (λ split.
     split
     ∙ sym (turn_over c.args.rules.now c.args.budget c.args.groups.now.items c.total.result (Some c.in-Some.place)
     c.requires.counted (rw c.as_slice.ensures.value at c.total.ensures) c.if-total-budget.false

@@ -1,9 +1,10 @@
 use Rattle.std.proofs.Common.{◌≡◌, ◌+◌, ◌*◌, ◌/◌, ◌≤◌, ℕ, length, arith, sym, ap, ◌∙◌}
 use Rattle.flat_table.specs.Batch.{keys_in}
 use Rattle.scalar_walk.proofs.Batches.{classified_up_to, keys_more, one_key}
-use Rattle.scalar_walk.proofs.Batches.{keys_fit, next_block, next_key, part_len, room_fits}
+use Rattle.scalar_walk.proofs.Batches.{keys_fit, next_block, next_key, room_fits}
 use Rattle.scalar_walk.proofs.Below.{fold_is_sum, pieces_are}
 use Rattle.scalar_walk.proofs.classify.classify_scalar.Goals as goal
+use Rattle.list_lemmas.proofs.Parts.{part_len}
 
 pub loop-k-preserved : goal.loop-k-preserved
 loop-k-preserved g c =

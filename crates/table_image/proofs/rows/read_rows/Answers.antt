@@ -6,7 +6,7 @@ use Rattle.table_image.specs.Spelling.{is_row_word}
 use Rattle.table_image.specs.declared.fault.ImageKind.TheVariants.{RowForm}
 use Rattle.table_image.specs.declared.fault.LoadFault.TheVariants.{Image}
 use Rattle.table_image.specs.Reading.{Reading, numbers, rows_after, row_bytes, no_rule}
-use Rattle.table_image.proofs.Lists.{both}
+use Rattle.table_image.proofs.Readings.{both}
 use Rattle.table_image.proofs.Loops.{fault_of_both, row_more, rows_end}
 use Rattle.table_image.proofs.rows.read_rows.Goals as goal
 

@@ -7,7 +7,7 @@ use Rattle.std.proofs.lemmas.Bool.{leb-true}
 use Rattle.table_sizes.specs.Sizes.{max_words}
 use Rattle.table_image.specs.declared.fault.ImageKind.TheVariants.{TooMany}
 use Rattle.table_image.specs.Reading.{checked, numbers_after, level_fits}
-use Rattle.table_image.proofs.Lists.{of_check}
+use Rattle.table_image.proofs.Readings.{of_check}
 use Rattle.table_image.proofs.Loops.{number_read, number_cut, number_refused, numbers_end}
 use Rattle.table_image.proofs.tries.level_lens.Goals as goal
 

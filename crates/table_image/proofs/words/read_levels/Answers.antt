@@ -9,7 +9,7 @@ use Rattle.flat_table.specs.Sound.{is_sound_word, first_level}
 use Rattle.table_image.specs.declared.fault.ImageKind.TheVariants.{Unsound}
 use Rattle.table_image.specs.Reading.{Reading, numbers_after, words_of_levels}
 use Rattle.table_image.specs.Loading.{IsFaultOf}
-use Rattle.table_image.proofs.Lists.{both}
+use Rattle.table_image.proofs.Readings.{both}
 use Rattle.table_image.proofs.Loops.{fault_of_both, fault_of_same, level_more, levels_end}
 use Rattle.table_image.proofs.words.read_levels.Goals as goal
 

@@ -5,7 +5,7 @@ use Rattle.table_image.specs.declared.fault.ImageKind.TheVariants.{Unsound, Leng
 use Rattle.table_image.specs.Reading.{Reading, numbers_after}
 use Rattle.table_image.proofs.Loops.{numbers_end}
 use Rattle.table_image.proofs.Portions.{portion_read, portion_fault, numbers_cut, of_failed, slots_of, are_fewer, are_all, written_back}
-use Rattle.table_image.proofs.Lists.{of_check}
+use Rattle.table_image.proofs.Readings.{of_check}
 use Rattle.table_image.proofs.words.read_portion.Goals as goal
 
 pub returns-in_err-read_whole-clause-fault : goal.returns-in_err-read_whole-clause-fault

@@ -3,8 +3,9 @@ use Rattle.std.proofs.lemmas.Bool.Decides.{nat_tests}
 use Rattle.field_defs.specs.Layout.{key_len_of}
 use Rattle.table_sizes.specs.Sizes.{row_len}
 use Rattle.acl_context.specs.Context.{ContextView}
-use Rattle.acl_context.proofs.Serving.{batch_by_rules, are_bytes_from_fits, whole_of_lengths}
+use Rattle.acl_context.proofs.Serving.{batch_by_rules, are_bytes_from_fits}
 use Rattle.acl_context.proofs.context.AclContext.classify.Goals as goal
+use Rattle.list_lemmas.proofs.Numbers.{whole_of_lengths}
 
 pub returns-in-Some-clause-served : goal.returns-in-Some-clause-served
 returns-in-Some-clause-served g c = λ set.

@@ -1,15 +1,16 @@
 -- Each call does what the line says.
 use Rattle.std.proofs.Common.{ℕ, List, Option, Some, refl, sym, ap, ◌∙◌}
+use Rattle.std.proofs.lemmas.Result.{on_ok_weaker}
 use Rattle.text_scan.specs.Parts.{words_of}
 use Rattle.session_lines.specs.declared.verb.Verb.TheVariants as verbs
 use Rattle.session_lines.specs.Command.{command_of, said_to, verb_named}
 use Rattle.session_lines.specs.Reading.{◌>>=◌, Read}
-use Rattle.acl_session.proofs.Mirroring.{nothing_said, on_ok, said_is, unnamed}
+use Rattle.acl_session.proofs.Mirroring.{nothing_said, said_is, unnamed}
 use Rattle.acl_session.proofs.made.Made.answer.Goals as goal
 
 pub returns-in_default : goal.returns-in_default
 returns-in_default c =
-    on_ok c.push_bad_line.result
+    on_ok_weaker c.push_bad_line.result
     (λ text. nothing_said c.args.self.now c.args.self.now c.args.replies.now.items c.push_bad_line.new.replies.items
     (command_of (words_of c.args.line.now))
     (ap (λ (read : Option (Read (List ℕ))). read >>= λ name. verb_named name.value >>= λ verb. said_to verb name.rest)
@@ -18,7 +19,7 @@ returns-in_default c =
 
 pub returns-in_default-verb_named : goal.returns-in_default-verb_named
 returns-in_default-verb_named c =
-    on_ok c.push_bad_line-in_default-verb_named.result
+    on_ok_weaker c.push_bad_line-in_default-verb_named.result
     (λ text. nothing_said c.args.self.now c.args.self.now c.args.replies.now.items
     c.push_bad_line-in_default-verb_named.new.replies.items (command_of (words_of c.args.line.now))
     (unnamed (words_of c.args.line.now) c.in-Some.name.now (words_of c.in-Some.words.now) c.in-Some.ensures

@@ -1,14 +1,15 @@
 use Rattle.std.proofs.Common.{Some, refl, sym, ap, ◌∙◌}
 use Rattle.std.specs.Option.{option_map}
+use Rattle.std.proofs.lemmas.Result.{on_ok_weaker}
 use Rattle.text_scan.specs.Parts.{words_of}
 use Rattle.session_lines.specs.Command.{Build, budget_of}
 use Rattle.acl_session.specs.Session.{built}
-use Rattle.acl_session.proofs.Mirroring.{asked, called, missing, nothing_said, on_ok}
+use Rattle.acl_session.proofs.Mirroring.{asked, called, missing, nothing_said}
 use Rattle.acl_session.proofs.made.Made.build.Goals as goal
 
 pub returns-in_default : goal.returns-in_default
 returns-in_default c =
-    on_ok c.push_bad_line.result
+    on_ok_weaker c.push_bad_line.result
     (λ text. nothing_said c.args.self.now c.args.self.now c.args.replies.now.items c.push_bad_line.new.replies.items
     (option_map Build (budget_of (words_of c.args.words.now)))
     (ap (option_map Build) (sym c.read_budget.ensures.budget ∙ c.in_default.is)) refl text)
@@ -17,7 +18,7 @@ returns-in_default c =
 pub returns-in-Some-context : goal.returns-in-Some-context
 returns-in-Some-context c =
     let budget = c.in-Some.budget in
-    on_ok c.build.result
+    on_ok_weaker c.build.result
     (λ answers. asked (Build budget) (option_map Build (budget_of (words_of c.args.words.now))) _ _ _ _
     (ap (option_map Build) (sym c.read_budget.ensures.budget ∙ c.in-Some.is))
     (called (λ held. built held budget) c.args.self.now
@@ -32,7 +33,7 @@ returns-in-Some-context c =
 pub returns-in-None : goal.returns-in-None
 returns-in-None c =
     let budget = c.in-Some.budget in
-    on_ok c.push_no_context.result
+    on_ok_weaker c.push_no_context.result
     (λ text. asked (Build budget) (option_map Build (budget_of (words_of c.args.words.now))) _ _ _ _
     (ap (option_map Build) (sym c.read_budget.ensures.budget ∙ c.in-Some.is))
     (missing (λ held. built held budget) c.args.self.now

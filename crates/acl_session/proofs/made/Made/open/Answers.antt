@@ -1,14 +1,15 @@
 use Rattle.std.proofs.Common.{◌≡◌, List, [], Some, None, refl, sym, ap, ◌∙◌}
 use Rattle.std.specs.Option.{option_map}
+use Rattle.std.proofs.lemmas.Result.{on_ok_weaker}
 use Rattle.field_defs.specs.declared.field.FieldDef.{FieldDef}
 use Rattle.text_scan.specs.Parts.{words_of}
 use Rattle.session_lines.specs.Command.{Context, limit_of}
-use Rattle.acl_session.proofs.Mirroring.{asked, nothing_said, on_ok, opens, refuses}
+use Rattle.acl_session.proofs.Mirroring.{asked, nothing_said, opens, refuses}
 use Rattle.acl_session.proofs.made.Made.open.Goals as goal
 
 pub returns-in_default : goal.returns-in_default
 returns-in_default c =
-    on_ok c.push_bad_line.result
+    on_ok_weaker c.push_bad_line.result
     (λ text. nothing_said c.args.self.now c.args.self.now c.args.replies.now.items c.push_bad_line.new.replies.items
     (option_map Context (limit_of (words_of c.args.words.now)))
     (ap (option_map Context) (sym c.read_limit.ensures.limit ∙ c.in_default.is)) refl text)
@@ -26,7 +27,7 @@ returns-in-Ok c =
       max_rules = limit;
       table = None;
     }) c.in-Ok.ensures.layout in
-    on_ok c.push_piece.result
+    on_ok_weaker c.push_piece.result
     (λ text. asked (Context limit) (option_map Context (limit_of (words_of c.args.words.now))) _ _ _ _
     (ap (option_map Context) (sym c.read_limit.ensures.limit ∙ c.in-Some.is))
     (opens limit c.args.self.now
@@ -38,7 +39,7 @@ returns-in-Ok c =
 pub returns-in-Err : goal.returns-in-Err
 returns-in-Err c =
     let limit = c.in-Some.limit in
-    on_ok c.push_layout_fault.result
+    on_ok_weaker c.push_layout_fault.result
     (λ text. asked (Context limit) (option_map Context (limit_of (words_of c.args.words.now))) _ _ _ _
     (ap (option_map Context) (sym c.read_limit.ensures.limit ∙ c.in-Some.is))
     (refuses limit c.in-Err.fault c.args.self.now
