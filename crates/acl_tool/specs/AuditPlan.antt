@@ -4,7 +4,7 @@ use Rattle.command_plan.specs.declared.status.Status.TheVariants.{RulesRefused}
 use Rattle.command_plan.specs.Plan.{◌>>=◌, Outcome, Plan, unless_refused}
 use Rattle.acl_tool.specs.RuleTables.{rules_in}
 use Rattle.acl_tool.specs.Texts.{printing}
-use Rattle.acl_tool.specs.Merged.{audit_of}
+use Rattle.acl_tool.specs.AuditMerged.{audit_of}
 
 -- the lines of an audit are printed, of the rules of a file and in so many categories
 abbrev pub audit_plan : List ℕ → ℕ → ℕ → Plan Outcome

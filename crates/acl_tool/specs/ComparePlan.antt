@@ -4,7 +4,7 @@ use Rattle.command_plan.specs.declared.status.Status.TheVariants.{RulesRefused, 
 use Rattle.command_plan.specs.Plan.{◌>>=◌, Outcome, Plan, unless_refused}
 use Rattle.acl_tool.specs.RuleTables.{rules_in}
 use Rattle.acl_tool.specs.Texts.{printing}
-use Rattle.acl_tool.specs.Compared.{compare_of}
+use Rattle.acl_tool.specs.CompareLines.{compare_of}
 
 -- the lines of a comparison are printed, of the rules of one file and of another
 abbrev pub compare_plan : List ℕ → List ℕ → ℕ → Plan Outcome

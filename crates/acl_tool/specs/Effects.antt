@@ -14,15 +14,15 @@ use Rattle.command_plan.specs.Message.{message}
 use Rattle.command_plan.specs.Plan.{found, settled}
 use Rattle.command_plan.specs.Endings.{is_reported, is_usage}
 use Rattle.acl_tool.specs.Built.{WordsAreTotals}
-use Rattle.acl_tool.specs.Saved.{IsImageOfRules}
+use Rattle.acl_tool.specs.BuildSaved.{IsImageOfRules}
 use Rattle.acl_tool.specs.Outcome.{outcome, plan_of}
 use Rattle.acl_tool.specs.Headline.{ClassifyPrints}
-use Rattle.acl_tool.specs.Transitions.{BenchWalks, ClassifyWalks}
-use Rattle.acl_tool.specs.Sizes.{ClassifySizes}
-use Rattle.acl_tool.specs.Images.{BuildMakes, ReplayPrints}
-use Rattle.acl_tool.specs.Audits.{AuditTells}
-use Rattle.acl_tool.specs.Comparisons.{CompareTells}
-use Rattle.acl_tool.specs.Sessions.{SessionTells}
+use Rattle.acl_tool.specs.ClassifyWalks.{BenchWalks, ClassifyWalks}
+use Rattle.acl_tool.specs.ClassifySizes.{ClassifySizes}
+use Rattle.acl_tool.specs.BuildMakes.{BuildMakes, ReplayPrints}
+use Rattle.acl_tool.specs.AuditTells.{AuditTells}
+use Rattle.acl_tool.specs.CompareTells.{CompareTells}
+use Rattle.acl_tool.specs.SessionTells.{SessionTells}
 use Rattle.command_plan.specs.Effects.{Outside, EndsMaking, EndsAsTold, HasNoFaultMaking, PutsLine}
 use Rattle.command_plan.specs.Effects.{files_of, heard_of, opened_of}
 use Rattle.capture_report.specs.PrintsCapture.{KeepsUp}

@@ -23,7 +23,7 @@ use Rattle.acl_tool.specs.BenchPlan.{bench_plan}
 use Rattle.seed_bench.specs.Bench.{most_drawn}
 use Rattle.seed_bench.proofs.Offered.{transitions-bound}
 use Rattle.acl_tool.specs.Effects.{Answers}
-use Rattle.acl_tool.specs.Transitions.{BenchWalks}
+use Rattle.acl_tool.specs.ClassifyWalks.{BenchWalks}
 use Rattle.acl_tool.proofs.Answering.{Answers-request}
 
 -- all of the text, where the table isn't too large

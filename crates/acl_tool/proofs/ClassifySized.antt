@@ -40,10 +40,10 @@ use Rattle.acl_tool.specs.RuleTables.{refused_rules, rules_of_bytes, table_withi
 use Rattle.acl_tool.specs.ClassifyPlan.{classify_plan, form_of}
 use Rattle.acl_tool.specs.Effects.{Answers}
 use Rattle.acl_tool.specs.Headline.{lines_to}
-use Rattle.acl_tool.specs.Sizes.{ClassifySizes, NeedsMore, TellsSizes, budget_given, size_line}
+use Rattle.acl_tool.specs.ClassifySizes.{ClassifySizes, NeedsMore, TellsSizes, budget_given, size_line}
 use Rattle.acl_tool.proofs.Asked.{Asked, asked_words}
 use Rattle.acl_tool.proofs.ReadOn.{IsTest, accepted_rules, after_bytes, after_rules, read_on, unless_on}
-use Rattle.acl_tool.proofs.Printing.{ReportedBy, asked_of, heard_by, report_status, reported_by, text_same}
+use Rattle.acl_tool.proofs.ClassifyTold.{ReportedBy, asked_of, heard_by, report_status, reported_by, text_same}
 use Rattle.acl_tool.proofs.WholeRules.{whole_by}
 
 -- a status of rules that are too large

@@ -34,13 +34,13 @@ use Rattle.acl_tool.specs.BuildPlan.{build_plan, image_bytes, pair_of}
 use Rattle.acl_tool.specs.Effects.{Answers}
 use Rattle.acl_tool.specs.ClassifyPlan.{form_of}
 use Rattle.acl_tool.specs.ReplayPlan.{image_cap, refused_image, replay_plan, tables_of_bytes}
-use Rattle.acl_tool.specs.Images.{BuildMakes, MakesImage, PrintsByImage, ReplayPrints}
+use Rattle.acl_tool.specs.BuildMakes.{BuildMakes, MakesImage, PrintsByImage, ReplayPrints}
 use Rattle.acl_tool.proofs.Asked.{no_usage}
-use Rattle.acl_tool.proofs.Building.{image_by}
+use Rattle.acl_tool.proofs.BuildEnds.{image_by}
 use Rattle.acl_tool.proofs.ReadOn.{accepted_rules, both_on, is_told, read_on, told_test, unless_on, untold_rules}
-use Rattle.acl_tool.proofs.Printing.{decided_fault, lawful_fault, report_status, report_text, report_transitions}
-use Rattle.acl_tool.proofs.Printing.{reported_status, same_fault, told_fault, unfull_fault, unwritten_fault}
-use Rattle.acl_tool.proofs.Replaying.{report_by}
+use Rattle.acl_tool.proofs.ClassifyTold.{decided_fault, lawful_fault, report_status, report_text, report_transitions}
+use Rattle.acl_tool.proofs.ClassifyTold.{reported_status, same_fault, told_fault, unfull_fault, unwritten_fault}
+use Rattle.acl_tool.proofs.ReplayEnds.{report_by}
 use Rattle.acl_tool.proofs.WholeRules.{whole_by}
 
 -- what comes after the rules, and after the bytes of the rule file

@@ -12,11 +12,11 @@ use Rattle.command_plan.specs.Effects.{Ends, Outside, PutsLast, Takes, outside}
 use Rattle.command_plan.proofs.Offered.{BeginsWith-nothing, IsFaithful, faithful_unless, Ends-cut, Ends-then}
 use Rattle.acl_tool.specs.RuleTables.{rules_in, rules_of_bytes}
 use Rattle.acl_tool.specs.Texts.{Refuses, printing}
-use Rattle.acl_tool.specs.Merged.{audit_of}
+use Rattle.acl_tool.specs.AuditMerged.{audit_of}
 use Rattle.acl_tool.specs.AuditPlan.{audit_plan}
 use Rattle.acl_tool.specs.Effects.{Answers}
 use Rattle.acl_tool.proofs.Answering.{Answers-request}
-use Rattle.acl_tool.proofs.Classifying.{HasRules, with_rules}
+use Rattle.acl_tool.proofs.ClassifyEnds.{HasRules, with_rules}
 use Rattle.acl_tool.proofs.Texts.{Ends-text, Ends-refused, lawful_put, lawful_refusal, told}
 
 -- what comes after the rules

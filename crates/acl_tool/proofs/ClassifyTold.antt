@@ -34,7 +34,7 @@ use Rattle.acl_context.specs.Context.{built_of}
 use Rattle.command_plan.specs.Endings.{is_decided, is_usage}
 use Rattle.acl_tool.specs.FamilySet.{set_of}
 use Rattle.acl_tool.specs.ClassifyPlan.{classify_plan, form_of}
-use Rattle.acl_tool.specs.Transitions.{ClassifyWalks, Walks}
+use Rattle.acl_tool.specs.ClassifyWalks.{ClassifyWalks, Walks}
 use Rattle.acl_tool.specs.Effects.{Answers}
 use Rattle.acl_tool.specs.Headline.{ClassifyPrints, Hears, Prints, answers_by, answers_to, categories_shown}
 use Rattle.acl_tool.specs.Headline.{last_lines_to, line_to, lines_to}
