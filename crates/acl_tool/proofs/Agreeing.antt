@@ -29,7 +29,7 @@ use Rattle.acl_tool.specs.Laws.{ReplayAgrees}
 use Rattle.acl_tool.proofs.Longest.{image_within}
 use Rattle.acl_tool.proofs.Making.{serving_tables, within_both}
 use Rattle.acl_tool.proofs.PacketBytes.{packets_of_bytes}
-use Rattle.acl_tool.proofs.ReadOn.{after_bytes, after_rules}
+use Rattle.acl_tool.proofs.ClassifyHeard.{after_bytes, after_rules}
 use Rattle.acl_tool.proofs.Served.{tables_serve}
 use Rattle.acl_tool.proofs.ReplayEnds.{report_by, tables_of_whole}
 

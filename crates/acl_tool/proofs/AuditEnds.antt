@@ -16,7 +16,7 @@ use Rattle.acl_tool.specs.AuditMerged.{audit_of}
 use Rattle.acl_tool.specs.AuditPlan.{audit_plan}
 use Rattle.acl_tool.specs.Effects.{Answers}
 use Rattle.acl_tool.proofs.Answering.{Answers-request}
-use Rattle.acl_tool.proofs.ClassifyEnds.{HasRules, with_rules}
+use Rattle.acl_tool.proofs.RuleFiles.{HasRules, with_rules}
 use Rattle.acl_tool.proofs.Texts.{Ends-text, Ends-refused, lawful_put, lawful_refusal, told}
 
 -- what comes after the rules

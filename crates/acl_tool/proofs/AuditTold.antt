@@ -19,23 +19,22 @@ use Rattle.command_plan.specs.Follow.{Reached, Given, Stopped, Follows, IsEnough
 use Rattle.command_plan.specs.Endings.{is_usage}
 use Rattle.command_plan.specs.Effects.{Ends, Outside, files_of, heard_of}
 use Rattle.acl_tool.specs.FamilySet.{set_of}
-use Rattle.acl_tool.specs.Headline.{categories_shown}
+use Rattle.acl_tool.specs.GivenOptions.{categories_shown, budget_given}
 use Rattle.acl_tool.specs.RuleTables.{rules_of_bytes}
 use Rattle.acl_tool.specs.Texts.{printing}
 use Rattle.acl_tool.specs.AuditMerged.{audit_of, merged_words}
 use Rattle.acl_tool.specs.AuditPlan.{audit_plan}
 use Rattle.acl_tool.specs.AuditTells.{AuditNeedsMore, AuditTells, HearsRules, PrintsAudit}
 use Rattle.acl_tool.specs.Effects.{Answers}
-use Rattle.acl_tool.specs.ClassifySizes.{budget_given}
-use Rattle.acl_tool.proofs.Asked.{no_usage}
+use Rattle.acl_tool.proofs.Answering.{no_usage}
 use Rattle.acl_tool.proofs.AuditEnds.{audit_in}
 use Rattle.acl_tool.proofs.GivenOptions.{SaidBy, options_said}
-use Rattle.acl_tool.proofs.BuildTold.{done_told}
+use Rattle.acl_tool.proofs.ReadOn.{done_told}
 use Rattle.acl_tool.proofs.AuditMerged.{IsAbove, said_above, said_text}
 use Rattle.acl_tool.proofs.ReadOn.{IsTest, ReadsOn, accepted_rules, is_told, read_on, told_test, unless_on, untold_rules}
-use Rattle.acl_tool.proofs.ClassifySized.{budget_in, family_in, is_large, large_status, large_test, same_family}
-use Rattle.acl_tool.proofs.ClassifySized.{small_rules}
-use Rattle.acl_tool.proofs.ClassifySized.{stops_large, words_in}
+use Rattle.acl_tool.proofs.TooLarge.{budget_in, family_in, is_large, large_status, large_test, same_family, small_rules}
+use Rattle.acl_tool.proofs.TooLarge.{words_in}
+use Rattle.acl_tool.proofs.ClassifySized.{stops_large}
 use Rattle.acl_tool.proofs.WholeRules.{stops, whole_by, whole_file}
 
 -- The words are a name and options, and the command ended by its plan.

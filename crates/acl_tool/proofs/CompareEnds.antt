@@ -16,7 +16,7 @@ use Rattle.acl_tool.specs.CompareLines.{compare_of}
 use Rattle.acl_tool.specs.ComparePlan.{compare_plan}
 use Rattle.acl_tool.specs.Effects.{Answers}
 use Rattle.acl_tool.proofs.Answering.{Answers-request}
-use Rattle.acl_tool.proofs.ClassifyEnds.{HasRules, with_rules}
+use Rattle.acl_tool.proofs.RuleFiles.{HasRules, with_rules}
 use Rattle.acl_tool.proofs.Texts.{Ends-text, Ends-refused, lawful_put, lawful_refusal, told}
 
 -- what comes after the rules of both files, and after those of the first

@@ -24,9 +24,9 @@ use Rattle.acl_tool.specs.CompareLines.{compare_of}
 use Rattle.acl_tool.specs.ComparePlan.{compare_plan}
 use Rattle.acl_tool.specs.CompareTells.{CompareTells, PrintsComparison}
 use Rattle.acl_tool.specs.Effects.{Answers}
-use Rattle.acl_tool.proofs.Asked.{no_usage}
+use Rattle.acl_tool.proofs.Answering.{no_usage}
 use Rattle.acl_tool.proofs.CompareEnds.{compare_both, compare_with}
-use Rattle.acl_tool.proofs.BuildTold.{done_told}
+use Rattle.acl_tool.proofs.ReadOn.{done_told}
 use Rattle.acl_tool.proofs.CompareLines.{said_lines, said_refusal}
 use Rattle.acl_tool.proofs.ReadOn.{is_told, read_on, told_test, unless_on, untold_rules}
 use Rattle.acl_tool.proofs.WholeRules.{accepted_by, stops, whole_file}

@@ -18,8 +18,8 @@ use Rattle.acl_tool.specs.Texts.{printing}
 use Rattle.acl_tool.specs.SessionPlan.{max_script, replies_of, session_plan}
 use Rattle.acl_tool.specs.SessionTells.{HearsScript, PrintsReplies, RefusesScript, SessionTells}
 use Rattle.acl_tool.specs.Effects.{Answers}
-use Rattle.acl_tool.proofs.Asked.{no_usage}
-use Rattle.acl_tool.proofs.BuildTold.{done_told}
+use Rattle.acl_tool.proofs.Answering.{no_usage}
+use Rattle.acl_tool.proofs.ReadOn.{done_told}
 use Rattle.acl_tool.proofs.ReadOn.{IsTest, ReadsOn, is_told, longer, read_on, told_test, unless_on}
 use Rattle.acl_tool.proofs.WholeRules.{stops}
 

@@ -16,10 +16,14 @@ pub mod CompareLines
 pub mod ComparePlan
 pub mod SessionPlan
 pub mod Outcome
+pub mod GivenOptions
 pub mod Headline
-pub mod ClassifyWalks
 pub mod ClassifySizes
+pub mod ClassifyTotals
+pub mod ClassifyWalks
+pub mod BenchWalks
 pub mod BuildMakes
+pub mod ReplayPrints
 pub mod AuditTells
 pub mod CompareTells
 pub mod SessionTells

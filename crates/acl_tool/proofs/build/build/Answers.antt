@@ -3,7 +3,7 @@ use Rattle.command_plan.specs.Effects.{MakesAll, Outside, outside}
 use Rattle.capture_report.specs.Classifier.{lists_of}
 use Rattle.acl_tool.specs.Built.{tables_built}
 use Rattle.acl_tool.specs.BuildSaved.{IsSaved}
-use Rattle.acl_tool.proofs.ClassifyEnds.{HasRules}
+use Rattle.acl_tool.proofs.RuleFiles.{HasRules}
 use Rattle.acl_tool.proofs.BuildEnds.{Build-no_rules, Build-no_tables, Build-made, Build-broken}
 use Rattle.acl_tool.proofs.build.build.Goals as goal
 
