@@ -34,8 +34,8 @@ use Rattle.acl_tool.specs.FamilySet.{set_of}
 use Rattle.acl_tool.specs.ClassifyPlan.{classify_plan, form_of}
 use Rattle.acl_tool.specs.ClassifyWalks.{ClassifyWalks, Walks}
 use Rattle.acl_tool.specs.Effects.{Answers}
-use Rattle.acl_tool.specs.Headline.{ClassifyPrints, Hears, Prints, answers_by, answers_to, last_lines_to, line_to}
-use Rattle.acl_tool.specs.Headline.{lines_to}
+use Rattle.acl_tool.specs.Headline.{ClassifyPrints, Hears, PrintsVerdicts, answers_by, answers_to, last_lines_to}
+use Rattle.acl_tool.specs.Headline.{line_to, lines_to}
 use Rattle.acl_tool.specs.GivenOptions.{categories_shown}
 use Rattle.acl_tool.proofs.ClassifyAsked.{Asked, asked_words}
 use Rattle.acl_tool.proofs.GivenOptions.{SaidBy}
@@ -209,7 +209,7 @@ heard_by words old new fault asked by = record {
 prints_so : (words : List (List ℕ)) (old new : Outside) (fault : Option CaptureFault)
     (asked : Asked words old new (status_of_fault fault)) →
     ReportedBy asked.rules asked.capture asked.read old new fault →
-    Prints words fault (heard_of old.desk) (heard_of new.desk) old.out.taken new.out.taken
+    PrintsVerdicts words fault (heard_of old.desk) (heard_of new.desk) old.out.taken new.out.taken
 prints_so words old new fault asked by =
     let c = by.heard in
     let form : ReportForm = form_of (ByRules c.lists) c.tables asked.read in

@@ -11,7 +11,7 @@ use Rattle.command_plan.specs.Endings.{is_usage}
 use Rattle.command_plan.specs.Effects.{Ends, Outside, PutsLast, Takes, outside}
 use Rattle.command_plan.proofs.Offered.{BeginsWith-nothing, IsFaithful, faithful_unless, Ends-cut, Ends-then}
 use Rattle.acl_tool.specs.RuleTables.{rules_in, rules_of_bytes}
-use Rattle.acl_tool.specs.Texts.{Refuses, printing}
+use Rattle.acl_tool.specs.Texts.{Refuses, only_text}
 use Rattle.acl_tool.specs.CompareLines.{compare_of}
 use Rattle.acl_tool.specs.ComparePlan.{compare_plan}
 use Rattle.acl_tool.specs.Effects.{Answers}
@@ -33,7 +33,7 @@ compare_faithful rules second max_words files = (
   λ bytes. faithful_unless files (rules_of_bytes RulesRefused bytes) (compare_with second max_words) (λ one. (
     λ front more. BeginsWith-nothing _,
     λ front. faithful_unless files (rules_of_bytes SecondRulesRefused front) (compare_both max_words one)
-        (λ two. faithful_unless files (compare_of max_words one two) printing (λ text. tt)),
+        (λ two. faithful_unless files (compare_of max_words one two) only_text (λ text. tt)),
   )),
 )
 

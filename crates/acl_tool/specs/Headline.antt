@@ -66,8 +66,8 @@ pub record Hears (words : List (List ℕ)) (old new : List Heard) : Type 0 where
 
 -- `classify` printed the lines of a capture, which is refused with the fault, or whole where that
 -- is none. The output has `out_new` after `out_old`.
-pub record Prints (words : List (List ℕ)) (fault : Option CaptureFault) (old new : List Heard)
-    (out_old out_new : List ℕ) : Type 0 where
+pub record PrintsVerdicts (words : List (List ℕ)) (fault : Option CaptureFault)
+    (old new : List Heard) (out_old out_new : List ℕ) : Type 0 where
   pub heard : Hears words old new
   pub stats : List ℕ
   -- all of a whole capture was read, and a refused one is refused whatever more of it may come
@@ -85,4 +85,4 @@ abbrev pub ClassifyPrints : List (List ℕ) → Status → List Heard → List H
     Type 0
 ClassifyPrints words status old new out_old out_new =
     (after : List (List ℕ)) (fault : Option CaptureFault) → words ≡ codes "classify" ∷ after →
-    status ≡ status_of_fault fault → Prints words fault old new out_old out_new
+    status ≡ status_of_fault fault → PrintsVerdicts words fault old new out_old out_new
