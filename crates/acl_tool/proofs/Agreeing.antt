@@ -29,9 +29,9 @@ use Rattle.acl_tool.specs.Laws.{ReplayAgrees}
 use Rattle.acl_tool.proofs.Longest.{image_within}
 use Rattle.acl_tool.proofs.Making.{serving_tables, within_both}
 use Rattle.acl_tool.proofs.PacketBytes.{packets_of_bytes}
-use Rattle.acl_tool.proofs.ReadOn.{after_bytes, after_rules}
+use Rattle.acl_tool.proofs.ClassifyHeard.{after_bytes, after_rules}
 use Rattle.acl_tool.proofs.Served.{tables_serve}
-use Rattle.acl_tool.proofs.Replaying.{report_by, tables_of_whole}
+use Rattle.acl_tool.proofs.ReplayEnds.{report_by, tables_of_whole}
 
 -- the report of a capture that is there
 report_found : (form : ReportForm) (files : List File) (c capture : List ℕ) → bytes_of files c ≡ Some capture →

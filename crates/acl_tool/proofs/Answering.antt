@@ -1,6 +1,7 @@
 -- How a request is answered, whatever it asks for, and how words end that are no command.
-use Rattle.std.proofs.Common.{◌≡◌, List, true, false, Some, None, Result, Ok, Err, IfSome, refl, sym, subst}
-use Rattle.acl_outside.specs.Desk.{File}
+use Rattle.std.proofs.Common.{◌≡◌, List, true, false, Some, None, Result, Ok, Err, IfSome, refl, sym, subst, ◌≢◌, ℕ, ap}
+use Rattle.std.proofs.Common.{◌∙◌}
+use Rattle.acl_outside.specs.Desk.{File, DeskView}
 use Rattle.command_words.specs.declared.fault.UsageFault.{UsageFault}
 use Rattle.command_words.specs.Command.{Request, capture_name, made_name}
 use Rattle.command_plan.specs.declared.status.Status.{Status}
@@ -10,7 +11,10 @@ use Rattle.command_plan.specs.Effects.{Outside, EndsMaking, files_of, heard_of, 
 use Rattle.command_plan.proofs.Offered.{IsFaithful, Ends-stopped, Ends-told}
 use Rattle.capture_report.specs.PrintsCapture.{KeepsUp}
 use Rattle.acl_tool.specs.Outcome.{plan_of, plan_of_request}
-use Rattle.acl_tool.specs.Effects.{Answers, HasImage, HasTotals}
+use Rattle.acl_tool.specs.Effects.{Answers}
+use Rattle.acl_tool.specs.BuildSaved.{HasImage}
+use Rattle.acl_tool.specs.ClassifyTotals.{HasTotals}
+use Rattle.std.proofs.lemmas.Bool.{false≢true}
 
 -- What each command shows of its request: how it ended, and what it says of the capture that it reports, if it does.
 pub record IsAnswered (request : Request) (old new : Outside) (status : Status) : Type 0 where
@@ -57,3 +61,19 @@ Answers-usage request fault view is =
       image = λ done. tt;
       keeps_up = λ e. tt;
     }
+
+-- the desk heard of another file before the capture
+pub keeps_up_later : (capture : List ℕ) (old new : Outside) (mid : DeskView) →
+    KeepsUp capture (record old { desk = mid }) new → KeepsUp capture old new
+keeps_up_later capture old new mid k = record {
+  file = k.file;
+  named = k.named;
+  newest = k.newest;
+  put = k.put;
+  gains = k.gains;
+  few = k.few;
+}
+
+-- a status that is no usage fault isn't this one
+pub no_usage : {A : Type 0} (status : Status) (usage : UsageFault) → is_usage status ≡ false → status ≡ Usage usage → A
+no_usage status usage lawful is = absurd (false≢true (sym lawful ∙ ap is_usage is))

@@ -19,22 +19,22 @@ use Rattle.command_plan.specs.Follow.{Reached, Given, Stopped, Follows, IsEnough
 use Rattle.command_plan.specs.Endings.{is_usage}
 use Rattle.command_plan.specs.Effects.{Ends, Outside, files_of, heard_of}
 use Rattle.acl_tool.specs.FamilySet.{set_of}
-use Rattle.acl_tool.specs.Headline.{categories_shown}
+use Rattle.acl_tool.specs.GivenOptions.{categories_shown, budget_given}
 use Rattle.acl_tool.specs.RuleTables.{rules_of_bytes}
-use Rattle.acl_tool.specs.Texts.{printing}
-use Rattle.acl_tool.specs.Merged.{audit_of, merged_words}
+use Rattle.acl_tool.specs.Texts.{only_text}
+use Rattle.acl_tool.specs.AuditMerged.{audit_of, merged_words}
 use Rattle.acl_tool.specs.AuditPlan.{audit_plan}
-use Rattle.acl_tool.specs.Audits.{AuditNeedsMore, AuditTells, HearsRules, PrintsAudit}
+use Rattle.acl_tool.specs.AuditTells.{AuditNeedsMore, AuditTells, HearsRules, PrintsAudit}
 use Rattle.acl_tool.specs.Effects.{Answers}
-use Rattle.acl_tool.specs.Sizes.{budget_given}
-use Rattle.acl_tool.proofs.Asked.{no_usage}
-use Rattle.acl_tool.proofs.Auditing.{audit_in}
+use Rattle.acl_tool.proofs.Answering.{no_usage}
+use Rattle.acl_tool.proofs.AuditEnds.{audit_in}
 use Rattle.acl_tool.proofs.GivenOptions.{SaidBy, options_said}
-use Rattle.acl_tool.proofs.Imaging.{done_told}
-use Rattle.acl_tool.proofs.Merging.{IsAbove, said_above, said_text}
+use Rattle.acl_tool.proofs.ReadOn.{done_told}
+use Rattle.acl_tool.proofs.AuditMerged.{IsAbove, said_above, said_text}
 use Rattle.acl_tool.proofs.ReadOn.{IsTest, ReadsOn, accepted_rules, is_told, read_on, told_test, unless_on, untold_rules}
-use Rattle.acl_tool.proofs.Sizing.{budget_in, family_in, is_large, large_status, large_test, same_family, small_rules}
-use Rattle.acl_tool.proofs.Sizing.{stops_large, words_in}
+use Rattle.acl_tool.proofs.TooLarge.{budget_in, family_in, is_large, large_status, large_test, same_family, small_rules}
+use Rattle.acl_tool.proofs.TooLarge.{words_in}
+use Rattle.acl_tool.proofs.ClassifySized.{stops_large}
 use Rattle.acl_tool.proofs.WholeRules.{stops, whole_by, whole_file}
 
 -- The words are a name and options, and the command ended by its plan.
@@ -142,7 +142,7 @@ prints words old new asked =
     (λ file status e. untold_rules (rule_file_of file.bytes) status e) asked.rules categories max_words
     (files_of old.desk) (heard_of old.desk) (heard_of new.desk) ends.reached ends.follows passed in
     let (text, said, last) =
-    unless_on is_told (files_of old.desk) (audit_of categories max_words r.lists) printing (r.file ∷ heard_of old.desk)
+    unless_on is_told (files_of old.desk) (audit_of categories max_words r.lists) only_text (r.file ∷ heard_of old.desk)
     (heard_of new.desk) ends.reached r.rest passed (λ status e. untold_audit categories max_words r.lists status e) in
     let gains = ends.text (λ e. absurd (cc)) (λ e. absurd (cc)) in
     let lines = audit_text categories (set_of Ip4 r.lists) (set_of Ip6 r.lists) in
@@ -183,7 +183,7 @@ large_rules categories max_words lists told file old new reached status is large
     go (audit_of categories max_words lists) refl follows
   where
     go : (said : Result (List ℕ) Status) → audit_of categories max_words lists ≡ said →
-        Follows told (unless_refused said >>= printing) (file ∷ old) new reached →
+        Follows told (unless_refused said >>= only_text) (file ∷ old) new reached →
         Large categories max_words lists file old new reached status
     go (Ok text) at rest =
         absurd (false≢true (sym (ap is_large (is ∙ ap (λ (r : Reached Outcome). (outcome_of r).status) (rest.1)))

@@ -19,15 +19,15 @@ use Rattle.command_plan.specs.Follow.{Reached, Follows, outcome_of}
 use Rattle.command_plan.specs.Effects.{Ends, Outside, files_of, heard_of}
 use Rattle.acl_tool.specs.FamilySet.{set_of}
 use Rattle.acl_tool.specs.RuleTables.{refused_rules, rules_of_bytes}
-use Rattle.acl_tool.specs.Texts.{is_refusal, printing}
-use Rattle.acl_tool.specs.Compared.{compare_of}
+use Rattle.acl_tool.specs.Texts.{is_refusal, only_text}
+use Rattle.acl_tool.specs.CompareLines.{compare_of}
 use Rattle.acl_tool.specs.ComparePlan.{compare_plan}
-use Rattle.acl_tool.specs.Comparisons.{CompareTells, PrintsComparison}
+use Rattle.acl_tool.specs.CompareTells.{CompareTells, PrintsComparison}
 use Rattle.acl_tool.specs.Effects.{Answers}
-use Rattle.acl_tool.proofs.Asked.{no_usage}
-use Rattle.acl_tool.proofs.Comparing.{compare_both, compare_with}
-use Rattle.acl_tool.proofs.Imaging.{done_told}
-use Rattle.acl_tool.proofs.Compared.{said_lines, said_refusal}
+use Rattle.acl_tool.proofs.Answering.{no_usage}
+use Rattle.acl_tool.proofs.CompareEnds.{compare_both, compare_with}
+use Rattle.acl_tool.proofs.ReadOn.{done_told}
+use Rattle.acl_tool.proofs.CompareLines.{said_lines, said_refusal}
 use Rattle.acl_tool.proofs.ReadOn.{is_told, read_on, told_test, unless_on, untold_rules}
 use Rattle.acl_tool.proofs.WholeRules.{accepted_by, stops, whole_file}
 
@@ -98,7 +98,7 @@ prints words old new asked =
     (second.file ∷ first.file ∷ before) after ends.reached second.rest passed
     (λ status e. untold_second (rule_file_of second.file.bytes) status e) in
     let (text, said, last) =
-    unless_on is_told told (compare_of max_words one two) printing (second.file ∷ first.file ∷ before) after
+    unless_on is_told told (compare_of max_words one two) only_text (second.file ∷ first.file ∷ before) after
     ends.reached more passed (λ status e. untold_refusal status (said_refusal max_words one two status e)) in
     let gains = ends.text (λ e. absurd (cc)) (λ e. absurd (cc)) in
     let steps : new.steps ≡ old.steps + 0 =

@@ -9,7 +9,7 @@ use Rattle.command_plan.specs.Plan.{Outcome, Plan, ◌>>=◌, Stop, printed, unl
 use Rattle.command_plan.specs.Endings.{is_decided, is_reported, is_usage}
 use Rattle.command_plan.specs.Effects.{Ends, Outside, PutsLast, outside}
 use Rattle.command_plan.proofs.Offered.{Ends-stopped, Ends-full, Ends-put}
-use Rattle.acl_tool.specs.Texts.{Refuses, is_refusal, printing}
+use Rattle.acl_tool.specs.Texts.{Refuses, is_refusal, only_text}
 
 -- a refusal is decided by words and files, comes without a report, and isn't of the words
 record IsPlain (status : Status) : Type 0 where
@@ -24,14 +24,14 @@ plain status is = absurd (false≢true is)
 
 -- what is printed of a text, or its refusal
 abbrev pub told : Result (List ℕ) Status → Plan Outcome
-told said = unless_refused said >>= printing
+told said = unless_refused said >>= only_text
 
 -- the text was put
 pub Ends-text : (said : Result (List ℕ) Status) (text : List ℕ) (desk : DeskView) (out_old out_new : SinkView)
     (steps : ℕ) (status : Status) → said ≡ Ok text → PutsLast text out_old out_new status →
     Ends (told said) (outside desk out_old steps) (outside desk out_new steps) status
 Ends-text said text desk out_old out_new steps status is puts =
-    rw is (subst (λ (n : ℕ). Ends (printing text) (outside desk out_old steps) (outside desk out_new n) status)
+    rw is (subst (λ (n : ℕ). Ends (only_text text) (outside desk out_old steps) (outside desk out_new n) status)
     (let same : steps + 0 ≡ steps = omega arith in same)
     (Ends-put (printed Done text 0) desk out_old out_new steps status refl refl puts))
 

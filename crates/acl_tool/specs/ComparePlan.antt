@@ -3,8 +3,8 @@ use Rattle.std.specs.Prelude.{ℕ, List}
 use Rattle.command_plan.specs.declared.status.Status.TheVariants.{RulesRefused, SecondRulesRefused}
 use Rattle.command_plan.specs.Plan.{◌>>=◌, Outcome, Plan, unless_refused}
 use Rattle.acl_tool.specs.RuleTables.{rules_in}
-use Rattle.acl_tool.specs.Texts.{printing}
-use Rattle.acl_tool.specs.Compared.{compare_of}
+use Rattle.acl_tool.specs.Texts.{only_text}
+use Rattle.acl_tool.specs.CompareLines.{compare_of}
 
 -- the lines of a comparison are printed, of the rules of one file and of another
 abbrev pub compare_plan : List ℕ → List ℕ → ℕ → Plan Outcome
@@ -12,4 +12,4 @@ compare_plan rules second max_words = do
   one ← rules_in RulesRefused rules
   two ← rules_in SecondRulesRefused second
   text ← unless_refused (compare_of max_words one two)
-  printing text
+  only_text text

@@ -1,51 +1,36 @@
 -- What a command promises, before and after it.
-use Rattle.std.specs.Prelude.{◌≡◌, ℕ, ◌⊎◌, List, ◌∷◌, false, true, ⊤}
-use Rattle.std.specs.Prelude.{Option, Some, None, Result, Ok, Err, IfOk, IfErr, IfSome}
+use Rattle.std.specs.Prelude.{◌≡◌, ℕ, ◌⊎◌, List, false, true, Option, Some, None, Result, Ok, Err}
+use Rattle.std.specs.Prelude.{IfOk, IfErr, IfSome}
 use Rattle.acl_outside.specs.Desk.{File}
-use Rattle.acl_outside.specs.Heard.{Heard}
 use Rattle.acl_outside.specs.Sink.{SinkView}
 use Rattle.command_plan.specs.declared.status.Status.{Status}
-use Rattle.command_plan.specs.declared.status.Status.TheVariants.{Done, Usage, WriteFault, OutOfMemory}
+use Rattle.command_plan.specs.declared.status.Status.TheVariants.{Done, Usage, WriteFault}
+use Rattle.command_plan.specs.declared.status.Status.TheVariants.{OutOfMemory}
 use Rattle.command_words.specs.declared.fault.UsageFault.{UsageFault}
-use Rattle.classbench_reader.specs.RuleFile.{RuleLists, rule_file_of}
-use Rattle.command_words.specs.Command.{Request, Bench, Build, Classify, Replay, capture_name}
-use Rattle.command_words.specs.Command.{made_name, command}
+use Rattle.command_words.specs.Command.{Request, capture_name, made_name, command}
 use Rattle.command_plan.specs.Message.{message}
 use Rattle.command_plan.specs.Plan.{found, settled}
 use Rattle.command_plan.specs.Endings.{is_reported, is_usage}
-use Rattle.acl_tool.specs.Built.{WordsAreTotals}
-use Rattle.acl_tool.specs.Saved.{IsImageOfRules}
+use Rattle.acl_tool.specs.BuildSaved.{HasImage}
 use Rattle.acl_tool.specs.Outcome.{outcome, plan_of}
 use Rattle.acl_tool.specs.Headline.{ClassifyPrints}
-use Rattle.acl_tool.specs.Transitions.{BenchWalks, ClassifyWalks}
-use Rattle.acl_tool.specs.Sizes.{ClassifySizes}
-use Rattle.acl_tool.specs.Images.{BuildMakes, ReplayPrints}
-use Rattle.acl_tool.specs.Audits.{AuditTells}
-use Rattle.acl_tool.specs.Comparisons.{CompareTells}
-use Rattle.acl_tool.specs.Sessions.{SessionTells}
+use Rattle.acl_tool.specs.BenchWalks.{BenchWalks}
+use Rattle.acl_tool.specs.ClassifyWalks.{ClassifyWalks}
+use Rattle.acl_tool.specs.ClassifySizes.{ClassifySizes}
+use Rattle.acl_tool.specs.BuildMakes.{BuildMakes}
+use Rattle.acl_tool.specs.ReplayPrints.{ReplayPrints}
+use Rattle.acl_tool.specs.AuditTells.{AuditTells}
+use Rattle.acl_tool.specs.CompareTells.{CompareTells}
+use Rattle.acl_tool.specs.SessionTells.{SessionTells}
 use Rattle.command_plan.specs.Effects.{Outside, EndsMaking, EndsAsTold, HasNoFaultMaking, PutsLine}
 use Rattle.command_plan.specs.Effects.{files_of, heard_of, opened_of}
 use Rattle.capture_report.specs.PrintsCapture.{KeepsUp}
+use Rattle.acl_tool.specs.ClassifyTotals.{HasTotals}
 
 -- the name of the file that a request makes, if it makes one; words that are no command make none
 abbrev pub makes_of : Result Request UsageFault → Option (List ℕ)
 makes_of (Ok request) = made_name request
 makes_of (Err fault) = None
-
--- The tables of a `classify` have the words of the splits of the rules that were heard.
-abbrev pub HasTotals : Request → List Heard → List Heard → Type 0
-HasTotals (Classify rules capture options) old new =
-    (rule_file file : Heard) (lists : RuleLists) → new ≡ file ∷ rule_file ∷ old →
-    rule_file_of rule_file.bytes ≡ Ok lists → WordsAreTotals lists options.max_words
-HasTotals request old new = ⊤
-
--- The image that a `build` makes is that of the tables of the rules that were heard, which answer
--- as the rules do.
-abbrev pub HasImage : Request → List Heard → List Heard → Type 0
-HasImage (Build rules image max_words) old new =
-    (rule_file : Heard) (lists : RuleLists) → new ≡ rule_file ∷ old →
-    rule_file_of rule_file.bytes ≡ Ok lists → IsImageOfRules lists max_words
-HasImage request old new = ⊤
 
 -- A request or a usage fault was answered: all that is promised of a command but its message.
 pub record Answers (request : Result Request UsageFault) (old new : Outside)

@@ -1,11 +1,8 @@
 -- What `classify` prints, said by itself: of rule lines, winners, captures, headers and lines, and
 -- of what the desk gave and the output took, whatever they are.
-use Rattle.std.specs.Prelude.{◌≡◌, ℕ, List, [], ◌∷◌, ◌++◌, length, take, drop, map, codes, Bool}
-use Rattle.std.specs.Prelude.{false, Option, Some, None, Ok, if◌then◌else◌}
+use Rattle.std.specs.Prelude.{◌≡◌, ℕ, List, [], ◌∷◌, ◌++◌, map, codes, false, Option, Some, None}
+use Rattle.std.specs.Prelude.{Ok}
 use Rattle.std.specs.List.{enumerate_from, flat_map, range_with_len}
-use Rattle.std.specs.Option.{option_map_or}
-use Rattle.std.specs.Str.{bytes_eq}
-use Rattle.text_scan.specs.Digits.{place_value}
 use Rattle.field_defs.specs.declared.field.FieldDef.{FieldDef}
 use Rattle.field_defs.specs.Layout.{ip4_fields, ip6_fields}
 use Rattle.rule_set.specs.Rule.{RuleView}
@@ -21,23 +18,7 @@ use Rattle.acl_outside.specs.Heard.{Heard, Ended}
 use Rattle.command_plan.specs.declared.status.Status.{Status}
 use Rattle.capture_report.specs.Shown.{answer_of_rules, counts_of_records, fault_of_capture}
 use Rattle.capture_report.specs.Shown.{packet_of, shown, status_of_fault}
-
--- what stands after the name of an option, in the first word that begins with the name
-abbrev pub value_given : List ℕ → List (List ℕ) → Option (List ℕ)
-value_given name [] = None
-value_given name (word ∷ words) =
-    if bytes_eq (take (length name) word) name then Some (drop (length name) word)
-    else value_given name words
-
--- how many categories are shown: as many as `categories=` says, or 1
-abbrev pub categories_shown : List (List ℕ) → ℕ
-categories_shown options =
-    option_map_or (place_value 10) (value_given (codes "categories=") options) 1
-
--- whether the option of this name is on
-abbrev pub is_on : List ℕ → List (List ℕ) → Bool
-is_on name options =
-    option_map_or (λ value. bytes_eq value (codes "on")) (value_given name options) false
+use Rattle.acl_tool.specs.GivenOptions.{categories_shown, is_on}
 
 -- what is shown of a key, from category 0 on: the userdata of the first matching rule of greatest
 -- priority, and where no rule matches the digit 0, or a dash after `marks=on`
@@ -85,8 +66,8 @@ pub record Hears (words : List (List ℕ)) (old new : List Heard) : Type 0 where
 
 -- `classify` printed the lines of a capture, which is refused with the fault, or whole where that
 -- is none. The output has `out_new` after `out_old`.
-pub record Prints (words : List (List ℕ)) (fault : Option CaptureFault) (old new : List Heard)
-    (out_old out_new : List ℕ) : Type 0 where
+pub record PrintsVerdicts (words : List (List ℕ)) (fault : Option CaptureFault)
+    (old new : List Heard) (out_old out_new : List ℕ) : Type 0 where
   pub heard : Hears words old new
   pub stats : List ℕ
   -- all of a whole capture was read, and a refused one is refused whatever more of it may come
@@ -104,4 +85,4 @@ abbrev pub ClassifyPrints : List (List ℕ) → Status → List Heard → List H
     Type 0
 ClassifyPrints words status old new out_old out_new =
     (after : List (List ℕ)) (fault : Option CaptureFault) → words ≡ codes "classify" ∷ after →
-    status ≡ status_of_fault fault → Prints words fault old new out_old out_new
+    status ≡ status_of_fault fault → PrintsVerdicts words fault old new out_old out_new

@@ -4,7 +4,7 @@ use Rattle.acl_session.specs.Session.{session_of}
 use Rattle.command_plan.specs.declared.status.Status.{Status}
 use Rattle.command_plan.specs.declared.status.Status.TheVariants.{ScriptRefused}
 use Rattle.command_plan.specs.Plan.{◌>>=◌, Outcome, Plan, reading, unless_refused}
-use Rattle.acl_tool.specs.Texts.{printing}
+use Rattle.acl_tool.specs.Texts.{only_text}
 
 -- how many bytes a script may have
 abbrev pub max_script : ℕ
@@ -25,4 +25,4 @@ replies_in name = do
 abbrev pub session_plan : List ℕ → Plan Outcome
 session_plan script = do
   replies ← replies_in script
-  printing replies
+  only_text replies

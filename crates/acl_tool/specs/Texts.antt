@@ -8,8 +8,8 @@ use Rattle.command_plan.specs.declared.status.Status.TheVariants.{TooLarge, TooM
 use Rattle.command_plan.specs.Plan.{Outcome, Plan, Give, printed}
 
 -- the text is printed, and no transition taken
-abbrev pub printing : List ℕ → Plan Outcome
-printing text = Give (printed Done text 0)
+abbrev pub only_text : List ℕ → Plan Outcome
+only_text text = Give (printed Done text 0)
 
 -- a status that says of rules that they are too large or too many
 abbrev pub is_refusal : Status → Bool

@@ -8,7 +8,7 @@ ghost use Rattle.command_words.specs.Command as asked;
 ghost use Rattle.command_plan.specs.Effects.{outside};
 ghost use Rattle.capture_report.specs.Classifier.{lists_of};
 ghost use Rattle.acl_tool.specs.Texts.{Refuses, Tells};
-ghost use Rattle.acl_tool.specs.Merged.{audit_of, audit_refused, merged_within};
+ghost use Rattle.acl_tool.specs.AuditMerged.{audit_of, audit_refused, merged_within};
 ghost use Rattle.acl_tool.specs.Effects.{Answers};
 
 use crate::rule_file::{Listing, read_rule_file};

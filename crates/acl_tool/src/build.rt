@@ -9,7 +9,7 @@ ghost use Rattle.command_plan.specs.Effects.{outside};
 ghost use Rattle.capture_report.specs.Classifier.{lists_of};
 ghost use Rattle.acl_tool.specs.Built.{Refuses};
 ghost use Rattle.acl_tool.specs.Effects.{Answers};
-ghost use Rattle.acl_tool.specs.Saved.{IsSaved};
+ghost use Rattle.acl_tool.specs.BuildSaved.{IsSaved};
 
 use crate::rule_file::{Listing, read_rule_file};
 use crate::tables::{build_tables, table_of};

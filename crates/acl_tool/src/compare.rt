@@ -13,7 +13,7 @@ ghost use Rattle.command_plan.specs.Effects.{Takes, outside};
 ghost use Rattle.capture_report.specs.Classifier.{lists_of};
 ghost use Rattle.acl_tool.specs.Texts.{Refuses, Tells};
 ghost use Rattle.audit_report.specs.Compare.{compared_text};
-ghost use Rattle.acl_tool.specs.Compared.{compare_of, compare_refused, compared_within};
+ghost use Rattle.acl_tool.specs.CompareLines.{compare_of, compare_refused, compared_within};
 ghost use Rattle.acl_tool.specs.RuleTables.{rules_in};
 ghost use Rattle.acl_tool.specs.Effects.{Answers};
 

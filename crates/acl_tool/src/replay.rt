@@ -7,7 +7,7 @@ ghost use Rattle.command_words.specs.CommandLine.{options_of};
 ghost use Rattle.command_plan.specs.Endings.{is_reported, is_usage};
 ghost use Rattle.command_plan.specs.Effects.{Takes, outside};
 ghost use Rattle.acl_tool.specs.ReplayPlan.{image_cap, tables_in, tables_of_bytes};
-ghost use Rattle.acl_tool.specs.Loaded.{tables_of};
+ghost use Rattle.acl_tool.specs.ReplayLoaded.{tables_of};
 ghost use Rattle.acl_tool.specs.Effects.{Answers};
 
 use acl_outside::{Desk, Sink};

@@ -6,7 +6,7 @@ ghost use Rattle.command_words.specs.Command as asked;
 ghost use Rattle.command_plan.specs.Effects.{Takes, outside};
 ghost use Rattle.command_plan.specs.Endings.{is_reported, is_usage};
 ghost use Rattle.acl_tool.specs.SessionPlan.{max_script, replies_in, replies_of};
-ghost use Rattle.acl_tool.specs.Sessions.{text_of};
+ghost use Rattle.acl_tool.specs.SessionTells.{text_of};
 ghost use Rattle.acl_tool.specs.Effects.{Answers};
 
 use crate::text::put_text;

@@ -51,11 +51,11 @@ same_end front block n len is same =
 -- A front was read that isn't refused, and the rest of the block has as much room as its length says.
 pub record HasFrontRead (state : BlockState) (front : Front) (first before rest : List ℕ) (old mid : DeskView) : Type 0
   where
-  pub is : front_of state first ≡ Ok front
-  pub whole : length first ≡ front_len
-  pub fits : length rest ≡ length before
-  pub total : front_len + length before ≡ front.total
-  pub read : HasRead state first GoesOn old mid
+    pub is : front_of state first ≡ Ok front
+    pub whole : length first ≡ front_len
+    pub fits : length rest ≡ length before
+    pub total : front_len + length before ≡ front.total
+    pub read : HasRead state first GoesOn old mid
 
 -- And then the rest of the block was read.
 module _ {state : BlockState} {front : Front} {first before rest : List ℕ} {old mid : DeskView}

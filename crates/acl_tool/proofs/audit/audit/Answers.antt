@@ -1,10 +1,10 @@
 use Rattle.std.proofs.Common.{List, ℕ, sym, ap, subst, ◌∙◌}
 use Rattle.capture_report.specs.Classifier.{lists_of}
 use Rattle.command_plan.specs.Effects.{Outside, PutsLast, outside}
-use Rattle.acl_tool.specs.Merged.{audit_of}
+use Rattle.acl_tool.specs.AuditMerged.{audit_of}
 use Rattle.acl_tool.specs.Texts.{Refuses}
-use Rattle.acl_tool.proofs.Classifying.{HasRules}
-use Rattle.acl_tool.proofs.Auditing.{Audit-no_rules, Audit-put, Audit-refused}
+use Rattle.acl_tool.proofs.RuleFiles.{HasRules}
+use Rattle.acl_tool.proofs.AuditEnds.{Audit-no_rules, Audit-put, Audit-refused}
 use Rattle.acl_tool.proofs.audit.audit.Goals as goal
 
 pub returns-in-Err : goal.returns-in-Err

@@ -5,10 +5,10 @@ use Rattle.rule_set.specs.Rule.{RuleSetView}
 use Rattle.audit_report.specs.Audit.{audit_text}
 use Rattle.capture_report.specs.Classifier.{lists_of}
 use Rattle.acl_tool.specs.FamilySet.{set_of}
-use Rattle.acl_tool.specs.Merged.{audit_of, merged_within}
+use Rattle.acl_tool.specs.AuditMerged.{audit_of, merged_within}
 use Rattle.acl_tool.specs.Texts.{Refuses}
 use Rattle.acl_tool.proofs.Making.{set-is}
-use Rattle.acl_tool.proofs.Merging.{first_refuses, said_is, second_refuses}
+use Rattle.acl_tool.proofs.AuditMerged.{first_refuses, said_is, second_refuses}
 use Rattle.acl_tool.proofs.audit.audit_lines.Goals as goal
 
 pub returns-in-Err : goal.returns-in-Err

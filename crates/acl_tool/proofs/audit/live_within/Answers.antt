@@ -1,7 +1,7 @@
 use Rattle.std.proofs.Common.{Err, subst, sym, ap}
 use Rattle.acl_tool.specs.Texts.{Refuses}
-use Rattle.acl_tool.specs.Merged.{merged_within}
-use Rattle.acl_tool.proofs.Merging.{refused_is, within_is}
+use Rattle.acl_tool.specs.AuditMerged.{merged_within}
+use Rattle.acl_tool.proofs.AuditMerged.{refused_is, within_is}
 use Rattle.acl_tool.proofs.audit.live_within.Goals as goal
 
 pub returns-in-Ok-clause-fits : goal.returns-in-Ok-clause-fits

@@ -7,7 +7,7 @@ use Rattle.command_words.specs.CommandLine.{numbers_in}
 use Rattle.command_plan.specs.Effects.{PutsLast, outside}
 use Rattle.std.proofs.Common.{Ok}
 use Rattle.acl_tool.specs.Effects.{Answers}
-use Rattle.acl_tool.proofs.Benching.{Answers-measured, Answers-refused}
+use Rattle.acl_tool.proofs.BenchEnds.{Answers-measured, Answers-refused}
 use Rattle.acl_tool.proofs.bench.bench.Goals as goal
 
 pub returns-in-Ok : goal.returns-in-Ok

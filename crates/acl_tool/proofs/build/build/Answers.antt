@@ -2,9 +2,9 @@ use Rattle.std.proofs.Common.{List, ℕ, Ok, Err, subst, ◌∙◌}
 use Rattle.command_plan.specs.Effects.{MakesAll, Outside, outside}
 use Rattle.capture_report.specs.Classifier.{lists_of}
 use Rattle.acl_tool.specs.Built.{tables_built}
-use Rattle.acl_tool.specs.Saved.{IsSaved}
-use Rattle.acl_tool.proofs.Classifying.{HasRules}
-use Rattle.acl_tool.proofs.Building.{Build-no_rules, Build-no_tables, Build-made, Build-broken}
+use Rattle.acl_tool.specs.BuildSaved.{IsSaved}
+use Rattle.acl_tool.proofs.RuleFiles.{HasRules}
+use Rattle.acl_tool.proofs.BuildEnds.{Build-no_rules, Build-no_tables, Build-made, Build-broken}
 use Rattle.acl_tool.proofs.build.build.Goals as goal
 
 pub returns-in-Err : goal.returns-in-Err

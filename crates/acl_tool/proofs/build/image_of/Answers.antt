@@ -1,5 +1,5 @@
 use Rattle.capture_report.specs.Classifier.{lists_of}
-use Rattle.acl_tool.proofs.Building.{image_saved, saved_both}
+use Rattle.acl_tool.proofs.BuildEnds.{image_saved, saved_both}
 use Rattle.acl_tool.proofs.build.image_of.Goals as goal
 
 pub save-requires-clause-ip4 : goal.save-requires-clause-ip4

@@ -6,7 +6,8 @@ use Rattle.command_plan.specs.Plan.{Give}
 use Rattle.acl_tool.specs.Built.{WordsAreTotals}
 use Rattle.acl_tool.specs.RuleTables.{tables_within}
 use Rattle.acl_tool.proofs.Making.{same_tables}
-use Rattle.acl_tool.proofs.Classifying.{HasRules, Answers-no_tables, Answers-reported}
+use Rattle.acl_tool.proofs.RuleFiles.{HasRules}
+use Rattle.acl_tool.proofs.ClassifyEnds.{Answers-no_tables, Answers-reported}
 use Rattle.acl_tool.proofs.classify.classify_by.Goals as goal
 
 pub returns-in-Err : goal.returns-in-Err

@@ -1,6 +1,6 @@
 use Rattle.capture_report.specs.Classifier.{lists_of}
 use Rattle.command_plan.specs.Effects.{Outside, outside}
-use Rattle.acl_tool.proofs.Comparing.{Compare-no_rules}
+use Rattle.acl_tool.proofs.CompareEnds.{Compare-no_rules}
 use Rattle.acl_tool.proofs.compare.compare.Goals as goal
 
 pub returns-in-Ok : goal.returns-in-Ok

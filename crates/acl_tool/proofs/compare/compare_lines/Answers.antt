@@ -4,10 +4,10 @@ use Rattle.field_defs.specs.Layout.{ip4_fields, ip6_fields}
 use Rattle.rule_set.specs.Rule.{RuleSetView}
 use Rattle.audit_report.specs.Compare.{compared_text}
 use Rattle.capture_report.specs.Classifier.{lists_of}
-use Rattle.acl_tool.specs.Compared.{compared_within}
+use Rattle.acl_tool.specs.CompareLines.{compared_within}
 use Rattle.acl_tool.specs.Texts.{Refuses}
 use Rattle.acl_tool.proofs.Making.{set-is}
-use Rattle.acl_tool.proofs.Compared.{both_said, first_stops, second_stops}
+use Rattle.acl_tool.proofs.CompareLines.{both_said, first_stops, second_stops}
 use Rattle.acl_tool.proofs.compare.compare_lines.Goals as goal
 
 pub returns-in-Err : goal.returns-in-Err

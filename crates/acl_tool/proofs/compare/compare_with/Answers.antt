@@ -1,10 +1,10 @@
 use Rattle.std.proofs.Common.{List, ℕ, sym, ap, subst, ◌∙◌}
 use Rattle.capture_report.specs.Classifier.{lists_of}
 use Rattle.command_plan.specs.Effects.{Outside, PutsLast, outside}
-use Rattle.acl_tool.specs.Compared.{compare_of}
+use Rattle.acl_tool.specs.CompareLines.{compare_of}
 use Rattle.acl_tool.specs.Texts.{Refuses}
-use Rattle.acl_tool.proofs.Classifying.{HasRules}
-use Rattle.acl_tool.proofs.Comparing.{Compare-no_second, Compare-put, Compare-refused}
+use Rattle.acl_tool.proofs.RuleFiles.{HasRules}
+use Rattle.acl_tool.proofs.CompareEnds.{Compare-no_second, Compare-put, Compare-refused}
 use Rattle.acl_tool.proofs.compare.compare_with.Goals as goal
 
 pub returns-in-Err : goal.returns-in-Err

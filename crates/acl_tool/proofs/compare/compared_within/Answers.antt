@@ -1,7 +1,7 @@
 use Rattle.std.proofs.Common.{Err, subst, sym, ap}
 use Rattle.acl_tool.specs.Texts.{Refuses}
-use Rattle.acl_tool.specs.Compared.{compared_within}
-use Rattle.acl_tool.proofs.Compared.{line_is, refused_is}
+use Rattle.acl_tool.specs.CompareLines.{compared_within}
+use Rattle.acl_tool.proofs.CompareLines.{line_is, refused_is}
 use Rattle.acl_tool.proofs.compare.compared_within.Goals as goal
 
 pub returns-in-Ok-clause-within : goal.returns-in-Ok-clause-within

@@ -1,7 +1,7 @@
 use Rattle.std.proofs.Common.{inl, ap, ◌∙◌}
 use Rattle.table_image.specs.Loading.{pair_of}
 use Rattle.acl_tool.specs.ReplayPlan.{refused_image}
-use Rattle.acl_tool.proofs.Replaying.{image_keys, tables_of_whole}
+use Rattle.acl_tool.proofs.ReplayEnds.{image_keys, tables_of_whole}
 use Rattle.acl_tool.proofs.replay.load_image.Goals as goal
 
 pub returns-in-Ok-clause-tables : goal.returns-in-Ok-clause-tables

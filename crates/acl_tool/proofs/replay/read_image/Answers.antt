@@ -2,8 +2,8 @@ use Rattle.std.proofs.Common.{List, ℕ, ◌≤◌, length, subst, sym}
 use Rattle.command_plan.specs.Effects.{Parses}
 use Rattle.command_plan.proofs.Offered.{Takes-read, Takes-unread}
 use Rattle.acl_tool.specs.ReplayPlan.{image_cap, tables_of_bytes}
-use Rattle.acl_tool.specs.Loaded.{tables_of}
-use Rattle.acl_tool.proofs.Replaying.{tables_of_bytes-more}
+use Rattle.acl_tool.specs.ReplayLoaded.{tables_of}
+use Rattle.acl_tool.proofs.ReplayEnds.{tables_of_bytes-more}
 use Rattle.acl_tool.proofs.replay.read_image.Goals as goal
 
 pub load_image-requires : goal.load_image-requires

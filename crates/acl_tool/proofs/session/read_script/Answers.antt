@@ -2,8 +2,8 @@ use Rattle.std.proofs.Common.{List, ℕ, subst}
 use Rattle.command_plan.specs.Effects.{Parses}
 use Rattle.command_plan.proofs.Offered.{Takes-read, Takes-unread}
 use Rattle.acl_tool.specs.SessionPlan.{replies_of}
-use Rattle.acl_tool.specs.Sessions.{text_of}
-use Rattle.acl_tool.proofs.Scripts.{replies_of-more}
+use Rattle.acl_tool.specs.SessionTells.{text_of}
+use Rattle.acl_tool.proofs.SessionEnds.{replies_of-more}
 use Rattle.acl_tool.proofs.session.read_script.Goals as goal
 
 pub returns-in-Ok : goal.returns-in-Ok

@@ -1,7 +1,7 @@
 use Rattle.std.proofs.Common.{List, ℕ, subst}
 use Rattle.command_plan.specs.Effects.{Outside, PutsLast, outside}
-use Rattle.acl_tool.specs.Sessions.{text_of}
-use Rattle.acl_tool.proofs.Scripts.{Session-put, Session-refused}
+use Rattle.acl_tool.specs.SessionTells.{text_of}
+use Rattle.acl_tool.proofs.SessionEnds.{Session-put, Session-refused}
 use Rattle.acl_tool.proofs.session.session.Goals as goal
 
 pub returns-in-Ok : goal.returns-in-Ok

@@ -1,13 +1,14 @@
 use Rattle.std.proofs.Common.{ℕ, List, map}
 use Rattle.std.specs.Prelude.{string_bytes}
 use Rattle.command_plan.proofs.Offered.{Ends-complete}
-use Rattle.acl_tool.proofs.Benching.{bench_walks}
-use Rattle.acl_tool.proofs.Printing.{classify_prints, classify_walks}
-use Rattle.acl_tool.proofs.Sizing.{classify_sizes}
-use Rattle.acl_tool.proofs.Imaging.{build_makes, replay_prints}
+use Rattle.acl_tool.proofs.BenchTold.{bench_walks}
+use Rattle.acl_tool.proofs.ClassifyTold.{classify_prints, classify_walks}
+use Rattle.acl_tool.proofs.ClassifySized.{classify_sizes}
+use Rattle.acl_tool.proofs.BuildTold.{build_makes}
+use Rattle.acl_tool.proofs.ReplayTold.{replay_prints}
 use Rattle.acl_tool.proofs.AuditTold.{audit_tells}
 use Rattle.acl_tool.proofs.CompareTold.{compare_tells}
-use Rattle.acl_tool.proofs.ScriptTold.{session_tells}
+use Rattle.acl_tool.proofs.SessionTold.{session_tells}
 use Rattle.acl_tool.proofs.tool.run.Goals as goal
 
 pub returns : goal.returns

@@ -14,12 +14,12 @@ use Rattle.command_plan.specs.Plan.{Outcome, Plan, ◌>>=◌, nothing, unless_re
 use Rattle.command_plan.specs.Follow.{Reached, Follows, IsEnough, outcome_of}
 use Rattle.command_plan.specs.Endings.{is_usage}
 use Rattle.command_plan.specs.Effects.{Ends, Outside, files_of, heard_of}
-use Rattle.acl_tool.specs.Texts.{printing}
+use Rattle.acl_tool.specs.Texts.{only_text}
 use Rattle.acl_tool.specs.SessionPlan.{max_script, replies_of, session_plan}
-use Rattle.acl_tool.specs.Sessions.{HearsScript, PrintsReplies, RefusesScript, SessionTells}
+use Rattle.acl_tool.specs.SessionTells.{HearsScript, PrintsReplies, RefusesScript, SessionTells}
 use Rattle.acl_tool.specs.Effects.{Answers}
-use Rattle.acl_tool.proofs.Asked.{no_usage}
-use Rattle.acl_tool.proofs.Imaging.{done_told}
+use Rattle.acl_tool.proofs.Answering.{no_usage}
+use Rattle.acl_tool.proofs.ReadOn.{done_told}
 use Rattle.acl_tool.proofs.ReadOn.{IsTest, ReadsOn, is_told, longer, read_on, told_test, unless_on}
 use Rattle.acl_tool.proofs.WholeRules.{stops}
 
@@ -46,7 +46,7 @@ asked_words words old new status answers lawful after is =
 
 -- what comes after the bytes of the script
 abbrev after_bytes : List ℕ → Plan Outcome
-after_bytes bytes = unless_refused (replies_of bytes) >>= printing
+after_bytes bytes = unless_refused (replies_of bytes) >>= only_text
 
 -- what is said of the bytes: a script that is too long is refused, and any other has its replies
 abbrev said_if : Bool → List ℕ → Result (List ℕ) Status
@@ -74,9 +74,9 @@ whole_script file text said (inr on) =
     let long : replies_of (file.bytes ++ more) ≡ Err ScriptRefused =
     rw (lt-ltb max_script (length (file.bytes ++ more)) (omega (arith, length-append file.bytes more, is_more))) refl in
     let stopped : stops (after_bytes (file.bytes ++ more)) ≡ true =
-    ap (λ (r : Result (List ℕ) Status). stops (unless_refused r >>= printing)) long in
+    ap (λ (r : Result (List ℕ) Status). stops (unless_refused r >>= only_text)) long in
     let going : stops (after_bytes file.bytes) ≡ false =
-    ap (λ (r : Result (List ℕ) Status). stops (unless_refused r >>= printing)) said in
+    ap (λ (r : Result (List ℕ) Status). stops (unless_refused r >>= only_text)) said in
     absurd (false≢true (sym going ∙ ap stops (sym ((on.1) more)) ∙ stopped))
 
 -- what is heard of the script, by the words
@@ -101,7 +101,7 @@ prints words old new asked =
     (heard_of new.desk) ends.reached ends.follows passed in
     let bytes = first.file.bytes in
     let (text, said, last) =
-    unless_on is_told (files_of old.desk) (replies_of bytes) printing (first.file ∷ heard_of old.desk)
+    unless_on is_told (files_of old.desk) (replies_of bytes) only_text (first.file ∷ heard_of old.desk)
     (heard_of new.desk) ends.reached first.rest passed
     (λ status e. untold (nat_lt max_script (length bytes)) bytes status e) in
     let gains = ends.text (λ e. absurd (cc)) (λ e. absurd (cc)) in
@@ -144,7 +144,7 @@ long_bytes : (bytes : List ℕ) (told : Option (List File)) (file : Heard) (old 
 long_bytes bytes told file old new reached is follows = go (replies_of bytes) refl follows
   where
     go : (said : Result (List ℕ) Status) → replies_of bytes ≡ said →
-        Follows told (unless_refused said >>= printing) (file ∷ old) new reached → Long bytes file old new reached
+        Follows told (unless_refused said >>= only_text) (file ∷ old) new reached → Long bytes file old new reached
     go (Ok text) at rest = absurd (
         let done : ScriptRefused ≡ Done = is ∙ ap (λ (r : Reached Outcome). (outcome_of r).status) (rest.1) in cc)
     go (Err refusal) at rest = record {

@@ -1,23 +1,19 @@
--- How many transitions a command takes, said by itself: one for each word that the walks of the
+-- How many transitions `classify` takes, said by itself: one for each word that the walks of the
 -- packets read in the tables of the rules, and at most one for each trie and byte of a key.
-use Rattle.std.specs.Prelude.{◌≡◌, ℕ, ◌+◌, ◌≤◌, List, ◌∷◌, codes, Option, Ok}
+use Rattle.std.specs.Prelude.{◌≡◌, ℕ, ◌+◌, ◌≤◌, List, ◌∷◌, codes, Option}
 use Rattle.field_defs.specs.declared.field.Family.TheVariants.{Ip4, Ip6}
 use Rattle.acl_outside.specs.Heard.{Heard}
 use Rattle.acl_context.specs.Context.{built_of}
 use Rattle.pcap_reader.specs.declared.fault.CaptureFault.{CaptureFault}
 use Rattle.pcapng_reader.specs.Capture.{whole_records}
-use Rattle.command_words.specs.BenchWords.{BenchNumbers}
-use Rattle.command_words.specs.Command.{Bench, command}
-use Rattle.seed_bench.specs.Bench.{most_drawn, transitions_drawn}
 use Rattle.command_plan.specs.declared.status.Status.{Status}
-use Rattle.command_plan.specs.declared.status.Status.TheVariants.{Done}
 use Rattle.capture_report.specs.Shown.{status_of_fault}
 use Rattle.capture_report.specs.Classifier.{Tables}
 use Rattle.capture_report.specs.Report.{transitions_of_records}
 use Rattle.capture_report.specs.Bound.{most_of_records}
 use Rattle.acl_tool.specs.FamilySet.{set_of}
 use Rattle.acl_tool.specs.Headline.{Hears}
-use Rattle.acl_tool.specs.Sizes.{budget_given}
+use Rattle.acl_tool.specs.GivenOptions.{budget_given}
 
 -- The counter rose by the transitions of the packets in the whole records of the capture, through
 -- the tables that are made of the rules. No walk takes more than one for each byte of its key.
@@ -36,11 +32,3 @@ abbrev pub ClassifyWalks : List (List ℕ) → Status → List Heard → List He
 ClassifyWalks words status old new steps_old steps_new =
     (after : List (List ℕ)) (fault : Option CaptureFault) → words ≡ codes "classify" ∷ after →
     status ≡ status_of_fault fault → Walks words old new steps_old steps_new
-
--- Wherever `bench` ends with Done, the counter rose by the transitions of the drawn keys, of which
--- each takes at most one for each trie and byte.
-abbrev pub BenchWalks : List (List ℕ) → Status → ℕ → ℕ → Type 0
-BenchWalks words status steps_old steps_new =
-    (numbers : BenchNumbers) → command words ≡ Ok (Bench numbers) → status ≡ Done →
-    (steps_new ≡ steps_old + transitions_drawn numbers)
-    × (steps_new ≤ steps_old + most_drawn numbers)

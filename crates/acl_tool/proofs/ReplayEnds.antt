@@ -23,7 +23,7 @@ use Rattle.acl_tool.specs.ClassifyPlan.{form_of}
 use Rattle.acl_tool.specs.ReplayPlan.{image_cap, refused_image, replay_plan, tables_in, tables_of_bytes}
 use Rattle.acl_tool.specs.Effects.{Answers}
 use Rattle.acl_tool.proofs.Answering.{Answers-request}
-use Rattle.acl_tool.proofs.Classifying.{keeps_up_later}
+use Rattle.acl_tool.proofs.Answering.{keeps_up_later}
 
 -- what comes after the tables
 abbrev pub report_by : Options → List ℕ → Tables → Plan Outcome

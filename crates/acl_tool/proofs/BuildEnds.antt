@@ -28,10 +28,11 @@ use Rattle.acl_context.specs.Context.{built_of}
 use Rattle.acl_tool.specs.FamilySet.{set_of}
 use Rattle.acl_tool.specs.Built.{IsBuilt, Refuses, tables_built}
 use Rattle.acl_tool.specs.BuildPlan.{build_plan, image_bytes, pair_of}
-use Rattle.acl_tool.specs.Saved.{IsImageOfRules, IsSaved}
-use Rattle.acl_tool.specs.Effects.{Answers, HasImage}
+use Rattle.acl_tool.specs.BuildSaved.{IsImageOfRules, IsSaved}
+use Rattle.acl_tool.specs.Effects.{Answers}
+use Rattle.acl_tool.specs.BuildSaved.{HasImage}
 use Rattle.acl_tool.proofs.Answering.{Answers-request}
-use Rattle.acl_tool.proofs.Classifying.{HasRules, rules_heard, with_rules}
+use Rattle.acl_tool.proofs.RuleFiles.{HasRules, rules_heard, with_rules}
 use Rattle.acl_tool.proofs.Making.{same_tables}
 use Rattle.acl_tool.proofs.RuleFiles.{tables_faithful}
 

@@ -11,7 +11,7 @@ use Rattle.command_plan.specs.Plan.{Outcome, Plan, printed, unless_refused}
 use Rattle.command_plan.specs.Endings.{is_usage}
 use Rattle.command_plan.specs.Effects.{Ends, Outside, PutsLast, Takes, outside}
 use Rattle.command_plan.proofs.Offered.{BeginsWith-nothing, IsFaithful, faithful_unless, Ends-cut, Ends-put, Ends-then}
-use Rattle.acl_tool.specs.Texts.{printing}
+use Rattle.acl_tool.specs.Texts.{only_text}
 use Rattle.acl_tool.specs.SessionPlan.{max_script, replies_in, replies_of, session_plan}
 use Rattle.acl_tool.specs.Effects.{Answers}
 use Rattle.acl_tool.proofs.Answering.{Answers-request}
@@ -31,7 +31,7 @@ replies_of-more front more long =
 script_faithful : (script : List ℕ) (files : List File) → IsFaithful files (session_plan script)
 script_faithful script files = (
   λ bytes more. BeginsWith-nothing _,
-  λ bytes. faithful_unless files (replies_of bytes) printing (λ text. tt),
+  λ bytes. faithful_unless files (replies_of bytes) only_text (λ text. tt),
 )
 
 -- a request that ended so
@@ -55,7 +55,7 @@ pub Session-refused : {X : Type 0} (script : List ℕ) (seen : X → List ℕ) (
     Answers (Ok (Session script)) old (record old { desk = desk }) status
 Session-refused script seen old desk status step =
     answered script old (record old { desk = desk }) status
-    (Ends-cut None (replies_in script) seen printing old desk status step) step.lawful
+    (Ends-cut None (replies_in script) seen only_text old desk status step) step.lawful
 
 -- the replies were put
 pub Session-put : {X : Type 0} (script : List ℕ) (seen : X → List ℕ) (old : Outside) (desk : DeskView) (out : SinkView)
@@ -65,10 +65,10 @@ pub Session-put : {X : Type 0} (script : List ℕ) (seen : X → List ℕ) (old 
 Session-put script seen old desk out replies status step puts =
     let new : Outside = outside desk out old.steps in
     let text : List ℕ = seen replies in
-    let put : Ends (printing text) (outside desk old.out old.steps) new status =
-    subst (λ (n : ℕ). Ends (printing text) (outside desk old.out old.steps) (outside desk out n) status)
+    let put : Ends (only_text text) (outside desk old.out old.steps) new status =
+    subst (λ (n : ℕ). Ends (only_text text) (outside desk old.out old.steps) (outside desk out n) status)
     (let same : old.steps + 0 ≡ old.steps = omega arith in same)
     (Ends-put (printed Done text 0) desk old.out out old.steps status refl refl puts) in
     answered script old new status
-    (Ends-then None (replies_in script) seen printing old new desk replies status step put)
+    (Ends-then None (replies_in script) seen only_text old new desk replies status step put)
     (lawful_put text old.out out status puts)

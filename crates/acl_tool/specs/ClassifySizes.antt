@@ -1,24 +1,17 @@
 -- How large the tables of `classify` are, said by itself: their tries and words, and when rules
 -- need more words than the budget.
 use Rattle.std.specs.Prelude.{◌≡◌, ℕ, ◌<◌, List, ◌∷◌, ◌++◌, length, codes, true, Ok}
-use Rattle.std.specs.Option.{option_map_or}
-use Rattle.text_scan.specs.Digits.{place_value}
 use Rattle.field_defs.specs.declared.field.Family.{Family}
 use Rattle.field_defs.specs.declared.field.Family.TheVariants.{Ip4, Ip6}
 use Rattle.rule_split.specs.Split.{groups_of, total_of}
 use Rattle.classbench_reader.specs.RuleFile.{RuleLists, rule_file_of}
 use Rattle.acl_outside.specs.Heard.{Heard, Ended}
 use Rattle.acl_report.specs.Tables.{table_text, transitions_text}
-use Rattle.command_words.specs.Options.{usual_words}
 use Rattle.command_plan.specs.declared.status.Status.{Status}
 use Rattle.command_plan.specs.declared.status.Status.TheVariants.{Done, TooLarge}
 use Rattle.acl_tool.specs.FamilySet.{set_of}
-use Rattle.acl_tool.specs.Headline.{Hears, is_on, value_given}
-
--- how many words the table of a family may have: as many as `max-words=` says, or the usual number
-abbrev pub budget_given : List (List ℕ) → ℕ
-budget_given options =
-    option_map_or (place_value 10) (value_given (codes "max-words=") options) usual_words
+use Rattle.acl_tool.specs.Headline.{Hears}
+use Rattle.acl_tool.specs.GivenOptions.{is_on, budget_given}
 
 -- the line of a family's table: its rules, a trie for each group of their split, and the total of
 -- the split as its words

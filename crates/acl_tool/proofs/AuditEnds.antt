@@ -11,12 +11,12 @@ use Rattle.command_plan.specs.Endings.{is_usage}
 use Rattle.command_plan.specs.Effects.{Ends, Outside, PutsLast, Takes, outside}
 use Rattle.command_plan.proofs.Offered.{BeginsWith-nothing, IsFaithful, faithful_unless, Ends-cut, Ends-then}
 use Rattle.acl_tool.specs.RuleTables.{rules_in, rules_of_bytes}
-use Rattle.acl_tool.specs.Texts.{Refuses, printing}
-use Rattle.acl_tool.specs.Merged.{audit_of}
+use Rattle.acl_tool.specs.Texts.{Refuses, only_text}
+use Rattle.acl_tool.specs.AuditMerged.{audit_of}
 use Rattle.acl_tool.specs.AuditPlan.{audit_plan}
 use Rattle.acl_tool.specs.Effects.{Answers}
 use Rattle.acl_tool.proofs.Answering.{Answers-request}
-use Rattle.acl_tool.proofs.Classifying.{HasRules, with_rules}
+use Rattle.acl_tool.proofs.RuleFiles.{HasRules, with_rules}
 use Rattle.acl_tool.proofs.Texts.{Ends-text, Ends-refused, lawful_put, lawful_refusal, told}
 
 -- what comes after the rules
@@ -28,7 +28,7 @@ audit_faithful : (rules : List ℕ) (categories max_words : ℕ) (files : List F
 audit_faithful rules categories max_words files = (
   λ bytes more. BeginsWith-nothing _,
   λ bytes. faithful_unless files (rules_of_bytes RulesRefused bytes) (audit_in categories max_words)
-      (λ lists. faithful_unless files (audit_of categories max_words lists) printing (λ text. tt)),
+      (λ lists. faithful_unless files (audit_of categories max_words lists) only_text (λ text. tt)),
 )
 
 -- a request that ended so

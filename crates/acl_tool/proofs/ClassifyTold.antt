@@ -1,6 +1,6 @@
 -- What `classify` printed: the lines of the capture that was heard, by the rules that were heard.
-use Rattle.std.proofs.Common.{◌≡◌, ◌≢◌, ◌⊎◌, ℕ, ◌+◌, List, [], ◌∷◌, ◌++◌, map, Bool, true, false, Option, Some, None}
-use Rattle.std.proofs.Common.{Result, Ok, Err, inl, inr, refl, sym, ap, subst, ◌∙◌, append-nil, arith}
+use Rattle.std.proofs.Common.{◌≡◌, ◌≢◌, ℕ, ◌+◌, List, [], ◌∷◌, ◌++◌, map, Bool, false, Option, Some, None, Result, Ok}
+use Rattle.std.proofs.Common.{Err, inl, inr, refl, sym, ap, subst, ◌∙◌, append-nil, arith}
 use Rattle.std.specs.Prelude.{codes}
 use Rattle.std.specs.List.{enumerate_from, flat_map, range_with_len}
 use Rattle.acl_outside.specs.Heard.{Heard, Ended}
@@ -19,57 +19,36 @@ use Rattle.acl_report.specs.Packet.{packet_text}
 use Rattle.command_words.specs.Options.{Options}
 use Rattle.command_words.specs.Command.{command}
 use Rattle.command_plan.specs.declared.status.Status.{Status}
-use Rattle.command_plan.specs.declared.status.Status.TheVariants.{Done, WriteFault, OutOfMemory}
+use Rattle.command_plan.specs.declared.status.Status.TheVariants.{Done}
 use Rattle.command_plan.specs.Plan.{Outcome, Plan, Give, Stop, Read}
 use Rattle.command_plan.specs.Follow.{IsEnough, Reached, outcome_of}
 use Rattle.command_plan.specs.Effects.{EndsMaking, Outside, files_of, heard_of}
 use Rattle.capture_report.specs.Classifier.{ByRules, Tables}
 use Rattle.capture_report.specs.ReportForm.{ReportForm}
 use Rattle.capture_report.specs.Shown.{answer_of_rules, fault_of_capture, packet_of, shown, status_of_fault}
-use Rattle.capture_report.specs.Report.{answers_on, lines_of_packets, lines_of_records, stats_of}
-use Rattle.capture_report.specs.Report.{transitions_of_records}
-use Rattle.capture_report.specs.CaptureOutcome.{last_lines, report, report_of_capture}
+use Rattle.capture_report.specs.Report.{answers_on, lines_of_packets, stats_of, transitions_of_records}
+use Rattle.capture_report.specs.CaptureOutcome.{last_lines, report}
 use Rattle.capture_report.proofs.Offered.{report_bound}
 use Rattle.acl_context.specs.Context.{built_of}
-use Rattle.command_plan.specs.Endings.{is_decided, is_usage}
 use Rattle.acl_tool.specs.FamilySet.{set_of}
 use Rattle.acl_tool.specs.ClassifyPlan.{classify_plan, form_of}
-use Rattle.acl_tool.specs.Transitions.{ClassifyWalks, Walks}
+use Rattle.acl_tool.specs.ClassifyWalks.{ClassifyWalks, Walks}
 use Rattle.acl_tool.specs.Effects.{Answers}
-use Rattle.acl_tool.specs.Headline.{ClassifyPrints, Hears, Prints, answers_by, answers_to, categories_shown}
-use Rattle.acl_tool.specs.Headline.{last_lines_to, line_to, lines_to}
-use Rattle.acl_tool.proofs.Asked.{Asked, asked_words}
+use Rattle.acl_tool.specs.Headline.{ClassifyPrints, Hears, PrintsVerdicts, answers_by, answers_to, last_lines_to}
+use Rattle.acl_tool.specs.Headline.{line_to, lines_to}
+use Rattle.acl_tool.specs.GivenOptions.{categories_shown}
+use Rattle.acl_tool.proofs.ClassifyAsked.{Asked, asked_words}
 use Rattle.acl_tool.proofs.GivenOptions.{SaidBy}
-use Rattle.acl_tool.proofs.ReadOn.{Classified, classify_heard, is_told}
-
--- the faults of two captures that end alike
-pub same_fault : (one two : Option CaptureFault) → status_of_fault one ≡ status_of_fault two → one ≡ two
-same_fault None None is = refl
-same_fault None (Some two) is = absurd (cc)
-same_fault (Some one) None is = absurd (cc)
-same_fault (Some one) (Some two) is = cc
-
-pub told_fault : (fault : Option CaptureFault) → is_told (status_of_fault fault) ≡ true
-told_fault None = refl
-told_fault (Some fault) = refl
+use Rattle.acl_tool.proofs.ClassifyHeard.{Classified, classify_heard}
+use Rattle.acl_tool.proofs.ReadOn.{is_told}
+use Rattle.acl_tool.proofs.Reported.{lawful_fault, unwritten_fault, report_transitions, report_text, decided_fault}
+use Rattle.acl_tool.proofs.Reported.{reported_status, unfull_fault, told_fault, report_status, same_fault}
 
 -- the status of an outcome that a plan gives
 abbrev given_status : Plan Outcome → Status
 given_status (Give outcome) = outcome.status
 given_status (Stop status) = status
 given_status (Read name shown next) = Done
-
--- a report ends as its capture does
-pub report_status : (form : ReportForm) (capture : Result Recorded CaptureFault) →
-    (report_of_capture form capture).status ≡ status_of_fault (fault_of_capture capture)
-report_status form (Ok capture) = refl
-report_status form (Err fault) = refl
-
-pub report_text : (form : ReportForm) (capture : Result Recorded CaptureFault) →
-    (report_of_capture form capture).text
-    ≡ lines_of_records form (records_in capture) ++ last_lines form (records_in capture) (fault_of_capture capture)
-report_text form (Ok capture) = refl
-report_text form (Err fault) = refl
 
 -- a capture without a fault is its records
 whole_is : (capture : Result Recorded CaptureFault) → fault_of_capture capture ≡ None →
@@ -174,27 +153,6 @@ whole_capture form file (inr on) is =
 unasked : (form : ReportForm) (transitions : ℕ) → form.stats ≡ false → stats_of form transitions ≡ []
 unasked form transitions off = rw off refl
 
-pub unwritten_fault : (fault : Option CaptureFault) → status_of_fault fault ≢ WriteFault
-unwritten_fault None is = absurd (cc)
-unwritten_fault (Some fault) is = absurd (cc)
-
-pub unfull_fault : (fault : Option CaptureFault) → status_of_fault fault ≢ OutOfMemory
-unfull_fault None is = absurd (cc)
-unfull_fault (Some fault) is = absurd (cc)
-
-pub decided_fault : (fault : Option CaptureFault) → is_decided (status_of_fault fault) ≡ true
-decided_fault None = refl
-decided_fault (Some fault) = refl
-
--- a report's status is that of the outcome
-pub reported_status : (fault : Option CaptureFault) (status : Status) →
-    (status_of_fault fault ≡ status)
-    ⊎ ((status_of_fault fault ≡ WriteFault) ⊎ (status_of_fault fault ≡ OutOfMemory)) →
-    status_of_fault fault ≡ status
-reported_status fault status (inl is) = is
-reported_status fault status (inr (inl written)) = absurd (unwritten_fault fault written)
-reported_status fault status (inr (inr full)) = absurd (unfull_fault fault full)
-
 -- What a `classify` that ended with a report heard and reached, and what it took and counted.
 pub record ReportedBy (rules capture : List ℕ) (options : Options) (old new : Outside) (fault : Option CaptureFault)
     : Type 0 where
@@ -251,7 +209,7 @@ heard_by words old new fault asked by = record {
 prints_so : (words : List (List ℕ)) (old new : Outside) (fault : Option CaptureFault)
     (asked : Asked words old new (status_of_fault fault)) →
     ReportedBy asked.rules asked.capture asked.read old new fault →
-    Prints words fault (heard_of old.desk) (heard_of new.desk) old.out.taken new.out.taken
+    PrintsVerdicts words fault (heard_of old.desk) (heard_of new.desk) old.out.taken new.out.taken
 prints_so words old new fault asked by =
     let c = by.heard in
     let form : ReportForm = form_of (ByRules c.lists) c.tables asked.read in
@@ -267,12 +225,6 @@ prints_so words old new fault asked by =
           (text_same c.lists c.tables asked.read asked.options c.file.bytes fault asked.said by.ended);
       no_stats = λ off. unasked form transitions (asked.said.stats ∙ off);
     }
-
--- a report takes the transitions of its capture's whole records
-pub report_transitions : (form : ReportForm) (capture : Result Recorded CaptureFault) →
-    (report_of_capture form capture).transitions ≡ transitions_of_records form.tables (records_in capture)
-report_transitions form (Ok capture) = refl
-report_transitions form (Err fault) = refl
 
 -- And it walked so.
 walks_so : (words : List (List ℕ)) (old new : Outside) (fault : Option CaptureFault)
@@ -290,10 +242,6 @@ walks_so words old new fault asked by =
       steps = by.steps ∙ ap (λ (n : ℕ). old.steps + n) (report_transitions form (capture_of c.file.bytes));
       bound = omega (arith, by.steps, report_bound form c.file.bytes);
     }
-
-pub lawful_fault : (fault : Option CaptureFault) → is_usage (status_of_fault fault) ≡ false
-lawful_fault None = refl
-lawful_fault (Some fault) = refl
 
 -- what was asked for by a `classify` that ended with a report
 pub asked_of : (words : List (List ℕ)) (old new : Outside) (status : Status) → Answers (command words) old new status →

@@ -16,7 +16,7 @@ use Rattle.command_plan.specs.declared.status.Status.{Status}
 use Rattle.command_plan.specs.declared.status.Status.TheVariants.{TooLarge, TooManyTogether}
 use Rattle.acl_tool.specs.FamilySet.{set_of}
 use Rattle.acl_tool.specs.Texts.{◌>>=◌, Refuses, is_refusal}
-use Rattle.acl_tool.specs.Compared.{compare_of, compare_refused, compared_within}
+use Rattle.acl_tool.specs.CompareLines.{compare_of, compare_refused, compared_within}
 
 -- a number that isn't above another isn't told so
 le-ltb-false : (a b : ℕ) → (a < b → ⊥) → nat_lt a b ≡ false

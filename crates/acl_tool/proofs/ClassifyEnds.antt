@@ -1,10 +1,9 @@
 -- How `classify` ends, link by link.
-use Rattle.std.proofs.Common.{◌≡◌, ◌≢◌, ℕ, List, ◌∷◌, length, false, Option, None, Result, Ok, Err}
-use Rattle.std.proofs.Common.{inl, inr, refl, sym, subst, ap, ◌∙◌, arith}
+use Rattle.std.proofs.Common.{◌≡◌, ◌≢◌, ℕ, List, ◌∷◌, length, false, Option, None, Ok, Err, inl, inr, sym, subst, ap}
+use Rattle.std.proofs.Common.{◌∙◌, arith}
 use Rattle.std.proofs.lemmas.Bool.{false≢true}
 use Rattle.acl_outside.specs.Desk.{File, DeskView}
 use Rattle.acl_outside.specs.Heard.{Heard}
-use Rattle.classbench_reader.specs.declared.fault.LineFault.{LineFault}
 use Rattle.classbench_reader.specs.RuleFile.{RuleLists, rule_file_of}
 use Rattle.command_plan.specs.declared.status.Status.{Status}
 use Rattle.command_plan.specs.declared.status.Status.TheVariants.{RulesRefused}
@@ -13,20 +12,21 @@ use Rattle.command_words.specs.Command.{Classify}
 use Rattle.capture_report.specs.ReportForm.{ReportForm}
 use Rattle.capture_report.specs.Classifier.{ByRules, Tables}
 use Rattle.capture_report.specs.CaptureOutcome.{reported}
-use Rattle.capture_report.specs.PrintsCapture.{KeepsUp, Reports}
+use Rattle.capture_report.specs.PrintsCapture.{Reports}
 use Rattle.capture_report.proofs.Offered.{report-begins}
-use Rattle.command_plan.specs.Plan.{Outcome, Plan, Give, ◌>>=◌, unless_refused}
+use Rattle.command_plan.specs.Plan.{Outcome, Plan, Give, ◌>>=◌}
 use Rattle.command_plan.specs.Endings.{is_reported, is_usage, is_decided}
-use Rattle.command_plan.specs.Follow.{Reached, Given, Follows}
+use Rattle.command_plan.specs.Follow.{Reached, Follows}
 use Rattle.command_plan.specs.Effects.{Outside, Takes, Ends, files_of, heard_of}
-use Rattle.command_plan.proofs.Offered.{BeginsWith-nothing, IsFaithful, faithful_unless, unwritten}
-use Rattle.command_plan.proofs.Offered.{Ends-stopped, Ends-full, Ends-cut, Ends-then}
-use Rattle.acl_tool.specs.RuleTables.{refused_rules, rules_of_bytes, rules_in, tables_within}
+use Rattle.command_plan.proofs.Offered.{BeginsWith-nothing, IsFaithful, faithful_unless, unwritten, Ends-stopped}
+use Rattle.command_plan.proofs.Offered.{Ends-full, Ends-cut, Ends-then}
+use Rattle.acl_tool.specs.RuleTables.{rules_of_bytes, rules_in, tables_within}
 use Rattle.acl_tool.specs.ClassifyPlan.{form_of, classify_plan}
 use Rattle.acl_tool.specs.Built.{Refuses, WordsAreTotals}
-use Rattle.acl_tool.specs.Effects.{Answers, HasTotals}
-use Rattle.acl_tool.proofs.Answering.{Answers-request}
-use Rattle.acl_tool.proofs.RuleFiles.{tables_faithful}
+use Rattle.acl_tool.specs.Effects.{Answers}
+use Rattle.acl_tool.specs.ClassifyTotals.{HasTotals}
+use Rattle.acl_tool.proofs.Answering.{Answers-request, keeps_up_later}
+use Rattle.acl_tool.proofs.RuleFiles.{tables_faithful, with_rules, HasRules, rules_heard}
 
 -- what comes after the tables
 abbrev report_by : Options → List ℕ → RuleLists → Tables → Plan Outcome
@@ -71,17 +71,6 @@ Answers-no_rules rules capture options seen old desk status step =
     (Ends-cut None (rules_in RulesRefused rules) seen (report_in options capture) old desk status step) step.lawful
     step.unreported
 
--- The rules of the file were read, and nothing else was asked yet.
-pub record HasRules {X : Type 0} (rules : List ℕ) (seen : X → RuleLists) (old : Outside) : Type 0 where
-  pub set : X
-  pub desk : DeskView
-  pub step : Takes (rules_in RulesRefused rules) seen old.desk desk (Ok set)
-
--- the outside once the rules were read
-abbrev pub with_rules : {X : Type 0} (rules : List ℕ) (seen : X → RuleLists) (old : Outside) →
-    HasRules rules seen old → Outside
-with_rules rules seen old has = record old { desk = has.desk }
-
 -- the tables aren't made
 pub Answers-no_tables : {X : Type 0} (rules capture : List ℕ) (options : Options) (seen : X → RuleLists)
     (old : Outside) (status : Status) (has : HasRules rules seen old) →
@@ -103,36 +92,6 @@ Answers-no_tables rules capture options seen old status has (inl (family, large,
     Ends (plan >>= report_by options capture (seen has.set)) view view status) (sym stops)
     (Ends-stopped None status view unreported (ap is_decided large.says))))
     (ap is_usage large.says) unreported
-
--- the desk heard of the rules before the capture
-pub keeps_up_later : (capture : List ℕ) (old new : Outside) (mid : DeskView) →
-    KeepsUp capture (record old { desk = mid }) new → KeepsUp capture old new
-keeps_up_later capture old new mid k = record {
-  file = k.file;
-  named = k.named;
-  newest = k.newest;
-  put = k.put;
-  gains = k.gains;
-  few = k.few;
-}
-
--- the rule file was heard of which the rules are
-pub rules_heard : (name : List ℕ) (told : Option (List File)) (old new : List Heard) (reached : Reached RuleLists)
-    (lists : RuleLists) → Follows told (rules_in RulesRefused name) old new reached → reached ≡ Given lists →
-    (file : Heard) × (new ≡ file ∷ old) × (rule_file_of file.bytes ≡ Ok lists)
-rules_heard name told old new reached lists (inl before) is = absurd (let e = sym (before.1) ∙ is in cc)
-rules_heard name told old new reached lists (inr (file, named, part, inl within)) is =
-    absurd (let e = sym (within.1) ∙ is in cc)
-rules_heard name told old new reached lists (inr (file, named, part, inr (enough, rest))) is =
-    go (rule_file_of file.bytes) refl rest
-  where
-    go : (result : Result RuleLists LineFault) → rule_file_of file.bytes ≡ result →
-        Follows told (unless_refused (refused_rules RulesRefused result)) (file ∷ old) new reached →
-        (heard : Heard) × (new ≡ heard ∷ old) × (rule_file_of heard.bytes ≡ Ok lists)
-    go (Ok all) at follows =
-        let same : all ≡ lists = (let e = sym (follows.1) ∙ is in cc) in
-        (file, follows.0, at ∙ ap Ok same)
-    go (Err fault) at follows = absurd (let e = sym (follows.1) ∙ is in cc)
 
 -- a file that was heard after others isn't among them
 heard_more : (file : Heard) (old : List Heard) → old ≢ file ∷ old

@@ -14,7 +14,7 @@ use Rattle.command_plan.specs.declared.status.Status.{Status}
 use Rattle.command_plan.specs.declared.status.Status.TheVariants.{TooLarge}
 use Rattle.acl_tool.specs.FamilySet.{set_of}
 use Rattle.acl_tool.specs.Texts.{◌>>=◌, Refuses}
-use Rattle.acl_tool.specs.Merged.{audit_of, audit_refused, merged_within, merged_words}
+use Rattle.acl_tool.specs.AuditMerged.{audit_of, audit_refused, merged_within, merged_words}
 
 -- The rules of a family need more words than the budget, and a status says so.
 pub record IsAbove (budget : ℕ) (lists : RuleLists) (status : Status) : Type 0 where

@@ -1,19 +1,17 @@
 -- What words that begin with `classify` ask for, where they are no usage fault.
-use Rattle.std.proofs.Common.{◌≡◌, ℕ, List, [], ◌∷◌, true, false, None, Result, Ok, Err, refl, sym, ap}
-use Rattle.std.proofs.Common.{subst, ◌∙◌}
+use Rattle.std.proofs.Common.{◌≡◌, ℕ, List, [], ◌∷◌, true, false, None, Result, Ok, Err, refl, sym, subst}
 use Rattle.std.specs.Prelude.{codes}
-use Rattle.std.proofs.lemmas.Bool.{false≢true}
 use Rattle.command_words.specs.declared.fault.UsageFault.{UsageFault}
 use Rattle.command_words.specs.Options.{Options, for_classify, none_given}
-use Rattle.command_words.specs.Command.{Classify, asked_by, classify_by, command, named_of, named_with}
-use Rattle.command_words.specs.Command.{options_from}
+use Rattle.command_words.specs.Command.{Classify, asked_by, classify_by, command, named_of, named_with, options_from}
 use Rattle.command_plan.specs.declared.status.Status.{Status}
-use Rattle.command_plan.specs.declared.status.Status.TheVariants.{Usage}
 use Rattle.command_plan.specs.Endings.{is_reported, is_usage}
 use Rattle.command_plan.specs.Effects.{EndsMaking, Outside, heard_of}
 use Rattle.acl_tool.specs.ClassifyPlan.{classify_plan}
-use Rattle.acl_tool.specs.Effects.{Answers, HasTotals}
+use Rattle.acl_tool.specs.Effects.{Answers}
+use Rattle.acl_tool.specs.ClassifyTotals.{HasTotals}
 use Rattle.acl_tool.proofs.GivenOptions.{SaidBy, options_said}
+use Rattle.acl_tool.proofs.Answering.{no_usage}
 
 -- The words are two names and options, and the command ended by its plan.
 pub record Asked (words : List (List ℕ)) (old new : Outside) (status : Status) : Type 0 where
@@ -26,9 +24,6 @@ pub record Asked (words : List (List ℕ)) (old new : Outside) (status : Status)
   pub ends : EndsMaking None (classify_plan rules capture read) old new status
   pub totals : is_reported status ≡ true →
       HasTotals (Classify rules capture read) (heard_of old.desk) (heard_of new.desk)
-
-pub no_usage : {A : Type 0} (status : Status) (usage : UsageFault) → is_usage status ≡ false → status ≡ Usage usage → A
-no_usage status usage lawful is = absurd (false≢true (sym lawful ∙ ap is_usage is))
 
 asked_after : (after : List (List ℕ)) (old new : Outside) (status : Status) → is_usage status ≡ false →
     Answers (asked_by classify_by (named_of for_classify after)) old new status →

@@ -1,7 +1,6 @@
 -- How large the tables were of which `classify` tells, and when rules were too large.
-use Rattle.std.proofs.Common.{◌≡◌, ◌⊎◌, ℕ, ◌+◌, ◌<◌, List, [], ◌∷◌, ◌++◌, length, map, Bool, true, false}
-use Rattle.std.proofs.Common.{Option, Some, None, Result, Ok, Err, inl, inr, refl, sym, ap, subst, ◌∙◌, append-nil}
-use Rattle.std.proofs.Common.{append_assoc, suc}
+use Rattle.std.proofs.Common.{◌≡◌, ℕ, ◌+◌, ◌<◌, List, [], ◌∷◌, ◌++◌, length, map, Bool, true, false, Option, Some, None}
+use Rattle.std.proofs.Common.{Result, Ok, Err, refl, sym, ap, subst, ◌∙◌, append-nil, append_assoc, suc}
 use Rattle.std.proofs.lemmas.List.{length-map}
 use Rattle.std.specs.Prelude.{codes, nat_le, if◌then◌else◌}
 use Rattle.std.proofs.lemmas.Bool.{false≢true, leb-false}
@@ -16,7 +15,6 @@ use Rattle.acl_context.specs.Context.{built_of}
 use Rattle.acl_outside.specs.Desk.{File}
 use Rattle.acl_outside.specs.Heard.{Heard, Ended}
 use Rattle.classbench_reader.specs.RuleFile.{RuleLists, rule_file_of}
-use Rattle.classbench_reader.specs.declared.fault.LineFault.{LineFault}
 use Rattle.pcap_reader.specs.declared.fault.CaptureFault.{CaptureFault}
 use Rattle.pcapng_reader.specs.Capture.{capture_of, whole_records}
 use Rattle.acl_report.specs.Counts.{packets_text}
@@ -24,8 +22,7 @@ use Rattle.acl_report.specs.Tables.{table_text, transitions_text}
 use Rattle.command_words.specs.Options.{Options}
 use Rattle.command_words.specs.Command.{command}
 use Rattle.command_plan.specs.declared.status.Status.{Status}
-use Rattle.command_plan.specs.declared.status.Status.TheVariants.{OutOfMemory, RulesRefused, TooLarge}
-use Rattle.command_plan.specs.declared.status.Status.TheVariants.{WriteFault}
+use Rattle.command_plan.specs.declared.status.Status.TheVariants.{RulesRefused, TooLarge}
 use Rattle.command_plan.specs.Plan.{Outcome, Plan, Give, Stop, ◌>>=◌, nothing, unless_refused}
 use Rattle.command_plan.specs.Follow.{Reached, Stopped, Follows, outcome_of}
 use Rattle.command_plan.specs.Effects.{Outside, files_of, heard_of}
@@ -36,23 +33,20 @@ use Rattle.capture_report.specs.Report.{line_of_table, stats_of, stats_text, tra
 use Rattle.capture_report.specs.CaptureOutcome.{lines_so_far, report, reported}
 use Rattle.acl_tool.specs.Built.{WordsAreTotals}
 use Rattle.acl_tool.specs.FamilySet.{set_of}
-use Rattle.acl_tool.specs.RuleTables.{refused_rules, rules_of_bytes, table_within}
+use Rattle.acl_tool.specs.RuleTables.{rules_of_bytes, table_within}
 use Rattle.acl_tool.specs.ClassifyPlan.{classify_plan, form_of}
 use Rattle.acl_tool.specs.Effects.{Answers}
 use Rattle.acl_tool.specs.Headline.{lines_to}
-use Rattle.acl_tool.specs.Sizes.{ClassifySizes, NeedsMore, TellsSizes, budget_given, size_line}
-use Rattle.acl_tool.proofs.Asked.{Asked, asked_words}
-use Rattle.acl_tool.proofs.ReadOn.{IsTest, accepted_rules, after_bytes, after_rules, read_on, unless_on}
-use Rattle.acl_tool.proofs.Printing.{ReportedBy, asked_of, heard_by, report_status, reported_by, text_same}
+use Rattle.acl_tool.specs.ClassifySizes.{ClassifySizes, NeedsMore, TellsSizes, size_line}
+use Rattle.acl_tool.specs.GivenOptions.{budget_given}
+use Rattle.acl_tool.proofs.ClassifyAsked.{Asked, asked_words}
+use Rattle.acl_tool.proofs.ReadOn.{accepted_rules, read_on, unless_on}
+use Rattle.acl_tool.proofs.ClassifyHeard.{after_bytes, after_rules}
+use Rattle.acl_tool.proofs.ClassifyTold.{ReportedBy, asked_of, heard_by, reported_by, text_same}
+use Rattle.acl_tool.proofs.Reported.{report_status}
 use Rattle.acl_tool.proofs.WholeRules.{whole_by}
-
--- a status of rules that are too large
-abbrev pub is_large : Status → Bool
-is_large (TooLarge family words budget) = true
-is_large status = false
-
-pub large_test : IsTest is_large
-large_test = record { unread = refl; full = refl }
+use Rattle.acl_tool.proofs.TooLarge.{large_test, large_status, family_in, same_family, budget_in, is_large, words_in}
+use Rattle.acl_tool.proofs.TooLarge.{small_rules}
 
 -- a plan stops at rules that are too large
 abbrev pub stops_large : Plan Outcome → Bool
@@ -154,11 +148,6 @@ large_tables options capture lists told old new reached large follows =
     go (Ok ip4) (Err refusal) at_ip4 at_ip6 rest = stopped Ip6 refusal at_ip6 (rw (at_ip4, at_ip6) refl) rest
     go (Err refusal) two at_ip4 at_ip6 rest = stopped Ip4 refusal at_ip4 (rw at_ip4 refl) rest
 
-pub small_rules : (result : Result RuleLists LineFault) (status : Status) →
-    refused_rules RulesRefused result ≡ Err status → is_large status ≡ false
-small_rules (Ok all) status is = absurd (cc)
-small_rules (Err fault) status is = let same : RulesRefused fault ≡ status = cc in rw (← same) refl
-
 -- What a `classify` heard whose rules are too large.
 record Large (rules capture : List ℕ) (options : Options) (old new : List Heard) (reached : Reached Outcome)
     : Type 0 where
@@ -229,30 +218,6 @@ tells_sizes words old new asked by =
           ∙ ap (λ (l : List ℕ). l ++ line_of_table Ip6 c.tables.ip6 ++ transitions_text transitions) ip4
           ∙ ap (λ (l : List ℕ). size_line Ip4 c.lists budget ++ l ++ transitions_text transitions) ip6));
     }
-
--- the parts of a status of rules that are too large
-abbrev pub family_in : Status → Option Family
-family_in (TooLarge family words budget) = Some family
-family_in status = None
-
-abbrev pub words_in : Status → ℕ
-words_in (TooLarge family words budget) = words
-words_in status = 0
-
-abbrev pub budget_in : Status → ℕ
-budget_in (TooLarge family words budget) = budget
-budget_in status = 0
-
-pub same_family : (one two : Family) → Some one ≡ Some two → one ≡ two
-same_family one two is = cc
-
-pub large_status : (family : Family) (size budget : ℕ) (status : Status) →
-    (TooLarge family size budget ≡ status)
-    ⊎ ((TooLarge family size budget ≡ WriteFault) ⊎ (TooLarge family size budget ≡ OutOfMemory)) →
-    TooLarge family size budget ≡ status
-large_status family size budget status (inl is) = is
-large_status family size budget status (inr (inl written)) = absurd (cc)
-large_status family size budget status (inr (inr full)) = absurd (cc)
 
 needs_more : (words : List (List ℕ)) (old new : Outside) (family : Family) (size budget : ℕ) →
     Asked words old new (TooLarge family size budget) →

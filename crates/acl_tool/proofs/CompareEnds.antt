@@ -11,12 +11,12 @@ use Rattle.command_plan.specs.Endings.{is_usage}
 use Rattle.command_plan.specs.Effects.{Ends, Outside, PutsLast, Takes, outside}
 use Rattle.command_plan.proofs.Offered.{BeginsWith-nothing, IsFaithful, faithful_unless, Ends-cut, Ends-then}
 use Rattle.acl_tool.specs.RuleTables.{rules_in, rules_of_bytes}
-use Rattle.acl_tool.specs.Texts.{Refuses, printing}
-use Rattle.acl_tool.specs.Compared.{compare_of}
+use Rattle.acl_tool.specs.Texts.{Refuses, only_text}
+use Rattle.acl_tool.specs.CompareLines.{compare_of}
 use Rattle.acl_tool.specs.ComparePlan.{compare_plan}
 use Rattle.acl_tool.specs.Effects.{Answers}
 use Rattle.acl_tool.proofs.Answering.{Answers-request}
-use Rattle.acl_tool.proofs.Classifying.{HasRules, with_rules}
+use Rattle.acl_tool.proofs.RuleFiles.{HasRules, with_rules}
 use Rattle.acl_tool.proofs.Texts.{Ends-text, Ends-refused, lawful_put, lawful_refusal, told}
 
 -- what comes after the rules of both files, and after those of the first
@@ -33,7 +33,7 @@ compare_faithful rules second max_words files = (
   λ bytes. faithful_unless files (rules_of_bytes RulesRefused bytes) (compare_with second max_words) (λ one. (
     λ front more. BeginsWith-nothing _,
     λ front. faithful_unless files (rules_of_bytes SecondRulesRefused front) (compare_both max_words one)
-        (λ two. faithful_unless files (compare_of max_words one two) printing (λ text. tt)),
+        (λ two. faithful_unless files (compare_of max_words one two) only_text (λ text. tt)),
   )),
 )
 
