@@ -62,12 +62,17 @@ module _ {X V : Type 0} (same : V → V → Bool) (live : V → Bool) (of : X �
   none_new_dead found (x ∷ xs) dead =
       (ap (λ b. b && not (list_any (λ z. same (of x) (of z)) found)) dead.0, none_new_dead found xs dead.1)
 
-module _ {X Y V W : Type 0} (same : V → V → Bool) (live : V → Bool) (of : X → V)
-    (sound : (v w : V) → same v w ≡ true → v ≡ w)
-    (same_y : W → W → Bool) (live_y : W → Bool) (of_y : Y → W) (reflexive : (w : W) → same_y w w ≡ true)
-    (f : X → List Y) (P : X → Type 0)
-    (alike : (x y : X) → P x → P y → of x ≡ of y → map of_y (f x) ≡ map of_y (f y))
-    (dead : (x : X) → P x → live (of x) ≡ false → AllByRecursion (λ y. live_y (of_y y) ≡ false) (f x)) where
+-- Elements of one value lead to elements of the same values, and those whose value is dead to such ones.
+pub record LeadsAlike {X Y V W : Type 0} (same : V → V → Bool) (live : V → Bool) (of : X → V) (same_y : W → W → Bool)
+    (live_y : W → Bool) (of_y : Y → W) (f : X → List Y) (P : X → Type 0) : Type 0 where
+  pub sound : (v w : V) → same v w ≡ true → v ≡ w
+  pub reflexive : (w : W) → same_y w w ≡ true
+  pub alike : (x y : X) → P x → P y → of x ≡ of y → map of_y (f x) ≡ map of_y (f y)
+  pub dead : (x : X) → P x → live (of x) ≡ false → AllByRecursion (λ y. live_y (of_y y) ≡ false) (f x)
+
+module _ {X Y V W : Type 0} {same : V → V → Bool} {live : V → Bool} {of : X → V} {same_y : W → W → Bool}
+    {live_y : W → Bool} {of_y : Y → W} {f : X → List Y} {P : X → Type 0}
+    (its : LeadsAlike same live of same_y live_y of_y f P) where
   abbrev with_y : List Y → Y → List Y
   with_y found y = found_with (λ y z. same_y (of_y y) (of_y z)) (λ y. live_y (of_y y)) found y
 
@@ -88,9 +93,9 @@ module _ {X Y V W : Type 0} (same : V → V → Bool) (live : V → Bool) (of : 
             (sym (fold-append with_y found (f y) (flat_map f ys) ∙ more.1))
             (none_new_more (λ y z. same_y (of_y y) (of_y z)) (λ y. live_y (of_y y)) here more.0 (f x)
             (none_new_alike same_y live_y of_y here (f x) (f y)
-            (alike x y px ps.0 (sound (of x) (of y) is))
+            (its.alike x y px ps.0 (its.sound (of x) (of y) is))
             (none_new_once_found (λ y z. same_y (of_y y) (of_y z)) (λ y. live_y (of_y y))
-            (λ y. reflexive (of_y y)) found (f y))))
+            (λ y. its.reflexive (of_y y)) found (f y))))
         | inr other ↦
             subst (λ g. NoneNewBy same_y live_y of_y g (f x))
             (sym (fold-append with_y found (f y) (flat_map f ys)))
@@ -120,7 +125,7 @@ module _ {X Y V W : Type 0} (same : V → V → Bool) (live : V → Bool) (of : 
       none : (l : Bool) → live (of x) ≡ l → (m : Bool) → list_any (λ y. same (of x) (of y)) acc ≡ m
           → (live (of x) && not (list_any (λ y. same (of x) (of y)) acc)) ≡ false →
           NoneNewBy same_y live_y of_y (fold with_y [] (flat_map f acc)) (f x)
-      none false is m is_m old = none_new_dead same_y live_y of_y _ (f x) (dead x px is)
+      none false is m is_m old = none_new_dead same_y live_y of_y _ (f x) (its.dead x px is)
       none true is true is_m old = of_a_member [] x acc px ps is_m
       none true is false is_m old =
           absurd (true≢false (sym (ap (λ b. b && true) is) ∙ ap (λ b. live (of x) && not b) (sym is_m) ∙ old))

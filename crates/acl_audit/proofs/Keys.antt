@@ -15,8 +15,8 @@ use Rattle.group_states.specs.State.{Held, state, state_step, state_through, sam
 use Rattle.list_lemmas.proofs.Each.{all-map, all-flat_map, all_weaker, map_same, map-map}
 use Rattle.group_states.proofs.Offered.{AreBytes, IsPrefix, prefixes_are, bytes_below, zeros_small, same_state_refl}
 use Rattle.group_states.proofs.Offered.{state_goes_through, same_state_sound}
-use Rattle.group_states.proofs.Offered.{held_of, state_is, decoded, packed_state, packed_state_wild}
-use Rattle.acl_audit.proofs.Finding.{found_by, found_after, found_firsts}
+use Rattle.group_states.proofs.Offered.{held_of, state_is, decoded, packed_state, packed_state_wild, same_state-Decides}
+use Rattle.acl_audit.proofs.Finding.{LeadsAlike, found_by, found_after, found_firsts}
 use Rattle.acl_audit.proofs.Least.{longer}
 
 -- ---- lists
@@ -168,17 +168,23 @@ module _ (set : RuleSetView) (group : List ℕ) (is : IsGrouped set group) where
   pub one_byte_on : (place : ℕ) (keys : List (List ℕ)) → place < key_len_of set.layout
       → AllByRecursion (IsPrefix place) keys
       → states_found (flat_map longer (states_found keys)) ≡ states_found (flat_map longer keys)
-  one_byte_on place keys within are =
-      found_after same_state is_live (state set group) same_state_sound same_state is_live (state set group)
-      same_state_refl longer (IsPrefix place)
-      (λ x y px py e. values_longer place x within px
-      ∙ ap (λ s. map (state_step set place s) all_bytes) e ∙ sym (values_longer place y within py))
-      (λ x px dead. of_mapped (λ s. is_live s ≡ false) (state set group) (longer x)
-      (subst (AllByRecursion (λ s. is_live s ≡ false))
-      (sym (values_longer place x within px
-      ∙ ap (λ s. map (state_step set place s) all_bytes) (not_live (state set group x) dead)))
-      (steps_of_dead place all_bytes)))
-      keys are
+  one_byte_on place keys within are = found_after longer_alike keys are
+    where
+      longer_alike : LeadsAlike same_state is_live (state set group) same_state is_live (state set group) longer
+          (IsPrefix place)
+      longer_alike = record {
+        sound = same_state_sound;
+        reflexive = same_state_refl;
+        alike = λ x y px py e.
+            values_longer place x within px
+            ∙ ap (λ s. map (state_step set place s) all_bytes) e ∙ sym (values_longer place y within py);
+        dead = λ x px dead.
+            of_mapped (λ s. is_live s ≡ false) (state set group) (longer x)
+            (subst (AllByRecursion (λ s. is_live s ≡ false))
+            (sym (values_longer place x within px
+            ∙ ap (λ s. map (state_step set place s) all_bytes) (not_live (state set group x) dead)))
+            (steps_of_dead place all_bytes));
+      }
 
   -- Keys whose first bytes lead to all states of a place, each of which they lead to first.
   pub record Lead (place : ℕ) (keys : List (List ℕ)) : Type 0 where

@@ -1,7 +1,7 @@
 -- The links of a level lead from the least keys of its states to those of the next ones.
 use Rattle.std.proofs.Common.{◌≡◌, ℕ, zero, suc, ◌+◌, ◌-◌, ◌<◌, ◌≤◌, ◌==◌, List, [], ◌∷◌, ◌++◌, length, map, take}
-use Rattle.std.proofs.Common.{get_or}
-use Rattle.std.proofs.Common.{replicate, slice_set, Bool, true, false, cond, ◌&&◌, refl, sym, ◌∙◌, ap, subst, arith}
+use Rattle.std.proofs.Common.{get_or, replicate, slice_set, Bool, true, false, cond, ◌&&◌, refl, sym, ◌∙◌, ap, subst}
+use Rattle.std.proofs.Common.{arith}
 use Rattle.std.specs.List.{flat_map, AllByRecursion, position_or_len}
 use Rattle.std.specs.Str.{bytes_eq}
 use Rattle.std.proofs.lemmas.List.{map-append}
@@ -22,7 +22,7 @@ use Rattle.group_states.proofs.Offered.{All-found_in, same_runs, same_state_soun
 use Rattle.acl_audit.specs.declared.links.Link.{Link}
 use Rattle.acl_audit.specs.Keyed.{keyed}
 use Rattle.acl_audit.specs.Links.{is_next, links_of}
-use Rattle.acl_audit.proofs.Finding.{found_by, found_by-map, found_after, values_found}
+use Rattle.acl_audit.proofs.Finding.{LeadsAlike, found_by, found_by-map, found_after, values_found}
 use Rattle.acl_audit.proofs.Keys.{KeyFrom, written, keys_with}
 use Rattle.acl_audit.proofs.Keys.{not_live, Lead, AreLeast, lead_first, lead_over, reached_by}
 use Rattle.acl_audit.proofs.Numbering.{pairs_from, links_are}
@@ -60,6 +60,12 @@ pairs_below before (suc count) limit within =
         → AllByRecursion (λ (link : Link). link.before < limit) (xs ++ ys)
     of_both [] ys all more = more
     of_both (x ∷ xs) ys all more = (all.0, of_both xs ys all.1 more)
+
+-- what holds of all elements holds of those of which something else holds
+every : {X : Type 0} (P : X → Type 0) (Q : X → Type 0) (xs : List X) → AllByRecursion P xs
+    → AllByRecursion (λ x. Q x → P x) xs
+every P Q [] all = tt
+every P Q (x ∷ xs) all = ((λ q. all.0), every P Q xs all.1)
 
 module _ {V : Type 0} (same : V → V → Bool) (live : V → Bool) (reflexive : (v : V) → same v v ≡ true)
     (to : V → Succ) (all : List V)
@@ -111,11 +117,6 @@ module _ {V : Type 0} (same : V → V → Bool) (live : V → Bool) (reflexive :
       ap (map (take next)) keys_found
       ∙ sym (found_by-map same live value (take next) (written place keys))
       ∙ sym lead
-
-  every : {X : Type 0} (P : X → Type 0) (Q : X → Type 0) (xs : List X) → AllByRecursion P xs
-      → AllByRecursion (λ x. Q x → P x) xs
-  every P Q [] all = tt
-  every P Q (x ∷ xs) all = ((λ q. all.0), every P Q xs all.1)
 
   pub next_keys : AllByRecursion (KeyFrom len (place + 1)) (map (keyed len keys place) (links_of level))
   next_keys =
@@ -201,13 +202,19 @@ module _ (set : RuleSetView) (group : List ℕ) (is : IsGrouped set group) where
       singles [] = refl
       singles (k ∷ ks) = ap (λ l. k ∷ l) (singles ks)
 
+      singly : LeadsAlike same_state is_live (state set group) bytes_eq is_live row_for (λ key. key ∷ [])
+          (λ key. Unit {0})
+      singly = record {
+        sound = same_state_sound;
+        reflexive = bytes_eq_refl;
+        alike = λ x y _ _ same. ap (λ s. final_row set s ∷ []) same;
+        dead = λ x _ dead. (ap (λ s. is_live (final_row set s)) (not_live (state set group x) dead), tt);
+      }
+
       by_singles : (ks : List (List ℕ))
           → rows_found (flat_map (λ key. key ∷ []) (found_by same_state is_live (state set group) ks)) ≡ rows_found ks
       by_singles ks =
-          found_after same_state is_live (state set group) same_state_sound bytes_eq is_live row_for bytes_eq_refl
-          (λ key. key ∷ []) (λ key. Unit {0}) (λ x y _ _ same. ap (λ s. final_row set s ∷ []) same)
-          (λ x _ dead. (ap (λ s. is_live (final_row set s)) (not_live (state set group x) dead), tt))
-          ks (all_of ks)
+          found_after singly ks (all_of ks)
           ∙ ap (λ l. rows_found l) (singles ks)
 
   -- a gap after a place leads on to the next one
