@@ -15,7 +15,7 @@ use Rattle.group_states.specs.State.{Held, state, state_step, state_through, sam
 use Rattle.list_lemmas.proofs.Each.{all-map, all-flat_map, all_weaker, map_same, map-map}
 use Rattle.group_states.proofs.Offered.{AreBytes, IsPrefix, prefixes_are, bytes_below, zeros_small, same_state_refl}
 use Rattle.group_states.proofs.Offered.{state_goes_through, same_state_sound}
-use Rattle.group_states.proofs.Offered.{held_of, state_is, decoded, packed_state, packed_state_wild, same_state-Decides}
+use Rattle.group_states.proofs.Offered.{held_of, state_is, decoded, packed_state, packed_state_wild}
 use Rattle.acl_audit.proofs.Finding.{LeadsAlike, found_by, found_after, found_firsts}
 use Rattle.acl_audit.proofs.Least.{longer}
 

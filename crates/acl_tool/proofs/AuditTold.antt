@@ -19,7 +19,8 @@ use Rattle.command_plan.specs.Follow.{Reached, Given, Stopped, Follows, IsEnough
 use Rattle.command_plan.specs.Endings.{is_usage}
 use Rattle.command_plan.specs.Effects.{Ends, Outside, files_of, heard_of}
 use Rattle.acl_tool.specs.FamilySet.{set_of}
-use Rattle.acl_tool.specs.GivenOptions.{categories_shown, budget_given}
+use Rattle.acl_tool.specs.GivenOptions.{categories_shown}
+use Rattle.acl_tool.specs.GivenBudget.{budget_given}
 use Rattle.acl_tool.specs.RuleTables.{rules_of_bytes}
 use Rattle.acl_tool.specs.Texts.{only_text}
 use Rattle.acl_tool.specs.AuditMerged.{audit_of, merged_words}

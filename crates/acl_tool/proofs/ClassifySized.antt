@@ -38,7 +38,7 @@ use Rattle.acl_tool.specs.ClassifyPlan.{classify_plan, form_of}
 use Rattle.acl_tool.specs.Effects.{Answers}
 use Rattle.acl_tool.specs.Headline.{lines_to}
 use Rattle.acl_tool.specs.ClassifySizes.{ClassifySizes, NeedsMore, TellsSizes, size_line}
-use Rattle.acl_tool.specs.GivenOptions.{budget_given}
+use Rattle.acl_tool.specs.GivenBudget.{budget_given}
 use Rattle.acl_tool.proofs.ClassifyAsked.{Asked, asked_words}
 use Rattle.acl_tool.proofs.ReadOn.{accepted_rules, read_on, unless_on}
 use Rattle.acl_tool.proofs.ClassifyHeard.{after_bytes, after_rules}

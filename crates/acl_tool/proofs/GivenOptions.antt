@@ -18,7 +18,8 @@ use Rattle.command_words.specs.Options.{usual_words, categories_in, walk_in, bud
 use Rattle.command_words.specs.Options.{none_given, is_budget, max_digits}
 use Rattle.command_words.specs.Options.{categories_option, walk_option, max_words_option, stats_option, marks_option}
 use Rattle.command_words.specs.Command.{options_from, option_then}
-use Rattle.acl_tool.specs.GivenOptions.{value_given, categories_shown, is_on, budget_given}
+use Rattle.acl_tool.specs.GivenOptions.{value_given, categories_shown, is_on}
+use Rattle.acl_tool.specs.GivenBudget.{budget_given}
 
 -- a value was taken: it is the first, and lawful
 once-taken : {A : Type 0} (before value : Option A) (f : A → Given) (next : Given) →

@@ -10,7 +10,8 @@ use Rattle.command_plan.specs.declared.status.Status.{Status}
 use Rattle.command_plan.specs.declared.status.Status.TheVariants.{Done, TooLarge}
 use Rattle.command_plan.specs.Effects.{Outside, heard_of}
 use Rattle.acl_tool.specs.FamilySet.{set_of}
-use Rattle.acl_tool.specs.GivenOptions.{categories_shown, budget_given}
+use Rattle.acl_tool.specs.GivenOptions.{categories_shown}
+use Rattle.acl_tool.specs.GivenBudget.{budget_given}
 use Rattle.acl_tool.specs.AuditMerged.{merged_words}
 
 -- The words of an `audit` name a file, and options may follow. The desk was asked for the file

@@ -11,7 +11,8 @@ use Rattle.command_plan.specs.declared.status.Status.{Status}
 use Rattle.command_plan.specs.declared.status.Status.TheVariants.{Done, TooLarge}
 use Rattle.acl_tool.specs.FamilySet.{set_of}
 use Rattle.acl_tool.specs.Headline.{Hears}
-use Rattle.acl_tool.specs.GivenOptions.{is_on, budget_given}
+use Rattle.acl_tool.specs.GivenOptions.{is_on}
+use Rattle.acl_tool.specs.GivenBudget.{budget_given}
 
 -- the line of a family's table: its rules, a trie for each group of their split, and the total of
 -- the split as its words

@@ -13,7 +13,7 @@ use Rattle.capture_report.specs.Report.{transitions_of_records}
 use Rattle.capture_report.specs.Bound.{most_of_records}
 use Rattle.acl_tool.specs.FamilySet.{set_of}
 use Rattle.acl_tool.specs.Headline.{Hears}
-use Rattle.acl_tool.specs.GivenOptions.{budget_given}
+use Rattle.acl_tool.specs.GivenBudget.{budget_given}
 
 -- The counter rose by the transitions of the packets in the whole records of the capture, through
 -- the tables that are made of the rules. No walk takes more than one for each byte of its key.

@@ -4,7 +4,6 @@ use Rattle.std.specs.Prelude.{Some, None, if◌then◌else◌}
 use Rattle.std.specs.Option.{option_map_or}
 use Rattle.std.specs.Str.{bytes_eq}
 use Rattle.text_scan.specs.Digits.{place_value}
-use Rattle.command_words.specs.Options.{usual_words}
 
 -- what stands after the name of an option, in the first word that begins with the name
 abbrev pub value_given : List ℕ → List (List ℕ) → Option (List ℕ)
@@ -22,8 +21,3 @@ categories_shown options =
 abbrev pub is_on : List ℕ → List (List ℕ) → Bool
 is_on name options =
     option_map_or (λ value. bytes_eq value (codes "on")) (value_given name options) false
-
--- how many words the table of a family may have: as many as `max-words=` says, or the usual number
-abbrev pub budget_given : List (List ℕ) → ℕ
-budget_given options =
-    option_map_or (place_value 10) (value_given (codes "max-words=") options) usual_words

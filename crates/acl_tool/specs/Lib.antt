@@ -17,6 +17,7 @@ pub mod ComparePlan
 pub mod SessionPlan
 pub mod Outcome
 pub mod GivenOptions
+pub mod GivenBudget
 pub mod Headline
 pub mod ClassifySizes
 pub mod ClassifyTotals
