@@ -1,11 +1,11 @@
 -- Laws of what was heard of a file, read by read.
 use Rattle.std.proofs.Common.{◌≡◌, ℕ, ◌<◌, List, [], ◌∷◌, ◌++◌, length, take, Option, Some, None, Ok, Err, sym, ◌∙◌, ap, refl, subst, append_assoc, append-nil, arith}
 use Rattle.std.proofs.lemmas.Bool.{ne_eqb}
-use Rattle.acl_outside.specs.Told.{Steps}
+use Rattle.acl_outside.specs.Told.{Changes}
 use Rattle.acl_outside.specs.Desk.{Content, DeskView, Gives, ReadsInto}
 use Rattle.acl_outside.specs.Heard.{Heard, Ended, BrokenOff, heard, change_newest, with_bytes, with_ending, after_read}
 use Rattle.acl_outside.specs.Reading.{ReadsOn, and_goes_on}
-use Rattle.acl_outside.proofs.ToldLaws.{Steps-join}
+use Rattle.acl_outside.proofs.ToldLaws.{Changes-join}
 use Rattle.acl_outside.proofs.ReadingLaws.{Gives-append}
 
 -- some bytes, and then more
@@ -38,7 +38,7 @@ change_newest-alone : (change : Heard → Heard) (files : List Heard) →
 change_newest-alone change [] = refl
 change_newest-alone change (file ∷ files) = refl
 
-same_content : (content : Option Content) → Steps (Gives []) content content
+same_content : (content : Option Content) → Changes (Gives []) content content
 same_content None = tt
 same_content (Some content) = record { files = refl; opened = refl; left = refl; created = refl }
 
@@ -52,7 +52,7 @@ pub ReadsOn-then : (change : Heard → Heard) (first second : List ℕ) (old mid
 ReadsOn-then change first second old mid new a b = record {
   heard = b.heard ∙ ap (change_newest (λ file. change (with_bytes second file))) a.heard ∙
       change_newest-then change first second (heard old.answers);
-  told = Steps-join _ _ _ (Gives-append first second) _ _ _ a.told b.told;
+  told = Changes-join _ _ _ (Gives-append first second) _ _ _ a.told b.told;
 }
 
 -- A read gave bytes, at least one.
@@ -86,8 +86,8 @@ ReadsOn-ended into_old into_new old new read some = record {
 }
 
 -- what isn't lost was given with no bytes
-pub unlost : (old new : Option Content) → new ≡ old → Steps (Gives []) old new
-unlost old new same = subst (λ content. Steps (Gives []) old content) (sym same) (same_content old)
+pub unlost : (old new : Option Content) → new ≡ old → Changes (Gives []) old new
+unlost old new same = subst (λ content. Changes (Gives []) old content) (sym same) (same_content old)
 
 -- A read failed.
 pub ReadsOn-failed : {E : Type 0} (fault : E) (into_old into_new : List ℕ) (old new : DeskView) →

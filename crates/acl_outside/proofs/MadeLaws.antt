@@ -3,12 +3,12 @@ use Rattle.std.proofs.Common.{◌≡◌, ℕ, ◌+◌, List, [], ◌∷◌, ◌+
 use Rattle.std.proofs.Math.Seq.{take-add}
 use Rattle.std.proofs.lemmas.List.{take-append-drop}
 use Rattle.std.specs.Prelude.{is_ok}
-use Rattle.acl_outside.specs.Told.{Steps}
+use Rattle.acl_outside.specs.Told.{Changes}
 use Rattle.acl_outside.specs.Desk.{Content, DeskView, Writes, CreatesFile, WritesPiece, FinishesFile}
 use Rattle.acl_outside.specs.Heard.{change_newest}
 use Rattle.acl_outside.specs.Made.{Made, Broken, made, creation_of, after_finish, and_stands, with_written, with_standing}
 use Rattle.acl_outside.specs.Writing.{WritesOn, WritesPrefix}
-use Rattle.acl_outside.proofs.ToldLaws.{Steps-join}
+use Rattle.acl_outside.proofs.ToldLaws.{Changes-join}
 
 -- some bytes, and then more
 with_written-append : (first second : List ℕ) (file : Made) →
@@ -69,7 +69,7 @@ Writes-append first second old mid new a b = record {
   created = b.created ∙ a.created;
 }
 
-same_content : (content : Option Content) → Steps (Writes []) content content
+same_content : (content : Option Content) → Changes (Writes []) content content
 same_content None = tt
 same_content (Some content) = Writes-none content
 
@@ -83,7 +83,7 @@ pub WritesOn-then : (change : Made → Made) (first second : List ℕ) (old mid 
 WritesOn-then change first second old mid new a b = record {
   made = b.made ∙ ap (change_newest (λ file. change (with_written second file))) a.made ∙
       change_newest-then change first second (made old.answers);
-  told = Steps-join _ _ _ (Writes-append first second) _ _ _ a.told b.told;
+  told = Changes-join _ _ _ (Writes-append first second) _ _ _ a.told b.told;
 }
 
 -- A write took bytes.
@@ -105,7 +105,7 @@ pub WritesOn-failed : {E : Type 0} (fault : E) (piece : List ℕ) (old new : Des
     WritesPiece {E = E} piece old new (Err fault) → WritesOn (with_standing Broken) [] old new
 WritesOn-failed fault piece old new write = record {
   made = ap made write.answer ∙ change_newest-alone (with_standing Broken) (made old.answers);
-  told = subst (λ content. Steps (Writes []) old.content content) (sym write.took_nothing) (same_content old.content);
+  told = subst (λ content. Changes (Writes []) old.content content) (sym write.took_nothing) (same_content old.content);
 }
 
 -- the first n bytes of a piece, and then m bytes more

@@ -2,9 +2,9 @@
 
 -- what is told, step by step
 -- two steps, one after the other
-pub use Rattle.acl_outside.proofs.ToldLaws.{Steps-join}
+pub use Rattle.acl_outside.proofs.ToldLaws.{Changes-join}
 -- a step of one relation is one of each weaker relation
-pub use Rattle.acl_outside.proofs.ToldLaws.{Steps-weaker}
+pub use Rattle.acl_outside.proofs.ToldLaws.{Changes-weaker}
 -- what calls leave as it is
 -- no count fell where nothing was asked
 pub use Rattle.acl_outside.proofs.KeptLaws.{KeepsCounts-same}

@@ -2,7 +2,7 @@
 use Rattle.std.proofs.Common.{◌≡◌, ℕ, ◌+◌, ◌≤◌, List, [], ◌++◌, length, take, drop, Option, Some, None, sym, ◌∙◌, ap, refl, subst, append_assoc, add-zero, append-nil, arith, length-append}
 use Rattle.std.proofs.Math.Seq.{take-append-add}
 use Rattle.std.proofs.lemmas.List.{length-take-le, take-append-le, take-take, take_at, drop_at, take_all, drop_all}
-use Rattle.acl_outside.specs.Told.{Steps}
+use Rattle.acl_outside.specs.Told.{Changes}
 use Rattle.acl_outside.specs.Desk.{Content, Gives}
 use Rattle.acl_outside.specs.Reading.{GivesUpTo}
 
@@ -41,12 +41,12 @@ Gives-whole cap bytes few old new ended given =
     }
 
 -- Bytes were given, and then no more: nothing was left.
-pub Steps-to_end : (cap : ℕ) (bytes : List ℕ) → length bytes ≤ cap → (old mid new : Option Content) →
-    Steps (Gives bytes) old mid → ((content : Content) → mid ≡ Some content → content.left ≡ []) →
-    Steps (Gives []) mid new →
-    Steps (GivesUpTo cap bytes) old new
-Steps-to_end cap bytes few None None None given ended last = tt
-Steps-to_end cap bytes few (Some old) (Some mid) (Some new) given ended last =
+pub Changes-to_end : (cap : ℕ) (bytes : List ℕ) → length bytes ≤ cap → (old mid new : Option Content) →
+    Changes (Gives bytes) old mid → ((content : Content) → mid ≡ Some content → content.left ≡ []) →
+    Changes (Gives []) mid new →
+    Changes (GivesUpTo cap bytes) old new
+Changes-to_end cap bytes few None None None given ended last = tt
+Changes-to_end cap bytes few (Some old) (Some mid) (Some new) given ended last =
     Gives-whole cap bytes few old new (sym last.left ∙ ended mid refl)
     record {
       files = last.files ∙ given.files;
@@ -54,10 +54,10 @@ Steps-to_end cap bytes few (Some old) (Some mid) (Some new) given ended last =
       left = given.left ∙ ap (λ xs. bytes ++ xs) last.left;
       created = last.created ∙ given.created;
     }
-Steps-to_end cap bytes few None (Some mid) new given ended last = absurd given
-Steps-to_end cap bytes few (Some old) None new given ended last = absurd given
-Steps-to_end cap bytes few None None (Some new) given ended last = absurd last
-Steps-to_end cap bytes few (Some old) (Some mid) None given ended last = absurd last
+Changes-to_end cap bytes few None (Some mid) new given ended last = absurd given
+Changes-to_end cap bytes few (Some old) None new given ended last = absurd given
+Changes-to_end cap bytes few None None (Some new) given ended last = absurd last
+Changes-to_end cap bytes few (Some old) (Some mid) None given ended last = absurd last
 
 -- what was read after the first len bytes of a list stands after them
 pub take-read_after : (n len count : ℕ) (xs read rest later : List ℕ) → len ≤ length xs → count ≤ length read →

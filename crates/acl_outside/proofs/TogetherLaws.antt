@@ -1,7 +1,7 @@
 -- What was heard of the opened file and what is left of it are together the file, call by call.
 use Rattle.std.proofs.Common.{◌≡◌, ℕ, ◌==◌, List, [], ◌∷◌, ◌++◌, length, take, false, Option, Some, None, Ok, Err, inl, inr, sym, ◌∙◌, ap, refl, append_assoc, append-nil, IsTrue}
 use Rattle.std.proofs.lemmas.Bool.{cases_Bool}
-use Rattle.acl_outside.specs.Told.{Steps}
+use Rattle.acl_outside.specs.Told.{Changes}
 use Rattle.acl_outside.specs.Desk.{Content, DeskView, Opens, GivesUp, Gives, Creates, Writes}
 use Rattle.acl_outside.specs.Heard.{Heard, BrokenOff, Ended, heard, change_newest, with_bytes, with_ending, after_read}
 use Rattle.acl_outside.specs.Reading.{ReadsOn, and_goes_on, after_fault}
@@ -14,8 +14,8 @@ use Rattle.acl_outside.specs.Together.{FinishesHoldTogether, ReadingsHoldTogethe
 use Rattle.acl_outside.proofs.HeardLaws.{unlost}
 
 -- what is told after a step was told before it
-told_before : {A : Type 0} (P : A → A → Type 0) (old new : Option A) (after : A) → Steps P old new → new ≡ Some after →
-    (before : A) × (old ≡ Some before) × P before after
+told_before : {A : Type 0} (P : A → A → Type 0) (old new : Option A) (after : A) → Changes P old new →
+    new ≡ Some after → (before : A) × (old ≡ Some before) × P before after
 told_before P None None after step told = absurd (cc)
 told_before P (Some before) (Some now) after step told =
     let same : now ≡ after = cc in
@@ -35,7 +35,7 @@ nothing_read desk idle opened = record {
 -- The newest file has these bytes more and the same name, and the desk gave them.
 record Hears (change : Heard → Heard) (bytes : List ℕ) (old new : DeskView) : Type 0 where
   heard_is : heard new.answers ≡ change_newest change (heard old.answers)
-  told : Steps (Gives bytes) old.content new.content
+  told : Changes (Gives bytes) old.content new.content
   names : (file : Heard) → (change file).name ≡ file.name
   gains : (file : Heard) → (change file).bytes ≡ file.bytes ++ bytes
   reading : new.reading ≡ old.reading

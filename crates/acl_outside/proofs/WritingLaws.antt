@@ -3,7 +3,7 @@ use Rattle.std.proofs.Common.{ℕ, ◌+◌, List, [], ◌++◌, take, drop, sym,
 use Rattle.std.proofs.Math.Seq.{take-add}
 use Rattle.std.proofs.lemmas.List.{take-append-drop}
 use Rattle.acl_outside.specs.Sink.{SinkView, Appends, Gains, GainsPrefix}
-use Rattle.acl_outside.proofs.ToldLaws.{Steps-join}
+use Rattle.acl_outside.proofs.ToldLaws.{Changes-join}
 
 -- bytes at the end, and then more bytes
 pub Appends-then : (first second old mid new : List ℕ) → Appends first old mid → Appends second mid new →
@@ -15,7 +15,7 @@ pub Gains-then : (first second : List ℕ) (old mid new : SinkView) → Gains fi
     Gains (first ++ second) old new
 Gains-then first second old mid new a b = record {
   taken = Appends-then first second old.taken mid.taken new.taken a.taken b.taken;
-  written = Steps-join (Appends first) (Appends second) (Appends (first ++ second)) (Appends-then first second)
+  written = Changes-join (Appends first) (Appends second) (Appends (first ++ second)) (Appends-then first second)
       old.written mid.written new.written a.written b.written;
 }
 

@@ -4,7 +4,7 @@ use Rattle.std.specs.Str.{bytes_eq}
 pub use Rattle.acl_outside.specs.View.{File, Content, DeskView}
 pub use Rattle.acl_outside.specs.View.{Answer, Opening, Reading, Creating, Writing, Finishing}
 use Rattle.acl_outside.specs.Fault.{Rose}
-use Rattle.acl_outside.specs.Told.{Steps}
+use Rattle.acl_outside.specs.Told.{Changes}
 
 -- the last call that wasn't a read or a write was a finish that succeeded
 abbrev pub is_finished : List Answer → Bool
@@ -75,8 +75,8 @@ pub record KeepsCounts (old new : DeskView) : Type 0 where
 -- All that a desk promises of an opening.
 pub record OpensFile {T E : Type 0} (name : List ℕ) (old new : DeskView) (result : Result T E) :
     Type 0 where
-  pub opened : OnOk result (Steps (Opens name) old.content new.content)
-  pub given_up : OnErr result (Steps GivesUp old.content new.content)
+  pub opened : OnOk result (Changes (Opens name) old.content new.content)
+  pub given_up : OnErr result (Changes GivesUp old.content new.content)
   pub reading : new.reading ≡ is_ok result
   pub writing : new.writing ≡ false
   pub answer : new.answers ≡ Opening name (is_ok result) ∷ old.answers
@@ -97,7 +97,7 @@ moved_by (Err fault) slice = None
 pub record ReadsInto {E : Type 0} (into_old into_new : List ℕ) (old new : DeskView)
     (result : Result ℕ E) : Type 0 where
   pub within : IfOk result (λ count. count ≤ length into_old)
-  pub given : IfOk result (λ count. Steps (Gives (take count into_new)) old.content new.content)
+  pub given : IfOk result (λ count. Changes (Gives (take count into_new)) old.content new.content)
   pub end : result ≡ Ok 0 → (into_old ≡ []) ⊎ ((content : Content) → old.content ≡ Some content →
       content.left ≡ [])
   pub empty : into_old ≡ [] → result ≡ Ok 0
@@ -113,8 +113,8 @@ pub record ReadsInto {E : Type 0} (into_old into_new : List ℕ) (old new : Desk
 -- All that a desk promises of a creation.
 pub record CreatesFile {T E : Type 0} (name : List ℕ) (old new : DeskView) (result : Result T E) :
     Type 0 where
-  pub created : OnOk result (Steps (Creates name) old.content new.content)
-  pub given_up : OnErr result (Steps GivesUp old.content new.content)
+  pub created : OnOk result (Changes (Creates name) old.content new.content)
+  pub given_up : OnErr result (Changes GivesUp old.content new.content)
   pub reading : new.reading ≡ false
   pub writing : new.writing ≡ is_ok result
   pub answer : new.answers ≡ Creating name (is_ok result) ∷ old.answers
@@ -128,7 +128,7 @@ pub record CreatesFile {T E : Type 0} (name : List ℕ) (old new : DeskView) (re
 pub record WritesPiece {E : Type 0} (piece : List ℕ) (old new : DeskView) (result : Result ℕ E) :
     Type 0 where
   pub within : IfOk result (λ count. count ≤ length piece)
-  pub taken : IfOk result (λ count. Steps (Writes (take count piece)) old.content new.content)
+  pub taken : IfOk result (λ count. Changes (Writes (take count piece)) old.content new.content)
   pub progress : IfOk result (λ count. 0 < length piece → 0 < count)
   pub empty : piece ≡ [] → result ≡ Ok 0
   pub took_nothing : OnErr result (new.content ≡ old.content)
@@ -142,7 +142,7 @@ pub record WritesPiece {E : Type 0} (piece : List ℕ) (old new : DeskView) (res
 
 -- All that a desk promises of a finish: the writing ends, also where it fails.
 pub record FinishesFile {T E : Type 0} (old new : DeskView) (result : Result T E) : Type 0 where
-  pub ended : Steps GivesUp old.content new.content
+  pub ended : Changes GivesUp old.content new.content
   pub reading : new.reading ≡ false
   pub writing : new.writing ≡ false
   pub answer : new.answers ≡ Finishing (is_ok result) ∷ old.answers

@@ -3,7 +3,7 @@ use Rattle.std.specs.Prelude.{◌≡◌, ℕ, ◌<◌, ◌≤◌, ◌⊎◌, Lis
 use Rattle.std.specs.declared.vec.Vec.{Vec}
 use Rattle.std.specs.declared.alloc.Global.{Global}
 use Rattle.acl_outside.specs.Fault.{Rose}
-use Rattle.acl_outside.specs.Told.{Steps}
+use Rattle.acl_outside.specs.Told.{Changes}
 use Rattle.acl_outside.specs.Desk.{Content, DeskView, Gives, KeepsCounts}
 use Rattle.acl_outside.specs.Heard.{Heard, BrokenOff, Ended, heard, change_newest, with_bytes, with_ending}
 use Rattle.acl_outside.specs.Made.{KeepsMade}
@@ -24,7 +24,7 @@ pub record GivesUpTo (cap : ℕ) (bytes : List ℕ) (old new : Content) : Type 0
 pub record ReadsOn (change : Heard → Heard) (bytes : List ℕ) (old new : DeskView) : Type 0 where
   pub heard : heard new.answers ≡ change_newest (λ file. change (with_bytes bytes file))
       (heard old.answers)
-  pub told : Steps (Gives bytes) old.content new.content
+  pub told : Changes (Gives bytes) old.content new.content
 
 -- nothing more is known of how the reading stands
 abbrev pub and_goes_on : Heard → Heard
@@ -45,7 +45,7 @@ after_fault OutOfMemory file = file
 pub record ReadsUpTo (cap : ℕ) (old new : DeskView) (result : Result (Vec ℕ Global) ReadAll) :
     Type 0 where
   pub within : IfOk result (λ bytes. length bytes.items ≤ cap)
-  pub bytes : IfOk result (λ bytes. Steps (GivesUpTo cap bytes.items) old.content new.content)
+  pub bytes : IfOk result (λ bytes. Changes (GivesUpTo cap bytes.items) old.content new.content)
   pub heard : IfOk result (λ bytes. ReadsToEndOrCap cap bytes.items old new)
   pub lost : IfErr result (λ fault. (bytes : List ℕ) × ReadsOn (after_fault fault) bytes old new)
   pub reading : new.reading ≡ old.reading

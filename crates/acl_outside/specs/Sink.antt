@@ -1,7 +1,7 @@
 -- What a sink shows of what it was given, and what writing changes of that.
 use Rattle.std.specs.Prelude.{◌≡◌, ℕ, ◌<◌, ◌≤◌, List, [], ◌++◌, length, take, Option, Result, Ok, IfOk, OnOk, OnErr}
 use Rattle.acl_outside.specs.Fault.{Rose}
-use Rattle.acl_outside.specs.Told.{Steps}
+use Rattle.acl_outside.specs.Told.{Changes}
 
 -- What a sink shows: the bytes that it took so far, what was written, where it tells that, and the
 -- count of its faults.
@@ -18,7 +18,7 @@ Appends bytes old new = new ≡ old ++ bytes
 -- told.
 pub record Gains (bytes : List ℕ) (old new : SinkView) : Type 0 where
   pub taken : new.taken ≡ old.taken ++ bytes
-  pub written : Steps (Appends bytes) old.written new.written
+  pub written : Changes (Appends bytes) old.written new.written
 
 -- Some prefix of the text was taken.
 pub record GainsPrefix (text : List ℕ) (old new : SinkView) : Type 0 where

@@ -1,7 +1,7 @@
 -- What writing to the created file changes of a desk.
 use Rattle.std.specs.Prelude.{◌≡◌, ℕ, List, ◌++◌, Result, OnOk, OnErr}
 use Rattle.acl_outside.specs.Fault.{Rose}
-use Rattle.acl_outside.specs.Told.{Steps}
+use Rattle.acl_outside.specs.Told.{Changes}
 use Rattle.acl_outside.specs.Desk.{DeskView, Writes, KeepsCounts}
 use Rattle.acl_outside.specs.Heard.{KeepsHeard, change_newest}
 use Rattle.acl_outside.specs.Made.{Made, Broken, made, and_stands, with_written, with_standing}
@@ -10,7 +10,7 @@ use Rattle.acl_outside.specs.Made.{Made, Broken, made, and_stands, with_written,
 pub record WritesOn (change : Made → Made) (bytes : List ℕ) (old new : DeskView) : Type 0 where
   pub made : made new.answers ≡ change_newest (λ file. change (with_written bytes file))
       (made old.answers)
-  pub told : Steps (Writes bytes) old.content new.content
+  pub told : Changes (Writes bytes) old.content new.content
 
 -- Some prefix of the piece was taken before a write failed.
 pub record WritesPrefix (piece : List ℕ) (old new : DeskView) : Type 0 where

@@ -1,9 +1,9 @@
 -- What a sink gained that was given nothing.
 use Rattle.std.proofs.Common.{ℕ, List, [], Option, Some, None, refl, sym, append-nil}
-use Rattle.acl_outside.specs.Told.{Steps}
+use Rattle.acl_outside.specs.Told.{Changes}
 use Rattle.acl_outside.specs.Sink.{SinkView, Appends, Gains, GainsPrefix}
 
-none_written : (written : Option (List ℕ)) → Steps (Appends []) written written
+none_written : (written : Option (List ℕ)) → Changes (Appends []) written written
 none_written None = tt
 none_written (Some bytes) = sym (append-nil bytes)
 

@@ -6,7 +6,7 @@ use Rattle.std.specs.Option.{option_map}
 use Rattle.std.specs.declared.vec.Vec.{Vec}
 use Rattle.std.specs.declared.alloc.Global.{Global}
 use Rattle.acl_outside.specs.Fault.{Rose}
-use Rattle.acl_outside.specs.Told.{Steps}
+use Rattle.acl_outside.specs.Told.{Changes}
 use Rattle.acl_outside.specs.Desk.{File, Content, DeskView, bytes_of, Opens, GivesUp, Gives, OpensFile, KeepsCounts}
 use Rattle.acl_outside.specs.Heard.{Heard, Ending, GoesOn, Ended, BrokenOff, heard, opening_of, change_newest}
 use Rattle.acl_outside.specs.Heard.{with_bytes, with_ending}
@@ -54,7 +54,7 @@ cannot_open name old new (inr rose) known =
 
 -- the files of what is told stay
 pub told_files : (P : Content → Content → Type 0) → ((a b : Content) → P a b → b.files ≡ a.files) →
-    (old new : Option Content) → Steps P old new →
+    (old new : Option Content) → Changes P old new →
     option_map (λ c. c.files) new ≡ option_map (λ c. c.files) old
 told_files P keeps None None step = refl
 told_files P keeps (Some old) (Some new) step = ap Some (keeps old new step)
@@ -103,8 +103,8 @@ heard_file change name bytes old mid new x opens reads =
     ∙ ap (λ file. change file ∷ heard old.answers) (begun name bytes)
 
 -- what was read is a part of the told file
-pub part_told : (name bytes : List ℕ) (ending : Ending) (old mid new : Option Content) → Steps (Opens name) old mid →
-    Steps (Gives bytes) mid new →
+pub part_told : (name bytes : List ℕ) (ending : Ending) (old mid new : Option Content) → Changes (Opens name) old mid →
+    Changes (Gives bytes) mid new →
     (ending ≡ Ended → (content : Content) → new ≡ Some content → content.left ≡ []) →
     (files : List File) → option_map (λ c. c.files) old ≡ Some files →
     IsPartOf files (record { name = name; bytes = bytes; ending = ending })
@@ -120,7 +120,7 @@ part_told name bytes ending (Some old) (Some mid) (Some new) opens gives ended f
     }
 
 -- fewer bytes than the cap are all that was left
-ended_told : (cap : ℕ) (bytes : List ℕ) (old new : Option Content) → Steps (GivesUpTo cap bytes) old new →
+ended_told : (cap : ℕ) (bytes : List ℕ) (old new : Option Content) → Changes (GivesUpTo cap bytes) old new →
     length bytes < cap →
     (content : Content) → new ≡ Some content → content.left ≡ []
 ended_told cap bytes None None gives few content told = absurd (cc)
@@ -131,8 +131,8 @@ ended_told cap bytes (Some old) (Some new) gives few content told =
     let short : length old.left ≤ cap = omega (arith, ap length gives.given, length-take cap old.left, few) in
     rw (← at) (gives.left ∙ drop_all cap old.left short)
 
-pub opened_told : (name bytes : List ℕ) (old mid new : Option Content) → Steps (Opens name) old mid →
-    Steps (Gives bytes) mid new →
+pub opened_told : (name bytes : List ℕ) (old mid new : Option Content) → Changes (Opens name) old mid →
+    Changes (Gives bytes) mid new →
     (files : List File) → option_map (λ c. c.files) old ≡ Some files → option_map (λ c. c.opened) new
     ≡ Some (Some name)
 opened_told name bytes None mid new opens gives files told = absurd (cc)
@@ -144,7 +144,7 @@ opened_told name bytes (Some old) (Some mid) (Some new) opens gives files told =
 pub opened_absent : (name : List ℕ) (old new : DeskView) (old_content new_content : Option Content) →
     ((content : Content) → old_content ≡ Some content → IsSome (bytes_of content.files name) →
     new.absent ≡ old.absent) →
-    Steps (Opens name) old_content new_content → (files : List File) →
+    Changes (Opens name) old_content new_content → (files : List File) →
     option_map (λ c. c.files) old_content ≡ Some files → new.absent ≡ old.absent
 opened_absent name old new None new_content there opens files told = absurd (cc)
 opened_absent name old new (Some content) None there opens files told = absurd opens
@@ -153,7 +153,7 @@ opened_absent name old new (Some content) (Some after) there opens files told =
 
 pub kept_files : {T E : Type 0} (name bytes : List ℕ) (old mid new : DeskView) (x : T) →
     OpensFile {E = E} name old mid (Ok x) →
-    Steps (Gives bytes) mid.content new.content → KeepsMade mid new → KeepsCounts mid new → KeepsFiles old new
+    Changes (Gives bytes) mid.content new.content → KeepsMade mid new → KeepsCounts mid new → KeepsFiles old new
 kept_files name bytes old mid new x opens gives made counts = record {
   files =
       told_files (Gives bytes) (λ a b step. step.files) mid.content new.content gives

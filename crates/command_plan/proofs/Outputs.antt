@@ -2,14 +2,14 @@
 use Rattle.std.proofs.Common.{◌≡◌, ◌≢◌, ℕ, List, [], ◌∷◌, ◌++◌, Option, Some, None, Result, Ok, Err, true, false, inl, inr}
 use Rattle.std.proofs.Common.{arith, sym, ap, subst, ◌∙◌, refl, append-nil}
 use Rattle.std.specs.Option.{option_map}
-use Rattle.acl_outside.specs.Told.{Steps}
+use Rattle.acl_outside.specs.Told.{Changes}
 use Rattle.acl_outside.specs.Desk.{File, Content, DeskView, bytes_of, is_finished, Holds, Creates, Writes, GivesUp}
 use Rattle.acl_outside.specs.Desk.{CreatesFile, FinishesFile}
 use Rattle.acl_outside.specs.Heard.{change_newest}
 use Rattle.acl_outside.specs.Made.{Made, Unfinished, NotCreated, Finished, Broken, with_written, with_standing, creation_of}
 use Rattle.acl_outside.specs.Made.{after_finish, and_stands}
 use Rattle.acl_outside.specs.Writing.{WritesAll, WritesOn}
-use Rattle.acl_outside.proofs.Offered.{Steps-join, KeepsCounts-join, KeepsHeard-join, KeepsHeard-creation}
+use Rattle.acl_outside.proofs.Offered.{Changes-join, KeepsCounts-join, KeepsHeard-join, KeepsHeard-creation}
 use Rattle.acl_outside.proofs.Offered.{KeepsHeard-finish, made-creation, made-finish}
 use Rattle.command_plan.specs.Effects.{files_of, made_of, KeepsOthers, MakesAll}
 use Rattle.command_plan.proofs.Inputs.{told_files}
@@ -35,7 +35,7 @@ finished_then name bytes old mid new holds gives_up =
     subst (λ (files : List File). Holds name bytes old.files files) (sym gives_up.files) holds
 
 -- what a told file holds
-named_told : (name bytes : List ℕ) (old new : Option Content) → Steps (HoldsNow name bytes) old new →
+named_told : (name bytes : List ℕ) (old new : Option Content) → Changes (HoldsNow name bytes) old new →
     (files : List File) → option_map (λ c. c.files) new ≡ Some files → bytes_of files name ≡ Some bytes
 named_told name bytes None None holds files told = absurd (cc)
 named_told name bytes None (Some new) holds files told = absurd holds
@@ -44,7 +44,7 @@ named_told name bytes (Some old) (Some new) holds files told =
     let at : new.files ≡ files = cc in rw (← at) holds.named
 
 -- all others are as before
-others_told : (name bytes : List ℕ) (old new : Option Content) → Steps (HoldsNow name bytes) old new →
+others_told : (name bytes : List ℕ) (old new : Option Content) → Changes (HoldsNow name bytes) old new →
     (before : List File) → option_map (λ c. c.files) old ≡ Some before →
     (after : List File) × (option_map (λ c. c.files) new ≡ Some after)
     × ((other : List ℕ) → other ≢ name → bytes_of after other ≡ bytes_of before other)
@@ -70,10 +70,10 @@ made_after change name bytes old mid new x creates writes =
     ∙ ap (λ file. change file ∷ made_of old) (begun name bytes)
 
 held_after : {T E : Type 0} (name bytes : List ℕ) (old mid new : DeskView) (x : T) →
-    CreatesFile {E = E} name old mid (Ok x) → Steps (Writes bytes) mid.content new.content →
-    Steps (HoldsNow name bytes) old.content new.content
+    CreatesFile {E = E} name old mid (Ok x) → Changes (Writes bytes) mid.content new.content →
+    Changes (HoldsNow name bytes) old.content new.content
 held_after name bytes old mid new x creates writes =
-    Steps-join (Creates name) (Writes bytes) (HoldsNow name bytes) (created_then name bytes) old.content mid.content
+    Changes-join (Creates name) (Writes bytes) (HoldsNow name bytes) (created_then name bytes) old.content mid.content
     new.content creates.created writes
 
 -- The file couldn't be created.
@@ -130,9 +130,9 @@ MakesAll-unwritten name bytes old mid new x e f creates writes =
 -- what the file holds, once it was given up
 held_last : {T E : Type 0} (name bytes : List ℕ) (old mid late new : DeskView) (x : T) →
     CreatesFile {E = E} name old mid (Ok x) → WritesOn and_stands bytes mid late →
-    Steps GivesUp late.content new.content → Steps (HoldsNow name bytes) old.content new.content
+    Changes GivesUp late.content new.content → Changes (HoldsNow name bytes) old.content new.content
 held_last name bytes old mid late new x creates writes ended =
-    Steps-join (HoldsNow name bytes) GivesUp (HoldsNow name bytes) (finished_then name bytes) old.content late.content
+    Changes-join (HoldsNow name bytes) GivesUp (HoldsNow name bytes) (finished_then name bytes) old.content late.content
     new.content (held_after name bytes old mid late x creates writes.told) ended
 
 -- It was written, and couldn't be finished.

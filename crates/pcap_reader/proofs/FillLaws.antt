@@ -6,7 +6,7 @@ use Rattle.std.proofs.lemmas.Bool.{eqb-false, lt-ltb, le-ltb}
 use Rattle.std.proofs.lemmas.List.{length-take-le, take-append-le}
 use borrow.Rule.Slice.PartMut.{put_mid}
 use Rattle.acl_outside.specs.Fault.{Rose}
-use Rattle.acl_outside.specs.Told.{Steps}
+use Rattle.acl_outside.specs.Told.{Changes}
 use Rattle.acl_outside.specs.Desk.{Content, DeskView, Gives, ReadsInto}
 use Rattle.acl_outside.specs.Heard.{Ended, with_ending}
 use Rattle.acl_outside.proofs.Offered.{KeepsMade-same, KeepsMade-join, KeepsMade-read, KeepsCounts-same, KeepsCounts-join}
@@ -98,7 +98,7 @@ Rose-later old mid new keeps rose = omega (arith, keeps.counts.read_faults, rose
 
 -- nothing was left, and nothing was given
 at_end_after : (mid new : Option Content) → ((content : Content) → mid ≡ Some content → content.left ≡ []) →
-    Steps (Gives []) mid new →
+    Changes (Gives []) mid new →
     (content : Content) → new ≡ Some content → content.left ≡ []
 at_end_after None None ended step content is = absurd (cc)
 at_end_after (Some old) (Some now) ended step content is =

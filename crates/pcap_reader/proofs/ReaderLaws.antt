@@ -3,11 +3,11 @@ use Rattle.std.proofs.Common.{Result, IfOk, IfSome, ◌≡◌, ℕ, ◌+◌, ◌
 use Rattle.std.proofs.lemmas.Bool.{false≢true, cases_eq, cases_lt, eq-eqb}
 use Rattle.std.proofs.lemmas.List.{take_all, take-append-le}
 use Rattle.acl_outside.specs.Fault.{Rose}
-use Rattle.acl_outside.specs.Told.{Steps}
+use Rattle.acl_outside.specs.Told.{Changes}
 use Rattle.acl_outside.specs.Desk.{Content, DeskView, Gives}
 use Rattle.acl_outside.specs.Heard.{BrokenOff, Ended, with_ending}
 use Rattle.acl_outside.specs.Reading.{ReadsOn, and_goes_on}
-use Rattle.acl_outside.proofs.Offered.{Steps-weaker, ReadsOn-then}
+use Rattle.acl_outside.proofs.Offered.{Changes-weaker, ReadsOn-then}
 use Rattle.pcap_reader.specs.declared.fault.CaptureFault.TheVariants.{RecordCut, RecordTooLong, TooManyRecords, ReadFault}
 use Rattle.pcap_reader.specs.declared.fault.CaptureFault.{CaptureFault}
 use Rattle.pcap_reader.specs.declared.state.CaptureState.{CaptureState}
@@ -22,9 +22,9 @@ use Rattle.pcap_reader.proofs.NextLaws.{next_of-cut, next_of-too_long, next_of-t
 -- what was left began with the record, where it is told
 told-record : (state : CaptureState) (given : List ℕ) (captured : CaptureRecord) (old new : Option Content) →
     next_of state given ≡ Record captured [] →
-    Steps (Gives given) old new → Steps (λ was now. next_of state was.left ≡ Record captured now.left) old new
+    Changes (Gives given) old new → Changes (λ was now. next_of state was.left ≡ Record captured now.left) old new
 told-record state given captured old new whole step =
-    Steps-weaker (Gives given) (λ was now. next_of state was.left ≡ Record captured now.left)
+    Changes-weaker (Gives given) (λ was now. next_of state was.left ≡ Record captured now.left)
     (λ was now gives.
     ap (next_of state) gives.left
     ∙ next_of-append state given now.left (subst IsDecided (sym whole) tt)
@@ -34,8 +34,8 @@ told-record state given captured old new whole step =
 -- all that was left was given, where it is told
 told-end : (state : CaptureState) (given : List ℕ) (next : Next) (old new : Option Content) →
     next_of state given ≡ next →
-    ((content : Content) → new ≡ Some content → content.left ≡ []) → Steps (Gives given) old new →
-    Steps (λ was now. next_of state was.left ≡ next) old new
+    ((content : Content) → new ≡ Some content → content.left ≡ []) → Changes (Gives given) old new →
+    Changes (λ was now. next_of state was.left ≡ next) old new
 told-end state given next None None answer end step = tt
 told-end state given next (Some was) (Some now) answer end step =
     ap (next_of state) (step.left ∙ ap (λ (l : List ℕ). given ++ l) (end now refl) ∙ append-nil given) ∙ answer
@@ -96,7 +96,7 @@ broken_off state front old new no_whole reads rose keeps = record {
   given = front;
   reads = reads;
   next = record { front = front; parts = sym (append-nil front); no_whole = no_whole };
-  told = Steps-weaker (Gives front)
+  told = Changes-weaker (Gives front)
       (λ was now. BreaksOffAt (λ begun. HasNoRecord (next_of state begun)) was.left now.left)
       (λ was now gives. record { front = front; parts = gives.left; no_whole = no_whole }) old.content
       new.content reads.told;
@@ -120,8 +120,8 @@ ReadsNext-broken state captured part old mid new h less reads rose keeps =
 
 -- nothing was left, where it is told
 told-none : (state : CaptureState) (old new : Option Content) →
-    ((content : Content) → new ≡ Some content → content.left ≡ []) → Steps (Gives []) old new →
-    Steps (λ was now. (next_of state was.left ≡ End) × (now.left ≡ was.left)) old new
+    ((content : Content) → new ≡ Some content → content.left ≡ []) → Changes (Gives []) old new →
+    Changes (λ was now. (next_of state was.left ≡ End) × (now.left ≡ was.left)) old new
 told-none state None None end step = tt
 told-none state (Some was) (Some now) end step =
     let none : was.left ≡ [] = step.left ∙ end now refl in
@@ -190,10 +190,10 @@ ReadsNext-broken_header fault state room into old new few filled =
 
 -- what was left began with the fault, where it is told
 told-fault : (state : CaptureState) (given : List ℕ) (fault : CaptureFault) (old new : Option Content) →
-    IsDecided (Fault fault) → next_of state given ≡ Fault fault → Steps (Gives given) old new →
-    Steps (λ was now. next_of state was.left ≡ Fault fault) old new
+    IsDecided (Fault fault) → next_of state given ≡ Fault fault → Changes (Gives given) old new →
+    Changes (λ was now. next_of state was.left ≡ Fault fault) old new
 told-fault state given fault old new decided is step =
-    Steps-weaker (Gives given) (λ was now. next_of state was.left ≡ Fault fault)
+    Changes-weaker (Gives given) (λ was now. next_of state was.left ≡ Fault fault)
     (λ was now gives.
     ap (next_of state) gives.left
     ∙ next_of-append state given now.left (subst IsDecided (sym is) decided)

@@ -4,10 +4,10 @@ use Rattle.std.proofs.lemmas.Bool.{le-leb, lt-leb, false≢true}
 use Rattle.std.proofs.lemmas.List.{take_at, take_all, drop_at, drop_all}
 use borrow.Rule.Slice.PartMut.{put_mid}
 use Rattle.acl_outside.specs.Fault.{Rose}
-use Rattle.acl_outside.specs.Told.{Steps}
+use Rattle.acl_outside.specs.Told.{Changes}
 use Rattle.acl_outside.specs.Desk.{Content, DeskView, Gives}
 use Rattle.acl_outside.specs.Reading.{ReadsOn, and_goes_on}
-use Rattle.acl_outside.proofs.Offered.{Steps-weaker}
+use Rattle.acl_outside.proofs.Offered.{Changes-weaker}
 use Rattle.pcap_reader.specs.declared.fault.CaptureFault.{CaptureFault}
 use Rattle.pcap_reader.specs.declared.fault.CaptureFault.TheVariants.{HeaderCut, Magic, Version, LinkType, ReadFault}
 use Rattle.pcap_reader.specs.declared.header.FileHeader.{FileHeader}
@@ -108,7 +108,7 @@ start_answered first part old new result whole says judged reads keeps =
       given = part;
       reads = reads-judged part old new result judged reads;
       answer = answer-left header header [] result whole says judged (sym (append-nil header));
-      told = Steps-weaker (Gives part) (λ was now. IsStart (first ++ was.left) now.left result)
+      told = Changes-weaker (Gives part) (λ was now. IsStart (first ++ was.left) now.left result)
           (λ was now gives. answer-left header (first ++ was.left) now.left result whole says judged
           (more_after first part was.left now.left gives.left)) old.content new.content reads.told;
       end = not_cut new result judged;
@@ -132,8 +132,8 @@ start_of-short bytes short = rw (lt-leb file_header_len (length bytes) short) re
 
 -- all that was left was read, where it is told
 told-cut : (first part : List ℕ) (old new : Option Content) → length (first ++ part) < file_header_len →
-    ((content : Content) → new ≡ Some content → content.left ≡ []) → Steps (Gives part) old new →
-    Steps (λ was now. start_of (first ++ was.left) ≡ Err HeaderCut) old new
+    ((content : Content) → new ≡ Some content → content.left ≡ []) → Changes (Gives part) old new →
+    Changes (λ was now. start_of (first ++ was.left) ≡ Err HeaderCut) old new
 told-cut first part None None short end step = tt
 told-cut first part (Some was) (Some now) short end step =
     ap (λ (l : List ℕ). start_of (first ++ l))
@@ -176,7 +176,7 @@ ReadsStart-broken fault first before part old new all filled =
         parts = sym (append-nil (first ++ broken.bytes));
         no_whole = short;
       };
-      told = Steps-weaker (Gives broken.bytes)
+      told = Changes-weaker (Gives broken.bytes)
           (λ was now. BreaksOffAt (λ front. start_of front ≡ Err HeaderCut) (first ++ was.left) now.left)
           (λ was now gives. record {
             front = first ++ broken.bytes;

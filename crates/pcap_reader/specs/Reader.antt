@@ -3,7 +3,7 @@ use Rattle.std.specs.Prelude.{◌≡◌, ℕ, ◌<◌, ◌≤◌, List, [], ◌+
 use Rattle.std.specs.Prelude.{Result, Ok, Err}
 use Rattle.std.specs.Borrow.{Bor}
 use Rattle.acl_outside.specs.Fault.{Rose}
-use Rattle.acl_outside.specs.Told.{Steps}
+use Rattle.acl_outside.specs.Told.{Changes}
 use Rattle.acl_outside.specs.Desk.{DeskView}
 use Rattle.acl_outside.specs.Heard.{Heard, BrokenOff, Ended, with_ending}
 use Rattle.acl_outside.specs.Reading.{ReadsOn, and_goes_on}
@@ -87,7 +87,7 @@ pub record ReadsNext (state : CaptureState) (old new : DeskView) (answer : Answe
   pub given : List ℕ
   pub reads : ReadsOn (after_next answer) given old new
   pub next : IsNext state given [] answer
-  pub told : Steps (λ was now. IsNext state was.left now.left answer) old.content new.content
+  pub told : Changes (λ was now. IsNext state was.left now.left answer) old.content new.content
   pub end : meets_end answer ≡ true → IsAtEnd new
   pub read_fault : answer ≡ Err ReadFault → Rose old.read_faults new.read_faults
   pub keeps : KeepsReading old new
@@ -149,7 +149,8 @@ pub record ReadsStart (first : List ℕ) (old new : DeskView) (result : Result S
   pub given : List ℕ
   pub reads : ReadsOn (after_start result) given old new
   pub answer : IsStart (first ++ given) [] result
-  pub told : Steps (λ was now. IsStart (first ++ was.left) now.left result) old.content new.content
+  pub told : Changes (λ was now. IsStart (first ++ was.left) now.left result) old.content
+      new.content
   pub end : is_cut_start result ≡ true → IsAtEnd new
   pub read_fault : result ≡ Err ReadFault → Rose old.read_faults new.read_faults
   pub keeps : KeepsReading old new

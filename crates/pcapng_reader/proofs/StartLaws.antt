@@ -9,7 +9,7 @@ use Rattle.std.proofs.lemmas.Slice.Eq.{bytes_eq-Decides}
 use Rattle.std.proofs.lemmas.Bool.{cases_lt, lt-leb, le-leb, false≢true}
 use Rattle.std.proofs.lemmas.List.{take_all, drop_at, drop_all, take-append-drop, take-append-le}
 use Rattle.acl_outside.specs.Fault.{Rose}
-use Rattle.acl_outside.specs.Told.{Steps}
+use Rattle.acl_outside.specs.Told.{Changes}
 use Rattle.acl_outside.specs.Desk.{Content, DeskView, Gives}
 use Rattle.acl_outside.specs.Reading.{ReadsOn}
 use Rattle.acl_outside.proofs.Offered.{ReadsOn-then}
@@ -231,7 +231,7 @@ start-take bytes state says = by_format (is_blocks bytes) refl
 -- what was left began with what was given
 told_start : (result : Result AnyState CaptureFault) (given : List ℕ) (old new : Option Content) →
     IsStart given [] result → (result ≡ Err HeaderCut → (content : Content) → new ≡ Some content → content.left ≡ []) →
-    Steps (Gives given) old new → Steps (λ was is. IsStart was.left is.left result) old new
+    Changes (Gives given) old new → Changes (λ was is. IsStart was.left is.left result) old new
 told_start result given None None is end step = tt
 told_start result given None (Some now) is end step = absurd step
 told_start result given (Some was) None is end step = absurd step

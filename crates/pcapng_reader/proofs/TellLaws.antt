@@ -3,7 +3,7 @@ use Rattle.std.proofs.Common.{◌≡◌, ℕ, List, [], ◌++◌, Option, Some, 
 use Rattle.std.proofs.Common.{false}
 use Rattle.std.proofs.Common.{refl, sym, subst, ap, ◌∙◌, append-nil}
 use Rattle.std.proofs.lemmas.Bool.{false≢true}
-use Rattle.acl_outside.specs.Told.{Steps}
+use Rattle.acl_outside.specs.Told.{Changes}
 use Rattle.acl_outside.specs.Desk.{Content, DeskView, Gives}
 use Rattle.acl_outside.specs.Heard.{Ending, GoesOn, Ended, BrokenOff}
 use Rattle.acl_outside.specs.Reading.{ReadsOn}
@@ -31,8 +31,8 @@ all_given given was now gives none =
 pub told_next : (answer : Answer) (before now : AnyState) (given : List ℕ) (ending : Ending) (old new : Option
     Content) →
     IsNext before now given [] answer → AnswerStands answer ending →
-    (ending ≡ Ended → (content : Content) → new ≡ Some content → content.left ≡ []) → Steps (Gives given) old new →
-    Steps (λ was is. IsNext before now was.left is.left answer) old new
+    (ending ≡ Ended → (content : Content) → new ≡ Some content → content.left ≡ []) → Changes (Gives given) old new →
+    Changes (λ was is. IsNext before now was.left is.left answer) old new
 told_next answer before now given ending None None is stood end step = tt
 told_next answer before now given ending None (Some later) is stood end step = absurd step
 told_next answer before now given ending (Some was) None is stood end step = absurd step

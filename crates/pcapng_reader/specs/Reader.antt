@@ -3,7 +3,7 @@ use Rattle.std.specs.Prelude.{◌≡◌, ℕ, ◌+◌, List, [], drop, Bool, tru
 use Rattle.std.specs.Prelude.{Result, Ok, Err, if◌then◌else◌}
 use Rattle.std.specs.Borrow.{Bor}
 use Rattle.acl_outside.specs.Fault.{Rose}
-use Rattle.acl_outside.specs.Told.{Steps}
+use Rattle.acl_outside.specs.Told.{Changes}
 use Rattle.acl_outside.specs.Desk.{DeskView}
 use Rattle.acl_outside.specs.Heard.{Heard, Ending, GoesOn, Ended}
 use Rattle.acl_outside.specs.Reading.{ReadsOn, and_goes_on}
@@ -79,7 +79,7 @@ pub record ReadsNext (before now : AnyState) (old new : DeskView) (answer : Answ
   pub reads : ReadsOn (stands ending) given old new
   pub next : IsNext before now given [] answer
   pub state : GoesTo before now answer
-  pub told : Steps (λ was is. IsNext before now was.left is.left answer) old.content new.content
+  pub told : Changes (λ was is. IsNext before now was.left is.left answer) old.content new.content
   pub end : ending ≡ Ended → IsAtEnd new
   pub read_fault : answer ≡ Err ReadFault → Rose old.read_faults new.read_faults
   pub keeps : KeepsReading old new
@@ -134,7 +134,7 @@ pub record ReadsStart (old new : DeskView) (result : Result AnyState CaptureFaul
   pub given : List ℕ
   pub reads : ReadsOn (after_start result) given old new
   pub answer : IsStart given [] result
-  pub told : Steps (λ was is. IsStart was.left is.left result) old.content new.content
+  pub told : Changes (λ was is. IsStart was.left is.left result) old.content new.content
   pub end : is_cut_start result ≡ true → IsAtEnd new
   pub read_fault : result ≡ Err ReadFault → Rose old.read_faults new.read_faults
   pub keeps : KeepsReading old new

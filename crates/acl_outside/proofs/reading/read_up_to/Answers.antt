@@ -5,8 +5,8 @@ use Rattle.acl_outside.specs.declared.reading.ReadAll.TheVariants.{ReadFault, Ou
 use Rattle.acl_outside.specs.Desk.{Content, ReadsInto}
 use Rattle.acl_outside.specs.Heard.{Ended, BrokenOff, with_ending}
 use Rattle.acl_outside.specs.Reading.{and_goes_on}
-use Rattle.acl_outside.proofs.ToldLaws.{Steps-weaker}
-use Rattle.acl_outside.proofs.ReadingLaws.{Gives-capped, Steps-to_end, take-read_after, take-read_end}
+use Rattle.acl_outside.proofs.ToldLaws.{Changes-weaker}
+use Rattle.acl_outside.proofs.ReadingLaws.{Gives-capped, Changes-to_end, take-read_after, take-read_end}
 use Rattle.acl_outside.proofs.KeptLaws.{KeepsCounts-same, KeepsCounts-join, KeepsMade-same, KeepsMade-join, KeepsMade-read}
 use Rattle.acl_outside.proofs.HeardLaws.{ReadsOn-none, ReadsOn-then, ReadsOn-given, ReadsOn-ended, ReadsOn-failed}
 use Rattle.acl_outside.proofs.reading.read_up_to.Goals as goal
@@ -113,7 +113,7 @@ returns g c = elim c.parts-test.branch [
         within = rw same (omega (arith, full));
         bytes =
             rw same
-            (Steps-weaker _ _ (Gives-capped c.args.cap (take c.parts.len c.parts.bytes.items) full) _ _
+            (Changes-weaker _ _ (Gives-capped c.args.cap (take c.parts.len c.parts.bytes.items) full) _ _
             c.parts.invariant.read.told);
         heard = rw same (inr (c.parts.invariant.read, full));
         lost = tt;
@@ -147,7 +147,7 @@ returns g c = elim c.parts-test.branch [
         within = rw same (omega (arith, few));
         bytes =
             rw same
-            (Steps-to_end c.args.cap (take c.parts.len before) (omega (arith, few)) _ _ _ c.parts.invariant.read.told
+            (Changes-to_end c.args.cap (take c.parts.len before) (omega (arith, few)) _ _ _ c.parts.invariant.read.told
             ended read.given);
         heard =
             rw same

@@ -72,10 +72,10 @@ module _ (E : Bx) where
     Shuts = triple_of 𝓛 (Fr.signature E.row E.al.row E.al.g E.al.d E.al.drops)
         (Fr.spec E.row E.al.row E.al.g E.al.d E.al.drops 𝓛 at_mem run)
 
-    walk : Triple 𝓤 (𝓣.C (raw_sym.name (args E))) Shuts → (z : (walk_of 𝓛 ended stayed held).Ghost)
+    passes : Triple 𝓤 (𝓣.C (raw_sym.name (args E))) Shuts → (z : (walk_of 𝓛 ended stayed held).Ghost)
         → ent 𝓤 ((walk_of 𝓛 ended stayed held).pre z)
         (WpFn 𝓤 H 𝓣.C 𝓣.Λ fn' (z.0.4.0 ++ []) ((walk_of 𝓛 ended stayed held).post z))
-    walk kn z =
+    passes kn z =
         let κs = z.0.0 in let qs = z.0.1 in let a = z.0.3.0.alloc in let x = z.0.3.0.value in
         let Post = (walk_of 𝓛 ended stayed held).post z in
         let v : D E = record { ptr = z.0.3.0.ptr; alloc = a; value = x } in
@@ -125,5 +125,5 @@ into_box_spec 𝓤 𝓛 𝓜 𝓡 wired X Z LX LZ g d dd allocator md =
     (code.unfolded 𝓤 𝓛.H 𝓜 𝓡 wired (X, (Z, tt)) d dd)
     (walk_Meets 𝓛 (ended E) (stayed E) (Goes-blank 𝓛 2 (plain (λ _. From E)) no (λ κs x f. tt), tt)
     (held E 𝓛 𝓜.mem 𝓡.returns 𝓣) (WpFn 𝓤 𝓛.H 𝓣.C 𝓣.Λ fn) (WpFn-mono 𝓤 𝓛.H 𝓛.laws 𝓣 fn)
-    (walk E 𝓛 𝓜.mem 𝓡.returns 𝓣
+    (passes E 𝓛 𝓜.mem 𝓡.returns 𝓣
     (raw_met.met 𝓤 𝓛 𝓜 𝓡 (code.calls-std_alloc::boxed::Box::from_raw 𝓡.env wired) X Z LX LZ g d dd allocator md)))
