@@ -8,7 +8,7 @@ use Rattle.field_defs.specs.Layout.{key_len_of}
 use Rattle.field_defs.proofs.Offered.{short_keys}
 use Rattle.rule_set.specs.Fault.{categories}
 use Rattle.rule_set.specs.Rule.{RuleSetView}
-use Rattle.table_sizes.specs.Groups.{kept_places, max_key_len}
+use Rattle.table_sizes.specs.Groups.{kept_places as places_of_bits, max_key_len}
 use Rattle.table_sizes.specs.Sizes.{max_words, row_len}
 use Rattle.group_states.specs.declared.run.Run.{Run}
 use Rattle.group_states.specs.Kept.{kept_places}
@@ -29,7 +29,7 @@ abbrev pub all_links : LevelsView → List (List Link)
 all_links levels = map links_of levels.levels
 
 abbrev pub all_places : RuleSetView → LevelsView → List ℕ
-all_places set levels = kept_places (key_len_of set.layout) levels.kept
+all_places set levels = places_of_bits (key_len_of set.layout) levels.kept
 
 module _ (set : RuleSetView) (levels : LevelsView) (its : AreMerged set levels) where
   pub grouped : IsGrouped set (all_rules set)
@@ -67,7 +67,7 @@ module _ (set : RuleSetView) (levels : LevelsView) (its : AreMerged set levels) 
       (last_links set grouped its.among)
 
   places_same : all_places set levels ≡ kept_places set (all_rules set)
-  places_same = ap (λ (l : LevelsView). kept_places (key_len_of set.layout) l.kept) its.merged
+  places_same = ap (λ (l : LevelsView). places_of_bits (key_len_of set.layout) l.kept) its.merged
       ∙ places_are set (all_rules set)
 
   pub long_fit : length (all_places set levels) ≡ length (all_links levels)

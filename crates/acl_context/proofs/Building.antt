@@ -7,7 +7,7 @@ use Rattle.rule_set.specs.Groups.{IsPartition}
 use Rattle.table_sizes.specs.Sizes.{max_tries, max_words, row_len}
 use Rattle.group_states.specs.Levels.{LevelsView, levels_of}
 use Rattle.rule_split.specs.Split.{groups_of, total_of, plan_of, PlanView}
-use Rattle.rule_split.proofs.Offered.{groups_hold, total_of_words}
+use Rattle.rule_split.proofs.Offered.{group_of_levels, groups_hold, total_of_words}
 use Rattle.flat_table.specs.Table.{TableView, words_of}
 use Rattle.table_fill.specs.Filled.{filled}
 use Rattle.acl_context.specs.Context.{built_of}
@@ -16,23 +16,18 @@ use Rattle.acl_context.specs.Context.{built_of}
 abbrev pub levels_in : RuleSetView → ℕ → List LevelsView
 levels_in set budget = map (levels_of set) (groups_of set budget)
 
--- merged states keep their group
-group_kept : (set : RuleSetView) (group : List ℕ) → (levels_of set group).group ≡ group
-unfolding levels_of
-group_kept set group = refl
-
 -- so the groups of all are there again
 groups_kept : (set : RuleSetView) (groups : List (List ℕ)) →
     map (λ (trie : LevelsView). trie.group) (map (levels_of set) groups) ≡ groups
 groups_kept set [] = refl
-groups_kept set (group ∷ groups) = rw (group_kept set group, groups_kept set groups) refl
+groups_kept set (group ∷ groups) = rw (group_of_levels set group, groups_kept set groups) refl
 
 -- each is of its group
 each_of_its_group : (set : RuleSetView) (groups : List (List ℕ)) →
     All (λ (trie : LevelsView). trie ≡ levels_of set trie.group) (map (levels_of set) groups)
 each_of_its_group set groups =
     All-map (λ (trie : LevelsView). trie ≡ levels_of set trie.group) (levels_of set) groups
-    (λ k d h. ap (levels_of set) (sym (group_kept set _)))
+    (λ k d h. ap (levels_of set) (sym (group_of_levels set _)))
 
 -- a plan has the merged states of its groups and their total
 levels_of_plan : (set : RuleSetView) (budget : ℕ) → (plan_of set budget).levels ≡ levels_in set budget

@@ -1,16 +1,16 @@
 -- How large the tables were of which `classify` tells, and when rules were too large.
 use Rattle.std.proofs.Common.{◌≡◌, ℕ, ◌+◌, ◌<◌, List, [], ◌∷◌, ◌++◌, length, map, Bool, true, false, Option, Some, None}
-use Rattle.std.proofs.Common.{Result, Ok, Err, refl, sym, ap, subst, ◌∙◌, append-nil, append_assoc, suc}
+use Rattle.std.proofs.Common.{Result, Ok, Err, refl, sym, ap, subst, ◌∙◌, append-nil, append_assoc}
 use Rattle.std.proofs.lemmas.List.{length-map}
 use Rattle.std.specs.Prelude.{codes, nat_le, if◌then◌else◌}
 use Rattle.std.proofs.lemmas.Bool.{false≢true, leb-false}
 use Rattle.field_defs.specs.declared.field.Family.{Family}
 use Rattle.field_defs.specs.declared.field.Family.TheVariants.{Ip4, Ip6}
 use Rattle.rule_set.specs.Rule.{RuleSetView}
-use Rattle.group_states.specs.Levels.{LevelsView, levels_of}
+use Rattle.group_states.specs.Levels.{levels_of}
 use Rattle.rule_split.specs.Split.{groups_of, total_of}
 use Rattle.flat_table.specs.Table.{TableView, words_of}
-use Rattle.table_fill.specs.Filled.{filled, roots_of, nodes_len, table_of_tries}
+use Rattle.table_fill.specs.Filled.{filled, table_of_tries}
 use Rattle.acl_context.specs.Context.{built_of}
 use Rattle.acl_outside.specs.Desk.{File}
 use Rattle.acl_outside.specs.Heard.{Heard, Ended}
@@ -39,6 +39,7 @@ use Rattle.acl_tool.specs.Effects.{Answers}
 use Rattle.acl_tool.specs.Headline.{lines_to}
 use Rattle.acl_tool.specs.ClassifySizes.{ClassifySizes, NeedsMore, TellsSizes, size_line}
 use Rattle.acl_tool.specs.GivenBudget.{budget_given}
+use Rattle.table_fill.proofs.Offered.{length-roots}
 use Rattle.acl_tool.proofs.ClassifyAsked.{Asked, asked_words}
 use Rattle.acl_tool.proofs.ReadOn.{accepted_rules, read_on, unless_on}
 use Rattle.acl_tool.proofs.ClassifyHeard.{after_bytes, after_rules}
@@ -62,15 +63,11 @@ built_rules : (set : RuleSetView) (budget : ℕ) → (built_of set budget).rules
 unfolding filled table_of_tries
 built_rules set budget = refl
 
-roots_length : (place : ℕ) (tries : List LevelsView) → length (roots_of place tries) ≡ length tries
-roots_length place [] = refl
-roots_length place (trie ∷ tries) = ap suc (roots_length (place + nodes_len trie) tries)
-
 -- and a trie for each group of the split
 built_tries : (set : RuleSetView) (budget : ℕ) → length (built_of set budget).roots ≡ length (groups_of set budget)
 unfolding filled table_of_tries
 built_tries set budget =
-    roots_length 0 (map (levels_of set) (groups_of set budget)) ∙ length-map (groups_of set budget) (levels_of set)
+    length-roots 0 (map (levels_of set) (groups_of set budget)) ∙ length-map (groups_of set budget) (levels_of set)
 
 -- the line of a table is that of its sizes
 size_line_is : (family : Family) (lists : RuleLists) (budget : ℕ) (table : TableView) →

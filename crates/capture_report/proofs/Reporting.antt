@@ -33,7 +33,7 @@ use Rattle.capture_report.specs.Streams.{Reading, Whole, Part, records_read, tex
 use Rattle.capture_report.specs.Streams.{BreaksOffSoon, Streams}
 use Rattle.command_plan.proofs.Offered.{Gains-none}
 use Rattle.command_plan.proofs.Offered.{heard_file, part_told, opened_told, opened_absent, kept_files, cannot_open}
-use Rattle.command_plan.proofs.Offered.{unopened_kept, CannotRead-because}
+use Rattle.command_plan.proofs.Offered.{unopened_kept, undecided_within, CannotRead-because}
 use Rattle.capture_report.proofs.Reader.{ReadHeader, RefusedHeader, RefusedHeader-from, BrokenHeader, BrokenHeader-from}
 
 -- an opened file, of which these bytes were heard
@@ -89,18 +89,12 @@ record PutsPart (lines : List ℕ) (ending : Ending) (old new : Outside) (status
   write_fault : status ≡ WriteFault → Rose old.out.faults new.out.faults
   count : old.out.faults ≤ new.out.faults
 
-within_undecided : (ending : Ending) → is_decided (status_within ending) ≡ false
-within_undecided NotOpened = refl
-within_undecided GoesOn = refl
-within_undecided Ended = refl
-within_undecided BrokenOff = refl
-
 -- such a status isn't decided
 part_undecided : (status : Status) (ending : Ending) →
     (status ≡ status_within ending) ⊎ ((status ≡ WriteFault) ⊎ (status ≡ OutOfMemory)) →
     is_decided status ≡ true → ⊥
 part_undecided status ending (inl within) decided =
-    false≢true (sym (within_undecided ending) ∙ sym (ap is_decided within) ∙ decided)
+    false≢true (sym (undecided_within ending) ∙ sym (ap is_decided within) ∙ decided)
 part_undecided status ending (inr (inl write)) decided = false≢true (sym (ap is_decided write) ∙ decided)
 part_undecided status ending (inr (inr full)) decided = false≢true (sym (ap is_decided full) ∙ decided)
 

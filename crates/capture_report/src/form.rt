@@ -1,6 +1,7 @@
 //! What is printed of a capture, and the tables that answer for its packets.
 
 ghost use Rattle.std.specs.Prelude.{◌≡◌, ℕ, ◌≤◌, List, IfSome, length, map, not};
+ghost use Rattle.table_sizes.specs.Groups.{ip4_key_len, ip6_key_len};
 ghost use Rattle.header_extract.specs.declared.class.Class.{Class};
 ghost use Rattle.scalar_walk.specs.Rows.{winners_of};
 ghost use Rattle.acl_report.specs.declared.packet.TheConstants.{MAX_VERDICTS};
@@ -46,7 +47,6 @@ pub struct FormByTables<'a> {
 
 impl<'a> Model for FormByTables<'a> {
     ghost use Rattle.std.specs.Prelude.{◌≡◌, ◌≤◌, length};
-    ghost use Rattle.table_sizes.specs.Groups.{ip4_key_len, ip6_key_len};
     ghost use Rattle.capture_report.specs.Classifier.{ByTables};
     ghost use Rattle.capture_report.specs.ReportForm.{ReportForm, form_by};
     ghost use Rattle.capture_report.specs.Batch.{IsFormByTables};

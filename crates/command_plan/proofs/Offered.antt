@@ -10,6 +10,8 @@ pub use Rattle.command_plan.proofs.Told.{BeginsWith, BeginsWith-nothing}
 pub use Rattle.command_plan.proofs.Told.{IsFaithful, faithful_unless}
 -- where the files are told, a command ends by the outcome of the files
 pub use Rattle.command_plan.proofs.Told.{Ends-told}
+-- a status within a file isn't decided, however the file ended
+pub use Rattle.command_plan.proofs.Told.{undecided_within}
 -- where the outside has no fault, only memory keeps a command from its outcome
 pub use Rattle.command_plan.proofs.Told.{Ends-complete}
 -- a desk that was left alone

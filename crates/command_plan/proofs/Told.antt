@@ -85,7 +85,8 @@ Follows-text (Read name shown next) told files old new reached at_files faithful
     rw (found_next told files name next file at_files is_name one enough)
     (Follows-text (next file.bytes) told files (file ∷ old) new reached at_files ((faithful.1) file.bytes) rest)
 
-undecided_within : (ending : Ending) → is_decided (status_within ending) ≡ false
+-- a status within a file isn't decided, however the file ended
+pub undecided_within : (ending : Ending) → is_decided (status_within ending) ≡ false
 undecided_within NotOpened = refl
 undecided_within GoesOn = refl
 undecided_within Ended = refl

@@ -60,6 +60,7 @@ use Rattle.list_lemmas.proofs.Sums.{sum_by-map}
 use Rattle.table_fill.specs.Laws.{CanBeFilled, FilledTablesDecide}
 use Rattle.table_fill.proofs.Merged.{places_are, whole_keys, trie_is}
 use Rattle.table_sizes.specs.Groups as bits
+use Rattle.flat_table.specs.Groups as table
 
 -- ---- words of rows
 
