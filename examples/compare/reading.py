@@ -21,7 +21,7 @@ class Fault(Exception):
 
 
 def number(text, at, greatest, fault):
-    """The number at a place, and the place behind it."""
+    """The number at a place, and the place after it."""
     found = NUMBER.match(text, at)
     value = None
     if found:
@@ -70,8 +70,8 @@ def pieces(text, may_end_in_ip4):
 
 
 def ip6_address(text):
-    front, gap, behind = text.partition(b"::")
-    left, right = pieces(front, not gap), pieces(behind, True)
+    front, gap, after = text.partition(b"::")
+    left, right = pieces(front, not gap), pieces(after, True)
     missing = 8 - len(left) - len(right)
     if missing < 1 if gap else missing != 0:
         raise Fault("bad address")
@@ -185,7 +185,7 @@ def need(text, length):
     return text
 
 
-def ports_behind(protocol, text):
+def ports_after(protocol, text):
     return struct.unpack(">HH", need(text, 4)[:4]) if protocol in PORTED else (0, 0)
 
 
@@ -196,7 +196,7 @@ def ip4_key(packet):
     length = packet[0] % 16 * 4
     need(packet, length)
     fragment = int.from_bytes(packet[6:8], "big") & 0x1FFF
-    ports = (0, 0) if fragment else ports_behind(packet[9], packet[length:])
+    ports = (0, 0) if fragment else ports_after(packet[9], packet[length:])
     return 4, packet[9], packet[12:16], packet[16:20], ports
 
 
@@ -211,7 +211,7 @@ def ip6_key(packet):
             return 6, left[0], packet[8:24], packet[24:40], (0, 0)
         length = 8 if following == FRAGMENT else 8 * (left[1] + 1)
         following, left = need(left, length)[0], left[length:]
-    return 6, following, packet[8:24], packet[24:40], ports_behind(following, left)
+    return 6, following, packet[8:24], packet[24:40], ports_after(following, left)
 
 
 def key(link, frame):

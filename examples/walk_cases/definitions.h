@@ -105,7 +105,7 @@ static bool is_sound_word(const struct parts *parts, struct level next, uint64_t
     return leads_into(next, word);
 }
 
-// The levels of all tries in order, behind those of each trie one without words.
+// The levels of all tries in order, after those of each trie one without words.
 static size_t levels_of(const struct parts *parts, struct level *levels, size_t *firsts)
 {
     size_t count = 0, lens = 0;
