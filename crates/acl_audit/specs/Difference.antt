@@ -39,8 +39,8 @@ with_category test first (Some key) =
 -- the least key of so many bytes for which some of eight categories, from one on, passes the test,
 -- and the first such category there, or none
 unfoldable pub least_passing : (List ℕ → ℕ → Bool) → ℕ → ℕ → Option Difference
-least_passing test len first =
-    with_category test first (least_from (λ key. list_any (test key) (eight_from first)) len [])
+least_passing test key_len first =
+    with_category test first (least_from (λ key. list_any (test key) (eight_from first)) key_len [])
 
 -- where the verdicts are unlike in some of eight categories, from one on
 abbrev pub difference_from : RuleSetView → RuleSetView → ℕ → Option Difference

@@ -12,7 +12,7 @@ use Rattle.acl_audit.specs.Least.{least_from}
 -- The least key that passes a test is the first of all keys, in ascending order, that does.
 abbrev pub TheLeastIsTheFirstOfAllKeys : Type 0
 TheLeastIsTheFirstOfAllKeys =
-    (test : List ℕ → Bool) (len : ℕ) → least_from test len [] ≡ find test (prefixes len)
+    (test : List ℕ → Bool) (key_len : ℕ) → least_from test key_len [] ≡ find test (prefixes key_len)
 
 -- A key of the layout of a set.
 pub record IsKey (set : RuleSetView) (key : List ℕ) : Type 0 where

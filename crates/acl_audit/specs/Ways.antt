@@ -21,8 +21,8 @@ pub record AreMerged (set : RuleSetView) (levels : LevelsView) : Type 0 where
 
 -- The links, the kept places and the length of a key are those of the merged states of all rules.
 pub record IsWay (set : RuleSetView) (levels : LevelsView) (links : List (List Link))
-    (places : List ℕ) (len : ℕ) : Type 0 where
+    (places : List ℕ) (key_len : ℕ) : Type 0 where
   pub its : AreMerged set levels
   pub links_are : links ≡ map links_of levels.levels
   pub places_are : places ≡ kept_places (key_len_of set.layout) levels.kept
-  pub len_is : len ≡ key_len_of set.layout
+  pub len_is : key_len ≡ key_len_of set.layout

@@ -49,15 +49,15 @@ impl From<AllocError> for AuditFault {
 }
 
 /// The key of that number, counted from 1 on, or none for number 0.
-fn key_numbered(keys: &[u8], len: usize, number: usize) -> Option<&[u8]>
-    requires { number * len ≤ length keys.now }
-    ensures { option_map (λ key. key.now) result ≡ key_numbered keys.now len number }
+fn key_numbered(keys: &[u8], key_len: usize, number: usize) -> Option<&[u8]>
+    requires { number * key_len ≤ length keys.now }
+    ensures { option_map (λ key. key.now) result ≡ key_numbered keys.now key_len number }
 {
     if number == 0 {
         return None;
     }
-    let (_, rest) = keys.split_at((number - 1) * len);
-    let (key, _) = rest.split_at(len);
+    let (_, rest) = keys.split_at((number - 1) * key_len);
+    let (key, _) = rest.split_at(key_len);
     Some(key)
 }
 
@@ -174,18 +174,18 @@ fn read_rows(
     way: &Way,
 ) -> Result<Audit, AllocError>
     requires within { levels.now.words ≤ max_words }
-    requires way { IsWay rules.now levels.now way.now.links.items way.now.places.items way.now.len }
+    requires way { IsWay rules.now levels.now way.now.links.items way.now.places.items way.now.key_len }
     ensures { IfOk result (λ audit. audit ≡ least_keys rules.now) }
 {
     let count = rules.len();
     let firsts = first_rows(alloc, count, levels)?;
     let (links, places) = (way.links.as_slice(), way.places.as_slice());
     let rows = levels.rows();
-    let keys = row_keys(alloc, links, places, way.len, rows)?;
+    let keys = row_keys(alloc, links, places, way.key_len, rows)?;
     Ok(Audit {
         firsts,
         keys,
-        key_len: way.len,
+        key_len: way.key_len,
     })
 }
 

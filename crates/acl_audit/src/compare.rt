@@ -86,7 +86,7 @@ fn key_of_row(
 {
     let way = way_of(alloc, rules, levels)?;
     let (links, places) = (way.links.as_slice(), way.places.as_slice());
-    row_key(alloc, links, places, way.len, row)
+    row_key(alloc, links, places, way.key_len, row)
 }
 
 /// The merged states of a half's rules.

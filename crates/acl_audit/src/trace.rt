@@ -23,7 +23,7 @@ pub(crate) struct Way {
     /// The kept places.
     pub(crate) places: Vec<usize>,
     /// How many bytes a key has.
-    pub(crate) len: usize,
+    pub(crate) key_len: usize,
 }
 
 /// The way back from the rows of the merged states of all rules.
@@ -32,15 +32,19 @@ pub(crate) fn way_of(alloc: Global, rules: &RuleSet, levels: &Levels) -> Result<
     requires levels { levels.now ≡ levels_of rules.now (all_rules rules.now) }
     requires within { levels.now.words ≤ max_words }
     ensures { IfOk result
-        (λ way. IsWay rules.now levels.now way.links.items way.places.items way.len) }
+        (λ way. IsWay rules.now levels.now way.links.items way.places.items way.key_len) }
 {
     let _rules = rules.all();
     let _fields = rules.layout().fields();
     rule_set::laws::the_winner_is_among_all_places();
-    let len = rules.layout().key_len();
-    let places = kept_places(alloc, levels.kept(), len)?;
+    let key_len = rules.layout().key_len();
+    let places = kept_places(alloc, levels.kept(), key_len)?;
     let links = links_of(alloc, levels)?;
-    Ok(Way { links, places, len })
+    Ok(Way {
+        links,
+        places,
+        key_len,
+    })
 }
 
 /// Writes the bytes at the kept places that lead to the row first.
@@ -73,19 +77,19 @@ fn push_key(
     keys: &mut Vec<u8>,
     links: &[Links],
     places: &[usize],
-    len: usize,
+    key_len: usize,
     row: usize,
 ) -> Result<(), AllocError>
-    requires len { len ≤ max_key_len }
+    requires len { key_len ≤ max_key_len }
     requires chained { AreChained links.now }
     requires row { row < length (slice_index_or links.now (length links.now - 1) []) }
     requires long { length places.now ≡ length links.now }
-    requires places { All (λ place. place < len) places.now }
+    requires places { All (λ place. place < key_len) places.now }
     ensures { OnOk result (keys.new.items ≡ keys.old.items
-        ++ traced links.now places.now (length links.now) row (replicate len 0)) }
+        ++ traced links.now places.now (length links.now) row (replicate key_len 0)) }
 {
     let start = keys.len();
-    push_zeros(keys, len)?;
+    push_zeros(keys, key_len)?;
     trace(links, places, row, &mut keys[start..]);
     Ok(())
 }
@@ -95,19 +99,19 @@ pub(crate) fn row_key(
     alloc: Global,
     links: &[Links],
     places: &[usize],
-    len: usize,
+    key_len: usize,
     row: usize,
 ) -> Result<Vec<u8>, AllocError>
-    requires len { len ≤ max_key_len }
+    requires len { key_len ≤ max_key_len }
     requires chained { AreChained links.now }
     requires row { row < length (slice_index_or links.now (length links.now - 1) []) }
     requires long { length places.now ≡ length links.now }
-    requires places { All (λ place. place < len) places.now }
+    requires places { All (λ place. place < key_len) places.now }
     ensures { IfOk result (λ key. key.items
-        ≡ traced links.now places.now (length links.now) row (replicate len 0)) }
+        ≡ traced links.now places.now (length links.now) row (replicate key_len 0)) }
 {
     let mut key = Vec::new(alloc);
-    push_key(&mut key, links, places, len, row)?;
+    push_key(&mut key, links, places, key_len, row)?;
     Ok(key)
 }
 
@@ -116,19 +120,19 @@ pub(crate) fn row_keys(
     alloc: Global,
     links: &[Links],
     places: &[usize],
-    len: usize,
+    key_len: usize,
     rows: usize,
 ) -> Result<Vec<u8>, AllocError>
-    requires len { len ≤ max_key_len }
+    requires len { key_len ≤ max_key_len }
     requires chained { AreChained links.now }
     requires rows { rows ≤ length (slice_index_or links.now (length links.now - 1) []) }
     requires long { length places.now ≡ length links.now }
-    requires places { All (λ place. place < len) places.now }
-    ensures { IfOk result (λ keys. keys.items ≡ keys_traced links.now places.now len rows) }
+    requires places { All (λ place. place < key_len) places.now }
+    ensures { IfOk result (λ keys. keys.items ≡ keys_traced links.now places.now key_len rows) }
 {
     let mut keys = Vec::new(alloc);
     for row in 0..rows {
-        push_key(&mut keys, links, places, len, row)?;
+        push_key(&mut keys, links, places, key_len, row)?;
     }
     Ok(keys)
 }

@@ -36,7 +36,7 @@ row_keys-requires-clause-long c =
 
 pub row_keys-requires-clause-places : goal.row_keys-requires-clause-places
 row_keys-requires-clause-places c =
-    subst (All (λ place. place < c.args.way.now.len)) (sym c.as_slice-places.ensures.value)
+    subst (All (λ place. place < c.args.way.now.key_len)) (sym c.as_slice-places.ensures.value)
     (way_within _ _ _ _ _ c.requires.way)
 
 pub invariant_of-result : goal.invariant_of-result
@@ -46,7 +46,7 @@ invariant_of-result c =
     way_has_keys c.args.rules.now c.args.levels.now _ _ _ c.requires.way c.in_ok-firsts.firsts.items
     c.in_ok-keys.keys.items firsts_are
     (c.in_ok-keys.ensures ∙ (λ i. keys_traced (c.as_slice-links.ensures.value i) (c.as_slice-places.ensures.value i)
-    c.args.way.now.len (c.rows-rows.ensures i)))
+    c.args.way.now.key_len (c.rows-rows.ensures i)))
 
 pub returns : goal.returns
 returns c =
@@ -55,4 +55,4 @@ returns c =
     way_tells c.args.rules.now c.args.levels.now _ _ _ c.requires.way c.in_ok-firsts.firsts.items
     c.in_ok-keys.keys.items firsts_are
     (c.in_ok-keys.ensures ∙ (λ i. keys_traced (c.as_slice-links.ensures.value i) (c.as_slice-places.ensures.value i)
-    c.args.way.now.len (c.rows-rows.ensures i)))
+    c.args.way.now.key_len (c.rows-rows.ensures i)))

@@ -24,7 +24,7 @@ row_key-requires-clause-long c =
 
 pub row_key-requires-clause-places : goal.row_key-requires-clause-places
 row_key-requires-clause-places c =
-    subst (All (λ place. place < c.in_ok-way.way.len)) (sym c.as_slice-places.ensures.value)
+    subst (All (λ place. place < c.in_ok-way.way.key_len)) (sym c.as_slice-places.ensures.value)
     (way_within _ _ _ _ _ c.in_ok-way.ensures)
 
 pub returns : goal.returns

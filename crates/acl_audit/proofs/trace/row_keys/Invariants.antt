@@ -6,5 +6,5 @@ use Rattle.acl_audit.proofs.trace.row_keys.Given as goal
 
 abbrev pub invariant-loop-row : goal.invariant-loop-row
 invariant-loop-row l =
-    l.keys.items ≡ flat_map (λ row. traced l.links l.places (length l.links) row (replicate l.len 0))
+    l.keys.items ≡ flat_map (λ row. traced l.links l.places (length l.links) row (replicate l.key_len 0))
     (range_with_len 0 l.row)

@@ -10,8 +10,8 @@ use Rattle.acl_audit.proofs.trace.way_of.Goals as goal
 pub kept_places-requires : goal.kept_places-requires
 kept_places-requires c =
     let layout : IsLayout c.args.rules.now.layout = rw c.layout.ensures at c.fields-fields.ensures.lawful in
-    let len_is : c.key_len-len.result ≡ key_len_of c.args.rules.now.layout =
-    c.key_len-len.ensures ∙ ap key_len_of c.layout-2.ensures in
+    let len_is : c.key_len-key_len.result ≡ key_len_of c.args.rules.now.layout =
+    c.key_len-key_len.ensures ∙ ap key_len_of c.layout-2.ensures in
     omega (arith, len_is, (short_keys c.args.rules.now.layout layout).1)
 
 pub links_of-requires : goal.links_of-requires
@@ -36,8 +36,8 @@ returns c =
       merged = c.requires.levels;
       among = c.the_winner_is_among_all_places.ensures;
     } in
-    let len_is : c.key_len-len.result ≡ key_len_of c.args.rules.now.layout =
-    c.key_len-len.ensures ∙ ap key_len_of c.layout-2.ensures in
+    let len_is : c.key_len-key_len.result ≡ key_len_of c.args.rules.now.layout =
+    c.key_len-key_len.ensures ∙ ap key_len_of c.layout-2.ensures in
     record {
       its = its;
       links_are = c.in_ok-links.ensures;
