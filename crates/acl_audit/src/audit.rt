@@ -174,7 +174,8 @@ fn read_rows(
     way: &Way,
 ) -> Result<Audit, AllocError>
     requires within { levels.now.words ≤ max_words }
-    requires way { IsWay rules.now levels.now way.now.links.items way.now.places.items way.now.key_len }
+    requires way { IsWay rules.now levels.now way.now.links.items way.now.places.items
+        way.now.key_len }
     ensures { IfOk result (λ audit. audit ≡ least_keys rules.now) }
 {
     let count = rules.len();
