@@ -12,9 +12,9 @@ use Rattle.classbench_reader.specs.declared.fault.LineFault.{LineFault}
 use Rattle.classbench_reader.specs.RuleFile.{RuleLists, rule_file_of}
 use Rattle.table_image.proofs.Offered.{image_spelled}
 use Rattle.command_words.specs.Options.{Options}
-use Rattle.command_plan.specs.declared.status.Status.{Status}
-use Rattle.command_plan.specs.declared.status.Status.TheVariants.{ReadFault, RulesRefused}
-use Rattle.command_plan.specs.Plan.{◌>>=◌, Plan, Give, found, settled, unless_refused}
+use Rattle.command_ending.specs.declared.status.Status.{Status}
+use Rattle.command_ending.specs.declared.status.Status.TheVariants.{ReadFault, RulesRefused}
+use Rattle.command_ending.specs.Plan.{◌>>=◌, Plan, Give, found, settled, unless_refused}
 use Rattle.capture_report.specs.declared.form.PrintOptions.{PrintOptions}
 use Rattle.capture_report.specs.Classifier.{ByRules, ByTables, Tables}
 use Rattle.capture_report.specs.ReportForm.{ReportForm}

@@ -4,11 +4,11 @@ use Rattle.std.proofs.Common.{◌∙◌}
 use Rattle.acl_outside.specs.Desk.{File, DeskView}
 use Rattle.command_words.specs.declared.fault.UsageFault.{UsageFault}
 use Rattle.command_words.specs.Command.{Request, capture_name, made_name}
-use Rattle.command_plan.specs.declared.status.Status.{Status}
-use Rattle.command_plan.specs.declared.status.Status.TheVariants.{Done, Usage, WriteFault}
-use Rattle.command_plan.specs.Endings.{is_reported, is_usage}
-use Rattle.command_plan.specs.Effects.{Outside, EndsMaking, files_of, heard_of, opened_of}
-use Rattle.command_plan.proofs.Offered.{IsFaithful, Ends-stopped, Ends-told}
+use Rattle.command_ending.specs.declared.status.Status.{Status}
+use Rattle.command_ending.specs.declared.status.Status.TheVariants.{Done, Usage, WriteFault}
+use Rattle.command_ending.specs.Endings.{is_reported, is_usage}
+use Rattle.command_ending.specs.Effects.{Outside, EndsMaking, files_of, heard_of, opened_of}
+use Rattle.command_ending.proofs.Offered.{IsFaithful, Ends-stopped, Ends-told}
 use Rattle.capture_report.specs.PrintsCapture.{KeepsUp}
 use Rattle.acl_tool.specs.Outcome.{plan_of, plan_of_request}
 use Rattle.acl_tool.specs.Effects.{Answers}

@@ -4,12 +4,12 @@ use Rattle.acl_outside.specs.Desk.{File, DeskView}
 use Rattle.acl_outside.specs.Sink.{SinkView}
 use Rattle.classbench_reader.specs.RuleFile.{RuleLists}
 use Rattle.command_words.specs.Command.{Audit}
-use Rattle.command_plan.specs.declared.status.Status.{Status}
-use Rattle.command_plan.specs.declared.status.Status.TheVariants.{RulesRefused}
-use Rattle.command_plan.specs.Plan.{Outcome, Plan}
-use Rattle.command_plan.specs.Endings.{is_usage}
-use Rattle.command_plan.specs.Effects.{Ends, Outside, PutsLast, Takes, outside}
-use Rattle.command_plan.proofs.Offered.{BeginsWith-nothing, IsFaithful, faithful_unless, Ends-cut, Ends-then}
+use Rattle.command_ending.specs.declared.status.Status.{Status}
+use Rattle.command_ending.specs.declared.status.Status.TheVariants.{RulesRefused}
+use Rattle.command_ending.specs.Plan.{Outcome, Plan}
+use Rattle.command_ending.specs.Endings.{is_usage}
+use Rattle.command_ending.specs.Effects.{Ends, Outside, PutsLast, Takes, outside}
+use Rattle.command_ending.proofs.Offered.{BeginsWith-nothing, IsFaithful, faithful_unless, Ends-cut, Ends-then}
 use Rattle.acl_tool.specs.RuleTables.{rules_in, rules_of_bytes}
 use Rattle.acl_tool.specs.Texts.{Refuses, only_text}
 use Rattle.acl_tool.specs.AuditMerged.{audit_of}

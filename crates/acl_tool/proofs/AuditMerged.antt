@@ -10,8 +10,8 @@ use Rattle.classbench_reader.specs.RuleFile.{RuleLists}
 use Rattle.acl_audit.specs.declared.audit.AuditFault.{AuditFault}
 use Rattle.acl_audit.specs.declared.audit.AuditFault.TheVariants as faults
 use Rattle.audit_report.specs.Audit.{audit_text}
-use Rattle.command_plan.specs.declared.status.Status.{Status}
-use Rattle.command_plan.specs.declared.status.Status.TheVariants.{TooLarge}
+use Rattle.command_ending.specs.declared.status.Status.{Status}
+use Rattle.command_ending.specs.declared.status.Status.TheVariants.{TooLarge}
 use Rattle.acl_tool.specs.FamilySet.{set_of}
 use Rattle.acl_tool.specs.Texts.{◌>>=◌, Refuses}
 use Rattle.acl_tool.specs.AuditMerged.{audit_of, audit_refused, merged_within, merged_words}

@@ -12,12 +12,12 @@ use Rattle.audit_report.specs.Audit.{audit_text}
 use Rattle.command_words.specs.declared.fault.UsageFault.{UsageFault}
 use Rattle.command_words.specs.Options.{Options, for_audit, none_given}
 use Rattle.command_words.specs.Command.{asked_by, audit_by, command, single_of, single_with, options_from}
-use Rattle.command_plan.specs.declared.status.Status.{Status}
-use Rattle.command_plan.specs.declared.status.Status.TheVariants.{Done, RulesRefused, TooLarge}
-use Rattle.command_plan.specs.Plan.{Outcome, ◌>>=◌, nothing, printed, unless_refused}
-use Rattle.command_plan.specs.Follow.{Reached, Given, Stopped, Follows, IsEnough, outcome_of}
-use Rattle.command_plan.specs.Endings.{is_usage}
-use Rattle.command_plan.specs.Effects.{Ends, Outside, files_of, heard_of}
+use Rattle.command_ending.specs.declared.status.Status.{Status}
+use Rattle.command_ending.specs.declared.status.Status.TheVariants.{Done, RulesRefused, TooLarge}
+use Rattle.command_ending.specs.Plan.{Outcome, ◌>>=◌, nothing, printed, unless_refused}
+use Rattle.command_ending.specs.Follow.{Reached, Given, Stopped, Follows, IsEnough, outcome_of}
+use Rattle.command_ending.specs.Endings.{is_usage}
+use Rattle.command_ending.specs.Effects.{Ends, Outside, files_of, heard_of}
 use Rattle.acl_tool.specs.FamilySet.{set_of}
 use Rattle.acl_tool.specs.GivenOptions.{categories_shown}
 use Rattle.acl_tool.specs.GivenBudget.{budget_given}

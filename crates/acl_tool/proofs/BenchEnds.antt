@@ -7,15 +7,15 @@ use Rattle.field_defs.specs.declared.field.Family.TheVariants.{Ip4}
 use Rattle.acl_outside.specs.Desk.{DeskView, File}
 use Rattle.acl_outside.specs.Sink.{SinkView}
 use Rattle.rule_split.specs.Split.{total_of}
-use Rattle.command_plan.specs.declared.status.Status.{Status}
-use Rattle.command_plan.specs.declared.status.Status.TheVariants.{Done, TooLarge}
+use Rattle.command_ending.specs.declared.status.Status.{Status}
+use Rattle.command_ending.specs.declared.status.Status.TheVariants.{Done, TooLarge}
 use Rattle.command_words.specs.BenchWords.{BenchNumbers}
 use Rattle.command_words.specs.Command.{Bench}
-use Rattle.seed_bench.specs.Bench.{IsRefused, bench_budget, bench_text, measured_of, set_drawn, transitions_drawn}
-use Rattle.command_plan.specs.Plan.{Outcome, Give, Stop, printed}
-use Rattle.command_plan.specs.Endings.{is_decided, is_reported, is_usage}
-use Rattle.command_plan.specs.Effects.{PutsLast, Outside, outside, Ends}
-use Rattle.command_plan.proofs.Offered.{IsFaithful, Ends-stopped, Ends-full, Ends-put}
+use Rattle.bench_command.specs.Bench.{IsRefused, bench_budget, bench_text, measured_of, set_drawn, transitions_drawn}
+use Rattle.command_ending.specs.Plan.{Outcome, Give, Stop, printed}
+use Rattle.command_ending.specs.Endings.{is_decided, is_reported, is_usage}
+use Rattle.command_ending.specs.Effects.{PutsLast, Outside, outside, Ends}
+use Rattle.command_ending.proofs.Offered.{IsFaithful, Ends-stopped, Ends-full, Ends-put}
 use Rattle.acl_tool.specs.BenchPlan.{bench_plan}
 use Rattle.acl_tool.specs.Effects.{Answers}
 use Rattle.acl_tool.proofs.Answering.{Answers-request}

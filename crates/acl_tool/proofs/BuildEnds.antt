@@ -15,13 +15,13 @@ use Rattle.acl_outside.specs.Desk.{File, DeskView}
 use Rattle.acl_outside.specs.Heard.{Heard}
 use Rattle.classbench_reader.specs.RuleFile.{RuleLists, rule_file_of}
 use Rattle.command_words.specs.Command.{Build}
-use Rattle.command_plan.specs.declared.status.Status.{Status}
-use Rattle.command_plan.specs.declared.status.Status.TheVariants.{Done, RulesRefused, WriteFault}
-use Rattle.command_plan.specs.Plan.{◌>>=◌, Outcome, Plan, Give, making}
-use Rattle.command_plan.specs.Endings.{is_decided, is_reported, is_usage}
-use Rattle.command_plan.specs.Effects.{Outside, EndsMaking, MakesAll, Takes, files_of, heard_of}
-use Rattle.command_plan.proofs.Offered.{BeginsWith-nothing, IsFaithful, faithful_unless}
-use Rattle.command_plan.proofs.Offered.{Ends-stopped, Ends-full, Ends-cut, Ends-then, Ends-made, Ends-broken}
+use Rattle.command_ending.specs.declared.status.Status.{Status}
+use Rattle.command_ending.specs.declared.status.Status.TheVariants.{Done, RulesRefused, WriteFault}
+use Rattle.command_ending.specs.Plan.{◌>>=◌, Outcome, Plan, Give, making}
+use Rattle.command_ending.specs.Endings.{is_decided, is_reported, is_usage}
+use Rattle.command_ending.specs.Effects.{Outside, EndsMaking, MakesAll, Takes, files_of, heard_of}
+use Rattle.command_ending.proofs.Offered.{BeginsWith-nothing, IsFaithful, faithful_unless}
+use Rattle.command_ending.proofs.Offered.{Ends-stopped, Ends-full, Ends-cut, Ends-then, Ends-made, Ends-broken}
 use Rattle.capture_report.specs.Classifier.{Tables}
 use Rattle.acl_tool.specs.RuleTables.{rules_of_bytes, rules_in, tables_within}
 use Rattle.acl_context.specs.Context.{built_of}

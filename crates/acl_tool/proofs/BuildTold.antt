@@ -10,11 +10,11 @@ use Rattle.acl_context.specs.Context.{built_of}
 use Rattle.command_words.specs.declared.fault.UsageFault.{UsageFault}
 use Rattle.command_words.specs.Options.{Options, for_build, none_given}
 use Rattle.command_words.specs.Command.{Build, asked_by, build_by, command, named_of, named_with, options_from}
-use Rattle.command_plan.specs.declared.status.Status.{Status}
-use Rattle.command_plan.specs.declared.status.Status.TheVariants.{Done, RulesRefused}
-use Rattle.command_plan.specs.Plan.{◌>>=◌, Outcome, Plan, Give, Stop, Read, making, nothing, unless_refused}
-use Rattle.command_plan.specs.Follow.{Reached, Given, Follows, IsEnough, outcome_of}
-use Rattle.command_plan.specs.Effects.{Makes, Outside, files_of, heard_of}
+use Rattle.command_ending.specs.declared.status.Status.{Status}
+use Rattle.command_ending.specs.declared.status.Status.TheVariants.{Done, RulesRefused}
+use Rattle.command_ending.specs.Plan.{◌>>=◌, Outcome, Plan, Give, Stop, Read, making, nothing, unless_refused}
+use Rattle.command_ending.specs.Follow.{Reached, Given, Follows, IsEnough, outcome_of}
+use Rattle.command_ending.specs.Effects.{Makes, Outside, files_of, heard_of}
 use Rattle.capture_report.specs.Classifier.{Tables}
 use Rattle.acl_tool.specs.FamilySet.{set_of}
 use Rattle.acl_tool.specs.RuleTables.{rules_of_bytes, tables_within}

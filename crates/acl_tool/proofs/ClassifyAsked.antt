@@ -4,9 +4,9 @@ use Rattle.std.specs.Prelude.{codes}
 use Rattle.command_words.specs.declared.fault.UsageFault.{UsageFault}
 use Rattle.command_words.specs.Options.{Options, for_classify, none_given}
 use Rattle.command_words.specs.Command.{Classify, asked_by, classify_by, command, named_of, named_with, options_from}
-use Rattle.command_plan.specs.declared.status.Status.{Status}
-use Rattle.command_plan.specs.Endings.{is_reported, is_usage}
-use Rattle.command_plan.specs.Effects.{EndsMaking, Outside, heard_of}
+use Rattle.command_ending.specs.declared.status.Status.{Status}
+use Rattle.command_ending.specs.Endings.{is_reported, is_usage}
+use Rattle.command_ending.specs.Effects.{EndsMaking, Outside, heard_of}
 use Rattle.acl_tool.specs.ClassifyPlan.{classify_plan}
 use Rattle.acl_tool.specs.Effects.{Answers}
 use Rattle.acl_tool.specs.ClassifyTotals.{HasTotals}

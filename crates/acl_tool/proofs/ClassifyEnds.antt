@@ -5,8 +5,8 @@ use Rattle.std.proofs.lemmas.Bool.{false≢true}
 use Rattle.acl_outside.specs.Desk.{File, DeskView}
 use Rattle.acl_outside.specs.Heard.{Heard}
 use Rattle.classbench_reader.specs.RuleFile.{RuleLists, rule_file_of}
-use Rattle.command_plan.specs.declared.status.Status.{Status}
-use Rattle.command_plan.specs.declared.status.Status.TheVariants.{RulesRefused}
+use Rattle.command_ending.specs.declared.status.Status.{Status}
+use Rattle.command_ending.specs.declared.status.Status.TheVariants.{RulesRefused}
 use Rattle.command_words.specs.Options.{Options}
 use Rattle.command_words.specs.Command.{Classify}
 use Rattle.capture_report.specs.ReportForm.{ReportForm}
@@ -14,12 +14,12 @@ use Rattle.capture_report.specs.Classifier.{ByRules, Tables}
 use Rattle.capture_report.specs.CaptureOutcome.{reported}
 use Rattle.capture_report.specs.PrintsCapture.{Reports}
 use Rattle.capture_report.proofs.Offered.{report-begins}
-use Rattle.command_plan.specs.Plan.{Outcome, Plan, Give, ◌>>=◌}
-use Rattle.command_plan.specs.Endings.{is_reported, is_usage, is_decided}
-use Rattle.command_plan.specs.Follow.{Reached, Follows}
-use Rattle.command_plan.specs.Effects.{Outside, Takes, Ends, files_of, heard_of}
-use Rattle.command_plan.proofs.Offered.{BeginsWith-nothing, IsFaithful, faithful_unless, unwritten, Ends-stopped}
-use Rattle.command_plan.proofs.Offered.{Ends-full, Ends-cut, Ends-then}
+use Rattle.command_ending.specs.Plan.{Outcome, Plan, Give, ◌>>=◌}
+use Rattle.command_ending.specs.Endings.{is_reported, is_usage, is_decided}
+use Rattle.command_ending.specs.Follow.{Reached, Follows}
+use Rattle.command_ending.specs.Effects.{Outside, Takes, Ends, files_of, heard_of}
+use Rattle.command_ending.proofs.Offered.{BeginsWith-nothing, IsFaithful, faithful_unless, unwritten, Ends-stopped}
+use Rattle.command_ending.proofs.Offered.{Ends-full, Ends-cut, Ends-then}
 use Rattle.acl_tool.specs.RuleTables.{rules_of_bytes, rules_in, tables_within}
 use Rattle.acl_tool.specs.ClassifyPlan.{form_of, classify_plan}
 use Rattle.acl_tool.specs.Built.{Refuses, WordsAreTotals}

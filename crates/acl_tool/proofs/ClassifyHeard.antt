@@ -11,10 +11,10 @@ use Rattle.field_defs.specs.declared.field.Family.TheVariants.{Ip4, Ip6}
 use Rattle.rule_split.specs.Split.{total_of}
 use Rattle.acl_context.specs.Context.{built_of}
 use Rattle.command_words.specs.Options.{Options}
-use Rattle.command_plan.specs.declared.status.Status.{Status}
-use Rattle.command_plan.specs.declared.status.Status.TheVariants.{RulesRefused}
-use Rattle.command_plan.specs.Plan.{Outcome, Plan, Give, Stop, Read, ◌>>=◌, nothing, unless_refused}
-use Rattle.command_plan.specs.Follow.{Reached, Given, Follows, IsEnough, outcome_of}
+use Rattle.command_ending.specs.declared.status.Status.{Status}
+use Rattle.command_ending.specs.declared.status.Status.TheVariants.{RulesRefused}
+use Rattle.command_ending.specs.Plan.{Outcome, Plan, Give, Stop, Read, ◌>>=◌, nothing, unless_refused}
+use Rattle.command_ending.specs.Follow.{Reached, Given, Follows, IsEnough, outcome_of}
 use Rattle.capture_report.specs.Classifier.{Tables, ByRules}
 use Rattle.capture_report.specs.ReportForm.{ReportForm}
 use Rattle.capture_report.specs.CaptureOutcome.{lines_so_far, report, reported}

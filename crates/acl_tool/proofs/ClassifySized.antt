@@ -21,11 +21,11 @@ use Rattle.acl_report.specs.Counts.{packets_text}
 use Rattle.acl_report.specs.Tables.{table_text, transitions_text}
 use Rattle.command_words.specs.Options.{Options}
 use Rattle.command_words.specs.Command.{command}
-use Rattle.command_plan.specs.declared.status.Status.{Status}
-use Rattle.command_plan.specs.declared.status.Status.TheVariants.{RulesRefused, TooLarge}
-use Rattle.command_plan.specs.Plan.{Outcome, Plan, Give, Stop, ◌>>=◌, nothing, unless_refused}
-use Rattle.command_plan.specs.Follow.{Reached, Stopped, Follows, outcome_of}
-use Rattle.command_plan.specs.Effects.{Outside, files_of, heard_of}
+use Rattle.command_ending.specs.declared.status.Status.{Status}
+use Rattle.command_ending.specs.declared.status.Status.TheVariants.{RulesRefused, TooLarge}
+use Rattle.command_ending.specs.Plan.{Outcome, Plan, Give, Stop, ◌>>=◌, nothing, unless_refused}
+use Rattle.command_ending.specs.Follow.{Reached, Stopped, Follows, outcome_of}
+use Rattle.command_ending.specs.Effects.{Outside, files_of, heard_of}
 use Rattle.capture_report.specs.Classifier.{ByRules, Tables}
 use Rattle.capture_report.specs.ReportForm.{ReportForm}
 use Rattle.capture_report.specs.Shown.{counts_of_records, fault_of_capture, status_of_fault}

@@ -18,11 +18,11 @@ use Rattle.pcapng_reader.proofs.Offered.{whole-last}
 use Rattle.acl_report.specs.Packet.{packet_text}
 use Rattle.command_words.specs.Options.{Options}
 use Rattle.command_words.specs.Command.{command}
-use Rattle.command_plan.specs.declared.status.Status.{Status}
-use Rattle.command_plan.specs.declared.status.Status.TheVariants.{Done}
-use Rattle.command_plan.specs.Plan.{Outcome, Plan, Give, Stop, Read}
-use Rattle.command_plan.specs.Follow.{IsEnough, Reached, outcome_of}
-use Rattle.command_plan.specs.Effects.{EndsMaking, Outside, files_of, heard_of}
+use Rattle.command_ending.specs.declared.status.Status.{Status}
+use Rattle.command_ending.specs.declared.status.Status.TheVariants.{Done}
+use Rattle.command_ending.specs.Plan.{Outcome, Plan, Give, Stop, Read}
+use Rattle.command_ending.specs.Follow.{IsEnough, Reached, outcome_of}
+use Rattle.command_ending.specs.Effects.{EndsMaking, Outside, files_of, heard_of}
 use Rattle.capture_report.specs.Classifier.{ByRules, Tables}
 use Rattle.capture_report.specs.ReportForm.{ReportForm}
 use Rattle.capture_report.specs.Shown.{answer_of_rules, fault_of_capture, packet_of, shown, status_of_fault}

@@ -12,8 +12,8 @@ use Rattle.acl_audit.specs.declared.compare.CompareFault.TheVariants as faults
 use Rattle.acl_audit.specs.Compared.{is_too_large}
 use Rattle.classbench_reader.specs.RuleFile.{RuleLists}
 use Rattle.audit_report.specs.Compare.{compared_text}
-use Rattle.command_plan.specs.declared.status.Status.{Status}
-use Rattle.command_plan.specs.declared.status.Status.TheVariants.{TooLarge, TooManyTogether}
+use Rattle.command_ending.specs.declared.status.Status.{Status}
+use Rattle.command_ending.specs.declared.status.Status.TheVariants.{TooLarge, TooManyTogether}
 use Rattle.acl_tool.specs.FamilySet.{set_of}
 use Rattle.acl_tool.specs.Texts.{◌>>=◌, Refuses, is_refusal}
 use Rattle.acl_tool.specs.CompareLines.{compare_of, compare_refused, compared_within}

@@ -11,12 +11,12 @@ use Rattle.classbench_reader.specs.RuleFile.{RuleLists, rule_file_of}
 use Rattle.command_words.specs.declared.fault.UsageFault.{UsageFault}
 use Rattle.command_words.specs.Options.{Options, for_compare, none_given}
 use Rattle.command_words.specs.Command.{asked_by, command, compare_by, named_of, named_with, options_from}
-use Rattle.command_plan.specs.declared.status.Status.{Status}
-use Rattle.command_plan.specs.declared.status.Status.TheVariants.{Done, RulesRefused, SecondRulesRefused, TooLarge}
-use Rattle.command_plan.specs.declared.status.Status.TheVariants.{TooManyTogether}
-use Rattle.command_plan.specs.Plan.{Outcome, ◌>>=◌, nothing, unless_refused}
-use Rattle.command_plan.specs.Follow.{Reached, Follows, outcome_of}
-use Rattle.command_plan.specs.Effects.{Ends, Outside, files_of, heard_of}
+use Rattle.command_ending.specs.declared.status.Status.{Status}
+use Rattle.command_ending.specs.declared.status.Status.TheVariants.{Done, RulesRefused, SecondRulesRefused, TooLarge}
+use Rattle.command_ending.specs.declared.status.Status.TheVariants.{TooManyTogether}
+use Rattle.command_ending.specs.Plan.{Outcome, ◌>>=◌, nothing, unless_refused}
+use Rattle.command_ending.specs.Follow.{Reached, Follows, outcome_of}
+use Rattle.command_ending.specs.Effects.{Ends, Outside, files_of, heard_of}
 use Rattle.acl_tool.specs.FamilySet.{set_of}
 use Rattle.acl_tool.specs.RuleTables.{refused_rules, rules_of_bytes}
 use Rattle.acl_tool.specs.Texts.{is_refusal, only_text}

@@ -19,7 +19,7 @@ use Rattle.classbench_reader.specs.RuleFile.{RuleLists}
 use Rattle.capture_report.specs.Shown.{answer_of_rules}
 use Rattle.capture_report.specs.Classifier.{Tables, ByRules, AnswersAs, answer_of_table}
 use Rattle.acl_report.specs.declared.packet.TheConstants.{MAX_VERDICTS}
-use Rattle.command_plan.specs.Plan.{Give}
+use Rattle.command_ending.specs.Plan.{Give}
 use Rattle.acl_tool.specs.FamilySet.{set_of}
 use Rattle.acl_tool.specs.RuleTables.{table_within, tables_within}
 use Rattle.acl_tool.specs.Built.{BuildsTable, IsBuilt, TablesServe, WordsAreTotals, tables_built}

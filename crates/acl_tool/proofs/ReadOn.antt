@@ -13,11 +13,11 @@ use Rattle.field_defs.specs.declared.field.Family.TheVariants.{Ip4, Ip6}
 use Rattle.flat_table.specs.Table.{TableView}
 use Rattle.rule_split.specs.Split.{total_of}
 use Rattle.acl_context.specs.Context.{built_of}
-use Rattle.command_plan.specs.declared.status.Status.{Status}
-use Rattle.command_plan.specs.declared.status.Status.TheVariants.{Done, CaptureRefused, OutOfMemory, ReadFault}
-use Rattle.command_plan.specs.declared.status.Status.TheVariants.{RulesRefused, TooLarge, WriteFault}
-use Rattle.command_plan.specs.Plan.{Outcome, Plan, Give, Read, ◌>>=◌, unless_refused}
-use Rattle.command_plan.specs.Follow.{Reached, Follows, IsEnough, IsOneOf, outcome_of, status_within}
+use Rattle.command_ending.specs.declared.status.Status.{Status}
+use Rattle.command_ending.specs.declared.status.Status.TheVariants.{Done, CaptureRefused, OutOfMemory, ReadFault}
+use Rattle.command_ending.specs.declared.status.Status.TheVariants.{RulesRefused, TooLarge, WriteFault}
+use Rattle.command_ending.specs.Plan.{Outcome, Plan, Give, Read, ◌>>=◌, unless_refused}
+use Rattle.command_ending.specs.Follow.{Reached, Follows, IsEnough, IsOneOf, outcome_of, status_within}
 use Rattle.capture_report.specs.Classifier.{Tables}
 use Rattle.acl_tool.specs.FamilySet.{set_of}
 use Rattle.acl_tool.specs.RuleTables.{refused_rules, table_within, tables_within}

@@ -13,12 +13,12 @@ use Rattle.capture_report.specs.Classifier.{ByTables, Tables}
 use Rattle.capture_report.specs.CaptureOutcome.{reported}
 use Rattle.capture_report.specs.PrintsCapture.{Reports}
 use Rattle.capture_report.proofs.Offered.{report-begins}
-use Rattle.command_plan.specs.declared.status.Status.{Status}
-use Rattle.command_plan.specs.Plan.{Outcome, Plan}
-use Rattle.command_plan.specs.Endings.{is_reported}
-use Rattle.command_plan.specs.Effects.{Outside, Takes}
-use Rattle.command_plan.proofs.Offered.{BeginsWith-nothing, IsFaithful, faithful_unless, unwritten}
-use Rattle.command_plan.proofs.Offered.{Ends-cut, Ends-then}
+use Rattle.command_ending.specs.declared.status.Status.{Status}
+use Rattle.command_ending.specs.Plan.{Outcome, Plan}
+use Rattle.command_ending.specs.Endings.{is_reported}
+use Rattle.command_ending.specs.Effects.{Outside, Takes}
+use Rattle.command_ending.proofs.Offered.{BeginsWith-nothing, IsFaithful, faithful_unless, unwritten}
+use Rattle.command_ending.proofs.Offered.{Ends-cut, Ends-then}
 use Rattle.acl_tool.specs.ClassifyPlan.{form_of}
 use Rattle.acl_tool.specs.ReplayPlan.{image_cap, refused_image, replay_plan, tables_in, tables_of_bytes}
 use Rattle.acl_tool.specs.Effects.{Answers}

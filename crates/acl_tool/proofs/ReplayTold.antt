@@ -10,11 +10,11 @@ use Rattle.acl_outside.specs.Heard.{Heard}
 use Rattle.command_words.specs.declared.fault.UsageFault.{UsageFault}
 use Rattle.command_words.specs.Options.{Options, for_replay, none_given}
 use Rattle.command_words.specs.Command.{asked_by, command, named_of, named_with, options_from, replay_by}
-use Rattle.command_plan.specs.declared.status.Status.{Status}
-use Rattle.command_plan.specs.declared.status.Status.TheVariants.{ImageRefused}
-use Rattle.command_plan.specs.Plan.{◌>>=◌, Outcome, Give, nothing, unless_refused}
-use Rattle.command_plan.specs.Follow.{Reached, Given, Follows, outcome_of}
-use Rattle.command_plan.specs.Effects.{EndsMaking, Outside, files_of, heard_of}
+use Rattle.command_ending.specs.declared.status.Status.{Status}
+use Rattle.command_ending.specs.declared.status.Status.TheVariants.{ImageRefused}
+use Rattle.command_ending.specs.Plan.{◌>>=◌, Outcome, Give, nothing, unless_refused}
+use Rattle.command_ending.specs.Follow.{Reached, Given, Follows, outcome_of}
+use Rattle.command_ending.specs.Effects.{EndsMaking, Outside, files_of, heard_of}
 use Rattle.pcap_reader.specs.declared.fault.CaptureFault.{CaptureFault}
 use Rattle.pcapng_reader.specs.Capture.{capture_of, whole_records}
 use Rattle.capture_report.specs.Classifier.{ByTables, Tables}

@@ -3,13 +3,13 @@ use Rattle.std.proofs.Common.{◌≡◌, ◌≢◌, ◌⊎◌, ◌+◌, ◌++◌
 use Rattle.std.proofs.Common.{refl}
 use Rattle.pcap_reader.specs.declared.fault.CaptureFault.{CaptureFault}
 use Rattle.pcapng_reader.specs.Capture.{Recorded, records_in}
-use Rattle.command_plan.specs.declared.status.Status.{Status}
-use Rattle.command_plan.specs.declared.status.Status.TheVariants.{WriteFault, OutOfMemory}
+use Rattle.command_ending.specs.declared.status.Status.{Status}
+use Rattle.command_ending.specs.declared.status.Status.TheVariants.{WriteFault, OutOfMemory}
 use Rattle.capture_report.specs.ReportForm.{ReportForm}
 use Rattle.capture_report.specs.Shown.{fault_of_capture, status_of_fault}
 use Rattle.capture_report.specs.Report.{lines_of_records, transitions_of_records}
 use Rattle.capture_report.specs.CaptureOutcome.{last_lines, report_of_capture}
-use Rattle.command_plan.specs.Endings.{is_decided, is_usage}
+use Rattle.command_ending.specs.Endings.{is_decided, is_usage}
 use Rattle.acl_tool.proofs.ReadOn.{is_told}
 
 -- the faults of two captures that end alike

@@ -10,14 +10,14 @@ use Rattle.field_defs.specs.declared.field.Family.TheVariants.{Ip4, Ip6}
 use Rattle.flat_table.specs.Table.{TableView}
 use Rattle.acl_outside.specs.Desk.{File, DeskView}
 use Rattle.capture_report.specs.Classifier.{Tables}
-use Rattle.command_plan.specs.declared.status.Status.{Status}
-use Rattle.command_plan.specs.Plan.{◌>>=◌, Outcome, Plan, Give, unless_refused}
-use Rattle.command_plan.proofs.Offered.{IsFaithful}
+use Rattle.command_ending.specs.declared.status.Status.{Status}
+use Rattle.command_ending.specs.Plan.{◌>>=◌, Outcome, Plan, Give, unless_refused}
+use Rattle.command_ending.proofs.Offered.{IsFaithful}
 use Rattle.acl_tool.specs.RuleTables.{refused_rules, rules_of_bytes, table_within, tables_within, rules_in}
 use Rattle.acl_outside.specs.Heard.{Heard}
-use Rattle.command_plan.specs.declared.status.Status.TheVariants.{RulesRefused}
-use Rattle.command_plan.specs.Follow.{Reached, Given, Follows}
-use Rattle.command_plan.specs.Effects.{Outside, Takes}
+use Rattle.command_ending.specs.declared.status.Status.TheVariants.{RulesRefused}
+use Rattle.command_ending.specs.Follow.{Reached, Given, Follows}
+use Rattle.command_ending.specs.Effects.{Outside, Takes}
 
 -- a rule file of too many bytes is refused as such
 pub rule_file_of-long : (bytes : List ℕ) → max_rule_file < length bytes →

@@ -5,12 +5,12 @@ use Rattle.std.proofs.lemmas.Bool.{lt-ltb}
 use Rattle.acl_outside.specs.Desk.{File, DeskView}
 use Rattle.acl_outside.specs.Sink.{SinkView}
 use Rattle.command_words.specs.Command.{Session}
-use Rattle.command_plan.specs.declared.status.Status.{Status}
-use Rattle.command_plan.specs.declared.status.Status.TheVariants.{Done, ScriptRefused}
-use Rattle.command_plan.specs.Plan.{Outcome, Plan, printed, unless_refused}
-use Rattle.command_plan.specs.Endings.{is_usage}
-use Rattle.command_plan.specs.Effects.{Ends, Outside, PutsLast, Takes, outside}
-use Rattle.command_plan.proofs.Offered.{BeginsWith-nothing, IsFaithful, faithful_unless, Ends-cut, Ends-put, Ends-then}
+use Rattle.command_ending.specs.declared.status.Status.{Status}
+use Rattle.command_ending.specs.declared.status.Status.TheVariants.{Done, ScriptRefused}
+use Rattle.command_ending.specs.Plan.{Outcome, Plan, printed, unless_refused}
+use Rattle.command_ending.specs.Endings.{is_usage}
+use Rattle.command_ending.specs.Effects.{Ends, Outside, PutsLast, Takes, outside}
+use Rattle.command_ending.proofs.Offered.{BeginsWith-nothing, IsFaithful, faithful_unless, Ends-cut, Ends-put, Ends-then}
 use Rattle.acl_tool.specs.Texts.{only_text}
 use Rattle.acl_tool.specs.SessionPlan.{max_script, replies_in, replies_of, session_plan}
 use Rattle.acl_tool.specs.Effects.{Answers}

@@ -8,12 +8,12 @@ use Rattle.acl_outside.specs.Heard.{Heard, Ended}
 use Rattle.acl_session.specs.Session.{session_of}
 use Rattle.command_words.specs.Options.{for_session}
 use Rattle.command_words.specs.Command.{asked_by, command, session_by, single_of}
-use Rattle.command_plan.specs.declared.status.Status.{Status}
-use Rattle.command_plan.specs.declared.status.Status.TheVariants.{Done, OutOfMemory, ScriptRefused, WriteFault}
-use Rattle.command_plan.specs.Plan.{Outcome, Plan, ◌>>=◌, nothing, unless_refused}
-use Rattle.command_plan.specs.Follow.{Reached, Follows, IsEnough, outcome_of}
-use Rattle.command_plan.specs.Endings.{is_usage}
-use Rattle.command_plan.specs.Effects.{Ends, Outside, files_of, heard_of}
+use Rattle.command_ending.specs.declared.status.Status.{Status}
+use Rattle.command_ending.specs.declared.status.Status.TheVariants.{Done, OutOfMemory, ScriptRefused, WriteFault}
+use Rattle.command_ending.specs.Plan.{Outcome, Plan, ◌>>=◌, nothing, unless_refused}
+use Rattle.command_ending.specs.Follow.{Reached, Follows, IsEnough, outcome_of}
+use Rattle.command_ending.specs.Endings.{is_usage}
+use Rattle.command_ending.specs.Effects.{Ends, Outside, files_of, heard_of}
 use Rattle.acl_tool.specs.Texts.{only_text}
 use Rattle.acl_tool.specs.SessionPlan.{max_script, replies_of, session_plan}
 use Rattle.acl_tool.specs.SessionTells.{HearsScript, PrintsReplies, RefusesScript, SessionTells}

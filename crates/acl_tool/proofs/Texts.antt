@@ -3,12 +3,12 @@ use Rattle.std.proofs.Common.{◌≡◌, ℕ, ◌+◌, List, true, false, None, 
 use Rattle.std.proofs.lemmas.Bool.{false≢true}
 use Rattle.acl_outside.specs.Desk.{DeskView}
 use Rattle.acl_outside.specs.Sink.{SinkView}
-use Rattle.command_plan.specs.declared.status.Status.{Status}
-use Rattle.command_plan.specs.declared.status.Status.TheVariants.{Done, OutOfMemory, TooLarge, TooManyTogether}
-use Rattle.command_plan.specs.Plan.{Outcome, Plan, ◌>>=◌, Stop, printed, unless_refused}
-use Rattle.command_plan.specs.Endings.{is_decided, is_reported, is_usage}
-use Rattle.command_plan.specs.Effects.{Ends, Outside, PutsLast, outside}
-use Rattle.command_plan.proofs.Offered.{Ends-stopped, Ends-full, Ends-put}
+use Rattle.command_ending.specs.declared.status.Status.{Status}
+use Rattle.command_ending.specs.declared.status.Status.TheVariants.{Done, OutOfMemory, TooLarge, TooManyTogether}
+use Rattle.command_ending.specs.Plan.{Outcome, Plan, ◌>>=◌, Stop, printed, unless_refused}
+use Rattle.command_ending.specs.Endings.{is_decided, is_reported, is_usage}
+use Rattle.command_ending.specs.Effects.{Ends, Outside, PutsLast, outside}
+use Rattle.command_ending.proofs.Offered.{Ends-stopped, Ends-full, Ends-put}
 use Rattle.acl_tool.specs.Texts.{Refuses, is_refusal, only_text}
 
 -- a refusal is decided by words and files, comes without a report, and isn't of the words

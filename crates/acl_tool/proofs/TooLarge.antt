@@ -3,8 +3,8 @@ use Rattle.std.proofs.Common.{◌≡◌, ◌⊎◌, ℕ, Bool, true, false, Opti
 use Rattle.field_defs.specs.declared.field.Family.{Family}
 use Rattle.classbench_reader.specs.RuleFile.{RuleLists}
 use Rattle.classbench_reader.specs.declared.fault.LineFault.{LineFault}
-use Rattle.command_plan.specs.declared.status.Status.{Status}
-use Rattle.command_plan.specs.declared.status.Status.TheVariants.{OutOfMemory, RulesRefused, TooLarge, WriteFault}
+use Rattle.command_ending.specs.declared.status.Status.{Status}
+use Rattle.command_ending.specs.declared.status.Status.TheVariants.{OutOfMemory, RulesRefused, TooLarge, WriteFault}
 use Rattle.acl_tool.specs.RuleTables.{refused_rules}
 use Rattle.acl_tool.proofs.ReadOn.{IsTest}
 

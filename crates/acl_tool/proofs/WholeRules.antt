@@ -8,10 +8,10 @@ use Rattle.classbench_reader.specs.declared.fault.RulesFault.{RulesFault}
 use Rattle.classbench_reader.specs.declared.fault.RulesFault.TheVariants as faults
 use Rattle.classbench_reader.specs.Limits.{max_rule_file}
 use Rattle.classbench_reader.specs.RuleFile.{RuleLists, rule_file_of}
-use Rattle.command_plan.specs.declared.status.Status.{Status}
-use Rattle.command_plan.specs.declared.status.Status.TheVariants.{OutOfMemory}
-use Rattle.command_plan.specs.Plan.{Outcome, Plan, ◌>>=◌, Give, Stop, Read, unless_refused}
-use Rattle.command_plan.specs.Follow.{IsEnough}
+use Rattle.command_ending.specs.declared.status.Status.{Status}
+use Rattle.command_ending.specs.declared.status.Status.TheVariants.{OutOfMemory}
+use Rattle.command_ending.specs.Plan.{Outcome, Plan, ◌>>=◌, Give, Stop, Read, unless_refused}
+use Rattle.command_ending.specs.Follow.{IsEnough}
 use Rattle.acl_tool.specs.Listings.{refused_as, rules_refused}
 use Rattle.acl_tool.specs.declared.rule_file.Listing.{Listing}
 use Rattle.acl_tool.specs.RuleTables.{refused_rules, rules_of_bytes}

@@ -11,8 +11,8 @@ use Rattle.acl_audit.specs.Half.{exceeds}
 use Rattle.acl_audit.specs.Least.{all_rules}
 use Rattle.audit_report.specs.Audit.{audit_text}
 use Rattle.classbench_reader.specs.RuleFile.{RuleLists}
-use Rattle.command_plan.specs.declared.status.Status.{Status}
-use Rattle.command_plan.specs.declared.status.Status.TheVariants.{TooLarge, OutOfMemory}
+use Rattle.command_ending.specs.declared.status.Status.{Status}
+use Rattle.command_ending.specs.declared.status.Status.TheVariants.{TooLarge, OutOfMemory}
 use Rattle.acl_tool.specs.FamilySet.{set_of}
 use Rattle.acl_tool.specs.Texts.{◌>>=◌}
 

@@ -1,7 +1,7 @@
 -- What `audit` does.
 use Rattle.std.specs.Prelude.{ℕ, List}
-use Rattle.command_plan.specs.declared.status.Status.TheVariants.{RulesRefused}
-use Rattle.command_plan.specs.Plan.{◌>>=◌, Outcome, Plan, unless_refused}
+use Rattle.command_ending.specs.declared.status.Status.TheVariants.{RulesRefused}
+use Rattle.command_ending.specs.Plan.{◌>>=◌, Outcome, Plan, unless_refused}
 use Rattle.acl_tool.specs.RuleTables.{rules_in}
 use Rattle.acl_tool.specs.Texts.{only_text}
 use Rattle.acl_tool.specs.AuditMerged.{audit_of}

@@ -5,8 +5,8 @@ use Rattle.command_words.specs.declared.fault.UsageKind.TheVariants.{MissingName
 use Rattle.command_words.specs.declared.fault.UsageKind.TheVariants.{BadValue}
 use Rattle.command_words.specs.BenchWords.{numbers_of}
 use Rattle.command_words.specs.Command.{Bench, command, fault_at}
-use Rattle.seed_bench.specs.Tally.{tally_of}
-use Rattle.seed_bench.specs.Bench.{bench_text}
+use Rattle.bench_command.specs.Tally.{tally_of}
+use Rattle.bench_command.specs.Bench.{bench_text}
 
 three_numbers : numbers_of (codes "042" ∷ codes "1024" ∷ codes "65536" ∷ [])
     ≡ Ok (record { seed = 42; rules = 1024; packets = 65536 })

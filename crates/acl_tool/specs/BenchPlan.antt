@@ -2,11 +2,11 @@
 use Rattle.std.specs.Prelude.{nat_le, if◌then◌else◌}
 use Rattle.field_defs.specs.declared.field.Family.TheVariants.{Ip4}
 use Rattle.rule_split.specs.Split.{total_of}
-use Rattle.command_plan.specs.declared.status.Status.TheVariants.{Done, TooLarge}
+use Rattle.command_ending.specs.declared.status.Status.TheVariants.{Done, TooLarge}
 use Rattle.command_words.specs.BenchWords.{BenchNumbers}
-use Rattle.seed_bench.specs.Bench.{bench_budget, bench_text, measured_of, set_drawn}
-use Rattle.seed_bench.specs.Bench.{transitions_drawn}
-use Rattle.command_plan.specs.Plan.{Outcome, Plan, Give, Stop, printed}
+use Rattle.bench_command.specs.Bench.{bench_budget, bench_text, measured_of, set_drawn}
+use Rattle.bench_command.specs.Bench.{transitions_drawn}
+use Rattle.command_ending.specs.Plan.{Outcome, Plan, Give, Stop, printed}
 
 -- the four lines are printed, where the table isn't too large
 abbrev pub bench_plan : BenchNumbers → Plan Outcome

@@ -3,9 +3,9 @@
 use Rattle.std.specs.Prelude.{◌≡◌, ℕ, ◌+◌, ◌≤◌, List, Ok}
 use Rattle.command_words.specs.BenchWords.{BenchNumbers}
 use Rattle.command_words.specs.Command.{Bench, command}
-use Rattle.seed_bench.specs.Bench.{most_drawn, transitions_drawn}
-use Rattle.command_plan.specs.declared.status.Status.{Status}
-use Rattle.command_plan.specs.declared.status.Status.TheVariants.{Done}
+use Rattle.bench_command.specs.Bench.{most_drawn, transitions_drawn}
+use Rattle.command_ending.specs.declared.status.Status.{Status}
+use Rattle.command_ending.specs.declared.status.Status.TheVariants.{Done}
 
 -- Wherever `bench` ends with Done, the counter rose by the transitions of the drawn keys, of which
 -- each takes at most one for each trie and byte.

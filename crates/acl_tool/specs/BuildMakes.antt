@@ -10,9 +10,9 @@ use Rattle.acl_outside.specs.Heard.{Heard, Ended}
 use Rattle.classbench_reader.specs.RuleFile.{RuleLists, rule_file_of}
 use Rattle.command_words.specs.Options.{Options, for_build, none_given}
 use Rattle.command_words.specs.Command.{options_from}
-use Rattle.command_plan.specs.declared.status.Status.{Status}
-use Rattle.command_plan.specs.declared.status.Status.TheVariants.{Done}
-use Rattle.command_plan.specs.Effects.{MakesFile, Outside, heard_of}
+use Rattle.command_ending.specs.declared.status.Status.{Status}
+use Rattle.command_ending.specs.declared.status.Status.TheVariants.{Done}
+use Rattle.command_ending.specs.Effects.{MakesFile, Outside, heard_of}
 use Rattle.acl_tool.specs.FamilySet.{set_of}
 
 -- The words of a `build` name two files, and an option may follow. The rule file was read to its

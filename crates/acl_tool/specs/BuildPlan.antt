@@ -3,8 +3,8 @@ use Rattle.std.specs.Prelude.{ℕ, List}
 use Rattle.table_image.specs.declared.version.Version.TheVariants.{Two}
 use Rattle.table_image.specs.Spelling.{PairView, spelled_pair}
 use Rattle.capture_report.specs.Classifier.{Tables}
-use Rattle.command_plan.specs.declared.status.Status.TheVariants.{RulesRefused}
-use Rattle.command_plan.specs.Plan.{◌>>=◌, Outcome, Plan, Give, making}
+use Rattle.command_ending.specs.declared.status.Status.TheVariants.{RulesRefused}
+use Rattle.command_ending.specs.Plan.{◌>>=◌, Outcome, Plan, Give, making}
 use Rattle.acl_tool.specs.RuleTables.{rules_in, tables_within}
 
 -- the tables of both families, as an image has them

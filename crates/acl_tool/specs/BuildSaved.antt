@@ -3,7 +3,7 @@ use Rattle.std.specs.Prelude.{◌≡◌, ℕ, List, ◌∷◌, ⊤, Ok}
 use Rattle.table_image.specs.declared.version.Version.TheVariants.{Two}
 use Rattle.table_image.specs.Spelling.{IsImage}
 use Rattle.classbench_reader.specs.RuleFile.{RuleLists, rule_file_of}
-use Rattle.command_plan.specs.Plan.{Give}
+use Rattle.command_ending.specs.Plan.{Give}
 use Rattle.acl_tool.specs.RuleTables.{tables_within}
 use Rattle.acl_tool.specs.Built.{TablesServe, tables_built}
 use Rattle.acl_tool.specs.BuildPlan.{image_bytes, pair_of}

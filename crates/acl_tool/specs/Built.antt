@@ -9,10 +9,10 @@ use Rattle.flat_table.specs.Table.{TableView, words_of}
 use Rattle.table_fill.specs.Serves.{Serves}
 use Rattle.acl_context.specs.Context.{built_of}
 use Rattle.classbench_reader.specs.RuleFile.{RuleLists}
-use Rattle.command_plan.specs.declared.status.Status.{Status}
-use Rattle.command_plan.specs.declared.status.Status.TheVariants.{TooLarge, OutOfMemory}
+use Rattle.command_ending.specs.declared.status.Status.{Status}
+use Rattle.command_ending.specs.declared.status.Status.TheVariants.{TooLarge, OutOfMemory}
 use Rattle.capture_report.specs.Classifier.{Tables, ByRules, AnswersAs}
-use Rattle.command_plan.specs.Plan.{Give, Stop}
+use Rattle.command_ending.specs.Plan.{Give, Stop}
 use Rattle.acl_tool.specs.FamilySet.{set_of}
 use Rattle.acl_tool.specs.RuleTables.{tables_within}
 

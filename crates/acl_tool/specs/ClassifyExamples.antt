@@ -10,10 +10,10 @@ use Rattle.classbench_reader.specs.declared.fault.LineKind.TheVariants.{BadStart
 use Rattle.classbench_reader.specs.RuleFile.{RuleLists}
 use Rattle.pcap_reader.specs.declared.fault.CaptureFault.TheVariants.{HeaderCut, RecordCut}
 use Rattle.pcap_reader.specs.StartExamples.{ethernet_header}
-use Rattle.command_plan.specs.declared.status.Status.{Status}
-use Rattle.command_plan.specs.declared.status.Status.TheVariants.{Done, Usage, RulesRefused}
-use Rattle.command_plan.specs.declared.status.Status.TheVariants.{TooLarge, CaptureRefused}
-use Rattle.command_plan.specs.declared.status.Status.TheVariants.{ReadFault}
+use Rattle.command_ending.specs.declared.status.Status.{Status}
+use Rattle.command_ending.specs.declared.status.Status.TheVariants.{Done, Usage, RulesRefused}
+use Rattle.command_ending.specs.declared.status.Status.TheVariants.{TooLarge, CaptureRefused}
+use Rattle.command_ending.specs.declared.status.Status.TheVariants.{ReadFault}
 use Rattle.command_words.specs.declared.fault.UsageKind.TheVariants.{MissingCommand}
 use Rattle.command_words.specs.Options.{Options, none_given, settled_options}
 use Rattle.command_words.specs.Command.{fault_at}
@@ -23,7 +23,7 @@ use Rattle.acl_tool.specs.RuleTables.{rules_of_bytes}
 use Rattle.acl_tool.specs.ClassifyPlan.{form_of}
 use Rattle.acl_tool.specs.Outcome.{outcome}
 use Rattle.capture_report.specs.CaptureOutcome.{lines_so_far, report}
-use Rattle.command_plan.specs.Plan.{printed, silent}
+use Rattle.command_ending.specs.Plan.{printed, silent}
 
 -- the options where none is given
 abbrev pub usual : Options

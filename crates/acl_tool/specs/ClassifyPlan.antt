@@ -4,8 +4,8 @@ use Rattle.command_words.specs.Options.{Options}
 use Rattle.capture_report.specs.Classifier.{ByRules, Tables, Classifier}
 use Rattle.capture_report.specs.ReportForm.{ReportForm}
 use Rattle.capture_report.specs.CaptureOutcome.{reported}
-use Rattle.command_plan.specs.declared.status.Status.TheVariants.{RulesRefused}
-use Rattle.command_plan.specs.Plan.{◌>>=◌, Outcome, Plan}
+use Rattle.command_ending.specs.declared.status.Status.TheVariants.{RulesRefused}
+use Rattle.command_ending.specs.Plan.{◌>>=◌, Outcome, Plan}
 use Rattle.acl_tool.specs.RuleTables.{rules_in, tables_within}
 
 -- the form of a report by the options of a command

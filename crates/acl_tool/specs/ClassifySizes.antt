@@ -7,8 +7,8 @@ use Rattle.rule_split.specs.Split.{groups_of, total_of}
 use Rattle.classbench_reader.specs.RuleFile.{RuleLists, rule_file_of}
 use Rattle.acl_outside.specs.Heard.{Heard, Ended}
 use Rattle.acl_report.specs.Tables.{table_text, transitions_text}
-use Rattle.command_plan.specs.declared.status.Status.{Status}
-use Rattle.command_plan.specs.declared.status.Status.TheVariants.{Done, TooLarge}
+use Rattle.command_ending.specs.declared.status.Status.{Status}
+use Rattle.command_ending.specs.declared.status.Status.TheVariants.{Done, TooLarge}
 use Rattle.acl_tool.specs.FamilySet.{set_of}
 use Rattle.acl_tool.specs.Headline.{Hears}
 use Rattle.acl_tool.specs.GivenOptions.{is_on}

@@ -6,7 +6,7 @@ use Rattle.acl_outside.specs.Heard.{Heard}
 use Rattle.acl_context.specs.Context.{built_of}
 use Rattle.pcap_reader.specs.declared.fault.CaptureFault.{CaptureFault}
 use Rattle.pcapng_reader.specs.Capture.{whole_records}
-use Rattle.command_plan.specs.declared.status.Status.{Status}
+use Rattle.command_ending.specs.declared.status.Status.{Status}
 use Rattle.capture_report.specs.Shown.{status_of_fault}
 use Rattle.capture_report.specs.Classifier.{Tables}
 use Rattle.capture_report.specs.Report.{transitions_of_records}

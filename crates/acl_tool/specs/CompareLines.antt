@@ -9,8 +9,8 @@ use Rattle.acl_audit.specs.declared.compare.CompareFault.TheVariants as faults
 use Rattle.acl_audit.specs.Compared.{is_too_large}
 use Rattle.audit_report.specs.Compare.{compared_text}
 use Rattle.classbench_reader.specs.RuleFile.{RuleLists}
-use Rattle.command_plan.specs.declared.status.Status.{Status}
-use Rattle.command_plan.specs.declared.status.Status.TheVariants.{TooLarge, TooManyTogether, OutOfMemory}
+use Rattle.command_ending.specs.declared.status.Status.{Status}
+use Rattle.command_ending.specs.declared.status.Status.TheVariants.{TooLarge, TooManyTogether, OutOfMemory}
 use Rattle.acl_tool.specs.FamilySet.{set_of}
 use Rattle.acl_tool.specs.Texts.{◌>>=◌}
 

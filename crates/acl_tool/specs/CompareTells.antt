@@ -5,9 +5,9 @@ use Rattle.field_defs.specs.declared.field.Family.TheVariants.{Ip4, Ip6}
 use Rattle.acl_outside.specs.Heard.{Heard, Ended}
 use Rattle.classbench_reader.specs.RuleFile.{RuleLists, rule_file_of}
 use Rattle.audit_report.specs.Compare.{compared_text}
-use Rattle.command_plan.specs.declared.status.Status.{Status}
-use Rattle.command_plan.specs.declared.status.Status.TheVariants.{Done}
-use Rattle.command_plan.specs.Effects.{Outside, heard_of}
+use Rattle.command_ending.specs.declared.status.Status.{Status}
+use Rattle.command_ending.specs.declared.status.Status.TheVariants.{Done}
+use Rattle.command_ending.specs.Effects.{Outside, heard_of}
 use Rattle.acl_tool.specs.FamilySet.{set_of}
 
 -- The words of a `compare` name two files, and an option may follow. The desk was asked for each of

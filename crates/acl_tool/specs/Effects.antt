@@ -3,14 +3,14 @@ use Rattle.std.specs.Prelude.{◌≡◌, ℕ, ◌⊎◌, List, false, true, Opti
 use Rattle.std.specs.Prelude.{IfOk, IfErr, IfSome}
 use Rattle.acl_outside.specs.Desk.{File}
 use Rattle.acl_outside.specs.Sink.{SinkView}
-use Rattle.command_plan.specs.declared.status.Status.{Status}
-use Rattle.command_plan.specs.declared.status.Status.TheVariants.{Done, Usage, WriteFault}
-use Rattle.command_plan.specs.declared.status.Status.TheVariants.{OutOfMemory}
+use Rattle.command_ending.specs.declared.status.Status.{Status}
+use Rattle.command_ending.specs.declared.status.Status.TheVariants.{Done, Usage, WriteFault}
+use Rattle.command_ending.specs.declared.status.Status.TheVariants.{OutOfMemory}
 use Rattle.command_words.specs.declared.fault.UsageFault.{UsageFault}
 use Rattle.command_words.specs.Command.{Request, capture_name, made_name, command}
-use Rattle.command_plan.specs.Message.{message}
-use Rattle.command_plan.specs.Plan.{found, settled}
-use Rattle.command_plan.specs.Endings.{is_reported, is_usage}
+use Rattle.command_ending.specs.Message.{message}
+use Rattle.command_ending.specs.Plan.{found, settled}
+use Rattle.command_ending.specs.Endings.{is_reported, is_usage}
 use Rattle.acl_tool.specs.BuildSaved.{HasImage}
 use Rattle.acl_tool.specs.Outcome.{outcome, plan_of}
 use Rattle.acl_tool.specs.Headline.{ClassifyPrints}
@@ -22,8 +22,8 @@ use Rattle.acl_tool.specs.ReplayPrints.{ReplayPrints}
 use Rattle.acl_tool.specs.AuditTells.{AuditTells}
 use Rattle.acl_tool.specs.CompareTells.{CompareTells}
 use Rattle.acl_tool.specs.SessionTells.{SessionTells}
-use Rattle.command_plan.specs.Effects.{Outside, EndsMaking, EndsAsTold, HasNoFaultMaking, PutsLine}
-use Rattle.command_plan.specs.Effects.{files_of, heard_of, opened_of}
+use Rattle.command_ending.specs.Effects.{Outside, EndsMaking, EndsAsTold, HasNoFaultMaking, PutsLine}
+use Rattle.command_ending.specs.Effects.{files_of, heard_of, opened_of}
 use Rattle.capture_report.specs.PrintsCapture.{KeepsUp}
 use Rattle.acl_tool.specs.ClassifyTotals.{HasTotals}
 

@@ -5,15 +5,15 @@ use Rattle.std.proofs.Common.{inl, inr, subst}
 use Rattle.std.specs.Fmt.{digits}
 use Rattle.acl_outside.specs.Desk.{File}
 use Rattle.acl_outside.specs.Heard.{Heard, Ending, NotOpened, GoesOn, Ended, BrokenOff}
-use Rattle.command_plan.specs.declared.status.Status.TheVariants.{Done, RulesRefused, ReadFault}
-use Rattle.command_plan.specs.declared.status.Status.TheVariants.{OutOfMemory}
+use Rattle.command_ending.specs.declared.status.Status.TheVariants.{Done, RulesRefused, ReadFault}
+use Rattle.command_ending.specs.declared.status.Status.TheVariants.{OutOfMemory}
 use Rattle.classbench_reader.specs.declared.fault.LineKind.TheVariants.{BadStart}
 use Rattle.rule_split.specs.Split as split
 use Rattle.pcap_reader.specs.StartExamples.{ethernet_header}
 use Rattle.command_words.specs.Options.{none_given, settled_options}
 use Rattle.command_words.specs.Command.{Classify}
-use Rattle.command_plan.specs.Plan.{Outcome, Plan, printed, silent}
-use Rattle.command_plan.specs.Follow.{Given, Stopped, Before, Within, IsOneOf, Follows, outcome_of}
+use Rattle.command_ending.specs.Plan.{Outcome, Plan, printed, silent}
+use Rattle.command_ending.specs.Follow.{Given, Stopped, Before, Within, IsOneOf, Follows, outcome_of}
 use Rattle.acl_tool.specs.Outcome.{plan_of_request}
 
 -- a `classify` of the files r and c

@@ -15,7 +15,7 @@ use Rattle.pcapng_reader.specs.Capture.{capture_of, whole_records}
 use Rattle.acl_report.specs.Packet.{packet_text}
 use Rattle.acl_report.specs.Counts.{packets_text}
 use Rattle.acl_outside.specs.Heard.{Heard, Ended}
-use Rattle.command_plan.specs.declared.status.Status.{Status}
+use Rattle.command_ending.specs.declared.status.Status.{Status}
 use Rattle.capture_report.specs.Shown.{answer_of_rules, counts_of_records, fault_of_capture}
 use Rattle.capture_report.specs.Shown.{packet_of, shown, status_of_fault}
 use Rattle.acl_tool.specs.GivenOptions.{categories_shown, is_on}

@@ -7,7 +7,7 @@ use Rattle.table_image.specs.Spelling.{IsImage}
 use Rattle.acl_outside.specs.Desk.{File, bytes_of}
 use Rattle.classbench_reader.specs.RuleFile.{RuleLists, rule_file_of}
 use Rattle.command_words.specs.Options.{Options}
-use Rattle.command_plan.specs.Plan.{found, settled}
+use Rattle.command_ending.specs.Plan.{found, settled}
 use Rattle.acl_tool.specs.FamilySet.{set_of}
 use Rattle.acl_tool.specs.Built.{tables_built}
 use Rattle.acl_tool.specs.BuildPlan.{pair_of}

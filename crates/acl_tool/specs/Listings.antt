@@ -2,8 +2,8 @@
 use Rattle.classbench_reader.specs.declared.fault.LineFault.{LineFault}
 use Rattle.classbench_reader.specs.declared.fault.RulesFault.{RulesFault}
 use Rattle.classbench_reader.specs.declared.fault.RulesFault.TheVariants as faults
-use Rattle.command_plan.specs.declared.status.Status.{Status}
-use Rattle.command_plan.specs.declared.status.Status.TheVariants.{RulesRefused, SecondRulesRefused, OutOfMemory}
+use Rattle.command_ending.specs.declared.status.Status.{Status}
+use Rattle.command_ending.specs.declared.status.Status.TheVariants.{RulesRefused, SecondRulesRefused, OutOfMemory}
 use Rattle.acl_tool.specs.declared.rule_file.Listing.{Listing}
 use Rattle.acl_tool.specs.declared.rule_file.Listing.TheVariants.{First, Second}
 

@@ -5,8 +5,8 @@ use Rattle.acl_outside.specs.Desk.{File}
 use Rattle.command_words.specs.declared.fault.UsageFault.{UsageFault}
 use Rattle.command_words.specs.Command.{Request, Audit, Bench, Build, Classify, Compare, Replay}
 use Rattle.command_words.specs.Command.{Session, command}
-use Rattle.command_plan.specs.declared.status.Status.TheVariants.{Usage}
-use Rattle.command_plan.specs.Plan.{Outcome, Plan, Stop, found, settled}
+use Rattle.command_ending.specs.declared.status.Status.TheVariants.{Usage}
+use Rattle.command_ending.specs.Plan.{Outcome, Plan, Stop, found, settled}
 use Rattle.acl_tool.specs.ClassifyPlan.{classify_plan}
 use Rattle.acl_tool.specs.BuildPlan.{build_plan}
 use Rattle.acl_tool.specs.ReplayPlan.{replay_plan}

@@ -3,8 +3,8 @@ use Rattle.std.specs.Prelude.{◌≡◌, ℕ, List, [], ◌∷◌, ◌++◌, rep
 use Rattle.std.specs.Fmt.{digits}
 use Rattle.rule_split.specs.Split as split
 use Rattle.pcap_reader.specs.declared.fault.CaptureFault.TheVariants.{PngCut, PngInterface}
-use Rattle.command_plan.specs.declared.status.Status.TheVariants.{Done, CaptureRefused}
-use Rattle.command_plan.specs.Plan.{Outcome, printed}
+use Rattle.command_ending.specs.declared.status.Status.TheVariants.{Done, CaptureRefused}
+use Rattle.command_ending.specs.Plan.{Outcome, printed}
 use Rattle.capture_report.specs.CaptureOutcome.{lines_so_far, report}
 use Rattle.acl_tool.specs.ClassifyExamples.{both, by_guide, classify, udp_frame, usual}
 use Rattle.acl_tool.specs.Outcome.{outcome}

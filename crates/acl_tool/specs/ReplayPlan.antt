@@ -6,9 +6,9 @@ use Rattle.table_image.specs.Reading.{image_of}
 use Rattle.command_words.specs.Options.{Options}
 use Rattle.capture_report.specs.Classifier.{ByTables, Tables}
 use Rattle.capture_report.specs.CaptureOutcome.{reported}
-use Rattle.command_plan.specs.declared.status.Status.{Status}
-use Rattle.command_plan.specs.declared.status.Status.TheVariants.{ImageRefused}
-use Rattle.command_plan.specs.Plan.{◌>>=◌, Outcome, Plan, reading, unless_refused}
+use Rattle.command_ending.specs.declared.status.Status.{Status}
+use Rattle.command_ending.specs.declared.status.Status.TheVariants.{ImageRefused}
+use Rattle.command_ending.specs.Plan.{◌>>=◌, Outcome, Plan, reading, unless_refused}
 use Rattle.acl_tool.specs.ClassifyPlan.{form_of}
 
 -- how many bytes of an image are read: one more than the longest image has

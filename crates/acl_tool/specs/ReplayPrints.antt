@@ -7,8 +7,8 @@ use Rattle.pcap_reader.specs.declared.fault.CaptureFault.{CaptureFault}
 use Rattle.pcapng_reader.specs.Capture.{capture_of, whole_records}
 use Rattle.command_words.specs.Options.{Options, for_replay, none_given}
 use Rattle.command_words.specs.Command.{options_from}
-use Rattle.command_plan.specs.declared.status.Status.{Status}
-use Rattle.command_plan.specs.Effects.{Outside, heard_of}
+use Rattle.command_ending.specs.declared.status.Status.{Status}
+use Rattle.command_ending.specs.Effects.{Outside, heard_of}
 use Rattle.capture_report.specs.Bound.{most_of_records}
 use Rattle.capture_report.specs.CaptureOutcome.{text_of_records}
 use Rattle.capture_report.specs.Classifier.{ByTables, Tables}

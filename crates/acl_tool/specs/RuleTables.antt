@@ -8,9 +8,9 @@ use Rattle.flat_table.specs.Table.{TableView}
 use Rattle.acl_context.specs.Context.{built_of}
 use Rattle.classbench_reader.specs.declared.fault.LineFault.{LineFault}
 use Rattle.classbench_reader.specs.RuleFile.{RuleLists, rule_file_of}
-use Rattle.command_plan.specs.declared.status.Status.{Status}
-use Rattle.command_plan.specs.declared.status.Status.TheVariants.{TooLarge}
-use Rattle.command_plan.specs.Plan.{◌>>=◌, Plan, Give, reading, unless_refused}
+use Rattle.command_ending.specs.declared.status.Status.{Status}
+use Rattle.command_ending.specs.declared.status.Status.TheVariants.{TooLarge}
+use Rattle.command_ending.specs.Plan.{◌>>=◌, Plan, Give, reading, unless_refused}
 use Rattle.capture_report.specs.Classifier.{Tables}
 use Rattle.acl_tool.specs.FamilySet.{set_of}
 

@@ -8,8 +8,8 @@ use Rattle.table_image.specs.Spelling.{spelled, spelled_pair, spelled_table}
 use Rattle.table_image.specs.Reading as reading
 use Rattle.acl_outside.specs.Desk.{File}
 use Rattle.pcap_reader.specs.StartExamples.{ethernet_header}
-use Rattle.command_plan.specs.declared.status.Status.TheVariants.{Done, ImageRefused, ReadFault}
-use Rattle.command_plan.specs.Plan.{making, printed, silent}
+use Rattle.command_ending.specs.declared.status.Status.TheVariants.{Done, ImageRefused, ReadFault}
+use Rattle.command_ending.specs.Plan.{making, printed, silent}
 use Rattle.acl_tool.specs.BuildPlan.{image_bytes}
 use Rattle.acl_tool.specs.ClassifyExamples.{no_tables, udp_record, wild_tables}
 use Rattle.acl_tool.specs.Outcome.{outcome}

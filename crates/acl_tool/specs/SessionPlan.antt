@@ -1,9 +1,9 @@
 -- What `session` does.
 use Rattle.std.specs.Prelude.{ℕ, nat_lt, if◌then◌else◌, List, length, Result, Ok, Err}
 use Rattle.acl_session.specs.Session.{session_of}
-use Rattle.command_plan.specs.declared.status.Status.{Status}
-use Rattle.command_plan.specs.declared.status.Status.TheVariants.{ScriptRefused}
-use Rattle.command_plan.specs.Plan.{◌>>=◌, Outcome, Plan, reading, unless_refused}
+use Rattle.command_ending.specs.declared.status.Status.{Status}
+use Rattle.command_ending.specs.declared.status.Status.TheVariants.{ScriptRefused}
+use Rattle.command_ending.specs.Plan.{◌>>=◌, Outcome, Plan, reading, unless_refused}
 use Rattle.acl_tool.specs.Texts.{only_text}
 
 -- how many bytes a script may have

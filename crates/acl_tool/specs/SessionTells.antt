@@ -5,9 +5,9 @@ use Rattle.std.specs.declared.vec.Vec.{Vec}
 use Rattle.std.specs.declared.alloc.Global.{Global}
 use Rattle.acl_outside.specs.Heard.{Heard, Ended}
 use Rattle.acl_session.specs.Session.{session_of}
-use Rattle.command_plan.specs.declared.status.Status.{Status}
-use Rattle.command_plan.specs.declared.status.Status.TheVariants.{Done, ScriptRefused}
-use Rattle.command_plan.specs.Effects.{Outside, heard_of}
+use Rattle.command_ending.specs.declared.status.Status.{Status}
+use Rattle.command_ending.specs.declared.status.Status.TheVariants.{Done, ScriptRefused}
+use Rattle.command_ending.specs.Effects.{Outside, heard_of}
 use Rattle.acl_tool.specs.SessionPlan.{max_script}
 
 -- the bytes of a text

@@ -2,10 +2,10 @@
 use Rattle.std.specs.Prelude.{◌≡◌, ℕ, ◌⊎◌, List, Bool, true, false, Result, Ok, Err, IfOk, IfErr}
 use Rattle.std.specs.declared.vec.Vec.{Vec}
 use Rattle.std.specs.declared.alloc.Global.{Global}
-use Rattle.command_plan.specs.declared.status.Status.{Status}
-use Rattle.command_plan.specs.declared.status.Status.TheVariants.{Done, OutOfMemory}
-use Rattle.command_plan.specs.declared.status.Status.TheVariants.{TooLarge, TooManyTogether}
-use Rattle.command_plan.specs.Plan.{Outcome, Plan, Give, printed}
+use Rattle.command_ending.specs.declared.status.Status.{Status}
+use Rattle.command_ending.specs.declared.status.Status.TheVariants.{Done, OutOfMemory}
+use Rattle.command_ending.specs.declared.status.Status.TheVariants.{TooLarge, TooManyTogether}
+use Rattle.command_ending.specs.Plan.{Outcome, Plan, Give, printed}
 
 -- the text is printed, and no transition taken
 abbrev pub only_text : List ℕ → Plan Outcome

@@ -2,18 +2,18 @@
 
 ghost use Rattle.std.specs.Prelude.{Ok};
 ghost use Rattle.acl_outside.specs.Desk.{DeskView};
-ghost use Rattle.seed_bench.specs.Bench.{bench_text};
+ghost use Rattle.bench_command.specs.Bench.{bench_text};
 ghost use Rattle.command_words.specs.Command.{Bench};
 ghost use Rattle.command_words.specs.CommandLine.{numbers_in};
 ghost use Rattle.acl_tool.specs.Effects.{Answers};
-ghost use Rattle.command_plan.specs.Effects.{outside, PutsLast};
+ghost use Rattle.command_ending.specs.Effects.{outside, PutsLast};
 
 use acl_outside::{Failed, Sink, put_all};
 use acl_report::LINE_ROOM;
-use command_plan::Status;
+use bench_command::{Measured, bench_lines, measure};
+use command_ending::Status;
 use command_words::BenchNumbers;
 use flat_table::Steps;
-use seed_bench::{Measured, bench_lines, measure};
 use std::alloc::Global;
 use std::sync::ledger::Ledger;
 

@@ -41,7 +41,7 @@ mod words;
 
 pub use capture_report::{PrintOptions, print_packets};
 pub use classbench_reader::{LineFault, LineKind};
-pub use command_plan::Status;
+pub use command_ending::Status;
 pub use command_words::{UsageFault, UsageKind};
 pub use field_defs::Family;
 pub use held_streams::held_stream;

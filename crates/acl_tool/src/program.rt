@@ -2,9 +2,9 @@
 
 ghost use Rattle.std.specs.Prelude.{◌≡◌, ℕ, ◌<◌, Some, None, drop, map, pos, string_bytes, IfSome};
 ghost use Rattle.std.specs.Process.{exit_status};
-ghost use Rattle.command_plan.specs.declared.status.Status.{Status};
-ghost use Rattle.command_plan.specs.Message.{code_of};
-ghost use Rattle.command_plan.specs.Effects.{outside};
+ghost use Rattle.command_ending.specs.declared.status.Status.{Status};
+ghost use Rattle.command_ending.specs.Message.{code_of};
+ghost use Rattle.command_ending.specs.Effects.{outside};
 ghost use Rattle.acl_tool.specs.Effects.{Runs};
 
 use crate::held_streams::HeldStreams;

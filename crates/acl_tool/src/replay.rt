@@ -4,15 +4,15 @@ ghost use Rattle.std.specs.Prelude.{◌≡◌, ◌≢◌, ◌≤◌, ◌⊎◌, 
 ghost use Rattle.table_sizes.specs.Groups.{ip4_key_len, ip6_key_len};
 ghost use Rattle.command_words.specs.Command.{Replay};
 ghost use Rattle.command_words.specs.CommandLine.{options_of};
-ghost use Rattle.command_plan.specs.Endings.{is_reported, is_usage};
-ghost use Rattle.command_plan.specs.Effects.{Takes, outside};
+ghost use Rattle.command_ending.specs.Endings.{is_reported, is_usage};
+ghost use Rattle.command_ending.specs.Effects.{Takes, outside};
 ghost use Rattle.acl_tool.specs.ReplayPlan.{image_cap, tables_in, tables_of_bytes};
 ghost use Rattle.acl_tool.specs.ReplayLoaded.{tables_of};
 ghost use Rattle.acl_tool.specs.Effects.{Answers};
 
 use acl_outside::{Desk, Sink};
 use capture_report::{PrintOptions, print_packets};
-use command_plan::{Status, read_file};
+use command_ending::{Status, read_file};
 use command_words::Options;
 use flat_table::Steps;
 use std::alloc::Global;

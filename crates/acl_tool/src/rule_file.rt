@@ -3,14 +3,14 @@
 ghost use Rattle.std.specs.Prelude.{◌≡◌, ◌≢◌, ◌⊎◌, false, Ok, Err, IfOk, IfErr};
 ghost use Rattle.acl_tool.specs.Listings.{refused_as, rules_refused};
 ghost use Rattle.field_defs.specs.Layout.{ip4_fields, ip6_fields};
-ghost use Rattle.command_plan.specs.Endings.{is_reported, is_usage};
+ghost use Rattle.command_ending.specs.Endings.{is_reported, is_usage};
 ghost use Rattle.acl_tool.specs.RuleTables.{rules_in, rules_of_bytes};
 ghost use Rattle.capture_report.specs.Classifier.{lists_of};
-ghost use Rattle.command_plan.specs.Effects.{Takes};
+ghost use Rattle.command_ending.specs.Effects.{Takes};
 
 use acl_outside::Desk;
 use classbench_reader::{LineFault, MAX_RULE_FILE, RuleFile, RulesFault, read_rules};
-use command_plan::{Status, read_file};
+use command_ending::{Status, read_file};
 use std::alloc::Global;
 
 /// Which of a command's rule files one is.

@@ -12,7 +12,7 @@ ghost use Rattle.acl_tool.specs.Held.{lists_held};
 
 use acl_context::{AclContext, BuildFault};
 use classbench_reader::RuleFile;
-use command_plan::Status;
+use command_ending::Status;
 use field_defs::Family;
 use flat_table::Table;
 use rule_set::RuleSet;

@@ -1,9 +1,9 @@
 //! A text that is whole in memory before its first byte is put.
 
-ghost use Rattle.command_plan.specs.Effects.{PutsLast};
+ghost use Rattle.command_ending.specs.Effects.{PutsLast};
 
 use acl_outside::{Failed, Sink, put_all};
-use command_plan::Status;
+use command_ending::Status;
 
 /// Puts the whole text. It takes no memory. `WriteFault`: a first part of it was put.
 pub fn put_text<O: Sink>(text: &[u8], out: &mut O) -> Status

@@ -3,9 +3,9 @@
 ghost use Rattle.std.specs.Prelude.{Ok, map, string_bytes};
 ghost use Rattle.command_words.specs.Command.{command};
 ghost use Rattle.command_words.specs.CommandLine.{request_of};
-ghost use Rattle.command_plan.specs.Message.{message};
+ghost use Rattle.command_ending.specs.Message.{message};
 ghost use Rattle.acl_tool.specs.Effects.{Answers, Runs};
-ghost use Rattle.command_plan.specs.Effects.{PutsLine, outside};
+ghost use Rattle.command_ending.specs.Effects.{PutsLine, outside};
 
 use crate::audit::audit;
 use crate::bench::bench;
@@ -16,7 +16,7 @@ use crate::replay::replay;
 use crate::session::session;
 use acl_outside::{Desk, Sink, put_all};
 use acl_report::LINE_ROOM;
-use command_plan::{Status, message_line};
+use command_ending::{Status, message_line};
 use command_words::{Request, read_words};
 use flat_table::Steps;
 use std::alloc::Global;

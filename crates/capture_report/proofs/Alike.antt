@@ -19,7 +19,7 @@ use Rattle.pcap_reader.specs.declared.fault.CaptureFault.{CaptureFault}
 use Rattle.pcap_reader.specs.State.{CaptureRecord}
 use Rattle.pcapng_reader.specs.Capture.{AnyState, Recorded, capture_of, records_in, whole_records}
 use Rattle.capture_report.specs.declared.form.PrintOptions.{PrintOptions}
-use Rattle.command_plan.specs.declared.status.Status.{Status}
+use Rattle.command_ending.specs.declared.status.Status.{Status}
 use Rattle.capture_report.specs.Packet.{IsPacket}
 use Rattle.capture_report.specs.Shown.{packet_of, shown, status_of_fault}
 use Rattle.capture_report.specs.Classifier.{Classifier, ByTables, Tables, AnswersAs, IsKey, answer_of}
@@ -27,11 +27,11 @@ use Rattle.capture_report.specs.ReportForm.{ReportForm, form_by}
 use Rattle.capture_report.specs.Report.{answers_of, answers_on, line_of_packet, lines_of_packets}
 use Rattle.capture_report.specs.Report.{lines_of_records, transitions_of_records}
 use Rattle.capture_report.specs.CaptureOutcome.{last_lines, report, report_of_capture, reported}
-use Rattle.command_plan.specs.declared.status.Status.TheVariants.{OutOfMemory}
-use Rattle.command_plan.specs.Plan.{printed}
-use Rattle.command_plan.specs.Effects.{Outside}
+use Rattle.command_ending.specs.declared.status.Status.TheVariants.{OutOfMemory}
+use Rattle.command_ending.specs.Plan.{printed}
+use Rattle.command_ending.specs.Effects.{Outside}
 use Rattle.capture_report.specs.PrintsCapture.{Reports, PrintsCapture}
-use Rattle.command_plan.proofs.Offered.{Ends-full, Ends-told, Ends-complete, IsFaithful}
+use Rattle.command_ending.proofs.Offered.{Ends-full, Ends-told, Ends-complete, IsFaithful}
 use Rattle.capture_report.specs.Streams.{Reading, Whole, Part, records_read, text_of, Streams}
 use Rattle.capture_report.proofs.Bounds.{rise_bound}
 use Rattle.capture_report.proofs.WholeRecords.{report-begins}

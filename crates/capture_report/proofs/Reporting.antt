@@ -17,23 +17,23 @@ use Rattle.pcapng_reader.specs.Reader.{ReadsStart}
 use Rattle.pcapng_reader.specs.Reading.{stands}
 use Rattle.pcap_reader.specs.Fill.{KeepsReading, IsAtEnd}
 use Rattle.pcap_reader.proofs.Offered.{KeepsReading-same, KeepsReading-join}
-use Rattle.command_plan.specs.declared.status.Status.{Status}
-use Rattle.command_plan.specs.declared.status.Status.TheVariants.{CaptureRefused, ReadFault, WriteFault, OutOfMemory}
+use Rattle.command_ending.specs.declared.status.Status.{Status}
+use Rattle.command_ending.specs.declared.status.Status.TheVariants.{CaptureRefused, ReadFault, WriteFault, OutOfMemory}
 use Rattle.capture_report.specs.ReportForm.{ReportForm}
 use Rattle.capture_report.specs.Report.{lines_of_records, transitions_of_records}
-use Rattle.command_plan.specs.Plan.{Outcome, Plan, Give, silent, found, settled}
-use Rattle.command_plan.specs.Follow.{Given, Within, IsEnough, IsOpened, IsOneOf, said_in, status_within}
-use Rattle.command_plan.specs.Endings.{is_decided, is_usage}
+use Rattle.command_ending.specs.Plan.{Outcome, Plan, Give, silent, found, settled}
+use Rattle.command_ending.specs.Follow.{Given, Within, IsEnough, IsOpened, IsOneOf, said_in, status_within}
+use Rattle.command_ending.specs.Endings.{is_decided, is_usage}
 use Rattle.capture_report.specs.CaptureOutcome.{refusal, report, report_of_capture, reported, lines_so_far}
 use Rattle.capture_report.specs.CaptureOutcome.{text_of_records}
 use Rattle.capture_report.specs.Shown.{status_of_fault}
-use Rattle.command_plan.specs.Effects.{Outside, outside, files_of, opened_of, heard_of, earlier_of, KeepsFiles, Ends}
+use Rattle.command_ending.specs.Effects.{Outside, outside, files_of, opened_of, heard_of, earlier_of, KeepsFiles, Ends}
 use Rattle.capture_report.specs.PrintsCapture.{KeepsUp, Reports}
 use Rattle.capture_report.specs.Streams.{Reading, Whole, Part, records_read, text_of, IsUnbroken, AreRead, IsStatus}
 use Rattle.capture_report.specs.Streams.{BreaksOffSoon, Streams}
-use Rattle.command_plan.proofs.Offered.{Gains-none}
-use Rattle.command_plan.proofs.Offered.{heard_file, part_told, opened_told, opened_absent, kept_files, cannot_open}
-use Rattle.command_plan.proofs.Offered.{unopened_kept, undecided_within, CannotRead-because}
+use Rattle.command_ending.proofs.Offered.{Gains-none}
+use Rattle.command_ending.proofs.Offered.{heard_file, part_told, opened_told, opened_absent, kept_files, cannot_open}
+use Rattle.command_ending.proofs.Offered.{unopened_kept, undecided_within, CannotRead-because}
 use Rattle.capture_report.proofs.Reader.{ReadHeader, RefusedHeader, RefusedHeader-from, BrokenHeader, BrokenHeader-from}
 
 -- an opened file, of which these bytes were heard

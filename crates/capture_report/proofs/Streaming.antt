@@ -15,8 +15,8 @@ use Rattle.pcapng_reader.specs.Reading.{FaultStands}
 use Rattle.acl_report.specs.declared.counts.Counts.{Counts}
 use Rattle.capture_report.specs.declared.batch.BatchEnd.{BatchEnd}
 use Rattle.capture_report.specs.declared.batch.BatchEnd.TheVariants.{Full, End, Fault}
-use Rattle.command_plan.specs.declared.status.Status.{Status}
-use Rattle.command_plan.specs.declared.status.Status.TheVariants.{CaptureRefused, WriteFault}
+use Rattle.command_ending.specs.declared.status.Status.{Status}
+use Rattle.command_ending.specs.declared.status.Status.TheVariants.{CaptureRefused, WriteFault}
 use Rattle.capture_report.specs.NextRecord.{IsBegun}
 use Rattle.capture_report.specs.Packet.{IsPacket}
 use Rattle.capture_report.specs.Shown.{counts_of_records, packet_of}
@@ -25,13 +25,13 @@ use Rattle.capture_report.specs.Report.{counted_all, lines_of_packets, lines_of_
 use Rattle.capture_report.specs.Report.{transitions_of_packets, transitions_of_records}
 use Rattle.capture_report.specs.Taken.{BatchStands, AreAll, Took, TakesBatch}
 use Rattle.capture_report.specs.CaptureOutcome.{last_lines, last_text, refusal}
-use Rattle.command_plan.specs.Follow.{IsOpened}
-use Rattle.command_plan.specs.Effects.{Outside, PutsLast}
+use Rattle.command_ending.specs.Follow.{IsOpened}
+use Rattle.command_ending.specs.Effects.{Outside, PutsLast}
 use Rattle.capture_report.specs.Streams.{Whole, Part, IsUnbroken, Streams}
 use Rattle.capture_report.proofs.Taking.{Took-none, Took-then, AreOfBatch-part}
 use Rattle.capture_report.proofs.LineLaws.{transitions_of_records-append, lines_of_records-append}
 use Rattle.capture_report.proofs.LineLaws.{counts_of_records-append, packets_counted, lines_in-records}
-use Rattle.command_plan.proofs.Offered.{Gains-none}
+use Rattle.command_ending.proofs.Offered.{Gains-none}
 
 -- how far the printing of a capture is: the reader's state, what was counted, and the outside
 pub record Standing : Type 0 where

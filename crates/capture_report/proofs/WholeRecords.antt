@@ -10,7 +10,7 @@ use Rattle.capture_report.specs.CaptureOutcome.{last_lines, lines_so_far, report
 use Rattle.capture_report.specs.Shown.{packet_of}
 use Rattle.capture_report.proofs.LineLaws.{lines_of_records-append}
 use Rattle.capture_report.proofs.Reader.{AreFirst, whole_first}
-use Rattle.command_plan.proofs.Offered.{BeginsWith, BeginsWith-nothing}
+use Rattle.command_ending.proofs.Offered.{BeginsWith, BeginsWith-nothing}
 
 lines_first : (form : ReportForm) (front all : List CaptureRecord) (later : List ℕ) → AreFirst front all →
     BeginsWith (lines_of_records form front) (lines_of_records form all ++ later)

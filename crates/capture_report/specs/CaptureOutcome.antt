@@ -7,13 +7,13 @@ use Rattle.pcap_reader.specs.declared.fault.CaptureFault.{CaptureFault}
 use Rattle.pcap_reader.specs.declared.fault.CaptureFault.TheVariants.{ReadFault as CannotRead}
 use Rattle.pcap_reader.specs.State.{CaptureRecord}
 use Rattle.pcapng_reader.specs.Capture.{Recorded, capture_of, whole_records}
-use Rattle.command_plan.specs.declared.status.Status.{Status}
-use Rattle.command_plan.specs.declared.status.Status.TheVariants.{CaptureRefused, ReadFault}
+use Rattle.command_ending.specs.declared.status.Status.{Status}
+use Rattle.command_ending.specs.declared.status.Status.TheVariants.{CaptureRefused, ReadFault}
 use Rattle.capture_report.specs.ReportForm.{ReportForm}
 use Rattle.capture_report.specs.Shown.{counts_of_records, status_of_fault}
 use Rattle.capture_report.specs.Report.{lines_of_records, stats_of}
 use Rattle.capture_report.specs.Report.{transitions_of_records}
-use Rattle.command_plan.specs.Plan.{Outcome, printed, silent, Plan, Give, Read}
+use Rattle.command_ending.specs.Plan.{Outcome, printed, silent, Plan, Give, Read}
 
 -- the line of the counts, and those of the tables and transitions where they are asked for
 abbrev pub last_text : ReportForm → Counts → ℕ → List ℕ

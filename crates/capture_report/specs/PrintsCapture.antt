@@ -4,20 +4,20 @@ use Rattle.std.specs.Prelude.{Some}
 use Rattle.acl_outside.specs.Desk.{File}
 use Rattle.acl_outside.specs.Heard.{Heard}
 use Rattle.acl_outside.specs.Sink.{Gains}
-use Rattle.command_plan.specs.declared.status.Status.{Status}
-use Rattle.command_plan.specs.declared.status.Status.TheVariants.{WriteFault, OutOfMemory}
+use Rattle.command_ending.specs.declared.status.Status.{Status}
+use Rattle.command_ending.specs.declared.status.Status.TheVariants.{WriteFault, OutOfMemory}
 use Rattle.pcapng_reader.specs.Capture.{whole_records}
 use Rattle.capture_report.specs.Classifier.{Classifier, ByTables, Tables, AnswersAs}
 use Rattle.capture_report.specs.declared.form.PrintOptions.{PrintOptions}
 use Rattle.capture_report.specs.ReportForm.{ReportForm, form_by}
 use Rattle.capture_report.specs.Report.{lines_in}
 use Rattle.capture_report.specs.Taken.{max_batch}
-use Rattle.command_plan.specs.Plan.{found, settled}
-use Rattle.command_plan.specs.Endings.{is_decided, is_reported, is_usage}
+use Rattle.command_ending.specs.Plan.{found, settled}
+use Rattle.command_ending.specs.Endings.{is_decided, is_reported, is_usage}
 use Rattle.capture_report.specs.Bound.{most_of_records}
 use Rattle.capture_report.specs.CaptureOutcome.{reported}
-use Rattle.command_plan.specs.Effects.{Outside, Ends, EndsAsTold, HasNoFault, heard_of, earlier_of}
-use Rattle.command_plan.specs.Effects.{files_of, opened_of}
+use Rattle.command_ending.specs.Effects.{Outside, Ends, EndsAsTold, HasNoFault, heard_of, earlier_of}
+use Rattle.command_ending.specs.Effects.{files_of, opened_of}
 
 -- Of the records that were heard of the named capture at most a batch has no line in what the sink
 -- gained.

@@ -12,8 +12,8 @@ use Rattle.pcap_reader.specs.State.{CaptureRecord}
 use Rattle.pcapng_reader.specs.Capture.{Recorded}
 use Rattle.acl_report.specs.declared.counts.Counts.{Counts}
 use Rattle.acl_report.specs.Counts.{counts_of}
-use Rattle.command_plan.specs.declared.status.Status.{Status}
-use Rattle.command_plan.specs.declared.status.Status.TheVariants.{Done, CaptureRefused}
+use Rattle.command_ending.specs.declared.status.Status.{Status}
+use Rattle.command_ending.specs.declared.status.Status.TheVariants.{Done, CaptureRefused}
 
 -- the class of the record's frame by its link type, and the key of the packet in it
 abbrev pub packet_of : CaptureRecord → FrameClass

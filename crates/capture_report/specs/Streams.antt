@@ -9,16 +9,16 @@ use Rattle.pcap_reader.specs.State.{CaptureRecord}
 use Rattle.pcap_reader.specs.Fill.{KeepsReading, IsAtEnd}
 use Rattle.pcapng_reader.specs.Capture.{AnyState}
 use Rattle.pcapng_reader.specs.Reading.{stands}
-use Rattle.command_plan.specs.declared.status.Status.{Status}
-use Rattle.command_plan.specs.declared.status.Status.TheVariants.{ReadFault, WriteFault}
+use Rattle.command_ending.specs.declared.status.Status.{Status}
+use Rattle.command_ending.specs.declared.status.Status.TheVariants.{ReadFault, WriteFault}
 use Rattle.capture_report.specs.Packet.{IsPacket}
 use Rattle.capture_report.specs.Shown.{packet_of, status_of_fault}
 use Rattle.capture_report.specs.ReportForm.{ReportForm}
 use Rattle.capture_report.specs.Report.{lines_of_records, lines_in, transitions_of_records}
 use Rattle.capture_report.specs.Taken.{max_batch, AreAll, AreWhole}
 use Rattle.capture_report.specs.CaptureOutcome.{text_of_records}
-use Rattle.command_plan.specs.Follow.{IsOpened}
-use Rattle.command_plan.specs.Effects.{Outside}
+use Rattle.command_ending.specs.Follow.{IsOpened}
+use Rattle.command_ending.specs.Effects.{Outside}
 
 -- How far the reading came: to the ending of the capture, after these records, or after these
 -- whole records.

@@ -2,7 +2,7 @@
 
 ghost use Rattle.std.specs.Prelude.{◌≡◌};
 ghost use Rattle.table_sizes.specs.Groups.{ip4_key_len, ip6_key_len};
-ghost use Rattle.command_plan.specs.Effects.{outside};
+ghost use Rattle.command_ending.specs.Effects.{outside};
 ghost use Rattle.capture_report.specs.CaptureOutcome.{refusal};
 ghost use Rattle.capture_report.specs.PrintsCapture.{PrintsCapture};
 
@@ -10,7 +10,7 @@ use crate::conductor::print_records;
 use crate::form::{FormByTables, PrintOptions};
 use crate::room::Room;
 use acl_outside::{Desk, Failed, Sink};
-use command_plan::Status;
+use command_ending::Status;
 use flat_table::{Steps, Table};
 use pcap_reader::{BeginFault, CaptureFault};
 use pcapng_reader::AnyCapture;

@@ -2,7 +2,7 @@
 
 ghost use Rattle.std.specs.Prelude.{◌≡◌, ◌+◌, ◌*◌, ◌≤◌, IsTrue, length};
 ghost use Rattle.acl_outside.specs.Sink.{Puts};
-ghost use Rattle.command_plan.specs.Effects.{PutsLast, outside};
+ghost use Rattle.command_ending.specs.Effects.{PutsLast, outside};
 ghost use Rattle.capture_report.specs.NextRecord.{IsBegun};
 ghost use Rattle.capture_report.specs.Report.{counted_all, lines_of_packets};
 ghost use Rattle.capture_report.specs.Report.{transitions_of_packets};
@@ -19,7 +19,7 @@ use crate::room::Room;
 use crate::verdicts::walk_keys;
 use acl_outside::{Desk, Failed, Sink, put_all};
 use acl_report::Counts;
-use command_plan::Status;
+use command_ending::Status;
 use field_defs::Family;
 use flat_table::Steps;
 use pcapng_reader::AnyCapture;

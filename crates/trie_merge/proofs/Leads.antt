@@ -11,15 +11,15 @@ use Rattle.std.proofs.lemmas.List.Folds.{list_any-append}
 use Rattle.std.proofs.lemmas.List.Elements.{filter_map-append, All-get_or, All-from_recursion}
 use Rattle.list_lemmas.proofs.Passing.{each_push, apart_push, followers_counted}
 use Rattle.table_sizes.specs.Sizes.{cost_of}
-use Rattle.shared_parts.specs.declared.pieces.Piece.{Piece}
-use Rattle.shared_parts.specs.declared.target.Target.{Target}
-use Rattle.shared_parts.specs.Keys.{KeyAt, same_pair}
-use Rattle.shared_parts.specs.Target.{count, Grows, HasEntry, IsFoundIn}
-use Rattle.shared_parts.specs.Pieces.{number_at, Covers, Pushed, PiecesLead, Merges}
-use Rattle.shared_parts.proofs.Offered.{count_grows, grows_none, grows_on, found_grows, leads_grow, entry_is_led}
-use Rattle.shared_parts.proofs.Offered.{key_at, pair_sound}
-use Rattle.shared_parts.specs.Tree.{Tree, leaves, IsLeaf, Stands}
-use Rattle.shared_parts.specs.Tree.Tree.{Leaf, Node}
+use Rattle.state_parts.specs.declared.pieces.Piece.{Piece}
+use Rattle.state_parts.specs.declared.target.Target.{Target}
+use Rattle.state_parts.specs.Keys.{KeyAt, same_pair}
+use Rattle.state_parts.specs.Target.{count, Grows, HasEntry, IsFoundIn}
+use Rattle.state_parts.specs.Pieces.{number_at, Covers, Pushed, PiecesLead, Merges}
+use Rattle.state_parts.proofs.Offered.{count_grows, grows_none, grows_on, found_grows, leads_grow, entry_is_led}
+use Rattle.state_parts.proofs.Offered.{key_at, pair_sound}
+use Rattle.state_parts.specs.Tree.{Tree, leaves, IsLeaf, Stands}
+use Rattle.state_parts.specs.Tree.Tree.{Leaf, Node}
 use Rattle.group_states.specs.Entry.{ColumnView, entry_step, is_entry_cut}
 use Rattle.list_lemmas.proofs.Each.{all_weaker, all-append}
 use Rattle.group_states.specs.Found.{all_bytes}

@@ -17,12 +17,12 @@ use Rattle.list_lemmas.proofs.Elements.{length-AllZip}
 use Rattle.table_sizes.specs.Sizes.{cost_of, row_len}
 use Rattle.rule_set.specs.Laws.{RanksOrderRules, TheBestHasTheGreatestRank}
 use Rattle.rule_set.specs.Rule.{RuleSetView}
-use Rattle.shared_parts.specs.declared.pieces.Piece.{Piece}
-use Rattle.shared_parts.specs.declared.target.Target.{Target}
-use Rattle.shared_parts.specs.declared.target.Target.TheVariants.{Parts, Rows}
-use Rattle.shared_parts.specs.Pieces.{number_at}
-use Rattle.shared_parts.specs.Target.{count}
-use Rattle.shared_parts.proofs.Offered.{count_grows}
+use Rattle.state_parts.specs.declared.pieces.Piece.{Piece}
+use Rattle.state_parts.specs.declared.target.Target.{Target}
+use Rattle.state_parts.specs.declared.target.Target.TheVariants.{Parts, Rows}
+use Rattle.state_parts.specs.Pieces.{number_at}
+use Rattle.state_parts.specs.Target.{count}
+use Rattle.state_parts.proofs.Offered.{count_grows}
 use Rattle.list_lemmas.proofs.Tests.{bytes_eq_refl}
 use Rattle.list_lemmas.proofs.Each.{all_weaker, all-map}
 use Rattle.group_states.proofs.Offered.{each_of_bytes, is_new, all_found, none_new_once_found}

@@ -12,11 +12,11 @@ use Rattle.field_defs.specs.Layout.{key_len_of}
 use Rattle.field_defs.proofs.Offered.{short_keys}
 use Rattle.rule_set.specs.Rule.{RuleSetView}
 use Rattle.node_expand.specs.declared.edge.Edge.TheVariants.{Free}
-use Rattle.shared_parts.specs.Rows.{rule_of}
-use Rattle.shared_parts.specs.RowsView.{RowsView}
-use Rattle.shared_parts.specs.Target.{count, HasEntry}
-use Rattle.shared_parts.specs.declared.target.Target.{Target}
-use Rattle.shared_parts.specs.declared.target.Target.TheVariants.{Parts, Rows}
+use Rattle.state_parts.specs.Rows.{rule_of}
+use Rattle.state_parts.specs.RowsView.{RowsView}
+use Rattle.state_parts.specs.Target.{count, HasEntry}
+use Rattle.state_parts.specs.declared.target.Target.{Target}
+use Rattle.state_parts.specs.declared.target.Target.TheVariants.{Parts, Rows}
 use Rattle.table_sizes.specs.Sizes.{cost_of, row_len}
 use Rattle.group_states.proofs.Offered.{Stands, packed_stands, IsHeld, IsEntryAt, packed_state, packed_state_start}
 use Rattle.group_states.proofs.Offered.{packed_entries, entry_can_step, entries_next, zeros_on, zeros_small}

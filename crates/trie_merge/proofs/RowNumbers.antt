@@ -13,11 +13,11 @@ use Rattle.rule_set.specs.Fault.{categories}
 use Rattle.rule_set.specs.Winner.{is_in_category}
 use Rattle.rule_set.specs.Among.{passes_at, best_among}
 use Rattle.rule_set.specs.Laws.{RanksOrderRules, TheBestHasTheGreatestRank}
-use Rattle.shared_parts.specs.declared.rows.Ranked.{Ranked}
-use Rattle.shared_parts.specs.declared.target.Target.{Target}
-use Rattle.shared_parts.specs.Rows.{row_of_rule, row_of_entry, join_rows, best_row}
-use Rattle.shared_parts.specs.Tree.{leaves}
-use Rattle.shared_parts.proofs.Offered.{get-join-any}
+use Rattle.state_parts.specs.declared.rows.Ranked.{Ranked}
+use Rattle.state_parts.specs.declared.target.Target.{Target}
+use Rattle.state_parts.specs.Rows.{row_of_rule, row_of_entry, join_rows, best_row}
+use Rattle.state_parts.specs.Tree.{leaves}
+use Rattle.state_parts.proofs.Offered.{get-join-any}
 use Rattle.list_lemmas.proofs.Each.{all_weaker}
 use Rattle.group_states.specs.Entry.{ColumnView, number_in, is_entry_cut}
 use Rattle.group_states.specs.Lists.{row_list}

@@ -6,10 +6,10 @@ use Rattle.std.proofs.lemmas.List.{map_push, append_assoc, append-nil, take_all,
 use Rattle.std.proofs.lemmas.List.Sums.{fold-append}
 use Rattle.std.proofs.lemmas.Bool.{cases_Bool, ne_eqb, eq-eqb, not-false}
 use Rattle.std.specs.Str.{bytes_eq}
-use Rattle.shared_parts.specs.declared.pieces.Piece.{Piece}
-use Rattle.shared_parts.specs.Pieces.{number_at, Covers}
-use Rattle.shared_parts.proofs.Offered.{RestIs, no_piece, piece_from, piece_small, piece_at, rest_on, rest_below}
-use Rattle.shared_parts.proofs.Offered.{rest_all, rest_some}
+use Rattle.state_parts.specs.declared.pieces.Piece.{Piece}
+use Rattle.state_parts.specs.Pieces.{number_at, Covers}
+use Rattle.state_parts.proofs.Offered.{RestIs, no_piece, piece_from, piece_small, piece_at, rest_on, rest_below}
+use Rattle.state_parts.proofs.Offered.{rest_all, rest_some}
 use Rattle.group_states.proofs.Offered.{is_new, found_grows, stays_found, goes_after, old_once_found, length-all_bytes}
 use Rattle.group_states.proofs.Offered.{one_more_byte, some_runs, no_runs, all_runs, run_ends, run_goes_on}
 use Rattle.group_states.specs.Found.{all_bytes}

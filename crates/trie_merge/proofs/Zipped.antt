@@ -10,16 +10,16 @@ use Rattle.std.proofs.lemmas.Option.{option_and_then_some}
 use Rattle.rule_set.specs.Rule.{RuleSetView}
 use Rattle.rule_set.specs.Rank.{rank_of}
 use Rattle.rule_set.specs.Laws.{RanksOrderRules, TheBestHasTheGreatestRank}
-use Rattle.shared_parts.specs.declared.target.Target.{Target}
-use Rattle.shared_parts.specs.declared.target.Target.TheVariants.{Parts, Rows}
-use Rattle.shared_parts.specs.RowsView.{RowsView}
-use Rattle.shared_parts.specs.Tree.{Tree, leaves, Stands, stepped}
-use Rattle.shared_parts.specs.Tree.Tree.{Leaf, Node}
-use Rattle.shared_parts.specs.Rows.{best_row, IsRow}
-use Rattle.shared_parts.specs.Target.{Grows, Leads, StandsIn}
-use Rattle.shared_parts.proofs.Offered.{SameOn, stands_alone, stands_for_one, still_stands, row_grows, row_alone}
+use Rattle.state_parts.specs.declared.target.Target.{Target}
+use Rattle.state_parts.specs.declared.target.Target.TheVariants.{Parts, Rows}
+use Rattle.state_parts.specs.RowsView.{RowsView}
+use Rattle.state_parts.specs.Tree.{Tree, leaves, Stands, stepped}
+use Rattle.state_parts.specs.Tree.Tree.{Leaf, Node}
+use Rattle.state_parts.specs.Rows.{best_row, IsRow}
+use Rattle.state_parts.specs.Target.{Grows, Leads, StandsIn}
+use Rattle.state_parts.proofs.Offered.{SameOn, stands_alone, stands_for_one, still_stands, row_grows, row_alone}
 use Rattle.list_lemmas.proofs.Tests.{bytes_eq_sound}
-use Rattle.shared_parts.proofs.Offered.{row_is, key_at, key_some}
+use Rattle.state_parts.proofs.Offered.{row_is, key_at, key_some}
 use Rattle.group_states.specs.Entry.{ColumnView, number_in, entries_step}
 use Rattle.group_states.specs.Lists.{lists_with, succ_in, row_list, successor}
 use Rattle.group_states.specs.State.{is_live}

@@ -3,9 +3,9 @@
 use Rattle.std.specs.Prelude.{◌≡◌, ℕ, ◌-◌, ◌<◌, ◌≤◌, ◌==◌, List, [], ◌∷◌, ◌++◌, length, take}
 use Rattle.std.specs.Prelude.{slice_index_or, true, false, Option, Some, None}
 use Rattle.std.specs.List.{list_any, AllByRecursion}
-use Rattle.shared_parts.specs.declared.target.Target.{Target}
-use Rattle.shared_parts.specs.declared.target.Target.TheVariants.{Parts, Rows}
-use Rattle.shared_parts.specs.Target.{HasEntry}
+use Rattle.state_parts.specs.declared.target.Target.{Target}
+use Rattle.state_parts.specs.declared.target.Target.TheVariants.{Parts, Rows}
+use Rattle.state_parts.specs.Target.{HasEntry}
 use Rattle.group_states.specs.Entry.{ColumnView, CanStep, is_entry_cut}
 use Rattle.trie_merge.specs.Led.{ComesFrom}
 use Rattle.trie_merge.specs.declared.cuts.Cuts.{Cuts}

@@ -1,11 +1,11 @@
 -- Where entries and parts lead from one place.
 use Rattle.std.specs.Prelude.{◌≡◌, ℕ, ◌+◌, ◌<◌, ◌≤◌, List, [], length, true, Option, Some, ◌⊎◌}
 use Rattle.std.specs.Prelude.{slice_index_or}
-use Rattle.shared_parts.specs.declared.pieces.Piece.{Piece}
-use Rattle.shared_parts.specs.declared.target.Target.{Target}
-use Rattle.shared_parts.specs.Keys.{has_entry}
-use Rattle.shared_parts.specs.Target.{count, Grows, HasEntry, IsFoundIn}
-use Rattle.shared_parts.specs.Pieces.{number_at, Covers, PiecesLead}
+use Rattle.state_parts.specs.declared.pieces.Piece.{Piece}
+use Rattle.state_parts.specs.declared.target.Target.{Target}
+use Rattle.state_parts.specs.Keys.{has_entry}
+use Rattle.state_parts.specs.Target.{count, Grows, HasEntry, IsFoundIn}
+use Rattle.state_parts.specs.Pieces.{number_at, Covers, PiecesLead}
 use Rattle.group_states.specs.Entry.{ColumnView, entry_step}
 
 -- what a byte of the place makes of an entry

@@ -3,12 +3,12 @@ use Rattle.std.specs.Prelude.{◌≡◌, ℕ, ◌+◌, ◌*◌, ◌≤◌, List,
 use Rattle.std.specs.Prelude.{true, Option, None, ◌<◌, All}
 use Rattle.std.specs.List.Sorted.{IsStrictlyIncreasing}
 use Rattle.rule_set.specs.Rule.{RuleSetView}
-use Rattle.shared_parts.specs.declared.pieces.Piece.{Piece}
-use Rattle.shared_parts.specs.declared.target.Target.{Target}
-use Rattle.shared_parts.specs.Keys.{has_entry}
-use Rattle.shared_parts.specs.Pieces.{number_at, PiecesLead}
-use Rattle.shared_parts.specs.Slices.{pieces_of, IsPieces}
-use Rattle.shared_parts.specs.Target.{count, HasEntry}
+use Rattle.state_parts.specs.declared.pieces.Piece.{Piece}
+use Rattle.state_parts.specs.declared.target.Target.{Target}
+use Rattle.state_parts.specs.Keys.{has_entry}
+use Rattle.state_parts.specs.Pieces.{number_at, PiecesLead}
+use Rattle.state_parts.specs.Slices.{pieces_of, IsPieces}
+use Rattle.state_parts.specs.Target.{count, HasEntry}
 use Rattle.table_sizes.specs.Sizes.{cost_of, row_len}
 use Rattle.group_states.specs.Entry.{ColumnView, CanStep}
 use Rattle.group_states.specs.Found.{all_bytes}

@@ -3,8 +3,8 @@ use Rattle.std.specs.Prelude.{◌≡◌, ℕ, ◌+◌, ◌-◌, ◌<◌, List, [
 use Rattle.std.specs.List.{range_with_len}
 use Rattle.rule_set.specs.Rule.{RuleView, RuleSetView}
 use Rattle.rule_set.specs.Rank.{rank_of}
-use Rattle.shared_parts.specs.declared.rows.Ranked.{Ranked}
-use Rattle.shared_parts.specs.RowsView.{RowsView}
+use Rattle.state_parts.specs.declared.rows.Ranked.{Ranked}
+use Rattle.state_parts.specs.RowsView.{RowsView}
 
 -- a rule without categories
 abbrev pub no_rule : RuleView

@@ -2,8 +2,8 @@
 use Rattle.std.specs.Prelude.{◌≡◌, ℕ, ◌+◌, ◌*◌, ◌<◌, ◌≤◌, ◌==◌, List, length, nat_lt, slice_index_or, All}
 use Rattle.std.specs.Prelude.{Option, Some, None, if◌then◌else◌}
 use Rattle.rule_set.specs.Rule.{RuleSetView}
-use Rattle.shared_parts.specs.declared.target.Target.TheVariants.{Parts}
-use Rattle.shared_parts.specs.Target.{count, HasEntry}
+use Rattle.state_parts.specs.declared.target.Target.TheVariants.{Parts}
+use Rattle.state_parts.specs.Target.{count, HasEntry}
 use Rattle.table_sizes.specs.Sizes.{row_len}
 use Rattle.group_states.specs.Entry.{ColumnView, CanStep, column_at}
 use Rattle.group_states.specs.Levels.{levels_of}

@@ -2,11 +2,11 @@
 use Rattle.std.specs.Prelude.{◌≡◌, ℕ, ◌==◌, List, [], ◌∷◌, Bool, true, false, Option, Some}
 use Rattle.std.specs.List.{filter_map, list_any}
 use Rattle.rule_set.specs.Rule.{RuleSetView}
-use Rattle.shared_parts.specs.declared.target.Target.{Target}
-use Rattle.shared_parts.specs.declared.target.Target.TheVariants.{Parts, Rows}
-use Rattle.shared_parts.specs.RowsView.{RowsView}
-use Rattle.shared_parts.specs.Tree.{Tree, leaves, Stands}
-use Rattle.shared_parts.specs.Rows.{best_row, IsRow}
+use Rattle.state_parts.specs.declared.target.Target.{Target}
+use Rattle.state_parts.specs.declared.target.Target.TheVariants.{Parts, Rows}
+use Rattle.state_parts.specs.RowsView.{RowsView}
+use Rattle.state_parts.specs.Tree.{Tree, leaves, Stands}
+use Rattle.state_parts.specs.Rows.{best_row, IsRow}
 use Rattle.group_states.specs.Entry.{number_in}
 use Rattle.group_states.specs.Laws.{IsGrouped}
 use Rattle.group_states.specs.Lists.{row_list}

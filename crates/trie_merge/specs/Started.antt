@@ -3,12 +3,12 @@ use Rattle.std.specs.List.{list_any}
 use Rattle.std.specs.Prelude.{◌≡◌, ℕ, ◌==◌, ◌<◌, ◌≤◌, List, [], ◌∷◌, length, map, true, All, Contains}
 use Rattle.node_expand.specs.declared.edge.Edge.TheVariants.{Free}
 use Rattle.rule_set.specs.Rule.{RuleSetView}
-use Rattle.shared_parts.specs.declared.target.Target.{Target}
-use Rattle.shared_parts.specs.declared.target.Target.TheVariants.{Parts, Rows}
-use Rattle.shared_parts.specs.RowsView.{RowsView}
-use Rattle.shared_parts.specs.Keys.{has_entry}
-use Rattle.shared_parts.specs.Joined.{IsAll}
-use Rattle.shared_parts.specs.Target.{count}
+use Rattle.state_parts.specs.declared.target.Target.{Target}
+use Rattle.state_parts.specs.declared.target.Target.TheVariants.{Parts, Rows}
+use Rattle.state_parts.specs.RowsView.{RowsView}
+use Rattle.state_parts.specs.Keys.{has_entry}
+use Rattle.state_parts.specs.Joined.{IsAll}
+use Rattle.state_parts.specs.Target.{count}
 use Rattle.group_states.specs.Entry.{entry_of}
 use Rattle.group_states.specs.Row.{rows_of}
 use Rattle.trie_merge.specs.Names.{ranked_of}

@@ -5,7 +5,7 @@ ghost use Rattle.std.specs.Prelude.{map, length, slice_index_or, true, None, min
 ghost use Rattle.std.specs.Prelude.{IfSome};
 ghost use Rattle.node_expand.specs.declared.edge.Edge.TheVariants.{Free};
 ghost use Rattle.field_defs.specs.Layout.{key_len_of};
-ghost use Rattle.shared_parts.specs.Target.{HasEntry};
+ghost use Rattle.state_parts.specs.Target.{HasEntry};
 ghost use Rattle.table_sizes.specs.Sizes.{max_words};
 ghost use Rattle.group_states.specs.Entry.{entry_of, column_at};
 ghost use Rattle.group_states.specs.Kept.{kept_places, kept_bits};
@@ -29,7 +29,7 @@ use crate::order::{Keyed, order_rules};
 use indexmap::IndexSet;
 use node_expand::Edge;
 use rule_set::RuleSet;
-use shared_parts::{Parts, Rows, Target};
+use state_parts::{Parts, Rows, Target};
 use std::alloc::{AllocError, Global};
 use table_sizes::ROW_LEN;
 

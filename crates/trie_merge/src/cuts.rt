@@ -7,13 +7,13 @@
 ghost use Rattle.std.specs.Prelude.{◌≡◌, ℕ, ◌+◌, ◌-◌, ◌<◌, ◌≤◌, ◌==◌, ◌++◌, ◌∷◌, [], List};
 ghost use Rattle.std.specs.Prelude.{length, take, slice_index_or, true, OnOk, IfOk};
 ghost use Rattle.std.specs.List.{list_any};
-ghost use Rattle.shared_parts.specs.Keys.{has_entry};
+ghost use Rattle.state_parts.specs.Keys.{has_entry};
 ghost use Rattle.trie_merge.specs.Cuts.{IsCutAt, Knows, AreBuilt, IsBuilt, no_cuts};
 ghost use Rattle.group_states.specs.Entry.{ColumnView, CanStep};
 ghost use Rattle.table_sizes.specs.Sizes.{cost_of};
 
 use crate::column::Column;
-use shared_parts::Parts;
+use state_parts::Parts;
 use std::alloc::AllocError;
 
 /// The bytes from 1 on at which what a part leads to changes: up to four, or that there are more.

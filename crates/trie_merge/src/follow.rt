@@ -2,13 +2,13 @@
 
 ghost use Rattle.std.specs.Prelude.{◌≡◌, ℕ, ◌+◌, ◌<◌, ◌≤◌, ◌⊎◌, true, length};
 ghost use Rattle.std.specs.Prelude.{OnOk, IfOk, Some, None};
-ghost use Rattle.shared_parts.specs.Keys.{has_entry};
-ghost use Rattle.shared_parts.specs.Target.{count, Grows, HasEntry, IsFoundIn};
+ghost use Rattle.state_parts.specs.Keys.{has_entry};
+ghost use Rattle.state_parts.specs.Target.{count, Grows, HasEntry, IsFoundIn};
 ghost use Rattle.group_states.specs.Entry.{ColumnView, entry_step, CanStep};
 ghost use Rattle.trie_merge.specs.Led.{EntryLed, PartLed, StepsLed, AllLed};
 
 use crate::column::Column;
-use shared_parts::{PartPieces, Parts, Piece, Target, merge, push_piece};
+use state_parts::{PartPieces, Parts, Piece, Target, merge, push_piece};
 use std::alloc::AllocError;
 
 /// The number of what is left of one rule.

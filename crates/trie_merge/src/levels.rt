@@ -2,7 +2,7 @@
 
 use crate::merge::Pieces;
 use group_states::Run;
-use shared_parts::slice;
+use state_parts::slice;
 use std::marker::Model;
 use table_sizes::ROW_LEN;
 
@@ -15,7 +15,7 @@ pub(crate) struct Level {
 impl Model for Level {
     ghost use Rattle.std.specs.Prelude.{List, length};
     ghost use Rattle.group_states.specs.declared.run.Run.{Run};
-    ghost use Rattle.shared_parts.specs.Slices.{pieces_of, IsPieces};
+    ghost use Rattle.state_parts.specs.Slices.{pieces_of, IsPieces};
 
     ghost Value = { List (List Run) };
 
@@ -26,7 +26,7 @@ impl Model for Level {
 
 impl Level {
     ghost use Rattle.std.specs.Prelude.{◌≡◌, ◌<◌, [], length, slice_index_or};
-    ghost use Rattle.shared_parts.specs.Slices.{pieces_of, IsPieces};
+    ghost use Rattle.state_parts.specs.Slices.{pieces_of, IsPieces};
 
     /// The level of the pieces.
     pub(crate) fn new(pieces: Pieces) -> Self

@@ -7,7 +7,7 @@
 //! match, each with its rest. Many beginnings of keys have one state, so states are merged, after
 //! the tries of DPDK's `lib/acl` (`acl_bld.c`), which merges the rules' tries one after the other.
 //!
-//! A state is kept as a number of `shared_parts`: the group is halved again and again, what a state
+//! A state is kept as a number of `state_parts`: the group is halved again and again, what a state
 //! has of each half is a part with a number of its own, and states with one part share it.
 //!
 //! The way of the data, from the bottom up:

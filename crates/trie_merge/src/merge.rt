@@ -5,8 +5,8 @@ ghost use Rattle.std.specs.Prelude.{◌≡◌, ℕ, ◌<◌, ◌+◌, ◌*◌, �
 ghost use Rattle.std.specs.Prelude.{true, false, Some, None, OnOk, IfOk};
 ghost use Rattle.std.specs.List.Sorted.{IsStrictlyIncreasing};
 ghost use Rattle.rule_set.specs.Rule.{RuleSetView};
-ghost use Rattle.shared_parts.specs.Keys.{has_entry};
-ghost use Rattle.shared_parts.specs.Target.{count};
+ghost use Rattle.state_parts.specs.Keys.{has_entry};
+ghost use Rattle.state_parts.specs.Target.{count};
 ghost use Rattle.table_sizes.specs.Sizes.{cost_of, max_words, row_len};
 ghost use Rattle.trie_merge.specs.Cuts.{CanAsk, CutsFor};
 ghost use Rattle.group_states.specs.Entry.{CanStep};
@@ -22,7 +22,7 @@ use crate::follow::lead_parts;
 use crate::number::join_runs;
 use group_states::Run;
 use indexmap::IndexSet;
-use shared_parts::{PartPieces, Parts, Piece, Rows, Target};
+use state_parts::{PartPieces, Parts, Piece, Rows, Target};
 use std::alloc::{AllocError, Global};
 use table_sizes::{ROW_LEN, node_len};
 
@@ -103,7 +103,7 @@ impl Drop for Reached {
 
 impl Reached {
     ghost use Rattle.std.specs.Prelude.{◌≡◌, ℕ, List};
-    ghost use Rattle.shared_parts.specs.RowsView.{RowsView};
+    ghost use Rattle.state_parts.specs.RowsView.{RowsView};
 
     /// The parts of the next place, before which the last one is not.
     pub(crate) fn parts(&self) -> &Parts

@@ -4,7 +4,7 @@ ghost use Rattle.std.specs.Prelude.{◌≡◌, ◌<◌, ◌≤◌, length, map, 
 ghost use Rattle.trie_merge.specs.Names.{ranked_of, row_named, IsNames};
 
 use rule_set::{RuleSet, ranks};
-use shared_parts::{Ranked, Rows};
+use state_parts::{Ranked, Rows};
 use std::alloc::{AllocError, Global};
 use table_sizes::ROW_LEN;
 

@@ -2,14 +2,14 @@
 
 ghost use Rattle.std.specs.Prelude.{◌≡◌, ℕ, ◌<◌, ◌+◌, ◌^◌, ◌++◌, List, length, map, fold};
 ghost use Rattle.std.specs.Prelude.{OnOk, IfOk};
-ghost use Rattle.shared_parts.specs.Pieces.{number_at, Covers};
+ghost use Rattle.state_parts.specs.Pieces.{number_at, Covers};
 ghost use Rattle.group_states.specs.Found.{all_bytes};
 ghost use Rattle.group_states.specs.Levels.{runs_of};
 ghost use Rattle.trie_merge.specs.Numbers.{numbers_with, succ_of};
 
 use group_states::{Run, Succ};
 use indexmap::IndexSet;
-use shared_parts::Piece;
+use state_parts::Piece;
 use std::alloc::AllocError;
 
 /// What the number is reached as, which is found now if it wasn't before.

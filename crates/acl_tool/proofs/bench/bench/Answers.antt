@@ -1,10 +1,10 @@
 -- The lines of what was measured are put, or nothing was measured.
 use Rattle.std.proofs.Common.{ℕ, subst, sym}
-use Rattle.seed_bench.specs.declared.lines.Measured.{Measured}
-use Rattle.seed_bench.specs.Bench.{bench_text}
+use Rattle.bench_command.specs.declared.lines.Measured.{Measured}
+use Rattle.bench_command.specs.Bench.{bench_text}
 use Rattle.command_words.specs.Command.{Bench}
 use Rattle.command_words.specs.CommandLine.{numbers_in}
-use Rattle.command_plan.specs.Effects.{PutsLast, outside}
+use Rattle.command_ending.specs.Effects.{PutsLast, outside}
 use Rattle.std.proofs.Common.{Ok}
 use Rattle.acl_tool.specs.Effects.{Answers}
 use Rattle.acl_tool.proofs.BenchEnds.{Answers-measured, Answers-refused}

@@ -1,6 +1,6 @@
 use Rattle.command_words.specs.CommandLine.{options_of}
 use Rattle.capture_report.specs.Classifier.{lists_of}
-use Rattle.command_plan.specs.Effects.{Outside, outside}
+use Rattle.command_ending.specs.Effects.{Outside, outside}
 use Rattle.acl_tool.proofs.ClassifyEnds.{Answers-no_rules}
 use Rattle.acl_tool.proofs.classify.classify.Goals as goal
 

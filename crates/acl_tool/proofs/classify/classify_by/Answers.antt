@@ -1,8 +1,8 @@
 use Rattle.std.proofs.Common.{ℕ, subst, sym, ap, ◌∙◌}
 use Rattle.command_words.specs.CommandLine.{options_of}
 use Rattle.capture_report.specs.Classifier.{Tables, lists_of, ByRules, AnswersAs}
-use Rattle.command_plan.specs.Effects.{Outside, outside}
-use Rattle.command_plan.specs.Plan.{Give}
+use Rattle.command_ending.specs.Effects.{Outside, outside}
+use Rattle.command_ending.specs.Plan.{Give}
 use Rattle.acl_tool.specs.Built.{WordsAreTotals}
 use Rattle.acl_tool.specs.RuleTables.{tables_within}
 use Rattle.acl_tool.proofs.Making.{same_tables}

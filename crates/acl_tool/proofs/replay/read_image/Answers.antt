@@ -1,6 +1,6 @@
 use Rattle.std.proofs.Common.{List, ℕ, ◌≤◌, length, subst, sym}
-use Rattle.command_plan.specs.Effects.{Parses}
-use Rattle.command_plan.proofs.Offered.{Takes-read, Takes-unread}
+use Rattle.command_ending.specs.Effects.{Parses}
+use Rattle.command_ending.proofs.Offered.{Takes-read, Takes-unread}
 use Rattle.acl_tool.specs.ReplayPlan.{image_cap, tables_of_bytes}
 use Rattle.acl_tool.specs.ReplayLoaded.{tables_of}
 use Rattle.acl_tool.proofs.ReplayEnds.{tables_of_bytes-more}

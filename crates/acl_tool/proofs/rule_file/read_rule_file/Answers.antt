@@ -1,9 +1,9 @@
 use Rattle.std.proofs.Common.{List, ℕ, subst}
-use Rattle.command_plan.specs.Effects.{Parses}
+use Rattle.command_ending.specs.Effects.{Parses}
 use Rattle.capture_report.specs.Classifier.{lists_of}
 use Rattle.acl_tool.specs.Listings.{refused_as}
 use Rattle.acl_tool.specs.RuleTables.{rules_of_bytes}
-use Rattle.command_plan.proofs.Offered.{Takes-read, Takes-unread}
+use Rattle.command_ending.proofs.Offered.{Takes-read, Takes-unread}
 use Rattle.acl_tool.proofs.RuleFiles.{rules_of_bytes-more}
 use Rattle.acl_tool.proofs.rule_file.read_rule_file.Goals as goal
 

@@ -1,6 +1,6 @@
 use Rattle.std.proofs.Common.{List, ℕ, subst}
-use Rattle.command_plan.specs.Effects.{Parses}
-use Rattle.command_plan.proofs.Offered.{Takes-read, Takes-unread}
+use Rattle.command_ending.specs.Effects.{Parses}
+use Rattle.command_ending.proofs.Offered.{Takes-read, Takes-unread}
 use Rattle.acl_tool.specs.SessionPlan.{replies_of}
 use Rattle.acl_tool.specs.SessionTells.{text_of}
 use Rattle.acl_tool.proofs.SessionEnds.{replies_of-more}

@@ -1,6 +1,6 @@
 use Rattle.std.proofs.Common.{ℕ, List, map}
 use Rattle.std.specs.Prelude.{string_bytes}
-use Rattle.command_plan.proofs.Offered.{Ends-complete}
+use Rattle.command_ending.proofs.Offered.{Ends-complete}
 use Rattle.acl_tool.proofs.BenchTold.{bench_walks}
 use Rattle.acl_tool.proofs.ClassifyTold.{classify_prints, classify_walks}
 use Rattle.acl_tool.proofs.ClassifySized.{classify_sizes}

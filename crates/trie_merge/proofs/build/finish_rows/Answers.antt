@@ -2,7 +2,7 @@ use Rattle.std.proofs.Common.{◌≡◌, ℕ, ◌<◌, ◌≤◌, List, length, 
 use Rattle.std.specs.Prelude.{All}
 use Rattle.std.specs.List.Sorted.{IsStrictlyIncreasing}
 use Rattle.std.proofs.lemmas.Result.{IfOk-weaker}
-use Rattle.shared_parts.specs.Target.{count}
+use Rattle.state_parts.specs.Target.{count}
 use Rattle.trie_merge.proofs.build.finish_rows.Goals as goal
 use Rattle.group_states.proofs.Offered.{rows_long}
 use Rattle.group_states.specs.Row.{rows_of}

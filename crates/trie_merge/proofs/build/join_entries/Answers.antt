@@ -1,5 +1,5 @@
 use Rattle.std.proofs.Common.{◌≡◌, [], true≢false, refl, sym, ◌∙◌, inl, inr}
-use Rattle.shared_parts.specs.declared.target.Target.TheVariants.{Parts}
+use Rattle.state_parts.specs.declared.target.Target.TheVariants.{Parts}
 use Rattle.trie_merge.proofs.build.join_entries.Goals as goal
 
 pub returns : goal.returns

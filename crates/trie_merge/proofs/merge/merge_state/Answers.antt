@@ -1,9 +1,9 @@
 use Rattle.std.proofs.Common.{◌≡◌, ℕ, Bool, List, ◌+◌, ◌-◌, ◌++◌, ◌∷◌, [], length, refl, ap, arith, length-append}
 use Rattle.std.proofs.lemmas.List.{append-nil}
-use Rattle.shared_parts.specs.declared.pieces.Piece.{Piece}
-use Rattle.shared_parts.specs.Pieces.{number_at}
-use Rattle.shared_parts.specs.Slices.{pieces_of, IsPieces}
-use Rattle.shared_parts.proofs.Offered.{pieces-push, IsPieces-push}
+use Rattle.state_parts.specs.declared.pieces.Piece.{Piece}
+use Rattle.state_parts.specs.Pieces.{number_at}
+use Rattle.state_parts.specs.Slices.{pieces_of, IsPieces}
+use Rattle.state_parts.proofs.Offered.{pieces-push, IsPieces-push}
 use Rattle.group_states.specs.Levels.{runs_of}
 use Rattle.group_states.specs.declared.run.Run.{Run}
 use Rattle.trie_merge.proofs.merge.merge_state.Goals as goal

@@ -1,6 +1,6 @@
 use Rattle.std.proofs.Common.{map, get_or, ◌∙◌, arith}
 use Rattle.std.proofs.lemmas.List.{ext_get_or, length-map, get_or-map, length-set}
-use Rattle.shared_parts.proofs.Offered.{set_done}
+use Rattle.state_parts.proofs.Offered.{set_done}
 use Rattle.trie_merge.proofs.names.name_ranks.Goals as goal
 
 pub loop-category-preserved : goal.loop-category-preserved

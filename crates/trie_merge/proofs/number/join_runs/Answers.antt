@@ -1,5 +1,5 @@
 use Rattle.std.proofs.Common.{◌≡◌, ◌+◌, ◌++◌, ◌∷◌, [], cond, refl, sym, ◌∙◌, arith}
-use Rattle.shared_parts.proofs.Offered.{rest_below, rest_end}
+use Rattle.state_parts.proofs.Offered.{rest_below, rest_end}
 use Rattle.group_states.specs.Levels.{same_succ}
 use Rattle.trie_merge.proofs.number.join_runs.Goals as goal
 use Rattle.trie_merge.proofs.number.join_runs.Goals.{then-not-is_same+in_ok-push, else-not-is_same}

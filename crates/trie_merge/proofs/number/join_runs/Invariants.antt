@@ -1,5 +1,5 @@
 use Rattle.std.proofs.Common.{◌+◌}
-use Rattle.shared_parts.proofs.Offered.{RestIs}
+use Rattle.state_parts.proofs.Offered.{RestIs}
 use Rattle.trie_merge.proofs.number.join_runs.Given as goal
 use Rattle.trie_merge.proofs.Successors.{Joined}
 

@@ -1,5 +1,5 @@
 use Rattle.std.proofs.Common.{length, ap, arith}
-use Rattle.shared_parts.proofs.Offered.{length-pieces}
+use Rattle.state_parts.proofs.Offered.{length-pieces}
 use Rattle.trie_merge.proofs.levels.Level.len.Goals as goal
 
 pub returns : goal.returns

@@ -1,5 +1,0 @@
--- the ledger of a counter that nobody sees
-use Rattle.context_cases.proofs.lanes.flown_by.Given as goal
-
-abbrev pub ghosts-flown : goal.ghosts-flown
-ghosts-flown a = record { name = a.blank.name; parts = a.blank.parts }

@@ -1,5 +1,0 @@
--- the ledger of a counter that nobody sees
-use Rattle.context_cases.proofs.walks.expect.Given as goal
-
-abbrev pub ghosts-classified : goal.ghosts-classified
-ghosts-classified g a = record { name = a.blank.name; parts = a.blank.parts }

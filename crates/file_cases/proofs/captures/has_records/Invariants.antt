@@ -1,6 +1,0 @@
-use Rattle.std.specs.Bool.{IsTrue}
-use Rattle.file_cases.proofs.captures.has_records.Given as goal
-
--- a file is opened
-abbrev pub invariant-loop-record : goal.invariant-loop-record
-invariant-loop-record g l = IsTrue (g.D.Desk.view l.desk).reading

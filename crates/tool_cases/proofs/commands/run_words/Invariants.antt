@@ -1,5 +1,0 @@
--- the ledger of a counter that nobody sees
-use Rattle.tool_cases.proofs.commands.run_words.Given as goal
-
-abbrev pub ghosts-run_counted : goal.ghosts-run_counted
-ghosts-run_counted a = record { name = a.blank.name; parts = a.blank.parts }
