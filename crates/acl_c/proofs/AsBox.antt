@@ -8,7 +8,7 @@ use Rattle.std_heap.specs.contracts.GlobalAllocator.TheImpl.{ghosts, dict}
 use Rattle.std_heap.proofs.Global.TheLaws as heap
 use Rattle.acl_c.specs.contracts.context.Context as held
 use Rattle.acl_c.proofs.context.Context.TheLaws as held_laws
-use Rattle.acl_c.specs.contracts.parts.Parts as parts
+use Rattle.acl_c.specs.contracts.box_parts.Parts as parts
 use Rattle.acl_c.specs.contracts.slot.Slot as slot
 
 -- a box of a context with the allocator of the system

@@ -8,7 +8,7 @@ use Rattle.std_heap.specs.contracts.GlobalAllocator.TheImpl.{ghosts, dict}
 use Rattle.std_heap.proofs.Global.TheLaws as heap
 use Rattle.acl_c.specs.contracts.shared.Shared as held
 use Rattle.acl_c.proofs.shared.Shared.TheLaws as held_laws
-use Rattle.acl_c.specs.contracts.parts.Parts as parts
+use Rattle.acl_c.specs.contracts.box_parts.Parts as parts
 use Rattle.acl_c.specs.contracts.table_slot.TableSlot as slot
 
 -- a box of a table with the allocator of the system

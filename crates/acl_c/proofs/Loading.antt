@@ -1,8 +1,8 @@
 -- What a load makes of two empty handles, by what was read of the image.
 use Rattle.std.proofs.Common.{◌≡◌, ℕ, List, Option, Some, None, Ok, Err, refl, inl, inr, sym, ap, ◌∙◌}
-use Rattle.table_image.specs.declared.fault.ImageFault.{ImageFault}
+use Rattle.table_image.specs.declared.load_fault.ImageFault.{ImageFault}
 use Rattle.table_image.specs.Spelling.{PairView}
-use Rattle.table_image.specs.Reading.{image_of}
+use Rattle.table_image.specs.ImageReading.{image_of}
 use Rattle.table_image.proofs.Offered.{image_spelled}
 use Rattle.acl_c.specs.Codes.{ok, no_memory}
 use Rattle.acl_c.specs.Shared.{SharedView, without_lanes}

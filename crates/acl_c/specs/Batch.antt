@@ -3,8 +3,8 @@ use Rattle.std.specs.Prelude.{ℕ, ◌/◌, ◌%◌, ◌==◌, ◌&&◌, nat_lt,
 use Rattle.std.specs.Prelude.{if◌then◌else◌}
 use Rattle.rule_set.specs.Categories.{is_count_of_categories}
 use Rattle.table_sizes.specs.Sizes.{max_keys}
-use Rattle.lane_walk.specs.declared.walk.Walk.{Walk}
-use Rattle.lane_walk.specs.declared.walk.Walk.TheVariants.{Scalar, Lanes}
+use Rattle.flat_table.specs.declared.walk.Walk.{Walk}
+use Rattle.flat_table.specs.declared.walk.Walk.TheVariants.{Scalar, Lanes}
 use Rattle.acl_c.specs.Codes.{ok, bad_length, bad_categories, bad_walk, too_many_keys, no_lanes}
 
 -- the walk of a number

@@ -8,11 +8,11 @@ use Rattle.table_sizes.specs.Sizes.{max_rules}
 use Rattle.flat_table.specs.Table.{TableView}
 use Rattle.table_image.specs.declared.version.Version.{Version}
 use Rattle.table_image.specs.declared.version.Version.TheVariants.{Two}
-use Rattle.table_image.specs.declared.fault.ImageFault.{ImageFault}
-use Rattle.table_image.specs.declared.fault.ImageKind.{ImageKind}
-use Rattle.table_image.specs.declared.fault.ImageKind.TheVariants as kinds
+use Rattle.table_image.specs.declared.load_fault.ImageFault.{ImageFault}
+use Rattle.table_image.specs.declared.load_fault.ImageKind.{ImageKind}
+use Rattle.table_image.specs.declared.load_fault.ImageKind.TheVariants as kinds
 use Rattle.table_image.specs.Spelling.{PairView, is_row_word, spelled_pair, IsImage}
-use Rattle.table_image.specs.Reading.{image_of}
+use Rattle.table_image.specs.ImageReading.{image_of}
 use Rattle.table_image.specs.Loading.{pair_of_tables}
 use Rattle.acl_c.specs.Codes.{ok, no_memory, no_image, no_room}
 use Rattle.acl_c.specs.Shared.{SharedView, without_lanes}

@@ -11,8 +11,8 @@ ghost use Rattle.acl_c.specs.Batch.{walk_of, lengths_code, batch_code};
 
 use crate::codes::{BAD_CATEGORIES, BAD_LENGTH, BAD_WALK, NO_LANES, OK, TOO_MANY_KEYS};
 use acl_context::{AclContext, NotBuilt, Scratch, Walk};
+use batch_walk::classify_by;
 use flat_table::{Steps, Table};
-use lane_walk::classify_by;
 use rule_set::Categories;
 use std::sync::ledger::{Blank, Ledger};
 use table_sizes::MAX_KEYS;

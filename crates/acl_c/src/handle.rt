@@ -3,8 +3,8 @@
 ghost use Rattle.std.specs.Prelude.{◌≡◌, ◌↔◌, Some, None, IsSome, IsTrue};
 ghost use Rattle.acl_c.specs.Handle.{IsKept};
 
+use crate::box_parts::Parts;
 use crate::context::Context;
-use crate::parts::Parts;
 use crate::slot::Slot;
 use std::alloc::Global;
 

@@ -2,9 +2,9 @@
 
 ghost use Rattle.std.specs.Prelude.{◌≡◌, ℕ, ◌<◌, ◌≤◌, ◌++◌, length, drop, Ok, Err, IfOk, IfErr, true, false};
 ghost use Rattle.std.specs.List.{list_all};
-ghost use Rattle.table_image.specs.declared.fault.ImageFault.{ImageFault};
+ghost use Rattle.table_image.specs.declared.load_fault.ImageFault.{ImageFault};
 ghost use Rattle.table_image.specs.Spelling.{PairView, is_row_word};
-ghost use Rattle.table_image.specs.Reading.{image_of};
+ghost use Rattle.table_image.specs.ImageReading.{image_of};
 ghost use Rattle.table_image.specs.Loading.{pair_of_tables};
 ghost use Rattle.acl_c.specs.Codes.{ok, no_memory, no_room};
 ghost use Rattle.acl_c.specs.Shared.{without_lanes};

@@ -18,12 +18,13 @@
 //! - `copy`, `shared`: what a handle of a table leads to, and the calls on it
 //! - `marks`: which categories of keys no rule wins
 //! - `images`: tables that are saved to bytes, and loaded from them
-//! - `parts`, `slot`, `handle`: a box behind a pointer that C holds
+//! - `box_parts`, `slot`, `handle`: a box behind a pointer that C holds
 //! - `table_slot`, `table_handle`: the same for a table
 //! - `exports`, `table_exports`, `image_exports`: the calls of `aclc.h`
 #![tactic(auto)]
 
 mod batch;
+mod box_parts;
 mod codes;
 mod context;
 mod copy;
@@ -34,7 +35,6 @@ mod handle;
 mod image_exports;
 mod images;
 mod marks;
-mod parts;
 mod rules;
 mod shared;
 mod slot;

@@ -4,8 +4,8 @@ ghost use Rattle.std.specs.Prelude.{◌≡◌, Option, Some, None, IsSome};
 ghost use Rattle.acl_c.specs.declared.context.Context.{Context};
 ghost use Rattle.acl_c.specs.Handle.{context_coded, slot_owns};
 
+use crate::box_parts::Parts;
 use crate::context::Context;
-use crate::parts::Parts;
 use std::alloc::Global;
 use std::marker::Model;
 

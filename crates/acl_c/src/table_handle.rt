@@ -3,7 +3,7 @@
 ghost use Rattle.std.specs.Prelude.{◌≡◌, ◌↔◌, Some, None, IsSome, IsTrue};
 ghost use Rattle.acl_c.specs.Handle.{IsKept};
 
-use crate::parts::Parts;
+use crate::box_parts::Parts;
 use crate::shared::Shared;
 use crate::table_slot::TableSlot;
 use std::alloc::Global;

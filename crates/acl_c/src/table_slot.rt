@@ -4,7 +4,7 @@ ghost use Rattle.std.specs.Prelude.{◌≡◌, Option, Some, None, IsSome};
 ghost use Rattle.acl_c.specs.Shared.{SharedView};
 ghost use Rattle.acl_c.specs.TableHandle.{shared_coded, table_slot_owns};
 
-use crate::parts::Parts;
+use crate::box_parts::Parts;
 use crate::shared::Shared;
 use std::alloc::Global;
 use std::marker::Model;

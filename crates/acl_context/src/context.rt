@@ -16,10 +16,10 @@ ghost use Rattle.acl_context.specs.Batch.{verdicts_by_rules};
 
 use crate::add::{AddFault, Given, check_all, push_all};
 use crate::build::{BuildFault, make_table};
+use batch_walk::classify_by;
 use field_defs::Layout;
-use flat_table::{Steps, Table};
+use flat_table::{Steps, Table, Walk};
 use flow_core::Scratch;
-use lane_walk::{Walk, classify_by};
 use rule_set::{Categories, Rule, RuleSet, StoredRule};
 use std::alloc::{AllocError, Global};
 use std::marker::Model;

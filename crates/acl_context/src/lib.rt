@@ -24,5 +24,5 @@ mod context;
 pub use add::AddFault;
 pub use build::BuildFault;
 pub use context::{AclContext, NotBuilt};
+pub use flat_table::Walk;
 pub use flow_core::Scratch;
-pub use lane_walk::Walk;

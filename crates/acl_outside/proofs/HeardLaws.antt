@@ -4,7 +4,7 @@ use Rattle.std.proofs.lemmas.Bool.{ne_eqb}
 use Rattle.acl_outside.specs.Told.{Changes}
 use Rattle.acl_outside.specs.Desk.{Content, DeskView, Gives, ReadsInto}
 use Rattle.acl_outside.specs.Heard.{Heard, Ended, BrokenOff, heard, change_newest, with_bytes, with_ending, after_read}
-use Rattle.acl_outside.specs.Reading.{ReadsOn, and_goes_on}
+use Rattle.acl_outside.specs.DeskReading.{ReadsOn, and_goes_on}
 use Rattle.acl_outside.proofs.ToldLaws.{Changes-join}
 use Rattle.acl_outside.proofs.ReadingLaws.{Gives-append}
 

@@ -4,7 +4,7 @@ use Rattle.std.proofs.Math.Seq.{take-append-add}
 use Rattle.std.proofs.lemmas.List.{length-take-le, take-append-le, take-take, take_at, drop_at, take_all, drop_all}
 use Rattle.acl_outside.specs.Told.{Changes}
 use Rattle.acl_outside.specs.Desk.{Content, Gives}
-use Rattle.acl_outside.specs.Reading.{GivesUpTo}
+use Rattle.acl_outside.specs.DeskReading.{GivesUpTo}
 
 -- the bytes of two reads, one after the other
 pub Gives-append : (first second : List ℕ) (old mid new : Content) → Gives first old mid → Gives second mid new →

@@ -4,7 +4,7 @@ use Rattle.std.proofs.lemmas.Bool.{cases_Bool}
 use Rattle.acl_outside.specs.Told.{Changes}
 use Rattle.acl_outside.specs.Desk.{Content, DeskView, Opens, GivesUp, Gives, Creates, Writes}
 use Rattle.acl_outside.specs.Heard.{Heard, BrokenOff, Ended, heard, change_newest, with_bytes, with_ending, after_read}
-use Rattle.acl_outside.specs.Reading.{ReadsOn, and_goes_on, after_fault}
+use Rattle.acl_outside.specs.DeskReading.{ReadsOn, and_goes_on, after_fault}
 use Rattle.acl_outside.specs.declared.reading.ReadAll.{ReadAll}
 use Rattle.acl_outside.specs.declared.reading.ReadAll.TheVariants.{ReadFault, OutOfMemory}
 use Rattle.acl_outside.specs.Memory.{desk_over, shown_desk, content_of}

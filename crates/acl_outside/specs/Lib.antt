@@ -9,7 +9,7 @@ pub mod Heard
 pub mod HeardExamples
 pub mod Made
 pub mod MadeExamples
-pub mod Reading
+pub mod DeskReading
 pub mod Writing
 pub mod System
 pub mod MemFile

@@ -9,7 +9,7 @@ use Rattle.acl_outside.specs.Heard.{Heard, heard}
 use Rattle.acl_outside.specs.Memory.{desk_over, shown_desk}
 use Rattle.acl_outside.specs.declared.desk.Failed.{Failed}
 use Rattle.acl_outside.specs.declared.reading.ReadAll.{ReadAll}
-use Rattle.acl_outside.specs.Reading.{ReadsUpTo}
+use Rattle.acl_outside.specs.DeskReading.{ReadsUpTo}
 
 -- The newest file that was heard of is the opened one, and what was given of it, before what is
 -- left, is the whole file.

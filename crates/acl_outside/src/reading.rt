@@ -1,7 +1,7 @@
 //! Reading an opened file to its end.
 
 ghost use Rattle.std.specs.Prelude.{◌≡◌, ◌<◌, ◌≤◌, take, vec_len, IsTrue, OnOk};
-ghost use Rattle.acl_outside.specs.Reading.{ReadsUpTo};
+ghost use Rattle.acl_outside.specs.DeskReading.{ReadsUpTo};
 
 use crate::desk::{Desk, Failed};
 use std::alloc::{AllocError, Global};

@@ -1,4 +1,5 @@
 mod Lines
 mod Mirroring
 mod OneKey
+mod ReadValues
 mod Verdicts

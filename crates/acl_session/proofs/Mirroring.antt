@@ -19,14 +19,14 @@ use Rattle.acl_context.specs.Context.{ContextView, built_of, with_rules}
 use Rattle.acl_context.specs.Add.{Adds, add_fault}
 use Rattle.acl_context.specs.declared.add.AddFault.{AddFault}
 use Rattle.acl_context.specs.declared.add.AddFault.TheVariants.{Full, RuleRefused, OutOfMemory}
-use Rattle.session_lines.specs.declared.arguments.WrittenField.{WrittenField}
+use Rattle.acl_session.specs.declared.arguments.WrittenField.{WrittenField}
 use Rattle.acl_session.specs.declared.made.Made.{Made}
-use Rattle.session_lines.specs.declared.verb.Verb.{Verb}
-use Rattle.session_lines.specs.Command.{Command, command_of, placed, said_to, verb_named}
-use Rattle.session_lines.specs.Reading.{◌>>=◌, Read, are_none, ended, next_word, read_of}
+use Rattle.acl_session.specs.declared.verb.Verb.{Verb}
+use Rattle.acl_session.specs.Command.{Command, command_of, placed, said_to, verb_named}
+use Rattle.acl_session.specs.WordReading.{◌>>=◌, Read, are_none, ended, next_word, read_of}
 use Rattle.acl_session.specs.State.{Held, HeldAnswer, State, set_of}
-use Rattle.session_lines.specs.Replies.{bad_line_text, full_text, layout_fault_text, no_context_text, ok_text}
-use Rattle.session_lines.specs.Replies.{rule_fault_text, too_large_text, too_many_text}
+use Rattle.acl_session.specs.Replies.{bad_line_text, full_text, layout_fault_text, no_context_text, ok_text}
+use Rattle.acl_session.specs.Replies.{rule_fault_text, too_large_text, too_many_text}
 use Rattle.acl_session.specs.Session.{added, added_unless, built, cleared, collected, new_context, on_context, opened}
 use Rattle.acl_session.specs.Session.{said, step, step_if, within, without_rules}
 use Rattle.acl_session.specs.Mirrors.{Answers, AnswersHeld, Holds, IsAnswered, IsHeld, Mirrors}

@@ -10,7 +10,7 @@ use Rattle.rule_set.specs.Rule.{RuleSetView, RuleView}
 use Rattle.rule_set.specs.Winner.{verdict}
 use Rattle.flat_table.specs.Table.{TableView}
 use Rattle.acl_context.specs.Context.{ContextView}
-use Rattle.session_lines.specs.Replies.{not_built_text, short_text, verdicts_text}
+use Rattle.acl_session.specs.Replies.{not_built_text, short_text, verdicts_text}
 use Rattle.acl_session.specs.State.{Held}
 use Rattle.acl_session.specs.Session.{classified_text, verdicts_on, verdicts_reply}
 use Rattle.acl_session.specs.Mirrors.{Holds, IsBuilt, SaysOf}

@@ -1,3 +1,8 @@
+pub mod WordReading
+pub mod Values
+pub mod Hex
+pub mod Command
+pub mod Replies
 pub mod State
 pub mod Session
 pub mod Mirrors

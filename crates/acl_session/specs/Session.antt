@@ -15,14 +15,14 @@ use Rattle.rule_set.specs.Winner.{verdict}
 use Rattle.rule_split.specs.Split.{total_of}
 use Rattle.classbench_reader.specs.Line.{is_skipped}
 use Rattle.text_scan.specs.Parts.{lines_of, words_of}
-use Rattle.session_lines.specs.declared.arguments.WrittenField.{WrittenField}
-use Rattle.session_lines.specs.Command.{Command, Field, Context, AddRule, Build, ResetRules, Reset}
-use Rattle.session_lines.specs.Command.{Classify, command_of, placed}
+use Rattle.acl_session.specs.declared.arguments.WrittenField.{WrittenField}
+use Rattle.acl_session.specs.Command.{Command, Field, Context, AddRule, Build, ResetRules, Reset}
+use Rattle.acl_session.specs.Command.{Classify, command_of, placed}
 use Rattle.acl_session.specs.State.{Answer, Held, HeldAnswer, State, first_state, set_of}
-use Rattle.session_lines.specs.Replies.{bad_line_text, full_text, layout_fault_text}
-use Rattle.session_lines.specs.Replies.{no_context_text, not_built_text}
-use Rattle.session_lines.specs.Replies.{ok_text, rule_fault_text, short_text}
-use Rattle.session_lines.specs.Replies.{too_large_text, too_many_text, verdicts_text}
+use Rattle.acl_session.specs.Replies.{bad_line_text, full_text, layout_fault_text}
+use Rattle.acl_session.specs.Replies.{no_context_text, not_built_text}
+use Rattle.acl_session.specs.Replies.{ok_text, rule_fault_text, short_text}
+use Rattle.acl_session.specs.Replies.{too_large_text, too_many_text, verdicts_text}
 
 -- the state stays, and this is the reply
 abbrev pub replied : State → List ℕ → Answer

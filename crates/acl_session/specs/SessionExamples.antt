@@ -8,7 +8,7 @@ use Rattle.field_defs.specs.LayoutFault.{layout_fault}
 use Rattle.rule_set.specs.Fault.{rule_fault, categories}
 use Rattle.rule_set.specs.Rule.{RuleView}
 use Rattle.text_scan.specs.Parts.{words_of}
-use Rattle.session_lines.specs.Command.{AddRule, Build, Classify, command_of}
+use Rattle.acl_session.specs.Command.{AddRule, Build, Classify, command_of}
 use Rattle.acl_session.specs.State.{State}
 use Rattle.acl_session.specs.Session.{answer, session_of}
 

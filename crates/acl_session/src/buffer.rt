@@ -4,16 +4,18 @@ ghost use Rattle.std.specs.Prelude.{◌≡◌, ◌≤◌, ◌<◌, ◌++◌, len
 ghost use Rattle.std.specs.Prelude.{IfOk, IfSome, OnOk};
 ghost use Rattle.std.specs.Option.{option_map};
 ghost use Rattle.field_defs.specs.Layout.{buffer_len_of, key_len_of, key_of};
-ghost use Rattle.session_lines.specs.Hex.{are_bytes_in_hex, bytes_in_hex};
+ghost use Rattle.acl_session.specs.Hex.{are_bytes_in_hex, bytes_in_hex};
 ghost use Rattle.acl_session.specs.State.{Held};
 ghost use Rattle.acl_session.specs.Session.{classified_text, verdicts_on};
 ghost use Rattle.acl_session.specs.Mirrors.{Holds, SaysOf};
 
+use crate::hex::bytes_in_hex;
+use crate::reply::push_verdicts;
+use crate::text::push_piece;
 use acl_context::{AclContext, NotBuilt, Scratch, Walk};
 use field_defs::Layout;
 use flat_table::Steps;
 use rule_set::Categories;
-use session_lines::{bytes_in_hex, push_piece, push_verdicts};
 use std::alloc::{AllocError, Global};
 use std::marker::Brand;
 use std::sync::ledger::{Blank, Ledger};

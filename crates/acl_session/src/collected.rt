@@ -4,10 +4,10 @@ ghost use Rattle.std.specs.Prelude.{◌≡◌, ◌<◌, ◌≤◌, [], ◌∷◌
 ghost use Rattle.std.specs.Result.{result_err};
 ghost use Rattle.field_defs.specs.Layout.{max_fields};
 ghost use Rattle.field_defs.specs.LayoutFault.{layout_fault};
-ghost use Rattle.session_lines.specs.Command.{placed};
+ghost use Rattle.acl_session.specs.Command.{placed};
 
+use crate::arguments::WrittenField;
 use field_defs::{FieldDef, Layout, LayoutFault, MAX_FIELDS, UNUSED_FIELD};
-use session_lines::WrittenField;
 use std::marker::Model;
 
 /// At most as many definitions as a layout may have. Contracts see the list of them.

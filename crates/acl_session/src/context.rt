@@ -5,9 +5,10 @@ ghost use Rattle.table_sizes.specs.Sizes.{max_words};
 ghost use Rattle.acl_session.specs.Session.{added, built, cleared, without_rules};
 ghost use Rattle.acl_session.specs.Mirrors.{AnswersHeld};
 
+use crate::reply::{push_rule_fault, push_too_large};
+use crate::text::push_piece;
 use acl_context::{AclContext, AddFault, BuildFault};
 use rule_set::StoredRule;
-use session_lines::{push_piece, push_rule_fault, push_too_large};
 use std::alloc::AllocError;
 
 /// Adds the rule to the context, and puts the reply after the others.

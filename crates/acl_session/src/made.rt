@@ -2,21 +2,22 @@
 
 ghost use Rattle.std.specs.Prelude.{◌≡◌, ◌++◌, OnOk};
 ghost use Rattle.text_scan.specs.Parts.{words_of};
-ghost use Rattle.session_lines.specs.Command.{command_of, said_to};
-ghost use Rattle.session_lines.specs.declared.verb.Verb.TheVariants as verbs;
+ghost use Rattle.acl_session.specs.Command.{command_of, said_to};
+ghost use Rattle.acl_session.specs.declared.verb.Verb.TheVariants as verbs;
 ghost use Rattle.acl_session.specs.State.{first_state};
-ghost use Rattle.session_lines.specs.Replies.{bad_line_text, no_context_text};
+ghost use Rattle.acl_session.specs.Replies.{bad_line_text, no_context_text};
 ghost use Rattle.acl_session.specs.Session.{answer, step_if};
 ghost use Rattle.acl_session.specs.Mirrors.{Answers, Mirrors};
 
+use crate::arguments::{read_budget, read_buffer, read_field, read_limit, read_rule};
 use crate::buffer::classify;
 use crate::collected::Collected;
 use crate::context::{add_rule, build, reset, reset_rules};
+use crate::reply::push_layout_fault;
+use crate::text::push_piece;
+use crate::verb::{Verb, verb_named};
+use crate::words::{is_end, take_word};
 use acl_context::AclContext;
-use session_lines::{
-    Verb, is_end, push_layout_fault, push_piece, read_budget, read_buffer, read_field, read_limit,
-    read_rule, take_word, verb_named,
-};
 use std::alloc::{AllocError, Global};
 
 /// The definitions that were collected, and the context, if there is one.

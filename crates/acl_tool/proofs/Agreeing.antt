@@ -4,11 +4,11 @@ use Rattle.std.specs.Option.{option_map_or}
 use Rattle.field_defs.specs.declared.field.Family.TheVariants.{Ip4, Ip6}
 use Rattle.rule_set.specs.declared.categories.Categories.{Categories}
 use Rattle.table_sizes.specs.Sizes.{max_words}
-use Rattle.lane_walk.specs.declared.walk.Walk.{Walk}
+use Rattle.flat_table.specs.declared.walk.Walk.{Walk}
 use Rattle.table_fill.specs.Laws.{FilledTablesDecide}
 use Rattle.acl_outside.specs.Desk.{File, bytes_of}
 use Rattle.classbench_reader.specs.Accepted.{AcceptedRulesAreLawful}
-use Rattle.classbench_reader.specs.declared.fault.LineFault.{LineFault}
+use Rattle.classbench_reader.specs.declared.rules_fault.LineFault.{LineFault}
 use Rattle.classbench_reader.specs.RuleFile.{RuleLists, rule_file_of}
 use Rattle.table_image.proofs.Offered.{image_spelled}
 use Rattle.command_words.specs.Options.{Options}

@@ -2,16 +2,16 @@
 use Rattle.std.proofs.Common.{◌≡◌, List, true, false, Some, None, Result, Ok, Err, IfSome, refl, sym, subst, ◌≢◌, ℕ, ap}
 use Rattle.std.proofs.Common.{◌∙◌}
 use Rattle.acl_outside.specs.Desk.{File, DeskView}
-use Rattle.command_words.specs.declared.fault.UsageFault.{UsageFault}
+use Rattle.command_words.specs.declared.usage_fault.UsageFault.{UsageFault}
 use Rattle.command_words.specs.Command.{Request, capture_name, made_name}
 use Rattle.command_ending.specs.declared.status.Status.{Status}
 use Rattle.command_ending.specs.declared.status.Status.TheVariants.{Done, Usage, WriteFault}
 use Rattle.command_ending.specs.Endings.{is_reported, is_usage}
-use Rattle.command_ending.specs.Effects.{Outside, EndsMaking, files_of, heard_of, opened_of}
+use Rattle.command_ending.specs.StepEffects.{Outside, EndsMaking, files_of, heard_of, opened_of}
 use Rattle.command_ending.proofs.Offered.{IsFaithful, Ends-stopped, Ends-told}
 use Rattle.capture_report.specs.PrintsCapture.{KeepsUp}
 use Rattle.acl_tool.specs.Outcome.{plan_of, plan_of_request}
-use Rattle.acl_tool.specs.Effects.{Answers}
+use Rattle.acl_tool.specs.CommandEffects.{Answers}
 use Rattle.acl_tool.specs.BuildSaved.{HasImage}
 use Rattle.acl_tool.specs.ClassifyTotals.{HasTotals}
 use Rattle.std.proofs.lemmas.Bool.{false≢true}

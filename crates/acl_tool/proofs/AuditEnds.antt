@@ -8,13 +8,13 @@ use Rattle.command_ending.specs.declared.status.Status.{Status}
 use Rattle.command_ending.specs.declared.status.Status.TheVariants.{RulesRefused}
 use Rattle.command_ending.specs.Plan.{Outcome, Plan}
 use Rattle.command_ending.specs.Endings.{is_usage}
-use Rattle.command_ending.specs.Effects.{Ends, Outside, PutsLast, Takes, outside}
+use Rattle.command_ending.specs.StepEffects.{Ends, Outside, PutsLast, Takes, outside}
 use Rattle.command_ending.proofs.Offered.{BeginsWith-nothing, IsFaithful, faithful_unless, Ends-cut, Ends-then}
 use Rattle.acl_tool.specs.RuleTables.{rules_in, rules_of_bytes}
 use Rattle.acl_tool.specs.Texts.{Refuses, only_text}
 use Rattle.acl_tool.specs.AuditMerged.{audit_of}
 use Rattle.acl_tool.specs.AuditPlan.{audit_plan}
-use Rattle.acl_tool.specs.Effects.{Answers}
+use Rattle.acl_tool.specs.CommandEffects.{Answers}
 use Rattle.acl_tool.proofs.Answering.{Answers-request}
 use Rattle.acl_tool.proofs.RuleFiles.{HasRules, with_rules}
 use Rattle.acl_tool.proofs.Texts.{Ends-text, Ends-refused, lawful_put, lawful_refusal, told}

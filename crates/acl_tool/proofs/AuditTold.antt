@@ -9,15 +9,15 @@ use Rattle.acl_outside.specs.Desk.{File}
 use Rattle.acl_outside.specs.Heard.{Heard, Ended}
 use Rattle.classbench_reader.specs.RuleFile.{RuleLists, rule_file_of}
 use Rattle.audit_report.specs.Audit.{audit_text}
-use Rattle.command_words.specs.declared.fault.UsageFault.{UsageFault}
+use Rattle.command_words.specs.declared.usage_fault.UsageFault.{UsageFault}
 use Rattle.command_words.specs.Options.{Options, for_audit, none_given}
-use Rattle.command_words.specs.Command.{asked_by, audit_by, command, single_of, single_with, options_from}
+use Rattle.command_words.specs.Command.{asked_by, audit_request, command, single_of, single_with, options_from}
 use Rattle.command_ending.specs.declared.status.Status.{Status}
 use Rattle.command_ending.specs.declared.status.Status.TheVariants.{Done, RulesRefused, TooLarge}
 use Rattle.command_ending.specs.Plan.{Outcome, ◌>>=◌, nothing, printed, unless_refused}
 use Rattle.command_ending.specs.Follow.{Reached, Given, Stopped, Follows, IsEnough, outcome_of}
 use Rattle.command_ending.specs.Endings.{is_usage}
-use Rattle.command_ending.specs.Effects.{Ends, Outside, files_of, heard_of}
+use Rattle.command_ending.specs.StepEffects.{Ends, Outside, files_of, heard_of}
 use Rattle.acl_tool.specs.FamilySet.{set_of}
 use Rattle.acl_tool.specs.GivenOptions.{categories_shown}
 use Rattle.acl_tool.specs.GivenBudget.{budget_given}
@@ -26,7 +26,7 @@ use Rattle.acl_tool.specs.Texts.{only_text}
 use Rattle.acl_tool.specs.AuditMerged.{audit_of, merged_words}
 use Rattle.acl_tool.specs.AuditPlan.{audit_plan}
 use Rattle.acl_tool.specs.AuditTells.{AuditNeedsMore, AuditTells, HearsRules, PrintsAudit}
-use Rattle.acl_tool.specs.Effects.{Answers}
+use Rattle.acl_tool.specs.CommandEffects.{Answers}
 use Rattle.acl_tool.proofs.Answering.{no_usage}
 use Rattle.acl_tool.proofs.AuditEnds.{audit_in}
 use Rattle.acl_tool.proofs.GivenOptions.{SaidBy, options_said}
@@ -48,13 +48,13 @@ record Asked (words : List (List ℕ)) (old new : Outside) (status : Status) : T
   ends : Ends (audit_plan rules read.categories read.max_words) old new status
 
 asked_after : (after : List (List ℕ)) (old new : Outside) (status : Status) → is_usage status ≡ false →
-    Answers (asked_by audit_by (single_of for_audit after)) old new status →
+    Answers (asked_by audit_request (single_of for_audit after)) old new status →
     Asked (codes "audit" ∷ after) old new status
 asked_after [] old new status lawful answers = no_usage status _ lawful answers.usage
 asked_after (rules ∷ words) old new status lawful answers = go (options_from for_audit 3 none_given words) refl answers
   where
     go : (options : Result Options UsageFault) → options_from for_audit 3 none_given words ≡ options →
-        Answers (asked_by audit_by (single_with rules options)) old new status →
+        Answers (asked_by audit_request (single_with rules options)) old new status →
         Asked (codes "audit" ∷ rules ∷ words) old new status
     go (Ok options) at all = record {
       rules = rules;

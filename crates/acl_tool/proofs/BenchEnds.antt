@@ -14,10 +14,10 @@ use Rattle.command_words.specs.Command.{Bench}
 use Rattle.bench_command.specs.Bench.{IsRefused, bench_budget, bench_text, measured_of, set_drawn, transitions_drawn}
 use Rattle.command_ending.specs.Plan.{Outcome, Give, Stop, printed}
 use Rattle.command_ending.specs.Endings.{is_decided, is_reported, is_usage}
-use Rattle.command_ending.specs.Effects.{PutsLast, Outside, outside, Ends}
+use Rattle.command_ending.specs.StepEffects.{PutsLast, Outside, outside, Ends}
 use Rattle.command_ending.proofs.Offered.{IsFaithful, Ends-stopped, Ends-full, Ends-put}
 use Rattle.acl_tool.specs.BenchPlan.{bench_plan}
-use Rattle.acl_tool.specs.Effects.{Answers}
+use Rattle.acl_tool.specs.CommandEffects.{Answers}
 use Rattle.acl_tool.proofs.Answering.{Answers-request}
 
 -- all of the text, where the table isn't too large

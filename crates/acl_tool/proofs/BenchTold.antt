@@ -9,15 +9,15 @@ use Rattle.rule_split.specs.Split.{total_of}
 use Rattle.command_ending.specs.declared.status.Status.{Status}
 use Rattle.command_ending.specs.declared.status.Status.TheVariants.{Done, OutOfMemory, TooLarge, WriteFault}
 use Rattle.command_words.specs.BenchWords.{BenchNumbers}
-use Rattle.command_words.specs.declared.fault.UsageFault.{UsageFault}
+use Rattle.command_words.specs.declared.usage_fault.UsageFault.{UsageFault}
 use Rattle.command_words.specs.Command.{Bench, Request, command}
 use Rattle.bench_command.specs.Bench.{bench_budget, set_drawn, transitions_drawn, most_drawn}
 use Rattle.command_ending.specs.Plan.{Outcome, Give, Stop}
 use Rattle.command_ending.specs.Follow.{Reached, Follows, outcome_of}
-use Rattle.command_ending.specs.Effects.{Outside, Ends, files_of, heard_of}
+use Rattle.command_ending.specs.StepEffects.{Outside, Ends, files_of, heard_of}
 use Rattle.acl_tool.specs.BenchPlan.{bench_plan}
 use Rattle.bench_command.proofs.Offered.{transitions-bound}
-use Rattle.acl_tool.specs.Effects.{Answers}
+use Rattle.acl_tool.specs.CommandEffects.{Answers}
 use Rattle.acl_tool.specs.BenchWalks.{BenchWalks}
 use Rattle.acl_tool.proofs.BenchEnds.{all_lines}
 

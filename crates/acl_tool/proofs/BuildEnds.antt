@@ -19,7 +19,7 @@ use Rattle.command_ending.specs.declared.status.Status.{Status}
 use Rattle.command_ending.specs.declared.status.Status.TheVariants.{Done, RulesRefused, WriteFault}
 use Rattle.command_ending.specs.Plan.{◌>>=◌, Outcome, Plan, Give, making}
 use Rattle.command_ending.specs.Endings.{is_decided, is_reported, is_usage}
-use Rattle.command_ending.specs.Effects.{Outside, EndsMaking, MakesAll, Takes, files_of, heard_of}
+use Rattle.command_ending.specs.StepEffects.{Outside, EndsMaking, MakesAll, Takes, files_of, heard_of}
 use Rattle.command_ending.proofs.Offered.{BeginsWith-nothing, IsFaithful, faithful_unless}
 use Rattle.command_ending.proofs.Offered.{Ends-stopped, Ends-full, Ends-cut, Ends-then, Ends-made, Ends-broken}
 use Rattle.capture_report.specs.Classifier.{Tables}
@@ -29,7 +29,7 @@ use Rattle.acl_tool.specs.FamilySet.{set_of}
 use Rattle.acl_tool.specs.Built.{IsBuilt, Refuses, tables_built}
 use Rattle.acl_tool.specs.BuildPlan.{build_plan, image_bytes, pair_of}
 use Rattle.acl_tool.specs.BuildSaved.{IsImageOfRules, IsSaved}
-use Rattle.acl_tool.specs.Effects.{Answers}
+use Rattle.acl_tool.specs.CommandEffects.{Answers}
 use Rattle.acl_tool.specs.BuildSaved.{HasImage}
 use Rattle.acl_tool.proofs.Answering.{Answers-request}
 use Rattle.acl_tool.proofs.RuleFiles.{HasRules, rules_heard, with_rules}

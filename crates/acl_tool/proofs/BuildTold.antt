@@ -7,20 +7,20 @@ use Rattle.acl_outside.specs.Desk.{File}
 use Rattle.acl_outside.specs.Heard.{Heard, Ended}
 use Rattle.classbench_reader.specs.RuleFile.{RuleLists, rule_file_of}
 use Rattle.acl_context.specs.Context.{built_of}
-use Rattle.command_words.specs.declared.fault.UsageFault.{UsageFault}
+use Rattle.command_words.specs.declared.usage_fault.UsageFault.{UsageFault}
 use Rattle.command_words.specs.Options.{Options, for_build, none_given}
-use Rattle.command_words.specs.Command.{Build, asked_by, build_by, command, named_of, named_with, options_from}
+use Rattle.command_words.specs.Command.{Build, asked_by, build_request, command, named_of, named_with, options_from}
 use Rattle.command_ending.specs.declared.status.Status.{Status}
 use Rattle.command_ending.specs.declared.status.Status.TheVariants.{Done, RulesRefused}
 use Rattle.command_ending.specs.Plan.{◌>>=◌, Outcome, Plan, Give, Stop, Read, making, nothing, unless_refused}
 use Rattle.command_ending.specs.Follow.{Reached, Given, Follows, IsEnough, outcome_of}
-use Rattle.command_ending.specs.Effects.{Makes, Outside, files_of, heard_of}
+use Rattle.command_ending.specs.StepEffects.{Makes, Outside, files_of, heard_of}
 use Rattle.capture_report.specs.Classifier.{Tables}
 use Rattle.acl_tool.specs.FamilySet.{set_of}
 use Rattle.acl_tool.specs.RuleTables.{rules_of_bytes, tables_within}
 use Rattle.acl_tool.specs.Built.{tables_built}
 use Rattle.acl_tool.specs.BuildPlan.{build_plan, image_bytes, pair_of}
-use Rattle.acl_tool.specs.Effects.{Answers}
+use Rattle.acl_tool.specs.CommandEffects.{Answers}
 use Rattle.acl_tool.specs.BuildMakes.{BuildMakes, MakesImage}
 use Rattle.acl_tool.proofs.Answering.{no_usage}
 use Rattle.acl_tool.proofs.BuildEnds.{image_by}
@@ -128,14 +128,14 @@ image_made rules image options read old new asked all =
     }
 
 made_after : (after : List (List ℕ)) (old new : Outside) →
-    Answers (asked_by build_by (named_of for_build after)) old new Done →
+    Answers (asked_by build_request (named_of for_build after)) old new Done →
     MakesImage (codes "build" ∷ after) old new
 made_after [] old new answers = no_usage Done _ refl answers.usage
 made_after (rules ∷ []) old new answers = no_usage Done _ refl answers.usage
 made_after (rules ∷ image ∷ words) old new answers = go (options_from for_build 4 none_given words) refl answers
   where
     go : (options : Result Options UsageFault) → options_from for_build 4 none_given words ≡ options →
-        Answers (asked_by build_by (named_with rules image options)) old new Done →
+        Answers (asked_by build_request (named_with rules image options)) old new Done →
         MakesImage (codes "build" ∷ rules ∷ image ∷ words) old new
     go (Ok options) at all = image_made rules image words options old new at all
     go (Err usage) at all = no_usage Done usage refl all.usage

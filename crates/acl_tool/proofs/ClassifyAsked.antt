@@ -1,14 +1,14 @@
 -- What words that begin with `classify` ask for, where they are no usage fault.
 use Rattle.std.proofs.Common.{◌≡◌, ℕ, List, [], ◌∷◌, true, false, None, Result, Ok, Err, refl, sym, subst}
 use Rattle.std.specs.Prelude.{codes}
-use Rattle.command_words.specs.declared.fault.UsageFault.{UsageFault}
+use Rattle.command_words.specs.declared.usage_fault.UsageFault.{UsageFault}
 use Rattle.command_words.specs.Options.{Options, for_classify, none_given}
-use Rattle.command_words.specs.Command.{Classify, asked_by, classify_by, command, named_of, named_with, options_from}
+use Rattle.command_words.specs.Command.{Classify, asked_by, classify_request, command, named_of, named_with, options_from}
 use Rattle.command_ending.specs.declared.status.Status.{Status}
 use Rattle.command_ending.specs.Endings.{is_reported, is_usage}
-use Rattle.command_ending.specs.Effects.{EndsMaking, Outside, heard_of}
+use Rattle.command_ending.specs.StepEffects.{EndsMaking, Outside, heard_of}
 use Rattle.acl_tool.specs.ClassifyPlan.{classify_plan}
-use Rattle.acl_tool.specs.Effects.{Answers}
+use Rattle.acl_tool.specs.CommandEffects.{Answers}
 use Rattle.acl_tool.specs.ClassifyTotals.{HasTotals}
 use Rattle.acl_tool.proofs.GivenOptions.{SaidBy, options_said}
 use Rattle.acl_tool.proofs.Answering.{no_usage}
@@ -26,7 +26,7 @@ pub record Asked (words : List (List ℕ)) (old new : Outside) (status : Status)
       HasTotals (Classify rules capture read) (heard_of old.desk) (heard_of new.desk)
 
 asked_after : (after : List (List ℕ)) (old new : Outside) (status : Status) → is_usage status ≡ false →
-    Answers (asked_by classify_by (named_of for_classify after)) old new status →
+    Answers (asked_by classify_request (named_of for_classify after)) old new status →
     Asked (codes "classify" ∷ after) old new status
 asked_after [] old new status lawful answers = no_usage status _ lawful answers.usage
 asked_after (rules ∷ []) old new status lawful answers = no_usage status _ lawful answers.usage
@@ -34,7 +34,7 @@ asked_after (rules ∷ capture ∷ words) old new status lawful answers =
     go (options_from for_classify 4 none_given words) refl answers
   where
     go : (options : Result Options UsageFault) → options_from for_classify 4 none_given words ≡ options →
-        Answers (asked_by classify_by (named_with rules capture options)) old new status →
+        Answers (asked_by classify_request (named_with rules capture options)) old new status →
         Asked (codes "classify" ∷ rules ∷ capture ∷ words) old new status
     go (Ok options) at all = record {
       rules = rules;

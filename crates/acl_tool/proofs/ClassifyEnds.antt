@@ -17,13 +17,13 @@ use Rattle.capture_report.proofs.Offered.{report-begins}
 use Rattle.command_ending.specs.Plan.{Outcome, Plan, Give, ◌>>=◌}
 use Rattle.command_ending.specs.Endings.{is_reported, is_usage, is_decided}
 use Rattle.command_ending.specs.Follow.{Reached, Follows}
-use Rattle.command_ending.specs.Effects.{Outside, Takes, Ends, files_of, heard_of}
+use Rattle.command_ending.specs.StepEffects.{Outside, Takes, Ends, files_of, heard_of}
 use Rattle.command_ending.proofs.Offered.{BeginsWith-nothing, IsFaithful, faithful_unless, unwritten, Ends-stopped}
 use Rattle.command_ending.proofs.Offered.{Ends-full, Ends-cut, Ends-then}
 use Rattle.acl_tool.specs.RuleTables.{rules_of_bytes, rules_in, tables_within}
 use Rattle.acl_tool.specs.ClassifyPlan.{form_of, classify_plan}
 use Rattle.acl_tool.specs.Built.{Refuses, WordsAreTotals}
-use Rattle.acl_tool.specs.Effects.{Answers}
+use Rattle.acl_tool.specs.CommandEffects.{Answers}
 use Rattle.acl_tool.specs.ClassifyTotals.{HasTotals}
 use Rattle.acl_tool.proofs.Answering.{Answers-request, keeps_up_later}
 use Rattle.acl_tool.proofs.RuleFiles.{tables_faithful, with_rules, HasRules, rules_heard}

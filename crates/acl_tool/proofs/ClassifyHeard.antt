@@ -4,7 +4,7 @@ use Rattle.std.proofs.Common.{sym, ap, ◌∙◌, arith, length, length-append}
 use Rattle.std.proofs.lemmas.Bool.{false≢true}
 use Rattle.acl_outside.specs.Desk.{File}
 use Rattle.acl_outside.specs.Heard.{Heard, Ended}
-use Rattle.classbench_reader.specs.declared.fault.LineFault.{LineFault}
+use Rattle.classbench_reader.specs.declared.rules_fault.LineFault.{LineFault}
 use Rattle.classbench_reader.specs.Limits.{max_rule_file}
 use Rattle.classbench_reader.specs.RuleFile.{RuleLists, rule_file_of}
 use Rattle.field_defs.specs.declared.field.Family.TheVariants.{Ip4, Ip6}

@@ -15,7 +15,7 @@ use Rattle.acl_context.specs.Context.{built_of}
 use Rattle.acl_outside.specs.Desk.{File}
 use Rattle.acl_outside.specs.Heard.{Heard, Ended}
 use Rattle.classbench_reader.specs.RuleFile.{RuleLists, rule_file_of}
-use Rattle.pcap_reader.specs.declared.fault.CaptureFault.{CaptureFault}
+use Rattle.pcap_reader.specs.declared.capture_fault.CaptureFault.{CaptureFault}
 use Rattle.pcapng_reader.specs.Capture.{capture_of, whole_records}
 use Rattle.acl_report.specs.Counts.{packets_text}
 use Rattle.acl_report.specs.Tables.{table_text, transitions_text}
@@ -25,7 +25,7 @@ use Rattle.command_ending.specs.declared.status.Status.{Status}
 use Rattle.command_ending.specs.declared.status.Status.TheVariants.{RulesRefused, TooLarge}
 use Rattle.command_ending.specs.Plan.{Outcome, Plan, Give, Stop, ◌>>=◌, nothing, unless_refused}
 use Rattle.command_ending.specs.Follow.{Reached, Stopped, Follows, outcome_of}
-use Rattle.command_ending.specs.Effects.{Outside, files_of, heard_of}
+use Rattle.command_ending.specs.StepEffects.{Outside, files_of, heard_of}
 use Rattle.capture_report.specs.Classifier.{ByRules, Tables}
 use Rattle.capture_report.specs.ReportForm.{ReportForm}
 use Rattle.capture_report.specs.Shown.{counts_of_records, fault_of_capture, status_of_fault}
@@ -35,7 +35,7 @@ use Rattle.acl_tool.specs.Built.{WordsAreTotals}
 use Rattle.acl_tool.specs.FamilySet.{set_of}
 use Rattle.acl_tool.specs.RuleTables.{rules_of_bytes, table_within}
 use Rattle.acl_tool.specs.ClassifyPlan.{classify_plan, form_of}
-use Rattle.acl_tool.specs.Effects.{Answers}
+use Rattle.acl_tool.specs.CommandEffects.{Answers}
 use Rattle.acl_tool.specs.Headline.{lines_to}
 use Rattle.acl_tool.specs.ClassifySizes.{ClassifySizes, NeedsMore, TellsSizes, size_line}
 use Rattle.acl_tool.specs.GivenBudget.{budget_given}

@@ -11,7 +11,7 @@ use Rattle.field_defs.specs.Layout.{ip4_fields, ip6_fields}
 use Rattle.rule_set.specs.Rule.{RuleView}
 use Rattle.header_extract.specs.declared.class.Class.{Class}
 use Rattle.header_extract.specs.declared.class.Class.TheVariants.{Ip4, Ip6, Other, Short}
-use Rattle.pcap_reader.specs.declared.fault.CaptureFault.{CaptureFault}
+use Rattle.pcap_reader.specs.declared.capture_fault.CaptureFault.{CaptureFault}
 use Rattle.pcap_reader.specs.State.{CaptureRecord}
 use Rattle.pcapng_reader.specs.Capture.{Recorded, capture_of, records_in, whole_records}
 use Rattle.pcapng_reader.proofs.Offered.{whole-last}
@@ -22,7 +22,7 @@ use Rattle.command_ending.specs.declared.status.Status.{Status}
 use Rattle.command_ending.specs.declared.status.Status.TheVariants.{Done}
 use Rattle.command_ending.specs.Plan.{Outcome, Plan, Give, Stop, Read}
 use Rattle.command_ending.specs.Follow.{IsEnough, Reached, outcome_of}
-use Rattle.command_ending.specs.Effects.{EndsMaking, Outside, files_of, heard_of}
+use Rattle.command_ending.specs.StepEffects.{EndsMaking, Outside, files_of, heard_of}
 use Rattle.capture_report.specs.Classifier.{ByRules, Tables}
 use Rattle.capture_report.specs.ReportForm.{ReportForm}
 use Rattle.capture_report.specs.Shown.{answer_of_rules, fault_of_capture, packet_of, shown, status_of_fault}
@@ -33,7 +33,7 @@ use Rattle.acl_context.specs.Context.{built_of}
 use Rattle.acl_tool.specs.FamilySet.{set_of}
 use Rattle.acl_tool.specs.ClassifyPlan.{classify_plan, form_of}
 use Rattle.acl_tool.specs.ClassifyWalks.{ClassifyWalks, Walks}
-use Rattle.acl_tool.specs.Effects.{Answers}
+use Rattle.acl_tool.specs.CommandEffects.{Answers}
 use Rattle.acl_tool.specs.Headline.{ClassifyPrints, Hears, PrintsVerdicts, answers_by, answers_to, last_lines_to}
 use Rattle.acl_tool.specs.Headline.{line_to, lines_to}
 use Rattle.acl_tool.specs.GivenOptions.{categories_shown}

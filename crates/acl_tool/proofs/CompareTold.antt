@@ -6,24 +6,24 @@ use Rattle.std.proofs.lemmas.Bool.{false≢true}
 use Rattle.field_defs.specs.declared.field.Family.TheVariants.{Ip4, Ip6}
 use Rattle.acl_outside.specs.Desk.{File}
 use Rattle.acl_outside.specs.Heard.{Heard}
-use Rattle.classbench_reader.specs.declared.fault.LineFault.{LineFault}
+use Rattle.classbench_reader.specs.declared.rules_fault.LineFault.{LineFault}
 use Rattle.classbench_reader.specs.RuleFile.{RuleLists, rule_file_of}
-use Rattle.command_words.specs.declared.fault.UsageFault.{UsageFault}
+use Rattle.command_words.specs.declared.usage_fault.UsageFault.{UsageFault}
 use Rattle.command_words.specs.Options.{Options, for_compare, none_given}
-use Rattle.command_words.specs.Command.{asked_by, command, compare_by, named_of, named_with, options_from}
+use Rattle.command_words.specs.Command.{asked_by, command, compare_request, named_of, named_with, options_from}
 use Rattle.command_ending.specs.declared.status.Status.{Status}
 use Rattle.command_ending.specs.declared.status.Status.TheVariants.{Done, RulesRefused, SecondRulesRefused, TooLarge}
 use Rattle.command_ending.specs.declared.status.Status.TheVariants.{TooManyTogether}
 use Rattle.command_ending.specs.Plan.{Outcome, ◌>>=◌, nothing, unless_refused}
 use Rattle.command_ending.specs.Follow.{Reached, Follows, outcome_of}
-use Rattle.command_ending.specs.Effects.{Ends, Outside, files_of, heard_of}
+use Rattle.command_ending.specs.StepEffects.{Ends, Outside, files_of, heard_of}
 use Rattle.acl_tool.specs.FamilySet.{set_of}
 use Rattle.acl_tool.specs.RuleTables.{refused_rules, rules_of_bytes}
 use Rattle.acl_tool.specs.Texts.{is_refusal, only_text}
 use Rattle.acl_tool.specs.CompareLines.{compare_of}
 use Rattle.acl_tool.specs.ComparePlan.{compare_plan}
 use Rattle.acl_tool.specs.CompareTells.{CompareTells, PrintsComparison}
-use Rattle.acl_tool.specs.Effects.{Answers}
+use Rattle.acl_tool.specs.CommandEffects.{Answers}
 use Rattle.acl_tool.proofs.Answering.{no_usage}
 use Rattle.acl_tool.proofs.CompareEnds.{compare_both, compare_with}
 use Rattle.acl_tool.proofs.ReadOn.{done_told}
@@ -41,12 +41,12 @@ record Asked (words : List (List ℕ)) (old new : Outside) : Type 0 where
   ends : Ends (compare_plan rules second max_words) old new Done
 
 asked_after : (after : List (List ℕ)) (old new : Outside) →
-    Answers (asked_by compare_by (named_of for_compare after)) old new Done → Asked (codes "compare" ∷ after) old new
+    Answers (asked_by compare_request (named_of for_compare after)) old new Done → Asked (codes "compare" ∷ after) old new
 asked_after [] old new answers = no_usage Done _ refl answers.usage
 asked_after (rules ∷ []) old new answers = no_usage Done _ refl answers.usage
 asked_after (rules ∷ second ∷ words) old new answers = go (options_from for_compare 4 none_given words) answers
   where
-    go : (options : Result Options UsageFault) → Answers (asked_by compare_by (named_with rules second options)) old new
+    go : (options : Result Options UsageFault) → Answers (asked_by compare_request (named_with rules second options)) old new
         Done → Asked (codes "compare" ∷ rules ∷ second ∷ words) old new
     go (Ok options) all = record {
       rules = rules;

@@ -9,10 +9,10 @@ use Rattle.std.proofs.lemmas.Bool.{eqb-false, false≢true, ltb-true}
 use Rattle.std.proofs.lemmas.List.{get_or-take}
 use Rattle.std.proofs.lemmas.Slice.Eq.{bytes_eq-Decides}
 use Rattle.text_scan.specs.Digits.{are_digits, place_value}
-use Rattle.lane_walk.specs.declared.walk.Walk.{Walk}
+use Rattle.flat_table.specs.declared.walk.Walk.{Walk}
 use Rattle.command_words.specs.declared.allowed.Allowed.{Allowed}
-use Rattle.command_words.specs.declared.fault.UsageKind.{UsageKind}
-use Rattle.command_words.specs.declared.fault.UsageKind.TheVariants.{UnknownOption}
+use Rattle.command_words.specs.declared.usage_fault.UsageKind.{UsageKind}
+use Rattle.command_words.specs.declared.usage_fault.UsageKind.TheVariants.{UnknownOption}
 use Rattle.command_words.specs.Options.{Options, Given, settled_options, with_option, once, adds, begins_with, value_of}
 use Rattle.command_words.specs.Options.{usual_words, categories_in, walk_in, budget_in, choice_in, number_in, lawful}
 use Rattle.command_words.specs.Options.{none_given, is_budget, max_digits}

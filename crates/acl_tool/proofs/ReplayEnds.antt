@@ -5,7 +5,7 @@ use Rattle.std.proofs.lemmas.Bool.{false≢true}
 use Rattle.std.proofs.lemmas.List.{take-append-le, take_all}
 use Rattle.table_image.specs.declared.version.Version.TheVariants.{One, Two}
 use Rattle.table_image.specs.Spelling.{IsImage, PairView}
-use Rattle.table_image.specs.Reading.{image_of}
+use Rattle.table_image.specs.ImageReading.{image_of}
 use Rattle.acl_outside.specs.Desk.{File, DeskView}
 use Rattle.command_words.specs.Options.{Options}
 use Rattle.command_words.specs.Command.{Replay}
@@ -16,12 +16,12 @@ use Rattle.capture_report.proofs.Offered.{report-begins}
 use Rattle.command_ending.specs.declared.status.Status.{Status}
 use Rattle.command_ending.specs.Plan.{Outcome, Plan}
 use Rattle.command_ending.specs.Endings.{is_reported}
-use Rattle.command_ending.specs.Effects.{Outside, Takes}
+use Rattle.command_ending.specs.StepEffects.{Outside, Takes}
 use Rattle.command_ending.proofs.Offered.{BeginsWith-nothing, IsFaithful, faithful_unless, unwritten}
 use Rattle.command_ending.proofs.Offered.{Ends-cut, Ends-then}
 use Rattle.acl_tool.specs.ClassifyPlan.{form_of}
 use Rattle.acl_tool.specs.ReplayPlan.{image_cap, refused_image, replay_plan, tables_in, tables_of_bytes}
-use Rattle.acl_tool.specs.Effects.{Answers}
+use Rattle.acl_tool.specs.CommandEffects.{Answers}
 use Rattle.acl_tool.proofs.Answering.{Answers-request}
 use Rattle.acl_tool.proofs.Answering.{keeps_up_later}
 

@@ -2,20 +2,20 @@
 use Rattle.std.proofs.Common.{◌≡◌, ℕ, ◌+◌, List, [], ◌∷◌, ◌++◌, true, false, Option, None, Result, Ok, Err, refl, sym}
 use Rattle.std.proofs.Common.{ap, subst, ◌∙◌, arith}
 use Rattle.std.specs.Prelude.{codes, take}
-use Rattle.table_image.specs.declared.fault.ImageFault.{ImageFault}
+use Rattle.table_image.specs.declared.load_fault.ImageFault.{ImageFault}
 use Rattle.table_image.specs.Spelling.{PairView}
-use Rattle.table_image.specs.Reading.{image_of}
+use Rattle.table_image.specs.ImageReading.{image_of}
 use Rattle.acl_outside.specs.Desk.{File}
 use Rattle.acl_outside.specs.Heard.{Heard}
-use Rattle.command_words.specs.declared.fault.UsageFault.{UsageFault}
+use Rattle.command_words.specs.declared.usage_fault.UsageFault.{UsageFault}
 use Rattle.command_words.specs.Options.{Options, for_replay, none_given}
-use Rattle.command_words.specs.Command.{asked_by, command, named_of, named_with, options_from, replay_by}
+use Rattle.command_words.specs.Command.{asked_by, command, named_of, named_with, options_from, replay_request}
 use Rattle.command_ending.specs.declared.status.Status.{Status}
 use Rattle.command_ending.specs.declared.status.Status.TheVariants.{ImageRefused}
 use Rattle.command_ending.specs.Plan.{◌>>=◌, Outcome, Give, nothing, unless_refused}
 use Rattle.command_ending.specs.Follow.{Reached, Given, Follows, outcome_of}
-use Rattle.command_ending.specs.Effects.{EndsMaking, Outside, files_of, heard_of}
-use Rattle.pcap_reader.specs.declared.fault.CaptureFault.{CaptureFault}
+use Rattle.command_ending.specs.StepEffects.{EndsMaking, Outside, files_of, heard_of}
+use Rattle.pcap_reader.specs.declared.capture_fault.CaptureFault.{CaptureFault}
 use Rattle.pcapng_reader.specs.Capture.{capture_of, whole_records}
 use Rattle.capture_report.specs.Classifier.{ByTables, Tables}
 use Rattle.capture_report.specs.ReportForm.{ReportForm}
@@ -23,7 +23,7 @@ use Rattle.capture_report.specs.CaptureOutcome.{lines_so_far, report, text_of_re
 use Rattle.capture_report.specs.Shown.{fault_of_capture, status_of_fault}
 use Rattle.capture_report.proofs.Offered.{report_bound}
 use Rattle.acl_tool.specs.BuildPlan.{pair_of}
-use Rattle.acl_tool.specs.Effects.{Answers}
+use Rattle.acl_tool.specs.CommandEffects.{Answers}
 use Rattle.acl_tool.specs.ClassifyPlan.{form_of}
 use Rattle.acl_tool.specs.ReplayPlan.{image_cap, refused_image, replay_plan, tables_of_bytes}
 use Rattle.acl_tool.specs.ReplayPrints.{PrintsByImage, ReplayPrints}
@@ -123,7 +123,7 @@ image_printed image capture options read fault old new asked ends =
     }
 
 printed_after : (after : List (List ℕ)) (fault : Option CaptureFault) (old new : Outside) →
-    Answers (asked_by replay_by (named_of for_replay after)) old new (status_of_fault fault) →
+    Answers (asked_by replay_request (named_of for_replay after)) old new (status_of_fault fault) →
     PrintsByImage (codes "replay" ∷ after) fault old new
 printed_after [] fault old new answers = no_usage (status_of_fault fault) _ (lawful_fault fault) answers.usage
 printed_after (image ∷ []) fault old new answers =
@@ -132,7 +132,7 @@ printed_after (image ∷ capture ∷ words) fault old new answers =
     go (options_from for_replay 4 none_given words) refl answers
   where
     go : (options : Result Options UsageFault) → options_from for_replay 4 none_given words ≡ options →
-        Answers (asked_by replay_by (named_with image capture options)) old new (status_of_fault fault) →
+        Answers (asked_by replay_request (named_with image capture options)) old new (status_of_fault fault) →
         PrintsByImage (codes "replay" ∷ image ∷ capture ∷ words) fault old new
     go (Ok options) at all = image_printed image capture words options fault old new at all.ends
     go (Err usage) at all = no_usage (status_of_fault fault) usage (lawful_fault fault) all.usage

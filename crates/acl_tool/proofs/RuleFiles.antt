@@ -2,10 +2,10 @@
 use Rattle.std.proofs.Common.{◌≡◌, ℕ, ◌+◌, ◌<◌, List, ◌++◌, length, length-append, Result, Ok, Err, refl, sym, ap, ◌∙◌}
 use Rattle.std.proofs.Common.{arith, ◌∷◌, Option, inl, inr}
 use Rattle.std.proofs.lemmas.Bool.{lt-ltb}
-use Rattle.classbench_reader.specs.declared.fault.LineKind.TheVariants.{FileTooLong}
+use Rattle.classbench_reader.specs.declared.rules_fault.LineKind.TheVariants.{FileTooLong}
 use Rattle.classbench_reader.specs.Limits.{max_rule_file}
 use Rattle.classbench_reader.specs.RuleFile.{rule_file_of, RuleLists}
-use Rattle.classbench_reader.specs.declared.fault.LineFault.{LineFault}
+use Rattle.classbench_reader.specs.declared.rules_fault.LineFault.{LineFault}
 use Rattle.field_defs.specs.declared.field.Family.TheVariants.{Ip4, Ip6}
 use Rattle.flat_table.specs.Table.{TableView}
 use Rattle.acl_outside.specs.Desk.{File, DeskView}
@@ -17,7 +17,7 @@ use Rattle.acl_tool.specs.RuleTables.{refused_rules, rules_of_bytes, table_withi
 use Rattle.acl_outside.specs.Heard.{Heard}
 use Rattle.command_ending.specs.declared.status.Status.TheVariants.{RulesRefused}
 use Rattle.command_ending.specs.Follow.{Reached, Given, Follows}
-use Rattle.command_ending.specs.Effects.{Outside, Takes}
+use Rattle.command_ending.specs.StepEffects.{Outside, Takes}
 
 -- a rule file of too many bytes is refused as such
 pub rule_file_of-long : (bytes : List ℕ) → max_rule_file < length bytes →

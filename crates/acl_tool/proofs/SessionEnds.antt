@@ -9,11 +9,11 @@ use Rattle.command_ending.specs.declared.status.Status.{Status}
 use Rattle.command_ending.specs.declared.status.Status.TheVariants.{Done, ScriptRefused}
 use Rattle.command_ending.specs.Plan.{Outcome, Plan, printed, unless_refused}
 use Rattle.command_ending.specs.Endings.{is_usage}
-use Rattle.command_ending.specs.Effects.{Ends, Outside, PutsLast, Takes, outside}
+use Rattle.command_ending.specs.StepEffects.{Ends, Outside, PutsLast, Takes, outside}
 use Rattle.command_ending.proofs.Offered.{BeginsWith-nothing, IsFaithful, faithful_unless, Ends-cut, Ends-put, Ends-then}
 use Rattle.acl_tool.specs.Texts.{only_text}
 use Rattle.acl_tool.specs.SessionPlan.{max_script, replies_in, replies_of, session_plan}
-use Rattle.acl_tool.specs.Effects.{Answers}
+use Rattle.acl_tool.specs.CommandEffects.{Answers}
 use Rattle.acl_tool.proofs.Answering.{Answers-request}
 use Rattle.acl_tool.proofs.Texts.{lawful_put}
 

@@ -7,17 +7,17 @@ use Rattle.acl_outside.specs.Desk.{File}
 use Rattle.acl_outside.specs.Heard.{Heard, Ended}
 use Rattle.acl_session.specs.Session.{session_of}
 use Rattle.command_words.specs.Options.{for_session}
-use Rattle.command_words.specs.Command.{asked_by, command, session_by, single_of}
+use Rattle.command_words.specs.Command.{asked_by, command, session_request, single_of}
 use Rattle.command_ending.specs.declared.status.Status.{Status}
 use Rattle.command_ending.specs.declared.status.Status.TheVariants.{Done, OutOfMemory, ScriptRefused, WriteFault}
 use Rattle.command_ending.specs.Plan.{Outcome, Plan, ◌>>=◌, nothing, unless_refused}
 use Rattle.command_ending.specs.Follow.{Reached, Follows, IsEnough, outcome_of}
 use Rattle.command_ending.specs.Endings.{is_usage}
-use Rattle.command_ending.specs.Effects.{Ends, Outside, files_of, heard_of}
+use Rattle.command_ending.specs.StepEffects.{Ends, Outside, files_of, heard_of}
 use Rattle.acl_tool.specs.Texts.{only_text}
 use Rattle.acl_tool.specs.SessionPlan.{max_script, replies_of, session_plan}
 use Rattle.acl_tool.specs.SessionTells.{HearsScript, PrintsReplies, RefusesScript, SessionTells}
-use Rattle.acl_tool.specs.Effects.{Answers}
+use Rattle.acl_tool.specs.CommandEffects.{Answers}
 use Rattle.acl_tool.proofs.Answering.{no_usage}
 use Rattle.acl_tool.proofs.ReadOn.{done_told}
 use Rattle.acl_tool.proofs.ReadOn.{IsTest, ReadsOn, is_told, longer, read_on, told_test, unless_on}
@@ -30,7 +30,7 @@ record Asked (words : List (List ℕ)) (old new : Outside) (status : Status) : T
   ends : Ends (session_plan script) old new status
 
 asked_after : (after : List (List ℕ)) (old new : Outside) (status : Status) → is_usage status ≡ false →
-    Answers (asked_by session_by (single_of for_session after)) old new status →
+    Answers (asked_by session_request (single_of for_session after)) old new status →
     Asked (codes "session" ∷ after) old new status
 asked_after [] old new status lawful answers = no_usage status _ lawful answers.usage
 asked_after (script ∷ []) old new status lawful answers =

@@ -7,7 +7,7 @@ use Rattle.command_ending.specs.declared.status.Status.{Status}
 use Rattle.command_ending.specs.declared.status.Status.TheVariants.{Done, OutOfMemory, TooLarge, TooManyTogether}
 use Rattle.command_ending.specs.Plan.{Outcome, Plan, ◌>>=◌, Stop, printed, unless_refused}
 use Rattle.command_ending.specs.Endings.{is_decided, is_reported, is_usage}
-use Rattle.command_ending.specs.Effects.{Ends, Outside, PutsLast, outside}
+use Rattle.command_ending.specs.StepEffects.{Ends, Outside, PutsLast, outside}
 use Rattle.command_ending.proofs.Offered.{Ends-stopped, Ends-full, Ends-put}
 use Rattle.acl_tool.specs.Texts.{Refuses, is_refusal, only_text}
 

@@ -2,7 +2,7 @@
 use Rattle.std.proofs.Common.{◌≡◌, ◌⊎◌, ℕ, Bool, true, false, Option, Some, None, Result, Ok, Err, inl, inr, refl}
 use Rattle.field_defs.specs.declared.field.Family.{Family}
 use Rattle.classbench_reader.specs.RuleFile.{RuleLists}
-use Rattle.classbench_reader.specs.declared.fault.LineFault.{LineFault}
+use Rattle.classbench_reader.specs.declared.rules_fault.LineFault.{LineFault}
 use Rattle.command_ending.specs.declared.status.Status.{Status}
 use Rattle.command_ending.specs.declared.status.Status.TheVariants.{OutOfMemory, RulesRefused, TooLarge, WriteFault}
 use Rattle.acl_tool.specs.RuleTables.{refused_rules}

@@ -3,9 +3,9 @@ use Rattle.std.proofs.Common.{◌≡◌, ◌<◌, List, ℕ, ◌++◌, Bool, tru
 use Rattle.std.proofs.Common.{length, length-append, not, ◌⊎◌, refl}
 use Rattle.std.proofs.lemmas.Bool.{false≢true}
 use Rattle.acl_outside.specs.Heard.{Heard, Ended}
-use Rattle.classbench_reader.specs.declared.fault.LineFault.{LineFault}
-use Rattle.classbench_reader.specs.declared.fault.RulesFault.{RulesFault}
-use Rattle.classbench_reader.specs.declared.fault.RulesFault.TheVariants as faults
+use Rattle.classbench_reader.specs.declared.rules_fault.LineFault.{LineFault}
+use Rattle.classbench_reader.specs.declared.rules_fault.RulesFault.{RulesFault}
+use Rattle.classbench_reader.specs.declared.rules_fault.RulesFault.TheVariants as faults
 use Rattle.classbench_reader.specs.Limits.{max_rule_file}
 use Rattle.classbench_reader.specs.RuleFile.{RuleLists, rule_file_of}
 use Rattle.command_ending.specs.declared.status.Status.{Status}

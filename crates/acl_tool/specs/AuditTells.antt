@@ -8,7 +8,7 @@ use Rattle.classbench_reader.specs.RuleFile.{RuleLists, rule_file_of}
 use Rattle.audit_report.specs.Audit.{audit_text}
 use Rattle.command_ending.specs.declared.status.Status.{Status}
 use Rattle.command_ending.specs.declared.status.Status.TheVariants.{Done, TooLarge}
-use Rattle.command_ending.specs.Effects.{Outside, heard_of}
+use Rattle.command_ending.specs.StepEffects.{Outside, heard_of}
 use Rattle.acl_tool.specs.FamilySet.{set_of}
 use Rattle.acl_tool.specs.GivenOptions.{categories_shown}
 use Rattle.acl_tool.specs.GivenBudget.{budget_given}

@@ -1,8 +1,8 @@
 -- Examples of `bench`: its words, its tallies and its lines, each checked by evaluation.
 use Rattle.std.specs.Prelude.{◌≡◌, [], ◌∷◌, ◌++◌, Ok, Err, codes, refl}
 use Rattle.std.specs.Fmt.{digits}
-use Rattle.command_words.specs.declared.fault.UsageKind.TheVariants.{MissingName, UnknownOption}
-use Rattle.command_words.specs.declared.fault.UsageKind.TheVariants.{BadValue}
+use Rattle.command_words.specs.declared.usage_fault.UsageKind.TheVariants.{MissingName, UnknownOption}
+use Rattle.command_words.specs.declared.usage_fault.UsageKind.TheVariants.{BadValue}
 use Rattle.command_words.specs.BenchWords.{numbers_of}
 use Rattle.command_words.specs.Command.{Bench, command, fault_at}
 use Rattle.bench_command.specs.Tally.{tally_of}

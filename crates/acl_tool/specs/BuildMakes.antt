@@ -12,7 +12,7 @@ use Rattle.command_words.specs.Options.{Options, for_build, none_given}
 use Rattle.command_words.specs.Command.{options_from}
 use Rattle.command_ending.specs.declared.status.Status.{Status}
 use Rattle.command_ending.specs.declared.status.Status.TheVariants.{Done}
-use Rattle.command_ending.specs.Effects.{MakesFile, Outside, heard_of}
+use Rattle.command_ending.specs.StepEffects.{MakesFile, Outside, heard_of}
 use Rattle.acl_tool.specs.FamilySet.{set_of}
 
 -- The words of a `build` name two files, and an option may follow. The rule file was read to its

@@ -6,15 +6,15 @@ use Rattle.acl_outside.specs.Desk.{File}
 use Rattle.field_defs.specs.declared.field.Family.TheVariants.{Ip4}
 use Rattle.rule_split.specs.Split as split
 use Rattle.flat_table.specs.Table.{TableView}
-use Rattle.classbench_reader.specs.declared.fault.LineKind.TheVariants.{BadStart}
+use Rattle.classbench_reader.specs.declared.rules_fault.LineKind.TheVariants.{BadStart}
 use Rattle.classbench_reader.specs.RuleFile.{RuleLists}
-use Rattle.pcap_reader.specs.declared.fault.CaptureFault.TheVariants.{HeaderCut, RecordCut}
+use Rattle.pcap_reader.specs.declared.capture_fault.CaptureFault.TheVariants.{HeaderCut, RecordCut}
 use Rattle.pcap_reader.specs.StartExamples.{ethernet_header}
 use Rattle.command_ending.specs.declared.status.Status.{Status}
 use Rattle.command_ending.specs.declared.status.Status.TheVariants.{Done, Usage, RulesRefused}
 use Rattle.command_ending.specs.declared.status.Status.TheVariants.{TooLarge, CaptureRefused}
 use Rattle.command_ending.specs.declared.status.Status.TheVariants.{ReadFault}
-use Rattle.command_words.specs.declared.fault.UsageKind.TheVariants.{MissingCommand}
+use Rattle.command_words.specs.declared.usage_fault.UsageKind.TheVariants.{MissingCommand}
 use Rattle.command_words.specs.Options.{Options, none_given, settled_options}
 use Rattle.command_words.specs.Command.{fault_at}
 use Rattle.capture_report.specs.Classifier.{Tables, ByRules, ByTables}

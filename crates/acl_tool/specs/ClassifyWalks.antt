@@ -4,7 +4,7 @@ use Rattle.std.specs.Prelude.{◌≡◌, ℕ, ◌+◌, ◌≤◌, List, ◌∷�
 use Rattle.field_defs.specs.declared.field.Family.TheVariants.{Ip4, Ip6}
 use Rattle.acl_outside.specs.Heard.{Heard}
 use Rattle.acl_context.specs.Context.{built_of}
-use Rattle.pcap_reader.specs.declared.fault.CaptureFault.{CaptureFault}
+use Rattle.pcap_reader.specs.declared.capture_fault.CaptureFault.{CaptureFault}
 use Rattle.pcapng_reader.specs.Capture.{whole_records}
 use Rattle.command_ending.specs.declared.status.Status.{Status}
 use Rattle.capture_report.specs.Shown.{status_of_fault}

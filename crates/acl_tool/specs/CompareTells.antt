@@ -7,7 +7,7 @@ use Rattle.classbench_reader.specs.RuleFile.{RuleLists, rule_file_of}
 use Rattle.audit_report.specs.Compare.{compared_text}
 use Rattle.command_ending.specs.declared.status.Status.{Status}
 use Rattle.command_ending.specs.declared.status.Status.TheVariants.{Done}
-use Rattle.command_ending.specs.Effects.{Outside, heard_of}
+use Rattle.command_ending.specs.StepEffects.{Outside, heard_of}
 use Rattle.acl_tool.specs.FamilySet.{set_of}
 
 -- The words of a `compare` name two files, and an option may follow. The desk was asked for each of

@@ -7,7 +7,7 @@ use Rattle.acl_outside.specs.Desk.{File}
 use Rattle.acl_outside.specs.Heard.{Heard, Ending, NotOpened, GoesOn, Ended, BrokenOff}
 use Rattle.command_ending.specs.declared.status.Status.TheVariants.{Done, RulesRefused, ReadFault}
 use Rattle.command_ending.specs.declared.status.Status.TheVariants.{OutOfMemory}
-use Rattle.classbench_reader.specs.declared.fault.LineKind.TheVariants.{BadStart}
+use Rattle.classbench_reader.specs.declared.rules_fault.LineKind.TheVariants.{BadStart}
 use Rattle.rule_split.specs.Split as split
 use Rattle.pcap_reader.specs.StartExamples.{ethernet_header}
 use Rattle.command_words.specs.Options.{none_given, settled_options}

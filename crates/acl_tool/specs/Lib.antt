@@ -28,7 +28,7 @@ pub mod ReplayPrints
 pub mod AuditTells
 pub mod CompareTells
 pub mod SessionTells
-pub mod Effects
+pub mod CommandEffects
 pub mod Laws
 pub mod ClassifyExamples
 pub mod PcapngExamples

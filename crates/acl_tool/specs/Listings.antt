@@ -1,7 +1,7 @@
 -- Which of a command's rule files one is, and what a refused one is called.
-use Rattle.classbench_reader.specs.declared.fault.LineFault.{LineFault}
-use Rattle.classbench_reader.specs.declared.fault.RulesFault.{RulesFault}
-use Rattle.classbench_reader.specs.declared.fault.RulesFault.TheVariants as faults
+use Rattle.classbench_reader.specs.declared.rules_fault.LineFault.{LineFault}
+use Rattle.classbench_reader.specs.declared.rules_fault.RulesFault.{RulesFault}
+use Rattle.classbench_reader.specs.declared.rules_fault.RulesFault.TheVariants as faults
 use Rattle.command_ending.specs.declared.status.Status.{Status}
 use Rattle.command_ending.specs.declared.status.Status.TheVariants.{RulesRefused, SecondRulesRefused, OutOfMemory}
 use Rattle.acl_tool.specs.declared.rule_file.Listing.{Listing}

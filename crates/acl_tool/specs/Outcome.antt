@@ -2,7 +2,7 @@
 -- there.
 use Rattle.std.specs.Prelude.{ℕ, List, Result, Ok, Err}
 use Rattle.acl_outside.specs.Desk.{File}
-use Rattle.command_words.specs.declared.fault.UsageFault.{UsageFault}
+use Rattle.command_words.specs.declared.usage_fault.UsageFault.{UsageFault}
 use Rattle.command_words.specs.Command.{Request, Audit, Bench, Build, Classify, Compare, Replay}
 use Rattle.command_words.specs.Command.{Session, command}
 use Rattle.command_ending.specs.declared.status.Status.TheVariants.{Usage}

@@ -2,7 +2,7 @@
 use Rattle.std.specs.Prelude.{◌≡◌, ℕ, List, [], ◌∷◌, ◌++◌, replicate, take, codes, refl}
 use Rattle.std.specs.Fmt.{digits}
 use Rattle.rule_split.specs.Split as split
-use Rattle.pcap_reader.specs.declared.fault.CaptureFault.TheVariants.{PngCut, PngInterface}
+use Rattle.pcap_reader.specs.declared.capture_fault.CaptureFault.TheVariants.{PngCut, PngInterface}
 use Rattle.command_ending.specs.declared.status.Status.TheVariants.{Done, CaptureRefused}
 use Rattle.command_ending.specs.Plan.{Outcome, printed}
 use Rattle.capture_report.specs.CaptureOutcome.{lines_so_far, report}

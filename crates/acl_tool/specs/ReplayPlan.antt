@@ -1,8 +1,8 @@
 -- What `replay` does.
 use Rattle.std.specs.Prelude.{ℕ, List, take, Result, Ok, Err}
-use Rattle.table_image.specs.declared.fault.ImageFault.{ImageFault}
+use Rattle.table_image.specs.declared.load_fault.ImageFault.{ImageFault}
 use Rattle.table_image.specs.Spelling.{PairView}
-use Rattle.table_image.specs.Reading.{image_of}
+use Rattle.table_image.specs.ImageReading.{image_of}
 use Rattle.command_words.specs.Options.{Options}
 use Rattle.capture_report.specs.Classifier.{ByTables, Tables}
 use Rattle.capture_report.specs.CaptureOutcome.{reported}

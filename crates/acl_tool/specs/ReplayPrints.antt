@@ -1,14 +1,14 @@
 -- What `replay` prints, said by itself: of the image and the capture that the desk gave, and of
 -- what the output took, whatever they are.
 use Rattle.std.specs.Prelude.{◌≡◌, ℕ, ◌+◌, ◌≤◌, List, ◌∷◌, ◌++◌, codes, take, Option, Ok}
-use Rattle.table_image.specs.Reading.{image_of}
+use Rattle.table_image.specs.ImageReading.{image_of}
 use Rattle.acl_outside.specs.Heard.{Heard}
-use Rattle.pcap_reader.specs.declared.fault.CaptureFault.{CaptureFault}
+use Rattle.pcap_reader.specs.declared.capture_fault.CaptureFault.{CaptureFault}
 use Rattle.pcapng_reader.specs.Capture.{capture_of, whole_records}
 use Rattle.command_words.specs.Options.{Options, for_replay, none_given}
 use Rattle.command_words.specs.Command.{options_from}
 use Rattle.command_ending.specs.declared.status.Status.{Status}
-use Rattle.command_ending.specs.Effects.{Outside, heard_of}
+use Rattle.command_ending.specs.StepEffects.{Outside, heard_of}
 use Rattle.capture_report.specs.Bound.{most_of_records}
 use Rattle.capture_report.specs.CaptureOutcome.{text_of_records}
 use Rattle.capture_report.specs.Classifier.{ByTables, Tables}

@@ -6,7 +6,7 @@ use Rattle.field_defs.specs.declared.field.Family.TheVariants.{Ip4, Ip6}
 use Rattle.rule_split.specs.Split.{total_of}
 use Rattle.flat_table.specs.Table.{TableView}
 use Rattle.acl_context.specs.Context.{built_of}
-use Rattle.classbench_reader.specs.declared.fault.LineFault.{LineFault}
+use Rattle.classbench_reader.specs.declared.rules_fault.LineFault.{LineFault}
 use Rattle.classbench_reader.specs.RuleFile.{RuleLists, rule_file_of}
 use Rattle.command_ending.specs.declared.status.Status.{Status}
 use Rattle.command_ending.specs.declared.status.Status.TheVariants.{TooLarge}

@@ -3,9 +3,9 @@ use Rattle.std.specs.Prelude.{◌≡◌, ℕ, List, [], ◌∷◌, ◌++◌, len
 use Rattle.std.specs.Fmt.{digits}
 use Rattle.rule_split.specs.Split as split
 use Rattle.table_fill.specs.Filled as filling
-use Rattle.table_image.specs.declared.fault.ImageKind.TheVariants.{Length, Magic, Trailing}
+use Rattle.table_image.specs.declared.load_fault.ImageKind.TheVariants.{Length, Magic, Trailing}
 use Rattle.table_image.specs.Spelling.{spelled, spelled_pair, spelled_table}
-use Rattle.table_image.specs.Reading as reading
+use Rattle.table_image.specs.ImageReading as reading
 use Rattle.acl_outside.specs.Desk.{File}
 use Rattle.pcap_reader.specs.StartExamples.{ethernet_header}
 use Rattle.command_ending.specs.declared.status.Status.TheVariants.{Done, ImageRefused, ReadFault}

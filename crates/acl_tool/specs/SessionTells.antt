@@ -7,7 +7,7 @@ use Rattle.acl_outside.specs.Heard.{Heard, Ended}
 use Rattle.acl_session.specs.Session.{session_of}
 use Rattle.command_ending.specs.declared.status.Status.{Status}
 use Rattle.command_ending.specs.declared.status.Status.TheVariants.{Done, ScriptRefused}
-use Rattle.command_ending.specs.Effects.{Outside, heard_of}
+use Rattle.command_ending.specs.StepEffects.{Outside, heard_of}
 use Rattle.acl_tool.specs.SessionPlan.{max_script}
 
 -- the bytes of a text

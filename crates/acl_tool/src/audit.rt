@@ -5,11 +5,11 @@ ghost use Rattle.field_defs.specs.Layout.{ip4_fields, ip6_fields};
 ghost use Rattle.table_sizes.specs.Sizes.{max_words};
 ghost use Rattle.acl_audit.specs.Least.{least_keys};
 ghost use Rattle.command_words.specs.Command as asked;
-ghost use Rattle.command_ending.specs.Effects.{outside};
+ghost use Rattle.command_ending.specs.StepEffects.{outside};
 ghost use Rattle.capture_report.specs.Classifier.{lists_of};
 ghost use Rattle.acl_tool.specs.Texts.{Refuses, Tells};
 ghost use Rattle.acl_tool.specs.AuditMerged.{audit_of, audit_refused, merged_within};
-ghost use Rattle.acl_tool.specs.Effects.{Answers};
+ghost use Rattle.acl_tool.specs.CommandEffects.{Answers};
 
 use crate::rule_file::{Listing, read_rule_file};
 use crate::text::put_text;

@@ -5,8 +5,8 @@ ghost use Rattle.acl_outside.specs.Desk.{DeskView};
 ghost use Rattle.bench_command.specs.Bench.{bench_text};
 ghost use Rattle.command_words.specs.Command.{Bench};
 ghost use Rattle.command_words.specs.CommandLine.{numbers_in};
-ghost use Rattle.acl_tool.specs.Effects.{Answers};
-ghost use Rattle.command_ending.specs.Effects.{outside, PutsLast};
+ghost use Rattle.acl_tool.specs.CommandEffects.{Answers};
+ghost use Rattle.command_ending.specs.StepEffects.{outside, PutsLast};
 
 use acl_outside::{Failed, Sink, put_all};
 use acl_report::LINE_ROOM;

@@ -5,10 +5,10 @@ ghost use Rattle.field_defs.specs.Layout.{ip4_fields, ip6_fields};
 ghost use Rattle.table_sizes.specs.Sizes.{max_words};
 ghost use Rattle.acl_outside.specs.Sink.{SinkView};
 ghost use Rattle.command_words.specs.Command.{Build};
-ghost use Rattle.command_ending.specs.Effects.{outside};
+ghost use Rattle.command_ending.specs.StepEffects.{outside};
 ghost use Rattle.capture_report.specs.Classifier.{lists_of};
 ghost use Rattle.acl_tool.specs.Built.{Refuses};
-ghost use Rattle.acl_tool.specs.Effects.{Answers};
+ghost use Rattle.acl_tool.specs.CommandEffects.{Answers};
 ghost use Rattle.acl_tool.specs.BuildSaved.{IsSaved};
 
 use crate::rule_file::{Listing, read_rule_file};

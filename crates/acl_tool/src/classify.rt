@@ -6,9 +6,9 @@ ghost use Rattle.acl_outside.specs.Desk.{DeskView};
 ghost use Rattle.command_words.specs.Command.{Classify};
 ghost use Rattle.command_words.specs.CommandLine.{options_of};
 ghost use Rattle.command_ending.specs.declared.status.Status.TheVariants.{RulesRefused};
-ghost use Rattle.command_ending.specs.Effects.{Takes, outside};
+ghost use Rattle.command_ending.specs.StepEffects.{Takes, outside};
 ghost use Rattle.capture_report.specs.Classifier.{lists_of};
-ghost use Rattle.acl_tool.specs.Effects.{Answers};
+ghost use Rattle.acl_tool.specs.CommandEffects.{Answers};
 ghost use Rattle.acl_tool.specs.RuleTables.{rules_in};
 
 use crate::rule_file::{Listing, read_rule_file};
@@ -37,13 +37,13 @@ pub fn classify<D: Desk, O: Sink, L: Ledger>(
         (outside (D.view desk.new) (O.view out.new) steps.new) result }
 {
     match read_rule_file(alloc, rules, Listing::First, desk) {
-        Ok(rules) => classify_by(alloc, rules, capture, options, desk, out, steps),
+        Ok(rules) => answer_by_rules(alloc, rules, capture, options, desk, out, steps),
         Err(status) => status,
     }
 }
 
 /// Prints the report of a capture by the tables of rules, whose file was read last.
-fn classify_by<D: Desk, O: Sink, L: Ledger>(
+fn answer_by_rules<D: Desk, O: Sink, L: Ledger>(
     alloc: Global,
     rules: RuleFile,
     capture: &str,

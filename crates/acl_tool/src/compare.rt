@@ -9,13 +9,13 @@ ghost use Rattle.acl_audit.specs.Laws.{AreUnlikeAt};
 ghost use Rattle.acl_outside.specs.Desk.{DeskView};
 ghost use Rattle.command_words.specs.Command.{Compare};
 ghost use Rattle.command_ending.specs.declared.status.Status.TheVariants.{RulesRefused};
-ghost use Rattle.command_ending.specs.Effects.{Takes, outside};
+ghost use Rattle.command_ending.specs.StepEffects.{Takes, outside};
 ghost use Rattle.capture_report.specs.Classifier.{lists_of};
 ghost use Rattle.acl_tool.specs.Texts.{Refuses, Tells};
 ghost use Rattle.audit_report.specs.Compare.{compared_text};
 ghost use Rattle.acl_tool.specs.CompareLines.{compare_of, compare_refused, compared_within};
 ghost use Rattle.acl_tool.specs.RuleTables.{rules_in};
-ghost use Rattle.acl_tool.specs.Effects.{Answers};
+ghost use Rattle.acl_tool.specs.CommandEffects.{Answers};
 
 use crate::rule_file::{Listing, read_rule_file};
 use crate::text::put_text;

@@ -2,7 +2,7 @@
 //! no memory.
 
 ghost use Rattle.std.specs.Prelude.{◌<◌, ◌≤◌};
-ghost use Rattle.lane_walk.specs.declared.walk.Walk.{Walk};
+ghost use Rattle.flat_table.specs.declared.walk.Walk.{Walk};
 ghost use Rattle.table_sizes.specs.Sizes.{max_words};
 ghost use Rattle.acl_tool.specs.Laws.{ReplayAgrees};
 

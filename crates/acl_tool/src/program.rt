@@ -4,8 +4,8 @@ ghost use Rattle.std.specs.Prelude.{◌≡◌, ℕ, ◌<◌, Some, None, drop, m
 ghost use Rattle.std.specs.Process.{exit_status};
 ghost use Rattle.command_ending.specs.declared.status.Status.{Status};
 ghost use Rattle.command_ending.specs.Message.{code_of};
-ghost use Rattle.command_ending.specs.Effects.{outside};
-ghost use Rattle.acl_tool.specs.Effects.{Runs};
+ghost use Rattle.command_ending.specs.StepEffects.{outside};
+ghost use Rattle.acl_tool.specs.CommandEffects.{Runs};
 
 use crate::held_streams::HeldStreams;
 use crate::tool::run;

@@ -5,10 +5,10 @@ ghost use Rattle.table_sizes.specs.Groups.{ip4_key_len, ip6_key_len};
 ghost use Rattle.command_words.specs.Command.{Replay};
 ghost use Rattle.command_words.specs.CommandLine.{options_of};
 ghost use Rattle.command_ending.specs.Endings.{is_reported, is_usage};
-ghost use Rattle.command_ending.specs.Effects.{Takes, outside};
+ghost use Rattle.command_ending.specs.StepEffects.{Takes, outside};
 ghost use Rattle.acl_tool.specs.ReplayPlan.{image_cap, tables_in, tables_of_bytes};
 ghost use Rattle.acl_tool.specs.ReplayLoaded.{tables_of};
-ghost use Rattle.acl_tool.specs.Effects.{Answers};
+ghost use Rattle.acl_tool.specs.CommandEffects.{Answers};
 
 use acl_outside::{Desk, Sink};
 use capture_report::{PrintOptions, print_packets};

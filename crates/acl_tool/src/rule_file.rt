@@ -6,7 +6,7 @@ ghost use Rattle.field_defs.specs.Layout.{ip4_fields, ip6_fields};
 ghost use Rattle.command_ending.specs.Endings.{is_reported, is_usage};
 ghost use Rattle.acl_tool.specs.RuleTables.{rules_in, rules_of_bytes};
 ghost use Rattle.capture_report.specs.Classifier.{lists_of};
-ghost use Rattle.command_ending.specs.Effects.{Takes};
+ghost use Rattle.command_ending.specs.StepEffects.{Takes};
 
 use acl_outside::Desk;
 use classbench_reader::{LineFault, MAX_RULE_FILE, RuleFile, RulesFault, read_rules};

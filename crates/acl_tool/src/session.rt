@@ -3,11 +3,11 @@
 ghost use Rattle.std.specs.Prelude.{◌≡◌, ◌≢◌, ℕ, ◌⊎◌, nat_lt, length, false};
 ghost use Rattle.std.specs.Prelude.{Ok, Err, IfOk, IfErr};
 ghost use Rattle.command_words.specs.Command as asked;
-ghost use Rattle.command_ending.specs.Effects.{Takes, outside};
+ghost use Rattle.command_ending.specs.StepEffects.{Takes, outside};
 ghost use Rattle.command_ending.specs.Endings.{is_reported, is_usage};
 ghost use Rattle.acl_tool.specs.SessionPlan.{max_script, replies_in, replies_of};
 ghost use Rattle.acl_tool.specs.SessionTells.{text_of};
-ghost use Rattle.acl_tool.specs.Effects.{Answers};
+ghost use Rattle.acl_tool.specs.CommandEffects.{Answers};
 
 use crate::text::put_text;
 use acl_outside::{Desk, Sink};

@@ -1,6 +1,6 @@
 //! A text that is whole in memory before its first byte is put.
 
-ghost use Rattle.command_ending.specs.Effects.{PutsLast};
+ghost use Rattle.command_ending.specs.StepEffects.{PutsLast};
 
 use acl_outside::{Failed, Sink, put_all};
 use command_ending::Status;

@@ -4,8 +4,8 @@ ghost use Rattle.std.specs.Prelude.{Ok, map, string_bytes};
 ghost use Rattle.command_words.specs.Command.{command};
 ghost use Rattle.command_words.specs.CommandLine.{request_of};
 ghost use Rattle.command_ending.specs.Message.{message};
-ghost use Rattle.acl_tool.specs.Effects.{Answers, Runs};
-ghost use Rattle.command_ending.specs.Effects.{PutsLine, outside};
+ghost use Rattle.acl_tool.specs.CommandEffects.{Answers, Runs};
+ghost use Rattle.command_ending.specs.StepEffects.{PutsLine, outside};
 
 use crate::audit::audit;
 use crate::bench::bench;

@@ -15,7 +15,7 @@ use Rattle.header_extract.specs.Class.{FrameClass}
 use Rattle.acl_report.specs.declared.packet.TheConstants.{MAX_VERDICTS}
 use Rattle.acl_report.specs.Packet.{packet_text}
 use Rattle.acl_outside.specs.Desk.{File}
-use Rattle.pcap_reader.specs.declared.fault.CaptureFault.{CaptureFault}
+use Rattle.pcap_reader.specs.declared.capture_fault.CaptureFault.{CaptureFault}
 use Rattle.pcap_reader.specs.State.{CaptureRecord}
 use Rattle.pcapng_reader.specs.Capture.{AnyState, Recorded, capture_of, records_in, whole_records}
 use Rattle.capture_report.specs.declared.form.PrintOptions.{PrintOptions}
@@ -29,7 +29,7 @@ use Rattle.capture_report.specs.Report.{lines_of_records, transitions_of_records
 use Rattle.capture_report.specs.CaptureOutcome.{last_lines, report, report_of_capture, reported}
 use Rattle.command_ending.specs.declared.status.Status.TheVariants.{OutOfMemory}
 use Rattle.command_ending.specs.Plan.{printed}
-use Rattle.command_ending.specs.Effects.{Outside}
+use Rattle.command_ending.specs.StepEffects.{Outside}
 use Rattle.capture_report.specs.PrintsCapture.{Reports, PrintsCapture}
 use Rattle.command_ending.proofs.Offered.{Ends-full, Ends-told, Ends-complete, IsFaithful}
 use Rattle.capture_report.specs.Streams.{Reading, Whole, Part, records_read, text_of, Streams}

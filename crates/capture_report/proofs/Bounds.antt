@@ -9,13 +9,13 @@ use Rattle.flat_table.proofs.Offered.{key_bound}
 use Rattle.header_extract.specs.declared.class.Class.{Class}
 use Rattle.header_extract.specs.declared.class.Class.TheVariants.{Ip4, Ip6, Other, Short}
 use Rattle.header_extract.specs.Class.{FrameClass}
-use Rattle.pcap_reader.specs.declared.fault.CaptureFault.{CaptureFault}
+use Rattle.pcap_reader.specs.declared.capture_fault.CaptureFault.{CaptureFault}
 use Rattle.pcapng_reader.specs.Capture.{Recorded, capture_of, whole_records, records_in}
 use Rattle.command_ending.specs.declared.status.Status.{Status}
 use Rattle.command_ending.specs.Plan.{Outcome}
 use Rattle.command_ending.specs.Endings.{is_decided}
 use Rattle.command_ending.specs.Follow.{Reached, Follows, outcome_of}
-use Rattle.command_ending.specs.Effects.{Outside, Ends, files_of, heard_of}
+use Rattle.command_ending.specs.StepEffects.{Outside, Ends, files_of, heard_of}
 use Rattle.capture_report.specs.Bound.{TransitionsAreBounded, most_on, most_of_records}
 use Rattle.capture_report.specs.CaptureOutcome.{report, report_of_capture, reported}
 use Rattle.capture_report.specs.Classifier.{Tables}

@@ -8,16 +8,16 @@ use Rattle.std.proofs.lemmas.List.{drop-append-le}
 use Rattle.acl_outside.specs.Fault.{Rose}
 use Rattle.acl_outside.specs.Desk.{DeskView}
 use Rattle.acl_outside.specs.Heard.{Ending, Ended, GoesOn, BrokenOff}
-use Rattle.acl_outside.specs.Reading.{ReadsOn, and_goes_on}
+use Rattle.acl_outside.specs.DeskReading.{ReadsOn, and_goes_on}
 use Rattle.header_extract.specs.Class.{FrameClass}
-use Rattle.pcap_reader.specs.declared.fault.CaptureFault.{CaptureFault}
-use Rattle.pcap_reader.specs.declared.fault.CaptureFault.TheVariants.{HeaderCut, RecordCut, PngCut, ReadFault}
+use Rattle.pcap_reader.specs.declared.capture_fault.CaptureFault.{CaptureFault}
+use Rattle.pcap_reader.specs.declared.capture_fault.CaptureFault.TheVariants.{HeaderCut, RecordCut, PngCut, ReadFault}
 use Rattle.pcap_reader.specs.State.{Answer, CaptureRecord}
 use Rattle.pcap_reader.specs.Fill.{KeepsReading, IsAtEnd}
 use Rattle.pcapng_reader.specs.Capture.{AnyState, Next, End as NoMore, Record, Fault as Failing, capture_of}
 use Rattle.pcapng_reader.specs.Capture.{next_of, records_from, records_in, size_of, whole_records}
 use Rattle.pcapng_reader.specs.Reader.{IsEnd, ReadsNext, ReadsStart, start_len, start_of}
-use Rattle.pcapng_reader.specs.Reading.{stands}
+use Rattle.pcapng_reader.specs.BlockReading.{stands}
 use Rattle.pcapng_reader.proofs.Offered.{IsDecidedNext, next_more, next-append, CountsNext, next-counts}
 use Rattle.pcapng_reader.proofs.Offered.{IsShorterNext, next-shorter, next_cases, FirstNone, next-first}
 use Rattle.pcapng_reader.proofs.Offered.{records-record, records-end, records-fault, records-none, records-nothing}

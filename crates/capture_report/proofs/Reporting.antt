@@ -6,15 +6,15 @@ use Rattle.std.specs.Option.{option_map_or}
 use Rattle.acl_outside.specs.Fault.{Rose}
 use Rattle.acl_outside.specs.Desk.{File, DeskView, OpensFile}
 use Rattle.acl_outside.specs.Heard.{Heard, Ending, NotOpened, GoesOn, Ended, BrokenOff, heard, opening_of}
-use Rattle.acl_outside.specs.Reading.{ReadsOn}
+use Rattle.acl_outside.specs.DeskReading.{ReadsOn}
 use Rattle.acl_outside.specs.Sink.{SinkView, Gains, GainsPrefix}
 use Rattle.acl_outside.proofs.Offered.{ReadsOn-none, ReadsOn-then}
-use Rattle.pcap_reader.specs.declared.fault.CaptureFault.{CaptureFault}
-use Rattle.pcap_reader.specs.declared.fault.CaptureFault.TheVariants as faults
+use Rattle.pcap_reader.specs.declared.capture_fault.CaptureFault.{CaptureFault}
+use Rattle.pcap_reader.specs.declared.capture_fault.CaptureFault.TheVariants as faults
 use Rattle.pcap_reader.specs.State.{CaptureRecord}
 use Rattle.pcapng_reader.specs.Capture.{AnyState, Recorded, capture_of, records_from, whole_records, records_in}
 use Rattle.pcapng_reader.specs.Reader.{ReadsStart}
-use Rattle.pcapng_reader.specs.Reading.{stands}
+use Rattle.pcapng_reader.specs.BlockReading.{stands}
 use Rattle.pcap_reader.specs.Fill.{KeepsReading, IsAtEnd}
 use Rattle.pcap_reader.proofs.Offered.{KeepsReading-same, KeepsReading-join}
 use Rattle.command_ending.specs.declared.status.Status.{Status}
@@ -27,7 +27,7 @@ use Rattle.command_ending.specs.Endings.{is_decided, is_usage}
 use Rattle.capture_report.specs.CaptureOutcome.{refusal, report, report_of_capture, reported, lines_so_far}
 use Rattle.capture_report.specs.CaptureOutcome.{text_of_records}
 use Rattle.capture_report.specs.Shown.{status_of_fault}
-use Rattle.command_ending.specs.Effects.{Outside, outside, files_of, opened_of, heard_of, earlier_of, KeepsFiles, Ends}
+use Rattle.command_ending.specs.StepEffects.{Outside, outside, files_of, opened_of, heard_of, earlier_of, KeepsFiles, Ends}
 use Rattle.capture_report.specs.PrintsCapture.{KeepsUp, Reports}
 use Rattle.capture_report.specs.Streams.{Reading, Whole, Part, records_read, text_of, IsUnbroken, AreRead, IsStatus}
 use Rattle.capture_report.specs.Streams.{BreaksOffSoon, Streams}

@@ -7,11 +7,11 @@ use Rattle.acl_outside.specs.Heard.{Ending, NotOpened, GoesOn, Ended, BrokenOff}
 use Rattle.acl_outside.specs.Sink.{Gains, Puts}
 use Rattle.acl_outside.proofs.Offered.{Gains-then}
 use Rattle.header_extract.specs.Class.{FrameClass}
-use Rattle.pcap_reader.specs.declared.fault.CaptureFault.{CaptureFault}
-use Rattle.pcap_reader.specs.declared.fault.CaptureFault.TheVariants.{HeaderCut, RecordCut, PngCut, ReadFault as CannotRead}
+use Rattle.pcap_reader.specs.declared.capture_fault.CaptureFault.{CaptureFault}
+use Rattle.pcap_reader.specs.declared.capture_fault.CaptureFault.TheVariants.{HeaderCut, RecordCut, PngCut, ReadFault as CannotRead}
 use Rattle.pcap_reader.specs.State.{CaptureRecord}
 use Rattle.pcapng_reader.specs.Capture.{AnyState, max_records}
-use Rattle.pcapng_reader.specs.Reading.{FaultStands}
+use Rattle.pcapng_reader.specs.BlockReading.{FaultStands}
 use Rattle.acl_report.specs.declared.counts.Counts.{Counts}
 use Rattle.capture_report.specs.declared.batch.BatchEnd.{BatchEnd}
 use Rattle.capture_report.specs.declared.batch.BatchEnd.TheVariants.{Full, End, Fault}
@@ -26,7 +26,7 @@ use Rattle.capture_report.specs.Report.{transitions_of_packets, transitions_of_r
 use Rattle.capture_report.specs.Taken.{BatchStands, AreAll, Took, TakesBatch}
 use Rattle.capture_report.specs.CaptureOutcome.{last_lines, last_text, refusal}
 use Rattle.command_ending.specs.Follow.{IsOpened}
-use Rattle.command_ending.specs.Effects.{Outside, PutsLast}
+use Rattle.command_ending.specs.StepEffects.{Outside, PutsLast}
 use Rattle.capture_report.specs.Streams.{Whole, Part, IsUnbroken, Streams}
 use Rattle.capture_report.proofs.Taking.{Took-none, Took-then, AreOfBatch-part}
 use Rattle.capture_report.proofs.LineLaws.{transitions_of_records-append, lines_of_records-append}

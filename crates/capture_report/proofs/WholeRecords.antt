@@ -1,7 +1,7 @@
 -- The lines of the whole records of the first bytes of a capture are the first part of its report.
 use Rattle.std.proofs.Common.{◌≡◌, ℕ, ◌+◌, List, [], ◌∷◌, ◌++◌, length, map, Result, Ok, Err, refl, ap, ◌∙◌}
 use Rattle.std.proofs.Common.{append_assoc}
-use Rattle.pcap_reader.specs.declared.fault.CaptureFault.{CaptureFault}
+use Rattle.pcap_reader.specs.declared.capture_fault.CaptureFault.{CaptureFault}
 use Rattle.pcap_reader.specs.State.{CaptureRecord}
 use Rattle.pcapng_reader.specs.Capture.{Recorded, capture_of, whole_records, records_in}
 use Rattle.capture_report.specs.ReportForm.{ReportForm}

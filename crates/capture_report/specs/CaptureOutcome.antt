@@ -3,8 +3,8 @@ use Rattle.std.specs.Prelude.{ℕ, List, [], ◌++◌, Option}
 use Rattle.std.specs.Prelude.{Some, None, Result, Ok, Err}
 use Rattle.acl_report.specs.declared.counts.Counts.{Counts}
 use Rattle.acl_report.specs.Counts.{packets_text}
-use Rattle.pcap_reader.specs.declared.fault.CaptureFault.{CaptureFault}
-use Rattle.pcap_reader.specs.declared.fault.CaptureFault.TheVariants.{ReadFault as CannotRead}
+use Rattle.pcap_reader.specs.declared.capture_fault.CaptureFault.{CaptureFault}
+use Rattle.pcap_reader.specs.declared.capture_fault.CaptureFault.TheVariants.{ReadFault as CannotRead}
 use Rattle.pcap_reader.specs.State.{CaptureRecord}
 use Rattle.pcapng_reader.specs.Capture.{Recorded, capture_of, whole_records}
 use Rattle.command_ending.specs.declared.status.Status.{Status}

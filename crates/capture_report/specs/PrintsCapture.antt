@@ -16,8 +16,8 @@ use Rattle.command_ending.specs.Plan.{found, settled}
 use Rattle.command_ending.specs.Endings.{is_decided, is_reported, is_usage}
 use Rattle.capture_report.specs.Bound.{most_of_records}
 use Rattle.capture_report.specs.CaptureOutcome.{reported}
-use Rattle.command_ending.specs.Effects.{Outside, Ends, EndsAsTold, HasNoFault, heard_of, earlier_of}
-use Rattle.command_ending.specs.Effects.{files_of, opened_of}
+use Rattle.command_ending.specs.StepEffects.{Outside, Ends, EndsAsTold, HasNoFault, heard_of, earlier_of}
+use Rattle.command_ending.specs.StepEffects.{files_of, opened_of}
 
 -- Of the records that were heard of the named capture at most a batch has no line in what the sink
 -- gained.

@@ -7,7 +7,7 @@ use Rattle.rule_set.specs.Winner.{userdata_at, winner}
 use Rattle.header_extract.specs.declared.class.Class.{Class}
 use Rattle.header_extract.specs.Class.{FrameClass, settled}
 use Rattle.header_extract.specs.Link.{frame_class}
-use Rattle.pcap_reader.specs.declared.fault.CaptureFault.{CaptureFault}
+use Rattle.pcap_reader.specs.declared.capture_fault.CaptureFault.{CaptureFault}
 use Rattle.pcap_reader.specs.State.{CaptureRecord}
 use Rattle.pcapng_reader.specs.Capture.{Recorded}
 use Rattle.acl_report.specs.declared.counts.Counts.{Counts}

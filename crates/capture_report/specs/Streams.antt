@@ -2,13 +2,13 @@
 use Rattle.std.specs.Prelude.{◌≡◌, ℕ, ◌+◌, ◌≤◌, ◌⊎◌, List, ◌++◌, length, map, All, Option, ⊤}
 use Rattle.acl_outside.specs.Fault.{Rose}
 use Rattle.acl_outside.specs.Heard.{Ending, NotOpened, GoesOn, Ended, BrokenOff}
-use Rattle.acl_outside.specs.Reading.{ReadsOn}
+use Rattle.acl_outside.specs.DeskReading.{ReadsOn}
 use Rattle.acl_outside.specs.Sink.{SinkView, Gains}
-use Rattle.pcap_reader.specs.declared.fault.CaptureFault.{CaptureFault}
+use Rattle.pcap_reader.specs.declared.capture_fault.CaptureFault.{CaptureFault}
 use Rattle.pcap_reader.specs.State.{CaptureRecord}
 use Rattle.pcap_reader.specs.Fill.{KeepsReading, IsAtEnd}
 use Rattle.pcapng_reader.specs.Capture.{AnyState}
-use Rattle.pcapng_reader.specs.Reading.{stands}
+use Rattle.pcapng_reader.specs.BlockReading.{stands}
 use Rattle.command_ending.specs.declared.status.Status.{Status}
 use Rattle.command_ending.specs.declared.status.Status.TheVariants.{ReadFault, WriteFault}
 use Rattle.capture_report.specs.Packet.{IsPacket}
@@ -18,7 +18,7 @@ use Rattle.capture_report.specs.Report.{lines_of_records, lines_in, transitions_
 use Rattle.capture_report.specs.Taken.{max_batch, AreAll, AreWhole}
 use Rattle.capture_report.specs.CaptureOutcome.{text_of_records}
 use Rattle.command_ending.specs.Follow.{IsOpened}
-use Rattle.command_ending.specs.Effects.{Outside}
+use Rattle.command_ending.specs.StepEffects.{Outside}
 
 -- How far the reading came: to the ending of the capture, after these records, or after these
 -- whole records.

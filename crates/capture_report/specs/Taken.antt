@@ -4,15 +4,15 @@ use Rattle.std.specs.Prelude.{Ok, Err}
 use Rattle.acl_outside.specs.Fault.{Rose}
 use Rattle.acl_outside.specs.Desk.{DeskView}
 use Rattle.acl_outside.specs.Heard.{Ending, GoesOn, Ended}
-use Rattle.acl_outside.specs.Reading.{ReadsOn}
+use Rattle.acl_outside.specs.DeskReading.{ReadsOn}
 use Rattle.header_extract.specs.Class.{FrameClass}
-use Rattle.pcap_reader.specs.declared.fault.CaptureFault.{CaptureFault}
-use Rattle.pcap_reader.specs.declared.fault.CaptureFault.TheVariants.{ReadFault}
+use Rattle.pcap_reader.specs.declared.capture_fault.CaptureFault.{CaptureFault}
+use Rattle.pcap_reader.specs.declared.capture_fault.CaptureFault.TheVariants.{ReadFault}
 use Rattle.pcap_reader.specs.State.{Answer, CaptureRecord}
 use Rattle.pcap_reader.specs.Fill.{KeepsReading, IsAtEnd}
 use Rattle.pcapng_reader.specs.Capture.{AnyState, followed_by, max_records, records_from}
 use Rattle.pcapng_reader.specs.Reader.{ReadsNext, count_of}
-use Rattle.pcapng_reader.specs.Reading.{FaultStands, stands}
+use Rattle.pcapng_reader.specs.BlockReading.{FaultStands, stands}
 use Rattle.capture_report.specs.declared.batch.BatchEnd.{BatchEnd}
 use Rattle.capture_report.specs.declared.batch.BatchEnd.TheVariants.{Full, End, Fault}
 use Rattle.capture_report.specs.NextRecord.{MayGoOn, record_in}

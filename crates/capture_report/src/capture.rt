@@ -2,7 +2,7 @@
 
 ghost use Rattle.std.specs.Prelude.{◌≡◌};
 ghost use Rattle.table_sizes.specs.Groups.{ip4_key_len, ip6_key_len};
-ghost use Rattle.command_ending.specs.Effects.{outside};
+ghost use Rattle.command_ending.specs.StepEffects.{outside};
 ghost use Rattle.capture_report.specs.CaptureOutcome.{refusal};
 ghost use Rattle.capture_report.specs.PrintsCapture.{PrintsCapture};
 

@@ -2,7 +2,7 @@
 
 ghost use Rattle.std.specs.Prelude.{◌≡◌, ◌+◌, ◌*◌, ◌≤◌, IsTrue, length};
 ghost use Rattle.acl_outside.specs.Sink.{Puts};
-ghost use Rattle.command_ending.specs.Effects.{PutsLast, outside};
+ghost use Rattle.command_ending.specs.StepEffects.{PutsLast, outside};
 ghost use Rattle.capture_report.specs.NextRecord.{IsBegun};
 ghost use Rattle.capture_report.specs.Report.{counted_all, lines_of_packets};
 ghost use Rattle.capture_report.specs.Report.{transitions_of_packets};

@@ -12,11 +12,11 @@ use crate::form::FormByTables;
 use crate::lines::put_at;
 use crate::packet::Packet;
 use acl_report::MAX_VERDICTS;
+use batch_walk::classify_by;
 use field_defs::Family;
 use flat_table::Steps;
 use flow_core::Scratch;
 use header_extract::Class;
-use lane_walk::classify_by;
 use std::sync::ledger::Ledger;
 use table_sizes::IP6_KEY_LEN;
 

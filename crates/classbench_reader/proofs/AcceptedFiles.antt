@@ -10,8 +10,8 @@ use Rattle.rule_set.specs.Fault.{rule_fault}
 use Rattle.table_sizes.specs.Sizes.{max_rules}
 use Rattle.rule_set.specs.Rule.{RuleView}
 use Rattle.text_scan.specs.Parts.{lines_of}
-use Rattle.classbench_reader.specs.declared.fault.LineFault.{LineFault}
-use Rattle.classbench_reader.specs.declared.fault.LineKind.{LineKind}
+use Rattle.classbench_reader.specs.declared.rules_fault.LineFault.{LineFault}
+use Rattle.classbench_reader.specs.declared.rules_fault.LineKind.{LineKind}
 use Rattle.classbench_reader.specs.declared.line.RuleLine.{RuleLine}
 use Rattle.classbench_reader.specs.Accepted.{AcceptedRulesAreLawful, HoldsLawfulRules}
 use Rattle.classbench_reader.specs.Limits.{max_rule_file}

@@ -1,6 +1,6 @@
 -- Attributes, word by word.
 use Rattle.std.proofs.Common.{◌≡◌, ℕ, List, [], ◌∷◌, Err, refl}
-use Rattle.classbench_reader.specs.declared.fault.LineKind.{LineKind}
+use Rattle.classbench_reader.specs.declared.rules_fault.LineKind.{LineKind}
 use Rattle.classbench_reader.specs.Attributes.{with_words}
 
 -- no word mends a fault

@@ -8,11 +8,11 @@ use Rattle.field_defs.specs.declared.field.Family.TheVariants as family
 use Rattle.table_sizes.specs.Sizes.{max_rules}
 use Rattle.rule_set.specs.Rule.{RuleView, RuleSetView}
 use Rattle.text_scan.specs.Parts.{lines_of}
-use Rattle.classbench_reader.specs.declared.fault.LineFault.{LineFault}
-use Rattle.classbench_reader.specs.declared.fault.LineKind.{LineKind}
-use Rattle.classbench_reader.specs.declared.fault.LineKind.TheVariants.{TooManyRules}
-use Rattle.classbench_reader.specs.declared.fault.RulesFault.{RulesFault}
-use Rattle.classbench_reader.specs.declared.fault.RulesFault.TheVariants.{Line, OutOfMemory}
+use Rattle.classbench_reader.specs.declared.rules_fault.LineFault.{LineFault}
+use Rattle.classbench_reader.specs.declared.rules_fault.LineKind.{LineKind}
+use Rattle.classbench_reader.specs.declared.rules_fault.LineKind.TheVariants.{TooManyRules}
+use Rattle.classbench_reader.specs.declared.rules_fault.RulesFault.{RulesFault}
+use Rattle.classbench_reader.specs.declared.rules_fault.RulesFault.TheVariants.{Line, OutOfMemory}
 use Rattle.classbench_reader.specs.declared.line.RuleLine.{RuleLine}
 use Rattle.classbench_reader.specs.declared.rule_file.RuleFile.{RuleFile}
 use Rattle.classbench_reader.specs.Limits.{max_rule_file}

@@ -6,10 +6,10 @@ use Rattle.list_lemmas.proofs.Tests.{test_passed, test_failed}
 use Rattle.text_scan.specs.Parts.{after_blanks}
 use Rattle.text_scan.specs.Numeral.{begins_numeral, digits_of, numeral_at, numeral_len, numeral_value}
 use Rattle.text_scan.proofs.Offered.{numeral_len-within}
-use Rattle.classbench_reader.specs.declared.fault.LineKind.{LineKind}
-use Rattle.classbench_reader.specs.declared.fault.LineKind.TheVariants.{BadPorts}
+use Rattle.classbench_reader.specs.declared.rules_fault.LineKind.{LineKind}
+use Rattle.classbench_reader.specs.declared.rules_fault.LineKind.TheVariants.{BadPorts}
 use Rattle.classbench_reader.specs.Limits.{max_port}
-use Rattle.classbench_reader.specs.Reading.{Read, read_of}
+use Rattle.classbench_reader.specs.LineReading.{Read, read_of}
 use Rattle.classbench_reader.specs.Columns.{port_of}
 
 -- the port that a text begins with, which has no blanks in front

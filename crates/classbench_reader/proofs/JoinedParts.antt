@@ -11,7 +11,7 @@ use Rattle.text_scan.proofs.Offered.{EndsNumber, whole_stands, whole_within, IsW
 use Rattle.text_scan.proofs.Offered.{after_blanks-other, after_blanks-word, first_word-append, after_word-append}
 use Rattle.classbench_reader.specs.declared.network.Network.{Network}
 use Rattle.classbench_reader.specs.Limits.{max_port}
-use Rattle.classbench_reader.specs.Reading.{read_of}
+use Rattle.classbench_reader.specs.LineReading.{read_of}
 use Rattle.classbench_reader.specs.Network.{network_of}
 use Rattle.classbench_reader.specs.Columns.{port_of, after_colon_of, range_of, ports_of, protocol_of, after_flags}
 use Rattle.classbench_reader.specs.Attributes.{attributes_of, tag_of}

@@ -21,8 +21,8 @@ use Rattle.text_scan.specs.Parts.{slash, cut_at}
 use Rattle.text_scan.specs.Numeral.{whole_number}
 use Rattle.text_scan.proofs.Offered.{whole_within}
 use Rattle.classbench_reader.specs.declared.attributes.Attributes.{Attributes}
-use Rattle.classbench_reader.specs.declared.fault.LineKind.{LineKind}
-use Rattle.classbench_reader.specs.declared.fault.LineKind.TheVariants.{BadAttribute, BadProtocol}
+use Rattle.classbench_reader.specs.declared.rules_fault.LineKind.{LineKind}
+use Rattle.classbench_reader.specs.declared.rules_fault.LineKind.TheVariants.{BadAttribute, BadProtocol}
 use Rattle.classbench_reader.specs.declared.line.RuleLine.{RuleLine}
 use Rattle.classbench_reader.specs.Limits.{max_port, max_protocol, max_userdata, all_categories, equals_sign}
 use Rattle.classbench_reader.specs.Limits.{max_written_priority, max_category_mask}

@@ -23,9 +23,9 @@ use Rattle.text_scan.proofs.Offered.{whole_within, place_value-lt}
 use Rattle.classbench_reader.specs.declared.network.Address.{Address}
 use Rattle.classbench_reader.specs.declared.network.Address.TheVariants.{Ip4, Ip6}
 use Rattle.classbench_reader.specs.declared.network.Network.{Network}
-use Rattle.classbench_reader.specs.declared.fault.LineKind.{LineKind}
-use Rattle.classbench_reader.specs.declared.fault.LineKind.TheVariants.{BadAddress, BadPrefix}
-use Rattle.classbench_reader.specs.Reading.{◌>>=◌}
+use Rattle.classbench_reader.specs.declared.rules_fault.LineKind.{LineKind}
+use Rattle.classbench_reader.specs.declared.rules_fault.LineKind.TheVariants.{BadAddress, BadPrefix}
+use Rattle.classbench_reader.specs.LineReading.{◌>>=◌}
 use Rattle.classbench_reader.specs.Network.{most_bits, address_number, address_of, network_with_prefix}
 use Rattle.classbench_reader.specs.Network.{network_of_cut, network_of, IsLawfulNetwork}
 use Rattle.classbench_reader.proofs.SplitParts.{bound}

@@ -20,12 +20,12 @@ use Rattle.text_scan.specs.Parts.{slash, tab, space, after_blanks, first_word, a
 use Rattle.text_scan.proofs.Offered.{decimal_spelled, whole_number-spelled, IsWord, EndsWord, after_blanks-blank}
 use Rattle.text_scan.proofs.Offered.{after_blanks-other, after_blanks-word, first_word-append, after_word-append}
 use Rattle.text_scan.proofs.Offered.{words_of-append, words_of-blank}
-use Rattle.classbench_reader.specs.declared.fault.LineKind.{LineKind}
+use Rattle.classbench_reader.specs.declared.rules_fault.LineKind.{LineKind}
 use Rattle.classbench_reader.specs.declared.attributes.Attributes.{Attributes}
 use Rattle.classbench_reader.specs.declared.network.Network.{Network}
 use Rattle.classbench_reader.specs.declared.line.RuleLine.{RuleLine}
 use Rattle.classbench_reader.specs.Limits.{max_written_priority, max_category_mask, max_userdata}
-use Rattle.classbench_reader.specs.Reading.{◌>>=◌, Read, read_of}
+use Rattle.classbench_reader.specs.LineReading.{◌>>=◌, Read, read_of}
 use Rattle.classbench_reader.specs.Network.{IsLawfulNetwork, network_of, family_of}
 use Rattle.classbench_reader.specs.Columns.{ports_of, protocol_of, after_flags}
 use Rattle.classbench_reader.specs.Attributes.{attributes_of, tag_of}

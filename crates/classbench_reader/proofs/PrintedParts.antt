@@ -24,10 +24,10 @@ use Rattle.text_scan.proofs.Offered.{IsWord, after_blanks-blank, after_blanks-wo
 use Rattle.classbench_reader.specs.declared.network.Address.{Address}
 use Rattle.classbench_reader.specs.declared.network.Address.TheVariants.{Ip4, Ip6}
 use Rattle.classbench_reader.specs.declared.network.Network.{Network}
-use Rattle.classbench_reader.specs.declared.fault.LineKind.{LineKind}
-use Rattle.classbench_reader.specs.declared.fault.LineKind.TheVariants.{BadPorts, BadProtocol}
+use Rattle.classbench_reader.specs.declared.rules_fault.LineKind.{LineKind}
+use Rattle.classbench_reader.specs.declared.rules_fault.LineKind.TheVariants.{BadPorts, BadProtocol}
 use Rattle.classbench_reader.specs.Limits.{max_port, max_protocol}
-use Rattle.classbench_reader.specs.Reading.{◌>>=◌, Read, read_of}
+use Rattle.classbench_reader.specs.LineReading.{◌>>=◌, Read, read_of}
 use Rattle.classbench_reader.specs.Network.{address_of, most_bits, network_of, network_of_cut, address_number}
 use Rattle.classbench_reader.specs.Network.{IsLawfulNetwork}
 use Rattle.classbench_reader.specs.Columns.{port_of, after_colon_of, range_of, ports_of, pair_of_cut, protocol_of}

@@ -9,7 +9,7 @@ use Rattle.classbench_reader.specs.declared.line.RuleLine.{RuleLine}
 use Rattle.classbench_reader.specs.declared.attributes.Attributes.{Attributes}
 use Rattle.rule_set.specs.declared.rule.RuleTag.{RuleTag}
 use Rattle.classbench_reader.specs.Limits.{at_sign}
-use Rattle.classbench_reader.specs.Reading.{Read}
+use Rattle.classbench_reader.specs.LineReading.{Read}
 use Rattle.classbench_reader.specs.Network.{network_of, family_of}
 use Rattle.classbench_reader.specs.Columns.{ports_of, protocol_of, after_flags}
 use Rattle.classbench_reader.specs.Attributes.{attributes_of, tag_of}

@@ -19,9 +19,9 @@ use Rattle.text_scan.specs.Numeral.{whole_number, begins_numeral, begins_hexadec
 use Rattle.text_scan.specs.Numeral.{digits_of}
 use Rattle.text_scan.proofs.Offered.{whole_number-spelled}
 use Rattle.classbench_reader.specs.declared.network.Network.{Network}
-use Rattle.classbench_reader.specs.declared.fault.LineKind.{LineKind}
+use Rattle.classbench_reader.specs.declared.rules_fault.LineKind.{LineKind}
 use Rattle.classbench_reader.specs.Limits.{max_port}
-use Rattle.classbench_reader.specs.Reading.{◌>>=◌, Read, read_of}
+use Rattle.classbench_reader.specs.LineReading.{◌>>=◌, Read, read_of}
 use Rattle.classbench_reader.specs.Network.{network_of}
 use Rattle.classbench_reader.specs.Columns.{port_of, after_colon_of, range_of, ports_of, protocol_of}
 use Rattle.classbench_reader.specs.Joined.{IsBlanks, IsGap, PortTexts, port_text, SpellsRange, EndsTheWord}

@@ -9,12 +9,12 @@ use Rattle.rule_set.specs.Limits.{max_priority}
 use Rattle.text_scan.specs.Parts.{cut_at}
 use Rattle.text_scan.specs.Numeral.{whole_number}
 use Rattle.classbench_reader.specs.declared.attributes.Attributes.{Attributes}
-use Rattle.classbench_reader.specs.declared.fault.LineKind.{LineKind}
-use Rattle.classbench_reader.specs.declared.fault.LineKind.TheVariants.{BadAttribute, TailLeft}
-use Rattle.classbench_reader.specs.declared.fault.LineKind.TheVariants.{NoCategory, PriorityRange}
+use Rattle.classbench_reader.specs.declared.rules_fault.LineKind.{LineKind}
+use Rattle.classbench_reader.specs.declared.rules_fault.LineKind.TheVariants.{BadAttribute, TailLeft}
+use Rattle.classbench_reader.specs.declared.rules_fault.LineKind.TheVariants.{NoCategory, PriorityRange}
 use Rattle.classbench_reader.specs.Limits.{equals_sign, max_written_priority, max_category_mask}
 use Rattle.classbench_reader.specs.Limits.{max_userdata, all_categories}
-use Rattle.classbench_reader.specs.Reading.{◌>>=◌}
+use Rattle.classbench_reader.specs.LineReading.{◌>>=◌}
 
 -- no attribute
 abbrev pub no_attributes : Attributes

@@ -8,11 +8,11 @@ use Rattle.field_defs.specs.declared.field.FieldValue.{FieldValue}
 use Rattle.field_defs.specs.declared.field.FieldValue.TheVariants.{Range, Bitmask}
 use Rattle.text_scan.specs.Parts.{colon, slash, cut_at, after_blanks, first_word}
 use Rattle.text_scan.specs.Numeral.{begins_numeral, numeral_value, numeral_len, whole_number}
-use Rattle.classbench_reader.specs.declared.fault.LineKind.{LineKind}
-use Rattle.classbench_reader.specs.declared.fault.LineKind.TheVariants.{BadPorts, EmptyRange}
-use Rattle.classbench_reader.specs.declared.fault.LineKind.TheVariants.{BadProtocol, BadFlags}
+use Rattle.classbench_reader.specs.declared.rules_fault.LineKind.{LineKind}
+use Rattle.classbench_reader.specs.declared.rules_fault.LineKind.TheVariants.{BadPorts, EmptyRange}
+use Rattle.classbench_reader.specs.declared.rules_fault.LineKind.TheVariants.{BadProtocol, BadFlags}
 use Rattle.classbench_reader.specs.Limits.{max_port, max_flags, max_protocol, equals_sign}
-use Rattle.classbench_reader.specs.Reading.{◌>>=◌, Read}
+use Rattle.classbench_reader.specs.LineReading.{◌>>=◌, Read}
 
 -- the port that a text begins with, after blanks
 abbrev pub port_of : List ℕ → Result (Read ℕ) LineKind

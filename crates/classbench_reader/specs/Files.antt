@@ -7,9 +7,9 @@ use Rattle.rule_set.specs.Rule.{RuleView}
 use Rattle.table_sizes.specs.Sizes.{max_rules}
 use Rattle.classbench_reader.specs.declared.line.RuleLine.{RuleLine}
 use Rattle.classbench_reader.specs.declared.rule_file.RuleFile.{RuleFile}
-use Rattle.classbench_reader.specs.declared.fault.LineFault.{LineFault}
-use Rattle.classbench_reader.specs.declared.fault.RulesFault.{RulesFault}
-use Rattle.classbench_reader.specs.declared.fault.RulesFault.TheVariants.{Line, OutOfMemory}
+use Rattle.classbench_reader.specs.declared.rules_fault.LineFault.{LineFault}
+use Rattle.classbench_reader.specs.declared.rules_fault.RulesFault.{RulesFault}
+use Rattle.classbench_reader.specs.declared.rules_fault.RulesFault.TheVariants.{Line, OutOfMemory}
 use Rattle.classbench_reader.specs.Line.{rule_of, family_of_line}
 use Rattle.classbench_reader.specs.RuleFile.{rule_file_of, counted_line_of}
 

@@ -1,5 +1,5 @@
 pub mod Limits
-pub mod Reading
+pub mod LineReading
 pub mod Network
 pub mod Columns
 pub mod Attributes

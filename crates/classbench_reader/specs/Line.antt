@@ -14,10 +14,10 @@ use Rattle.classbench_reader.specs.declared.network.Address.{Address}
 use Rattle.classbench_reader.specs.declared.network.Address.TheVariants.{Ip4, Ip6}
 use Rattle.classbench_reader.specs.declared.network.Network.{Network}
 use Rattle.classbench_reader.specs.declared.line.RuleLine.{RuleLine}
-use Rattle.classbench_reader.specs.declared.fault.LineKind.{LineKind}
-use Rattle.classbench_reader.specs.declared.fault.LineKind.TheVariants.{BadStart, MixedFamilies}
+use Rattle.classbench_reader.specs.declared.rules_fault.LineKind.{LineKind}
+use Rattle.classbench_reader.specs.declared.rules_fault.LineKind.TheVariants.{BadStart, MixedFamilies}
 use Rattle.classbench_reader.specs.Limits.{at_sign, number_sign}
-use Rattle.classbench_reader.specs.Reading.{◌>>=◌, Read}
+use Rattle.classbench_reader.specs.LineReading.{◌>>=◌, Read}
 use Rattle.classbench_reader.specs.Network.{family_of, network_of}
 use Rattle.classbench_reader.specs.Columns.{ports_of, protocol_of, after_flags}
 use Rattle.classbench_reader.specs.Attributes.{attributes_of, tag_of}

@@ -4,14 +4,14 @@ use Rattle.std.specs.Prelude.{refl}
 use Rattle.field_defs.specs.declared.field.FieldValue.{FieldValue}
 use Rattle.field_defs.specs.declared.field.FieldValue.TheVariants.{Mask, Range, Bitmask}
 use Rattle.rule_set.specs.Rule.{RuleView}
-use Rattle.classbench_reader.specs.declared.fault.LineKind.{LineKind}
-use Rattle.classbench_reader.specs.declared.fault.LineKind.TheVariants.{BadStart, BadAddress}
-use Rattle.classbench_reader.specs.declared.fault.LineKind.TheVariants.{BadPrefix, MixedFamilies}
-use Rattle.classbench_reader.specs.declared.fault.LineKind.TheVariants.{BadPorts, EmptyRange}
-use Rattle.classbench_reader.specs.declared.fault.LineKind.TheVariants.{BadProtocol, BadFlags}
-use Rattle.classbench_reader.specs.declared.fault.LineKind.TheVariants.{BadAttribute, TailLeft}
-use Rattle.classbench_reader.specs.declared.fault.LineKind.TheVariants.{NoCategory, PriorityRange}
-use Rattle.classbench_reader.specs.Reading.{◌>>=◌}
+use Rattle.classbench_reader.specs.declared.rules_fault.LineKind.{LineKind}
+use Rattle.classbench_reader.specs.declared.rules_fault.LineKind.TheVariants.{BadStart, BadAddress}
+use Rattle.classbench_reader.specs.declared.rules_fault.LineKind.TheVariants.{BadPrefix, MixedFamilies}
+use Rattle.classbench_reader.specs.declared.rules_fault.LineKind.TheVariants.{BadPorts, EmptyRange}
+use Rattle.classbench_reader.specs.declared.rules_fault.LineKind.TheVariants.{BadProtocol, BadFlags}
+use Rattle.classbench_reader.specs.declared.rules_fault.LineKind.TheVariants.{BadAttribute, TailLeft}
+use Rattle.classbench_reader.specs.declared.rules_fault.LineKind.TheVariants.{NoCategory, PriorityRange}
+use Rattle.classbench_reader.specs.LineReading.{◌>>=◌}
 use Rattle.classbench_reader.specs.Line.{is_skipped, rule_line_of, rule_of}
 
 -- the rule of a line, as the seventh rule of its file

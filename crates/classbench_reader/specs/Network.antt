@@ -13,9 +13,9 @@ use Rattle.text_scan.specs.Ip6.{ip6_of}
 use Rattle.classbench_reader.specs.declared.network.Address.{Address}
 use Rattle.classbench_reader.specs.declared.network.Address.TheVariants.{Ip4, Ip6}
 use Rattle.classbench_reader.specs.declared.network.Network.{Network}
-use Rattle.classbench_reader.specs.declared.fault.LineKind.{LineKind}
-use Rattle.classbench_reader.specs.declared.fault.LineKind.TheVariants.{BadAddress, BadPrefix}
-use Rattle.classbench_reader.specs.Reading.{◌>>=◌}
+use Rattle.classbench_reader.specs.declared.rules_fault.LineKind.{LineKind}
+use Rattle.classbench_reader.specs.declared.rules_fault.LineKind.TheVariants.{BadAddress, BadPrefix}
+use Rattle.classbench_reader.specs.LineReading.{◌>>=◌}
 
 -- the family of an address
 abbrev pub family_of_address : Address → Family

@@ -8,9 +8,9 @@ use Rattle.field_defs.specs.declared.field.Family.TheVariants as family
 use Rattle.table_sizes.specs.Sizes.{max_rules}
 use Rattle.rule_set.specs.Rule.{RuleView}
 use Rattle.text_scan.specs.Parts.{lines_of}
-use Rattle.classbench_reader.specs.declared.fault.LineFault.{LineFault}
-use Rattle.classbench_reader.specs.declared.fault.LineKind.{LineKind}
-use Rattle.classbench_reader.specs.declared.fault.LineKind.TheVariants.{FileTooLong, TooManyRules}
+use Rattle.classbench_reader.specs.declared.rules_fault.LineFault.{LineFault}
+use Rattle.classbench_reader.specs.declared.rules_fault.LineKind.{LineKind}
+use Rattle.classbench_reader.specs.declared.rules_fault.LineKind.TheVariants.{FileTooLong, TooManyRules}
 use Rattle.classbench_reader.specs.declared.line.RuleLine.{RuleLine}
 use Rattle.classbench_reader.specs.Limits.{max_rule_file}
 use Rattle.classbench_reader.specs.Line.{is_skipped, rule_line_of, rule_of, family_of_line}

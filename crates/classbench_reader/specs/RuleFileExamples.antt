@@ -1,10 +1,10 @@
 -- Examples of rule files, each checked by evaluation.
 use Rattle.std.specs.Prelude.{◌≡◌, ℕ, ◌∷◌, [], ◌++◌, codes, List, map, Result, Ok, Err, refl}
 use Rattle.rule_set.specs.Rule.{RuleView}
-use Rattle.classbench_reader.specs.declared.fault.LineFault.{LineFault}
-use Rattle.classbench_reader.specs.declared.fault.LineKind.{LineKind}
-use Rattle.classbench_reader.specs.declared.fault.LineKind.TheVariants.{TooManyRules, BadStart}
-use Rattle.classbench_reader.specs.declared.fault.LineKind.TheVariants.{BadAddress, BadFlags}
+use Rattle.classbench_reader.specs.declared.rules_fault.LineFault.{LineFault}
+use Rattle.classbench_reader.specs.declared.rules_fault.LineKind.{LineKind}
+use Rattle.classbench_reader.specs.declared.rules_fault.LineKind.TheVariants.{TooManyRules, BadStart}
+use Rattle.classbench_reader.specs.declared.rules_fault.LineKind.TheVariants.{BadAddress, BadFlags}
 use Rattle.classbench_reader.specs.RuleFile.{RuleLists, rule_file_of}
 use Rattle.classbench_reader.specs.RuleFile.{counted_line_of}
 

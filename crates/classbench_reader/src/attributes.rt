@@ -6,7 +6,7 @@ ghost use Rattle.text_scan.specs.Parts.{words_of};
 ghost use Rattle.classbench_reader.specs.Attributes.{attributes_of, number_once, tag_of};
 ghost use Rattle.classbench_reader.specs.Attributes.{with_named, with_word};
 
-use crate::fault::LineKind;
+use crate::rules_fault::LineKind;
 use rule_set::{ALL_CATEGORIES, RuleTag};
 use text_scan::{next_word, split_once, whole_number};
 

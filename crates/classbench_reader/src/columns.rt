@@ -3,13 +3,13 @@
 ghost use Rattle.std.specs.Prelude.{◌≡◌, ◌==◌, ◌≤◌, length, IsTrue, IfOk, IfSome, MatchResult, Ok};
 ghost use Rattle.std.specs.Prelude.{Err};
 ghost use Rattle.text_scan.specs.Parts.{first_word, words_of};
-ghost use Rattle.classbench_reader.specs.Reading.{read_of};
+ghost use Rattle.classbench_reader.specs.LineReading.{read_of};
 ghost use Rattle.classbench_reader.specs.Columns.{after_colon_of, after_flags, holds_flags};
 ghost use Rattle.classbench_reader.specs.Columns.{pair_of, port_of, ports_of, protocol_of};
 ghost use Rattle.classbench_reader.specs.Columns.{range_of};
 ghost use Rattle.classbench_reader.specs.Lawful.{is_lawful};
 
-use crate::fault::LineKind;
+use crate::rules_fault::LineKind;
 use field_defs::{FieldKind, FieldValue};
 use text_scan::{after_blanks, next_word, number, split_once, whole_number};
 

@@ -6,7 +6,7 @@
 //!
 //! | module | what it holds |
 //! |---|---|
-//! | `fault` | the kinds of faults, and the line of the first one |
+//! | `rules_fault` | the kinds of faults, and the line of the first one |
 //! | `network` | an address with a prefix length, of either family |
 //! | `columns` | ports, protocol and flags |
 //! | `attributes` | `pri=`, `cat=` and `data=`, and the tag that they make |
@@ -21,14 +21,14 @@
 
 mod attributes;
 mod columns;
-mod fault;
+mod rules_fault;
 pub mod laws;
 mod line;
 mod network;
 mod print;
 mod rule_file;
 
-pub use fault::{LineFault, LineKind, RulesFault};
+pub use rules_fault::{LineFault, LineKind, RulesFault};
 pub use line::{RuleLine, is_skipped};
 pub use network::{Address, Network};
 pub use print::print_rule;

@@ -5,7 +5,7 @@
 ghost use Rattle.std.specs.Prelude.{◌≡◌, ◌-◌, ◌/◌, ◌%◌, ◌^◌, ◌≤◌, min, max, true, length, IsTrue};
 ghost use Rattle.std.specs.Prelude.{IfOk, MatchResult, Ok, Err};
 ghost use Rattle.rule_set.specs.Limits.{max_priority};
-ghost use Rattle.classbench_reader.specs.Reading.{read_of};
+ghost use Rattle.classbench_reader.specs.LineReading.{read_of};
 ghost use Rattle.classbench_reader.specs.Network.{family_of, IsLawfulNetwork};
 ghost use Rattle.classbench_reader.specs.Line.{after_at_sign, columns_of, is_skipped, next_network};
 ghost use Rattle.classbench_reader.specs.Line.{next_protocol, rule_line_of, rule_of, same_family};
@@ -13,7 +13,7 @@ ghost use Rattle.classbench_reader.specs.Lawful.{is_lawful, IsLawfulLine};
 
 use crate::attributes::Attributes;
 use crate::columns::{after_flags, ports, protocol};
-use crate::fault::LineKind;
+use crate::rules_fault::LineKind;
 use crate::network::{Address, Network};
 use field_defs::{Family, FieldKind, FieldValue};
 use rule_set::{RuleTag, StoredRule};

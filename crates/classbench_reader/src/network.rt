@@ -4,7 +4,7 @@ ghost use Rattle.std.specs.Prelude.{◌≡◌, IfOk, Err};
 ghost use Rattle.classbench_reader.specs.Network.{address_of, family_of, most_bits, network_of};
 ghost use Rattle.classbench_reader.specs.Network.{network_without_prefix, IsLawfulNetwork};
 
-use crate::fault::LineKind;
+use crate::rules_fault::LineKind;
 use field_defs::Family;
 use text_scan::{ip4_text, ip6_text, split_once, whole_number};
 

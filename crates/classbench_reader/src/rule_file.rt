@@ -9,9 +9,9 @@ ghost use Rattle.rule_set.specs.Fault.{rule_fault};
 ghost use Rattle.table_sizes.specs.Sizes.{max_rules};
 ghost use Rattle.classbench_reader.specs.Files.{Adds, HasRoom, HoldsRules, ReadsLine, RefusesLine};
 ghost use Rattle.classbench_reader.specs.Lawful.{IsLawfulLine};
-ghost use Rattle.classbench_reader.specs.declared.fault.LineFault.{LineFault};
+ghost use Rattle.classbench_reader.specs.declared.rules_fault.LineFault.{LineFault};
 
-use crate::fault::{LineFault, LineKind, RulesFault};
+use crate::rules_fault::{LineFault, LineKind, RulesFault};
 use crate::line::{RuleLine, is_skipped};
 use field_defs::{Family, ip4_layout, ip6_layout};
 use rule_set::RuleSet;

@@ -12,11 +12,11 @@ use Rattle.acl_outside.specs.Heard.{Heard, Ending, GoesOn, Ended, BrokenOff, hea
 use Rattle.acl_outside.specs.Heard.{with_bytes, with_ending}
 use Rattle.acl_outside.specs.Made.{KeepsMade}
 use Rattle.acl_outside.proofs.Offered.{KeepsMade-opening, KeepsMade-join, KeepsCounts-join}
-use Rattle.acl_outside.specs.Reading.{GivesUpTo, ReadsOn, ReadsUpTo, and_goes_on}
+use Rattle.acl_outside.specs.DeskReading.{GivesUpTo, ReadsOn, ReadsUpTo, and_goes_on}
 use Rattle.acl_outside.specs.declared.reading.ReadAll.TheVariants as reading
 use Rattle.command_ending.specs.declared.status.Status.TheVariants.{ReadFault, OutOfMemory}
 use Rattle.command_ending.specs.Follow.{IsPartOf}
-use Rattle.command_ending.specs.Effects.{files_of, heard_of, KeepsFiles, CannotRead, ReadsFile}
+use Rattle.command_ending.specs.StepEffects.{files_of, heard_of, KeepsFiles, CannotRead, ReadsFile}
 
 -- what `open_file` says of a file that is there, where the content is told
 abbrev IsKnown : Option Content → List ℕ → DeskView → DeskView → Type 0

@@ -17,8 +17,8 @@ use Rattle.command_ending.specs.Plan.{Outcome, Plan, ◌>>=◌, nothing, reading
 use Rattle.command_ending.specs.Follow.{Reached, Given, Stopped, Before, Within, IsEnough, Follows, IsCutOff, said}
 use Rattle.command_ending.specs.Follow.{said_in, outcome_of}
 use Rattle.command_ending.specs.Endings.{is_reported, is_usage}
-use Rattle.command_ending.specs.Effects.{Outside, files_of, heard_of, KeepsFiles, Keeps, Makes, MakesPart, CannotRead}
-use Rattle.command_ending.specs.Effects.{CannotWrite, ReadsFile, Parses, Takes, EndsMaking}
+use Rattle.command_ending.specs.StepEffects.{Outside, files_of, heard_of, KeepsFiles, Keeps, Makes, MakesPart, CannotRead}
+use Rattle.command_ending.specs.StepEffects.{CannotWrite, ReadsFile, Parses, Takes, EndsMaking}
 use Rattle.command_ending.proofs.Gained.{Gains-none, GainsPrefix-none}
 use Rattle.command_ending.proofs.Stops.{unwritten, Keeps-any}
 use Rattle.command_ending.proofs.Plans.{carried, then_found, Follows-found, Follows-then, Follows-cut, found-then}

@@ -11,7 +11,7 @@ use Rattle.acl_outside.specs.Made.{after_finish, and_stands}
 use Rattle.acl_outside.specs.Writing.{WritesAll, WritesOn}
 use Rattle.acl_outside.proofs.Offered.{Changes-join, KeepsCounts-join, KeepsHeard-join, KeepsHeard-creation}
 use Rattle.acl_outside.proofs.Offered.{KeepsHeard-finish, made-creation, made-finish}
-use Rattle.command_ending.specs.Effects.{files_of, made_of, KeepsOthers, MakesAll}
+use Rattle.command_ending.specs.StepEffects.{files_of, made_of, KeepsOthers, MakesAll}
 use Rattle.command_ending.proofs.Inputs.{told_files}
 
 -- The named file has these bytes now, and all others are as before.

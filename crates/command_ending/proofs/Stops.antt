@@ -11,8 +11,8 @@ use Rattle.command_ending.specs.declared.status.Status.TheVariants.{Done, WriteF
 use Rattle.command_ending.specs.Plan.{Outcome, Plan, Give, Stop, Read, making}
 use Rattle.command_ending.specs.Follow.{Reached, Given, Stopped, Before, Follows}
 use Rattle.command_ending.specs.Endings.{is_decided, is_reported}
-use Rattle.command_ending.specs.Effects.{Outside, outside, files_of, heard_of, KeepsFiles, Keeps, PutsLast}
-use Rattle.command_ending.specs.Effects.{EndsMaking, Ends, MakesAll}
+use Rattle.command_ending.specs.StepEffects.{Outside, outside, files_of, heard_of, KeepsFiles, Keeps, PutsLast}
+use Rattle.command_ending.specs.StepEffects.{EndsMaking, Ends, MakesAll}
 use Rattle.command_ending.proofs.Gained.{Gains-none, GainsPrefix-none}
 
 -- a desk that was left alone

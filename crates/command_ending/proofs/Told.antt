@@ -13,8 +13,8 @@ use Rattle.command_ending.specs.Plan.{Outcome, Plan, Give, Stop, Read, ◌>>=◌
 use Rattle.command_ending.specs.Follow.{Reached, Given, Stopped, Before, Within, IsOpened, IsPartOf, Follows, said_in}
 use Rattle.command_ending.specs.Follow.{outcome_of, status_within}
 use Rattle.command_ending.specs.Endings.{is_decided}
-use Rattle.command_ending.specs.Effects.{Outside, files_of, heard_of, CannotRead, KeepsFiles, Makes, MakesPart}
-use Rattle.command_ending.specs.Effects.{EndsMaking, EndsAsTold, HasNoFaultMaking}
+use Rattle.command_ending.specs.StepEffects.{Outside, files_of, heard_of, CannotRead, KeepsFiles, Makes, MakesPart}
+use Rattle.command_ending.specs.StepEffects.{EndsMaking, EndsAsTold, HasNoFaultMaking}
 use Rattle.command_ending.proofs.Plans.{IsFound, Follows-found, found_next}
 
 -- a text begins with another

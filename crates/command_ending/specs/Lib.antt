@@ -1,6 +1,6 @@
 pub mod Plan
 pub mod Follow
 pub mod Endings
-pub mod Effects
+pub mod StepEffects
 pub mod Message
 pub mod MessageExamples

@@ -8,29 +8,29 @@ use Rattle.command_ending.specs.declared.status.Status.TheVariants.{ImageRefused
 use Rattle.command_ending.specs.declared.status.Status.TheVariants.{ReadFault, WriteFault}
 use Rattle.command_ending.specs.declared.status.Status.TheVariants.{OutOfMemory, TooManyTogether}
 use Rattle.command_ending.specs.declared.status.Status.TheVariants.{ScriptRefused, SecondRulesRefused}
-use Rattle.command_words.specs.declared.fault.UsageKind.{UsageKind}
-use Rattle.command_words.specs.declared.fault.UsageKind.TheVariants.{MissingCommand, UnknownCommand}
-use Rattle.command_words.specs.declared.fault.UsageKind.TheVariants.{MissingName, UnknownOption}
-use Rattle.command_words.specs.declared.fault.UsageKind.TheVariants.{RepeatedOption, BadValue}
-use Rattle.classbench_reader.specs.declared.fault.LineKind.{LineKind}
-use Rattle.classbench_reader.specs.declared.fault.LineKind.TheVariants.{FileTooLong, TooManyRules}
-use Rattle.classbench_reader.specs.declared.fault.LineKind.TheVariants.{BadStart, BadAddress}
-use Rattle.classbench_reader.specs.declared.fault.LineKind.TheVariants.{BadPrefix, MixedFamilies}
-use Rattle.classbench_reader.specs.declared.fault.LineKind.TheVariants.{BadPorts, EmptyRange}
-use Rattle.classbench_reader.specs.declared.fault.LineKind.TheVariants.{BadProtocol, BadFlags}
-use Rattle.classbench_reader.specs.declared.fault.LineKind.TheVariants.{BadAttribute, TailLeft}
-use Rattle.classbench_reader.specs.declared.fault.LineKind.TheVariants.{NoCategory, PriorityRange}
-use Rattle.pcap_reader.specs.declared.fault.CaptureFault.{CaptureFault}
-use Rattle.pcap_reader.specs.declared.fault.CaptureFault.TheVariants.{HeaderCut, Magic, Version}
-use Rattle.pcap_reader.specs.declared.fault.CaptureFault.TheVariants.{LinkType, RecordCut}
-use Rattle.pcap_reader.specs.declared.fault.CaptureFault.TheVariants.{RecordTooLong, TooManyRecords}
-use Rattle.pcap_reader.specs.declared.fault.CaptureFault.TheVariants.{ReadFault as CannotRead}
-use Rattle.pcap_reader.specs.declared.fault.CaptureFault.TheVariants.{PngCut, PngLength, PngOrder}
-use Rattle.pcap_reader.specs.declared.fault.CaptureFault.TheVariants.{PngVersion, PngInterface}
-use Rattle.pcap_reader.specs.declared.fault.CaptureFault.TheVariants.{PngLink, PngTooMany}
+use Rattle.command_words.specs.declared.usage_fault.UsageKind.{UsageKind}
+use Rattle.command_words.specs.declared.usage_fault.UsageKind.TheVariants.{MissingCommand, UnknownCommand}
+use Rattle.command_words.specs.declared.usage_fault.UsageKind.TheVariants.{MissingName, UnknownOption}
+use Rattle.command_words.specs.declared.usage_fault.UsageKind.TheVariants.{RepeatedOption, BadValue}
+use Rattle.classbench_reader.specs.declared.rules_fault.LineKind.{LineKind}
+use Rattle.classbench_reader.specs.declared.rules_fault.LineKind.TheVariants.{FileTooLong, TooManyRules}
+use Rattle.classbench_reader.specs.declared.rules_fault.LineKind.TheVariants.{BadStart, BadAddress}
+use Rattle.classbench_reader.specs.declared.rules_fault.LineKind.TheVariants.{BadPrefix, MixedFamilies}
+use Rattle.classbench_reader.specs.declared.rules_fault.LineKind.TheVariants.{BadPorts, EmptyRange}
+use Rattle.classbench_reader.specs.declared.rules_fault.LineKind.TheVariants.{BadProtocol, BadFlags}
+use Rattle.classbench_reader.specs.declared.rules_fault.LineKind.TheVariants.{BadAttribute, TailLeft}
+use Rattle.classbench_reader.specs.declared.rules_fault.LineKind.TheVariants.{NoCategory, PriorityRange}
+use Rattle.pcap_reader.specs.declared.capture_fault.CaptureFault.{CaptureFault}
+use Rattle.pcap_reader.specs.declared.capture_fault.CaptureFault.TheVariants.{HeaderCut, Magic, Version}
+use Rattle.pcap_reader.specs.declared.capture_fault.CaptureFault.TheVariants.{LinkType, RecordCut}
+use Rattle.pcap_reader.specs.declared.capture_fault.CaptureFault.TheVariants.{RecordTooLong, TooManyRecords}
+use Rattle.pcap_reader.specs.declared.capture_fault.CaptureFault.TheVariants.{ReadFault as CannotRead}
+use Rattle.pcap_reader.specs.declared.capture_fault.CaptureFault.TheVariants.{PngCut, PngLength, PngOrder}
+use Rattle.pcap_reader.specs.declared.capture_fault.CaptureFault.TheVariants.{PngVersion, PngInterface}
+use Rattle.pcap_reader.specs.declared.capture_fault.CaptureFault.TheVariants.{PngLink, PngTooMany}
 use Rattle.pcap_reader.specs.Capture.{max_records}
-use Rattle.table_image.specs.declared.fault.ImageKind.{ImageKind}
-use Rattle.table_image.specs.declared.fault.ImageKind.TheVariants as kind
+use Rattle.table_image.specs.declared.load_fault.ImageKind.{ImageKind}
+use Rattle.table_image.specs.declared.load_fault.ImageKind.TheVariants as kind
 
 -- what is told of a usage fault
 abbrev pub usage_text : UsageKind → List ℕ

@@ -3,29 +3,29 @@
 use Rattle.std.specs.Prelude.{◌≡◌, [], ◌∷◌, codes, refl, map}
 use Rattle.std.specs.Fmt.{digits}
 use Rattle.field_defs.specs.declared.field.Family.TheVariants.{Ip4, Ip6}
-use Rattle.table_image.specs.declared.fault.ImageKind.TheVariants as kind
+use Rattle.table_image.specs.declared.load_fault.ImageKind.TheVariants as kind
 use Rattle.command_ending.specs.declared.status.Status.TheVariants.{Done, Usage, RulesRefused}
 use Rattle.command_ending.specs.declared.status.Status.TheVariants.{TooLarge, CaptureRefused}
 use Rattle.command_ending.specs.declared.status.Status.TheVariants.{ReadFault, WriteFault}
 use Rattle.command_ending.specs.declared.status.Status.TheVariants.{OutOfMemory, ImageRefused}
 use Rattle.command_ending.specs.declared.status.Status.TheVariants.{TooManyTogether}
 use Rattle.command_ending.specs.declared.status.Status.TheVariants.{ScriptRefused, SecondRulesRefused}
-use Rattle.command_words.specs.declared.fault.UsageKind.TheVariants.{MissingCommand, UnknownCommand}
-use Rattle.command_words.specs.declared.fault.UsageKind.TheVariants.{MissingName, UnknownOption}
-use Rattle.command_words.specs.declared.fault.UsageKind.TheVariants.{RepeatedOption, BadValue}
-use Rattle.classbench_reader.specs.declared.fault.LineKind.TheVariants.{FileTooLong, TooManyRules}
-use Rattle.classbench_reader.specs.declared.fault.LineKind.TheVariants.{BadStart, BadAddress}
-use Rattle.classbench_reader.specs.declared.fault.LineKind.TheVariants.{BadPrefix, MixedFamilies}
-use Rattle.classbench_reader.specs.declared.fault.LineKind.TheVariants.{BadPorts, EmptyRange}
-use Rattle.classbench_reader.specs.declared.fault.LineKind.TheVariants.{BadProtocol, BadFlags}
-use Rattle.classbench_reader.specs.declared.fault.LineKind.TheVariants.{BadAttribute, TailLeft}
-use Rattle.classbench_reader.specs.declared.fault.LineKind.TheVariants.{NoCategory, PriorityRange}
-use Rattle.pcap_reader.specs.declared.fault.CaptureFault.TheVariants.{HeaderCut, Magic, Version}
-use Rattle.pcap_reader.specs.declared.fault.CaptureFault.TheVariants.{LinkType, RecordCut}
-use Rattle.pcap_reader.specs.declared.fault.CaptureFault.TheVariants.{RecordTooLong, TooManyRecords}
-use Rattle.pcap_reader.specs.declared.fault.CaptureFault.TheVariants.{PngCut, PngLength, PngOrder}
-use Rattle.pcap_reader.specs.declared.fault.CaptureFault.TheVariants.{PngVersion, PngInterface}
-use Rattle.pcap_reader.specs.declared.fault.CaptureFault.TheVariants.{PngLink, PngTooMany}
+use Rattle.command_words.specs.declared.usage_fault.UsageKind.TheVariants.{MissingCommand, UnknownCommand}
+use Rattle.command_words.specs.declared.usage_fault.UsageKind.TheVariants.{MissingName, UnknownOption}
+use Rattle.command_words.specs.declared.usage_fault.UsageKind.TheVariants.{RepeatedOption, BadValue}
+use Rattle.classbench_reader.specs.declared.rules_fault.LineKind.TheVariants.{FileTooLong, TooManyRules}
+use Rattle.classbench_reader.specs.declared.rules_fault.LineKind.TheVariants.{BadStart, BadAddress}
+use Rattle.classbench_reader.specs.declared.rules_fault.LineKind.TheVariants.{BadPrefix, MixedFamilies}
+use Rattle.classbench_reader.specs.declared.rules_fault.LineKind.TheVariants.{BadPorts, EmptyRange}
+use Rattle.classbench_reader.specs.declared.rules_fault.LineKind.TheVariants.{BadProtocol, BadFlags}
+use Rattle.classbench_reader.specs.declared.rules_fault.LineKind.TheVariants.{BadAttribute, TailLeft}
+use Rattle.classbench_reader.specs.declared.rules_fault.LineKind.TheVariants.{NoCategory, PriorityRange}
+use Rattle.pcap_reader.specs.declared.capture_fault.CaptureFault.TheVariants.{HeaderCut, Magic, Version}
+use Rattle.pcap_reader.specs.declared.capture_fault.CaptureFault.TheVariants.{LinkType, RecordCut}
+use Rattle.pcap_reader.specs.declared.capture_fault.CaptureFault.TheVariants.{RecordTooLong, TooManyRecords}
+use Rattle.pcap_reader.specs.declared.capture_fault.CaptureFault.TheVariants.{PngCut, PngLength, PngOrder}
+use Rattle.pcap_reader.specs.declared.capture_fault.CaptureFault.TheVariants.{PngVersion, PngInterface}
+use Rattle.pcap_reader.specs.declared.capture_fault.CaptureFault.TheVariants.{PngLink, PngTooMany}
 use Rattle.command_words.specs.Command.{fault_at}
 use Rattle.command_ending.specs.Message.{message, usage_text, line_text, capture_text, code_of}
 use Rattle.command_ending.specs.Message.{image_text}

@@ -1,6 +1,6 @@
 //! The bytes of a file that a command reads.
 
-ghost use Rattle.command_ending.specs.Effects.{ReadsFile};
+ghost use Rattle.command_ending.specs.StepEffects.{ReadsFile};
 
 use crate::status::Status;
 use acl_outside::{Desk, Failed, ReadAll, read_up_to};

@@ -2,7 +2,7 @@
 //!
 //! A command is a *plan*, defined in `specs/Plan.antt`: it gives a value, stops with a status, or
 //! asks for a file and goes on with its bytes. `specs/Follow.antt` says how far it was followed by
-//! what was heard, and `specs/Effects.antt` what a command then promises of the outside.
+//! what was heard, and `specs/StepEffects.antt` what a command then promises of the outside.
 //!
 //! | module | what it says or reads |
 //! |---|---|

@@ -1,6 +1,6 @@
 //! The file that a command makes.
 
-ghost use Rattle.command_ending.specs.Effects.{MakesAll};
+ghost use Rattle.command_ending.specs.StepEffects.{MakesAll};
 
 use acl_outside::{Desk, Failed, write_all};
 

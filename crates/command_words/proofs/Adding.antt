@@ -2,8 +2,8 @@
 use Rattle.std.proofs.Common.{◌≡◌, List, ℕ, ◌&&◌, refl, ap, true, false, Option, Some, None, Ok, Err}
 use Rattle.std.specs.Option.{option_map}
 use Rattle.command_words.specs.declared.allowed.Allowed.{Allowed}
-use Rattle.command_words.specs.declared.fault.UsageKind.{UsageKind}
-use Rattle.command_words.specs.declared.fault.UsageKind.TheVariants.{RepeatedOption, BadValue}
+use Rattle.command_words.specs.declared.usage_fault.UsageKind.{UsageKind}
+use Rattle.command_words.specs.declared.usage_fault.UsageKind.TheVariants.{RepeatedOption, BadValue}
 use Rattle.command_words.specs.Options.{Given, adds, begins_with, once, value_of, with_option, with_switch}
 use Rattle.command_words.specs.Options.{categories_in, categories_option, walk_in, walk_option}
 use Rattle.command_words.specs.Options.{budget_in, max_words_option}

@@ -4,8 +4,8 @@ use Rattle.std.specs.Prelude.{nat_le, nat_lt}
 use Rattle.std.specs.Option.{ok_or}
 use Rattle.std.proofs.lemmas.Bool.{ltb-true, ltb-false}
 use Rattle.std.proofs.lemmas.Option.{slice_get-map, slice_get_past, slice_get_read}
-use Rattle.command_words.specs.declared.fault.UsageFault.{UsageFault}
-use Rattle.command_words.specs.declared.fault.UsageKind.TheVariants.{MissingName, BadValue}
+use Rattle.command_words.specs.declared.usage_fault.UsageFault.{UsageFault}
+use Rattle.command_words.specs.declared.usage_fault.UsageKind.TheVariants.{MissingName, BadValue}
 use Rattle.command_words.specs.Options.{lawful, number_in}
 use Rattle.command_words.specs.BenchWords.{number_at}
 

@@ -4,9 +4,9 @@ use Rattle.std.specs.Prelude.{Result, Ok, Err, if◌then◌else◌}
 use Rattle.std.specs.Option.{ok_or}
 use Rattle.workload_gen.specs.declared.workload.TheConstants.{MAX_WORKLOAD_RULES}
 use Rattle.table_sizes.specs.Sizes.{max_keys}
-use Rattle.command_words.specs.declared.fault.UsageFault.{UsageFault}
-use Rattle.command_words.specs.declared.fault.UsageKind.TheVariants.{MissingName, UnknownOption}
-use Rattle.command_words.specs.declared.fault.UsageKind.TheVariants.{BadValue}
+use Rattle.command_words.specs.declared.usage_fault.UsageFault.{UsageFault}
+use Rattle.command_words.specs.declared.usage_fault.UsageKind.TheVariants.{MissingName, UnknownOption}
+use Rattle.command_words.specs.declared.usage_fault.UsageKind.TheVariants.{BadValue}
 use Rattle.command_words.specs.Options.{lawful, number_in}
 
 -- what is asked for

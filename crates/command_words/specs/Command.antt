@@ -3,10 +3,10 @@
 use Rattle.std.specs.Prelude.{ℕ, ◌+◌, List, [], ◌∷◌, Option, Some, None, Result, Ok, Err, codes}
 use Rattle.std.specs.Prelude.{if◌then◌else◌}
 use Rattle.std.specs.Str.{bytes_eq}
-use Rattle.command_words.specs.declared.fault.UsageFault.{UsageFault}
-use Rattle.command_words.specs.declared.fault.UsageKind.{UsageKind}
-use Rattle.command_words.specs.declared.fault.UsageKind.TheVariants.{MissingCommand, UnknownCommand}
-use Rattle.command_words.specs.declared.fault.UsageKind.TheVariants.{MissingName}
+use Rattle.command_words.specs.declared.usage_fault.UsageFault.{UsageFault}
+use Rattle.command_words.specs.declared.usage_fault.UsageKind.{UsageKind}
+use Rattle.command_words.specs.declared.usage_fault.UsageKind.TheVariants.{MissingCommand, UnknownCommand}
+use Rattle.command_words.specs.declared.usage_fault.UsageKind.TheVariants.{MissingName}
 use Rattle.command_words.specs.BenchWords.{BenchNumbers, numbers_of}
 use Rattle.command_words.specs.Options.{Options, Given, none_given, settled_options, with_option}
 use Rattle.command_words.specs.Options.{for_audit, for_build, for_classify, for_compare}
@@ -92,28 +92,28 @@ single_of allowed [] = Err (fault_at 2 MissingName)
 single_of allowed (name ∷ words) = single_with name (options_from allowed 3 none_given words)
 
 -- what `classify` asks for
-abbrev pub classify_by : Named → Request
-classify_by named = Classify named.first named.second named.options
+abbrev pub classify_request : Named → Request
+classify_request named = Classify named.first named.second named.options
 
 -- what `build` asks for
-abbrev pub build_by : Named → Request
-build_by named = Build named.first named.second named.options.max_words
+abbrev pub build_request : Named → Request
+build_request named = Build named.first named.second named.options.max_words
 
 -- what `replay` asks for
-abbrev pub replay_by : Named → Request
-replay_by named = Replay named.first named.second named.options
+abbrev pub replay_request : Named → Request
+replay_request named = Replay named.first named.second named.options
 
 -- what `audit` asks for
-abbrev pub audit_by : Single → Request
-audit_by single = Audit single.name single.options.categories single.options.max_words
+abbrev pub audit_request : Single → Request
+audit_request single = Audit single.name single.options.categories single.options.max_words
 
 -- what `compare` asks for
-abbrev pub compare_by : Named → Request
-compare_by named = Compare named.first named.second named.options.max_words
+abbrev pub compare_request : Named → Request
+compare_request named = Compare named.first named.second named.options.max_words
 
 -- what `session` asks for
-abbrev pub session_by : Single → Request
-session_by single = Session single.name
+abbrev pub session_request : Single → Request
+session_request single = Session single.name
 
 -- what is asked for by what was read of the words after a command
 abbrev pub asked_by : {A : Type 0} → (A → Request) → Result A UsageFault → Result Request UsageFault
@@ -124,17 +124,17 @@ asked_by ask (Err fault) = Err fault
 abbrev pub other_command : List ℕ → List (List ℕ) → Result Request UsageFault
 other_command verb words =
     if bytes_eq verb (codes "bench") then asked_by Bench (numbers_of words)
-    else if bytes_eq verb (codes "audit") then asked_by audit_by (single_of for_audit words)
-    else if bytes_eq verb (codes "compare") then asked_by compare_by (named_of for_compare words)
-    else if bytes_eq verb (codes "session") then asked_by session_by (single_of for_session words)
+    else if bytes_eq verb (codes "audit") then asked_by audit_request (single_of for_audit words)
+    else if bytes_eq verb (codes "compare") then asked_by compare_request (named_of for_compare words)
+    else if bytes_eq verb (codes "session") then asked_by session_request (single_of for_session words)
     else Err (fault_at 1 UnknownCommand)
 
 -- the command of a verb and of the words after it: the table of the commands, one after the other
 abbrev pub command_of : List ℕ → List (List ℕ) → Result Request UsageFault
 command_of verb words =
-    if bytes_eq verb (codes "classify") then asked_by classify_by (named_of for_classify words)
-    else if bytes_eq verb (codes "build") then asked_by build_by (named_of for_build words)
-    else if bytes_eq verb (codes "replay") then asked_by replay_by (named_of for_replay words)
+    if bytes_eq verb (codes "classify") then asked_by classify_request (named_of for_classify words)
+    else if bytes_eq verb (codes "build") then asked_by build_request (named_of for_build words)
+    else if bytes_eq verb (codes "replay") then asked_by replay_request (named_of for_replay words)
     else other_command verb words
 
 -- the command of the words, or their first fault

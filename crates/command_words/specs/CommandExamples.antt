@@ -1,11 +1,11 @@
 -- Examples of commands and of usage faults, each checked by evaluation.
 use Rattle.std.specs.Prelude.{◌≡◌, ℕ, List, [], ◌∷◌, ◌++◌, true, false, Some, None, Ok, Err, map}
 use Rattle.std.specs.Prelude.{replicate, codes, refl}
-use Rattle.command_words.specs.declared.fault.UsageKind.TheVariants.{MissingCommand, UnknownCommand}
-use Rattle.command_words.specs.declared.fault.UsageKind.TheVariants.{MissingName, UnknownOption}
-use Rattle.command_words.specs.declared.fault.UsageKind.TheVariants.{RepeatedOption, BadValue}
+use Rattle.command_words.specs.declared.usage_fault.UsageKind.TheVariants.{MissingCommand, UnknownCommand}
+use Rattle.command_words.specs.declared.usage_fault.UsageKind.TheVariants.{MissingName, UnknownOption}
+use Rattle.command_words.specs.declared.usage_fault.UsageKind.TheVariants.{RepeatedOption, BadValue}
 use Rattle.command_words.specs.Options.{Options, none_given, settled_options, number_in, budget_in}
-use Rattle.lane_walk.specs.declared.walk.Walk.TheVariants.{Scalar, Lanes}
+use Rattle.flat_table.specs.declared.walk.Walk.TheVariants.{Scalar, Lanes}
 use Rattle.command_words.specs.Options.{walk_in, with_option}
 use Rattle.command_words.specs.Options.{for_build}
 use Rattle.command_words.specs.Command.{Audit, Build, Classify, Replay, command, fault_at}

@@ -5,13 +5,13 @@ use Rattle.std.specs.Option.{unwrap_or}
 use Rattle.std.specs.Str.{bytes_eq}
 use Rattle.rule_set.specs.Categories.{is_count_of_categories}
 use Rattle.table_sizes.specs.Sizes.{max_words}
-use Rattle.lane_walk.specs.declared.walk.Walk.{Walk}
-use Rattle.lane_walk.specs.declared.walk.Walk.TheVariants.{Scalar, Lanes}
+use Rattle.flat_table.specs.declared.walk.Walk.{Walk}
+use Rattle.flat_table.specs.declared.walk.Walk.TheVariants.{Scalar, Lanes}
 use Rattle.text_scan.specs.Digits.{are_digits, place_value}
 use Rattle.command_words.specs.declared.allowed.Allowed.{Allowed}
-use Rattle.command_words.specs.declared.fault.UsageKind.{UsageKind}
-use Rattle.command_words.specs.declared.fault.UsageKind.TheVariants.{UnknownOption, RepeatedOption}
-use Rattle.command_words.specs.declared.fault.UsageKind.TheVariants.{BadValue}
+use Rattle.command_words.specs.declared.usage_fault.UsageKind.{UsageKind}
+use Rattle.command_words.specs.declared.usage_fault.UsageKind.TheVariants.{UnknownOption, RepeatedOption}
+use Rattle.command_words.specs.declared.usage_fault.UsageKind.TheVariants.{BadValue}
 
 -- the options of a command: how many categories are printed, which walk answers the keys, how many
 -- words the table of each family may have, whether the sizes of the tables are printed, and whether

@@ -7,8 +7,8 @@ ghost use Rattle.command_words.specs.CommandLine.{numbers_in};
 ghost use Rattle.command_words.specs.Options.{lawful};
 
 use crate::bench_numbers::{BenchNumbers, MAX_PACKETS};
-use crate::fault::{UsageFault, UsageKind};
 use crate::options::number_in;
+use crate::usage_fault::{UsageFault, UsageKind};
 use workload_gen::MAX_WORKLOAD_RULES;
 
 /// The numbers of the words after the command, or the first fault from the left. It takes no

@@ -3,9 +3,9 @@
 ghost use Rattle.std.specs.Prelude.{◌≡◌, ◌≤◌, Ok, Err, IfOk, IfErr, map, string_bytes};
 ghost use Rattle.command_words.specs.Options.{for_audit, for_build, for_classify, for_replay};
 ghost use Rattle.command_words.specs.Options.{for_compare, for_session, none_given};
-ghost use Rattle.command_words.specs.Command.{asked_by, build_by, classify_by, command, named_of};
-ghost use Rattle.command_words.specs.Command.{audit_by, compare_by, options_from, replay_by};
-ghost use Rattle.command_words.specs.Command.{Bench, command_of, other_command, session_by};
+ghost use Rattle.command_words.specs.Command.{asked_by, build_request, classify_request, command, named_of};
+ghost use Rattle.command_words.specs.Command.{audit_request, compare_request, options_from, replay_request};
+ghost use Rattle.command_words.specs.Command.{Bench, command_of, other_command, session_request};
 ghost use Rattle.command_words.specs.Command.{single_of};
 ghost use Rattle.command_words.specs.BenchWords.{numbers_of};
 ghost use Rattle.command_words.specs.CommandLine.{named_in, options_of, request_of, single_in};
@@ -14,8 +14,8 @@ use crate::allowed::Allowed;
 use crate::bench_numbers::BenchNumbers;
 use crate::bench_words::read_numbers;
 use crate::budget::Budget;
-use crate::fault::{UsageFault, UsageKind};
 use crate::options::{Given, Options};
+use crate::usage_fault::{UsageFault, UsageKind};
 use rule_set::Categories;
 
 /// A command, with the names of its files and its options.
@@ -126,10 +126,10 @@ fn read_other<'a>(verb: &str, words: &'a [String]) -> Result<Request<'a>, UsageF
 /// The words after `classify`.
 fn read_classify(words: &[String]) -> Result<Request<'_>, UsageFault>
     ensures request { IfOk result (λ request.
-        asked_by classify_by (named_of for_classify (map string_bytes words.now))
+        asked_by classify_request (named_of for_classify (map string_bytes words.now))
         ≡ Ok (request_of request)) }
     ensures fault { IfErr result (λ fault.
-        asked_by classify_by (named_of for_classify (map string_bytes words.now)) ≡ Err fault) }
+        asked_by classify_request (named_of for_classify (map string_bytes words.now)) ≡ Err fault) }
 {
     let names = read_names(words, Allowed::for_classify())?;
     Ok(Request::Classify {
@@ -142,10 +142,10 @@ fn read_classify(words: &[String]) -> Result<Request<'_>, UsageFault>
 /// The words after `build`.
 fn read_build(words: &[String]) -> Result<Request<'_>, UsageFault>
     ensures request { IfOk result (λ request.
-        asked_by build_by (named_of for_build (map string_bytes words.now))
+        asked_by build_request (named_of for_build (map string_bytes words.now))
         ≡ Ok (request_of request)) }
     ensures fault { IfErr result (λ fault.
-        asked_by build_by (named_of for_build (map string_bytes words.now)) ≡ Err fault) }
+        asked_by build_request (named_of for_build (map string_bytes words.now)) ≡ Err fault) }
 {
     let names = read_names(words, Allowed::for_build())?;
     Ok(Request::Build {
@@ -158,10 +158,10 @@ fn read_build(words: &[String]) -> Result<Request<'_>, UsageFault>
 /// The words after `replay`.
 fn read_replay(words: &[String]) -> Result<Request<'_>, UsageFault>
     ensures request { IfOk result (λ request.
-        asked_by replay_by (named_of for_replay (map string_bytes words.now))
+        asked_by replay_request (named_of for_replay (map string_bytes words.now))
         ≡ Ok (request_of request)) }
     ensures fault { IfErr result (λ fault.
-        asked_by replay_by (named_of for_replay (map string_bytes words.now)) ≡ Err fault) }
+        asked_by replay_request (named_of for_replay (map string_bytes words.now)) ≡ Err fault) }
 {
     let names = read_names(words, Allowed::for_replay())?;
     Ok(Request::Replay {
@@ -185,10 +185,10 @@ fn read_bench(words: &[String]) -> Result<Request<'_>, UsageFault>
 /// The words after `audit`.
 fn read_audit(words: &[String]) -> Result<Request<'_>, UsageFault>
     ensures request { IfOk result (λ request.
-        asked_by audit_by (single_of for_audit (map string_bytes words.now))
+        asked_by audit_request (single_of for_audit (map string_bytes words.now))
         ≡ Ok (request_of request)) }
     ensures fault { IfErr result (λ fault.
-        asked_by audit_by (single_of for_audit (map string_bytes words.now)) ≡ Err fault) }
+        asked_by audit_request (single_of for_audit (map string_bytes words.now)) ≡ Err fault) }
 {
     let one = read_name(words, Allowed::for_audit())?;
     Ok(Request::Audit {
@@ -201,10 +201,10 @@ fn read_audit(words: &[String]) -> Result<Request<'_>, UsageFault>
 /// The words after `compare`.
 fn read_compare(words: &[String]) -> Result<Request<'_>, UsageFault>
     ensures request { IfOk result (λ request.
-        asked_by compare_by (named_of for_compare (map string_bytes words.now))
+        asked_by compare_request (named_of for_compare (map string_bytes words.now))
         ≡ Ok (request_of request)) }
     ensures fault { IfErr result (λ fault.
-        asked_by compare_by (named_of for_compare (map string_bytes words.now)) ≡ Err fault) }
+        asked_by compare_request (named_of for_compare (map string_bytes words.now)) ≡ Err fault) }
 {
     let names = read_names(words, Allowed::for_compare())?;
     Ok(Request::Compare {
@@ -217,10 +217,10 @@ fn read_compare(words: &[String]) -> Result<Request<'_>, UsageFault>
 /// The words after `session`.
 fn read_session(words: &[String]) -> Result<Request<'_>, UsageFault>
     ensures request { IfOk result (λ request.
-        asked_by session_by (single_of for_session (map string_bytes words.now))
+        asked_by session_request (single_of for_session (map string_bytes words.now))
         ≡ Ok (request_of request)) }
     ensures fault { IfErr result (λ fault.
-        asked_by session_by (single_of for_session (map string_bytes words.now)) ≡ Err fault) }
+        asked_by session_request (single_of for_session (map string_bytes words.now)) ≡ Err fault) }
 {
     let one = read_name(words, Allowed::for_session())?;
     Ok(Request::Session { script: one.name })

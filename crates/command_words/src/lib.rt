@@ -6,7 +6,7 @@
 //! | `allowed` | which options a command allows |
 //! | `options`, `budget` | the options that are given, and how many words a table may have |
 //! | `bench_words`, `bench_numbers` | the words after `bench`: a seed, and how much it gives |
-//! | `fault` | what is wrong with a word |
+//! | `usage_fault` | what is wrong with a word |
 #![tactic(auto)]
 
 mod allowed;
@@ -14,11 +14,11 @@ mod bench_numbers;
 mod bench_words;
 mod budget;
 mod command_line;
-mod fault;
 mod options;
+mod usage_fault;
 
 pub use bench_numbers::BenchNumbers;
 pub use budget::Budget;
 pub use command_line::{Request, read_words};
-pub use fault::{UsageFault, UsageKind};
 pub use options::Options;
+pub use usage_fault::{UsageFault, UsageKind};

@@ -9,8 +9,8 @@ ghost use Rattle.command_words.specs.CommandLine.{count_of, words_of, options_of
 
 use crate::allowed::Allowed;
 use crate::budget::Budget;
-use crate::fault::UsageKind;
-use lane_walk::Walk;
+use crate::usage_fault::UsageKind;
+use flat_table::Walk;
 use rule_set::Categories;
 use std::marker::Model;
 use text_scan::digits_value;

@@ -4,7 +4,7 @@ use Rattle.table_sizes.specs.Sizes.{row_len}
 use Rattle.table_sizes.specs.Groups.{kept_places}
 use Rattle.flat_table.specs.Groups.{depth_of}
 use Rattle.flat_table.specs.declared.level.Level.{Level}
-use Rattle.flat_table.specs.declared.parts.Parts.{Parts}
+use Rattle.flat_table.specs.declared.table_parts.Parts.{Parts}
 
 -- a table
 pub record TableView : Type 0 where

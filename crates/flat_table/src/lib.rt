@@ -14,12 +14,13 @@
 //!     Parts that are known to be sound ──► Table::from_sound ──► Table, and no word is looked at
 //! ```
 //!
-//! - `parts`: what a table is made of.
+//! - `table_parts`: what a table is made of.
 //! - `word`: a transition word, bit by bit, and the place of the next one; the userdata of a row.
 //! - `groups`: which places of a key a trie reads.
 //! - `level`, `sound`: where the words of a trie's depth lie, and which parts are sound.
 //! - `table`: a sound table.
 //! - `steps`: a counter that exists in proofs alone.
+//! - `walk`: which walk is asked for.
 //! - `laws`: what holds of every sound table, over the definitions.
 //!
 //! After DPDK's `lib/acl` and its Programmer's Guide, "Packet Classification and Access Control".
@@ -28,19 +29,21 @@
 mod groups;
 pub mod laws;
 mod level;
-mod parts;
 mod sound;
 mod steps;
 mod table;
+mod table_parts;
+mod walk;
 mod word;
 
 pub use groups::{depth_of, is_kept_word};
 pub use level::Level;
-pub use parts::Parts;
 pub use sound::{SoundFault, check_sound, is_sound_word};
 pub use steps::Steps;
 pub use table::{NotSound, Table};
+pub use table_parts::Parts;
+pub use walk::Walk;
 pub use word::{
-    BOUNDARY_BITS, FULL, INDEX_BITS, INDEX_MASK, MATCH, QUAD, SINGLE, boundaries_below, index_of,
-    is_match, kind_of, next_place, userdata_of,
+    BOUNDARY_BITS, FULL, INDEX_BITS, INDEX_MASK, LOW_HALF, MATCH, QUAD, SINGLE, boundaries_below,
+    index_of, is_end, is_match, kind_of, next_place, userdata_of,
 };

@@ -19,7 +19,7 @@ ghost use Rattle.flat_table.specs.Sound.{first_unsound_root, first_unsound_word,
 
 use crate::groups::{depth_of, is_kept_word, is_key_len};
 use crate::level::Level;
-use crate::parts::Parts;
+use crate::table_parts::Parts;
 use crate::word::{index_of, is_match, is_unbounded};
 use table_sizes::{MAX_TRIES, MAX_WORDS, ROW_LEN};
 use thiserror::Error;

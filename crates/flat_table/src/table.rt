@@ -12,8 +12,8 @@ ghost use Rattle.flat_table.specs.Walk.{root_of};
 ghost use Rattle.table_sizes.specs.Sizes.{max_tries};
 
 use crate::groups::{Places, kept_places};
-use crate::parts::Parts;
 use crate::sound::{SoundFault, check_sound};
+use crate::table_parts::Parts;
 use arrayvec::ArrayVec;
 use std::fmt::{self, Debug, Formatter, Write};
 use std::marker::Model;

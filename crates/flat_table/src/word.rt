@@ -13,7 +13,8 @@
 //! After DPDK's `lib/acl/acl.h`, whose DFA node shares groups of 64 words; our full node has one
 //! word for each byte value.
 
-ghost use Rattle.std.specs.Prelude.{◌≡◌, ◌+◌, ◌*◌, ◌/◌, ◌%◌, ◌^◌, ◌<◌, ◌≤◌, nat_lt, count_by};
+ghost use Rattle.std.specs.Prelude.{◌≡◌, ◌+◌, ◌*◌, ◌/◌, ◌%◌, ◌^◌, ◌<◌, ◌≤◌, true, false, nat_lt};
+ghost use Rattle.std.specs.Prelude.{count_by};
 ghost use Rattle.table_sizes.specs.Sizes.{full_len};
 ghost use Rattle.flat_table.specs.Word.{indexes, index_of, kind_of, boundaries_of};
 ghost use Rattle.flat_table.specs.Word.{is_match, is_node, is_unbounded, node_len, offset_of};
@@ -21,6 +22,9 @@ ghost use Rattle.flat_table.specs.Word.{next_place};
 ghost use Rattle.flat_table.specs.Walk.{userdatas};
 
 use table_sizes::{FEW_RUNS, FULL_LEN};
+
+/// The bits of a word that are its index and its kind.
+pub const LOW_HALF: u64 = 0xFFFF_FFFF;
 
 /// How many bits of a word are the index: the first bit of its kind.
 pub const INDEX_BITS: u32 = 29;
@@ -69,6 +73,16 @@ pub fn is_match(word: u64) -> bool
     ensures { result ≡ is_match word }
 {
     kind_of(word) == MATCH
+}
+
+/// Whether the word, which is a match or leads to a node, ends a walk. No node has as great a kind.
+#[inline]
+pub fn is_end(word: u64) -> bool
+    requires { is_match word ≡ false → is_node word ≡ true }
+    ensures { result ≡ is_match word }
+{
+    // In 32 bits a comparison of kinds becomes one of halves, which takes no shift.
+    (word & LOW_HALF) as u32 >> INDEX_BITS >= MATCH as u32
 }
 
 /// Whether the word has no boundaries.

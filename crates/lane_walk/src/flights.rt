@@ -10,20 +10,11 @@ ghost use Rattle.flow_core.specs.Machine.{moved_to};
 ghost use Rattle.flow_core.specs.Standing.{LeadsOnward, held_after, rows_after};
 ghost use Rattle.lane_walk.specs.Turn.{EndsOrLeads, HasCome, held_in, no_one, rows_after_four};
 
-use flat_table::{INDEX_BITS, MATCH, Table, index_of, is_match, kind_of};
+use flat_table::{INDEX_BITS, MATCH, Table, index_of, is_end, is_match};
 use flow_core::{Flight, Scratch};
 
 /// How many lanes are stepped at once.
 pub(crate) const AT_ONCE: usize = 4;
-
-/// Whether the word ends a walk. It is a match or leads to a node, and no node has as great a kind.
-#[inline]
-pub(crate) fn is_end(word: u64) -> bool
-    requires { is_match word ≡ false → is_node word ≡ true }
-    ensures { result ≡ is_match word }
-{
-    kind_of(word) >= MATCH
-}
 
 /// Whether the word of a lane ends a walk. Of a lane that is known to be busy it isn't asked.
 #[inline]

@@ -15,10 +15,9 @@ ghost use Rattle.lane_walk.specs.Turn.{AreBusy, EndsOrLeads, GoesBy, IsPlaceOf, 
 ghost use Rattle.lane_walk.specs.Turn.{AreIdle, HasCome, no_one, rows_after_four};
 
 use crate::flights::{
-    AT_ONCE, are_empty, go_on, has_end, is_at_end, is_end, join_each, land, no_flight, of_trie,
-    words_at,
+    AT_ONCE, are_empty, go_on, has_end, is_at_end, join_each, land, no_flight, of_trie, words_at,
 };
-use flat_table::Table;
+use flat_table::{Table, is_end};
 use flow_core::laws::stay_in;
 use flow_core::{Flight, Scratch, byte_of, flight_of};
 use scalar_walk::four_places;

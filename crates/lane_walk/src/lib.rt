@@ -8,19 +8,13 @@
 //! - `flights`: what lanes keep, and how it goes on.
 //! - `lanes`: the machine and its turn.
 //! - `classify`: turns until the machine is done, and the verdicts of a batch.
-//! - `walk`: which walk is asked for, one key for itself or many by lanes.
-//! - `either`: the verdicts of a batch by the walk that is asked for.
 //!
 //! After DPDK's `lib/acl/acl_run_sse.h` and `acl_run_avx2.h`, which step 4, 8 or 16 flows at once.
 #![tactic(auto)]
 
 mod classify;
-mod either;
 mod flights;
 mod lanes;
-mod walk;
 
 pub use classify::{Flown, classify_lanes};
-pub use either::classify_by;
 pub use lanes::LaneFlows;
-pub use walk::Walk;

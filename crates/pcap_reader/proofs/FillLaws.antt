@@ -11,7 +11,7 @@ use Rattle.acl_outside.specs.Desk.{Content, DeskView, Gives, ReadsInto}
 use Rattle.acl_outside.specs.Heard.{Ended, with_ending}
 use Rattle.acl_outside.proofs.Offered.{KeepsMade-same, KeepsMade-join, KeepsMade-read, KeepsCounts-same, KeepsCounts-join}
 use Rattle.acl_outside.proofs.Offered.{ReadsOn-none, ReadsOn-given, ReadsOn-ended, ReadsOn-failed}
-use Rattle.acl_outside.specs.Reading.{ReadsOn, and_goes_on}
+use Rattle.acl_outside.specs.DeskReading.{ReadsOn, and_goes_on}
 use Rattle.pcap_reader.specs.Fill.{KeepsReading, IsAtEnd, BreaksOff, Fills, FillsOn, after_fill}
 
 -- what was read after the first len bytes stands after them

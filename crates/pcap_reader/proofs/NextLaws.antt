@@ -2,7 +2,7 @@
 use Rattle.std.proofs.Common.{◌≡◌, ℕ, ◌+◌, ◌<◌, ◌≤◌, List, [], ◌++◌, length, take, drop, inl, inr, refl, sym, subst, ap, ◌∙◌, arith, length-append, length-drop}
 use Rattle.std.proofs.lemmas.Bool.{cases_eq, cases_lt, lt-ltb, le-ltb, ne_eqb, eq-eqb}
 use Rattle.std.proofs.lemmas.List.{take-append-le, drop-append-le, drop_at, take_all, drop_all}
-use Rattle.pcap_reader.specs.declared.fault.CaptureFault.TheVariants.{RecordCut, RecordTooLong, TooManyRecords}
+use Rattle.pcap_reader.specs.declared.capture_fault.CaptureFault.TheVariants.{RecordCut, RecordTooLong, TooManyRecords}
 use Rattle.pcap_reader.specs.declared.start.Order.{Order}
 use Rattle.pcap_reader.specs.declared.start.Order.TheVariants.{Big, Little}
 use Rattle.pcap_reader.specs.Headers.{number_in}

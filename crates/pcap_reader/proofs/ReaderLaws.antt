@@ -6,10 +6,10 @@ use Rattle.acl_outside.specs.Fault.{Rose}
 use Rattle.acl_outside.specs.Told.{Changes}
 use Rattle.acl_outside.specs.Desk.{Content, DeskView, Gives}
 use Rattle.acl_outside.specs.Heard.{BrokenOff, Ended, with_ending}
-use Rattle.acl_outside.specs.Reading.{ReadsOn, and_goes_on}
+use Rattle.acl_outside.specs.DeskReading.{ReadsOn, and_goes_on}
 use Rattle.acl_outside.proofs.Offered.{Changes-weaker, ReadsOn-then}
-use Rattle.pcap_reader.specs.declared.fault.CaptureFault.TheVariants.{RecordCut, RecordTooLong, TooManyRecords, ReadFault}
-use Rattle.pcap_reader.specs.declared.fault.CaptureFault.{CaptureFault}
+use Rattle.pcap_reader.specs.declared.capture_fault.CaptureFault.TheVariants.{RecordCut, RecordTooLong, TooManyRecords, ReadFault}
+use Rattle.pcap_reader.specs.declared.capture_fault.CaptureFault.{CaptureFault}
 use Rattle.pcap_reader.specs.declared.state.CaptureState.{CaptureState}
 use Rattle.pcap_reader.specs.State.{CaptureRecord, record_of}
 use Rattle.pcap_reader.specs.Capture.{Next, End, Record, Fault, max_records, max_captured, record_header_len, next_of}

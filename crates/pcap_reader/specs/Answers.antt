@@ -1,7 +1,7 @@
 -- All answers of a reader, from its first call of `next` on, and what they come to.
 use Rattle.std.specs.Prelude.{◌≡◌, ℕ, List, [], ◌∷◌, Bool, true, false, Option, Some, None, Ok, Err}
-use Rattle.pcap_reader.specs.declared.fault.CaptureFault.{CaptureFault}
-use Rattle.pcap_reader.specs.declared.fault.CaptureFault.TheVariants.{ReadFault}
+use Rattle.pcap_reader.specs.declared.capture_fault.CaptureFault.{CaptureFault}
+use Rattle.pcap_reader.specs.declared.capture_fault.CaptureFault.TheVariants.{ReadFault}
 use Rattle.pcap_reader.specs.declared.state.CaptureState.{CaptureState}
 use Rattle.pcap_reader.specs.State.{Answer, CaptureRecord, state_after}
 use Rattle.pcap_reader.specs.Capture.{Recorded}

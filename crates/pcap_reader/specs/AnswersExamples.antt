@@ -1,6 +1,6 @@
 -- Examples of what the answers of a reader come to, each checked by evaluation.
 use Rattle.std.specs.Prelude.{◌≡◌, List, [], ◌∷◌, Some, None, Ok, Err, true, false, refl}
-use Rattle.pcap_reader.specs.declared.fault.CaptureFault.TheVariants.{RecordCut, ReadFault}
+use Rattle.pcap_reader.specs.declared.capture_fault.CaptureFault.TheVariants.{RecordCut, ReadFault}
 use Rattle.pcap_reader.specs.declared.link.Link.TheVariants.{Raw}
 use Rattle.pcap_reader.specs.State.{Answer, CaptureRecord}
 use Rattle.pcap_reader.specs.Answers.{recorded_by, have_ending}

@@ -1,8 +1,8 @@
 -- What a capture file means: its records, each with its link type, and its ending (libpcap savefile
 -- format 2.4).
 use Rattle.std.specs.Prelude.{ℕ, zero, suc, ◌+◌, ◌==◌, List, [], ◌∷◌, ◌++◌, length, take, drop, nat_lt, Option, Some, None, Result, Ok, Err, if◌then◌else◌}
-use Rattle.pcap_reader.specs.declared.fault.CaptureFault.{CaptureFault}
-use Rattle.pcap_reader.specs.declared.fault.CaptureFault.TheVariants.{RecordCut, RecordTooLong, TooManyRecords}
+use Rattle.pcap_reader.specs.declared.capture_fault.CaptureFault.{CaptureFault}
+use Rattle.pcap_reader.specs.declared.capture_fault.CaptureFault.TheVariants.{RecordCut, RecordTooLong, TooManyRecords}
 use Rattle.pcap_reader.specs.Headers.{record_header_of}
 use Rattle.pcap_reader.specs.Start.{start_of, file_header_len, ◌>>=◌}
 use Rattle.pcap_reader.specs.declared.state.CaptureState.{CaptureState}

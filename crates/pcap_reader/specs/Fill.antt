@@ -4,7 +4,7 @@ use Rattle.acl_outside.specs.Fault.{Rose}
 use Rattle.acl_outside.specs.Desk.{Content, DeskView, KeepsCounts}
 use Rattle.acl_outside.specs.Heard.{Heard, BrokenOff, Ended, with_ending}
 use Rattle.acl_outside.specs.Made.{KeepsMade}
-use Rattle.acl_outside.specs.Reading.{ReadsOn, and_goes_on}
+use Rattle.acl_outside.specs.DeskReading.{ReadsOn, and_goes_on}
 
 -- A file stays opened, none is looked for or made, and no count of faults falls.
 pub record KeepsReading (old new : DeskView) : Type 0 where

@@ -6,12 +6,12 @@ use Rattle.acl_outside.specs.Fault.{Rose}
 use Rattle.acl_outside.specs.Told.{Changes}
 use Rattle.acl_outside.specs.Desk.{DeskView}
 use Rattle.acl_outside.specs.Heard.{Heard, BrokenOff, Ended, with_ending}
-use Rattle.acl_outside.specs.Reading.{ReadsOn, and_goes_on}
-use Rattle.pcap_reader.specs.declared.fault.BeginFault.{BeginFault}
-use Rattle.pcap_reader.specs.declared.fault.BeginFault.TheVariants as begin_faults
-use Rattle.pcap_reader.specs.declared.fault.CaptureFault.{CaptureFault}
-use Rattle.pcap_reader.specs.declared.fault.CaptureFault.TheVariants.{HeaderCut, Magic, Version, LinkType, RecordCut, RecordTooLong, TooManyRecords, ReadFault}
-use Rattle.pcap_reader.specs.declared.fault.CaptureFault.TheVariants.{PngCut, PngLength, PngOrder, PngVersion, PngInterface, PngLink, PngTooMany}
+use Rattle.acl_outside.specs.DeskReading.{ReadsOn, and_goes_on}
+use Rattle.pcap_reader.specs.declared.capture_fault.BeginFault.{BeginFault}
+use Rattle.pcap_reader.specs.declared.capture_fault.BeginFault.TheVariants as begin_faults
+use Rattle.pcap_reader.specs.declared.capture_fault.CaptureFault.{CaptureFault}
+use Rattle.pcap_reader.specs.declared.capture_fault.CaptureFault.TheVariants.{HeaderCut, Magic, Version, LinkType, RecordCut, RecordTooLong, TooManyRecords, ReadFault}
+use Rattle.pcap_reader.specs.declared.capture_fault.CaptureFault.TheVariants.{PngCut, PngLength, PngOrder, PngVersion, PngInterface, PngLink, PngTooMany}
 use Rattle.pcap_reader.specs.declared.start.Start.{Start}
 use Rattle.pcap_reader.specs.declared.state.CaptureState.{CaptureState}
 use Rattle.pcap_reader.specs.State.{Answer, begun, has_ended, record_of}

@@ -1,7 +1,7 @@
 -- Examples of what file headers say, each checked by evaluation. The bytes of the first are those
 -- of a capture that tcpdump writes of Ethernet frames on a little-endian machine.
 use Rattle.std.specs.Prelude.{◌≡◌, ℕ, List, [], ◌∷◌, ◌++◌, take, replicate, Ok, Err, refl}
-use Rattle.pcap_reader.specs.declared.fault.CaptureFault.TheVariants.{HeaderCut, Magic, Version, LinkType}
+use Rattle.pcap_reader.specs.declared.capture_fault.CaptureFault.TheVariants.{HeaderCut, Magic, Version, LinkType}
 use Rattle.pcap_reader.specs.declared.link.Link.TheVariants.{Ethernet, Raw, Cooked, CookedV2, Ip4, Ip6}
 use Rattle.pcap_reader.specs.declared.start.Order.TheVariants.{Big, Little}
 use Rattle.pcap_reader.specs.Start.{start_of}

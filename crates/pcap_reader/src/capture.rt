@@ -6,7 +6,7 @@ ghost use Rattle.pcap_reader.specs.Reader.{Begins, BeginsIn, BeginsWith, TakesNe
 ghost use Rattle.pcap_reader.specs.Start.{file_header_len};
 ghost use Rattle.pcap_reader.specs.State.{has_failed};
 
-use crate::fault::{BeginFault, CaptureFault};
+use crate::capture_fault::{BeginFault, CaptureFault};
 use crate::link::Link;
 use crate::record::{MAX_CAPTURED, read_file_header, read_record};
 use crate::state::{CaptureState, Progress};

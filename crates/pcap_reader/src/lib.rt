@@ -10,7 +10,7 @@
 //! | `header` | the numbers of both headers, in the order that the caller names |
 //! | `start` | what a file header says of the records: their byte order and link type |
 //! | `link` | the link types that are read |
-//! | `fault` | why a capture is refused |
+//! | `capture_fault` | why a capture is refused |
 //! | `state` | what a reader knows of its capture, and how far it came |
 //! | `laws` | that the numbers are those of the format, and how records follow one another |
 //!
@@ -26,7 +26,7 @@
 #![tactic(auto)]
 
 mod capture;
-mod fault;
+mod capture_fault;
 pub mod fill;
 mod header;
 pub mod laws;
@@ -36,7 +36,7 @@ mod start;
 mod state;
 
 pub use capture::Capture;
-pub use fault::{BeginFault, CaptureFault};
+pub use capture_fault::{BeginFault, CaptureFault};
 pub use header::{FileHeader, RecordHeader, file_header, record_header};
 pub use link::Link;
 pub use record::{MAX_CAPTURED, MAX_RECORDS};

@@ -6,7 +6,7 @@ ghost use Rattle.pcap_reader.specs.Capture.{max_captured, max_records};
 ghost use Rattle.pcap_reader.specs.Reader.{HasHeader, ReadsNext, ReadsStart, answer_in};
 ghost use Rattle.pcap_reader.specs.Start.{file_header_len};
 
-use crate::fault::CaptureFault;
+use crate::capture_fault::CaptureFault;
 use crate::fill::fill;
 use crate::start::{FILE_HEADER, RECORD_HEADER, Start, read_start};
 use crate::state::CaptureState;

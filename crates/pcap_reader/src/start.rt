@@ -3,7 +3,7 @@
 ghost use Rattle.std.specs.Prelude.{◌≡◌, length};
 ghost use Rattle.pcap_reader.specs.Start.{is_magic, order_of, link_of, or_fault, start_in};
 
-use crate::fault::CaptureFault;
+use crate::capture_fault::CaptureFault;
 use crate::header::{FileHeader, RecordHeader, file_header, record_header};
 use crate::link::Link;
 use byteorder::{BigEndian, LittleEndian};

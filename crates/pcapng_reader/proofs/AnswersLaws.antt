@@ -3,8 +3,8 @@ use Rattle.std.proofs.Common.{◌≡◌, ℕ, ◌<◌, List, [], ◌∷◌, ◌+
 use Rattle.std.proofs.Common.{refl, sym, subst, ap, ◌∙◌, append-nil, drop, arith}
 use Rattle.std.specs.List.{concat}
 use Rattle.std.proofs.lemmas.Bool.{false≢true}
-use Rattle.pcap_reader.specs.declared.fault.CaptureFault.{CaptureFault}
-use Rattle.pcap_reader.specs.declared.fault.CaptureFault.TheVariants.{ReadFault}
+use Rattle.pcap_reader.specs.declared.capture_fault.CaptureFault.{CaptureFault}
+use Rattle.pcap_reader.specs.declared.capture_fault.CaptureFault.TheVariants.{ReadFault}
 use Rattle.pcap_reader.specs.Answers.{onto_given, records_given, have_ending, recorded_by}
 use Rattle.pcap_reader.specs.State.{Answer, CaptureRecord}
 use Rattle.pcapng_reader.specs.Answers.{AreAnswersTo, AreAnswersOn}

@@ -5,8 +5,8 @@ use Rattle.std.proofs.Common.{Result, Ok, Err, inl, inr, refl, sym, subst, arith
 use Rattle.std.proofs.Common.{length-drop}
 use Rattle.std.specs.Prelude.{⊤, Bool}
 use Rattle.std.proofs.lemmas.Bool.{cases_eq, cases_lt}
-use Rattle.pcap_reader.specs.declared.fault.CaptureFault.{CaptureFault}
-use Rattle.pcap_reader.specs.declared.fault.CaptureFault.TheVariants.{PngCut, PngLength}
+use Rattle.pcap_reader.specs.declared.capture_fault.CaptureFault.{CaptureFault}
+use Rattle.pcap_reader.specs.declared.capture_fault.CaptureFault.TheVariants.{PngCut, PngLength}
 use Rattle.pcapng_reader.specs.Block.{BlockState, Block, End, Passed, Given, Fault}
 use Rattle.pcapng_reader.specs.Block.{front_len, least_len}
 use Rattle.pcapng_reader.specs.Block.{front_of}
@@ -15,7 +15,7 @@ use Rattle.pcapng_reader.specs.Block.{block_said, block_at}
 use Rattle.pcapng_reader.specs.declared.front.Front.{Front}
 use Rattle.pcapng_reader.specs.declared.said.Said.{Said}
 use Rattle.pcapng_reader.specs.declared.said.Said.TheVariants as said
-use Rattle.pcapng_reader.specs.Reading.{HasRoom, HasNoBlock}
+use Rattle.pcapng_reader.specs.BlockReading.{HasRoom, HasNoBlock}
 use Rattle.pcapng_reader.proofs.BlockLaws.{block-none, HasFront, HasFront-from, front_least, said-cut_head, said-fault, said-cut, said-other_end, said-whole, block-front_fault, block-said_fault, block-whole, said-room}
 
 -- a block takes its front away at least

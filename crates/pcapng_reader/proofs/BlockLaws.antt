@@ -6,11 +6,11 @@ use Rattle.std.proofs.Common.{length-append}
 use Rattle.std.specs.Prelude.{◌==◌, ⊤, Bool, not, nat_lt, slice_get}
 use Rattle.std.proofs.lemmas.Bool.{cases_eq, cases_lt, lt-ltb, le-ltb, ne_eqb, eq-eqb, false≢true, or_parts}
 use Rattle.std.proofs.lemmas.List.{drop-append-le}
-use Rattle.pcap_reader.specs.declared.fault.CaptureFault.{CaptureFault}
-use Rattle.pcap_reader.specs.declared.fault.CaptureFault.TheVariants.{RecordCut, RecordTooLong}
-use Rattle.pcap_reader.specs.declared.fault.CaptureFault.TheVariants.{TooManyRecords}
-use Rattle.pcap_reader.specs.declared.fault.CaptureFault.TheVariants.{PngCut, PngLength, PngOrder, PngVersion}
-use Rattle.pcap_reader.specs.declared.fault.CaptureFault.TheVariants.{PngInterface, PngLink, PngTooMany}
+use Rattle.pcap_reader.specs.declared.capture_fault.CaptureFault.{CaptureFault}
+use Rattle.pcap_reader.specs.declared.capture_fault.CaptureFault.TheVariants.{RecordCut, RecordTooLong}
+use Rattle.pcap_reader.specs.declared.capture_fault.CaptureFault.TheVariants.{TooManyRecords}
+use Rattle.pcap_reader.specs.declared.capture_fault.CaptureFault.TheVariants.{PngCut, PngLength, PngOrder, PngVersion}
+use Rattle.pcap_reader.specs.declared.capture_fault.CaptureFault.TheVariants.{PngInterface, PngLink, PngTooMany}
 use Rattle.pcap_reader.specs.declared.start.Order.{Order}
 use Rattle.pcap_reader.specs.declared.start.Order.TheVariants.{Big, Little}
 use Rattle.pcap_reader.specs.Capture.{max_captured}
@@ -27,7 +27,7 @@ use Rattle.pcapng_reader.specs.declared.kind.Kind.{Kind}
 use Rattle.pcapng_reader.specs.declared.kind.Kind.TheVariants.{Section, Interface, Packet, Other}
 use Rattle.pcapng_reader.specs.declared.said.Said.{Said}
 use Rattle.pcapng_reader.specs.declared.said.Said.TheVariants as said
-use Rattle.pcapng_reader.specs.Reading.{HasRoom}
+use Rattle.pcapng_reader.specs.BlockReading.{HasRoom}
 use Rattle.pcapng_reader.proofs.Steps.{refuse-no, refuse-stops, bind_ok, refuse_ok}
 
 -- no bytes are the end

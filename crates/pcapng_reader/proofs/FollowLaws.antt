@@ -4,7 +4,7 @@ use Rattle.std.proofs.Common.{Result, Ok, Err, inl, inr, refl, sym, subst, ap, �
 use Rattle.std.specs.Prelude.{⊤, Bool, nat_lt, if◌then◌else◌}
 use Rattle.std.proofs.lemmas.Bool.{cases_eq, cases_lt, eq-eqb, ne_eqb}
 use Rattle.std.proofs.lemmas.List.{drop-append-le}
-use Rattle.pcap_reader.specs.declared.fault.CaptureFault.{CaptureFault}
+use Rattle.pcap_reader.specs.declared.capture_fault.CaptureFault.{CaptureFault}
 use Rattle.pcap_reader.specs.declared.state.CaptureState.{CaptureState}
 use Rattle.pcap_reader.specs.State.{CaptureRecord}
 use Rattle.pcap_reader.specs.Headers.{record_header_of}
@@ -21,7 +21,7 @@ use Rattle.pcapng_reader.specs.Capture.{first_of, followed_by, max_records, next
 use Rattle.pcapng_reader.specs.Capture.{with_state}
 use Rattle.pcapng_reader.specs.Following.{FollowsWhole}
 use Rattle.pcapng_reader.specs.Reader.{count_of, progress_of, start_len, start_of}
-use Rattle.pcapng_reader.specs.Reading.{HasNoBlock}
+use Rattle.pcapng_reader.specs.BlockReading.{HasNoBlock}
 use Rattle.pcapng_reader.proofs.BlockLaws.{block_more, IsDecidedBlock}
 use Rattle.pcapng_reader.proofs.BlockLaws.{front_least, HasFront-from}
 use Rattle.pcapng_reader.proofs.PacketLaws.{CountsBlock, block-counts}

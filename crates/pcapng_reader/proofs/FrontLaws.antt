@@ -7,8 +7,8 @@ use Rattle.std.proofs.Common.{refl, sym, ap, ◌∙◌, length-drop, arith}
 use Rattle.std.proofs.lemmas.List.{take-append-le, drop-append-le}
 use Rattle.acl_outside.specs.Desk.{DeskView}
 use Rattle.acl_outside.specs.Heard.{GoesOn, Ended}
-use Rattle.pcap_reader.specs.declared.fault.CaptureFault.{CaptureFault}
-use Rattle.pcap_reader.specs.declared.fault.CaptureFault.TheVariants.{PngCut, PngLength, ReadFault}
+use Rattle.pcap_reader.specs.declared.capture_fault.CaptureFault.{CaptureFault}
+use Rattle.pcap_reader.specs.declared.capture_fault.CaptureFault.TheVariants.{PngCut, PngLength, ReadFault}
 use Rattle.pcap_reader.specs.Headers.{number_in}
 use Rattle.pcap_reader.specs.declared.link.Link.{Link}
 use Rattle.pcap_reader.specs.Capture.{max_captured}
@@ -19,7 +19,7 @@ use Rattle.pcapng_reader.specs.declared.said.Said.TheVariants as said
 use Rattle.pcapng_reader.specs.declared.kind.Kind.TheVariants.{Packet}
 use Rattle.pcapng_reader.specs.declared.blocks.BlockRead.{BlockRead}
 use Rattle.pcapng_reader.specs.declared.blocks.BlockRead.TheVariants as read
-use Rattle.pcapng_reader.specs.Reading.{HasRead, HasBroken, ReadsBlock, StandsWithin, block_read}
+use Rattle.pcapng_reader.specs.BlockReading.{HasRead, HasBroken, ReadsBlock, StandsWithin, block_read}
 use Rattle.pcapng_reader.proofs.BlockLaws.{HasFront-from, front_least, block-none, block-front_fault, front-cut}
 use Rattle.pcapng_reader.proofs.BlockLaws.{front-whole}
 use Rattle.pcapng_reader.proofs.Steps.{refuse-no}

@@ -5,9 +5,9 @@ use Rattle.std.proofs.lemmas.List.{take_at}
 use Rattle.acl_outside.specs.Desk.{DeskView}
 use Rattle.acl_outside.specs.Heard.{GoesOn, Ended}
 use Rattle.pcap_reader.specs.Capture.{max_captured}
-use Rattle.pcap_reader.specs.declared.fault.CaptureFault.TheVariants.{PngCut, ReadFault}
+use Rattle.pcap_reader.specs.declared.capture_fault.CaptureFault.TheVariants.{PngCut, ReadFault}
 use Rattle.pcapng_reader.specs.Block.{BlockState, End, Fault, is_last}
-use Rattle.pcapng_reader.specs.Reading.{HasRead, HasBroken, ReadsBlock}
+use Rattle.pcapng_reader.specs.BlockReading.{HasRead, HasBroken, ReadsBlock}
 use Rattle.pcapng_reader.proofs.FrontLaws.{front-end, front-short, front-broken}
 
 module _ (state : BlockState) (buffer into : List ℕ) (old new : DeskView) (room : length buffer ≡ max_captured)

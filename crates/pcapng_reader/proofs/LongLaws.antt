@@ -8,8 +8,8 @@ use Rattle.std.proofs.lemmas.List.{drop_all, drop_at, take_at}
 use Rattle.std.proofs.Math.Seq.{drop-append-add}
 use Rattle.acl_outside.specs.Desk.{DeskView}
 use Rattle.acl_outside.specs.Heard.{GoesOn, Ended}
-use Rattle.pcap_reader.specs.declared.fault.CaptureFault.{CaptureFault}
-use Rattle.pcap_reader.specs.declared.fault.CaptureFault.TheVariants.{PngCut, PngLength, ReadFault}
+use Rattle.pcap_reader.specs.declared.capture_fault.CaptureFault.{CaptureFault}
+use Rattle.pcap_reader.specs.declared.capture_fault.CaptureFault.TheVariants.{PngCut, PngLength, ReadFault}
 use Rattle.pcap_reader.specs.declared.start.Order.{Order}
 use Rattle.pcap_reader.specs.declared.start.Order.TheVariants.{Big, Little}
 use Rattle.pcap_reader.specs.Headers.{number_in}
@@ -17,7 +17,7 @@ use Rattle.pcapng_reader.specs.Block.{BlockState, Passed, Given, Fault, block_sa
 use Rattle.pcap_reader.specs.Capture.{max_captured}
 use Rattle.pcapng_reader.specs.Block.{head_len, least_len, said_by, state_said}
 use Rattle.pcapng_reader.specs.Block.{max_interfaces, refuse}
-use Rattle.pcap_reader.specs.declared.fault.CaptureFault.TheVariants.{PngVersion, PngTooMany}
+use Rattle.pcap_reader.specs.declared.capture_fault.CaptureFault.TheVariants.{PngVersion, PngTooMany}
 use Rattle.pcap_reader.specs.declared.link.Link.{Link}
 use Rattle.pcapng_reader.specs.declared.kind.Kind.{Kind}
 use Rattle.pcapng_reader.specs.declared.kind.Kind.TheVariants.{Section, Interface, Packet, Other}
@@ -25,8 +25,8 @@ use Rattle.pcapng_reader.proofs.Steps.{bind_ok}
 use Rattle.pcapng_reader.specs.declared.front.Front.{Front}
 use Rattle.pcapng_reader.specs.declared.said.Said.{Said}
 use Rattle.pcapng_reader.specs.declared.said.Said.TheVariants as said
-use Rattle.pcapng_reader.specs.Reading.{HasRead, HasBroken, HasRoom, BlockStands, IsHead, ReadsBlock, block_read}
-use Rattle.pcapng_reader.specs.Reading.{EndIn, captured_by, read_of}
+use Rattle.pcapng_reader.specs.BlockReading.{HasRead, HasBroken, HasRoom, BlockStands, IsHead, ReadsBlock, block_read}
+use Rattle.pcapng_reader.specs.BlockReading.{EndIn, captured_by, read_of}
 use Rattle.pcapng_reader.proofs.BlockLaws.{HasFront-from, front-append, said-append, said-cut_head}
 use Rattle.pcapng_reader.proofs.BlockLaws.{said-fault, said-cut, said-other_end, said-whole, block-said_fault}
 use Rattle.pcapng_reader.proofs.BlockLaws.{block-whole}

@@ -2,8 +2,8 @@
 use Rattle.std.proofs.Common.{◌≡◌, ℕ, zero, suc, ◌<◌, ◌≤◌, List, [], ◌++◌, length}
 use Rattle.std.proofs.Common.{inl, inr, refl, sym, subst, ap, ◌∙◌, append_assoc, arith}
 use Rattle.std.specs.Prelude.{◌⊎◌, ⊤}
-use Rattle.pcap_reader.specs.declared.fault.CaptureFault.{CaptureFault}
-use Rattle.pcap_reader.specs.declared.fault.CaptureFault.TheVariants.{RecordCut, PngCut}
+use Rattle.pcap_reader.specs.declared.capture_fault.CaptureFault.{CaptureFault}
+use Rattle.pcap_reader.specs.declared.capture_fault.CaptureFault.TheVariants.{RecordCut, PngCut}
 use Rattle.pcap_reader.specs.State.{CaptureRecord}
 use Rattle.pcap_reader.specs.Capture as savefile
 use Rattle.pcap_reader.proofs.Offered.{IsDecided, next_of-append as savefile-append, IsShorter}
@@ -14,7 +14,7 @@ use Rattle.pcapng_reader.specs.declared.front.Front.{Front}
 use Rattle.pcapng_reader.specs.declared.said.Said.{Said}
 use Rattle.pcapng_reader.specs.declared.said.Said.TheVariants as said
 use Rattle.pcapng_reader.specs.Reader.{HasNoRecord}
-use Rattle.pcapng_reader.specs.Reading.{HasNoBlock}
+use Rattle.pcapng_reader.specs.BlockReading.{HasNoBlock}
 use Rattle.pcapng_reader.proofs.BlockLaws.{HasFront-from, front_least}
 use Rattle.pcapng_reader.specs.Block as block
 use Rattle.pcapng_reader.specs.Capture.{AnyState, Savefile, Blocks, Next, End, Record, Fault, with_state, past_block}

@@ -6,10 +6,10 @@ use Rattle.std.specs.Prelude.{⊤, nat_lt}
 use Rattle.std.proofs.lemmas.Bool.{cases_lt, lt-ltb, false≢true, or_parts}
 use Rattle.acl_outside.specs.Desk.{DeskView}
 use Rattle.acl_outside.specs.Heard.{Ending, GoesOn, Ended}
-use Rattle.acl_outside.specs.Reading.{ReadsOn, and_goes_on}
+use Rattle.acl_outside.specs.DeskReading.{ReadsOn, and_goes_on}
 use Rattle.acl_outside.proofs.Offered.{ReadsOn-none, ReadsOn-then}
-use Rattle.pcap_reader.specs.declared.fault.CaptureFault.{CaptureFault}
-use Rattle.pcap_reader.specs.declared.fault.CaptureFault.TheVariants.{ReadFault}
+use Rattle.pcap_reader.specs.declared.capture_fault.CaptureFault.{CaptureFault}
+use Rattle.pcap_reader.specs.declared.capture_fault.CaptureFault.TheVariants.{ReadFault}
 use Rattle.pcap_reader.specs.Capture.{max_records}
 use Rattle.acl_outside.specs.Fault.{Rose}
 use Rattle.pcap_reader.specs.Fill.{KeepsReading, IsAtEnd}
@@ -24,7 +24,7 @@ use Rattle.pcapng_reader.specs.declared.said.Said.{Said}
 use Rattle.pcapng_reader.specs.declared.said.Said.TheVariants as said
 use Rattle.pcapng_reader.specs.Packets.{Finds, Counts}
 use Rattle.pcapng_reader.specs.Reader.{AnswerStands, HasNoRecord, IsEnd, IsNext}
-use Rattle.pcapng_reader.specs.Reading.{HasNoBlock, ReadsBlock, stands}
+use Rattle.pcapng_reader.specs.BlockReading.{HasNoBlock, ReadsBlock, stands}
 use Rattle.pcapng_reader.proofs.BlockLaws.{IsDecidedBlock, block_more}
 use Rattle.pcapng_reader.proofs.NextLaws.{block_of-append, next-passed, next-given, next-end, next-fault}
 use Rattle.pcapng_reader.proofs.BlockEnds.{Came, Empty, Faulty, Whole, came}

@@ -8,13 +8,13 @@ use Rattle.std.proofs.Math.Seq.{take-append-add}
 use Rattle.std.proofs.lemmas.List.{take_all}
 use Rattle.acl_outside.specs.Desk.{DeskView}
 use Rattle.acl_outside.specs.Heard.{Ending, GoesOn, Ended, BrokenOff}
-use Rattle.acl_outside.specs.Reading.{ReadsOn}
+use Rattle.acl_outside.specs.DeskReading.{ReadsOn}
 use Rattle.acl_outside.proofs.Offered.{ReadsOn-none, ReadsOn-then}
-use Rattle.pcap_reader.specs.declared.fault.CaptureFault.{CaptureFault}
+use Rattle.pcap_reader.specs.declared.capture_fault.CaptureFault.{CaptureFault}
 use Rattle.std.specs.Prelude.{◌⊎◌, ⊤, Bool, ◌==◌, true, false, not, nat_lt, slice_get}
-use Rattle.pcap_reader.specs.declared.fault.CaptureFault.TheVariants.{HeaderCut, RecordCut, RecordTooLong, ReadFault}
-use Rattle.pcap_reader.specs.declared.fault.CaptureFault.TheVariants.{PngCut, PngLength, PngOrder, PngVersion}
-use Rattle.pcap_reader.specs.declared.fault.CaptureFault.TheVariants.{PngInterface, PngLink, PngTooMany}
+use Rattle.pcap_reader.specs.declared.capture_fault.CaptureFault.TheVariants.{HeaderCut, RecordCut, RecordTooLong, ReadFault}
+use Rattle.pcap_reader.specs.declared.capture_fault.CaptureFault.TheVariants.{PngCut, PngLength, PngOrder, PngVersion}
+use Rattle.pcap_reader.specs.declared.capture_fault.CaptureFault.TheVariants.{PngInterface, PngLink, PngTooMany}
 use Rattle.pcap_reader.specs.Headers.{number_in}
 use Rattle.pcap_reader.specs.Start.{◌>>=◌, or_fault}
 use Rattle.pcap_reader.specs.Fill.{KeepsReading, IsAtEnd, Fills}
@@ -32,8 +32,8 @@ use Rattle.pcapng_reader.specs.declared.front.Front.{Front}
 use Rattle.pcapng_reader.specs.declared.kind.Kind.{Kind}
 use Rattle.pcapng_reader.specs.declared.kind.Kind.TheVariants.{Section, Interface, Packet, Other}
 use Rattle.pcapng_reader.proofs.BlockLaws.{front-whole}
-use Rattle.pcapng_reader.specs.Reading.{HasRead, HasBroken, ReadsPart, ReadsMore, HasNoBlock, BlockStands, FaultStands}
-use Rattle.pcapng_reader.specs.Reading.{IsBlock, ReadsBlock, block_read, stands}
+use Rattle.pcapng_reader.specs.BlockReading.{HasRead, HasBroken, ReadsPart, ReadsMore, HasNoBlock, BlockStands, FaultStands}
+use Rattle.pcapng_reader.specs.BlockReading.{IsBlock, ReadsBlock, block_read, stands}
 use Rattle.pcapng_reader.specs.declared.blocks.BlockRead.{BlockRead}
 
 -- nothing was read yet but what was read before

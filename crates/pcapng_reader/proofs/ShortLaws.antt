@@ -9,8 +9,8 @@ use Rattle.std.proofs.lemmas.List.{drop_all, take-append-drop}
 use borrow.Rule.Slice.PartMut.{put_mid}
 use Rattle.acl_outside.specs.Desk.{DeskView}
 use Rattle.acl_outside.specs.Heard.{GoesOn, Ended}
-use Rattle.pcap_reader.specs.declared.fault.CaptureFault.{CaptureFault}
-use Rattle.pcap_reader.specs.declared.fault.CaptureFault.TheVariants.{PngCut, PngLength, ReadFault}
+use Rattle.pcap_reader.specs.declared.capture_fault.CaptureFault.{CaptureFault}
+use Rattle.pcap_reader.specs.declared.capture_fault.CaptureFault.TheVariants.{PngCut, PngLength, ReadFault}
 use Rattle.pcap_reader.specs.Fill.{Fills}
 use Rattle.pcapng_reader.specs.Block.{BlockState, Passed, Given, Fault, block_said, front_of, front_len}
 use Rattle.pcapng_reader.specs.Block.{least_len}
@@ -18,7 +18,7 @@ use Rattle.pcapng_reader.specs.Block.{has_other_end, is_last, said_by, state_sai
 use Rattle.pcapng_reader.specs.declared.front.Front.{Front}
 use Rattle.pcapng_reader.specs.declared.said.Said.{Said}
 use Rattle.pcapng_reader.specs.declared.said.Said.TheVariants as said
-use Rattle.pcapng_reader.specs.Reading.{HasRead, BlockStands, ReadsBlock, block_read, read_of}
+use Rattle.pcapng_reader.specs.BlockReading.{HasRead, BlockStands, ReadsBlock, block_read, read_of}
 use Rattle.pcapng_reader.proofs.BlockLaws.{HasFront-from, front_least, front-append, said-append, said-cut_head}
 use Rattle.pcapng_reader.proofs.BlockLaws.{said-fault, said-cut, said-other_end, said-whole, block-said_fault}
 use Rattle.pcapng_reader.proofs.BlockLaws.{block-whole}

@@ -11,10 +11,10 @@ use Rattle.std.proofs.lemmas.List.{take_all, drop_at, drop_all, take-append-drop
 use Rattle.acl_outside.specs.Fault.{Rose}
 use Rattle.acl_outside.specs.Told.{Changes}
 use Rattle.acl_outside.specs.Desk.{Content, DeskView, Gives}
-use Rattle.acl_outside.specs.Reading.{ReadsOn}
+use Rattle.acl_outside.specs.DeskReading.{ReadsOn}
 use Rattle.acl_outside.proofs.Offered.{ReadsOn-then}
-use Rattle.pcap_reader.specs.declared.fault.CaptureFault.{CaptureFault}
-use Rattle.pcap_reader.specs.declared.fault.CaptureFault.TheVariants.{HeaderCut, ReadFault}
+use Rattle.pcap_reader.specs.declared.capture_fault.CaptureFault.{CaptureFault}
+use Rattle.pcap_reader.specs.declared.capture_fault.CaptureFault.TheVariants.{HeaderCut, ReadFault}
 use Rattle.pcap_reader.specs.declared.start.Start.{Start}
 use Rattle.pcap_reader.specs.Start.{start_of as savefile_start, file_header_len}
 use Rattle.pcap_reader.specs.State.{begun as begun_savefile}

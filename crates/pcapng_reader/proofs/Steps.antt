@@ -1,7 +1,7 @@
 -- Steps of a reading that may be refused.
 use Rattle.std.proofs.Common.{◌≡◌, true, false, Result, Ok, Err, refl}
 use Rattle.std.specs.Prelude.{Bool}
-use Rattle.pcap_reader.specs.declared.fault.CaptureFault.{CaptureFault}
+use Rattle.pcap_reader.specs.declared.capture_fault.CaptureFault.{CaptureFault}
 use Rattle.pcap_reader.specs.Start.{◌>>=◌}
 use Rattle.pcapng_reader.specs.Block.{refuse}
 

@@ -6,8 +6,8 @@ use Rattle.std.proofs.lemmas.Bool.{false≢true}
 use Rattle.acl_outside.specs.Told.{Changes}
 use Rattle.acl_outside.specs.Desk.{Content, DeskView, Gives}
 use Rattle.acl_outside.specs.Heard.{Ending, GoesOn, Ended, BrokenOff}
-use Rattle.acl_outside.specs.Reading.{ReadsOn}
-use Rattle.pcap_reader.specs.declared.fault.CaptureFault.TheVariants.{HeaderCut, RecordCut, PngCut, ReadFault}
+use Rattle.acl_outside.specs.DeskReading.{ReadsOn}
+use Rattle.pcap_reader.specs.declared.capture_fault.CaptureFault.TheVariants.{HeaderCut, RecordCut, PngCut, ReadFault}
 use Rattle.pcap_reader.specs.declared.state.CaptureState.{CaptureState}
 use Rattle.pcap_reader.specs.declared.state.Progress.{Progress}
 use Rattle.pcap_reader.specs.declared.state.Progress.TheVariants as progress
@@ -19,7 +19,7 @@ use Rattle.pcapng_reader.specs.Capture.{AnyState, Savefile, Blocks, Record, next
 use Rattle.pcapng_reader.specs.Packets.{Finds, Counts}
 use Rattle.pcapng_reader.specs.Reader.{AnswerStands, GoesTo, HasNoRecord, IsEnd, IsNext, TakesNext}
 use Rattle.pcapng_reader.specs.Reader.{progress_of}
-use Rattle.pcapng_reader.specs.Reading.{stands}
+use Rattle.pcapng_reader.specs.BlockReading.{stands}
 use Rattle.pcapng_reader.proofs.NextLaws.{IsDecidedNext, next_more, next-append}
 
 -- all that was left was given

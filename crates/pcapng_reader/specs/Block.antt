@@ -5,11 +5,11 @@ use Rattle.std.specs.Prelude.{ℕ, ◌+◌, ◌-◌, ◌*◌, ◌/◌, ◌%◌, 
 use Rattle.std.specs.Prelude.{drop, nat_lt}
 use Rattle.std.specs.Prelude.{Bool, ◌||◌, not, Option, Some, None, Result, Ok, Err, slice_get}
 use Rattle.std.specs.Prelude.{if◌then◌else◌}
-use Rattle.pcap_reader.specs.declared.fault.CaptureFault.{CaptureFault}
-use Rattle.pcap_reader.specs.declared.fault.CaptureFault.TheVariants.{RecordTooLong, TooManyRecords}
-use Rattle.pcap_reader.specs.declared.fault.CaptureFault.TheVariants.{PngCut, PngLength, PngOrder}
-use Rattle.pcap_reader.specs.declared.fault.CaptureFault.TheVariants.{PngVersion, PngInterface}
-use Rattle.pcap_reader.specs.declared.fault.CaptureFault.TheVariants.{PngLink, PngTooMany}
+use Rattle.pcap_reader.specs.declared.capture_fault.CaptureFault.{CaptureFault}
+use Rattle.pcap_reader.specs.declared.capture_fault.CaptureFault.TheVariants.{RecordTooLong, TooManyRecords}
+use Rattle.pcap_reader.specs.declared.capture_fault.CaptureFault.TheVariants.{PngCut, PngLength, PngOrder}
+use Rattle.pcap_reader.specs.declared.capture_fault.CaptureFault.TheVariants.{PngVersion, PngInterface}
+use Rattle.pcap_reader.specs.declared.capture_fault.CaptureFault.TheVariants.{PngLink, PngTooMany}
 use Rattle.pcap_reader.specs.declared.link.Link.{Link}
 use Rattle.pcap_reader.specs.declared.start.Order.{Order}
 use Rattle.pcap_reader.specs.declared.start.Order.TheVariants.{Big, Little}

@@ -1,7 +1,7 @@
 -- What a reader of captures shows, by its format.
 use Rattle.std.specs.Prelude.{Result, Ok, Err}
 use Rattle.acl_outside.specs.Desk.{DeskView}
-use Rattle.pcap_reader.specs.declared.fault.CaptureFault.{CaptureFault}
+use Rattle.pcap_reader.specs.declared.capture_fault.CaptureFault.{CaptureFault}
 use Rattle.pcapng_reader.specs.Reader.{ReadsStart}
 use Rattle.pcapng_reader.specs.declared.any.Format.{Format}
 use Rattle.pcapng_reader.specs.declared.any.Format.TheVariants as format

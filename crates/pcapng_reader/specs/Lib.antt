@@ -1,7 +1,7 @@
 pub mod Block
 pub mod Capture
 pub mod CaptureExamples
-pub mod Reading
+pub mod BlockReading
 pub mod Reader
 pub mod Answers
 pub mod Following

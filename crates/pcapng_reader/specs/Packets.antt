@@ -3,15 +3,15 @@ use Rattle.std.specs.Prelude.{◌≡◌, ℕ, ◌+◌, List, [], Option, Some, N
 use Rattle.acl_outside.specs.Fault.{Rose}
 use Rattle.acl_outside.specs.Desk.{DeskView}
 use Rattle.acl_outside.specs.Heard.{Ending, Ended}
-use Rattle.acl_outside.specs.Reading.{ReadsOn}
-use Rattle.pcap_reader.specs.declared.fault.CaptureFault.{CaptureFault}
-use Rattle.pcap_reader.specs.declared.fault.CaptureFault.TheVariants.{ReadFault}
+use Rattle.acl_outside.specs.DeskReading.{ReadsOn}
+use Rattle.pcap_reader.specs.declared.capture_fault.CaptureFault.{CaptureFault}
+use Rattle.pcap_reader.specs.declared.capture_fault.CaptureFault.TheVariants.{ReadFault}
 use Rattle.pcap_reader.specs.Fill.{KeepsReading, IsAtEnd}
 use Rattle.pcap_reader.specs.State.{Answer}
 use Rattle.pcapng_reader.specs.Block.{BlockState}
 use Rattle.pcapng_reader.specs.Capture.{Blocks}
 use Rattle.pcapng_reader.specs.Reader.{AnswerStands, IsNext}
-use Rattle.pcapng_reader.specs.Reading.{packet_in, stands}
+use Rattle.pcapng_reader.specs.BlockReading.{packet_in, stands}
 use Rattle.pcapng_reader.specs.declared.blocks.Place.{Place}
 
 -- what a capture of blocks shows: what its reader knows, and the bytes in its buffer

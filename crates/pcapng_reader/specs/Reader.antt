@@ -6,11 +6,11 @@ use Rattle.acl_outside.specs.Fault.{Rose}
 use Rattle.acl_outside.specs.Told.{Changes}
 use Rattle.acl_outside.specs.Desk.{DeskView}
 use Rattle.acl_outside.specs.Heard.{Heard, Ending, GoesOn, Ended}
-use Rattle.acl_outside.specs.Reading.{ReadsOn, and_goes_on}
-use Rattle.pcap_reader.specs.declared.fault.BeginFault.{BeginFault}
-use Rattle.pcap_reader.specs.declared.fault.BeginFault.TheVariants as begin_faults
-use Rattle.pcap_reader.specs.declared.fault.CaptureFault.{CaptureFault}
-use Rattle.pcap_reader.specs.declared.fault.CaptureFault.TheVariants.{HeaderCut, ReadFault}
+use Rattle.acl_outside.specs.DeskReading.{ReadsOn, and_goes_on}
+use Rattle.pcap_reader.specs.declared.capture_fault.BeginFault.{BeginFault}
+use Rattle.pcap_reader.specs.declared.capture_fault.BeginFault.TheVariants as begin_faults
+use Rattle.pcap_reader.specs.declared.capture_fault.CaptureFault.{CaptureFault}
+use Rattle.pcap_reader.specs.declared.capture_fault.CaptureFault.TheVariants.{HeaderCut, ReadFault}
 use Rattle.pcap_reader.specs.declared.link.Link.{Link}
 use Rattle.pcap_reader.specs.declared.state.Progress.{Progress}
 use Rattle.pcap_reader.specs.declared.state.Progress.TheVariants as progress
@@ -19,7 +19,7 @@ use Rattle.pcap_reader.specs.Reader.{BreaksOffAt, after_fault, is_cut}
 use Rattle.pcap_reader.specs.Start.{◌>>=◌, start_of as savefile_start, file_header_len}
 use Rattle.pcap_reader.specs.State.{Answer, begun as begun_savefile, has_ended}
 use Rattle.pcapng_reader.specs.Capture.{AnyState, Savefile, Blocks, Next, End, Record, Fault}
-use Rattle.pcapng_reader.specs.Reading.{FaultStands, stands}
+use Rattle.pcapng_reader.specs.BlockReading.{FaultStands, stands}
 use Rattle.pcapng_reader.specs.Capture.{begun_blocks, is_blocks, next_of, section_bytes}
 
 -- how many records were given

@@ -7,10 +7,10 @@ ghost use Rattle.acl_outside.specs.Heard.{GoesOn};
 ghost use Rattle.pcap_reader.specs.Capture.{max_captured};
 ghost use Rattle.pcapng_reader.specs.Block.{BlockState, front_len, front_of, is_last};
 ghost use Rattle.pcapng_reader.specs.Capture.{section_bytes};
-ghost use Rattle.pcapng_reader.specs.Reading.{HasRead, HasRest};
-ghost use Rattle.pcapng_reader.specs.Reading.{ReadsBlock, ReadsPart};
-ghost use Rattle.pcapng_reader.specs.Reading.{StandsWithin, Stays, block_read};
-ghost use Rattle.pcapng_reader.specs.Reading.{read_of};
+ghost use Rattle.pcapng_reader.specs.BlockReading.{HasRead, HasRest};
+ghost use Rattle.pcapng_reader.specs.BlockReading.{ReadsBlock, ReadsPart};
+ghost use Rattle.pcapng_reader.specs.BlockReading.{StandsWithin, Stays, block_read};
+ghost use Rattle.pcapng_reader.specs.BlockReading.{read_of};
 
 use crate::front::Front;
 use crate::long::read_long;

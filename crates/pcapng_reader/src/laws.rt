@@ -3,7 +3,7 @@
 
 ghost use Rattle.std.specs.Prelude.{◌≡◌, List, ℕ, [], ◌++◌, None, Ok, Err, drop, true};
 ghost use Rattle.std.specs.List.{concat};
-ghost use Rattle.pcap_reader.specs.declared.fault.CaptureFault.{CaptureFault};
+ghost use Rattle.pcap_reader.specs.declared.capture_fault.CaptureFault.{CaptureFault};
 ghost use Rattle.pcap_reader.specs.Answers.{have_ending, recorded_by, records_given};
 ghost use Rattle.pcap_reader.specs.State.{Answer, CaptureRecord};
 ghost use Rattle.pcapng_reader.specs.Answers.{AreAnswersOn, AreAnswersTo};

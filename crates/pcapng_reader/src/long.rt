@@ -5,9 +5,9 @@ ghost use Rattle.acl_outside.specs.Desk.{DeskView};
 ghost use Rattle.acl_outside.specs.Heard.{GoesOn};
 ghost use Rattle.pcap_reader.specs.Capture.{max_captured};
 ghost use Rattle.pcapng_reader.specs.Block.{BlockState, front_len, front_of, is_last};
-ghost use Rattle.pcapng_reader.specs.Reading.{EndIn, HasRead, HasRoom, IsHead, ReadsBlock};
-ghost use Rattle.pcapng_reader.specs.Reading.{ReadsMore, StandsWithin, Stays, block_read};
-ghost use Rattle.pcapng_reader.specs.Reading.{captured_by};
+ghost use Rattle.pcapng_reader.specs.BlockReading.{EndIn, HasRead, HasRoom, IsHead, ReadsBlock};
+ghost use Rattle.pcapng_reader.specs.BlockReading.{ReadsMore, StandsWithin, Stays, block_read};
+ghost use Rattle.pcapng_reader.specs.BlockReading.{captured_by};
 ghost use Rattle.pcapng_reader.specs.declared.long.TheConstants.{PIECE_LEN};
 
 use crate::blocks::{BlockRead, FRONT_LEN, read_of};

@@ -7,7 +7,7 @@ ghost use Rattle.pcapng_reader.specs.Block.{interface_said, packet_said, section
 ghost use Rattle.pcap_reader.specs.Capture.{max_captured};
 ghost use Rattle.pcap_reader.specs.State.{has_ended};
 ghost use Rattle.pcapng_reader.specs.Capture.{begun_blocks, section_bytes};
-ghost use Rattle.pcapng_reader.specs.Reading.{HasRoom, IsPacketAt};
+ghost use Rattle.pcapng_reader.specs.BlockReading.{HasRoom, IsPacketAt};
 
 use crate::blocks::{CAPTURED_AT, Place};
 use crate::front::Front;

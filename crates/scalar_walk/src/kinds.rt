@@ -6,19 +6,13 @@
 ghost use Rattle.std.specs.Prelude.{◌≡◌};
 ghost use Rattle.flat_table.specs.Word.{kind_of};
 
-use flat_table::INDEX_BITS;
-
-/// The bits of a word that are its index and its kind.
-pub(crate) const LOW_HALF: u64 = 0xFFFF_FFFF;
+use flat_table::{INDEX_BITS, LOW_HALF};
 
 /// The kind of a full node.
 pub(crate) const FULL: u32 = flat_table::FULL as u32;
 
 /// That of a single node.
 pub(crate) const SINGLE: u32 = flat_table::SINGLE as u32;
-
-/// That of a match.
-pub(crate) const MATCH: u32 = flat_table::MATCH as u32;
 
 /// The kind of a word.
 pub(crate) fn kind_of(word: u64) -> u32

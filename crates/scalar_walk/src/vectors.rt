@@ -20,8 +20,8 @@ ghost use Rattle.flat_table.specs.Word.{full, indexes, quad, is_node, next_place
 ghost use Rattle.scalar_walk.specs.Lanes.{IsGroupLen, word_in, sum_below};
 ghost use Rattle.scalar_walk.specs.Rows.{CanGoOn, GoesOn};
 
-use crate::kinds::{FULL, LOW_HALF};
-use flat_table::INDEX_BITS;
+use crate::kinds::FULL;
+use flat_table::{INDEX_BITS, LOW_HALF};
 use std::simd::{u8x16, u32x4, u64x2};
 
 /// The bits of the index.

@@ -3,11 +3,11 @@
 ghost use Rattle.std.specs.Prelude.{◌≡◌, ◌+◌, ◌<◌, ◌≤◌, length, true, false};
 ghost use Rattle.table_sizes.specs.Groups.{max_key_len};
 ghost use Rattle.flat_table.specs.Table.{places_of};
-ghost use Rattle.flat_table.specs.Word.{is_match, is_node, next_place};
+ghost use Rattle.flat_table.specs.Word.{is_node, next_place};
 ghost use Rattle.flat_table.specs.Walk.{walk_row, walk_transitions};
 
-use crate::kinds::{FULL, MATCH, SINGLE, kind_of};
-use flat_table::{Steps, Table, boundaries_below, index_of};
+use crate::kinds::{FULL, SINGLE, kind_of};
+use flat_table::{Steps, Table, boundaries_below, index_of, is_end};
 use std::sync::ledger::Ledger;
 
 /// Where a walk ended, and after how many transitions.
@@ -31,14 +31,6 @@ fn place_after(word: u64, byte: u8) -> usize
         FULL => index + usize::from(byte),
         _ => index + boundaries_below(word, byte),
     }
-}
-
-/// Whether the word is a match. It is one or leads to a node, and no node has as great a kind.
-fn is_end(word: u64) -> bool
-    requires { is_match word ≡ false → is_node word ≡ true }
-    ensures { result ≡ is_match word }
-{
-    kind_of(word) >= MATCH
 }
 
 /// The walk of the key through the trie.

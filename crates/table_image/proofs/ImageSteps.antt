@@ -1,12 +1,12 @@
 -- An image is read step by step: its version, its two tables and its end.
 use Rattle.std.proofs.Common.{◌≡◌, ℕ, List, length, refl, ◌∙◌, Bool, true, false, Ok, Err}
 use Rattle.std.specs.Prelude.{◌==◌}
-use Rattle.table_image.specs.declared.fault.ImageFault.{ImageFault}
-use Rattle.table_image.specs.declared.fault.LoadFault.{LoadFault}
-use Rattle.table_image.specs.declared.fault.ImageKind.{ImageKind}
-use Rattle.table_image.specs.declared.fault.ImageKind.TheVariants.{Trailing}
+use Rattle.table_image.specs.declared.load_fault.ImageFault.{ImageFault}
+use Rattle.table_image.specs.declared.load_fault.LoadFault.{LoadFault}
+use Rattle.table_image.specs.declared.load_fault.ImageKind.{ImageKind}
+use Rattle.table_image.specs.declared.load_fault.ImageKind.TheVariants.{Trailing}
 use Rattle.table_image.specs.declared.version.Version.{Version}
-use Rattle.table_image.specs.Reading.{◌>>=◌, checked, TableRead, table_read, version_read, pair_read, image_of}
+use Rattle.table_image.specs.ImageReading.{◌>>=◌, checked, TableRead, table_read, version_read, pair_read, image_of}
 use Rattle.table_image.specs.Loading.{IsFaultOf}
 use Rattle.table_image.proofs.Readings.{of_check, check_passed}
 use Rattle.table_image.proofs.Loops.{fault_of_both, fault_of_same}

@@ -8,12 +8,12 @@ use Rattle.std.proofs.Math.Path.{subst}
 use Rattle.flat_table.specs.Table.{TableView}
 use Rattle.table_image.specs.declared.version.Version.{Version}
 use Rattle.table_image.specs.declared.version.Version.TheVariants.{One, Two}
-use Rattle.table_image.specs.declared.fault.ImageKind.TheVariants.{Magic, Trailing}
-use Rattle.table_image.specs.declared.fault.ImageKind.TheVariants as kind
+use Rattle.table_image.specs.declared.load_fault.ImageKind.TheVariants.{Magic, Trailing}
+use Rattle.table_image.specs.declared.load_fault.ImageKind.TheVariants as kind
 use Rattle.table_image.specs.Spelling.{PairView, magic, short, spelled, spelled_table, spelled_pair}
 use Rattle.table_image.specs.Spelling.{number_of_version, IsSaved, IsImage}
-use Rattle.table_image.specs.Reading.{◌>>=◌, checked, tested, TableRead, table_read, version_of, version_read}
-use Rattle.table_image.specs.Reading.{pair_read, image_of}
+use Rattle.table_image.specs.ImageReading.{◌>>=◌, checked, tested, TableRead, table_read, version_of, version_read}
+use Rattle.table_image.specs.ImageReading.{pair_read, image_of}
 use Rattle.table_image.proofs.Fields.{AreBytes}
 use Rattle.table_image.proofs.Readings.{of_both, both, of_check, check_passed}
 use Rattle.table_image.proofs.NumbersRead.{fits, tested_read, tested_spelled, after_field}

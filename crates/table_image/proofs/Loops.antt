@@ -1,17 +1,17 @@
 -- One more number, trie, level or row is read after those so far.
 use Rattle.std.proofs.Common.{◌≡◌, ℕ, ◌+◌, ◌*◌, List, [], ◌∷◌, ◌++◌, length, refl, sym, ap, ◌∙◌, arith, Bool, Ok, Err}
 use Rattle.std.proofs.Common.{add-one, take, drop, sum, map, get_or, ◌<◌, ◌≤◌}
-use Rattle.table_image.specs.declared.fault.ImageKind.{ImageKind}
-use Rattle.table_image.specs.declared.fault.ImageFault.{ImageFault}
-use Rattle.table_image.specs.declared.fault.LoadFault.{LoadFault}
-use Rattle.table_image.specs.declared.fault.LoadFault.TheVariants.{Image, OutOfMemory}
+use Rattle.table_image.specs.declared.load_fault.ImageKind.{ImageKind}
+use Rattle.table_image.specs.declared.load_fault.ImageFault.{ImageFault}
+use Rattle.table_image.specs.declared.load_fault.LoadFault.{LoadFault}
+use Rattle.table_image.specs.declared.load_fault.LoadFault.TheVariants.{Image, OutOfMemory}
 use Rattle.table_image.specs.declared.version.Version.{Version}
-use Rattle.table_image.specs.Reading.{Reading, ◌>>=◌, checked, field, tested, numbers_after, TriesView, one_trie}
-use Rattle.table_image.specs.Reading.{tries_after}
-use Rattle.table_image.specs.Reading.{numbers, level_fits, trie_of, words_of_levels, words_of_tries, rows_after}
-use Rattle.table_image.specs.Reading.{row_bytes}
+use Rattle.table_image.specs.ImageReading.{Reading, ◌>>=◌, checked, field, tested, numbers_after, TriesView, one_trie}
+use Rattle.table_image.specs.ImageReading.{tries_after}
+use Rattle.table_image.specs.ImageReading.{numbers, level_fits, trie_of, words_of_levels, words_of_tries, rows_after}
+use Rattle.table_image.specs.ImageReading.{row_bytes}
 use Rattle.table_image.specs.Spelling.{short, long, kept_len, is_row_word}
-use Rattle.table_image.specs.declared.fault.ImageKind.TheVariants.{TooMany, Unsound, RowForm}
+use Rattle.table_image.specs.declared.load_fault.ImageKind.TheVariants.{TooMany, Unsound, RowForm}
 use Rattle.table_sizes.specs.Sizes.{row_len}
 use Rattle.flat_table.specs.Table.{levels_from, portions}
 use Rattle.flat_table.specs.Sound.{leads_into, is_sound_word, first_level}

@@ -11,10 +11,10 @@ use Rattle.std.proofs.lemmas.Bool.Decides.{nat_tests}
 use Rattle.std.proofs.lemmas.Bool.{lt-ltb, le-leb, ltb-true, leb-true, and_parts, and_from}
 use Rattle.byte_numbers.specs.Number.{number_of, number_at}
 use Rattle.table_sizes.specs.Sizes.{max_words}
-use Rattle.table_image.specs.declared.fault.ImageKind.{ImageKind}
-use Rattle.table_image.specs.declared.fault.ImageKind.TheVariants.{Length}
+use Rattle.table_image.specs.declared.load_fault.ImageKind.{ImageKind}
+use Rattle.table_image.specs.declared.load_fault.ImageKind.TheVariants.{Length}
 use Rattle.table_image.specs.Spelling.{spelled, all_spelled}
-use Rattle.table_image.specs.Reading.{checked, field, tested, numbers_after, level_fits}
+use Rattle.table_image.specs.ImageReading.{checked, field, tested, numbers_after, level_fits}
 use Rattle.table_image.proofs.Fields.{AreBytes, spelled_again, length_spelled, read_again, fold_below}
 use Rattle.list_lemmas.proofs.Rests.{after, within, RestAt, joined}
 use Rattle.table_image.proofs.Readings.{of_both, both, of_check, check_passed}

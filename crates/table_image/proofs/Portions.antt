@@ -6,10 +6,10 @@ use Rattle.std.proofs.lemmas.Bool.Decides.{nat_tests}
 use Rattle.std.proofs.lemmas.List.{length-replicate, drop-drop}
 use Rattle.std.proofs.Math.Seq.{take-append_seam}
 use Rattle.byte_numbers.specs.Number.{number_at, number_of}
-use Rattle.table_image.specs.declared.fault.ImageKind.{ImageKind}
-use Rattle.table_image.specs.declared.fault.ImageKind.TheVariants.{Length}
-use Rattle.table_image.specs.declared.fault.ImageFault.{ImageFault}
-use Rattle.table_image.specs.Reading.{Reading, ◌>>=◌, checked, field, tested, fault_at, numbers_after}
+use Rattle.table_image.specs.declared.load_fault.ImageKind.{ImageKind}
+use Rattle.table_image.specs.declared.load_fault.ImageKind.TheVariants.{Length}
+use Rattle.table_image.specs.declared.load_fault.ImageFault.{ImageFault}
+use Rattle.table_image.specs.ImageReading.{Reading, ◌>>=◌, checked, field, tested, fault_at, numbers_after}
 use Rattle.table_image.proofs.Readings.{check_passed}
 use Rattle.table_image.proofs.Loops.{number_cut}
 

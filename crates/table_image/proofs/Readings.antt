@@ -1,7 +1,7 @@
 -- Readings one after the other.
 use Rattle.std.proofs.Common.{◌≡◌, ℕ, refl, Bool, true, false, Ok, Err}
-use Rattle.table_image.specs.declared.fault.ImageKind.{ImageKind}
-use Rattle.table_image.specs.Reading.{Reading, ◌>>=◌, checked}
+use Rattle.table_image.specs.declared.load_fault.ImageKind.{ImageKind}
+use Rattle.table_image.specs.ImageReading.{Reading, ◌>>=◌, checked}
 
 -- a reading of two parts gave a value: so did the first, and the second after it
 pub of_both : {A B : Type 0} (first : Reading A) (second : A → Reading B) (value : B) → (first >>= second) ≡ Ok value →

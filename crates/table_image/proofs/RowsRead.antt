@@ -6,9 +6,9 @@ use Rattle.std.specs.List.{list_all, flat_map}
 use Rattle.std.proofs.lemmas.List.{append-nil, length_push}
 use Rattle.std.proofs.lemmas.Bool.{and_parts, and_from, eq-eqb, eqb-true}
 use Rattle.table_sizes.specs.Sizes.{row_len}
-use Rattle.table_image.specs.declared.fault.ImageKind.TheVariants.{RowForm}
+use Rattle.table_image.specs.declared.load_fault.ImageKind.TheVariants.{RowForm}
 use Rattle.table_image.specs.Spelling.{long, all_spelled, is_row_word, is_row}
-use Rattle.table_image.specs.Reading.{numbers, rows_after, row_bytes}
+use Rattle.table_image.specs.ImageReading.{numbers, rows_after, row_bytes}
 use Rattle.table_image.proofs.Fields.{AreBytes}
 use Rattle.list_lemmas.proofs.Rests.{after, joined}
 use Rattle.table_image.proofs.Readings.{of_both, both}

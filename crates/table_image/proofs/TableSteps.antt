@@ -4,12 +4,12 @@ use Rattle.std.proofs.Common.{true, None}
 use Rattle.flat_table.specs.Groups.{is_key_len, depth_of}
 use Rattle.flat_table.specs.Sound.{sound_fault}
 use Rattle.table_sizes.specs.Sizes.{max_words, row_len}
-use Rattle.table_image.specs.declared.fault.ImageFault.{ImageFault}
-use Rattle.table_image.specs.declared.fault.LoadFault.{LoadFault}
+use Rattle.table_image.specs.declared.load_fault.ImageFault.{ImageFault}
+use Rattle.table_image.specs.declared.load_fault.LoadFault.{LoadFault}
 use Rattle.table_image.specs.declared.version.Version.{Version}
 use Rattle.table_image.specs.Spelling.{long}
-use Rattle.table_image.specs.Reading.{◌>>=◌, Counts, counts, TriesView, no_tries, tries_after, words_of_tries}
-use Rattle.table_image.specs.Reading.{rows_after, row_bytes, table_of, words_and_rows, table_read}
+use Rattle.table_image.specs.ImageReading.{◌>>=◌, Counts, counts, TriesView, no_tries, tries_after, words_of_tries}
+use Rattle.table_image.specs.ImageReading.{rows_after, row_bytes, table_of, words_and_rows, table_read}
 use Rattle.table_image.specs.Loading.{IsFaultOf, levels_of_tries}
 use Rattle.table_image.proofs.Fields.{AreBytes}
 use Rattle.table_image.proofs.Loops.{fault_of_both, fault_of_same}

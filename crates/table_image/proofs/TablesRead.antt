@@ -12,12 +12,12 @@ use Rattle.flat_table.specs.Sound.{begins_with_zeros, is_shaped, first_unsound_r
 use Rattle.table_sizes.specs.Sizes.{max_rules, max_tries, max_words, row_len}
 use Rattle.table_image.specs.declared.version.Version.{Version}
 use Rattle.table_image.specs.declared.version.Version.TheVariants.{One, Two}
-use Rattle.table_image.specs.declared.fault.ImageKind.TheVariants.{Family, TooMany}
+use Rattle.table_image.specs.declared.load_fault.ImageKind.TheVariants.{Family, TooMany}
 use Rattle.table_image.specs.Spelling.{short, long, spelled, all_spelled, spelled_tries, spelled_table, is_of_version}
 use Rattle.table_image.specs.Spelling.{is_row_word, is_row, IsSaved}
-use Rattle.table_image.specs.Reading.{Reading, ◌>>=◌, tested, Counts, counts, TriesView, no_tries, tries_after}
-use Rattle.table_image.specs.Reading.{words_of_tries, rows_after, row_bytes, no_rule, table_of, TableRead}
-use Rattle.table_image.specs.Reading.{words_and_rows, table_read}
+use Rattle.table_image.specs.ImageReading.{Reading, ◌>>=◌, tested, Counts, counts, TriesView, no_tries, tries_after}
+use Rattle.table_image.specs.ImageReading.{words_of_tries, rows_after, row_bytes, no_rule, table_of, TableRead}
+use Rattle.table_image.specs.ImageReading.{words_and_rows, table_read}
 use Rattle.table_image.proofs.Fields.{AreBytes}
 use Rattle.list_lemmas.proofs.Rests.{joined}
 use Rattle.table_image.proofs.Readings.{of_both}

@@ -14,11 +14,11 @@ use Rattle.table_sizes.specs.Sizes.{max_rules, max_tries, max_words, row_len}
 use Rattle.flat_table.proofs.Offered.{IsSound, sound_parts}
 use Rattle.table_image.specs.declared.version.Version.{Version}
 use Rattle.table_image.specs.declared.version.Version.TheVariants.{One, Two}
-use Rattle.table_image.specs.declared.fault.ImageKind.TheVariants.{Family, TooMany}
+use Rattle.table_image.specs.declared.load_fault.ImageKind.TheVariants.{Family, TooMany}
 use Rattle.table_image.specs.Spelling.{short, long, spelled, all_spelled, spelled_tries, spelled_table, is_of_version}
 use Rattle.table_image.specs.Spelling.{all_groups, is_row, IsSaved}
-use Rattle.table_image.specs.Reading.{◌>>=◌, tested, Counts, counts, TriesView, no_tries, tries_after, words_of_tries}
-use Rattle.table_image.specs.Reading.{rows_after, row_bytes, no_rule, table_of, TableRead, words_and_rows, table_read}
+use Rattle.table_image.specs.ImageReading.{◌>>=◌, tested, Counts, counts, TriesView, no_tries, tries_after, words_of_tries}
+use Rattle.table_image.specs.ImageReading.{rows_after, row_bytes, no_rule, table_of, TableRead, words_and_rows, table_read}
 use Rattle.list_lemmas.proofs.Rests.{after, inside, RestAt}
 use Rattle.table_image.proofs.Readings.{both}
 use Rattle.table_image.proofs.NumbersRead.{fits, tested_spelled, after_field, rest_after, length-all_spelled}

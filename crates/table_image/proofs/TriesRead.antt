@@ -16,11 +16,11 @@ use Rattle.flat_table.specs.Sound.{leads_into, first_level}
 use Rattle.table_sizes.specs.Sizes.{max_words}
 use Rattle.table_image.specs.declared.version.Version.{Version}
 use Rattle.table_image.specs.declared.version.Version.TheVariants.{One, Two}
-use Rattle.table_image.specs.declared.fault.ImageKind.TheVariants.{TooMany, Unsound, KeptGroups}
+use Rattle.table_image.specs.declared.load_fault.ImageKind.TheVariants.{TooMany, Unsound, KeptGroups}
 use Rattle.table_image.specs.Spelling.{short, long, kept_len, spelled, all_spelled, spelled_kept, spelled_trie}
 use Rattle.table_image.specs.Spelling.{spelled_tries, all_groups}
-use Rattle.table_image.specs.Reading.{Reading, ◌>>=◌, TriesView, tested, numbers, level_fits, kept_groups, trie_of}
-use Rattle.table_image.specs.Reading.{one_trie, tries_after}
+use Rattle.table_image.specs.ImageReading.{Reading, ◌>>=◌, TriesView, tested, numbers, level_fits, kept_groups, trie_of}
+use Rattle.table_image.specs.ImageReading.{one_trie, tries_after}
 use Rattle.table_image.proofs.Fields.{AreBytes}
 use Rattle.list_lemmas.proofs.Rests.{joined}
 use Rattle.table_image.proofs.Readings.{of_both}

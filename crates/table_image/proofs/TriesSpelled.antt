@@ -14,11 +14,11 @@ use Rattle.flat_table.specs.Sound.{leads_into, first_level}
 use Rattle.table_sizes.specs.Sizes.{max_words}
 use Rattle.table_image.specs.declared.version.Version.{Version}
 use Rattle.table_image.specs.declared.version.Version.TheVariants.{One, Two}
-use Rattle.table_image.specs.declared.fault.ImageKind.TheVariants.{TooMany, Unsound, KeptGroups}
+use Rattle.table_image.specs.declared.load_fault.ImageKind.TheVariants.{TooMany, Unsound, KeptGroups}
 use Rattle.table_image.specs.Spelling.{short, long, kept_len, spelled, all_spelled, spelled_kept, spelled_trie}
 use Rattle.table_image.specs.Spelling.{spelled_tries, all_groups}
-use Rattle.table_image.specs.Reading.{◌>>=◌, TriesView, tested, numbers, level_fits, kept_groups, trie_of, one_trie}
-use Rattle.table_image.specs.Reading.{tries_after}
+use Rattle.table_image.specs.ImageReading.{◌>>=◌, TriesView, tested, numbers, level_fits, kept_groups, trie_of, one_trie}
+use Rattle.table_image.specs.ImageReading.{tries_after}
 use Rattle.list_lemmas.proofs.Rests.{after, RestAt}
 use Rattle.table_image.proofs.Readings.{both}
 use Rattle.table_image.proofs.NumbersRead.{fits, tested_spelled, after_field, rest_after, AllTested, numbers_spelled}

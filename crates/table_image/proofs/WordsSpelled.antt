@@ -12,9 +12,9 @@ use Rattle.flat_table.specs.declared.level.Level.{Level}
 use Rattle.flat_table.specs.Table.{levels_from, portions}
 use Rattle.flat_table.specs.Sound.{is_sound_word, first_level, words_in, unsound_word}
 use Rattle.flat_table.proofs.Offered.{levels-take, levels-drop}
-use Rattle.table_image.specs.declared.fault.ImageKind.TheVariants.{Unsound}
+use Rattle.table_image.specs.declared.load_fault.ImageKind.TheVariants.{Unsound}
 use Rattle.table_image.specs.Spelling.{long, spelled, all_spelled}
-use Rattle.table_image.specs.Reading.{numbers_after, words_of_levels, words_of_tries}
+use Rattle.table_image.specs.ImageReading.{numbers_after, words_of_levels, words_of_tries}
 use Rattle.list_lemmas.proofs.Rests.{after, part_of}
 use Rattle.table_image.proofs.Readings.{both}
 use Rattle.table_image.proofs.NumbersRead.{fits, numbers_spelled, length-all_spelled, all_tested}

@@ -5,12 +5,12 @@ use Rattle.std.specs.List.{range_with_len}
 use Rattle.std.specs.Prelude.{Option, Some, None}
 use Rattle.flat_table.specs.Table.{TableView}
 use Rattle.flat_table.specs.HandmadeTables.{match_of, single_at, table_of, wild_table, empty_table}
-use Rattle.table_image.specs.declared.fault.ImageFault.{ImageFault}
-use Rattle.table_image.specs.declared.fault.ImageKind.TheVariants.{Magic, Family, Length, TooMany, Unsound, RowForm, Trailing, KeptGroups}
-use Rattle.table_image.specs.declared.fault.ImageKind.TheVariants as kind
+use Rattle.table_image.specs.declared.load_fault.ImageFault.{ImageFault}
+use Rattle.table_image.specs.declared.load_fault.ImageKind.TheVariants.{Magic, Family, Length, TooMany, Unsound, RowForm, Trailing, KeptGroups}
+use Rattle.table_image.specs.declared.load_fault.ImageKind.TheVariants as kind
 use Rattle.table_image.specs.declared.version.Version.TheVariants.{One, Two}
 use Rattle.table_image.specs.Spelling.{PairView, spelled, spelled_table, spelled_pair}
-use Rattle.table_image.specs.Reading.{image_of, table_read, numbers_after, tries_after, words_of_levels, words_of_tries, rows_after, no_rule, fault_at}
+use Rattle.table_image.specs.ImageReading.{image_of, table_read, numbers_after, tries_after, words_of_levels, words_of_tries, rows_after, no_rule, fault_at}
 
 -- no IPv6 rules
 abbrev empty_ip6 : TableView

@@ -4,7 +4,7 @@ use Rattle.table_sizes.specs.Groups.{ip4_key_len, ip6_key_len}
 use Rattle.table_image.specs.declared.version.Version.{Version}
 use Rattle.table_image.specs.declared.version.Version.TheVariants.{One, Two}
 use Rattle.table_image.specs.Spelling.{PairView, spelled_pair, IsSaved, IsImage}
-use Rattle.table_image.specs.Reading.{image_of}
+use Rattle.table_image.specs.ImageReading.{image_of}
 
 -- In each version a pair has at most one image. No two pairs share one, whatever their versions.
 pub record OneSpelling : Type 0 where

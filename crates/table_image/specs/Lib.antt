@@ -1,5 +1,5 @@
 pub mod ImageExamples
 pub mod Laws
 pub mod Loading
-pub mod Reading
+pub mod ImageReading
 pub mod Spelling

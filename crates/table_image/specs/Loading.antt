@@ -1,13 +1,13 @@
 -- What the readers of an image have and answer, over what is read of it.
 use Rattle.std.specs.Prelude.{◌≡◌, ℕ, ⊤, List, map, Err}
-use Rattle.table_image.specs.declared.fault.LoadFault.{LoadFault}
-use Rattle.table_image.specs.declared.fault.LoadFault.TheVariants.{Image, OutOfMemory}
+use Rattle.table_image.specs.declared.load_fault.LoadFault.{LoadFault}
+use Rattle.table_image.specs.declared.load_fault.LoadFault.TheVariants.{Image, OutOfMemory}
 use Rattle.table_image.specs.declared.tries.Tries.{Tries}
 use Rattle.table_image.specs.declared.counts.Counts as declared
 use Rattle.table_image.specs.declared.pair.TablePair.{TablePair}
 use Rattle.table_image.specs.declared.table.TableRead as declared_table
 use Rattle.table_image.specs.Spelling.{PairView}
-use Rattle.table_image.specs.Reading.{Reading, Counts, TriesView, TableRead}
+use Rattle.table_image.specs.ImageReading.{Reading, Counts, TriesView, TableRead}
 use Rattle.flat_table.specs.declared.level.Level.{Level}
 use Rattle.flat_table.specs.Groups.{depth_of}
 use Rattle.flat_table.specs.Table.{TableView, levels_from, portions}

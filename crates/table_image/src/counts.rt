@@ -2,10 +2,10 @@
 
 ghost use Rattle.std.specs.Prelude.{◌≡◌, ◌+◌, ◌*◌, ◌≤◌, length, nat_le, IfOk, IfErr, Ok, Err};
 ghost use Rattle.table_sizes.specs.Sizes.{max_rules, max_tries, max_words, row_len};
-ghost use Rattle.table_image.specs.Reading.{counts};
+ghost use Rattle.table_image.specs.ImageReading.{counts};
 ghost use Rattle.table_image.specs.Loading.{counts_of};
 
-use crate::fault::{ImageFault, ImageKind};
+use crate::load_fault::{ImageFault, ImageKind};
 use crate::field::{checked, short};
 use table_sizes::{MAX_RULES, MAX_TRIES, MAX_WORDS, ROW_LEN};
 

@@ -1,9 +1,9 @@
 //! The fields of an image, and the checks of their numbers. Nothing here takes memory.
 
 ghost use Rattle.std.specs.Prelude.{◌≡◌, ◌+◌, ◌≤◌, length, IfOk};
-ghost use Rattle.table_image.specs.Reading.{checked, field};
+ghost use Rattle.table_image.specs.ImageReading.{checked, field};
 
-use crate::fault::{ImageFault, ImageKind};
+use crate::load_fault::{ImageFault, ImageKind};
 use byte_numbers::{network_u32_at, network_u64_at};
 
 /// How many bytes a number of 32 bits has.

@@ -5,14 +5,14 @@
 //!
 //! - `pair`, `version`: pairs of tables, and the versions of an image
 //! - `saving`, `loading`: [`save`] and [`load`]
-//! - `fault`: why an image is refused
+//! - `load_fault`: why an image is refused
 //! - `table`, `counts`, `tries`, `words`, `rows`: one table of an image, and its parts in order
 //! - `field`, `list`: the fields of an image, and lists that grow while one is read or written
 //! - `laws`: a pair has one image in each version, and bytes without a failing check are an image
 #![tactic(auto)]
 
 mod counts;
-mod fault;
+mod load_fault;
 mod field;
 pub mod laws;
 mod list;
@@ -25,7 +25,7 @@ mod tries;
 mod version;
 mod words;
 
-pub use fault::{ImageFault, ImageKind, LoadFault};
+pub use load_fault::{ImageFault, ImageKind, LoadFault};
 pub use loading::load;
 pub use pair::TablePair;
 pub use saving::save;

@@ -3,10 +3,10 @@
 ghost use Rattle.std.specs.Prelude.{◌≡◌, ◌==◌, ◌||◌, ◌+◌, ◌≤◌, ◌⊎◌, length, IfOk, IfErr, Ok};
 ghost use Rattle.table_image.specs.declared.version.Version.TheVariants.{One, Two};
 ghost use Rattle.table_image.specs.Spelling.{IsImage};
-ghost use Rattle.table_image.specs.Reading.{version_of, version_read, image_of};
+ghost use Rattle.table_image.specs.ImageReading.{version_of, version_read, image_of};
 ghost use Rattle.table_image.specs.Loading.{IsFaultOf, pair_of};
 
-use crate::fault::{ImageFault, ImageKind, LoadFault};
+use crate::load_fault::{ImageFault, ImageKind, LoadFault};
 use crate::field::{checked, short};
 use crate::pair::TablePair;
 use crate::saving::MAGIC;

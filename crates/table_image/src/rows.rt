@@ -2,12 +2,12 @@
 
 ghost use Rattle.std.specs.Prelude.{◌≡◌, ◌+◌, ◌*◌, ◌-◌, ◌≤◌, ◌<◌, ◌^◌, ◌||◌, ◌&&◌, [], ◌∷◌, drop, length, IfOk, IfErr, Ok, Err};
 ghost use Rattle.table_sizes.specs.Sizes.{row_len};
-ghost use Rattle.table_image.specs.declared.fault.ImageKind.TheVariants.{RowForm};
+ghost use Rattle.table_image.specs.declared.load_fault.ImageKind.TheVariants.{RowForm};
 ghost use Rattle.table_image.specs.Spelling.{is_row_word};
-ghost use Rattle.table_image.specs.Reading.{numbers, rows_after, row_bytes, no_rule};
+ghost use Rattle.table_image.specs.ImageReading.{numbers, rows_after, row_bytes, no_rule};
 ghost use Rattle.table_image.specs.Loading.{IsFaultOf};
 
-use crate::fault::{ImageFault, ImageKind, LoadFault};
+use crate::load_fault::{ImageFault, ImageKind, LoadFault};
 use crate::field::{LONG, checked, long};
 use crate::list::push;
 use std::alloc::Global;

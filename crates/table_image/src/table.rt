@@ -4,11 +4,11 @@ ghost use Rattle.std.specs.Prelude.{◌≡◌, ◌+◌, ◌≤◌, length, IfOk,
 ghost use Rattle.flat_table.specs.Groups.{is_key_len};
 ghost use Rattle.flat_table.specs.Sound.{sound_fault};
 ghost use Rattle.flat_table.specs.Table.{view_of};
-ghost use Rattle.table_image.specs.Reading.{table_read};
+ghost use Rattle.table_image.specs.ImageReading.{table_read};
 ghost use Rattle.table_image.specs.Loading.{IsFaultOf, table_of_read};
 
 use crate::counts::Counts;
-use crate::fault::LoadFault;
+use crate::load_fault::LoadFault;
 use crate::field::LONG;
 use crate::rows::{ROW_BYTES, read_rows};
 use crate::tries::Tries;

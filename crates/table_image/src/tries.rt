@@ -6,12 +6,12 @@ ghost use Rattle.flat_table.specs.Groups.{is_key_len, depth_of};
 ghost use Rattle.flat_table.specs.Sound.{leads_into, first_level};
 ghost use Rattle.flat_table.specs.Table.{levels_from};
 ghost use Rattle.table_sizes.specs.Sizes.{max_words};
-ghost use Rattle.table_image.specs.declared.fault.ImageKind.TheVariants.{TooMany, Unsound};
+ghost use Rattle.table_image.specs.declared.load_fault.ImageKind.TheVariants.{TooMany, Unsound};
 ghost use Rattle.table_image.specs.Spelling.{all_groups, kept_len};
-ghost use Rattle.table_image.specs.Reading.{numbers, tested, level_fits, kept_groups, one_trie, trie_of, tries_after, no_tries};
+ghost use Rattle.table_image.specs.ImageReading.{numbers, tested, level_fits, kept_groups, one_trie, trie_of, tries_after, no_tries};
 ghost use Rattle.table_image.specs.Loading.{IsFaultOf, tries_of};
 
-use crate::fault::{ImageFault, ImageKind, LoadFault};
+use crate::load_fault::{ImageFault, ImageKind, LoadFault};
 use crate::field::{LONG, SHORT, checked, long, short};
 use crate::list::push;
 use crate::version::Version;

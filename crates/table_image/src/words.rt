@@ -7,11 +7,11 @@ ghost use Rattle.flat_table.specs.Word.{index_of, is_match, is_unbounded};
 ghost use Rattle.table_sizes.specs.Sizes.{max_words};
 ghost use Rattle.table_sizes.specs.Groups.{max_key_len};
 ghost use Rattle.flat_table.specs.Groups.{depth_of};
-ghost use Rattle.table_image.specs.declared.fault.ImageKind.TheVariants.{Unsound};
-ghost use Rattle.table_image.specs.Reading.{checked, numbers_after, words_of_levels, words_of_tries};
+ghost use Rattle.table_image.specs.declared.load_fault.ImageKind.TheVariants.{Unsound};
+ghost use Rattle.table_image.specs.ImageReading.{checked, numbers_after, words_of_levels, words_of_tries};
 ghost use Rattle.table_image.specs.Loading.{IsFaultOf, levels_of_tries};
 
-use crate::fault::{ImageFault, ImageKind, LoadFault};
+use crate::load_fault::{ImageFault, ImageKind, LoadFault};
 use crate::field::{LONG, PORTION, checked};
 use crate::list::push_copies;
 use crate::tries::Tries;

@@ -13,7 +13,7 @@
 //! | `groups` | states whose words were worked out by hand |
 //! | `images` | images of one rule, in both versions, and changed ones |
 //! | `numbers` | the places of rules, for the tests above and below |
-//! | `parts` | a table made by hand, read back |
+//! | `table_parts` | a table made by hand, read back |
 //! | `recount` | merged states worked out anew, byte by byte |
 //! | `seeds` | merged states, number by number, against those of `recount` |
 //! | `splits` | lists that are split under budgets around their words |
@@ -34,7 +34,7 @@ mod images;
 #[cfg(test)]
 mod numbers;
 #[cfg(test)]
-mod parts;
+mod table_parts;
 #[cfg(test)]
 mod recount;
 #[cfg(test)]

@@ -5,7 +5,7 @@ ghost use Rattle.text_scan.specs.Digits.{place_value};
 ghost use Rattle.text_scan.specs.Ip4.{address_of, ip4_of, ip4_spelling, is_ip4_group};
 
 use crate::digits::{group_value, put_groups};
-use crate::parts::{split_in_two, split_once};
+use crate::text_parts::{split_in_two, split_once};
 
 /// The IPv4 address that the whole text spells: four groups of one to three decimal digits, each at
 /// most 255, parted by `.`. Leading zeros are accepted, and the first group is the most significant

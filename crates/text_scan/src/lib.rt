@@ -5,7 +5,7 @@
 //!
 //! | module | what it holds |
 //! |---|---|
-//! | `parts` | a first line, word or part of a text, and the rest |
+//! | `text_parts` | a first line, word or part of a text, and the rest |
 //! | `digits` | what digits spell, and numbers written in digits |
 //! | `numeral` | numbers in decimal and, after `0x`, in hexadecimal, as in ClassBench filter sets |
 //! | `ip4` | IPv4 addresses: four decimal numbers separated by dots (RFC 791; RFC 1123, 2.1) |
@@ -19,11 +19,11 @@ mod ip4;
 mod ip6;
 pub mod laws;
 mod numeral;
-mod parts;
+mod text_parts;
 mod pieces;
 
 pub use digits::digits_value;
 pub use ip4::{ip4_text, put_ip4};
 pub use ip6::{ip6_text, put_ip6};
 pub use numeral::{number, whole_number};
-pub use parts::{after_blanks, next_word, split_line, split_once, split_word};
+pub use text_parts::{after_blanks, next_word, split_line, split_once, split_word};

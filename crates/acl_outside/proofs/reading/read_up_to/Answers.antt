@@ -4,7 +4,7 @@ use Rattle.acl_outside.specs.declared.reading.ReadAll.{ReadAll}
 use Rattle.acl_outside.specs.declared.reading.ReadAll.TheVariants.{ReadFault, OutOfMemory}
 use Rattle.acl_outside.specs.Desk.{Content, ReadsInto}
 use Rattle.acl_outside.specs.Heard.{Ended, BrokenOff, with_ending}
-use Rattle.acl_outside.specs.Reading.{and_goes_on}
+use Rattle.acl_outside.specs.DeskReading.{and_goes_on}
 use Rattle.acl_outside.proofs.ToldLaws.{Changes-weaker}
 use Rattle.acl_outside.proofs.ReadingLaws.{Gives-capped, Changes-to_end, take-read_after, take-read_end}
 use Rattle.acl_outside.proofs.KeptLaws.{KeepsCounts-same, KeepsCounts-join, KeepsMade-same, KeepsMade-join, KeepsMade-read}

@@ -1,7 +1,7 @@
 use Rattle.std.proofs.Common.{◌≡◌, ◌≤◌, ◌-◌, take, vec_len}
 use Rattle.acl_outside.specs.Desk.{KeepsCounts}
 use Rattle.acl_outside.specs.Made.{KeepsMade}
-use Rattle.acl_outside.specs.Reading.{ReadsOn, and_goes_on}
+use Rattle.acl_outside.specs.DeskReading.{ReadsOn, and_goes_on}
 use Rattle.acl_outside.proofs.reading.read_up_to.Given as goal
 
 -- the bytes so far were given

@@ -5,7 +5,7 @@ use Rattle.std.proofs.lemmas.Result.{on_ok_weaker}
 use Rattle.field_defs.specs.declared.field.FieldDef.{FieldDef}
 use Rattle.field_defs.specs.Layout.{buffer_len_of}
 use Rattle.rule_set.specs.Rule.{RuleSetView}
-use Rattle.session_lines.specs.Replies.{verdicts_text}
+use Rattle.acl_session.specs.Replies.{verdicts_text}
 use Rattle.acl_session.proofs.Verdicts.{short_reply, whole_reply}
 use Rattle.acl_session.proofs.buffer.push_reply.Goals as goal
 

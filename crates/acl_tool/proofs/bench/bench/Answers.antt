@@ -4,9 +4,9 @@ use Rattle.bench_command.specs.declared.lines.Measured.{Measured}
 use Rattle.bench_command.specs.Bench.{bench_text}
 use Rattle.command_words.specs.Command.{Bench}
 use Rattle.command_words.specs.CommandLine.{numbers_in}
-use Rattle.command_ending.specs.Effects.{PutsLast, outside}
+use Rattle.command_ending.specs.StepEffects.{PutsLast, outside}
 use Rattle.std.proofs.Common.{Ok}
-use Rattle.acl_tool.specs.Effects.{Answers}
+use Rattle.acl_tool.specs.CommandEffects.{Answers}
 use Rattle.acl_tool.proofs.BenchEnds.{Answers-measured, Answers-refused}
 use Rattle.acl_tool.proofs.bench.bench.Goals as goal
 

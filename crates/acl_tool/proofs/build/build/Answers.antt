@@ -1,5 +1,5 @@
 use Rattle.std.proofs.Common.{List, ℕ, Ok, Err, subst, ◌∙◌}
-use Rattle.command_ending.specs.Effects.{MakesAll, Outside, outside}
+use Rattle.command_ending.specs.StepEffects.{MakesAll, Outside, outside}
 use Rattle.capture_report.specs.Classifier.{lists_of}
 use Rattle.acl_tool.specs.Built.{tables_built}
 use Rattle.acl_tool.specs.BuildSaved.{IsSaved}

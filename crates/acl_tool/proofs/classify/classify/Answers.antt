@@ -1,11 +1,11 @@
 use Rattle.command_words.specs.CommandLine.{options_of}
 use Rattle.capture_report.specs.Classifier.{lists_of}
-use Rattle.command_ending.specs.Effects.{Outside, outside}
+use Rattle.command_ending.specs.StepEffects.{Outside, outside}
 use Rattle.acl_tool.proofs.ClassifyEnds.{Answers-no_rules}
 use Rattle.acl_tool.proofs.classify.classify.Goals as goal
 
 pub returns-in-Ok : goal.returns-in-Ok
-returns-in-Ok g c = c.classify_by.ensures c.args.rules.now (g.D.Desk.view c.args.desk.now) c.in-Ok.ensures.taken
+returns-in-Ok g c = c.answer_by_rules.ensures c.args.rules.now (g.D.Desk.view c.args.desk.now) c.in-Ok.ensures.taken
 
 pub returns-in-Err : goal.returns-in-Err
 returns-in-Err g c =

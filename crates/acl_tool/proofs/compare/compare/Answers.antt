@@ -1,5 +1,5 @@
 use Rattle.capture_report.specs.Classifier.{lists_of}
-use Rattle.command_ending.specs.Effects.{Outside, outside}
+use Rattle.command_ending.specs.StepEffects.{Outside, outside}
 use Rattle.acl_tool.proofs.CompareEnds.{Compare-no_rules}
 use Rattle.acl_tool.proofs.compare.compare.Goals as goal
 

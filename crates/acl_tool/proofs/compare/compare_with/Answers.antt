@@ -1,6 +1,6 @@
 use Rattle.std.proofs.Common.{List, ℕ, sym, ap, subst, ◌∙◌}
 use Rattle.capture_report.specs.Classifier.{lists_of}
-use Rattle.command_ending.specs.Effects.{Outside, PutsLast, outside}
+use Rattle.command_ending.specs.StepEffects.{Outside, PutsLast, outside}
 use Rattle.acl_tool.specs.CompareLines.{compare_of}
 use Rattle.acl_tool.specs.Texts.{Refuses}
 use Rattle.acl_tool.proofs.RuleFiles.{HasRules}

@@ -1,5 +1,5 @@
 use Rattle.std.proofs.Common.{List, ℕ, ◌≤◌, length, subst, sym}
-use Rattle.command_ending.specs.Effects.{Parses}
+use Rattle.command_ending.specs.StepEffects.{Parses}
 use Rattle.command_ending.proofs.Offered.{Takes-read, Takes-unread}
 use Rattle.acl_tool.specs.ReplayPlan.{image_cap, tables_of_bytes}
 use Rattle.acl_tool.specs.ReplayLoaded.{tables_of}

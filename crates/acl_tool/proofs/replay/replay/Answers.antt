@@ -1,5 +1,5 @@
 use Rattle.command_words.specs.CommandLine.{options_of}
-use Rattle.command_ending.specs.Effects.{Outside, outside}
+use Rattle.command_ending.specs.StepEffects.{Outside, outside}
 use Rattle.acl_tool.specs.ReplayLoaded.{tables_of}
 use Rattle.acl_tool.proofs.ReplayEnds.{Replay-no_image, Replay-reported}
 use Rattle.acl_tool.proofs.replay.replay.Goals as goal

@@ -1,5 +1,5 @@
 use Rattle.std.proofs.Common.{List, ℕ, subst}
-use Rattle.command_ending.specs.Effects.{Parses}
+use Rattle.command_ending.specs.StepEffects.{Parses}
 use Rattle.capture_report.specs.Classifier.{lists_of}
 use Rattle.acl_tool.specs.Listings.{refused_as}
 use Rattle.acl_tool.specs.RuleTables.{rules_of_bytes}

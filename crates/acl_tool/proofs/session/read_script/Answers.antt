@@ -1,5 +1,5 @@
 use Rattle.std.proofs.Common.{List, ℕ, subst}
-use Rattle.command_ending.specs.Effects.{Parses}
+use Rattle.command_ending.specs.StepEffects.{Parses}
 use Rattle.command_ending.proofs.Offered.{Takes-read, Takes-unread}
 use Rattle.acl_tool.specs.SessionPlan.{replies_of}
 use Rattle.acl_tool.specs.SessionTells.{text_of}

@@ -1,5 +1,5 @@
 use Rattle.std.proofs.Common.{List, ℕ, subst}
-use Rattle.command_ending.specs.Effects.{Outside, PutsLast, outside}
+use Rattle.command_ending.specs.StepEffects.{Outside, PutsLast, outside}
 use Rattle.acl_tool.specs.SessionTells.{text_of}
 use Rattle.acl_tool.proofs.SessionEnds.{Session-put, Session-refused}
 use Rattle.acl_tool.proofs.session.session.Goals as goal

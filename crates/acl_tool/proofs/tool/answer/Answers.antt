@@ -1,4 +1,4 @@
-use Rattle.command_ending.specs.Effects.{outside}
+use Rattle.command_ending.specs.StepEffects.{outside}
 use Rattle.acl_tool.proofs.Answering.{Answers-usage}
 use Rattle.acl_tool.proofs.tool.answer.Goals as goal
 

@@ -2,7 +2,7 @@ use Rattle.std.proofs.Common.{◌≡◌}
 use Rattle.capture_report.specs.Classifier.{Tables}
 use Rattle.capture_report.specs.CaptureOutcome.{refusal}
 use Rattle.capture_report.specs.ReportForm.{form_by}
-use Rattle.command_ending.specs.Effects.{outside}
+use Rattle.command_ending.specs.StepEffects.{outside}
 use Rattle.capture_report.proofs.Alike.{Reports-no_room, Streams-alike, PrintsCapture-from, categories_few}
 use Rattle.capture_report.proofs.Reader.{ReadHeader-from, begun-from}
 use Rattle.capture_report.proofs.Reporting.{Reports-unopened, Reports-full, Reports-header, Reports-streamed}

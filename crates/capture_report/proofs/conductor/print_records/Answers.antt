@@ -1,6 +1,6 @@
 -- Each batch is taken, and its lines are put before the next.
 use Rattle.std.proofs.Common.{refl, ap, arith}
-use Rattle.command_ending.specs.Effects.{outside}
+use Rattle.command_ending.specs.StepEffects.{outside}
 use Rattle.capture_report.proofs.LineLaws.{counts-none, records_add_up, counted_all-packets}
 use Rattle.capture_report.proofs.Streaming.{HasPrinted-none, HasPrinted-batch, Streams-failed}
 use Rattle.capture_report.proofs.Streaming.{Streams-ended, Streams-fault, packets_few, standing}

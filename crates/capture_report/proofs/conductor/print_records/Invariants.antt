@@ -5,7 +5,7 @@ use Rattle.pcapng_reader.specs.Capture.{max_records}
 use Rattle.capture_report.specs.Batch.{max_transitions}
 use Rattle.capture_report.specs.NextRecord.{MayGoOn}
 use Rattle.capture_report.specs.declared.batch.BatchEnd.TheVariants.{Full}
-use Rattle.command_ending.specs.Effects.{outside}
+use Rattle.command_ending.specs.StepEffects.{outside}
 use Rattle.capture_report.proofs.Streaming.{HasPrinted, standing}
 use Rattle.capture_report.proofs.conductor.print_records.Given as goal
 

@@ -1,6 +1,6 @@
 use Rattle.std.proofs.Common.{Ok, sym, ap, ◌∙◌}
 use Rattle.std.proofs.lemmas.List.{take_rest}
-use Rattle.classbench_reader.specs.Reading.{read_of}
+use Rattle.classbench_reader.specs.LineReading.{read_of}
 use Rattle.classbench_reader.proofs.FoundPorts.{FindsPort-from, port_of-none}
 use Rattle.classbench_reader.proofs.columns.port.Goals as goal
 

@@ -1,7 +1,7 @@
 use Rattle.std.proofs.Common.{◌≡◌, ◌-◌, ◌<◌, [], ◌++◌, length, take, drop, Ok, Err, ◌∙◌, append-nil, arith, length-take, length-drop}
 use Rattle.acl_outside.specs.Desk.{ReadsInto}
 use Rattle.acl_outside.specs.Heard.{Ended, BrokenOff, with_ending}
-use Rattle.acl_outside.specs.Reading.{and_goes_on}
+use Rattle.acl_outside.specs.DeskReading.{and_goes_on}
 use Rattle.acl_outside.proofs.Offered.{ReadsOn-then, ReadsOn-given, ReadsOn-ended, ReadsOn-failed}
 use Rattle.pcap_reader.proofs.FillLaws.{take-put_mid, take-put_none, length-put_mid, after_fill-short, after_fill-full, KeepsReading-read, Rose-later, IsAtEnd-read}
 use Rattle.pcap_reader.proofs.fill.fill_rest.Goals as goal

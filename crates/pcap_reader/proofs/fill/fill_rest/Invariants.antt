@@ -1,6 +1,6 @@
 use Rattle.std.proofs.Common.{◌≡◌, ◌≤◌, ◌-◌, length, take}
 use Rattle.acl_outside.specs.Desk.{DeskView}
-use Rattle.acl_outside.specs.Reading.{ReadsOn, and_goes_on}
+use Rattle.acl_outside.specs.DeskReading.{ReadsOn, and_goes_on}
 use Rattle.pcap_reader.specs.Fill.{KeepsReading}
 use Rattle.pcap_reader.proofs.fill.fill_rest.Given as goal
 

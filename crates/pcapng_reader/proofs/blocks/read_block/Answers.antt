@@ -1,8 +1,8 @@
 -- The front was read, and then the rest of the block.
 use Rattle.std.proofs.Common.{◌+◌, refl, sym, subst, ap}
-use Rattle.pcap_reader.specs.declared.fault.CaptureFault.TheVariants.{PngCut}
+use Rattle.pcap_reader.specs.declared.capture_fault.CaptureFault.TheVariants.{PngCut}
 use Rattle.pcapng_reader.specs.Block.{Fault}
-use Rattle.pcapng_reader.specs.Reading.{ReadsBlock}
+use Rattle.pcapng_reader.specs.BlockReading.{ReadsBlock}
 use Rattle.pcapng_reader.proofs.Fronts.{none_told, few_told, broken_told, whole_told}
 use Rattle.pcapng_reader.proofs.blocks.read_block.Goals as goal
 

@@ -1,7 +1,7 @@
 -- The type of a block more was read already.
 use Rattle.std.proofs.Common.{◌≡◌, ◌<◌, length, inl, refl, ap, arith}
 use Rattle.acl_outside.specs.Heard.{GoesOn}
-use Rattle.pcap_reader.specs.declared.fault.CaptureFault.TheVariants.{TooManyRecords}
+use Rattle.pcap_reader.specs.declared.capture_fault.CaptureFault.TheVariants.{TooManyRecords}
 use Rattle.pcapng_reader.specs.Capture.{section_bytes}
 use Rattle.pcapng_reader.proofs.BlockLaws.{block-front_fault, front-last}
 use Rattle.pcapng_reader.proofs.ReadLaws.{HasRead-none, ReadsBlock-plain}

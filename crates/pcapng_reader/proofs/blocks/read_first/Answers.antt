@@ -4,7 +4,7 @@ use Rattle.std.proofs.Common.{arith, length-append, length-drop, length-take}
 use Rattle.std.proofs.lemmas.List.{take_at}
 use borrow.Rule.Slice.PartMut.{put_mid}
 use Rattle.acl_outside.specs.declared.desk.Failed.{Failed}
-use Rattle.pcapng_reader.specs.Reading.{HasBroken, ReadsPart}
+use Rattle.pcapng_reader.specs.BlockReading.{HasBroken, ReadsPart}
 use Rattle.pcapng_reader.proofs.ReadLaws.{ReadsPart-ok, ReadsPart-failed}
 use Rattle.pcapng_reader.proofs.ShortLaws.{block-filled}
 use Rattle.pcapng_reader.proofs.blocks.read_first.Goals as goal

@@ -9,7 +9,7 @@ use Rattle.pcapng_reader.specs.Block.{BlockState, front_of, has_other_end, least
 use Rattle.pcapng_reader.specs.declared.front.Front.{Front}
 use Rattle.pcapng_reader.specs.declared.said.Said.TheVariants as said
 use Rattle.pcap_reader.specs.Fill.{Fills}
-use Rattle.pcapng_reader.specs.Reading.{HasRead, StandsWithin}
+use Rattle.pcapng_reader.specs.BlockReading.{HasRead, StandsWithin}
 use Rattle.pcapng_reader.proofs.BlockLaws.{HasFront-from}
 use Rattle.pcapng_reader.proofs.ShortLaws.{HasFrontRead, block-filled, short-broken, short-whole}
 use Rattle.pcapng_reader.proofs.blocks.read_short.Goals as goal

@@ -6,7 +6,7 @@ use Rattle.acl_outside.specs.Heard.{GoesOn}
 use Rattle.pcap_reader.specs.Capture.{max_captured}
 use Rattle.pcapng_reader.specs.Block.{BlockState, front_of}
 use Rattle.pcapng_reader.specs.declared.front.Front.{Front}
-use Rattle.pcapng_reader.specs.Reading.{HasRead, ReadsBlock, StandsWithin}
+use Rattle.pcapng_reader.specs.BlockReading.{HasRead, ReadsBlock, StandsWithin}
 use Rattle.pcapng_reader.proofs.BlockLaws.{HasFront-from, front_least}
 use Rattle.pcapng_reader.proofs.FrontLaws.{block_read-front, within-more}
 use Rattle.pcapng_reader.proofs.blocks.read_within.Goals as goal

@@ -4,11 +4,11 @@ use Rattle.std.proofs.Common.{arith, length-take, length-drop}
 use Rattle.std.proofs.lemmas.List.{take-append-drop}
 use Rattle.acl_outside.specs.declared.desk.Failed.{Failed}
 use Rattle.acl_outside.specs.Desk.{DeskView}
-use Rattle.pcap_reader.specs.declared.fault.CaptureFault.TheVariants.{PngCut, PngLength}
+use Rattle.pcap_reader.specs.declared.capture_fault.CaptureFault.TheVariants.{PngCut, PngLength}
 use Rattle.pcapng_reader.specs.Block.{BlockState, Fault, front_of, has_other_end, least_len}
 use Rattle.pcapng_reader.specs.Block.{said_by}
 use Rattle.pcapng_reader.specs.declared.front.Front.{Front}
-use Rattle.pcapng_reader.specs.Reading.{HasRest, ReadsBlock}
+use Rattle.pcapng_reader.specs.BlockReading.{HasRest, ReadsBlock}
 use Rattle.pcapng_reader.proofs.BlockLaws.{HasFront-from}
 use Rattle.pcapng_reader.proofs.ShortLaws.{short-cut_head, short-refused, short-cut, other_end, same_end}
 use Rattle.pcapng_reader.proofs.ShortLaws.{HasFrontRead, short-other_end, short-whole}

@@ -4,7 +4,7 @@ use Rattle.std.proofs.Common.{append_assoc, append-nil, length-append, arith}
 use Rattle.std.proofs.lemmas.List.{drop_at}
 use Rattle.acl_outside.specs.Heard.{GoesOn}
 use Rattle.pcap_reader.specs.Headers.{number_in}
-use Rattle.pcapng_reader.specs.Reading.{EndIn, HasRead}
+use Rattle.pcapng_reader.specs.BlockReading.{EndIn, HasRead}
 use Rattle.pcapng_reader.proofs.ReadLaws.{ReadsMore-later}
 use Rattle.pcapng_reader.proofs.long.pass_over.Goals as goal
 

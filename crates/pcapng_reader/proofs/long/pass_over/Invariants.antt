@@ -4,7 +4,7 @@ use Rattle.std.specs.Bool.{IsTrue}
 use Rattle.acl_outside.specs.Desk.{DeskView}
 use Rattle.acl_outside.specs.Heard.{GoesOn}
 use Rattle.pcapng_reader.specs.Block.{BlockState}
-use Rattle.pcapng_reader.specs.Reading.{HasRead}
+use Rattle.pcapng_reader.specs.BlockReading.{HasRead}
 use Rattle.pcapng_reader.proofs.ReadLaws.{Passes}
 use Rattle.pcapng_reader.proofs.long.pass_over.Given as goal
 

@@ -2,9 +2,9 @@
 use Rattle.std.proofs.Common.{◌≡◌, ℕ, ◌+◌, ◌-◌, ◌≤◌, List, ◌++◌, length, take, drop, refl, sym, subst, ap, ◌∙◌}
 use Rattle.std.proofs.Common.{arith, length-append, length-take}
 use Rattle.std.proofs.lemmas.List.{take_at}
-use Rattle.pcap_reader.specs.declared.fault.CaptureFault.TheVariants.{PngCut, PngLength}
+use Rattle.pcap_reader.specs.declared.capture_fault.CaptureFault.TheVariants.{PngCut, PngLength}
 use Rattle.pcapng_reader.specs.Block.{Fault}
-use Rattle.pcapng_reader.specs.Reading.{EndIn, ReadsBlock, captured_by}
+use Rattle.pcapng_reader.specs.BlockReading.{EndIn, ReadsBlock, captured_by}
 use Rattle.pcapng_reader.proofs.LongLaws.{head-more, long-broken, long-cut, long-other_end, long-whole}
 use Rattle.pcapng_reader.proofs.ReadLaws.{ReadsMore-refused, as_read}
 use Rattle.pcapng_reader.proofs.long.read_captured.Goals as goal

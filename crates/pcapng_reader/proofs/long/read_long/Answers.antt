@@ -4,10 +4,10 @@ use Rattle.std.proofs.Common.{arith, length-append, length-take, length-drop}
 use Rattle.std.proofs.lemmas.List.{take_all}
 use borrow.Rule.Slice.PartMut.{put_mid}
 use Rattle.pcap_reader.specs.Capture.{max_captured}
-use Rattle.pcap_reader.specs.declared.fault.CaptureFault.TheVariants.{PngCut}
+use Rattle.pcap_reader.specs.declared.capture_fault.CaptureFault.TheVariants.{PngCut}
 use Rattle.pcap_reader.proofs.Offered.{take-put_mid}
 use Rattle.pcapng_reader.specs.Block.{Fault, head_len}
-use Rattle.pcapng_reader.specs.Reading.{ReadsBlock}
+use Rattle.pcapng_reader.specs.BlockReading.{ReadsBlock}
 use Rattle.pcapng_reader.proofs.BlockLaws.{HasFront-from, front-append}
 use Rattle.pcapng_reader.proofs.LongLaws.{head_cut, head_enough, head_most, head_packet, long-broken, long-cut_head}
 use Rattle.pcapng_reader.proofs.LongLaws.{long-refused, room_left}

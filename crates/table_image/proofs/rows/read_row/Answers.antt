@@ -3,8 +3,8 @@ use Rattle.std.proofs.lemmas.Result.{err_from_is_err_and}
 use Rattle.std.proofs.lemmas.List.{take_more_set, length-take-le, take_all, length-set}
 use Rattle.table_sizes.specs.Sizes.{row_len}
 use Rattle.table_image.specs.Spelling.{is_row_word}
-use Rattle.table_image.specs.declared.fault.ImageKind.TheVariants.{RowForm}
-use Rattle.table_image.specs.Reading.{checked, numbers_after}
+use Rattle.table_image.specs.declared.load_fault.ImageKind.TheVariants.{RowForm}
+use Rattle.table_image.specs.ImageReading.{checked, numbers_after}
 use Rattle.table_image.proofs.Loops.{number_read, number_cut, number_refused, numbers_end}
 use Rattle.table_image.proofs.rows.read_row.Goals as goal
 

@@ -1,8 +1,8 @@
 use Rattle.std.proofs.Common.{◌≡◌, ◌+◌, ◌*◌, ◌-◌, ◌≤◌, length, take}
 use Rattle.table_sizes.specs.Sizes.{row_len}
 use Rattle.table_image.specs.Spelling.{is_row_word}
-use Rattle.table_image.specs.declared.fault.ImageKind.TheVariants.{RowForm}
-use Rattle.table_image.specs.Reading.{numbers, numbers_after}
+use Rattle.table_image.specs.declared.load_fault.ImageKind.TheVariants.{RowForm}
+use Rattle.table_image.specs.ImageReading.{numbers, numbers_after}
 use Rattle.table_image.proofs.rows.read_row.Given as goal
 
 -- the words left of the row are read after those so far

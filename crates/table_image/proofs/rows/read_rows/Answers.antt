@@ -3,9 +3,9 @@ use Rattle.std.proofs.lemmas.Result.{err_from_is_err_and}
 use Rattle.std.proofs.lemmas.List.{length_push}
 use Rattle.table_sizes.specs.Sizes.{row_len}
 use Rattle.table_image.specs.Spelling.{is_row_word}
-use Rattle.table_image.specs.declared.fault.ImageKind.TheVariants.{RowForm}
-use Rattle.table_image.specs.declared.fault.LoadFault.TheVariants.{Image}
-use Rattle.table_image.specs.Reading.{Reading, numbers, rows_after, row_bytes, no_rule}
+use Rattle.table_image.specs.declared.load_fault.ImageKind.TheVariants.{RowForm}
+use Rattle.table_image.specs.declared.load_fault.LoadFault.TheVariants.{Image}
+use Rattle.table_image.specs.ImageReading.{Reading, numbers, rows_after, row_bytes, no_rule}
 use Rattle.table_image.proofs.Readings.{both}
 use Rattle.table_image.proofs.Loops.{fault_of_both, row_more, rows_end}
 use Rattle.table_image.proofs.rows.read_rows.Goals as goal

@@ -1,5 +1,5 @@
 use Rattle.std.proofs.Common.{◌≡◌, ◌+◌, ◌*◌, ◌-◌, ◌≤◌, ◌∷◌, length, drop, []}
-use Rattle.table_image.specs.Reading.{rows_after, row_bytes, no_rule}
+use Rattle.table_image.specs.ImageReading.{rows_after, row_bytes, no_rule}
 use Rattle.table_image.proofs.rows.read_rows.Given as goal
 
 -- the rows left are read after those so far

@@ -3,7 +3,7 @@ use Rattle.std.proofs.Math.Path.{subst}
 use Rattle.std.proofs.lemmas.Result.{err_from_is_err_and}
 use Rattle.flat_table.specs.Table.{TableView}
 use Rattle.flat_table.specs.Sound.{sound_fault}
-use Rattle.table_image.specs.Reading.{Counts, TriesView, TableRead, rows_after, row_bytes, no_rule}
+use Rattle.table_image.specs.ImageReading.{Counts, TriesView, TableRead, rows_after, row_bytes, no_rule}
 use Rattle.table_image.specs.Loading.{IsFaultOf, counts_of, tries_of}
 use Rattle.table_image.proofs.Fields.{are_bytes}
 use Rattle.table_image.proofs.TableSteps.{counts_fault, tries_fault, tries_levels, words_fault, rows_fault, all_read, read_sound}

@@ -5,8 +5,8 @@ use Rattle.std.proofs.lemmas.List.{length_push}
 use Rattle.std.proofs.lemmas.List.Sums.{sum_by-append}
 use Rattle.std.proofs.lemmas.Bool.{leb-true}
 use Rattle.table_sizes.specs.Sizes.{max_words}
-use Rattle.table_image.specs.declared.fault.ImageKind.TheVariants.{TooMany}
-use Rattle.table_image.specs.Reading.{checked, numbers_after, level_fits}
+use Rattle.table_image.specs.declared.load_fault.ImageKind.TheVariants.{TooMany}
+use Rattle.table_image.specs.ImageReading.{checked, numbers_after, level_fits}
 use Rattle.table_image.proofs.Readings.{of_check}
 use Rattle.table_image.proofs.Loops.{number_read, number_cut, number_refused, numbers_end}
 use Rattle.table_image.proofs.tries.level_lens.Goals as goal

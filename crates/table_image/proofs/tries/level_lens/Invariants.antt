@@ -1,7 +1,7 @@
 use Rattle.std.proofs.Common.{◌≡◌, ◌+◌, ◌*◌, ◌-◌, ◌≤◌, length, sum, []}
 use Rattle.table_sizes.specs.Sizes.{max_words}
-use Rattle.table_image.specs.declared.fault.ImageKind.TheVariants.{TooMany}
-use Rattle.table_image.specs.Reading.{numbers_after, level_fits}
+use Rattle.table_image.specs.declared.load_fault.ImageKind.TheVariants.{TooMany}
+use Rattle.table_image.specs.ImageReading.{numbers_after, level_fits}
 use Rattle.table_image.proofs.tries.level_lens.Given as goal
 
 -- the levels left are read after those so far

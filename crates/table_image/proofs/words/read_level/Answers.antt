@@ -1,8 +1,8 @@
 use Rattle.std.proofs.Common.{ℕ, List, ◌-◌, ◌∙◌, arith}
 use Rattle.std.proofs.lemmas.Result.{err_from_is_err_and}
 use Rattle.flat_table.specs.Sound.{is_sound_word}
-use Rattle.table_image.specs.declared.fault.ImageKind.TheVariants.{Unsound}
-use Rattle.table_image.specs.Reading.{Reading, numbers_after}
+use Rattle.table_image.specs.declared.load_fault.ImageKind.TheVariants.{Unsound}
+use Rattle.table_image.specs.ImageReading.{Reading, numbers_after}
 use Rattle.table_image.proofs.Loops.{numbers_end, fault_of_both, fault_of_same}
 use Rattle.table_image.proofs.Portions.{portion_read, two_portions}
 use Rattle.table_image.proofs.words.read_level.Goals as goal

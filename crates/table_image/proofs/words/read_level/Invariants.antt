@@ -1,7 +1,7 @@
 use Rattle.std.proofs.Common.{◌≡◌, ◌+◌, ◌*◌, ◌/◌, ◌≤◌, length}
 use Rattle.flat_table.specs.Sound.{is_sound_word}
-use Rattle.table_image.specs.declared.fault.ImageKind.TheVariants.{Unsound}
-use Rattle.table_image.specs.Reading.{numbers_after}
+use Rattle.table_image.specs.declared.load_fault.ImageKind.TheVariants.{Unsound}
+use Rattle.table_image.specs.ImageReading.{numbers_after}
 use Rattle.table_image.proofs.words.read_level.Given as goal
 
 -- the words left are read after those so far

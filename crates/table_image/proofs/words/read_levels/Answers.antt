@@ -6,8 +6,8 @@ use Rattle.std.proofs.lemmas.List.Sums.{sum_by-cons}
 use Rattle.flat_table.specs.declared.level.Level.{Level}
 use Rattle.flat_table.specs.Table.{levels_from}
 use Rattle.flat_table.specs.Sound.{is_sound_word, first_level}
-use Rattle.table_image.specs.declared.fault.ImageKind.TheVariants.{Unsound}
-use Rattle.table_image.specs.Reading.{Reading, numbers_after, words_of_levels}
+use Rattle.table_image.specs.declared.load_fault.ImageKind.TheVariants.{Unsound}
+use Rattle.table_image.specs.ImageReading.{Reading, numbers_after, words_of_levels}
 use Rattle.table_image.specs.Loading.{IsFaultOf}
 use Rattle.table_image.proofs.Readings.{both}
 use Rattle.table_image.proofs.Loops.{fault_of_both, fault_of_same, level_more, levels_end}

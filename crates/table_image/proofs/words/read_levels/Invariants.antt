@@ -1,6 +1,6 @@
 use Rattle.std.proofs.Common.{◌≡◌, ◌+◌, ◌*◌, ◌≤◌, length, drop, sum}
 use Rattle.flat_table.specs.Table.{levels_from}
-use Rattle.table_image.specs.Reading.{words_of_levels}
+use Rattle.table_image.specs.ImageReading.{words_of_levels}
 use Rattle.table_image.proofs.words.read_levels.Given as goal
 
 -- the words of the levels left are read after those so far

@@ -1,8 +1,8 @@
 use Rattle.std.proofs.Common.{◌≡◌, ℕ, List, ◌+◌, ◌*◌, ◌-◌, ◌∙◌, sym, ap, arith, Ok, length, take, ◌==◌}
 use Rattle.std.proofs.lemmas.Result.{err_from_is_err_and}
 use Rattle.flat_table.specs.Sound.{is_sound_word}
-use Rattle.table_image.specs.declared.fault.ImageKind.TheVariants.{Unsound, Length}
-use Rattle.table_image.specs.Reading.{Reading, numbers_after}
+use Rattle.table_image.specs.declared.load_fault.ImageKind.TheVariants.{Unsound, Length}
+use Rattle.table_image.specs.ImageReading.{Reading, numbers_after}
 use Rattle.table_image.proofs.Loops.{numbers_end}
 use Rattle.table_image.proofs.Portions.{portion_read, portion_fault, numbers_cut, of_failed, slots_of, are_fewer, are_all, written_back}
 use Rattle.table_image.proofs.Readings.{of_check}

@@ -2,8 +2,8 @@ use Rattle.std.proofs.Common.{ℕ, ◌+◌, ◌*◌, ◌-◌, ◌∙◌, sym, ap
 use Rattle.std.proofs.lemmas.Result.{err_from_is_err_and}
 use Rattle.std.proofs.lemmas.List.{take_more_set, length-take-le, take_all, length-set}
 use Rattle.flat_table.specs.Sound.{is_sound_word}
-use Rattle.table_image.specs.declared.fault.ImageKind.TheVariants.{Unsound}
-use Rattle.table_image.specs.Reading.{numbers_after}
+use Rattle.table_image.specs.declared.load_fault.ImageKind.TheVariants.{Unsound}
+use Rattle.table_image.specs.ImageReading.{numbers_after}
 use Rattle.table_image.proofs.Loops.{number_read, number_refused, numbers_end}
 use Rattle.table_image.proofs.Portions.{field_whole, number_after}
 use Rattle.table_image.proofs.words.read_whole.Goals as goal

@@ -3,7 +3,7 @@ use Rattle.std.proofs.Math.Path.{subst}
 use Rattle.std.proofs.lemmas.Result.{err_from_is_err_and}
 use Rattle.flat_table.specs.Groups.{depth_of}
 use Rattle.flat_table.specs.Table.{levels_from, portions}
-use Rattle.table_image.specs.Reading.{Reading, words_of_levels, words_of_tries}
+use Rattle.table_image.specs.ImageReading.{Reading, words_of_levels, words_of_tries}
 use Rattle.table_image.specs.Loading.{IsFaultOf, levels_of_tries}
 use Rattle.table_image.proofs.Readings.{both}
 use Rattle.table_image.proofs.Loops.{fault_of_both, fault_of_same, trie_turn, trie_words_more, tries_words_end}

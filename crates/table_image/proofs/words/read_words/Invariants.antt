@@ -1,7 +1,7 @@
 use Rattle.std.proofs.Common.{◌≡◌, ◌+◌, ◌*◌, ◌≤◌, length, drop, sum, map, []}
 use Rattle.flat_table.specs.Groups.{depth_of}
 use Rattle.flat_table.specs.Table.{levels_from, portions}
-use Rattle.table_image.specs.Reading.{words_of_tries}
+use Rattle.table_image.specs.ImageReading.{words_of_tries}
 use Rattle.table_image.specs.Loading.{levels_of_tries}
 use Rattle.table_image.proofs.words.read_words.Given as goal
 

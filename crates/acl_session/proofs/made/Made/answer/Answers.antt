@@ -2,9 +2,9 @@
 use Rattle.std.proofs.Common.{ℕ, List, Option, Some, refl, sym, ap, ◌∙◌}
 use Rattle.std.proofs.lemmas.Result.{on_ok_weaker}
 use Rattle.text_scan.specs.Parts.{words_of}
-use Rattle.session_lines.specs.declared.verb.Verb.TheVariants as verbs
-use Rattle.session_lines.specs.Command.{command_of, said_to, verb_named}
-use Rattle.session_lines.specs.Reading.{◌>>=◌, Read}
+use Rattle.acl_session.specs.declared.verb.Verb.TheVariants as verbs
+use Rattle.acl_session.specs.Command.{command_of, said_to, verb_named}
+use Rattle.acl_session.specs.WordReading.{◌>>=◌, Read}
 use Rattle.acl_session.proofs.Mirroring.{nothing_said, said_is, unnamed}
 use Rattle.acl_session.proofs.made.Made.answer.Goals as goal
 

@@ -1,8 +1,8 @@
 use Rattle.std.proofs.Common.{refl, ap}
 use Rattle.std.proofs.lemmas.Result.{on_ok_weaker}
 use Rattle.text_scan.specs.Parts.{words_of}
-use Rattle.session_lines.specs.Command.{Classify, buffer_of}
-use Rattle.session_lines.specs.Hex.{bytes_in_hex}
+use Rattle.acl_session.specs.Command.{Classify, buffer_of}
+use Rattle.acl_session.specs.Hex.{bytes_in_hex}
 use Rattle.acl_session.specs.Session.{classified}
 use Rattle.acl_session.proofs.Mirroring.{asked, called, missing, nothing_said}
 use Rattle.acl_session.proofs.made.Made.classify.Goals as goal

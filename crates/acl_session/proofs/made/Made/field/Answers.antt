@@ -3,7 +3,7 @@ use Rattle.std.specs.Option.{option_map}
 use Rattle.std.proofs.lemmas.Bool.{leb-false}
 use Rattle.std.proofs.lemmas.Result.{on_ok_weaker}
 use Rattle.text_scan.specs.Parts.{words_of}
-use Rattle.session_lines.specs.Command.{Field, field_of}
+use Rattle.acl_session.specs.Command.{Field, field_of}
 use Rattle.acl_session.proofs.Mirroring.{asked, one_more, too_many}
 use Rattle.acl_session.proofs.made.Made.field.Goals as goal
 

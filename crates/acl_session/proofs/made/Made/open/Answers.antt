@@ -3,7 +3,7 @@ use Rattle.std.specs.Option.{option_map}
 use Rattle.std.proofs.lemmas.Result.{on_ok_weaker}
 use Rattle.field_defs.specs.declared.field.FieldDef.{FieldDef}
 use Rattle.text_scan.specs.Parts.{words_of}
-use Rattle.session_lines.specs.Command.{Context, limit_of}
+use Rattle.acl_session.specs.Command.{Context, limit_of}
 use Rattle.acl_session.proofs.Mirroring.{asked, nothing_said, opens, refuses}
 use Rattle.acl_session.proofs.made.Made.open.Goals as goal
 

@@ -1,7 +1,7 @@
 use Rattle.std.proofs.Common.{refl, sym, ◌∙◌}
 use Rattle.std.proofs.lemmas.Result.{on_ok_weaker}
 use Rattle.text_scan.specs.Parts.{words_of}
-use Rattle.session_lines.specs.Command.{Reset}
+use Rattle.acl_session.specs.Command.{Reset}
 use Rattle.acl_session.specs.Session.{cleared}
 use Rattle.acl_session.proofs.Mirroring.{calls_it, calls_none, has_words}
 use Rattle.acl_session.proofs.made.Made.reset.Goals as goal

@@ -1,7 +1,7 @@
 use Rattle.std.proofs.Common.{refl, sym, ◌∙◌}
 use Rattle.std.proofs.lemmas.Result.{on_ok_weaker}
 use Rattle.text_scan.specs.Parts.{words_of}
-use Rattle.session_lines.specs.Command.{ResetRules}
+use Rattle.acl_session.specs.Command.{ResetRules}
 use Rattle.acl_session.specs.Session.{without_rules}
 use Rattle.acl_session.proofs.Mirroring.{calls_it, calls_none, has_words}
 use Rattle.acl_session.proofs.made.Made.reset_rules.Goals as goal

@@ -2,7 +2,7 @@ use Rattle.std.proofs.Common.{Some, refl, sym, ap, ◌∙◌}
 use Rattle.std.specs.Option.{option_map}
 use Rattle.std.proofs.lemmas.Result.{on_ok_weaker}
 use Rattle.text_scan.specs.Parts.{words_of}
-use Rattle.session_lines.specs.Command.{AddRule, rule_of}
+use Rattle.acl_session.specs.Command.{AddRule, rule_of}
 use Rattle.acl_session.specs.Session.{added}
 use Rattle.acl_session.proofs.Mirroring.{asked, called, missing, nothing_said}
 use Rattle.acl_session.proofs.made.Made.rule.Goals as goal

@@ -6,7 +6,7 @@ use Rattle.pcapng_reader.specs.Block.{BlockState}
 use Rattle.pcapng_reader.specs.Capture.{Blocks}
 use Rattle.pcapng_reader.specs.Packets.{BlocksView}
 use Rattle.pcapng_reader.specs.Reader.{TakesNext}
-use Rattle.pcapng_reader.specs.Reading.{packet_in}
+use Rattle.pcapng_reader.specs.BlockReading.{packet_in}
 use Rattle.pcapng_reader.proofs.packets.BlockCapture.next.Goals as goal
 
 -- the packet that is lent is the one that stands in the buffer

@@ -1,6 +1,6 @@
 use Rattle.std.proofs.Common.{◌+◌, ◌-◌, ◌∙◌, arith, refl}
 use Rattle.std.proofs.lemmas.Result.{err_from_is_err_and}
-use Rattle.table_image.specs.Reading.{one_trie, tries_after}
+use Rattle.table_image.specs.ImageReading.{one_trie, tries_after}
 use Rattle.table_image.specs.Loading.{tries_of}
 use Rattle.table_image.proofs.Readings.{both}
 use Rattle.table_image.proofs.Loops.{fault_of_both, fault_of_same, trie_more, tries_end}

@@ -1,6 +1,6 @@
 use Rattle.std.proofs.Common.{◌≡◌, ◌+◌, ◌-◌, ◌≤◌, length, sum}
 use Rattle.table_sizes.specs.Sizes.{max_words}
-use Rattle.table_image.specs.Reading.{tries_after, no_tries}
+use Rattle.table_image.specs.ImageReading.{tries_after, no_tries}
 use Rattle.table_image.specs.Loading.{tries_of}
 use Rattle.table_image.proofs.tries.Tries.read.Given as goal
 

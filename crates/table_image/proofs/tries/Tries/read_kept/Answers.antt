@@ -3,8 +3,8 @@ use Rattle.std.proofs.lemmas.List.Sums.{sum_by-append}
 use Rattle.std.proofs.lemmas.Result.{err_from_is_err_and}
 use Rattle.flat_table.specs.Sound.{leads_into, first_level}
 use Rattle.flat_table.specs.Table.{levels_from}
-use Rattle.table_image.specs.declared.fault.ImageKind.TheVariants.{Unsound}
-use Rattle.table_image.specs.Reading.{TriesView, tested}
+use Rattle.table_image.specs.declared.load_fault.ImageKind.TheVariants.{Unsound}
+use Rattle.table_image.specs.ImageReading.{TriesView, tested}
 use Rattle.table_image.specs.Loading.{tries_of}
 use Rattle.table_image.proofs.Loops.{trie_cut, trie_refused, trie_read}
 use Rattle.table_image.proofs.tries.Tries.read_kept.Goals as goal

@@ -1,6 +1,6 @@
 use Rattle.std.proofs.Common.{◌≡◌, ◌∙◌, refl, sym, Ok, Err}
 use Rattle.std.proofs.lemmas.Result.{err_from_is_err_and}
-use Rattle.table_image.specs.Reading.{kept_groups}
+use Rattle.table_image.specs.ImageReading.{kept_groups}
 use Rattle.table_image.proofs.tries.Tries.read_one.Goals as goal
 
 pub returns-in_err-kept-clause-fault : goal.returns-in_err-kept-clause-fault
