@@ -33,11 +33,11 @@ class Script(unittest.TestCase):
     def setUp(self):
         self.folder = Path(tempfile.mkdtemp())
         self.addCleanup(shutil.rmtree, self.folder)
-        for name in ("aclc", "HANDLES", "examples", "docs/aclc.1"):
+        for name in ("aclc", "HANDLES", "VERSION", "LICENSE", "examples", "docs/aclc.1"):
             target = self.folder / name
             target.parent.mkdir(parents=True, exist_ok=True)
             (shutil.copytree if (TOP / name).is_dir() else shutil.copy)(TOP / name, target)
-        (self.folder / "crates.txt").write_text("low: std\naclc: low\nother: low\n")
+        (self.folder / "crates.txt").write_text("# a band: of two\nlow: std\naclc: low\nother: low\n")
         for crate in ("low", "aclc", "other"):
             (self.folder / "crates" / crate / "src").mkdir(parents=True)
             (self.folder / "crates" / crate / "src" / "lib.rt").write_text("fn one()\n")
@@ -64,7 +64,7 @@ class Script(unittest.TestCase):
         self.assertTrue(said.endswith("told\n"))
 
     def test_a_trial_run_of_no_command_is_refused_at_once(self):
-        for words in ((), ("",), ("clasify", "a", "b"), ("--version",)):
+        for words in ((), ("",), ("clasify", "a", "b"), ("--verbose",)):
             code, lines, said = self.run_script(*words)
             self.assertEqual((code, lines, said.count("\n"), self.calls_of_rt()), (101, "", 1, 0), said)
             self.assertIn("./aclc help", said)
@@ -153,6 +153,15 @@ class Script(unittest.TestCase):
         note = (target / "share" / "doc" / "aclc" / "proof").read_text()
         self.assertIn("logic=proved", note)
         self.assertIn("bin/aclc", note)
+
+    def test_the_version_is_told_before_and_after_the_proof(self):
+        version, date = (TOP / "VERSION").read_text().split()
+        self.assertEqual(self.run_script("--version", rt=False), (0, f"aclc {version}\n", ""))
+        self.run_script("prove")
+        self.assertEqual(self.run_script("--version"), (0, f"aclc {version}\n", ""))
+        self.run_script("install", str(self.folder / "target"))
+        head = (self.folder / "target" / "share" / "man" / "man1" / "aclc.1").read_text().split("\n")[0]
+        self.assertEqual(head, f'.TH ACLC 1 "{date}" "aclc {version}" "User commands"')
 
     def test_help_is_the_page(self):
         for word in ("help", "--help"):

@@ -60,7 +60,7 @@ next_protocol text = do
   protocol ← protocol_of (first_word (after_blanks text))
   Ok (record { value = protocol; rest = after_word (after_blanks text) })
 
--- what the columns after the addresses say beside these, as the rule of an ordinal
+-- what the columns after two addresses say, as the rule of an ordinal with these addresses
 abbrev pub columns_of : ℕ → Network → Network → List ℕ → Result RuleLine LineKind
 columns_of ordinal source destination text = do
   source_ports ← ports_of text
@@ -78,27 +78,14 @@ columns_of ordinal source destination text = do
     tag = tag;
   })
 
--- what a line says as the rule of an ordinal
+-- what a line says as the rule of an ordinal: two addresses of one family, and then the columns
 abbrev pub rule_line_of : ℕ → List ℕ → Result RuleLine LineKind
 rule_line_of ordinal line = do
   text ← after_at_sign (after_blanks line)
   source ← next_network text
   another ← next_network source.rest
   destination ← beside_source source.value another
-  source_ports ← ports_of destination.rest
-  destination_ports ← ports_of source_ports.rest
-  protocol ← next_protocol destination_ports.rest
-  words ← after_flags (words_of protocol.rest)
-  attributes ← attributes_of words
-  tag ← tag_of ordinal attributes
-  Ok (record {
-    source = source.value;
-    destination = destination.value;
-    source_ports = source_ports.value;
-    destination_ports = destination_ports.value;
-    protocol = protocol.value;
-    tag = tag;
-  })
+  columns_of ordinal source.value destination.value destination.rest
 
 -- The values of an address's fields. Of an IPv6 prefix the first 64 bits stand in the high field,
 -- and further ones in the low field.

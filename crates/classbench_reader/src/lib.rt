@@ -21,15 +21,15 @@
 
 mod attributes;
 mod columns;
-mod rules_fault;
 pub mod laws;
 mod line;
 mod network;
 mod print;
 mod rule_file;
+mod rules_fault;
 
-pub use rules_fault::{LineFault, LineKind, RulesFault};
 pub use line::{RuleLine, is_skipped};
 pub use network::{Address, Network};
 pub use print::print_rule;
 pub use rule_file::{MAX_RULE_FILE, RuleFile, read_rules};
+pub use rules_fault::{LineFault, LineKind, RulesFault};

@@ -13,8 +13,8 @@ ghost use Rattle.classbench_reader.specs.Lawful.{is_lawful, IsLawfulLine};
 
 use crate::attributes::Attributes;
 use crate::columns::{after_flags, ports, protocol};
-use crate::rules_fault::LineKind;
 use crate::network::{Address, Network};
+use crate::rules_fault::LineKind;
 use field_defs::{Family, FieldKind, FieldValue};
 use rule_set::{RuleTag, StoredRule};
 use std::alloc::Global;

@@ -11,8 +11,8 @@ ghost use Rattle.classbench_reader.specs.Files.{Adds, HasRoom, HoldsRules, Reads
 ghost use Rattle.classbench_reader.specs.Lawful.{IsLawfulLine};
 ghost use Rattle.classbench_reader.specs.declared.rules_fault.LineFault.{LineFault};
 
-use crate::rules_fault::{LineFault, LineKind, RulesFault};
 use crate::line::{RuleLine, is_skipped};
+use crate::rules_fault::{LineFault, LineKind, RulesFault};
 use field_defs::{Family, ip4_layout, ip6_layout};
 use rule_set::RuleSet;
 use std::alloc::{AllocError, Global};

@@ -1,5 +1,5 @@
 -- The options of a command and their values, as words say them.
-use Rattle.std.specs.Prelude.{ℕ, ◌^◌, ◌-◌, List, length, drop, take, Bool, true, false, ◌&&◌}
+use Rattle.std.specs.Prelude.{ℕ, ◌^◌, ◌-◌, List, [], ◌∷◌, length, drop, take, Bool, true, false, ◌&&◌}
 use Rattle.std.specs.Prelude.{nat_le, Option, Some, None, Result, Ok, Err, codes, if◌then◌else◌}
 use Rattle.std.specs.Option.{unwrap_or}
 use Rattle.std.specs.Str.{bytes_eq}
@@ -161,28 +161,64 @@ abbrev pub for_replay : Allowed
 for_replay =
     record { categories = true; walk = true; max_words = false; stats = true; marks = true }
 
--- the options with one word more that switches something on or off, of those that a command allows
-abbrev pub with_switch : Allowed → Given → List ℕ → Result Given UsageKind
-with_switch allowed given word =
-    if allowed.stats && begins_with stats_option word
-    then adds (λ chosen. record given { stats = Some chosen })
-    (once given.stats (choice_in (value_of stats_option word)))
-    else if allowed.marks && begins_with marks_option word
-    then adds (λ chosen. record given { marks = Some chosen })
-    (once given.marks (choice_in (value_of marks_option word)))
-    else Err UnknownOption
+-- a row of the table of options: whether a command has it, its name, and what a value of it adds
+pub record OptionRow : Type 0 where
+  pub allowed : Bool
+  pub name : List ℕ
+  pub taken : List ℕ → Result Given UsageKind
 
--- the options with one word more: the table of the options, one after the other, of which a command
--- allows some; any other is unknown to it
+-- what a word says by the first row that the command has and whose name the word begins with; a
+-- word of no such row is unknown
+abbrev pub said_by : List OptionRow → List ℕ → Result Given UsageKind
+said_by [] word = Err UnknownOption
+said_by (row ∷ rows) word =
+    if row.allowed && begins_with row.name word then row.taken (value_of row.name word)
+    else said_by rows word
+
+-- the rows that switch something on or off
+abbrev pub switches : Allowed → Given → List OptionRow
+switches allowed given =
+    record {
+      allowed = allowed.stats;
+      name = stats_option;
+      taken = λ text. adds (λ chosen. record given { stats = Some chosen })
+          (once given.stats (choice_in text));
+    }
+    ∷ record {
+      allowed = allowed.marks;
+      name = marks_option;
+      taken = λ text. adds (λ chosen. record given { marks = Some chosen })
+          (once given.marks (choice_in text));
+    }
+    ∷ []
+
+-- the table of options
+abbrev pub option_rows : Allowed → Given → List OptionRow
+option_rows allowed given =
+    record {
+      allowed = allowed.categories;
+      name = categories_option;
+      taken = λ text. adds (λ count. record given { categories = Some count })
+          (once given.categories (categories_in text));
+    }
+    ∷ record {
+      allowed = allowed.walk;
+      name = walk_option;
+      taken = λ text. adds (λ walk. record given { walk = Some walk })
+          (once given.walk (walk_in text));
+    }
+    ∷ record {
+      allowed = allowed.max_words;
+      name = max_words_option;
+      taken = λ text. adds (λ words. record given { max_words = Some words })
+          (once given.max_words (budget_in text));
+    }
+    ∷ switches allowed given
+
+-- the options with one word more
 abbrev pub with_option : Allowed → Given → List ℕ → Result Given UsageKind
-with_option allowed given word =
-    if allowed.categories && begins_with categories_option word
-    then adds (λ count. record given { categories = Some count })
-    (once given.categories (categories_in (value_of categories_option word)))
-    else if allowed.walk && begins_with walk_option word
-    then adds (λ walk. record given { walk = Some walk })
-    (once given.walk (walk_in (value_of walk_option word)))
-    else if allowed.max_words && begins_with max_words_option word
-    then adds (λ words. record given { max_words = Some words })
-    (once given.max_words (budget_in (value_of max_words_option word)))
-    else with_switch allowed given word
+with_option allowed given word = said_by (option_rows allowed given) word
+
+-- the options with one word more that switches something on or off
+abbrev pub with_switch : Allowed → Given → List ℕ → Result Given UsageKind
+with_switch allowed given word = said_by (switches allowed given) word
