@@ -28,7 +28,8 @@ use Rattle.pcapng_reader.specs.Reader.{start_len, start_of}
 use Rattle.pcapng_reader.proofs.Offered.{capture-start, start-fault, start-left}
 use Rattle.header_extract.specs.declared.class.Class.{Class}
 use Rattle.header_extract.specs.declared.ip6.Upper.{Upper}
-use Rattle.header_extract.specs.Class.{FrameClass, at_least, key_len, settled, ◌>>=◌}
+use Rattle.header_extract.specs.Class.{FrameClass, at_least, settled, ◌>>=◌}
+use Rattle.header_extract.specs.Extracted.{key_len}
 use Rattle.header_extract.specs.Ports.{has_ports, no_ports, ports_of}
 use Rattle.header_extract.specs.Ip4.{header_words, ip4_class, ip4_key, ip4_ports, version_of}
 use Rattle.header_extract.specs.Ip4 as ip4

@@ -17,7 +17,8 @@ use Rattle.flat_table.specs.Batch.{LengthsFit, key_at, keys_in, key_verdicts, fi
 use Rattle.flat_table.specs.Batch.{batch_verdicts, batch_transitions}
 use Rattle.header_extract.specs.declared.class.Class.{Class}
 use Rattle.header_extract.specs.declared.class.Class.TheVariants.{Ip4, Ip6, Other, Short}
-use Rattle.header_extract.specs.Class.{FrameClass, key_len}
+use Rattle.header_extract.specs.Class.{FrameClass}
+use Rattle.header_extract.specs.Extracted.{key_len}
 use Rattle.capture_report.specs.Packet.{IsPacket}
 use Rattle.capture_report.specs.Classifier.{Tables, key_len_of_family}
 use Rattle.capture_report.specs.Report.{transitions_on, transitions_of_packets}

@@ -2,7 +2,8 @@
 
 ghost use Rattle.std.specs.Prelude.{◌≡◌, ◌<◌, ◌≤◌, All, length};
 ghost use Rattle.table_sizes.specs.Groups.{ip6_key_len};
-ghost use Rattle.header_extract.specs.Class.{key_len, settled};
+ghost use Rattle.header_extract.specs.Class.{settled};
+ghost use Rattle.header_extract.specs.Extracted.{key_len};
 ghost use Rattle.header_extract.specs.Link.{frame_class};
 ghost use Rattle.capture_report.specs.Packet.{IsPacket};
 
@@ -22,7 +23,8 @@ pub struct Packet {
 
 impl Model for Packet {
     ghost use Rattle.std.specs.Prelude.{take};
-    ghost use Rattle.header_extract.specs.Class.{FrameClass, key_len};
+    ghost use Rattle.header_extract.specs.Class.{FrameClass};
+    ghost use Rattle.header_extract.specs.Extracted.{key_len};
 
     ghost Value = { FrameClass };
 

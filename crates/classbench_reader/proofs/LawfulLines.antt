@@ -10,7 +10,7 @@ use Rattle.field_defs.specs.declared.field.FieldKind.TheVariants as kinds
 use Rattle.field_defs.specs.declared.field.FieldDef.{FieldDef}
 use Rattle.field_defs.specs.declared.field.FieldValue.{FieldValue}
 use Rattle.field_defs.specs.declared.field.FieldValue.TheVariants.{Mask}
-use Rattle.field_defs.specs.FieldMatch.{is_size}
+use Rattle.field_defs.specs.FieldBounds.{is_size}
 use Rattle.field_defs.specs.Layout.{ip4_fields, ip6_fields}
 use Rattle.field_defs.proofs.Offered.{ip4_is_layout, ip6_is_layout}
 use Rattle.rule_set.specs.Fault.{rule_fault}

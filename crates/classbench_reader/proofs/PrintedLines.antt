@@ -9,7 +9,7 @@ use Rattle.std.specs.Char.{is_digit}
 use Rattle.std.specs.Fmt.{decimal}
 use Rattle.field_defs.specs.declared.field.FieldKind.{FieldKind}
 use Rattle.field_defs.specs.declared.field.FieldKind.TheVariants as kinds
-use Rattle.field_defs.specs.FieldMatch.{is_within_size, is_range_filled}
+use Rattle.field_defs.specs.FieldBounds.{is_within_size, is_range_filled}
 use Rattle.field_defs.specs.declared.field.FieldValue.{FieldValue}
 use Rattle.field_defs.specs.declared.field.FieldValue.TheVariants.{Mask, Range, Bitmask}
 use Rattle.rule_set.specs.declared.rule.RuleTag.{RuleTag}

@@ -15,8 +15,8 @@ use Rattle.field_defs.specs.declared.field.FieldValue.{FieldValue}
 use Rattle.field_defs.specs.declared.field.FieldValue.TheVariants.{Range, Bitmask}
 use Rattle.text_scan.specs.Parts.{colon, dot, slash, tab, space, line_feed, is_blank, after_blanks}
 use Rattle.text_scan.specs.Numeral.{whole_number, begins_numeral, numeral_len, numeral_value}
-use Rattle.text_scan.specs.Ip4.{ip4_spelling}
-use Rattle.text_scan.specs.Ip6.{ip6_spelling}
+use Rattle.text_scan.specs.Ip4Text.{ip4_spelling}
+use Rattle.text_scan.specs.Ip6Text.{ip6_spelling}
 use Rattle.text_scan.proofs.Offered.{is_ip4_byte, is_ip6_byte, ip4_spelling-bytes, ip6_spelling-bytes}
 use Rattle.text_scan.proofs.Offered.{ip6_spelling-colon, cut_at-append, ends_no_line, decimal_spelled, EndsNumber}
 use Rattle.text_scan.proofs.Offered.{spelled_begins, whole_number-spelled, ip4_of-ip4_spelling, ip6_of-ip6_spelling}

@@ -3,8 +3,9 @@ use Rattle.std.specs.Prelude.{◌≡◌, ℕ, Bool, true, ◌&&◌, IsTrue}
 use Rattle.field_defs.specs.declared.field.FieldKind.{FieldKind}
 use Rattle.field_defs.specs.declared.field.FieldValue.{FieldValue}
 use Rattle.field_defs.specs.declared.field.FieldKind.TheVariants.{Range, Bitmask}
-use Rattle.field_defs.specs.FieldMatch.{kind_of, same_kind, is_within_size, is_mask_within}
-use Rattle.field_defs.specs.FieldMatch.{is_range_filled}
+use Rattle.field_defs.specs.FieldMatch.{kind_of}
+use Rattle.field_defs.specs.FieldBounds.{same_kind, is_within_size, is_mask_within}
+use Rattle.field_defs.specs.FieldBounds.{is_range_filled}
 use Rattle.rule_set.specs.Lawful.{IsLawfulTag}
 use Rattle.classbench_reader.specs.declared.line.RuleLine.{RuleLine}
 use Rattle.classbench_reader.specs.Network.{family_of, IsLawfulNetwork}

@@ -14,8 +14,8 @@ use Rattle.rule_set.specs.declared.rule.RuleTag.{RuleTag}
 use Rattle.rule_set.specs.Fault.{rule_fault}
 use Rattle.rule_set.specs.Rule.{RuleView}
 use Rattle.text_scan.specs.Parts.{slash, tab, line_feed}
-use Rattle.text_scan.specs.Ip4.{ip4_spelling}
-use Rattle.text_scan.specs.Ip6.{ip6_spelling}
+use Rattle.text_scan.specs.Ip4Text.{ip4_spelling}
+use Rattle.text_scan.specs.Ip6Text.{ip6_spelling}
 use Rattle.classbench_reader.specs.declared.network.Address.{Address}
 use Rattle.classbench_reader.specs.declared.network.Address.TheVariants.{Ip4, Ip6}
 use Rattle.classbench_reader.specs.declared.network.Network.{Network}

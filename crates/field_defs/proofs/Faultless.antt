@@ -8,7 +8,7 @@ use Rattle.std.proofs.lemmas.Bool.{and_parts, eqb-true}
 use Rattle.field_defs.specs.declared.field.FieldKind.TheVariants.{Mask}
 use Rattle.field_defs.specs.declared.field.FieldDef.{FieldDef}
 use Rattle.field_defs.specs.declared.lawful.LayoutFault.TheVariants.{BadSize, FirstNotOneByte}
-use Rattle.field_defs.specs.FieldMatch.{is_size}
+use Rattle.field_defs.specs.FieldBounds.{is_size}
 use Rattle.field_defs.specs.Faults.{fault_unless, first_of, failing_number}
 use Rattle.field_defs.specs.Layout.{key_len_of}
 use Rattle.field_defs.proofs.Sizes.{size_at_most_8}

@@ -7,7 +7,8 @@ use Rattle.std.proofs.lemmas.Bool.Decides.{nat_tests}
 use Rattle.std.proofs.lemmas.List.Elements.{filter_agree}
 use Rattle.std.proofs.lemmas.List.Sums.{sum_by-cons}
 use Rattle.field_defs.specs.declared.field.FieldDef.{FieldDef}
-use Rattle.field_defs.specs.Layout.{key_len_of, max_fields, fills, group_count}
+use Rattle.field_defs.specs.Layout.{key_len_of, max_fields}
+use Rattle.field_defs.specs.KeyGroups.{fills, group_count}
 use Rattle.field_defs.specs.Laws.{LawfulLayoutsFillTheirGroups}
 use Rattle.field_defs.specs.LayoutFault.{def_at, may_follow, is_filled_group, wide_size, group_numbers}
 use Rattle.field_defs.specs.LayoutFault.{layout_fault, layout_faults, is_in_order}

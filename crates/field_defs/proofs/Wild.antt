@@ -8,7 +8,7 @@ use Rattle.std.proofs.lemmas.Nat.{pow_pos, pow_below}
 use Rattle.std.proofs.lemmas.Bool.{eqb-true, eq-eqb, leb-true, le-leb, ltb-true, and_parts, and_from, cases_eq}
 use Rattle.field_defs.specs.declared.field.FieldValue.{FieldValue}
 use Rattle.field_defs.specs.declared.field.FieldValue.TheVariants.{Mask, Range, Bitmask}
-use Rattle.field_defs.specs.FieldMatch.{CanMatch, IsWild, is_wild}
+use Rattle.field_defs.specs.FieldBounds.{CanMatch, IsWild, is_wild}
 use Rattle.list_lemmas.proofs.Powers.{bytes_as_bits, same_leading_no_bits}
 
 -- a mask with bits stops 0 or the number in which only its last bit is set

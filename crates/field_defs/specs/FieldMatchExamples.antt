@@ -3,8 +3,9 @@ use Rattle.std.specs.Prelude.{◌≡◌, ℕ, List, [], ◌∷◌, Bool, true, f
 use Rattle.field_defs.specs.declared.field.FieldKind.TheVariants as kinds
 use Rattle.field_defs.specs.declared.field.FieldValue.{FieldValue}
 use Rattle.field_defs.specs.declared.field.FieldValue.TheVariants.{Mask, Range, Bitmask}
-use Rattle.field_defs.specs.FieldMatch.{field_match, kind_of, same_kind, is_within_size}
-use Rattle.field_defs.specs.FieldMatch.{is_mask_within, is_range_filled}
+use Rattle.field_defs.specs.FieldMatch.{field_match, kind_of}
+use Rattle.field_defs.specs.FieldBounds.{same_kind, is_within_size}
+use Rattle.field_defs.specs.FieldBounds.{is_mask_within, is_range_filled}
 
 -- which of the numbers the value lets through
 abbrev answers : FieldValue → ℕ → List ℕ → List Bool

@@ -4,8 +4,9 @@ use Rattle.std.specs.List.{list_all}
 use Rattle.table_sizes.specs.Groups.{group_len, max_key_len}
 use Rattle.field_defs.specs.declared.field.FieldDef.{FieldDef}
 use Rattle.field_defs.specs.declared.field.FieldValue.{FieldValue}
-use Rattle.field_defs.specs.FieldMatch.{is_size, CanMatch, IsWild, is_wild}
-use Rattle.field_defs.specs.Layout.{key_len_of, group_count}
+use Rattle.field_defs.specs.FieldBounds.{is_size, CanMatch, IsWild, is_wild}
+use Rattle.field_defs.specs.Layout.{key_len_of}
+use Rattle.field_defs.specs.KeyGroups.{group_count}
 use Rattle.field_defs.specs.Lawful.{IsLayout}
 
 -- A value is wild by its numbers exactly where every number of the size matches.

@@ -1,12 +1,10 @@
 -- Layouts of fields, and the key of a buffer (DPDK Programmer's Guide, "Packet Classification and
 -- Access Control").
-use Rattle.std.specs.Prelude.{ℕ, ◌+◌, ◌-◌, ◌==◌, List, [], ◌∷◌, take, drop, max, fold, sum_by}
-use Rattle.std.specs.Prelude.{Bool, ◌&&◌, ◌||◌, length, filter}
-use Rattle.std.specs.List.{flat_map, list_any, range_with_len}
+use Rattle.std.specs.Prelude.{ℕ, ◌+◌, ◌-◌, List, [], ◌∷◌, take, drop, max, fold, sum_by}
+use Rattle.std.specs.List.{flat_map}
 use Rattle.field_defs.specs.declared.field.FieldKind.TheVariants.{Mask, Range, Bitmask}
 use Rattle.field_defs.specs.declared.field.FieldDef.{FieldDef}
 use Rattle.field_defs.specs.declared.layout.TheConstants.{MAX_FIELDS}
-use Rattle.field_defs.specs.LayoutFault.{wide_size, group_numbers}
 
 -- the key of a buffer: the bytes of each field, one field after the other
 abbrev pub key_of : List FieldDef → List ℕ → List ℕ
@@ -23,16 +21,6 @@ buffer_len_of defs = fold (λ n d. max n (d.offset + d.size)) 0 defs
 -- how many fields a layout may have
 abbrev pub max_fields : ℕ
 max_fields = MAX_FIELDS
-
--- a field fills the group: its own, or of 8 bytes the one after it too
-abbrev pub fills : ℕ → FieldDef → Bool
-fills group def =
-    def.input_index == group || (def.size == wide_size && def.input_index + 1 == group)
-
--- how many groups past 0 some field fills
-unfoldable pub group_count : List FieldDef → ℕ
-group_count defs =
-    length (filter (λ group. list_any (fills group) defs) (range_with_len 1 (group_numbers - 1)))
 
 -- the layout of IPv4 packets: protocol, source, destination, source port, destination port
 abbrev pub ip4_fields : List FieldDef

@@ -3,7 +3,8 @@ use Rattle.std.specs.Prelude.{◌≡◌, List, [], ◌∷◌, refl}
 use Rattle.std.specs.List.{range_with_len}
 use Rattle.field_defs.specs.declared.field.FieldKind.TheVariants.{Range, Bitmask}
 use Rattle.field_defs.specs.declared.field.FieldDef.{FieldDef}
-use Rattle.field_defs.specs.Layout.{key_of, key_len_of, buffer_len_of, group_count, ip4_fields, ip6_fields}
+use Rattle.field_defs.specs.Layout.{key_of, key_len_of, buffer_len_of, ip4_fields, ip6_fields}
+use Rattle.field_defs.specs.KeyGroups.{group_count}
 
 ip4_key_len : key_len_of ip4_fields ≡ 13
 ip4_key_len = refl

@@ -18,7 +18,7 @@ use Rattle.field_defs.specs.declared.lawful.LayoutFault.TheVariants.{NoFields, F
 use Rattle.field_defs.specs.declared.lawful.LayoutFault.TheVariants.{FirstNotOneByte, InputOrder}
 use Rattle.field_defs.specs.declared.lawful.LayoutFault.TheVariants.{GroupSize, GroupOffsets}
 use Rattle.field_defs.specs.declared.lawful.LayoutFault.TheVariants.{OffsetTooLarge}
-use Rattle.field_defs.specs.FieldMatch.{is_size}
+use Rattle.field_defs.specs.FieldBounds.{is_size}
 use Rattle.field_defs.specs.Faults.{fault_unless, first_of, failing_number}
 
 -- the greatest offset of a field

@@ -1,9 +1,11 @@
 pub mod Faults
 pub mod FieldMatch
+pub mod FieldBounds
 pub mod FieldMatchExamples
 pub mod Lawful
 pub mod Laws
 pub mod Layout
+pub mod KeyGroups
 pub mod LayoutExamples
 pub mod LayoutFault
 pub mod LayoutFaultExamples

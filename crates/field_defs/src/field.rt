@@ -2,8 +2,9 @@
 
 ghost use Rattle.std.specs.Prelude.{◌≡◌, ◌^◌, nat_lt};
 ghost use Rattle.field_defs.specs.declared.field.FieldValue.TheVariants.{Mask};
-ghost use Rattle.field_defs.specs.FieldMatch.{kind_of, is_size, is_within_size, is_mask_within};
-ghost use Rattle.field_defs.specs.FieldMatch.{is_range_filled};
+ghost use Rattle.field_defs.specs.FieldMatch.{kind_of};
+ghost use Rattle.field_defs.specs.FieldBounds.{is_size, is_within_size, is_mask_within};
+ghost use Rattle.field_defs.specs.FieldBounds.{is_range_filled};
 
 /// How a rule bounds a field (DPDK Programmer's Guide, ACL field types).
 #[derive(Clone, Copy, Debug, PartialEq, Eq)]

@@ -1,7 +1,8 @@
 //! Whether a number matches the value of a rule for a field.
 
 ghost use Rattle.std.specs.Prelude.{◌≡◌, ◌+◌, ◌^◌, ◌<◌, ◌↔◌, IsTrue};
-ghost use Rattle.field_defs.specs.FieldMatch.{field_match, is_size, CanMatch, IsWild, is_wild};
+ghost use Rattle.field_defs.specs.FieldMatch.{field_match};
+ghost use Rattle.field_defs.specs.FieldBounds.{is_size, CanMatch, IsWild, is_wild};
 
 use crate::field::FieldValue;
 

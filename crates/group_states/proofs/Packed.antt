@@ -15,7 +15,8 @@ use Rattle.byte_numbers.specs.Number.{number_of}
 use Rattle.field_defs.specs.declared.field.FieldDef.{FieldDef}
 use Rattle.field_defs.specs.declared.field.FieldValue.{FieldValue}
 use Rattle.field_defs.specs.declared.field.FieldValue.TheVariants.{Mask, Range, Bitmask}
-use Rattle.field_defs.specs.FieldMatch.{field_match, CanMatch, is_range_filled}
+use Rattle.field_defs.specs.FieldMatch.{field_match}
+use Rattle.field_defs.specs.FieldBounds.{CanMatch, is_range_filled}
 use Rattle.field_defs.specs.Layout.{key_len_of}
 use Rattle.rule_set.specs.Lawful.{IsLawfulValue}
 use Rattle.node_expand.specs.declared.edge.Edge.{Edge}

@@ -13,7 +13,7 @@ use Rattle.rule_set.specs.Fault.{rule_fault}
 use Rattle.std.proofs.lemmas.Slice.Eq.{slice_eq-Decides}
 use Rattle.field_defs.specs.declared.field.FieldValue.{FieldValue}
 use Rattle.field_defs.specs.declared.field.FieldValue.TheVariants.{Mask}
-use Rattle.field_defs.specs.FieldMatch.{CanMatch, is_range_filled}
+use Rattle.field_defs.specs.FieldBounds.{CanMatch, is_range_filled}
 use Rattle.field_defs.specs.Lawful.{IsLayout}
 use Rattle.field_defs.specs.Layout.{key_len_of}
 use Rattle.rule_set.specs.Rule.{RuleView, RuleSetView}

@@ -10,7 +10,8 @@ use Rattle.std.proofs.Math.Nat.{pow-suc}
 use Rattle.byte_numbers.specs.Number.{number_of}
 use Rattle.field_defs.specs.declared.field.FieldDef.{FieldDef}
 use Rattle.field_defs.specs.declared.field.FieldValue.{FieldValue}
-use Rattle.field_defs.specs.FieldMatch.{field_match, is_wild}
+use Rattle.field_defs.specs.FieldMatch.{field_match}
+use Rattle.field_defs.specs.FieldBounds.{is_wild}
 use Rattle.field_defs.specs.Layout.{key_len_of}
 use Rattle.rule_set.specs.Lawful.{IsLawfulValue}
 use Rattle.node_expand.specs.declared.edge.Edge.TheVariants.{Free}

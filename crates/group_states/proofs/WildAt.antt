@@ -8,7 +8,7 @@ use Rattle.std.proofs.lemmas.Bool.{cases_lt, cond-true, cond-false, lt-ltb, le-l
 use Rattle.field_defs.specs.declared.field.FieldDef.{FieldDef}
 use Rattle.field_defs.specs.declared.field.FieldValue.{FieldValue}
 use Rattle.field_defs.specs.declared.field.FieldValue.TheVariants.{Mask}
-use Rattle.field_defs.specs.FieldMatch.{is_wild, CanMatch}
+use Rattle.field_defs.specs.FieldBounds.{is_wild, CanMatch}
 use Rattle.field_defs.specs.Layout.{key_len_of}
 use Rattle.field_defs.specs.Lawful.{IsLayout}
 use Rattle.rule_set.specs.Lawful.{IsLawfulValue}

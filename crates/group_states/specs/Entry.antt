@@ -9,7 +9,7 @@ use Rattle.std.specs.Option.{option_map, unwrap_or}
 use Rattle.field_defs.specs.declared.field.FieldDef.{FieldDef}
 use Rattle.field_defs.specs.declared.field.FieldValue.{FieldValue}
 use Rattle.field_defs.specs.declared.field.FieldValue.TheVariants.{Mask}
-use Rattle.field_defs.specs.FieldMatch.{CanMatch, is_range_filled}
+use Rattle.field_defs.specs.FieldBounds.{CanMatch, is_range_filled}
 use Rattle.rule_set.specs.Rule.{RuleSetView}
 use Rattle.node_expand.specs.declared.edge.Edge.{Edge}
 use Rattle.node_expand.specs.declared.edge.Edge.TheVariants.{Free, Low, High, Both}

@@ -6,7 +6,7 @@ use Rattle.std.specs.List.{list_all, range_with_len, sum_by}
 use Rattle.table_sizes.specs.Groups.{group_of}
 use Rattle.field_defs.specs.declared.field.FieldDef.{FieldDef}
 use Rattle.field_defs.specs.declared.field.FieldValue.{FieldValue}
-use Rattle.field_defs.specs.FieldMatch.{is_wild}
+use Rattle.field_defs.specs.FieldBounds.{is_wild}
 use Rattle.field_defs.specs.Layout.{key_len_of}
 use Rattle.rule_set.specs.Rule.{RuleSetView}
 use Rattle.group_states.specs.RuleRest.{values_of}

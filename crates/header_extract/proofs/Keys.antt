@@ -2,7 +2,8 @@
 use Rattle.std.proofs.Common.{◌≡◌, ℕ, ◌+◌, List, ◌∷◌, ◌++◌, length, drop, Ok, Result, refl, sym, subst, ap, ◌∙◌, arith}
 use Rattle.std.proofs.Common.{length-append}
 use Rattle.header_extract.specs.declared.class.Class.{Class}
-use Rattle.header_extract.specs.Class.{FrameClass, key_len, Extracts}
+use Rattle.header_extract.specs.Class.{FrameClass}
+use Rattle.header_extract.specs.Extracted.{key_len, Extracts}
 
 -- The parts of a key: the addresses stand by themselves and, one after the other, as the packet has them.
 pub record KeyParts : Type 0 where

@@ -1,4 +1,5 @@
 pub mod Class
+pub mod Extracted
 pub mod Ports
 pub mod Ip4
 pub mod Ip4Examples

@@ -6,7 +6,7 @@
 //! Source: RFC 791, 3.1.
 
 ghost use Rattle.std.specs.Prelude.{◌≡◌, ◌≤◌, length};
-ghost use Rattle.header_extract.specs.Class.{Extracts, or_short};
+ghost use Rattle.header_extract.specs.Extracted.{Extracts, or_short};
 ghost use Rattle.header_extract.specs.Ip4.{ip4_class, ip4_ports};
 
 use crate::class::Class;

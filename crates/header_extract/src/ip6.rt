@@ -8,7 +8,7 @@
 //! third is that of a fragment. Sources: RFC 8200, 3 (the IPv6 header), 4 (extension headers).
 
 ghost use Rattle.std.specs.Prelude.{◌≡◌, ◌+◌, ◌*◌, ◌==◌, ◌||◌, ◌&&◌, ◌≤◌, not, if◌then◌else◌, length};
-ghost use Rattle.header_extract.specs.Class.{Extracts, or_short};
+ghost use Rattle.header_extract.specs.Extracted.{Extracts, or_short};
 ghost use Rattle.header_extract.specs.Ip6.{ip6_class, is_options, is_first_part, fragment, upper_of};
 
 use crate::class::Class;

@@ -13,7 +13,7 @@
 //! LINKTYPE_LINUX_SLL2.
 
 ghost use Rattle.std.specs.Prelude.{◌≡◌, ◌+◌, ◌≤◌, Ok, Err, length, IfSome, IsNone};
-ghost use Rattle.header_extract.specs.Class.{Extracts};
+ghost use Rattle.header_extract.specs.Extracted.{Extracts};
 ghost use Rattle.header_extract.specs.Link.{frame_class, class_by_type, raw_class, typed_class, is_tag, after_tags};
 ghost use Rattle.header_extract.specs.declared.class.Class.TheVariants as classes;
 

@@ -5,7 +5,7 @@
 //! Sources: RFC 9293, 3.1 (TCP), RFC 768 (UDP), RFC 9260, 3.1 (SCTP).
 
 ghost use Rattle.std.specs.Prelude.{◌≡◌};
-ghost use Rattle.header_extract.specs.Class.{or_short};
+ghost use Rattle.header_extract.specs.Extracted.{or_short};
 ghost use Rattle.header_extract.specs.Ports.{has_ports, ports_of};
 
 /// How many bytes the two ports have.

@@ -25,7 +25,7 @@ use Rattle.list_lemmas.proofs.Powers.{bytes_above_0}
 use Rattle.std.proofs.Math.Nat.{pow-suc, div-eq_of_lt, zero-div, mul-le-mul_right, one-le-pow}
 use Rattle.std.proofs.Math.Numerals.{add-one}
 use Rattle.node_expand.specs.declared.edge.Edge.TheVariants.{Free}
-use Rattle.field_defs.specs.FieldMatch.{CanMatch, is_wild}
+use Rattle.field_defs.specs.FieldBounds.{CanMatch, is_wild}
 use Rattle.field_defs.proofs.Offered.{wild_is_every}
 use Rattle.node_expand.proofs.Changes.{change_alike, one_edge}
 use Rattle.list_lemmas.proofs.Tests.{same_truth}

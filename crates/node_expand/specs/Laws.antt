@@ -5,7 +5,8 @@ use Rattle.std.specs.Option.{option_and_then}
 use Rattle.byte_numbers.specs.Number.{number_of}
 use Rattle.field_defs.specs.declared.field.FieldValue.{FieldValue}
 use Rattle.field_defs.specs.declared.field.FieldValue.TheVariants.{Mask, Range}
-use Rattle.field_defs.specs.FieldMatch.{field_match, CanMatch, is_range_filled, is_wild}
+use Rattle.field_defs.specs.FieldMatch.{field_match}
+use Rattle.field_defs.specs.FieldBounds.{CanMatch, is_range_filled, is_wild}
 use Rattle.node_expand.specs.declared.edge.Edge.{Edge}
 use Rattle.node_expand.specs.declared.edge.Edge.TheVariants.{Free}
 use Rattle.node_expand.specs.Rest.{Rest, Interval, live_where, count_of, as_range, same_rest}

@@ -32,7 +32,7 @@ pub enum Allowed {
 impl Allowed {
     ghost use Rattle.std.specs.Prelude.{◌≡◌, ℕ, ◌-◌, ◌^◌, ◌<◌, ◌≤◌, ◌||◌, false, slice_index_or};
     ghost use Rattle.std.specs.Prelude.{if◌then◌else◌};
-    ghost use Rattle.field_defs.specs.FieldMatch.{CanMatch};
+    ghost use Rattle.field_defs.specs.FieldBounds.{CanMatch};
     ghost use Rattle.node_expand.specs.Edges.{has_low, has_high, is_change, is_bitmask, edge_step};
     ghost use Rattle.node_expand.specs.Edges.{StandsBefore, AreEnds, AnswersWithin, AnswersAlike};
     ghost use Rattle.node_expand.specs.Allowed.{answer_of, between, IsFilled, IsBetween};

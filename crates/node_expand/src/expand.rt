@@ -4,7 +4,7 @@
 ghost use Rattle.std.specs.Prelude.{◌≡◌, ℕ, ◌+◌, ◌-◌, ◌*◌, ◌^◌, ◌<◌, ◌≤◌, ◌||◌, ◌&&◌, not, false};
 ghost use Rattle.std.specs.Prelude.{Some, slice_index_or, IsTrue, IfSome};
 ghost use Rattle.std.specs.Option.{option_map};
-ghost use Rattle.field_defs.specs.FieldMatch.{CanMatch, is_range_filled, is_wild};
+ghost use Rattle.field_defs.specs.FieldBounds.{CanMatch, is_range_filled, is_wild};
 ghost use Rattle.node_expand.specs.Rest.{Interval, as_range, rest_after, rest_step};
 ghost use Rattle.node_expand.specs.Edges.{edge_of, rest_of, edge_after, edge_step, is_cut};
 ghost use Rattle.node_expand.specs.Edges.{is_bitmask, same_edge, StandsBefore, AreEnds};

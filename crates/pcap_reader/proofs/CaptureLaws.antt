@@ -9,7 +9,8 @@ use Rattle.pcap_reader.specs.declared.link.Link.{Link}
 use Rattle.pcap_reader.specs.declared.start.Start.{Start}
 use Rattle.pcap_reader.specs.Start.{start_of, start_in, file_header_len}
 use Rattle.pcap_reader.specs.declared.state.CaptureState.{CaptureState}
-use Rattle.pcap_reader.specs.State.{CaptureRecord, begun, state_after, state_past}
+use Rattle.pcap_reader.specs.State.{CaptureRecord, begun, state_after}
+use Rattle.pcap_reader.specs.ReaderStates.{state_past}
 use Rattle.pcap_reader.specs.Capture.{Recorded, capture_of, Next, End, Record, Fault, max_records, max_captured, record_header_len, next_of, followed_by, onward, records_within, records_from}
 use Rattle.pcap_reader.specs.Reader.{captured_in}
 use Rattle.pcap_reader.proofs.NextLaws.{IsOpen, next_of-too_many, next_of-cut, next_of-too_long, next_of-short, next_of-record, next_of-append, with_more, IsDecided}

@@ -8,7 +8,8 @@ use Rattle.pcap_reader.specs.contracts.state.Progress.{the_type}
 use Rattle.pcap_reader.specs.declared.state.CaptureState.{CaptureState}
 use Rattle.pcap_reader.specs.declared.state.Progress.{Progress}
 use Rattle.pcap_reader.specs.declared.state.Progress.TheVariants.{Reading, Ended, Failed}
-use Rattle.pcap_reader.specs.State.{Answer, has_ended}
+use Rattle.pcap_reader.specs.State.{Answer}
+use Rattle.pcap_reader.specs.ReaderStates.{has_ended}
 use Rattle.pcap_reader.specs.Reader.{ReadsNext, TakesNext}
 
 -- what a comparison with the end says

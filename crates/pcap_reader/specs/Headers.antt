@@ -1,6 +1,6 @@
 -- The numbers in the headers of a capture (libpcap savefile format 2.4, file header and per-packet
 -- header).
-use Rattle.std.specs.Prelude.{ℕ, List, drop}
+use Rattle.std.specs.Prelude.{ℕ, List}
 use Rattle.byte_numbers.specs.Number.{number_at, mirrored_number_at}
 use Rattle.pcap_reader.specs.declared.header.FileHeader.{FileHeader}
 use Rattle.pcap_reader.specs.declared.header.RecordHeader.{RecordHeader}
@@ -26,21 +26,4 @@ abbrev pub record_header_of : Order → List ℕ → RecordHeader
 record_header_of order bytes = record {
   captured = number_in order bytes 8 4;
   original = number_in order bytes 12 4;
-}
-
--- the same headers, where `number` gives the number that the first bytes of a list spell, as many
--- as it is told
-abbrev pub file_header_by : (ℕ → List ℕ → ℕ) → List ℕ → FileHeader
-file_header_by number bytes = record {
-  magic = number 4 bytes;
-  major = number 2 (drop 4 bytes);
-  minor = number 2 (drop 6 bytes);
-  network = number 4 (drop 20 bytes);
-}
-
--- the record header, in the same way
-abbrev pub record_header_by : (ℕ → List ℕ → ℕ) → List ℕ → RecordHeader
-record_header_by number bytes = record {
-  captured = number 4 (drop 8 bytes);
-  original = number 4 (drop 12 bytes);
 }

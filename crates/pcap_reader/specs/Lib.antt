@@ -1,8 +1,10 @@
 pub mod Fill
 pub mod Headers
+pub mod HeaderReads
 pub mod Start
 pub mod StartExamples
 pub mod State
+pub mod ReaderStates
 pub mod Capture
 pub mod CaptureExamples
 pub mod Reader

@@ -14,7 +14,8 @@ use Rattle.pcap_reader.specs.declared.capture_fault.CaptureFault.TheVariants.{He
 use Rattle.pcap_reader.specs.declared.capture_fault.CaptureFault.TheVariants.{PngCut, PngLength, PngOrder, PngVersion, PngInterface, PngLink, PngTooMany}
 use Rattle.pcap_reader.specs.declared.start.Start.{Start}
 use Rattle.pcap_reader.specs.declared.state.CaptureState.{CaptureState}
-use Rattle.pcap_reader.specs.State.{Answer, begun, has_ended, record_of}
+use Rattle.pcap_reader.specs.State.{Answer, begun, record_of}
+use Rattle.pcap_reader.specs.ReaderStates.{has_ended}
 use Rattle.pcap_reader.specs.Headers.{record_header_of}
 use Rattle.pcap_reader.specs.Capture.{Next, End, Record, Fault, max_captured, max_records, next_of}
 use Rattle.pcap_reader.specs.Capture.{record_header_len}

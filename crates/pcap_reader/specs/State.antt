@@ -1,5 +1,5 @@
 -- What a reader of a capture shows, what it answers, and what it shows after an answer.
-use Rattle.std.specs.Prelude.{ℕ, ◌+◌, List, [], ◌∷◌, Bool, true, false, Option, Some, None, Result, Ok, Err}
+use Rattle.std.specs.Prelude.{ℕ, ◌+◌, List, Option, Some, None, Result, Ok, Err}
 use Rattle.pcap_reader.specs.declared.capture_fault.CaptureFault.{CaptureFault}
 use Rattle.pcap_reader.specs.declared.link.Link.{Link}
 use Rattle.pcap_reader.specs.declared.start.Start.{Start}
@@ -20,18 +20,6 @@ state_of start count progress = record { start = start; count = count; progress 
 abbrev pub begun : Start → CaptureState
 begun start = state_of start 0 progress.Reading
 
--- an earlier call answered a fault
-abbrev pub has_failed : Progress → Bool
-has_failed progress.Reading = false
-has_failed progress.Ended = false
-has_failed progress.Failed = true
-
--- all records were given
-abbrev pub has_ended : Progress → Bool
-has_ended progress.Reading = false
-has_ended progress.Ended = true
-has_ended progress.Failed = false
-
 -- the record with these bytes that a reader gives, by its link type
 abbrev pub record_of : CaptureState → List ℕ → CaptureRecord
 record_of state bytes = record { link = state.start.link; bytes = bytes }
@@ -45,8 +33,3 @@ abbrev pub state_after : CaptureState → Answer → CaptureState
 state_after state (Ok None) = record state { progress = progress.Ended }
 state_after state (Ok (Some captured)) = record state { count = state.count + 1 }
 state_after state (Err fault) = record state { progress = progress.Failed }
-
--- what the reader shows after it gave these records
-abbrev pub state_past : CaptureState → List CaptureRecord → CaptureState
-state_past state [] = state
-state_past state (captured ∷ later) = state_past (state_after state (Ok (Some captured))) later

@@ -4,7 +4,7 @@ ghost use Rattle.std.specs.Prelude.{◌≡◌, ◌≤◌, IsTrue, false, length,
 ghost use Rattle.pcap_reader.specs.Capture.{max_captured};
 ghost use Rattle.pcap_reader.specs.Reader.{Begins, BeginsIn, BeginsWith, TakesNext, answer_of};
 ghost use Rattle.pcap_reader.specs.Start.{file_header_len};
-ghost use Rattle.pcap_reader.specs.State.{has_failed};
+ghost use Rattle.pcap_reader.specs.ReaderStates.{has_failed};
 
 use crate::capture_fault::{BeginFault, CaptureFault};
 use crate::link::Link;

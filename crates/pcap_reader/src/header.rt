@@ -1,7 +1,7 @@
 //! The headers of a capture, number by number, in the byte order that the caller names.
 
 ghost use Rattle.std.specs.Prelude.{◌≡◌};
-ghost use Rattle.pcap_reader.specs.Headers.{file_header_by, record_header_by};
+ghost use Rattle.pcap_reader.specs.HeaderReads.{file_header_by, record_header_by};
 
 use byte_numbers::{u16_at, u32_at};
 use byteorder::ByteOrder;

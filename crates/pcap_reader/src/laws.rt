@@ -4,14 +4,16 @@
 ghost use Rattle.std.specs.Prelude.{◌≡◌, ℕ, List, [], ◌++◌, All, Ok, Err, Some, None, drop, true};
 ghost use Rattle.std.specs.List.{concat};
 ghost use Rattle.byteorder.specs.Endian.{big_number, little_number};
-ghost use Rattle.pcap_reader.specs.Headers.{file_header_by, file_header_of, record_header_by, record_header_of};
+ghost use Rattle.pcap_reader.specs.Headers.{file_header_of, record_header_of};
+ghost use Rattle.pcap_reader.specs.HeaderReads.{file_header_by, record_header_by};
 ghost use Rattle.pcap_reader.specs.declared.capture_fault.CaptureFault.{CaptureFault};
 ghost use Rattle.pcap_reader.specs.declared.start.Start.{Start};
 ghost use Rattle.pcap_reader.specs.Capture.{records_from, onward, next_of, capture_of, whole_records, followed_by};
 ghost use Rattle.pcap_reader.specs.Start.{start_of, file_header_len};
 ghost use Rattle.pcap_reader.specs.Reader.{IsStart};
 ghost use Rattle.pcap_reader.specs.declared.state.CaptureState.{CaptureState};
-ghost use Rattle.pcap_reader.specs.State.{Answer, CaptureRecord, begun, state_after, state_past};
+ghost use Rattle.pcap_reader.specs.State.{Answer, CaptureRecord, begun, state_after};
+ghost use Rattle.pcap_reader.specs.ReaderStates.{state_past};
 ghost use Rattle.pcap_reader.specs.Answers.{AreAnswersOn, AreAnswersTo, have_ending, recorded_by, records_given};
 
 use crate::start::Order;

@@ -13,7 +13,8 @@ use Rattle.pcap_reader.specs.declared.state.Progress.{Progress}
 use Rattle.pcap_reader.specs.declared.state.Progress.TheVariants as progress
 use Rattle.pcap_reader.specs.Capture as savefile
 use Rattle.pcap_reader.specs.Reader as savefile_reader
-use Rattle.pcap_reader.specs.State.{Answer, has_ended, state_after}
+use Rattle.pcap_reader.specs.State.{Answer, state_after}
+use Rattle.pcap_reader.specs.ReaderStates.{has_ended}
 use Rattle.pcapng_reader.specs.Block.{BlockState}
 use Rattle.pcapng_reader.specs.Capture.{AnyState, Savefile, Blocks, Record, next_of, with_state}
 use Rattle.pcapng_reader.specs.Packets.{Finds, Counts}

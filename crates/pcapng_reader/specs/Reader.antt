@@ -17,7 +17,8 @@ use Rattle.pcap_reader.specs.declared.state.Progress.TheVariants as progress
 use Rattle.pcap_reader.specs.Fill.{KeepsReading, IsAtEnd}
 use Rattle.pcap_reader.specs.Reader.{BreaksOffAt, after_fault, is_cut}
 use Rattle.pcap_reader.specs.Start.{◌>>=◌, start_of as savefile_start, file_header_len}
-use Rattle.pcap_reader.specs.State.{Answer, begun as begun_savefile, has_ended}
+use Rattle.pcap_reader.specs.State.{Answer, begun as begun_savefile}
+use Rattle.pcap_reader.specs.ReaderStates.{has_ended}
 use Rattle.pcapng_reader.specs.Capture.{AnyState, Savefile, Blocks, Next, End, Record, Fault}
 use Rattle.pcapng_reader.specs.BlockReading.{FaultStands, stands}
 use Rattle.pcapng_reader.specs.Capture.{begun_blocks, is_blocks, next_of, section_bytes}

@@ -3,7 +3,7 @@
 ghost use Rattle.std.specs.Prelude.{◌≡◌, IsTrue, false, vec_len};
 ghost use Rattle.std.specs.Borrow.{sem};
 ghost use Rattle.pcap_reader.specs.Capture.{max_captured};
-ghost use Rattle.pcap_reader.specs.State.{has_failed};
+ghost use Rattle.pcap_reader.specs.ReaderStates.{has_failed};
 ghost use Rattle.pcapng_reader.specs.Capture.{begun_blocks, section_bytes};
 ghost use Rattle.pcapng_reader.specs.Formats.{BeginsFormat};
 ghost use Rattle.pcapng_reader.specs.SavefileLending.{GoesOnSavefile};

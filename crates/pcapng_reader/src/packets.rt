@@ -2,7 +2,7 @@
 
 ghost use Rattle.std.specs.Prelude.{◌≡◌, ◌+◌, ◌≤◌, IfOk, IfSome, IsTrue, false, length, vec_len};
 ghost use Rattle.pcap_reader.specs.Capture.{max_captured};
-ghost use Rattle.pcap_reader.specs.State.{has_failed};
+ghost use Rattle.pcap_reader.specs.ReaderStates.{has_failed};
 ghost use Rattle.pcapng_reader.specs.Capture.{Blocks};
 ghost use Rattle.pcapng_reader.specs.Packets.{Finds, answer_in};
 ghost use Rattle.pcapng_reader.specs.Reader.{TakesNext};

@@ -5,7 +5,7 @@ ghost use Rattle.pcapng_reader.specs.Block.{front_len, front_of, is_last, is_no_
 ghost use Rattle.pcapng_reader.specs.Block.{magic_order, order_in, said_by};
 ghost use Rattle.pcapng_reader.specs.Block.{interface_said, packet_said, section_said, state_said};
 ghost use Rattle.pcap_reader.specs.Capture.{max_captured};
-ghost use Rattle.pcap_reader.specs.State.{has_ended};
+ghost use Rattle.pcap_reader.specs.ReaderStates.{has_ended};
 ghost use Rattle.pcapng_reader.specs.Capture.{begun_blocks, section_bytes};
 ghost use Rattle.pcapng_reader.specs.BlockReading.{HasRoom, IsPacketAt};
 

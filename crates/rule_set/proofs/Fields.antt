@@ -5,8 +5,9 @@ use Rattle.std.proofs.lemmas.List.{drop_more, drop_all}
 use Rattle.byte_numbers.specs.Number.{number_of}
 use Rattle.field_defs.specs.declared.field.FieldDef.{FieldDef}
 use Rattle.field_defs.specs.declared.field.FieldValue.{FieldValue}
-use Rattle.field_defs.specs.FieldMatch.{field_match, CanMatch}
-use Rattle.rule_set.specs.Rule.{CanMatchAll}
+use Rattle.field_defs.specs.FieldMatch.{field_match}
+use Rattle.field_defs.specs.FieldBounds.{CanMatch}
+use Rattle.rule_set.specs.ValuesMatch.{CanMatchAll}
 use Rattle.rule_set.specs.Winner.{rule_match}
 
 -- a value at a place can be asked about the numbers of its field's size

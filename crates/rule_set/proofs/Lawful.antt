@@ -8,7 +8,7 @@ use Rattle.field_defs.specs.declared.field.FieldKind.TheVariants as kinds
 use Rattle.field_defs.specs.declared.field.FieldDef.{FieldDef}
 use Rattle.field_defs.specs.declared.field.FieldValue.{FieldValue}
 use Rattle.field_defs.specs.declared.field.FieldValue.TheVariants.{Mask}
-use Rattle.field_defs.specs.FieldMatch.{is_size}
+use Rattle.field_defs.specs.FieldBounds.{is_size}
 use Rattle.field_defs.specs.Lawful.{IsLayout}
 use Rattle.field_defs.specs.Faults.{fault_unless}
 use Rattle.field_defs.proofs.Offered.{none_at, passes_test, lawful_sizes}
@@ -21,7 +21,8 @@ use Rattle.rule_set.specs.Fault.{categories, rule_fault, faults, failing_place, 
 use Rattle.rule_set.specs.Fault.{is_filled}
 use Rattle.rule_set.specs.Lawful.{IsLawfulValue, IsLawfulTag, IsLawfulRule}
 use Rattle.rule_set.specs.Laws.{FaultlessRulesAreLawful}
-use Rattle.rule_set.specs.Rule.{RuleView, RuleSetView, CanMatchAll}
+use Rattle.rule_set.specs.Rule.{RuleView, RuleSetView}
+use Rattle.rule_set.specs.ValuesMatch.{CanMatchAll}
 use Rattle.rule_set.specs.RuleSet.{IsRuleSet}
 use Rattle.list_lemmas.proofs.Elements.{length-AllZip, AllZip-from_places}
 use Rattle.list_lemmas.proofs.Options.{no_number}

@@ -10,8 +10,9 @@ use Rattle.std.specs.Option.{option_map}
 use Rattle.std.specs.Int.Signed.{le_z}
 use Rattle.field_defs.specs.declared.field.FieldDef.{FieldDef}
 use Rattle.field_defs.specs.declared.field.FieldValue.{FieldValue}
-use Rattle.field_defs.specs.FieldMatch.{kind_of, same_kind, is_within_size, is_mask_within}
-use Rattle.field_defs.specs.FieldMatch.{is_range_filled}
+use Rattle.field_defs.specs.FieldMatch.{kind_of}
+use Rattle.field_defs.specs.FieldBounds.{same_kind, is_within_size, is_mask_within}
+use Rattle.field_defs.specs.FieldBounds.{is_range_filled}
 use Rattle.field_defs.specs.Faults.{fault_unless, first_of}
 use Rattle.rule_set.specs.declared.rule.RuleTag.{RuleTag}
 use Rattle.rule_set.specs.declared.check.ValueCheck.{ValueCheck}

@@ -4,7 +4,8 @@ use Rattle.std.specs.List.{AllZip, list_any}
 use Rattle.std.specs.Int.Signed.{le_z}
 use Rattle.field_defs.specs.declared.field.FieldDef.{FieldDef}
 use Rattle.field_defs.specs.declared.field.FieldValue.{FieldValue}
-use Rattle.field_defs.specs.FieldMatch.{kind_of, same_kind, is_range_filled, CanMatch}
+use Rattle.field_defs.specs.FieldMatch.{kind_of}
+use Rattle.field_defs.specs.FieldBounds.{same_kind, is_range_filled, CanMatch}
 use Rattle.rule_set.specs.declared.rule.RuleTag.{RuleTag}
 use Rattle.rule_set.specs.Limits.{max_priority}
 use Rattle.rule_set.specs.Fault.{categories}

@@ -13,6 +13,7 @@ pub mod Limits
 pub mod Rank
 pub mod RankExamples
 pub mod Rule
+pub mod ValuesMatch
 pub mod RuleSet
 pub mod Winner
 pub mod WinnerExamples

@@ -4,7 +4,7 @@ ghost use Rattle.std.specs.Prelude.{◌≡◌, ◌<◌, length, not, MatchOption
 ghost use Rattle.std.specs.Int.Signed.{le_z};
 ghost use Rattle.field_defs.specs.Layout.{key_len_of};
 ghost use Rattle.rule_set.specs.Limits.{max_categories};
-ghost use Rattle.rule_set.specs.Rule.{CanMatchAll};
+ghost use Rattle.rule_set.specs.ValuesMatch.{CanMatchAll};
 ghost use Rattle.rule_set.specs.Winner.{rule_match, is_in_category, verdict};
 
 use crate::rule::RuleTag;

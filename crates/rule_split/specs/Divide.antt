@@ -7,7 +7,7 @@ use Rattle.std.specs.Prelude.{ℕ, ◌+◌, ◌/◌, ◌==◌, List, [], ◌∷�
 use Rattle.std.specs.Prelude.{min, slice_index_or, Bool, not, if◌then◌else◌}
 use Rattle.std.specs.List.{position_or_len, range_with_len}
 use Rattle.field_defs.specs.declared.field.FieldValue.TheVariants.{Mask}
-use Rattle.field_defs.specs.FieldMatch.{is_wild}
+use Rattle.field_defs.specs.FieldBounds.{is_wild}
 use Rattle.field_defs.specs.LayoutFault.{def_at}
 use Rattle.rule_set.specs.Rule.{RuleSetView}
 use Rattle.rule_set.specs.Groups.{greatest}

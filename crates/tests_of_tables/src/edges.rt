@@ -1,7 +1,7 @@
 //! The calls on values whose edges were worked out by hand.
 
 ghost use Rattle.std.specs.Prelude.{◌≡◌, ◌<◌, length, IsTrue};
-ghost use Rattle.field_defs.specs.FieldMatch.{CanMatch, is_range_filled};
+ghost use Rattle.field_defs.specs.FieldBounds.{CanMatch, is_range_filled};
 ghost use Rattle.node_expand.specs.Edges.{StandsBefore};
 
 use field_defs::FieldValue;

@@ -34,10 +34,10 @@ mod images;
 #[cfg(test)]
 mod numbers;
 #[cfg(test)]
-mod table_parts;
-#[cfg(test)]
 mod recount;
 #[cfg(test)]
 mod seeds;
 #[cfg(test)]
 mod splits;
+#[cfg(test)]
+mod table_parts;

@@ -9,7 +9,8 @@ use Rattle.std.proofs.lemmas.Bool.{cond_both, or_left, and_cases, lt-leb, leb-fa
 use Rattle.std.proofs.lemmas.Bool.{leb-true, le-ltb, eq-eqb, or_right}
 use Rattle.std.specs.List.{list_all, starts_with, join_with_byte, AllByRecursion, fold, list_any}
 use Rattle.text_scan.specs.Parts.{dot, parts_of, colon}
-use Rattle.text_scan.specs.Ip4.{is_ip4_group, ip4_of, address_of, is_ip4, ip4_bytes, ip4_spelling}
+use Rattle.text_scan.specs.Ip4.{is_ip4_group, ip4_of, address_of, is_ip4}
+use Rattle.text_scan.specs.Ip4Text.{ip4_bytes, ip4_spelling}
 use Rattle.std.proofs.lemmas.Grind.{flat_map-append}
 use Rattle.std.proofs.lemmas.List.{take_more, length_push, take_at, append-nil, drop_at}
 use Rattle.std.proofs.lemmas.List.Folds.{list_all-append, list_all-map, list_all_at}
@@ -18,7 +19,8 @@ use Rattle.text_scan.specs.declared.pieces.Pieces.{Pieces}
 use Rattle.text_scan.specs.Digits.{place_value, are_digits}
 use Rattle.text_scan.specs.Ip6.{is_ip6_group, is_ip6_end, pieces_of, are_groups, are_last_groups, pieces_of_all, joined}
 use Rattle.text_scan.specs.Ip6.{has_gap, groups_before, groups_after, is_shortened, filled_pieces, ip6_of, gap_place}
-use Rattle.text_scan.specs.Ip6.{groups_of, ip6_pieces, ip6_spelling, is_full}
+use Rattle.text_scan.specs.Ip6.{groups_of, is_full}
+use Rattle.text_scan.specs.Ip6Text.{ip6_pieces, ip6_spelling}
 use Rattle.text_scan.specs.Pieces.{with_pieces, pieces_from}
 use Rattle.list_lemmas.proofs.Tests.{and_true}
 use Rattle.list_lemmas.proofs.Texts.{joined-filled, Lacks-digits, parts_of_one, Lacks, some_part, first_of_join}

@@ -2,10 +2,10 @@
 -- most 255, separated by dots (RFC 1123, section 2.1, names the form; RFC 3986, section 3.2.2, has
 -- it as IPv4address, without leading zeros). Here leading zeros are accepted within the three
 -- digits, and the group stays decimal.
-use Rattle.std.specs.Prelude.{ℕ, ◌/◌, ◌%◌, ◌==◌, Bool, ◌&&◌, nat_le, if◌then◌else◌, List, [], ◌∷◌}
+use Rattle.std.specs.Prelude.{ℕ, ◌==◌, Bool, ◌&&◌, nat_le, if◌then◌else◌, List}
 use Rattle.std.specs.Prelude.{map, length, Option, Some, None}
 use Rattle.std.specs.Fmt.{decimal}
-use Rattle.std.specs.List.{list_all, join_with_byte}
+use Rattle.std.specs.List.{list_all}
 use Rattle.byte_numbers.specs.Number.{number_of}
 use Rattle.text_scan.specs.Digits.{place_value, is_group}
 use Rattle.text_scan.specs.Parts.{dot, parts_of}
@@ -30,12 +30,3 @@ ip4_of text = if is_ip4 text then Some (ip4_value text) else None
 abbrev pub address_of : List (List ℕ) → Option ℕ
 address_of groups =
     if list_all is_ip4_group groups then Some (number_of (map (place_value 10) groups)) else None
-
--- the four bytes of an address, the most significant first
-abbrev pub ip4_bytes : ℕ → List ℕ
-ip4_bytes value =
-    value / 0x100_0000 % 256 ∷ value / 0x1_0000 % 256 ∷ value / 0x100 % 256 ∷ value % 256 ∷ []
-
--- the text of an address, its bytes in decimal without leading zeros
-abbrev pub ip4_spelling : ℕ → List ℕ
-ip4_spelling value = join_with_byte dot (map decimal (ip4_bytes value))

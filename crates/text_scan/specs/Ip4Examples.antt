@@ -1,7 +1,8 @@
 -- Examples of the texts of IPv4 addresses, each checked by evaluation.
 use Rattle.std.specs.Prelude.{◌≡◌, codes, Some, None, refl}
 use Rattle.std.specs.Fmt.{digits}
-use Rattle.text_scan.specs.Ip4.{ip4_of, ip4_spelling}
+use Rattle.text_scan.specs.Ip4.{ip4_of}
+use Rattle.text_scan.specs.Ip4Text.{ip4_spelling}
 
 all_zeros : ip4_of (codes "0.0.0.0") ≡ Some 0
 all_zeros = refl

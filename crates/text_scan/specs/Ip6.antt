@@ -2,11 +2,11 @@
 -- either case, separated by `:` (form 1); `::` once, for one or more groups of zeros (form 2); the
 -- last two groups as an IPv4 address (form 3). A zone after the address (RFC 4007, section 11) is
 -- no part of it.
-use Rattle.std.specs.Prelude.{ℕ, suc, ◌+◌, ◌-◌, ◌*◌, ◌/◌, ◌%◌, ◌^◌, ◌==◌, Bool, ◌&&◌, ◌||◌, nat_le}
-use Rattle.std.specs.Prelude.{nat_lt, nat_eq, false, if◌then◌else◌, List, [], ◌∷◌, ◌++◌, map}
+use Rattle.std.specs.Prelude.{ℕ, suc, ◌+◌, ◌-◌, ◌*◌, ◌/◌, ◌%◌, ◌==◌, Bool, ◌&&◌, ◌||◌, nat_le}
+use Rattle.std.specs.Prelude.{nat_lt, nat_eq, if◌then◌else◌, List, [], ◌∷◌, ◌++◌}
 use Rattle.std.specs.Prelude.{length, take, drop, replicate, codes, Option, Some, None}
 use Rattle.std.specs.Fmt.{digits}
-use Rattle.std.specs.List.{list_all, flat_map, fold, starts_with, join_with_byte}
+use Rattle.std.specs.List.{list_all, flat_map, fold, starts_with}
 use Rattle.text_scan.specs.Digits.{place_value, is_group}
 use Rattle.text_scan.specs.Parts.{colon, parts_of}
 use Rattle.text_scan.specs.Ip4.{is_ip4, ip4_value}
@@ -89,12 +89,3 @@ ip6_of text =
     if has_gap text
     then (if is_shortened text then Some (joined (shortened_pieces text)) else None)
     else (if is_full text then Some (joined (pieces_of_all (groups_of text))) else None)
-
--- the eight pieces of an address, the most significant first
-abbrev pub ip6_pieces : ℕ → List ℕ
-ip6_pieces value = map (λ place. value / 65536 ^ place % 65536) (7 ∷ 6 ∷ 5 ∷ 4 ∷ 3 ∷ 2 ∷ 1 ∷ 0 ∷ [])
-
--- the text of an address: its eight pieces in lower-case hexadecimal without leading zeros, and
--- without `::`
-abbrev pub ip6_spelling : ℕ → List ℕ
-ip6_spelling value = join_with_byte colon (map (digits 16 false) (ip6_pieces value))

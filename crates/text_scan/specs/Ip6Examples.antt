@@ -1,7 +1,8 @@
 -- Examples of the texts of IPv6 addresses, each checked by evaluation.
 use Rattle.std.specs.Prelude.{◌≡◌, codes, Some, None, refl}
 use Rattle.std.specs.Fmt.{digits}
-use Rattle.text_scan.specs.Ip6.{ip6_of, ip6_spelling}
+use Rattle.text_scan.specs.Ip6.{ip6_of}
+use Rattle.text_scan.specs.Ip6Text.{ip6_spelling}
 
 eight_groups : ip6_of (codes "1:2:3:4:5:6:7:8") ≡ Some 0x0001_0002_0003_0004_0005_0006_0007_0008
 eight_groups = refl

@@ -4,7 +4,9 @@ pub mod PartsExamples
 pub mod Numeral
 pub mod NumeralExamples
 pub mod Ip4
+pub mod Ip4Text
 pub mod Ip4Examples
 pub mod Ip6
+pub mod Ip6Text
 pub mod Ip6Examples
 pub mod Pieces

@@ -2,7 +2,8 @@
 
 ghost use Rattle.std.specs.Prelude.{◌≡◌, ◌≤◌, [], ◌∷◌, if◌then◌else◌, length, take, drop};
 ghost use Rattle.text_scan.specs.Digits.{place_value};
-ghost use Rattle.text_scan.specs.Ip4.{address_of, ip4_of, ip4_spelling, is_ip4_group};
+ghost use Rattle.text_scan.specs.Ip4.{address_of, ip4_of, is_ip4_group};
+ghost use Rattle.text_scan.specs.Ip4Text.{ip4_spelling};
 
 use crate::digits::{group_value, put_groups};
 use crate::text_parts::{split_in_two, split_once};

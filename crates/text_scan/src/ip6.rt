@@ -2,7 +2,8 @@
 
 ghost use Rattle.std.specs.Prelude.{◌≡◌, ◌+◌, ◌≤◌, ◌/◌, ◌%◌, ◌^◌, ◌<◌, if◌then◌else◌, length, take};
 ghost use Rattle.std.specs.Prelude.{drop, IfSome};
-ghost use Rattle.text_scan.specs.Ip6.{gap_place, has_gap, ip6_of, ip6_spelling};
+ghost use Rattle.text_scan.specs.Ip6.{gap_place, has_gap, ip6_of};
+ghost use Rattle.text_scan.specs.Ip6Text.{ip6_spelling};
 
 use crate::digits::put_groups;
 use crate::pieces::{first_pieces, last_pieces};

@@ -4,9 +4,11 @@
 ghost use Rattle.std.specs.Prelude.{◌≡◌, ◌+◌, ◌-◌, ◌^◌, ◌≤◌, ◌++◌, IsTrue, codes, length};
 ghost use Rattle.std.specs.Fmt.{decimal};
 ghost use Rattle.text_scan.specs.Numeral.{whole_number};
-ghost use Rattle.text_scan.specs.Ip4.{ip4_of, ip4_spelling};
+ghost use Rattle.text_scan.specs.Ip4.{ip4_of};
+ghost use Rattle.text_scan.specs.Ip4Text.{ip4_spelling};
 ghost use Rattle.text_scan.specs.Ip6.{are_groups, are_last_groups, filled_pieces, groups_of};
-ghost use Rattle.text_scan.specs.Ip6.{ip6_of, ip6_spelling, joined, pieces_of_all};
+ghost use Rattle.text_scan.specs.Ip6.{ip6_of, joined, pieces_of_all};
+ghost use Rattle.text_scan.specs.Ip6Text.{ip6_spelling};
 
 /// Groups, `::` and groups are an address, if they are few enough: RFC 4291, section 2.2, form 2,
 /// with form 3 at the end.

@@ -19,8 +19,8 @@ mod ip4;
 mod ip6;
 pub mod laws;
 mod numeral;
-mod text_parts;
 mod pieces;
+mod text_parts;
 
 pub use digits::digits_value;
 pub use ip4::{ip4_text, put_ip4};

@@ -2,7 +2,7 @@
 use Rattle.std.specs.Prelude.{◌≡◌, ℕ, ◌+◌, ◌^◌, ◌<◌, ◌≤◌, true}
 use Rattle.std.specs.Prelude.{nat_lt, Bool, not, ◌||◌, ◌&&◌}
 use Rattle.field_defs.specs.declared.field.FieldValue.{FieldValue}
-use Rattle.field_defs.specs.FieldMatch.{is_wild}
+use Rattle.field_defs.specs.FieldBounds.{is_wild}
 use Rattle.node_expand.specs.Allowed.{answer_of, IsFilled}
 use Rattle.node_expand.specs.Edges.{edge_step, is_bitmask}
 use Rattle.group_states.specs.Entry.{number_in, ColumnView, value_in, edge_before}

@@ -1,7 +1,7 @@
 //! What one place of the key asks of the rules.
 
 ghost use Rattle.std.specs.Prelude.{◌≡◌, ◌<◌, length};
-ghost use Rattle.field_defs.specs.FieldMatch.{CanMatch};
+ghost use Rattle.field_defs.specs.FieldBounds.{CanMatch};
 ghost use Rattle.field_defs.specs.Layout.{key_len_of};
 ghost use Rattle.group_states.specs.Entry.{field_at};
 ghost use Rattle.trie_merge.specs.Asked.{stays_free};

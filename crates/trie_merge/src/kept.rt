@@ -4,7 +4,7 @@ ghost use Rattle.std.specs.Prelude.{◌≡◌, ◌==◌, ◌^◌, ◌<◌, ◌�
 ghost use Rattle.std.specs.Prelude.{slice_index_or, All, IfOk};
 ghost use Rattle.std.specs.List.{list_all};
 ghost use Rattle.field_defs.specs.declared.field.FieldValue.TheVariants.{Mask};
-ghost use Rattle.field_defs.specs.FieldMatch.{CanMatch, is_wild};
+ghost use Rattle.field_defs.specs.FieldBounds.{CanMatch, is_wild};
 ghost use Rattle.field_defs.specs.Layout.{key_len_of};
 ghost use Rattle.table_sizes.specs.Groups.{group_of, max_key_len};
 ghost use Rattle.group_states.specs.Kept.{is_wild_place, key_places};

@@ -2,7 +2,7 @@ use Rattle.std.proofs.Common.{◌≡◌, ◌+◌, ◌*◌, length, take, drop, s
 use Rattle.std.proofs.lemmas.List.{take_rest, length-take, length-drop}
 use Rattle.std.proofs.lemmas.Nat.{and_mask}
 use Rattle.header_extract.specs.declared.class.Class.TheVariants.{Ip4, Short}
-use Rattle.header_extract.specs.Class.{or_short}
+use Rattle.header_extract.specs.Extracted.{or_short}
 use Rattle.header_extract.specs.Ip4.{protocol_of, ip4_ports}
 use Rattle.header_extract.proofs.Ip4Packets.{HasHeader, ip4_class-key, ip4_class-cut}
 use Rattle.header_extract.proofs.Keys.{KeyParts, Extracts-written}

@@ -1,7 +1,7 @@
 use Rattle.std.proofs.Common.{◌≡◌, ◌+◌, length, take, drop, slice_index, Ok, Err, refl, sym, ap, ◌∙◌, arith}
 use Rattle.std.proofs.lemmas.List.{take_rest, length-take, length-drop}
 use Rattle.header_extract.specs.declared.class.Class.TheVariants.{Ip6, Short}
-use Rattle.header_extract.specs.Class.{or_short}
+use Rattle.header_extract.specs.Extracted.{or_short}
 use Rattle.header_extract.specs.Ip6.{upper_of}
 use Rattle.header_extract.proofs.Ip6Packets.{ip6_class-key, ip6_class-cut}
 use Rattle.header_extract.proofs.Keys.{KeyParts, Extracts-written}

@@ -1,7 +1,7 @@
 use Rattle.std.proofs.Common.{slice_index, sym, ap, ◌∙◌}
 use Rattle.std.proofs.lemmas.List.{take_rest}
 use Rattle.header_extract.specs.declared.class.Class.TheVariants.{Short}
-use Rattle.header_extract.specs.Class.{or_short}
+use Rattle.header_extract.specs.Extracted.{or_short}
 use Rattle.header_extract.specs.Ip6.{upper_of}
 use Rattle.header_extract.proofs.Chains.{upper_of-leads, upper_of-ends, upper_of-fails, upper_of-last}
 use Rattle.header_extract.proofs.Chains.{header_step-short, header_step-cut, header_step-leads, header_step-later}

@@ -1,6 +1,6 @@
 use Rattle.std.proofs.Common.{◌≡◌, IsTrue, sym, subst}
 use Rattle.field_defs.specs.declared.field.FieldValue.TheVariants.{Range}
-use Rattle.field_defs.specs.FieldMatch.{is_range_filled, is_wild}
+use Rattle.field_defs.specs.FieldBounds.{is_range_filled, is_wild}
 use Rattle.node_expand.specs.Rest.{as_range}
 use Rattle.node_expand.proofs.EdgeRests.{as_its_range}
 use Rattle.node_expand.proofs.expand.as_range.Goals as goal

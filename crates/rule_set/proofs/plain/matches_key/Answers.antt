@@ -5,7 +5,8 @@ use Rattle.std.proofs.lemmas.List.Sums.{sum_by-drop_more}
 use Rattle.std.proofs.lemmas.Slice.Zip.{zip_turn, zip_end}
 use Rattle.byte_numbers.specs.Number.{number_of}
 use Rattle.field_defs.specs.declared.field.FieldDef.{FieldDef}
-use Rattle.field_defs.specs.FieldMatch.{field_match, CanMatch}
+use Rattle.field_defs.specs.FieldMatch.{field_match}
+use Rattle.field_defs.specs.FieldBounds.{CanMatch}
 use Rattle.field_defs.proofs.Offered.{size_at_most_8}
 use Rattle.rule_set.specs.Winner.{rule_match}
 use Rattle.rule_set.proofs.Fields.{can_match_pair, rule_match-drop, rule_match-drop_all}

@@ -1,5 +1,5 @@
 use Rattle.std.proofs.Common.{◌≡◌, [], ◌∷◌, length, refl, rules, arith}
-use Rattle.text_scan.specs.Ip4.{ip4_spelling}
+use Rattle.text_scan.specs.Ip4Text.{ip4_spelling}
 use Rattle.list_lemmas.proofs.Texts.{four_fit}
 use Rattle.text_scan.proofs.Addresses.{length-ip4_spelling-le}
 use Rattle.text_scan.specs.Parts.{dot}

@@ -1,5 +1,5 @@
 use Rattle.std.proofs.Common.{◌≡◌, [], ◌∷◌, length, refl, rules, arith}
-use Rattle.text_scan.specs.Ip6.{ip6_spelling}
+use Rattle.text_scan.specs.Ip6Text.{ip6_spelling}
 use Rattle.list_lemmas.proofs.Texts.{eight_fit}
 use Rattle.text_scan.proofs.Addresses.{length-ip6_spelling-le}
 use Rattle.text_scan.specs.Parts.{colon}

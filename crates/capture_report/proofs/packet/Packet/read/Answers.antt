@@ -4,7 +4,8 @@ use Rattle.std.proofs.lemmas.List.Elements.{All-take}
 use Rattle.std.proofs.Math.Seq.{take-append_seam}
 use Rattle.header_extract.specs.declared.class.Class.{Class}
 use Rattle.header_extract.specs.Link.{frame_class}
-use Rattle.header_extract.specs.Class.{key_len, settled}
+use Rattle.header_extract.specs.Class.{settled}
+use Rattle.header_extract.specs.Extracted.{key_len}
 use Rattle.capture_report.proofs.packet.Packet.read.Goals as goal
 
 -- the key stands in front of what was extracted

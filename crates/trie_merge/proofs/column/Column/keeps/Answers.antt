@@ -3,7 +3,7 @@ use Rattle.std.proofs.Common.{arith, rules}
 use Rattle.std.specs.Option.{option_map}
 use Rattle.std.proofs.Math.Bool.{or-false}
 use Rattle.std.proofs.lemmas.Bool.{and_parts, and_right, cases_Bool, cond_both, eqb-true}
-use Rattle.field_defs.specs.FieldMatch.{is_wild}
+use Rattle.field_defs.specs.FieldBounds.{is_wild}
 use Rattle.node_expand.specs.declared.edge.Edge.TheVariants.{Free}
 use Rattle.node_expand.specs.Edges.{edge_step, is_change, is_cut, is_bitmask}
 use Rattle.node_expand.proofs.Offered.{wild_stays_free, all_left_step}
