@@ -48,6 +48,7 @@ use Rattle.list_lemmas.proofs.Searches.{any_is_some, find_shifted, find_on_range
 
 -- ---- tests that agree
 
+-- two tests that agree on some keys find the same key among them
 find_where : (p q : List ℕ → Bool) (ks : List (List ℕ)) → AllByRecursion (λ key. p key ≡ q key) ks
     → find p ks ≡ find q ks
 find_where p q [] same = refl
@@ -101,6 +102,7 @@ least_shifted test old len more same =
 abbrev pub unlike_inside : RuleSetView → List ℕ → ℕ → Bool
 unlike_inside set key category = not (verdict_of set key category == verdict_of set key (category + half_len))
 
+-- the userdata of a winner's entry is that of the winner
 userdata_is : (rules : List RuleView) (won : Option ℕ) → entry_userdata rules (entry_for won) ≡ userdata_at rules won
 userdata_is rules None = refl
 userdata_is rules (Some place) =
@@ -124,6 +126,7 @@ IsFirstUnlike rules row_for keys before unlike found =
     ⊎ ((k : ℕ) × (c : ℕ) × (k < length keys) × (unlike ≡ Some (record { row = before + k; category = c }))
     × (found ≡ Some (get_or keys k [])) × (unlike_category rules (row_for (get_or keys k [])) ≡ Some c))
 
+-- the first unlike row is that of the first key whose row is unlike
 unlike_found : (rules : List RuleView) (row_for : List ℕ → List ℕ) (before : ℕ) (ks : List (List ℕ))
     → IsFirstUnlike rules row_for ks before (first_unlike rules before (map row_for ks))
     (find (λ key. is_some (unlike_category rules (row_for key))) ks)
@@ -236,6 +239,7 @@ module _ (set : RuleSetView) (is : IsGrouped set (all_rules set)) (among : TheWi
 
 -- ---- a half and its two sets
 
+-- two sets are unlike in a category exactly if the two lists of the category's half are
 unlike_of_both : (one two : RuleSetView) (half : ℕ) → one.layout ≡ two.layout → (key : List ℕ) (n : ℕ) → n < 8
     → is_unlike one two key (half_len * half + n) ≡ unlike_inside (half_of one two half) key n
 unlike_of_both one two half layouts key n below =
@@ -244,6 +248,7 @@ unlike_of_both one two half layouts key n below =
     == (sym (halves_have_verdicts.second one two half n key layouts below)
     ∙ ap (verdict_of (half_of one two half) key) e) i)
 
+-- a half has the layout of its sets
 same_layout : (one two : RuleSetView) (half : ℕ) → (half_of one two half).layout ≡ one.layout
 unfolding half_of
 same_layout one two half = refl
@@ -259,6 +264,7 @@ difference_by_half one two half layouts =
     ∙ ap (λ l. option_map (old_category (half_len * half))
     (least_passing (unlike_inside (half_of one two half)) (key_len_of l) 0)) (sym (same_layout one two half))
 
+-- the first unlike row of a half says the difference of the sets in its categories
 pub half_told : (one two : RuleSetView) (half : ℕ) (set : RuleSetView) (levels : LevelsView) (unlike : Option Unlike)
     → one.layout ≡ two.layout → set ≡ half_of one two half → AreMerged set levels
     → unlike ≡ first_unlike set.rules 0 levels.rows
@@ -281,18 +287,22 @@ half_told one two half set levels unlike layouts is its first =
 
 -- ---- a half without rules
 
+-- nothing is found by a test that nothing passes
 never_found : {X : Type 0} (p : X → Bool) → ((x : X) → p x ≡ false) → (xs : List X) → find p xs ≡ None
 never_found p never [] = refl
 never_found p never (x ∷ xs) = ap (λ b. cond b (Some x) (find p xs)) (never x) ∙ never_found p never xs
 
+-- a list of length 0 has no rules
 no_rules : (rules : List RuleView) → length rules ≡ 0 → rules ≡ []
 no_rules [] none = refl
 no_rules (rule ∷ rules) none = absurd (omega (arith, none))
 
+-- a set without rules has verdict 0 for each key
 no_verdict : (set : RuleSetView) → length set.rules ≡ 0 → (key : List ℕ) (category : ℕ)
     → verdict_of set key category ≡ 0
 no_verdict set none key category = ap (λ rules. verdict set.layout rules key category) (no_rules set.rules none)
 
+-- there is no least key that passes a test if no key does
 never_passing : (test : List ℕ → ℕ → Bool) (len : ℕ) → ((key : List ℕ) (n : ℕ) → test key n ≡ false)
     → least_passing test len 0 ≡ None
 unfolding least_passing
@@ -302,6 +312,7 @@ never_passing test len never =
     ∙ never_found (λ key. list_any (test key) (eight_from 0))
     (λ key. any_by_find (test key) (eight_from 0) (never_found (test key) (never key) (eight_from 0))) (prefixes len))
 
+-- there is no difference in the categories of a half that has no rules
 pub none_told : (one two : RuleSetView) (half : ℕ) (set : RuleSetView) → one.layout ≡ two.layout
     → set ≡ half_of one two half → length set.rules ≡ 0 → None ≡ difference_from one two (half_len * half)
 none_told one two half set layouts is none =
@@ -314,10 +325,12 @@ none_told one two half set layouts is none =
 
 -- ---- both halves
 
+-- the first answer of none and another is the other
 first_of_second : {X : Type 0} (o : Option X) → first_of (None ∷ o ∷ []) ≡ o
 first_of_second None = refl
 first_of_second (Some x) = refl
 
+-- what is told of the second half is told of the sets if the first half has no difference
 pub told_second : (one two : RuleSetView) (result : Result Compared CompareFault)
     → None ≡ difference_from one two (half_len * 0)
     → IfOk result (λ compared. told_difference compared ≡ difference_from one two (half_len * 1))
@@ -328,11 +341,13 @@ told_second one two (Ok compared) none told =
     told ∙ sym (ap (λ o. first_of (o ∷ difference_from one two 8 ∷ [])) (sym none)
     ∙ first_of_second (difference_from one two 8))
 
+-- the difference of the first half, if it has one, is that of the sets
 pub told_first : (one two : RuleSetView) (at : Difference) → Some at ≡ difference_from one two (half_len * 0)
     → Some at ≡ difference one two
 unfolding difference
 told_first one two at is = ap (λ o. first_of (o ∷ difference_from one two 8 ∷ [])) is
 
+-- no difference is told exactly if the sets are alike
 pub same_told : (one two : RuleSetView) (result : Result Compared CompareFault)
     → IfOk result (λ compared. told_difference compared ≡ difference one two)
     → IfOk result (λ compared. told_difference compared ≡ None ↔ AreAlike one two)
@@ -341,6 +356,7 @@ same_told one two (Ok compared) told =
     let law = differences_tell.none one two in
     (λ none. law.0 (sym told ∙ none), λ alike. told ∙ law.1 alike)
 
+-- if a difference is told, the sets are unlike there
 pub differ_told : (one two : RuleSetView) (result : Result Compared CompareFault)
     → IfOk result (λ compared. told_difference compared ≡ difference one two)
     → IfOk result (λ compared. IfSome (told_difference compared) (AreUnlikeAt one two))

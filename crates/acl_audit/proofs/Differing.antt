@@ -91,10 +91,12 @@ least_some test len key is =
           (prefixes_are len) found,
     )
 
+-- all bytes are the numbers below 256
 bytes_are : all_bytes ≡ range_with_len 0 256
 unfolding all_bytes
 bytes_are = refl
 
+-- if there is no answer, the test failed
 fails : {X : Type 0} (b : Bool) (x : X) → cond b (Some x) None ≡ None → b ≡ false
 fails true x h = absurd (cc)
 fails false x h = refl
@@ -115,11 +117,13 @@ least_none test (suc lacking) key none (byte ∷ rest) bytes long =
 
 -- ---- differences
 
+-- the first of two answers is one of them
 first_of_two : {X : Type 0} (a b : Option X) (x : X) → first_of (a ∷ b ∷ []) ≡ Some x → (a ≡ Some x) ⊎ (b ≡ Some x)
 first_of_two None None x is = absurd (cc)
 first_of_two None (Some y) x is = inr is
 first_of_two (Some y) b x is = inl is
 
+-- if two answers have no first one, neither is there
 first_of_none : {X : Type 0} (a b : Option X) → first_of (a ∷ b ∷ []) ≡ None → (a ≡ None) × (b ≡ None)
 first_of_none None None is = (refl, refl)
 first_of_none None (Some y) is = absurd (cc)
@@ -220,6 +224,7 @@ module _ (one two : RuleSetView) where
           (let unlike = some_unlike at is in absurd
           (unlike.unlike (alike at.key at.category unlike.key unlike.category)))
 
+-- there is no difference exactly if the sets are alike, and at a difference they are unlike
 pub differences_tell : DifferencesTellUnlikeSets
 differences_tell = record {
   none = λ one two. (none_alike one two, alike_none one two);

@@ -38,6 +38,7 @@ use Rattle.list_lemmas.proofs.Loops.{below_count}
 
 -- ---- the group of all rules
 
+-- the rules of a set that has some are a group
 pub all_are_group : (set : RuleSetView) → 0 < length set.rules → IsGroup set (all_rules set)
 all_are_group set some =
     let n : ℕ = length set.rules in
@@ -126,6 +127,7 @@ module _ (set : RuleSetView) (group : List ℕ) where
 
 -- ---- what the rows hold
 
+-- the entry of what is found is at most the number of all that was looked at
 position_low : {X : Type 0} (p : X → Bool) (n : ℕ) (xs : List X) → entry_for (position_from p n xs) ≤ n + length xs
 position_low p n [] = omega arith
 position_low p n (x ∷ xs) = by (p x) (position_low p (n + 1) xs)
@@ -135,6 +137,7 @@ position_low p n (x ∷ xs) = by (p x) (position_low p (n + 1) xs)
     by true rest = omega arith
     by false rest = omega (arith, rest)
 
+-- a final row that is live has an entry for each category
 final_long : (set : RuleSetView) (s : List Held) → is_live (final_row set s) ≡ true → length (final_row set s) ≡ row_len
 unfolding final_row row_of categories
 final_long set [] live = absurd (true≢false (sym live))

@@ -28,6 +28,7 @@ userdata_or found = option_map_or (λ (rule : RuleView). rule.tag.userdata) foun
 abbrev decided : List RuleView → ℕ
 decided rules = userdata_or (find (is_greatest rules) rules)
 
+-- the first that passes two tests is the first by the second of those that pass the first
 first_of_both : (p q : RuleView → Bool) (xs : List RuleView) → find (λ x. p x && q x) xs ≡ find q (filter p xs)
 first_of_both p q [] = refl
 first_of_both p q (x ∷ xs) = by (p x) (first_of_both p q xs)
@@ -37,6 +38,7 @@ first_of_both p q (x ∷ xs) = by (p x) (first_of_both p q xs)
     by true rest = ap (λ f. cond (q x) (Some x) f) rest
     by false rest = rest
 
+-- the userdata at the position of the first rule that passes is that of the rule
 userdata_of_first : (p : RuleView → Bool) (rules : List RuleView)
     → userdata_at rules (position_from p 0 rules) ≡ userdata_or (find p rules)
 userdata_of_first p rules = by (find p rules) (position_of_found p 0 rules)
@@ -50,6 +52,7 @@ userdata_of_first p rules = by (find p rules) (position_of_found p 0 rules)
         let e : 0 + i ≡ i = omega arith in
         ap (userdata_at rules) is ∙ ap (λ n. userdata_or (slice_get rules n)) e ∙ ap userdata_or there
 
+-- a verdict is decided by the rules that apply to the key in the category
 pub verdict_by : (layout : List FieldDef) (rules : List RuleView) (key : List ℕ) (category : ℕ)
     → verdict layout rules key category ≡ decided (filter (applies layout key category) rules)
 verdict_by layout rules key category =
@@ -111,6 +114,7 @@ filter_of_kept p k keeps (x ∷ xs) = by (k x) refl (p x) refl (filter_of_kept p
     by false kept true is rest = absurd (true≢false (sym (keeps x is) ∙ kept))
     by false kept false is rest = rest
 
+-- no rule passes a test that always fails
 none_pass : (xs : List RuleView) → filter (λ x. false) xs ≡ []
 none_pass [] = refl
 none_pass (x ∷ xs) = none_pass xs
@@ -175,6 +179,7 @@ module _ (layout : List FieldDef) (key : List ℕ) (half list category : ℕ) (b
       halved_applying (applies layout key old)
       (λ x. (λ i. rule_match layout x.fields key && (same i && is_in_category x.tag (is i)))) xs
 
+-- the verdicts of a half are those of its two sets
 pub halves_have_verdicts : HalvesHaveTheVerdictsOfBoth
 unfolding half_of
 halves_have_verdicts = record {

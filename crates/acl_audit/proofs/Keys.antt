@@ -21,11 +21,13 @@ use Rattle.acl_audit.proofs.Least.{longer}
 
 -- ---- lists
 
+-- the first few bytes of a key are bytes
 bytes_before : (n : ℕ) (key : List ℕ) → AreBytes key → AreBytes (take n key)
 bytes_before zero key small = tt
 bytes_before (suc n) [] small = tt
 bytes_before (suc n) (b ∷ key) small = (small.0, bytes_before n key small.1)
 
+-- a key with another byte at a place is one of bytes
 bytes_with : (key : List ℕ) (i byte : ℕ) → AreBytes key → byte < 256 → AreBytes (slice_set key i byte)
 bytes_with [] i byte small below = tt
 bytes_with (b ∷ key) zero byte small below = (below, small.1)
@@ -44,6 +46,7 @@ zeros_after key n (suc count) within none =
     (take_more key n 0 (omega (arith, within)) ∙ ap (λ b. take n key ++ b ∷ []) (none n (omega arith)))
     ∙ append_assoc (take n key) (0 ∷ []) (replicate count 0)
 
+-- lists of one element each, joined and mapped, are the elements mapped one by one
 flat_map-singles : {X Y Z : Type 0} (f : Y → Z) (h : X → Y) (xs : List X)
     → map f (flat_map (λ x. h x ∷ []) xs) ≡ map (λ x. f (h x)) xs
 flat_map-singles f h [] = refl
@@ -59,6 +62,7 @@ pub record KeyFrom (len place : ℕ) (key : List ℕ) : Type 0 where
   pub bytes : AreBytes key
   pub none : (i : ℕ) → place ≤ i → get_or key i 0 ≡ 0
 
+-- what is 0 from a place on is 0 from a later one on
 pub key_later : (len place next : ℕ) (key : List ℕ) → place ≤ next → KeyFrom len place key → KeyFrom len next key
 key_later len place next key later is = record {
   long = is.long;
@@ -66,6 +70,7 @@ key_later len place next key later is = record {
   none = λ i from. is.none i (omega (arith, later, from));
 }
 
+-- with a byte set at the place the zeros begin one later
 pub key_with : (len place : ℕ) (key : List ℕ) (byte : ℕ) → KeyFrom len place key → byte < 256
     → KeyFrom len (place + 1) (slice_set key place byte)
 key_with len place key byte is below = record {
@@ -75,10 +80,12 @@ key_with len place key byte is below = record {
       ∙ is.none i (omega (arith, from));
 }
 
+-- the bytes before the zeros are a prefix of the place
 pub key_begins : (len place : ℕ) (key : List ℕ) → place ≤ len → KeyFrom len place key → IsPrefix place (take place key)
 key_begins len place key within is =
     (bytes_before place key is.bytes, length-take-le place key (omega (arith, within, is.long)))
 
+-- the same of keys with each byte at the place
 pub keys_with : (len place : ℕ) (keys : List (List ℕ)) → AllByRecursion (KeyFrom len place) keys
     → AllByRecursion (KeyFrom len (place + 1)) (written place keys)
 keys_with len place keys are =
@@ -123,6 +130,7 @@ written_begins len place (key ∷ keys) within are =
         (λ byte below. take_more_set key place byte (omega (arith, within, are.0.long))) bytes_below)
         ∙ singles (λ byte. take place key ++ byte ∷ []) all_bytes
 
+-- a state that isn't live is empty
 pub not_live : (s : List Held) → is_live s ≡ false → s ≡ []
 not_live [] dead = refl
 not_live (h ∷ s) dead = absurd (true≢false dead)

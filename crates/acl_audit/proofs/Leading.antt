@@ -43,6 +43,7 @@ pairs_keyed len place keys before (key ∷ rest) are =
     (λ k below. (let e : before + 1 + k ≡ before + suc k = omega arith in
     ap (λ n. get_or keys n (replicate len 0)) e ∙ are (suc k) (omega (arith, below)))) i)
 
+-- the links of so many states lead back to one of these
 pairs_below : (before count limit : ℕ) → before + count ≤ limit
     → AllByRecursion (λ (link : Link). link.before < limit) (pairs_from before count)
 pairs_below before zero limit within = tt
@@ -141,6 +142,7 @@ pub live_says : (count place : ℕ) (live : Bool)
 live_says count place true = refl
 live_says count place false = refl
 
+-- a row that may be dead is the next one exactly if it is live and has the number
 pub live_says_row : (count place : ℕ) (live : Bool)
     → is_next count (cond live (Row place) Dead) ≡ (live && place == count)
 live_says_row count place true = refl

@@ -24,6 +24,7 @@ abbrev pub first_then : {X : Type 0} → Option X → Option X → Option X
 first_then None other = other
 first_then (Some x) other = Some x
 
+-- the first that passes in two lists is that of the first one, or else that of the second
 pub find-then : {X : Type 0} (p : X → Bool) (xs ys : List X) → find p (xs ++ ys) ≡ first_then (find p xs) (find p ys)
 find-then p [] ys = refl
 find-then p (x ∷ xs) ys = elim (cases_Bool (p x)) [
@@ -31,15 +32,18 @@ find-then p (x ∷ xs) ys = elim (cases_Bool (p x)) [
   | inr e ↦ rw e (find-then p xs ys)
 ]
 
+-- the lists that two lists of starts are completed to are those of each
 completed-append : (n : ℕ) (xs ys : List (List ℕ)) → completed n (xs ++ ys) ≡ completed n xs ++ completed n ys
 completed-append zero xs ys = refl
 completed-append (suc n) xs ys =
     ap (completed n) (flat_map-append longer xs ys) ∙ completed-append n (flat_map longer xs) (flat_map longer ys)
 
+-- without a start there is nothing that is completed
 completed-nil : (n : ℕ) → completed n [] ≡ []
 completed-nil zero = refl
 completed-nil (suc n) = completed-nil n
 
+-- the first of some answers is the one in front, or else that of the others
 first_of-cons : {X : Type 0} (o : Option X) (os : List (Option X)) → first_of (o ∷ os) ≡ first_then o (first_of os)
 first_of-cons None os = refl
 first_of-cons (Some x) os = refl
@@ -72,6 +76,7 @@ completed_prefixes zero m = (let e : m ≡ 0 + m = omega arith in ap prefixes e)
 completed_prefixes (suc n) m =
     (let e : n + suc m ≡ suc n + m = omega arith in completed_prefixes n (suc m) ∙ ap prefixes e)
 
+-- the least key that passes a test is the first of all keys, ascending, that does
 pub least_is_first : TheLeastIsTheFirstOfAllKeys
 unfolding prefixes
 least_is_first test len =

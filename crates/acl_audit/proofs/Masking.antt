@@ -23,15 +23,18 @@ use Rattle.acl_audit.specs.Half.{half_len, is_in_half, mask_of, halved, halved_r
 
 -- ---- masks
 
+-- a bit of a mask without its lowest ones is a higher bit of the mask
 bit_of_quotient : (m k i : ℕ) → bit_at (m / 2 ^ k) i ≡ bit_at m (k + i)
 bit_of_quotient m k i =
     ap (λ n. n % 2) (div-div-eq-div-mul m (2 ^ k) (2 ^ i) ∙ ap (λ n. m / n) (sym (pow-add 2 k i)))
 
+-- a bit of a mask's lowest eight is that of the mask
 bit_of_low : (m i : ℕ) → i < 8 → bit_at (m % 256) i ≡ bit_at m i
 bit_of_low m i below =
     let whole : m / 256 * 2 ^ 8 + m % 256 ≡ m = omega arith in
     sym (bit_at_cat_low (m / 256) 8 (m % 256) i below) ∙ ap (λ n. bit_at n i) whole
 
+-- a category of the other eight isn't compared as one of the list's
 other_eight : (i list : ℕ) → (i / 8 ≡ list → ⊥) → (i / 8 == list) ≡ false
 other_eight i list apart = elim (cases_Bool (i / 8 == list)) [
   | inl is ↦ absurd (apart (eqb-true (i / 8) list is))
@@ -65,12 +68,14 @@ bit_moved v (suc zero) i small few below =
     ]
 bit_moved v (suc (suc list)) i small few below = absurd (omega (arith, few))
 
+-- a bit that counts under a test is 1 exactly if the test holds and the bit is 1
 one_bit : (b : Bool) (x : ℕ) → x < 2 → cond b x 0 ≡ cond (b && x == 1) 1 0
 one_bit false x small = refl
 one_bit true zero small = refl
 one_bit true (suc zero) small = refl
 one_bit true (suc (suc x)) small = absurd (omega (arith, small))
 
+-- eight bits at the place of their list are within sixteen
 moved_small : (v list : ℕ) → v < 256 → list < 2 → v * 2 ^ (half_len * list) < 2 ^ 16
 moved_small v zero small few = omega (arith, small)
 moved_small v (suc zero) small few = omega (arith, small)
@@ -102,6 +107,7 @@ half_mask_code tag half list few =
     let stays : w % 256 * 2 ^ (half_len * list) % 4294967296 ≡ w % 256 * 2 ^ (half_len * list) = omega (arith, small) in
     ap (λ n. n * 2 ^ (half_len * list) % 4294967296) (and_mask w 8) ∙ stays ∙ half_mask_is tag half list few
 
+-- a mask of categories has sixteen bits
 pub mask_small : (test : ℕ → Bool) → mask_of test < 2 ^ 16
 unfolding mask_of categories
 mask_small test = bits_small test 16
@@ -131,11 +137,13 @@ remasked layout tag values mask lawful small some none =
 
 -- ---- the rules of a half, one after the other
 
+-- a rule without a category of the half is left out
 pub halved_none : (half list : ℕ) (rule : RuleView) → mask_of (is_in_half half list rule.tag) ≡ 0
     → halved_rules half list (rule ∷ []) ≡ []
 unfolding halved_rules
 halved_none half list rule none = ap (λ n. cond (not (n == 0)) (halved half list rule ∷ []) []) none
 
+-- a rule with some category of the half stays with these
 pub halved_one : (half list : ℕ) (rule : RuleView) → (mask_of (is_in_half half list rule.tag) ≡ 0 → ⊥)
     → halved_rules half list (rule ∷ []) ≡ halved half list rule ∷ []
 unfolding halved_rules
@@ -147,6 +155,7 @@ halved_one half list rule some =
     ] in
     ap (λ b. cond (not b) (halved half list rule ∷ []) []) left
 
+-- the rules of two lists in a half are those of each, one after the other
 pub halved-append : (half list : ℕ) (xs ys : List RuleView)
     → halved_rules half list (xs ++ ys) ≡ halved_rules half list xs ++ halved_rules half list ys
 unfolding halved_rules
@@ -155,10 +164,12 @@ halved-append half list xs ys =
     ∙ filter-append (λ (rule : RuleView). not (rule.tag.category_mask == 0)) (map (halved half list) xs)
     (map (halved half list) ys)
 
+-- a list without rules has none in a half
 pub halved_nil : (half list : ℕ) → halved_rules half list [] ≡ []
 unfolding halved_rules
 halved_nil half list = refl
 
+-- a list has at most as many rules in a half as it has
 pub halved_few : (half list : ℕ) (xs : List RuleView) → length (halved_rules half list xs) ≤ length xs
 unfolding halved_rules
 halved_few half list [] = omega arith
@@ -184,6 +195,7 @@ pub record AreHalvedUpTo (before : RuleSetView) (half list : ℕ) (rules : List 
   pub layout : now.layout ≡ before.layout
   pub rules_are : now.rules ≡ before.rules ++ halved_rules half list (take n rules)
 
+-- before the first rule of a list nothing is added
 pub halved_start : (before : RuleSetView) (half list : ℕ) (rules : List RuleView)
     → AreHalvedUpTo before half list rules 0 before
 halved_start before half list rules = record {
@@ -191,6 +203,7 @@ halved_start before half list rules = record {
   rules_are = sym (append-nil before.rules) ∙ ap (λ l. before.rules ++ l) (sym (halved_nil half list));
 }
 
+-- one more rule of a list adds what it is in the half
 pub halved_more : (before : RuleSetView) (half list : ℕ) (rules : List RuleView) (n : ℕ) (now next : RuleSetView)
     (rule : RuleView) → AreHalvedUpTo before half list rules n now → n < length rules → rule ≡ get_or rules n rule
     → next ≡ record now { rules = now.rules ++ halved_rules half list (rule ∷ []) }
@@ -206,6 +219,7 @@ halved_more before half list rules n now next rule are below is step = record {
       (ap (λ (r : RuleView). take n rules ++ r ∷ []) is ∙ sym (take_more rules n rule below)));
 }
 
+-- before each rule of a list there is room for one more
 pub halved_room : (before : RuleSetView) (half list : ℕ) (rules : List RuleView) (n most : ℕ) (now : RuleSetView)
     → AreHalvedUpTo before half list rules n now → n < length rules → length before.rules + length rules ≤ most
     → length now.rules < most

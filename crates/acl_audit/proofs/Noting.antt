@@ -11,6 +11,7 @@ pub record IsTable (count : ℕ) (table : List (List ℕ)) : Type 0 where
   pub long : length table ≡ count
   pub whole : All (λ numbers. length numbers ≡ row_len) table
 
+-- numbers that differ aren't compared as equal
 not_eq : (m n : ℕ) → m ≢ n → (m == n) ≡ false
 not_eq m n apart = elim (cases_Bool (m == n)) [
   | inl same ↦ absurd (apart (eqb-true m n same))
@@ -48,6 +49,7 @@ module _ (table : List (List ℕ)) (place category number : ℕ) where
 
 -- ---- one entry
 
+-- an entry above 0 is noted at the place of the rule that it names
 noted_suc : (table : List (List ℕ)) (place category number : ℕ) → entry_noted table (suc place) category number
     ≡ slice_set table place (slice_set (get_or table place []) category number)
 noted_suc table place category number =
@@ -57,6 +59,7 @@ noted_suc table place category number =
     (lt-ltb 0 (suc place) (omega arith))
     ∙ ap (λ p. slice_set table p (slice_set (get_or table p []) category number)) e
 
+-- a table has as many whole rows after an entry is noted
 pub entry_table : (count : ℕ) (table : List (List ℕ)) (entry category number : ℕ) → IsTable count table → entry ≤ count
     → IsTable count (entry_noted table entry category number)
 entry_table count table zero category number is low = is
@@ -157,6 +160,7 @@ pub record FirstsFrom (rows : List (List ℕ)) (count row : ℕ) (table : List (
   pub each : (rule category : ℕ) → rule < count → category < row_len →
       number_at table rule category ≡ first_from row (drop row rows) rule category
 
+-- after a row is noted, the table has the numbers of the first rows from it on
 pub one_more_row : (rows : List (List ℕ)) (count row : ℕ) (table : List (List ℕ)) → row < length rows
     → All (All (λ entry. entry ≤ count)) rows → All (λ r. length r ≡ row_len) rows
     → FirstsFrom rows count (row + 1) table
@@ -176,16 +180,19 @@ one_more_row rows count row table within low whole firsts =
           ∙ sym (ap (λ rs. first_from row rs rule category) (drop_more rows row [] within)));
     }
 
+-- each of so many copies is the element itself
 get_or-copies : {X : Type 0} (n i : ℕ) (x d : X) → i < n → get_or (replicate n x) i d ≡ x
 get_or-copies zero i x d below = absurd (omega (arith, below))
 get_or-copies (suc n) zero x d below = refl
 get_or-copies (suc n) (suc i) x d below = get_or-copies n i x d (omega (arith, below))
 
+-- each of so many zeros is 0
 zero_at : (n i : ℕ) → get_or {A = ℕ} (replicate n 0) i 0 ≡ 0
 zero_at zero i = refl
 zero_at (suc n) zero = refl
 zero_at (suc n) (suc i) = zero_at n i
 
+-- before any row is noted, the table has no first row
 pub no_rows_yet : (rows : List (List ℕ)) (count : ℕ) → FirstsFrom rows count (length rows) (no_firsts count)
 unfolding no_firsts
 no_rows_yet rows count = record {
@@ -205,6 +212,7 @@ no_rows_yet rows count = record {
     drop_rest [] = refl
     drop_rest (x ∷ xs) = drop_rest xs
 
+-- after all rows are noted, the table has the number of each first row
 pub are_firsts : (rows : List (List ℕ)) (count : ℕ) (table : List (List ℕ)) → FirstsFrom rows count 0 table
     → AreFirsts rows count table
 are_firsts rows count table firsts = record {

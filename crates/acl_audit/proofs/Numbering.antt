@@ -36,6 +36,7 @@ module _ {X : Type 0} (p : X → Bool) where
         rw differs (omega (arith, rest))
   ]
 
+-- some value passes exactly if the value of some element passes
 any_of : {X V : Type 0} (p : V → Bool) (of : X → V) (xs : List X) → list_any p (map of xs) ≡ list_any (λ x. p (of x)) xs
 any_of p of [] = refl
 any_of p of (x ∷ xs) = ap (λ b. p (of x) || b) (any_of p of xs)
@@ -124,6 +125,7 @@ pairs_from before zero = []
 pairs_from before (suc count) =
     map (λ byte. record { before = before; byte = byte }) all_bytes ++ pairs_from (before + 1) count
 
+-- to fold over the values of elements is to fold over the mapped list
 fold-map : {X Y Z : Type 0} (f : Z → Y → Z) (g : X → Y) (acc : Z) (xs : List X)
     → fold (λ z x. f z (g x)) acc xs ≡ fold f acc (map g xs)
 fold-map f g acc [] = refl

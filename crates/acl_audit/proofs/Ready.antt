@@ -24,10 +24,11 @@ use Rattle.acl_audit.specs.Ways.{AreMerged, IsWay}
 use Rattle.acl_audit.proofs.Fitting.{all_are_group, places_are, places_below, few_states, few_rows, rows_long, rows_low}
 use Rattle.acl_audit.proofs.Telling.{keys, row_count, chain, levels_long, last_links, key_read, told, has_keys}
 
--- the links of each place, and the kept places, as the code makes them
+-- the links of each place, as the code makes them
 abbrev pub all_links : LevelsView → List (List Link)
 all_links levels = map links_of levels.levels
 
+-- the kept places of the merged states
 abbrev pub all_places : RuleSetView → LevelsView → List ℕ
 all_places set levels = places_of_bits (key_len_of set.layout) levels.kept
 

@@ -34,6 +34,7 @@ ChainedFrom count [] = Unit {0}
 ChainedFrom count (links ∷ levels) =
     AllByRecursion (λ (link : Link). link.before < count) links × ChainedFrom (length links) levels
 
+-- so many bytes 0
 abbrev pub zero_bytes : ℕ → List ℕ
 zero_bytes count = replicate count 0
 

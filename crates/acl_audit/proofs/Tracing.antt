@@ -14,6 +14,7 @@ use Rattle.acl_audit.proofs.Through.{ChainedFrom, zero_bytes}
 
 -- ---- bytes at two places
 
+-- it doesn't matter which of two places of a key is set first
 set_apart : (key : List ℕ) (i j a b : ℕ) → i ≢ j
     → slice_set (slice_set key i a) j b ≡ slice_set (slice_set key j b) i a
 set_apart [] i j a b apart = refl
@@ -38,6 +39,7 @@ traced_with levels places (suc depth) number key place byte apart =
 
 -- ---- keys after one more level
 
+-- the keys after one more place are those that its links make of the keys before
 after_more : (len : ℕ) (keys : List (List ℕ)) (places : List ℕ) (levels : List (List Link)) (place : ℕ)
     (links : List Link) → length places ≡ length levels
     → keys_after len keys (places ++ place ∷ []) (levels ++ links ∷ [])
@@ -48,6 +50,7 @@ after_more len keys (p ∷ places) [] place links long = absurd (omega (arith, l
 after_more len keys (p ∷ places) (l ∷ levels) place links long =
     after_more len (map (keyed len keys p) l) places levels place links (omega (arith, long))
 
+-- what holds of each element holds of the one at a place
 pub all_at : {X : Type 0} (P : X → Type 0) (xs : List X) (n : ℕ) (d : X) → AllByRecursion P xs → n < length xs
     → P (get_or xs n d)
 all_at P [] n d all within = absurd (omega (arith, within))
@@ -65,6 +68,7 @@ chained_at count (l ∷ m ∷ levels) chained zero number within below =
 chained_at count (l ∷ m ∷ levels) chained (suc depth) number within below =
     chained_at (length l) (m ∷ levels) chained.1 depth number (omega (arith, within)) below
 
+-- levels whose links lead back, from so many states on, are chained
 pub are_chained : (count : ℕ) (levels : List (List Link)) → ChainedFrom count levels → AreChained levels
 are_chained count levels chained = record {
   before = λ depth number within below.

@@ -58,6 +58,7 @@ module _ (set : RuleSetView) (key : List ℕ) (some : 0 < key_len_of set.layout)
 abbrev pub entry_for : Option ℕ → ℕ
 entry_for won = option_map_or (λ number. number + 1) won 0
 
+-- no rule wins among none
 none_of_none : (set : RuleSetView) (category : ℕ) → winner_of set category [] ≡ None
 unfolding best_among
 none_of_none set category = refl
@@ -72,6 +73,7 @@ entry_is set (held ∷ s) category within =
     (λ c. entry_for (winner_of set c (map (λ (h : Held). h.number) (held ∷ s)))) 0 16 category category 0 within
     (omega arith)
 
+-- a rule is the winner exactly if the winner's entry is its number plus 1
 entry_names : (won : Option ℕ) (rule : ℕ) → option_map_or (λ place. place == rule) won false
     ≡ (entry_for won == rule + 1)
 entry_names None rule = elim (cases_Bool (0 == rule + 1)) [
@@ -135,6 +137,7 @@ IsFirst keys before number found =
     ((number ≡ 0) × (found ≡ None))
     ⊎ ((k : ℕ) × (k < length keys) × (number ≡ before + k + 1) × (found ≡ Some (get_or keys k [])))
 
+-- the number of the first row that names a rule is that of the first key whose row does
 pub first_found : (row_at : List ℕ → List ℕ) (rule category before : ℕ) (keys : List (List ℕ))
     → IsFirst keys before (first_from before (map row_at keys) rule category)
     (find (λ key. get_or (row_at key) category 0 == rule + 1) keys)

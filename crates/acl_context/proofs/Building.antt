@@ -34,6 +34,7 @@ levels_of_plan : (set : RuleSetView) (budget : ℕ) → (plan_of set budget).lev
 unfolding plan_of
 levels_of_plan set budget = refl
 
+-- the total of a plan is that of its set and budget
 total_of_plan : (set : RuleSetView) (budget : ℕ) → (plan_of set budget).total ≡ total_of set budget
 unfolding plan_of
 total_of_plan set budget = refl

@@ -55,6 +55,7 @@ pub first_from_end : (layout : List FieldDef) (given : List RuleView) (place : �
 unfolding first_from
 first_from_end layout given place after = rw (drop_all place given after) refl
 
+-- a rule that isn't refused has no fault
 no_refusal : (place : ℕ) (fault : Option RuleFault) → option_map (RuleRefused place) fault ≡ None → fault ≡ None
 no_refusal place None none = refl
 no_refusal place (Some fault) none = absurd (cc)

@@ -92,10 +92,12 @@ made_apart made name other takes apart = elim (cases_Bool (is_made made other)) 
       absurd (apart (sym ((bytes_eq-Decides made.name other).0 both.1) ∙ (bytes_eq-Decides made.name name).0 same))
 ]
 
+-- two names that differ aren't compared as equal
 bytes_eq-apart : (name other : List ℕ) → other ≢ name → bytes_eq name other ≡ false
 bytes_eq-apart name other apart =
     false_from_ne_true (bytes_eq name other) (λ e. apart (sym ((bytes_eq-Decides name other).0 e)))
 
+-- a name is compared as equal to itself
 bytes_eq-same : (name : List ℕ) → bytes_eq name name ≡ true
 bytes_eq-same name = (bytes_eq-Decides name name).1 refl
 
@@ -116,6 +118,7 @@ Creates-made made given name hand takes = record {
   created = refl;
 }
 
+-- what is left from a place on is some first bytes and what is left after them
 dropped : (bytes : List ℕ) (at count : ℕ) → drop at bytes ≡ take count (drop at bytes) ++ drop (at + count) bytes
 dropped bytes at count =
     sym (ap (λ rest. take count (drop at bytes) ++ rest) (sym (drop-drop count at bytes))
@@ -147,6 +150,7 @@ opened_in-later files made (in_hand.Given place) at later = given (slice_get fil
     given None = refl
     given (Some file) = refl
 
+-- it doesn't matter for the created file how far the opened one was read
 pub created_in-later : (files : List MemFile) (made : MadeView) (hand : InHand) (at later : ℕ) (name : List ℕ) →
     created_in (hand_of files made hand later) name ≡ created_in (hand_of files made hand at) name
 created_in-later files made in_hand.Nothing at later name = refl

@@ -21,10 +21,12 @@ with_bytes-append (b ∷ bs) (c ∷ cs) file =
     } in heard_file)
     (append_assoc file.bytes (b ∷ bs) (c ∷ cs))
 
+-- a change that changes nothing leaves all openings as they are
 change_newest-same : (files : List Heard) → files ≡ change_newest and_goes_on files
 change_newest-same [] = refl
 change_newest-same (file ∷ files) = refl
 
+-- bytes given in two reads are as the bytes of both given in one
 change_newest-then : (change : Heard → Heard) (first second : List ℕ) (files : List Heard) →
     change_newest (λ file. change (with_bytes second file)) (change_newest (λ file. and_goes_on (with_bytes first file))
     files)
@@ -38,6 +40,7 @@ change_newest-alone : (change : Heard → Heard) (files : List Heard) →
 change_newest-alone change [] = refl
 change_newest-alone change (file ∷ files) = refl
 
+-- content that stays the same gave no bytes
 same_content : (content : Option Content) → Changes (Gives []) content content
 same_content None = tt
 same_content (Some content) = record { files = refl; opened = refl; left = refl; created = refl }
@@ -63,6 +66,7 @@ given_some room [] files some = absurd (omega (arith, some))
 given_some room (b ∷ bs) [] some = refl
 given_some room (b ∷ bs) (file ∷ files) some = refl
 
+-- a read that gave some bytes: the newest opening has them more
 pub ReadsOn-given : {E : Type 0} (into_old into_new : List ℕ) (count : ℕ) (old new : DeskView) →
     ReadsInto {E = E} into_old into_new old new (Ok count) → 0 < length (take count into_new) →
     ReadsOn and_goes_on (take count into_new) old new
@@ -78,6 +82,7 @@ given_none : (room : ℕ) (files : List Heard) → 0 < room →
 given_none room [] some = refl
 given_none room (file ∷ files) some = rw (ne_eqb room 0 (λ e. omega (arith, some, e))) refl
 
+-- a read that gave no byte where there was room: the newest opening has ended
 pub ReadsOn-ended : {E : Type 0} (into_old into_new : List ℕ) (old new : DeskView) →
     ReadsInto {E = E} into_old into_new old new (Ok 0) → 0 < length into_old → ReadsOn (with_ending Ended) [] old new
 ReadsOn-ended into_old into_new old new read some = record {

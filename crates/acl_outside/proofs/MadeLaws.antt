@@ -23,10 +23,12 @@ with_written-append (b ∷ bs) (c ∷ cs) file =
     } in made_file)
     (append_assoc file.bytes (b ∷ bs) (c ∷ cs))
 
+-- a change that changes nothing leaves all creations as they are
 change_newest-same : (files : List Made) → files ≡ change_newest and_stands files
 change_newest-same [] = refl
 change_newest-same (file ∷ files) = refl
 
+-- bytes written in two writes are as the bytes of both written in one
 change_newest-then : (change : Made → Made) (first second : List ℕ) (files : List Made) →
     change_newest (λ file. change (with_written second file))
     (change_newest (λ file. and_stands (with_written first file)) files)
@@ -69,6 +71,7 @@ Writes-append first second old mid new a b = record {
   created = b.created ∙ a.created;
 }
 
+-- content that stays the same got no bytes
 same_content : (content : Option Content) → Changes (Writes []) content content
 same_content None = tt
 same_content (Some content) = Writes-none content

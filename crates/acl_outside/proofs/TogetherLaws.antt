@@ -54,6 +54,7 @@ newest_changed change bytes old new hears before after (file ∷ files) gives wh
       ∙ ap Some (sym (append_assoc file.bytes bytes after.left)));
 }
 
+-- if the newest file was heard to have more bytes, the desk still holds together
 hears_more : (change : Heard → Heard) (bytes : List ℕ) (old new : DeskView) → HoldsTogether old →
     Hears change bytes old new → HoldsTogether new
 hears_more change bytes old new together hears = record {
@@ -68,14 +69,17 @@ hears_more change bytes old new together hears = record {
   apart = λ reads. hears.writing ∙ together.apart (sym hears.reading ∙ reads);
 }
 
+-- more bytes leave the name of a file
 with_bytes-name : (bytes : List ℕ) (file : Heard) → (with_bytes bytes file).name ≡ file.name
 with_bytes-name [] file = refl
 with_bytes-name (b ∷ bs) file = refl
 
+-- more bytes come after those that a file has
 with_bytes-bytes : (bytes : List ℕ) (file : Heard) → (with_bytes bytes file).bytes ≡ file.bytes ++ bytes
 with_bytes-bytes [] file = sym (append-nil file.bytes)
 with_bytes-bytes (b ∷ bs) file = refl
 
+-- a read leaves the name of a file
 after_read-name : (room : ℕ) (bytes : List ℕ) (file : Heard) → (after_read room (Some bytes) file).name ≡ file.name
 after_read-name room [] file = elim (cases_Bool (room == 0)) [
   | inl none ↦ rw none refl
@@ -83,6 +87,7 @@ after_read-name room [] file = elim (cases_Bool (room == 0)) [
 ]
 after_read-name room (b ∷ bs) file = refl
 
+-- the bytes of a read come after those that a file has
 after_read-bytes : (room : ℕ) (bytes : List ℕ) (file : Heard) →
     (after_read room (Some bytes) file).bytes ≡ file.bytes ++ bytes
 after_read-bytes room [] file = elim (cases_Bool (room == 0)) [
@@ -106,6 +111,7 @@ reads_on change bytes old new together names same reading writing on =
       writing = writing;
     }
 
+-- a desk over memory holds together at its beginning
 pub desks_begin : DesksBeginTogether
 desks_begin files piece room failing_reads failing_writes =
     let desk = desk_over files piece room failing_reads failing_writes in
@@ -113,6 +119,7 @@ desks_begin files piece room failing_reads failing_writes =
     let same : content ≡ content_of desk = cc in
     ap (λ (c : Content). c.opened) same)
 
+-- a desk holds together after an opening
 pub openings : OpeningsHoldTogether
 openings name old new (Ok value) opens = record {
   whole = λ content told reads.
@@ -125,6 +132,7 @@ openings name old new (Ok value) opens = record {
 openings name old new (Err fault) opens = nothing_read new opens.reading
     (λ content told. (told_before GivesUp old.content new.content content opens.given_up told).2.opened)
 
+-- a desk that holds together does so after a read
 pub reads : ReadsHoldTogether
 reads into_old into_new old new (Ok count) together read =
     hears_more (after_read (length into_old) (Some (take count into_new))) (take count into_new) old new together
@@ -147,6 +155,7 @@ reads into_old into_new old new (Err fault) together read =
       writing = read.writing;
     }
 
+-- a desk holds together after a creation
 pub creations : CreationsHoldTogether
 creations name old new (Ok value) creates = nothing_read new creates.reading
     (λ content told. (told_before (Creates name) old.content new.content content creates.created told).2.opened)
@@ -160,6 +169,7 @@ idle_while_writing desk together writing = elim (cases_Bool desk.reading) [
   | inr idle ↦ idle
 ]
 
+-- a desk that holds together does so after a write
 pub writes : WritesHoldTogether
 writes piece old new (Ok count) together writing write =
     let idle = idle_while_writing old together writing in
@@ -171,18 +181,22 @@ writes piece old new (Err fault) together writing write =
     nothing_read new (write.reading ∙ idle)
     (λ content told. together.none content (sym write.took_nothing ∙ told) idle)
 
+-- a desk holds together after a finish
 pub finishes : FinishesHoldTogether
 finishes old new result finish = nothing_read new finish.reading
     (λ content told. (told_before GivesUp old.content new.content content finish.ended told).2.opened)
 
+-- a fault leaves the name of a file
 after_fault-name : (fault : ReadAll) (file : Heard) → (after_fault fault file).name ≡ file.name
 after_fault-name ReadFault file = refl
 after_fault-name OutOfMemory file = refl
 
+-- a fault leaves the bytes of a file
 after_fault-bytes : (fault : ReadAll) (file : Heard) → (after_fault fault file).bytes ≡ file.bytes
 after_fault-bytes ReadFault file = refl
 after_fault-bytes OutOfMemory file = refl
 
+-- a desk that holds together does so after a file was read up to a cap
 pub readings : ReadingsHoldTogether
 readings cap old new (Ok bytes) together read = elim read.heard [
   | inl (ended, below) ↦ reads_on (with_ending Ended) bytes.items old new together (λ file. refl) (λ file. refl)

@@ -63,6 +63,7 @@ called call old new context next before after there now answers = λ state mirro
     rw now (called_within call state state.context old context next before after mirrors.collected
     (subst (λ c. IsHeld state.context c) there mirrors.context) answers)
 
+-- a call without a context is answered so, and nothing changes
 missing_within : (call : Held → HeldAnswer) (state : State) (held : Option Held) (old new : Made)
     (before after : List ℕ) → Mirrors state old → IsHeld held old.context → old.context ≡ None → new ≡ old
     → after ≡ before ++ no_context_text → IsAnswered (within state call held) new before after

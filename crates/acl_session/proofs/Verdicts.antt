@@ -15,6 +15,7 @@ use Rattle.acl_session.specs.State.{Held}
 use Rattle.acl_session.specs.Session.{classified_text, verdicts_on, verdicts_reply}
 use Rattle.acl_session.specs.Mirrors.{Holds, IsBuilt, SaysOf}
 
+-- the verdicts of a table that is there are those of the rules of the last build
 said_by : (layout : List FieldDef) (built : Option (List RuleView)) (table : Option TableView) (count : ℕ)
     (key verdicts : List ℕ) → IsBuilt layout built table → is_some table ≡ true → SaysOf layout table count key verdicts
     → Some verdicts ≡ option_map (λ rules. map (verdict layout rules key) (range_with_len 0 count)) built
@@ -24,6 +25,7 @@ said_by layout (Some rules) None count key verdicts is there says = absurd is
 said_by layout (Some rules) (Some table) count key verdicts is there says =
     ap Some (says (record { layout = layout; rules = rules }) refl is)
 
+-- nothing was built if there is no table
 none_by : (layout : List FieldDef) (built : Option (List RuleView)) (table : Option TableView)
     (f : List RuleView → List ℕ) → IsBuilt layout built table → is_some table ≡ false → None ≡ option_map f built
 none_by layout None table f is none = refl
@@ -54,6 +56,7 @@ abbrev pub reply_of : Option (List ℕ) → List ℕ
 reply_of None = not_built_text
 reply_of (Some verdicts) = verdicts_text verdicts
 
+-- the reply is that of the verdicts of the rules of the last build, or of none
 reply_is : (layout : List FieldDef) (built : Option (List RuleView)) (count : ℕ) (buffer : List ℕ)
     → verdicts_reply layout built count buffer
     ≡ reply_of (option_map (λ rules. verdicts_on layout rules count buffer) built)

@@ -23,6 +23,7 @@ use Rattle.acl_tool.proofs.Texts.{Ends-text, Ends-refused, lawful_put, lawful_re
 abbrev pub audit_in : ℕ → ℕ → RuleLists → Plan Outcome
 audit_in categories max_words lists = told (audit_of categories max_words lists)
 
+-- what `audit` prints while it reads is the first part of what it prints in all
 audit_faithful : (rules : List ℕ) (categories max_words : ℕ) (files : List File) →
     IsFaithful files (audit_plan rules categories max_words)
 audit_faithful rules categories max_words files = (

@@ -47,6 +47,7 @@ record Asked (words : List (List ℕ)) (old new : Outside) (status : Status) : T
   said : SaidBy options read
   ends : Ends (audit_plan rules read.categories read.max_words) old new status
 
+-- words after `audit` that were answered are a name and options
 asked_after : (after : List (List ℕ)) (old new : Outside) (status : Status) → is_usage status ≡ false →
     Answers (asked_by audit_request (single_of for_audit after)) old new status →
     Asked (codes "audit" ∷ after) old new status
@@ -66,6 +67,7 @@ asked_after (rules ∷ words) old new status lawful answers = go (options_from f
     }
     go (Err usage) at all = no_usage status usage lawful all.usage
 
+-- the words of an `audit` that was answered are `audit`, a name and options
 asked_words : (words : List (List ℕ)) (old new : Outside) (status : Status) → Answers (command words) old new status →
     is_usage status ≡ false → (after : List (List ℕ)) → words ≡ codes "audit" ∷ after → Asked words old new status
 asked_words words old new status answers lawful after is =
@@ -127,6 +129,7 @@ audit_goes_on : (categories max_words : ℕ) (lists : RuleLists) (text : List �
     audit_of categories max_words lists ≡ Ok text → stops (audit_in categories max_words lists) ≡ false
 audit_goes_on categories max_words lists text said = rw said refl
 
+-- an audit that is refused comes without a report
 untold_audit : (categories max_words : ℕ) (lists : RuleLists) (status : Status) →
     audit_of categories max_words lists ≡ Err status → is_told status ≡ false
 untold_audit categories max_words lists status is = ap is_told (said_above categories max_words lists status is).says
@@ -176,6 +179,7 @@ record Large (categories max_words : ℕ) (lists : RuleLists) (file : Heard) (ol
   newest : new ≡ file ∷ old
   silent : (outcome_of reached).text ≡ []
 
+-- an audit that ends with rules that are too large says so, and prints nothing
 large_rules : (categories max_words : ℕ) (lists : RuleLists) (told : Option (List File)) (file : Heard)
     (old new : List Heard) (reached : Reached Outcome) (status : Status) → status ≡ (outcome_of reached).status →
     is_large status ≡ true → Follows told (audit_in categories max_words lists) (file ∷ old) new reached →
@@ -228,6 +232,7 @@ needs_more words old new family size budget asked =
       taken = gains.taken ∙ ap (λ (t : List ℕ). old.out.taken ++ t) l.silent ∙ append-nil old.out.taken;
     }
 
+-- an `audit` that is done, or whose rules are too large, told so
 pub audit_tells : (words : List (List ℕ)) (old new : Outside) (status : Status) →
     Answers (command words) old new status → AuditTells words status old new
 audit_tells words old new status answers = record {

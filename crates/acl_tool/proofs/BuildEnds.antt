@@ -44,6 +44,7 @@ image_by image tables = Give (making image (image_bytes tables))
 abbrev image_in : List ℕ → ℕ → RuleLists → Plan Outcome
 image_in image max_words lists = tables_within max_words lists >>= image_by image
 
+-- what `build` prints while it reads is the first part of what it prints in all
 build_faithful : (rules image : List ℕ) (max_words : ℕ) (files : List File) →
     IsFaithful files (build_plan rules image max_words)
 build_faithful rules image max_words files = (

@@ -28,10 +28,11 @@ use Rattle.acl_tool.proofs.ReadOn.{accepted_rules, both_on, is_told, read_on, to
 use Rattle.acl_tool.proofs.ReadOn.{done_told}
 use Rattle.acl_tool.proofs.WholeRules.{whole_by}
 
--- what comes after the rules, and after the bytes of the rule file
+-- what comes after the rules
 abbrev after_rules : List ℕ → ℕ → RuleLists → Plan Outcome
 after_rules image max_words lists = tables_within max_words lists >>= image_by image
 
+-- what comes after the bytes of the rule file
 abbrev after_bytes : List ℕ → ℕ → List ℕ → Plan Outcome
 after_bytes image max_words bytes =
     unless_refused (rules_of_bytes RulesRefused bytes) >>= after_rules image max_words
@@ -63,6 +64,7 @@ record Imaged (rules image : List ℕ) (max_words : ℕ) (old new : List Heard) 
   ip6_is : tables.ip6 ≡ built_of (set_of Ip6 lists) max_words
   is : reached ≡ Given (making image (image_bytes tables))
 
+-- a `build` that was done heard a whole rule file and reached its image
 build_heard : (rules image : List ℕ) (max_words : ℕ) (told : Option (List File)) (old new : List Heard)
     (reached : Reached Outcome) → Follows told (build_plan rules image max_words) old new reached →
     is_told (outcome_of reached).status ≡ true → Imaged rules image max_words old new reached
@@ -127,6 +129,7 @@ image_made rules image options read old new asked all =
           gains.taken ∙ ap (λ (o : Outcome). old.out.taken ++ o.text) outcome ∙ append-nil old.out.taken;
     }
 
+-- a `build` that was done made the image that its words name
 made_after : (after : List (List ℕ)) (old new : Outside) →
     Answers (asked_by build_request (named_of for_build after)) old new Done →
     MakesImage (codes "build" ∷ after) old new

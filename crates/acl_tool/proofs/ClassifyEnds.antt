@@ -36,6 +36,7 @@ report_by options capture lists tables = reported (form_of (ByRules lists) table
 abbrev report_in : Options → List ℕ → RuleLists → Plan Outcome
 report_in options capture lists = tables_within options.max_words lists >>= report_by options capture lists
 
+-- what `classify` prints while it reads is the first part of what it prints in all
 classify_faithful : (rules capture : List ℕ) (options : Options) (files : List File) →
     IsFaithful files (classify_plan rules capture options)
 classify_faithful rules capture options files = (

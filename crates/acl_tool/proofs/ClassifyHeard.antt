@@ -76,6 +76,7 @@ never_enough options capture bytes long lists tables is_long accepted within sam
     within in
     false≢true (sym stops ∙ ap asks same ∙ reads)
 
+-- a rule file whose rules were accepted and fit was read to its end
 whole_rules : (options : Options) (capture : List ℕ) (file : Heard) (lists : RuleLists) (tables : Tables) →
     rules_of_bytes RulesRefused file.bytes ≡ Ok lists → tables_within options.max_words lists ≡ Give tables →
     IsEnough (after_bytes options capture) file → file.ending ≡ Ended

@@ -54,6 +54,7 @@ abbrev pub stops_large : Plan Outcome → Bool
 stops_large (Stop status) = is_large status
 stops_large plan = false
 
+-- a command with a report doesn't say that rules are too large
 small_report : (fault : Option CaptureFault) → is_large (status_of_fault fault) ≡ false
 small_report None = refl
 small_report (Some fault) = refl
@@ -216,6 +217,7 @@ tells_sizes words old new asked by =
           ∙ ap (λ (l : List ℕ). size_line Ip4 c.lists budget ++ l ++ transitions_text transitions) ip6));
     }
 
+-- a `classify` whose rules are too large says how many words they need
 needs_more : (words : List (List ℕ)) (old new : Outside) (family : Family) (size budget : ℕ) →
     Asked words old new (TooLarge family size budget) →
     NeedsMore words family size budget (heard_of old.desk) (heard_of new.desk) old.out.taken new.out.taken
@@ -253,6 +255,7 @@ needs_more words old new family size budget asked =
           ∙ append-nil old.out.taken;
     }
 
+-- a `classify` tells how large its tables are, or that its rules are too large
 pub classify_sizes : (words : List (List ℕ)) (old new : Outside) (status : Status) →
     Answers (command words) old new status →
     ClassifySizes words status (heard_of old.desk) (heard_of new.desk) old.out.taken new.out.taken

@@ -78,6 +78,7 @@ same_shown layout rules key options words is =
     ap (λ (n : ℕ). shown_by layout rules key n options.marks) is.categories
     ∙ ap (λ (b : Bool). shown_by layout rules key (categories_shown words) b) is.marks
 
+-- the answers of the report are those of the rules for the categories that the words ask for
 answers_same : (lists : RuleLists) (tables : Tables) (options : Options) (words : List (List ℕ)) (class : Class)
     (key : List ℕ) → SaidBy words options →
     answers_on class (form_of (ByRules lists) tables options) key ≡ answers_to lists words class key
@@ -86,6 +87,7 @@ answers_same lists tables options words Ip6 key is = same_shown ip6_fields lists
 answers_same lists tables options words Other key is = refl
 answers_same lists tables options words Short key is = refl
 
+-- and its lines are those of the records with these answers
 lines_same : (lists : RuleLists) (tables : Tables) (options : Options) (words : List (List ℕ)) (number : ℕ)
     (records : List CaptureRecord) → SaidBy words options →
     lines_of_packets (form_of (ByRules lists) tables options) number (map packet_of records)
@@ -164,6 +166,7 @@ pub record ReportedBy (rules capture : List ℕ) (options : Options) (old new : 
   pub steps : new.steps
       ≡ old.steps + (report (form_of (ByRules heard.lists) heard.tables options) heard.file.bytes).transitions
 
+-- a `classify` that ended with a report heard, took and counted so
 pub reported_by : (rules capture : List ℕ) (options : Options) (old new : Outside) (fault : Option CaptureFault) →
     EndsMaking None (classify_plan rules capture options) old new (status_of_fault fault) →
     ReportedBy rules capture options old new fault

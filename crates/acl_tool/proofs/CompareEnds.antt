@@ -19,13 +19,15 @@ use Rattle.acl_tool.proofs.Answering.{Answers-request}
 use Rattle.acl_tool.proofs.RuleFiles.{HasRules, with_rules}
 use Rattle.acl_tool.proofs.Texts.{Ends-text, Ends-refused, lawful_put, lawful_refusal, told}
 
--- what comes after the rules of both files, and after those of the first
+-- what comes after the rules of both files
 abbrev pub compare_both : ℕ → RuleLists → RuleLists → Plan Outcome
 compare_both max_words one two = told (compare_of max_words one two)
 
+-- what comes after the rules of the first file
 abbrev pub compare_with : List ℕ → ℕ → RuleLists → Plan Outcome
 compare_with second max_words one = rules_in SecondRulesRefused second >>= compare_both max_words one
 
+-- what `compare` prints while it reads is the first part of what it prints in all
 compare_faithful : (rules second : List ℕ) (max_words : ℕ) (files : List File) →
     IsFaithful files (compare_plan rules second max_words)
 compare_faithful rules second max_words files = (

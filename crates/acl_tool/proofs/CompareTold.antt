@@ -40,6 +40,7 @@ record Asked (words : List (List ℕ)) (old new : Outside) : Type 0 where
   is : words ≡ codes "compare" ∷ rules ∷ second ∷ options
   ends : Ends (compare_plan rules second max_words) old new Done
 
+-- words after a `compare` that was done are two names and options
 asked_after : (after : List (List ℕ)) (old new : Outside) →
     Answers (asked_by compare_request (named_of for_compare after)) old new Done → Asked (codes "compare" ∷ after) old new
 asked_after [] old new answers = no_usage Done _ refl answers.usage
@@ -58,12 +59,13 @@ asked_after (rules ∷ second ∷ words) old new answers = go (options_from for_
     }
     go (Err usage) all = no_usage Done usage refl all.usage
 
--- a refused second file isn't told, and so are rules that aren't compared
+-- a second file that is refused comes without a report
 untold_second : (result : Result RuleLists LineFault) (status : Status) →
     refused_rules SecondRulesRefused result ≡ Err status → is_told status ≡ false
 untold_second (Ok all) status is = absurd (cc)
 untold_second (Err fault) status is = let same : SecondRulesRefused fault ≡ status = cc in rw (← same) refl
 
+-- rules that are refused come without a report
 untold_refusal : (status : Status) → is_refusal status ≡ true → is_told status ≡ false
 untold_refusal (TooLarge family words budget) is = refl
 untold_refusal TooManyTogether is = refl
@@ -127,6 +129,7 @@ prints words old new asked =
       steps = steps ∙ omega arith;
     }
 
+-- a `compare` that is done printed what the lists of its words differ in
 pub compare_tells : (words : List (List ℕ)) (old new : Outside) (status : Status) →
     Answers (command words) old new status → CompareTells words status old new
 compare_tells words old new status answers after is done =

@@ -37,6 +37,7 @@ lawful-number test (Some m) n is = go (test m) is
     go true e = e
     go false e = absurd (cc)
 
+-- a number that was read of a text is the one that it spells in decimal
 spelled : (text : List ℕ) (n : ℕ) → number_in text ≡ Some n → n ≡ place_value 10 text
 spelled text n is =
     go
@@ -47,10 +48,12 @@ spelled text n is =
     go true e = cc
     go false e = absurd (cc)
 
+-- and so is the number of categories
 categories-spelled : (text : List ℕ) (n : ℕ) → categories_in text ≡ Some n → n ≡ place_value 10 text
 categories-spelled text n is =
     spelled text n (lawful-number is_count_of_categories (number_in text) n is)
 
+-- and so is the budget
 budget-spelled : (text : List ℕ) (n : ℕ) → budget_in text ≡ Some n → n ≡ place_value 10 text
 budget-spelled text n is = spelled text n (lawful-number is_budget (number_in text) n is)
 
@@ -82,18 +85,23 @@ record IsOption (name : List ℕ) (letter : ℕ) : Type 0 where
   long : 2 < length name
   is : get_or name 2 0 ≡ letter
 
+-- the third letter of `categories=` is `t`
 categories_is : IsOption categories_option 116
 categories_is = record { long = ltb-true 2 (length categories_option) refl; is = refl }
 
+-- the third letter of `walk=` is `l`
 walk_is : IsOption walk_option 108
 walk_is = record { long = ltb-true 2 (length walk_option) refl; is = refl }
 
+-- the third letter of `max_words=` is `x`
 max_words_is : IsOption max_words_option 120
 max_words_is = record { long = ltb-true 2 (length max_words_option) refl; is = refl }
 
+-- the third letter of `stats=` is `a`
 stats_is : IsOption stats_option 97
 stats_is = record { long = ltb-true 2 (length stats_option) refl; is = refl }
 
+-- the third letter of `marks=` is `r`
 marks_is : IsOption marks_option 114
 marks_is = record { long = ltb-true 2 (length marks_option) refl; is = refl }
 
@@ -119,6 +127,7 @@ second_passes : (one two : Bool) → (one && two) ≡ true → two ≡ true
 second_passes true two is = is
 second_passes false two is = absurd (false≢true is)
 
+-- a word that was taken is one of the five options with a lawful value
 adds_option : (allowed : Allowed) (given next : Given) (word : List ℕ) → with_option allowed given word ≡ Ok next →
     AddsOption given next word
 adds_option allowed given next word is =
@@ -229,6 +238,7 @@ says_categories (TakesWords v begins first is at) = says_other max_words_is cate
 says_categories (TakesStats v begins first is at) = says_other stats_is categories_is refl begins at refl
 says_categories (TakesMarks v begins first is at) = says_other marks_is categories_is refl begins at refl
 
+-- a word that adds an option says a value to `max_words=` or nothing
 says_max_words : {given next : Given} {word : List ℕ} → AddsOption given next word → Says max_words_kept given next word
 says_max_words (TakesCategories v begins first is at) = says_other categories_is max_words_is refl begins at refl
 says_max_words (TakesWalk v begins at) = says_other walk_is max_words_is refl begins at refl
@@ -237,6 +247,7 @@ says_max_words {word = word} (TakesWords v begins first is at) =
 says_max_words (TakesStats v begins first is at) = says_other stats_is max_words_is refl begins at refl
 says_max_words (TakesMarks v begins first is at) = says_other marks_is max_words_is refl begins at refl
 
+-- a word that adds an option says a value to `stats=` or nothing
 says_stats : {given next : Given} {word : List ℕ} → AddsOption given next word → Says stats_kept given next word
 says_stats (TakesCategories v begins first is at) = says_other categories_is stats_is refl begins at refl
 says_stats (TakesWalk v begins at) = says_other walk_is stats_is refl begins at refl
@@ -245,6 +256,7 @@ says_stats {word = word} (TakesStats v begins first is at) =
     says_own v begins first (ap stats_kept.seen at) (choice-spelled (value_of stats_option word) v is)
 says_stats (TakesMarks v begins first is at) = says_other marks_is stats_is refl begins at refl
 
+-- a word that adds an option says a value to `marks=` or nothing
 says_marks : {given next : Given} {word : List ℕ} → AddsOption given next word → Says marks_kept given next word
 says_marks (TakesCategories v begins first is at) = says_other categories_is marks_is refl begins at refl
 says_marks (TakesWalk v begins at) = says_other walk_is marks_is refl begins at refl

@@ -22,10 +22,12 @@ use Rattle.table_image.specs.Spelling.{spelled_trie, spelled_tries}
 use Rattle.table_image.proofs.Offered.{length-all_spelled, length_spelled}
 use Rattle.acl_tool.specs.ReplayPlan.{image_cap}
 
+-- the kept groups of a trie take at most 4 bytes
 kept_len_of : (version : Version) (kept : ℕ) → length (spelled_kept version kept) ≤ 4
 kept_len_of One kept = omega arith
 kept_len_of Two kept = omega (arith, length_spelled short kept)
 
+-- a trie takes at most 12 bytes, and 4 for each of its levels
 trie_len : (version : Version) (kept : ℕ) (lens : List ℕ) (root : ℕ) →
     length (spelled_trie version kept lens root) ≤ 12 + 4 * length lens
 trie_len version kept lens root =
@@ -38,6 +40,7 @@ trie_len version kept lens root =
       length_spelled long root,
     )
 
+-- tries take at most 12 bytes each, and 4 for each level
 tries_len : (version : Version) (key_len : ℕ) (kept roots lens : List ℕ) →
     length (spelled_tries version key_len kept roots lens) ≤ 12 * length roots + 4 * length lens
 tries_len version key_len [] roots lens = omega arith
@@ -54,6 +57,7 @@ tries_len version key_len (one ∷ kept) (root ∷ roots) lens =
       length-drop depth lens,
     )
 
+-- rows take 128 bytes each
 rows_len : (rows : List (List ℕ)) → list_all is_row rows ≡ true →
     length (flat_map (all_spelled long) rows) ≡ 128 * length rows
 rows_len [] all = omega arith
@@ -126,6 +130,7 @@ table_len version family key_len table is =
       depths,
     )
 
+-- a table that can be saved has at most 8 tries
 kept_few : (version : Version) (key_len : ℕ) (table : TableView) → IsSaved version key_len table →
     length table.kept ≤ 8
 kept_few version key_len table is =

@@ -43,6 +43,7 @@ serves_answers set table key category serves bytes len below =
     by_winner set.rules table key category (winner set.layout set.rules key category)
     (serves.verdicts key category bytes len below) (serves.none key category bytes len below)
 
+-- rules whose total is within the budget have their table
 within_is : (family : Family) (budget : ℕ) (lists : RuleLists) → total_of (set_of family lists) budget ≤ budget →
     table_within budget family lists ≡ Ok (built_of (set_of family lists) budget)
 within_is family budget lists fits = rw (le-leb (total_of (set_of family lists) budget) budget fits) refl

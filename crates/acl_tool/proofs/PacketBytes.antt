@@ -41,10 +41,11 @@ use Rattle.header_extract.specs.Link.{typed_class}
 use Rattle.capture_report.specs.Packet.{IsPacket}
 use Rattle.capture_report.specs.Shown.{packet_of}
 
--- a number is a byte, and all of some are
+-- a number is a byte
 abbrev IsByte : ℕ → Type 0
 IsByte byte = byte < 256
 
+-- each of some numbers is a byte
 abbrev pub AreBytes : List ℕ → Type 0
 AreBytes bytes = All IsByte bytes
 
@@ -53,11 +54,13 @@ abbrev Fine : {A : Type 0} → (A → Type 0) → Result A Class → Type 0
 Fine P (Ok value) = P value
 Fine P (Err class) = key_len class ≡ 0
 
+-- if a layer is fine and each further one after it, both together are
 fine_then : {A B : Type 0} (P : A → Type 0) (Q : B → Type 0) (result : Result A Class) (f : A → Result B Class) →
     Fine P result → ((value : A) → P value → Fine Q (f value)) → Fine Q (result >>= f)
 fine_then P Q (Ok value) f is next = next value is
 fine_then P Q (Err class) f is next = is
 
+-- a choice of two layers is fine if each is under its test
 fine_if : {A : Type 0} (P : A → Type 0) (test : Bool) (one other : Result A Class) → (test ≡ true → Fine P one) →
     (test ≡ false → Fine P other) → Fine P (if test then one else other)
 fine_if P true one other yes_is no_is = yes_is refl
@@ -67,6 +70,7 @@ fine_if P false one other yes_is no_is = no_is refl
 abbrev HasBytes : ℕ → List ℕ → Type 0
 HasBytes n bytes = AreBytes bytes × (n ≤ length bytes)
 
+-- of bytes there are at least so many, or too few for a key
 at_least_fine : (n : ℕ) (bytes : List ℕ) → AreBytes bytes → Fine (HasBytes n) (at_least n bytes)
 at_least_fine n bytes all =
     fine_if (HasBytes n) (nat_le n (length bytes)) (Ok bytes) (Err _)
@@ -88,10 +92,12 @@ part bytes at len n has within = (
 abbrev ArePorts : List ℕ → Type 0
 ArePorts ports = AreBytes ports × (length ports ≡ 4)
 
+-- the ports of a packet without ports are ports
 none_are : ArePorts no_ports
 none_are =
     (All-from_recursion IsByte no_ports (omega arith, (omega arith, (omega arith, (omega arith, tt)))), refl)
 
+-- the ports of a payload of bytes are ports
 ports_fine : (protocol : ℕ) (payload : List ℕ) → AreBytes payload → Fine ArePorts (ports_of protocol payload)
 ports_fine protocol payload all =
     fine_if ArePorts (has_ports protocol) (at_least 4 payload >>= λ bytes. Ok (take 4 bytes)) (Ok no_ports)
@@ -117,9 +123,11 @@ key_is protocol source destination ports n is one two last = (
   ),
 )
 
+-- a header's length is read, or the class has no key
 words_fine : (header : List ℕ) → Fine (λ words. ⊤) (header_words header)
 words_fine header = fine_if (λ words. ⊤) _ (Ok _) (Err _) (λ e. tt) (λ e. refl)
 
+-- an IPv4 packet of bytes has a key of bytes
 ip4_fine : (packet : List ℕ) → AreBytes packet → Fine IsPacket (ip4_class packet)
 ip4_fine packet all =
     fine_then (HasBytes 20) IsPacket (at_least 20 packet) _ (at_least_fine 20 packet all)
@@ -141,16 +149,19 @@ ip4_fine packet all =
 abbrev IsUpper : Upper → Type 0
 IsUpper upper = IsByte upper.protocol × ArePorts upper.ports
 
+-- a step through the headers leads on to bytes, or to what their chain ends in
 abbrev IsStep : Step → Type 0
 IsStep (Leads next left) = IsByte next × AreBytes left
 IsStep (Ends upper) = IsUpper upper
 
+-- a fragment's header leads on if it is of the first one, and else ends the chain
 fragment_fine : (header : List ℕ) → HasBytes 8 header → (first : Bool) →
     IsStep (if first then Leads (next_header header) (drop 8 header)
     else Ends (record { protocol = next_header header; ports = no_ports }))
 fragment_fine header has true = (byte_at header 0 8 has (omega arith), All-drop IsByte 8 header has.0)
 fragment_fine header has false = (byte_at header 0 8 has (omega arith), none_are)
 
+-- each step through headers of bytes is such
 step_fine : (next : ℕ) (left : List ℕ) → IsByte next → AreBytes left → Fine IsStep (header_step next left)
 step_fine next left is all =
     fine_if IsStep (is_options next) _ _
@@ -173,6 +184,7 @@ followed_fine : (step : Step) (rest : ℕ → List ℕ → Result Upper Class) �
 followed_fine (Leads next left) rest are each = each next left are.0 are.1
 followed_fine (Ends upper) rest are each = are
 
+-- a chain of headers of bytes ends in a protocol and ports of bytes
 upper_fine : (fuel next : ℕ) (left : List ℕ) → IsByte next → AreBytes left → Fine IsUpper (upper_within fuel next left)
 upper_fine zero next left is all = refl
 upper_fine (suc fuel) next left is all =
@@ -180,6 +192,7 @@ upper_fine (suc fuel) next left is all =
     (λ step are. followed_fine step (λ after rest. upper_within fuel after rest) are
     (λ after rest one two. upper_fine fuel after rest one two))
 
+-- an IPv6 packet of bytes has a key of bytes
 ip6_fine : (packet : List ℕ) → AreBytes packet → Fine IsPacket (ip6_class packet)
 ip6_fine packet all =
     fine_then (HasBytes 40) IsPacket (at_least 40 packet) _ (at_least_fine 40 packet all)
@@ -192,6 +205,7 @@ ip6_fine packet all =
     (part header 8 16 40 has (omega arith)) (part header 24 16 40 has (omega arith)) is.1 in
     record { bytes = key.0; len = key.1 }))
 
+-- what follows the tags of a frame of bytes is of bytes
 tags_fine : (tags ethertype : ℕ) (payload : List ℕ) → AreBytes payload →
     Fine (λ (typed : ℕ × List ℕ). AreBytes typed.1) (after_tags tags ethertype payload)
 tags_fine zero ethertype payload all = all
@@ -202,6 +216,7 @@ tags_fine (suc tags) ethertype payload all =
     (λ tag has. tags_fine tags (number_at tag 2 2) (drop 4 payload) (All-drop IsByte 4 payload all)))
     (λ e. all)
 
+-- a frame of bytes with an ethertype has a key of bytes
 typed_fine : (header_len type_at : ℕ) (frame : List ℕ) → AreBytes frame →
     Fine IsPacket (typed_class header_len type_at frame)
 typed_fine header_len type_at frame all =
@@ -212,12 +227,14 @@ typed_fine header_len type_at frame all =
     (λ typed is. fine_if IsPacket (typed.0 == 0x0800) _ _ (λ e. ip4_fine typed.1 is)
     (λ e. fine_if IsPacket (typed.0 == 0x86DD) _ (Err _) (λ f. ip6_fine typed.1 is) (λ f. refl))))
 
+-- a frame of bytes that is a packet has a key of bytes
 raw_fine : (frame : List ℕ) → AreBytes frame → Fine IsPacket (raw_class frame)
 raw_fine frame all =
     fine_then (HasBytes 1) IsPacket (at_least 1 frame) _ (at_least_fine 1 frame all)
     (λ front has. fine_if IsPacket (version_of front == 4) _ _ (λ e. ip4_fine frame all)
     (λ e. fine_if IsPacket (version_of front == 6) _ (Err _) (λ f. ip6_fine frame all) (λ f. refl)))
 
+-- a frame of bytes of any link type has a key of bytes
 frame_fine : (link : Link) (frame : List ℕ) → AreBytes frame → Fine IsPacket (frame_class link frame)
 frame_fine links.Ethernet frame all = typed_fine 14 12 frame all
 frame_fine links.Cooked frame all = typed_fine 16 14 frame all
@@ -226,6 +243,7 @@ frame_fine links.Raw frame all = raw_fine frame all
 frame_fine links.Ip4 frame all = ip4_fine frame all
 frame_fine links.Ip6 frame all = ip6_fine frame all
 
+-- a packet or the class of none is what a frame comes to
 settled_packet : (result : Result FrameClass Class) → Fine IsPacket result → IsPacket (settled result)
 settled_packet (Ok packet) is = is
 settled_packet (Err class) is = record { bytes = All-nil IsByte; len = sym is }
@@ -236,11 +254,13 @@ IsOfBytes savefile.End = ⊤
 IsOfBytes (savefile.Record captured after) = AreBytes captured.bytes × AreBytes after
 IsOfBytes (savefile.Fault fault) = ⊤
 
+-- a fault or what is of bytes is of bytes
 next_if : (test : Bool) (fault : CaptureFault) (other : savefile.Next) → IsOfBytes other →
     IsOfBytes (if test then savefile.Fault fault else other)
 next_if true fault other is = tt
 next_if false fault other is = is
 
+-- what stands next in each state of a savefile is of bytes if the rest is
 savefile_bytes : (state : CaptureState) (left : List ℕ) → AreBytes left → IsOfBytes (savefile.next_of state left)
 savefile_bytes state left all = go (length left == 0)
   where
@@ -266,6 +286,7 @@ IsBlockOfBytes (block.Passed state after) = (state.first ≡ []) × AreBytes aft
 IsBlockOfBytes (block.Given captured state after) = (state.first ≡ []) × AreBytes captured.bytes × AreBytes after
 IsBlockOfBytes (block.Fault fault) = ⊤
 
+-- a block is of bytes by what it says
 said_bytes : (x : Said) (state : BlockState) (front : Front) (left : List ℕ) → AreBytes left →
     IsBlockOfBytes (block_said state front x left)
 said_bytes said.Section state front left all = (refl, All-drop IsByte front.total left all)
@@ -277,16 +298,19 @@ said_bytes (said.Packet link captured) state front left all = (
 )
 said_bytes said.Other state front left all = (refl, All-drop IsByte front.total left all)
 
+-- a block is of bytes whether it says something or has a fault
 block_in_bytes : (state : BlockState) (front : Front) (left : List ℕ) (said : Result Said CaptureFault) →
     AreBytes left → IsBlockOfBytes (block_in state front left said)
 block_in_bytes state front left (Ok x) all = said_bytes x state front left all
 block_in_bytes state front left (Err fault) all = tt
 
+-- a block is of bytes whether its front was read or has a fault
 block_by_bytes : (state : BlockState) (left : List ℕ) (front : Result Front CaptureFault) → AreBytes left →
     IsBlockOfBytes (block_by state left front)
 block_by_bytes state left (Ok front) all = block_in_bytes state front left (said_in state front left) all
 block_by_bytes state left (Err fault) all = tt
 
+-- the block that stands at the front of bytes is of bytes
 block_bytes : (state : BlockState) (bytes : List ℕ) → AreBytes bytes → IsBlockOfBytes (block_at state bytes)
 block_bytes state bytes all = go (length bytes == 0)
   where
@@ -301,6 +325,7 @@ IsNextOfBytes (End state) = ⊤
 IsNextOfBytes (Record captured state after) = AreBytes captured.bytes × AreBytes (first_of state ++ after)
 IsNextOfBytes (Fault fault) = ⊤
 
+-- what stands after a block is of bytes if it is so after any bytes
 past_bytes : (state : BlockState) (read : Block) (rest : BlockState → List ℕ → Next) → IsBlockOfBytes read →
     ((now : BlockState) (after : List ℕ) → AreBytes (now.first ++ after) → IsNextOfBytes (rest now after)) →
     IsNextOfBytes (past_block state read rest)
@@ -311,6 +336,7 @@ past_bytes state (block.Given captured now after) rest is each =
     (is.1, subst (λ (l : List ℕ). AreBytes (l ++ after)) (sym is.0) is.2)
 past_bytes state (block.Fault fault) rest is each = tt
 
+-- what stands next among the blocks is of bytes
 within_bytes : (fuel : ℕ) (state : BlockState) (left : List ℕ) → AreBytes (state.first ++ left) →
     IsNextOfBytes (next_within fuel state left)
 within_bytes zero state left all = tt
@@ -318,12 +344,14 @@ within_bytes (suc fuel) state left all =
     past_bytes state (block_of state left) (λ now after. next_within fuel now after)
     (block_bytes state (state.first ++ left) all) (λ now after are. within_bytes fuel now after are)
 
+-- what stands next in a savefile is of bytes as what stands next in a capture
 with_state_bytes : (state : CaptureState) (next : savefile.Next) → IsOfBytes next →
     IsNextOfBytes (with_state state next)
 with_state_bytes state savefile.End is = tt
 with_state_bytes state (savefile.Record captured after) is = is
 with_state_bytes state (savefile.Fault fault) is = tt
 
+-- what stands next in each state of a capture is of bytes if the rest is
 next_bytes : (state : AnyState) (left : List ℕ) → AreBytes (first_of state ++ left) →
     IsNextOfBytes (next_of state left)
 next_bytes (Savefile state) left all =
@@ -342,6 +370,7 @@ onward_bytes (End state) rest is each = tt
 onward_bytes (Record captured now after) rest is each = (is.0, each now after is.1)
 onward_bytes (Fault fault) rest is each = tt
 
+-- all records of bytes are of bytes
 records_bytes : (fuel : ℕ) (state : AnyState) (left : List ℕ) → AreBytes (first_of state ++ left) →
     AreRecords (records_within fuel state left).records
 records_bytes zero state left all = tt
@@ -349,6 +378,7 @@ records_bytes (suc fuel) state left all =
     onward_bytes (next_of state left) (λ now after. records_within fuel now after) (next_bytes state left all)
     (λ now after is. records_bytes fuel now after is)
 
+-- the packets of records of bytes have keys of bytes
 packets_are : (records : List CaptureRecord) → AreRecords records →
     AllByRecursion IsPacket (map packet_of records)
 packets_are [] all = tt

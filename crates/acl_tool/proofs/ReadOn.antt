@@ -33,9 +33,11 @@ pub record IsTest (test : Status → Bool) : Type 0 where
   pub unread : test ReadFault ≡ false
   pub full : test OutOfMemory ≡ false
 
+-- no end within a file comes with a report
 pub told_test : IsTest is_told
 told_test = record { unread = refl; full = refl }
 
+-- no end within a file passes such a test
 untold_within : (test : Status → Bool) → IsTest test → (ending : Ending) → test (status_within ending) ≡ false
 untold_within test is NotOpened = is.unread
 untold_within test is GoesOn = is.full
@@ -51,6 +53,7 @@ pub record ReadsOn (told : Option (List File)) (name : List ℕ) (next : List �
   pub enough : IsEnough next file
   pub rest : Follows told (next file.bytes) (file ∷ old) new reached
 
+-- a command whose end passes such a test read the file and followed the rest of its plan
 pub read_on : (test : Status → Bool) → IsTest test → (told : Option (List File)) (name : List ℕ)
     (shown : List ℕ → List ℕ) (next : List ℕ → Plan Outcome) (old new : List Heard) (reached : Reached Outcome) →
     Follows told (Read name shown next) old new reached → test (outcome_of reached).status ≡ true →
@@ -78,6 +81,7 @@ pub accepted_rules : (result : Result RuleLists LineFault) (lists : RuleLists) �
 accepted_rules (Ok all) lists is = let same : all ≡ lists = cc in ap Ok same
 accepted_rules (Err fault) lists is = absurd (cc)
 
+-- rules that are refused come without a report
 pub untold_rules : (result : Result RuleLists LineFault) (status : Status) →
     refused_rules RulesRefused result ≡ Err status → is_told status ≡ false
 untold_rules (Ok all) status is = absurd (cc)
@@ -89,6 +93,7 @@ untold_table : (fits : Bool) (table : TableView) (refusal status : Status) → i
 untold_table true table refusal status no_report is = absurd (cc)
 untold_table false table refusal status no_report is = let same : refusal ≡ status = cc in rw (← same) no_report
 
+-- a table whose total is above the budget comes without a report
 untold_total : (budget : ℕ) (family : Family) (lists : RuleLists) (status : Status) →
     table_within budget family lists ≡ Err status → is_told status ≡ false
 untold_total budget family lists status is =
@@ -153,6 +158,7 @@ both_on told budget lists f old new reached follows is =
 pub longer : (n : ℕ) → (long : List ℕ) × (n < length long)
 longer n = (replicate (n + 1) 0, omega (arith, length-replicate {A = ℕ} (n + 1) 0))
 
+-- a command that is done comes with a report
 pub done_told : (status : Status) → (Done ≡ status) ⊎ ((Done ≡ WriteFault) ⊎ (Done ≡ OutOfMemory)) →
     is_told status ≡ true
 done_told status (inl is) = rw (← is) refl

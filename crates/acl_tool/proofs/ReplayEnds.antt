@@ -29,6 +29,7 @@ use Rattle.acl_tool.proofs.Answering.{keeps_up_later}
 abbrev pub report_by : Options → List ℕ → Tables → Plan Outcome
 report_by options capture tables = reported (form_of (ByTables tables) tables options) capture
 
+-- what `replay` prints while it reads is the first part of what it prints in all
 replay_faithful : (image capture : List ℕ) (options : Options) (files : List File) →
     IsFaithful files (replay_plan image capture options)
 replay_faithful image capture options files = (

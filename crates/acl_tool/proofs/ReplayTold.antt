@@ -53,11 +53,13 @@ loaded_tables (Ok pair) tables is =
     ap (λ (t : Tables). let read : Result PairView ImageFault = Ok (pair_of t) in read) same
 loaded_tables (Err fault) tables is = absurd (cc)
 
+-- an image that is refused comes without a report
 untold_image : (result : Result PairView ImageFault) (status : Status) → refused_image result ≡ Err status →
     is_told status ≡ false
 untold_image (Ok pair) status is = absurd (cc)
 untold_image (Err fault) status is = let same : ImageRefused fault ≡ status = cc in rw (← same) refl
 
+-- a `replay` that ended with a report heard both files and reached the report
 replay_heard : (image capture : List ℕ) (options : Options) (told : Option (List File)) (old new : List Heard)
     (reached : Reached Outcome) → Follows told (replay_plan image capture options) old new reached →
     is_told (outcome_of reached).status ≡ true → Replayed image capture options old new reached
@@ -122,6 +124,7 @@ image_printed image capture options read fault old new asked ends =
       bound = omega (arith, steps, report_bound form h.file.bytes);
     }
 
+-- a `replay` that ended with a report printed by the image of its words
 printed_after : (after : List (List ℕ)) (fault : Option CaptureFault) (old new : Outside) →
     Answers (asked_by replay_request (named_of for_replay after)) old new (status_of_fault fault) →
     PrintsByImage (codes "replay" ∷ after) fault old new

@@ -19,6 +19,7 @@ same_fault None (Some two) is = absurd (cc)
 same_fault (Some one) None is = absurd (cc)
 same_fault (Some one) (Some two) is = cc
 
+-- the status of a capture's fault, or of none, comes with a report
 pub told_fault : (fault : Option CaptureFault) → is_told (status_of_fault fault) ≡ true
 told_fault None = refl
 told_fault (Some fault) = refl
@@ -29,20 +30,24 @@ pub report_status : (form : ReportForm) (capture : Result Recorded CaptureFault)
 report_status form (Ok capture) = refl
 report_status form (Err fault) = refl
 
+-- a report is the lines of the records, and then the last lines
 pub report_text : (form : ReportForm) (capture : Result Recorded CaptureFault) →
     (report_of_capture form capture).text
     ≡ lines_of_records form (records_in capture) ++ last_lines form (records_in capture) (fault_of_capture capture)
 report_text form (Ok capture) = refl
 report_text form (Err fault) = refl
 
+-- the status of a capture's fault, or of none, is no write fault
 pub unwritten_fault : (fault : Option CaptureFault) → status_of_fault fault ≢ WriteFault
 unwritten_fault None is = absurd (cc)
 unwritten_fault (Some fault) is = absurd (cc)
 
+-- the status of a capture's fault, or of none, isn't want of memory
 pub unfull_fault : (fault : Option CaptureFault) → status_of_fault fault ≢ OutOfMemory
 unfull_fault None is = absurd (cc)
 unfull_fault (Some fault) is = absurd (cc)
 
+-- the status of a capture's fault, or of none, is decided
 pub decided_fault : (fault : Option CaptureFault) → is_decided (status_of_fault fault) ≡ true
 decided_fault None = refl
 decided_fault (Some fault) = refl
@@ -62,6 +67,7 @@ pub report_transitions : (form : ReportForm) (capture : Result Recorded CaptureF
 report_transitions form (Ok capture) = refl
 report_transitions form (Err fault) = refl
 
+-- the status of a capture's fault, or of none, isn't of the words
 pub lawful_fault : (fault : Option CaptureFault) → is_usage (status_of_fault fault) ≡ false
 lawful_fault None = refl
 lawful_fault (Some fault) = refl

@@ -28,6 +28,7 @@ replies_of-more front more long =
     long_script (front ++ more) (omega (arith, length-append front more, long))
     ∙ sym (long_script front (omega (arith, long)))
 
+-- what `session` prints while it reads is the first part of what it prints in all
 script_faithful : (script : List ℕ) (files : List File) → IsFaithful files (session_plan script)
 script_faithful script files = (
   λ bytes more. BeginsWith-nothing _,

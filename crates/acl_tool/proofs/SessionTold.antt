@@ -29,6 +29,7 @@ record Asked (words : List (List ℕ)) (old new : Outside) (status : Status) : T
   is : words ≡ codes "session" ∷ script ∷ []
   ends : Ends (session_plan script) old new status
 
+-- words after `session` that were answered are a name
 asked_after : (after : List (List ℕ)) (old new : Outside) (status : Status) → is_usage status ≡ false →
     Answers (asked_by session_request (single_of for_session after)) old new status →
     Asked (codes "session" ∷ after) old new status
@@ -37,6 +38,7 @@ asked_after (script ∷ []) old new status lawful answers =
     record { script = script; is = refl; ends = answers.ends }
 asked_after (script ∷ word ∷ words) old new status lawful answers = no_usage status _ lawful answers.usage
 
+-- the words of a `session` that was answered are `session` and a name
 asked_words : (words : List (List ℕ)) (old new : Outside) (status : Status) → Answers (command words) old new status →
     is_usage status ≡ false → (after : List (List ℕ)) → words ≡ codes "session" ∷ after → Asked words old new status
 asked_words words old new status answers lawful after is =
@@ -52,14 +54,17 @@ after_bytes bytes = unless_refused (replies_of bytes) >>= only_text
 abbrev said_if : Bool → List ℕ → Result (List ℕ) Status
 said_if long bytes = if long then Err ScriptRefused else Ok (session_of bytes)
 
+-- what is said of a script are its replies
 text_is : (long : Bool) (bytes text : List ℕ) → said_if long bytes ≡ Ok text → text ≡ session_of bytes
 text_is true bytes text is = absurd (cc)
 text_is false bytes text is = cc
 
+-- a script that is refused comes without a report
 untold : (long : Bool) (bytes : List ℕ) (status : Status) → said_if long bytes ≡ Err status → is_told status ≡ false
 untold true bytes status is = let same : ScriptRefused ≡ status = cc in rw (← same) refl
 untold false bytes status is = absurd (cc)
 
+-- a script that is refused is too long
 is_long : (long : Bool) (bytes : List ℕ) (status : Status) → nat_lt max_script (length bytes) ≡ long →
     said_if long bytes ≡ Err status → max_script < length bytes
 is_long true bytes status test is = ltb-true max_script (length bytes) test
@@ -123,9 +128,11 @@ abbrev is_refused : Status → Bool
 is_refused ScriptRefused = true
 is_refused status = false
 
+-- no end within a file is that of a script that is too long
 refused_test : IsTest is_refused
 refused_test = record { unread = refl; full = refl }
 
+-- a command that ends with a script that is too long has this status
 refused_status : (status : Status) →
     (ScriptRefused ≡ status) ⊎ ((ScriptRefused ≡ WriteFault) ⊎ (ScriptRefused ≡ OutOfMemory)) → ScriptRefused ≡ status
 refused_status status (inl is) = is
@@ -138,6 +145,7 @@ record Long (bytes : List ℕ) (file : Heard) (old new : List Heard) (reached : 
   newest : new ≡ file ∷ old
   silent : (outcome_of reached).text ≡ []
 
+-- a command that ends with a script that is too long heard it, and printed nothing
 long_bytes : (bytes : List ℕ) (told : Option (List File)) (file : Heard) (old new : List Heard)
     (reached : Reached Outcome) → ScriptRefused ≡ (outcome_of reached).status →
     Follows told (after_bytes bytes) (file ∷ old) new reached → Long bytes file old new reached
@@ -173,6 +181,7 @@ refuses words old new asked =
       taken = gains.taken ∙ ap (λ (t : List ℕ). old.out.taken ++ t) l.silent ∙ append-nil old.out.taken;
     }
 
+-- a `session` that is done, or whose script is too long, did so
 pub session_tells : (words : List (List ℕ)) (old new : Outside) (status : Status) →
     Answers (command words) old new status → SessionTells words status old new
 session_tells words old new status answers = record {

@@ -17,6 +17,7 @@ record IsPlain (status : Status) : Type 0 where
   unreported : is_reported status ≡ false
   lawful : is_usage status ≡ false
 
+-- each refusal is such a status
 plain : (status : Status) → is_refusal status ≡ true → IsPlain status
 plain (TooLarge family words budget) is = record { decided = refl; unreported = refl; lawful = refl }
 plain TooManyTogether is = record { decided = refl; unreported = refl; lawful = refl }
@@ -48,6 +49,7 @@ pub lawful_put : (text : List ℕ) (old new : SinkView) (status : Status) → Pu
     is_usage status ≡ false
 lawful_put text old new status puts = elim puts.puts [ inl all ↦ ap is_usage all.0 | inr part ↦ ap is_usage part.0 ]
 
+-- a command that refuses its rules, or has no memory, isn't refused for its words
 pub lawful_refusal : {A : Type 0} (said : Result A Status) (status : Status) → Refuses said status →
     is_usage status ≡ false
 lawful_refusal said status (inl (is, refusal)) = (plain status refusal).lawful

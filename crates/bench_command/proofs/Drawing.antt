@@ -36,10 +36,12 @@ state-more place generator =
     (state_after_both 64 multiplier_64 generator.increment (KEY_WORDS * place) KEY_WORDS generator.state)
     ∙ ap (λ n. after_words n generator) same
 
+-- one more key is drawn after the others
 pub keys-more : (rules : List RuleView) (generator : Lcg) (place : ℕ) →
     keys_of rules generator (place + 1) ≡ keys_of rules generator place ++ next_key rules generator place ∷ []
 keys-more rules generator place = map-range_with_len_more (key_at rules generator) 0 place place (omega arith)
 
+-- the bytes of one more key come after those of the others
 pub bytes-more : (rules : List RuleView) (generator : Lcg) (place : ℕ) →
     concat (keys_of rules generator (place + 1))
     ≡ concat (keys_of rules generator place) ++ next_key rules generator place
@@ -48,6 +50,7 @@ bytes-more rules generator place =
     ∙ concat-append (keys_of rules generator place) (next_key rules generator place ∷ [])
     ∙ ap (λ bytes. concat (keys_of rules generator place) ++ bytes) (append-nil (next_key rules generator place))
 
+-- the verdicts of one more key come after those of the others
 pub verdicts-more : (set : RuleSetView) (count : ℕ) (rules : List RuleView) (generator : Lcg) (place : ℕ) →
     verdicts_on_keys set count (keys_of rules generator (place + 1))
     ≡ verdicts_on_keys set count (keys_of rules generator place)
@@ -59,6 +62,7 @@ verdicts-more set count rules generator place =
     ∙ ap (λ vs. verdicts_on_keys set count (keys_of rules generator place) ++ vs)
     (append-nil (verdicts_on_key set count (next_key rules generator place)))
 
+-- as many keys are drawn as are asked for
 pub length-keys : (rules : List RuleView) (generator : Lcg) (count : ℕ) → length (keys_of rules generator count)
     ≡ count
 length-keys rules generator count = length-map-range_with_len (key_at rules generator) 0 count
@@ -67,6 +71,7 @@ length-keys rules generator count = length-map-range_with_len (key_at rules gene
 length-key : (rules : List RuleView) (words : List ℕ) → length (key_of_words rules words) ≡ KEY_LEN
 length-key rules words = refl
 
+-- each key that is drawn has as many bytes as a key has
 pub keys_are_whole : (rules : List RuleView) (generator : Lcg) (count : ℕ) →
     AreOf KEY_LEN (keys_of rules generator count)
 keys_are_whole rules generator count =

@@ -19,11 +19,13 @@ abbrev pub AreOf : ℕ → List (List ℕ) → Type 0
 AreOf len [] = ⊤
 AreOf len (key ∷ keys) = (length key ≡ len) × AreOf len keys
 
+-- what is made of each element has so many bytes if it has for any
 pub AreOf-map : {A : Type 0} (len : ℕ) (f : A → List ℕ) → ((x : A) → length (f x) ≡ len) → (xs : List A) →
     AreOf len (map f xs)
 AreOf-map len f each [] = tt
 AreOf-map len f each (x ∷ xs) = (each x, AreOf-map len f each xs)
 
+-- keys of so many bytes have together that many for each key
 pub length-bytes : (len : ℕ) (keys : List (List ℕ)) → AreOf len keys →
     length (concat keys) ≡ length keys * len
 length-bytes len [] are = omega arith

@@ -28,6 +28,7 @@ pub length-rules : (numbers : BenchNumbers) → length (set_drawn numbers).rules
 length-rules numbers =
     length-map-range_with_len (λ place. rule_of (place + 1) (rule_words numbers.seed place)) 0 numbers.rules
 
+-- each key of a workload has as many bytes as a key has
 whole : (numbers : BenchNumbers) → AreOf KEY_LEN (keys_drawn numbers)
 whole numbers =
     let drawn = workload_of numbers.seed numbers.rules in
@@ -75,6 +76,7 @@ whole_bytes bytes count is =
     let some : 0 < KEY_LEN = omega arith in
     is ∙ ap (λ n. n * KEY_LEN) (sym (ap (λ n. n / KEY_LEN) is ∙ mul-div_cancel count some))
 
+-- the bytes of so many keys are at most the greatest number of keys
 pub few_bytes : (bytes : List ℕ) (count most : ℕ) → length bytes ≡ count * KEY_LEN → count ≤ most →
     length bytes / KEY_LEN ≤ most
 few_bytes bytes count most is few =

@@ -138,6 +138,7 @@ module _ (classifier : Classifier) (tables : Tables) (options : PrintOptions) (a
 pub categories_few : (count : ℕ) → IsTrue (is_count_of_categories count) → count ≤ MAX_VERDICTS
 categories_few count lawful = grind (arith, nat_tests)
 
+-- what a report prints while it reads is the first part of what it prints in all
 report_faithful : (form : ReportForm) (name : List ℕ) (files : List File) →
     IsFaithful files (reported form name)
 report_faithful form name files = (λ front more. report-begins form front more, λ front. tt)

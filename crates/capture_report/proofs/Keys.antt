@@ -27,6 +27,7 @@ use Rattle.flat_table.proofs.Offered.{key_bound}
 use Rattle.capture_report.specs.Batch.{is_of, keys_of, number_of, verdicts_of, transitions_of_family, max_transitions}
 use Rattle.table_sizes.specs.Sizes.{max_tries}
 
+-- 0 and a number are the number
 zero-add : (n : ℕ) → 0 + n ≡ n
 zero-add n = omega arith
 
@@ -38,6 +39,7 @@ shifted f g same a (suc n) =
     ap (λ l. f (a + 1) ++ l) (shifted f g same (a + 1) n)
     ∙ ap (λ l. l ++ flat_map g (range_with_len (a + 1) n)) (same a)
 
+-- a sum over places from one more on is that of the other function over the places
 sum_shifted : (f g : ℕ → ℕ) → ((k : ℕ) → f (k + 1) ≡ g k) → (a n : ℕ) →
     sum_by f (range_with_len (a + 1) n) ≡ sum_by g (range_with_len a n)
 sum_shifted f g same a zero = refl
@@ -50,6 +52,7 @@ sum_shifted f g same a (suc n) =
       same a,
     )
 
+-- a range is its first number and those after it
 range_first : (a n : ℕ) → range_with_len a (n + 1) ≡ a ∷ range_with_len (a + 1) n
 range_first a n =
     let at : range_with_len a (suc n) ≡ a ∷ range_with_len (a + 1) n = refl in
@@ -96,6 +99,7 @@ module _ (table : TableView) (key rest : List ℕ) (len : length key ≡ table.k
         ap (key_transitions table) first_key,
       )
 
+-- the key of a packet of a family is as long as the family's keys
 class_len : (family : Family) (class : Class) → is_of family class ≡ true → key_len class ≡ key_len_of_family family
 class_len family.Ip4 Ip4 is = refl
 class_len family.Ip4 Ip6 is = absurd (cc)
@@ -212,6 +216,7 @@ family_transitions_bound family table (p ∷ ps) tries len =
     go true own later = rw own (omega (arith, key_transitions_bound table p.key tries len, later))
     go false own later = rw own (omega (arith, later))
 
+-- a family has at most as many packets as there are
 pub number_bound : (family : Family) (packets : List FrameClass) → number_of family packets ≤ length packets
 number_bound family [] = omega arith
 number_bound family (p ∷ ps) = go (is_of family p.class) refl (number_bound family ps)
@@ -226,6 +231,7 @@ pub some_bytes : (family : Family) (len : ℕ) → len ≡ key_len_of_family fam
 some_bytes family.Ip4 len is = omega (arith, is)
 some_bytes family.Ip6 len is = omega (arith, is)
 
+-- and at most the 37 bytes of an IPv6 key
 pub few_bytes : (family : Family) (len : ℕ) → len ≡ key_len_of_family family → len ≤ 37
 few_bytes family.Ip4 len is = omega (arith, is)
 few_bytes family.Ip6 len is = omega (arith, is)
@@ -235,6 +241,7 @@ abbrev own_transitions : Bool → ℕ → ℕ
 own_transitions true steps = steps
 own_transitions false steps = 0
 
+-- a packet takes the steps of its own family alone
 one_of_both : (class : Class) (tables : Tables) (key : List ℕ) →
     transitions_on class tables key
     ≡ own_transitions (is_of family.Ip4 class) (key_transitions tables.ip4 key)
@@ -244,6 +251,7 @@ one_of_both Ip6 tables key = sym (zero-add (key_transitions tables.ip6 key))
 one_of_both Other tables key = refl
 one_of_both Short tables key = refl
 
+-- the steps of a family are those of the first packet, if it is its own, and of the others
 family_first : (family : Family) (table : TableView) (p : FrameClass) (ps : List FrameClass) →
     transitions_of_family family table (p ∷ ps)
     ≡ own_transitions (is_of family p.class) (key_transitions table p.key) + transitions_of_family family table ps

@@ -20,6 +20,7 @@ use Rattle.capture_report.specs.Report.{transitions_on, transitions_of_packets, 
 use Rattle.capture_report.specs.Report.{lines_of_packets, lines_of_records, counted_all}
 use Rattle.capture_report.specs.Report.{lines_in}
 
+-- the lines of further packets come after those of the first ones and are numbered on
 lines_of_packets-append : (form : ReportForm) (number : ℕ) (first second : List FrameClass) →
     lines_of_packets form number (first ++ second)
     ≡ lines_of_packets form number first ++ lines_of_packets form (number + length first) second
@@ -44,6 +45,7 @@ lines_of_records-append form first second number is =
     ∙ lines_of_packets-append form 1 (map packet_of first) (map packet_of second)
     ∙ ap (λ n. lines_of_records form first ++ lines_of_packets form n (map packet_of second)) sum
 
+-- one more class is counted after the others
 counts_more : (classes : List Class) (class : Class) →
     counts_of (classes ++ class ∷ []) ≡ counted class (counts_of classes)
 counts_more classes Ip4 = grind (arith, common_steps)
@@ -51,6 +53,7 @@ counts_more classes Ip6 = grind (arith, common_steps)
 counts_more classes Other = grind (arith, common_steps)
 counts_more classes Short = grind (arith, common_steps)
 
+-- packets that are counted after others are counted with them
 counted_all-counts : (first second : List FrameClass) →
     counted_all second (counts_of (classes_of first)) ≡ counts_of (classes_of (first ++ second))
 counted_all-counts first [] = ap (λ l. counts_of (classes_of l)) (sym (append-nil first))
@@ -91,6 +94,7 @@ one_class Ip6 = refl
 one_class Other = refl
 one_class Short = refl
 
+-- the counts of the four classes add up to all
 classes_add_up : (classes : List Class) →
     count_by (same_class Ip4) classes + count_by (same_class Ip6) classes + count_by (same_class Other) classes
     + count_by (same_class Short) classes
@@ -112,6 +116,7 @@ pub records_add_up : (records : List CaptureRecord) (counts : Counts) → counts
     counts.ip4 + counts.ip6 + counts.other + counts.short ≡ counts.packets
 records_add_up records counts is = rw is (classes_add_up (classes_of (map packet_of records)))
 
+-- a line has at least one line feed
 ends_in_line_feed : (first : List ℕ) (words : List (List ℕ)) → 1 ≤ lines_in (line_of first words)
 ends_in_line_feed first words =
     let f : ℕ → ℕ = λ byte. cond (byte == line_feed) 1 0 in
@@ -120,6 +125,7 @@ ends_in_line_feed first words =
     sum_by-append f (first ++ spaced words) (line_feed ∷ []) in
     omega (arith, all, end)
 
+-- packets have at least as many lines as they are
 lines_in-packets : (form : ReportForm) (number : ℕ) (packets : List FrameClass) →
     length packets ≤ lines_in (lines_of_packets form number packets)
 lines_in-packets form number [] = omega arith

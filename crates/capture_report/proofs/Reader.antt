@@ -88,16 +88,19 @@ only_given : (given more : List ℕ) (ending : Ending) → ending ≡ Ended → 
 only_given given more ending ended none =
     ap (λ (l : List ℕ). given ++ l) (none ended) ∙ append-nil given
 
+-- at the end of the file there are no records if none stands next
 AreAll-end : (state : AnyState) (given : List ℕ) (ending : Ending) → ending ≡ Ended → IsEnd (next_of state given) →
     AreAll state given ending [] None
 AreAll-end state given ending ended next more none =
     ap (records_from state) (only_given given more ending ended none) ∙ at_end state given next
 
+-- at the end of the file there are no records but a fault if it stands next
 AreAll-cut : (state : AnyState) (given : List ℕ) (ending : Ending) (fault : CaptureFault) → ending ≡ Ended →
     next_of state given ≡ Failing fault → AreAll state given ending [] (Some fault)
 AreAll-cut state given ending fault ended next more none =
     ap (records_from state) (only_given given more ending ended none) ∙ records-fault state given fault next
 
+-- wherever the file ends there are no records but a fault if that is decided
 AreAll-decided : (state : AnyState) (given : List ℕ) (ending : Ending) (fault : CaptureFault) →
     next_of state given ≡ Failing fault → IsDecidedNext (Failing fault) → AreAll state given ending [] (Some fault)
 AreAll-decided state given ending fault next decided more none =
@@ -126,6 +129,7 @@ abbrev FaultSays : AnyState → List ℕ → Ending → CaptureFault → Type 0
 FaultSays before given ending ReadFault = (records_from before given).records ≡ []
 FaultSays before given ending fault = AreAll before given ending [] (Some fault)
 
+-- the bytes that were read before a fault say so
 fault_says : (fault : CaptureFault) (before now : AnyState) (old new : DeskView) →
     (reads : ReadsNext before now old new (Err fault)) → FaultSays before reads.given reads.ending fault
 fault_says ReadFault before now old new reads =
@@ -186,6 +190,7 @@ abbrev pub stop_or_full : Option BatchEnd → BatchEnd
 stop_or_full None = Full
 stop_or_full (Some stop) = stop
 
+-- the end of a batch of one answer is how the answer ends it
 stop-is : (answer : Answer) → stop_or_full (end_of answer) ≡ stop_of answer
 stop-is (Ok None) = refl
 stop-is (Ok (Some captured)) = refl
@@ -209,11 +214,13 @@ records_by Full = 1
 records_by End = 0
 records_by (Fault fault) = 0
 
+-- a batch that comes to its end gives no record
 pub records_by-stop : (stop : BatchEnd) → IsStop stop → records_by stop ≡ 0
 records_by-stop Full is = absurd is
 records_by-stop End is = refl
 records_by-stop (Fault fault) is = refl
 
+-- an answer has as many records as its batch gives
 one_record : (answer : Answer) → length (record_in answer) ≡ records_by (stop_of answer)
 one_record (Ok None) = refl
 one_record (Ok (Some captured)) = refl
@@ -250,6 +257,7 @@ pub record AreFirst (front all : List CaptureRecord) : Type 0 where
   pub rest : List CaptureRecord
   pub parts : all ≡ front ++ rest
 
+-- all records begin with none
 none_first : (front all : List CaptureRecord) → front ≡ [] → AreFirst front all
 none_first front all none = record { rest = all; parts = ap (λ (l : List CaptureRecord). l ++ all) (sym none) }
 
@@ -270,6 +278,7 @@ record_first state left more captured now later next follow =
           (sym (ap (λ r. r.records) (records-record state left captured now later next)));
     }
 
+-- the records of some bytes are the first of those with more bytes
 records_more : (fuel : ℕ) (state : AnyState) (left more : List ℕ) → size_of state left < fuel →
     AreFirst (records_from state left).records (records_from state (left ++ more)).records
 records_more zero state left more enough = absurd (omega (arith, enough))
@@ -283,6 +292,7 @@ records_more (suc fuel) state left more enough =
       | inr (inr fails) ↦ none_first _ _ (ap (λ r. r.records) (records-fault state left fails.0 fails.1))
     ]
 
+-- the whole records of a file's first bytes are the first of the file's, whatever its header says
 first_by_start : (bytes more : List ℕ) (result : Result AnyState CaptureFault) → start_of bytes ≡ result →
     AreFirst (whole_records bytes) (whole_records (bytes ++ more))
 first_by_start bytes more (Err fault) says =
@@ -315,6 +325,7 @@ pub record ReadHeader (state : AnyState) (old new : DeskView) : Type 0 where
   pub keeps : KeepsReading old new
   pub says : (more : List ℕ) → capture_of (given ++ more) ≡ Ok (records_from state more)
 
+-- a file header that was read is one from which the records follow
 pub ReadHeader-from : (state : AnyState) (old new : DeskView) → ReadsStart old new (Ok state) →
     ReadHeader state old new
 ReadHeader-from state old new reads = record {
@@ -362,6 +373,7 @@ header_decided fault old new given reads keeps says isnt = record {
       (start-append given more (λ e. isnt (let f = sym says ∙ e in cc)) ∙ says);
 }
 
+-- a file header that was read with a fault is refused
 pub RefusedHeader-from : (fault : CaptureFault) (old new : DeskView) → fault ≢ ReadFault →
     (reads : ReadsStart old new (Err fault)) → RefusedHeader fault old new
 RefusedHeader-from ReadFault old new isnt reads = absurd (isnt refl)
@@ -382,6 +394,7 @@ pub record BrokenHeader (old new : DeskView) : Type 0 where
   pub none : whole_records given ≡ []
   pub read_fault : Rose old.read_faults new.read_faults
 
+-- at a read fault the reading broke off in the file header
 pub BrokenHeader-from : (old new : DeskView) → ReadsStart old new (Err ReadFault) → BrokenHeader old new
 BrokenHeader-from old new reads = record {
   given = reads.given;

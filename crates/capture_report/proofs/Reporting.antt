@@ -48,6 +48,7 @@ record HearsFile (name given : List ℕ) (ending : Ending) (old new : DeskView) 
   absent : (files : List File) → files_of old ≡ Some files → new.absent ≡ old.absent
   kept : KeepsFiles old new
 
+-- an opened file whose reading stands so has this ending
 stood : (ending : Ending) (name given : List ℕ) → stands ending (file_of name given GoesOn)
     ≡ file_of name given ending
 stood NotOpened name given = refl
@@ -55,6 +56,7 @@ stood GoesOn name given = refl
 stood Ended name given = refl
 stood BrokenOff name given = refl
 
+-- a file that was opened and read was heard so
 HearsFile-read : {T E : Type 0} (name given : List ℕ) (ending : Ending) (old mid new : DeskView) (x : T) →
     OpensFile {E = E} name old mid (Ok x) →
     ReadsOn (stands ending) given mid new → (ending ≡ Ended → IsAtEnd new) → KeepsReading mid new →
@@ -73,6 +75,7 @@ HearsFile-read name given ending old mid new x opens reads at_end keeps = record
   kept = kept_files name given old mid new x opens reads.told keeps.made keeps.counts;
 }
 
+-- within an opened file all of the text is said
 said-opened : (ending : Ending) (text : List ℕ) → IsOpened ending → text ≡ said_in ending text
 said-opened NotOpened text opened = absurd opened
 said-opened GoesOn text opened = refl
@@ -98,6 +101,7 @@ part_undecided status ending (inl within) decided =
 part_undecided status ending (inr (inl write)) decided = false≢true (sym (ap is_decided write) ∙ decided)
 part_undecided status ending (inr (inr full)) decided = false≢true (sym (ap is_decided full) ∙ decided)
 
+-- a report of which a part was put ends by its plan
 Ends-part : (form : ReportForm) (name given : List ℕ) (ending : Ending) (old new : Outside) (status : Status) →
     HearsFile name given ending old.desk new.desk → IsOpened ending →
     PutsPart (lines_so_far form given) ending old new status →
@@ -128,6 +132,7 @@ Ends-part form name given ending old new status h opened p = record {
   count = p.count;
 }
 
+-- enough of a file was heard if further bytes change nothing
 enough_from : {A : Type 0} (ending : Ending) (next : List ℕ → Plan A) (name given : List ℕ) → IsUnbroken ending →
     ((more : List ℕ) → (ending ≡ Ended → more ≡ []) → next (given ++ more) ≡ next given) →
     IsEnough next (file_of name given ending)
@@ -144,6 +149,7 @@ record PutsAll (outcome : Outcome) (old new : SinkView) (status : Status) : Type
       ⊎ ((status ≡ WriteFault) × GainsPrefix outcome.text old new × Rose old.faults new.faults)
   count : old.faults ≤ new.faults
 
+-- a report of which all was put has the status of its outcome, or a write fault
 all_ended : (outcome : Outcome) (old new : SinkView) (status : Status) → PutsAll outcome old new status →
     (status ≡ outcome.status) ⊎ (status ≡ WriteFault)
 all_ended outcome old new status p = elim p.puts [ inl done ↦ inl done.0 | inr failed ↦ inr failed.0 ]
@@ -166,6 +172,7 @@ report_unmade form bytes = go (capture_of bytes)
     go (Ok capture) = refl
     go (Err fault) = refl
 
+-- a report of which all was put ends by its plan
 Ends-whole : (form : ReportForm) (name given : List ℕ) (ending : Ending) (old new : Outside) (status : Status) →
     HearsFile name given ending old.desk new.desk → IsUnbroken ending →
     ((more : List ℕ) → (ending ≡ Ended → more ≡ []) → report form (given ++ more) ≡ report form given) →
@@ -320,6 +327,7 @@ header_broken {T} {E} form name old mid new x opens header =
       keeps_up = λ w. absurd (cc);
     }
 
+-- a fault of the file header ends the report
 pub Reports-header : {T E : Type 0} (fault : CaptureFault) (form : ReportForm) (name : List ℕ) (old mid : DeskView)
     (new : Outside) (x : T) → OpensFile {E = E} name old mid (Ok x) → ReadsStart mid new.desk (Err fault) →
     Reports form name (outside old new.out new.steps) new (refusal fault)
@@ -329,6 +337,7 @@ Reports-header {T} {E} fault form name old mid new x opens reads =
     header_refused {E = E} form name fault old mid new x opens
     (RefusedHeader-from fault mid new.desk (λ e. absurd (cc)) reads)
 
+-- a text that breaks off soon keeps up with the records that were heard
 keeps_up_from : (name given : List ℕ) (ending : Ending) (text : List ℕ) (records : List CaptureRecord)
     (old new : Outside) →
     HearsFile name given ending old.desk new.desk → whole_records given ≡ records →
@@ -343,10 +352,12 @@ keeps_up_from name given ending text records old new h whole b = record {
   few = omega (arith, b.few, ap length whole);
 }
 
+-- a text that breaks off soon was put as a prefix
 prefix_from : (text : List ℕ) (records : ℕ) (old new : SinkView) → BreaksOffSoon text records old new →
     GainsPrefix text old new
 prefix_from text records old new b = record { prefix = b.put; rest = b.rest; parts = b.parts; gains = b.gains }
 
+-- the status of a capture's fault, or of none, is decided and isn't of the words
 fault_decided : (fault : Option CaptureFault) →
     (is_decided (status_of_fault fault) ≡ true) × (is_usage (status_of_fault fault) ≡ false)
 fault_decided None = (refl, refl)

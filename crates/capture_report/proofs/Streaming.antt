@@ -158,12 +158,14 @@ HasPrinted-batch form state old now new packets stop x h batch put =
       count = omega (arith, h.count, put.puts.count);
     }
 
+-- a file whose reading is unbroken was opened
 unbroken_opened : (ending : Ending) → IsUnbroken ending → IsOpened ending
 unbroken_opened NotOpened unbroken = absurd unbroken
 unbroken_opened GoesOn unbroken = tt
 unbroken_opened Ended unbroken = tt
 unbroken_opened BrokenOff unbroken = tt
 
+-- the reading of a file that goes on or has ended is unbroken
 on_or_ended : (ending : Ending) → (ending ≡ GoesOn) ⊎ (ending ≡ Ended) → IsUnbroken ending
 on_or_ended ending (inl on) = subst IsUnbroken (sym on) tt
 on_or_ended ending (inr ended) = subst IsUnbroken (sym ended) tt
@@ -177,11 +179,13 @@ fault_unbroken (RecordCut n) ending isnt stood = subst IsUnbroken (sym stood) tt
 fault_unbroken (PngCut n) ending isnt stood = subst IsUnbroken (sym stood) tt
 fault_unbroken fault ending isnt stood = on_or_ended ending stood
 
+-- a file of which a fault was read was opened
 fault_opened : (fault : CaptureFault) (ending : Ending) → FaultStands fault ending → IsOpened ending
 fault_opened CannotRead ending stood = subst IsOpened (sym stood) tt
 fault_opened fault ending stood =
     unbroken_opened ending (fault_unbroken fault ending (λ e. absurd (cc)) stood)
 
+-- a file of which a batch was read was opened
 batch_opened : (stop : BatchEnd) (ending : Ending) → BatchStands stop ending → IsOpened ending
 batch_opened Full ending stood = subst IsOpened (sym stood) tt
 batch_opened End ending stood = subst IsOpened (sym stood) tt
@@ -306,6 +310,7 @@ fault_whole form state old now fault status h unbroken all is = record {
   count = h.count;
 }
 
+-- a fault after some printed records ends the stream with its status
 pub Streams-fault : (fault : CaptureFault) (form : ReportForm) (state : AnyState) (old : Outside)
     (now : Standing) (status : Status) →
     HasPrinted form state old now (Fault fault) → status ≡ refusal fault → Streams form state old now.outside status

@@ -74,6 +74,7 @@ Took-then {before} {mid} {after} {first} {second} {given} {more} {old} {between}
   few = λ below. b.few (a.few below);
 }
 
+-- all records that follow, whatever comes after them, are the whole ones of the bytes
 AreAll-part : (state : AnyState) (given : List ℕ) (ending : Ending) (records : List CaptureRecord)
     (fault : Option CaptureFault) →
     AreAll state given ending records fault → AreWhole state given records

@@ -41,6 +41,7 @@ classes_more Ip6 now is = omega (arith, is)
 classes_more Other now is = omega (arith, is)
 classes_more Short now is = omega (arith, is)
 
+-- once a packet is counted, the packets after it come next
 next_more : (now : Counts) (p : FrameClass) (rest : List FrameClass) → AreNext now (p ∷ rest) →
     AreNext (counted p.class now) rest
 next_more now p rest next = record {
@@ -77,6 +78,7 @@ Written-next {form = form} {was = was} {now = now} {all = all} {rest = rest} {p 
       numbered = ap (λ n. n + 1) (w.numbered ∙ sym more);
     }
 
+-- a key has as many verdicts as categories are asked for
 verdicts_count : (table : TableView) (key : List ℕ) (n : ℕ) → length (key_verdicts table n key) ≡ n
 verdicts_count table key n = length-map-range_with_len (λ category. table_verdict table key category) 0 n
 

@@ -22,6 +22,7 @@ use Rattle.classbench_reader.proofs.FileLines.{length-rules_of_family, within_li
 use Rattle.classbench_reader.proofs.LawfulLines.{one_family, rule_fault-ip4, rule_fault-ip6}
 use Rattle.classbench_reader.proofs.LineBounds.{IsReadLine, line_lawful}
 
+-- a line that was read as one more rule is lawful
 counted_lawful : (ordinal : ℕ) (text : List ℕ) (line : RuleLine) → counted_line_of ordinal text ≡ Ok line →
     IsReadLine line
 counted_lawful ordinal text line is = elim (cases_Bool (nat_lt max_rules ordinal)) [
@@ -38,6 +39,7 @@ record IsLineThen (said : Result RuleLine LineKind) (others : Result (List RuleL
   left_said : others ≡ Ok left
   are : first ∷ left ≡ lines
 
+-- if a line and those after it were read, each was read, and they are all that was read
 line_then_split : (number : ℕ) (said : Result RuleLine LineKind) (others : Result (List RuleLine) LineFault)
     (lines : List RuleLine) → line_then number said others ≡ Ok lines → IsLineThen said others lines
 line_then_split number (Err kind) others lines is = absurd (cc)
@@ -50,6 +52,7 @@ record AreRead (ordinal : ℕ) (lines : List RuleLine) : Type 0 where
   all : All IsReadLine lines
   few : ordinal + length lines ≤ max_rules + 1
 
+-- numbered lines that were read are lawful, and there are no more than there may be
 lines_lawful : (ordinal : ℕ) (numbered : List (ℕ × List ℕ)) (lines : List RuleLine) → ordinal ≤ max_rules + 1 →
     rule_lines_from ordinal numbered ≡ Ok lines → AreRead ordinal lines
 lines_lawful ordinal [] lines few is =
@@ -81,6 +84,7 @@ family_rules kept P holds (line ∷ lines) all =
       | inr other ↦ rw other rest
     ]
 
+-- lawful lines make lawful rules of each family
 file_lawful : (lines : List RuleLine) → AreRead 1 lines →
     HoldsLawfulRules (record { ip4 = rules_of_family family.Ip4 lines; ip6 = rules_of_family family.Ip6 lines })
 file_lawful lines read = record {
@@ -100,6 +104,7 @@ file_lawful lines read = record {
       read.all;
 }
 
+-- and so do lines of which only is known that they are lawful if they were read
 lists_lawful : (found : Result (List RuleLine) LineFault) (lists : RuleLists) →
     ((lines : List RuleLine) → found ≡ Ok lines → AreRead 1 lines) → by_family found ≡ Ok lists →
     HoldsLawfulRules lists
@@ -110,6 +115,7 @@ lists_lawful (Ok lines) lists read is =
     let same : its ≡ lists = cc in
     subst HoldsLawfulRules same (file_lawful lines (read lines refl))
 
+-- the rules of an accepted file are lawful, whatever its bytes are
 pub accepted_rules_are_lawful : AcceptedRulesAreLawful
 accepted_rules_are_lawful bytes lists is = elim (cases_Bool (nat_lt max_rule_file (length bytes))) [
   | inl long ↦ absurd (let fault = rw long at is in cc)

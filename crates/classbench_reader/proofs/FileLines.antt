@@ -39,6 +39,7 @@ pub record IsReadUpTo (bytes : List ℕ) (file : RuleFile) (number ordinal : ℕ
       rule_lines_from 1 (numbered_from 1 (lines_of bytes))
       ≡ after_lines lines (rule_lines_from ordinal (numbered_from (number + 1) (lines_of left)))
 
+-- with no line read before them, the others say what all say
 after_lines-nil : (others : Result (List RuleLine) LineFault) → after_lines [] others ≡ others
 unfolding after_lines
 after_lines-nil (Ok lines) = refl
@@ -105,10 +106,11 @@ rules_of_family-more kept (first ∷ lines) line =
       | inr other ↦ rw other (rules_of_family-more kept lines line)
     ]
 
--- the sets of such rules
+-- rules as a set of the IPv4 layout
 abbrev ip4_set : List RuleView → RuleSetView
 ip4_set rules = record { layout = ip4_fields; rules = rules }
 
+-- rules as a set of the IPv6 layout
 abbrev ip6_set : List RuleView → RuleSetView
 ip6_set rules = record { layout = ip6_fields; rules = rules }
 
@@ -121,6 +123,7 @@ record Holds (lines : List RuleLine) (file : RuleFile) : Type 0 where
 abbrev set_with : RuleView → RuleSetView → RuleSetView
 set_with rule set = record set { rules = set.rules ++ rule ∷ [] }
 
+-- one more line adds its rule to those of its family
 holds-more : (lines : List RuleLine) (line : RuleLine) (file : RuleFile) (its : Family) → family_of_line line ≡ its
     → Holds lines file → Holds (lines ++ line ∷ []) (file_with its (rule_of line) file)
 holds-more lines line file family.Ip4 is holds =
@@ -225,6 +228,7 @@ rule_file-all bytes file number ordinal left short read none =
       rules = rw (le-ltb max_rule_file (length bytes) short, said, read.ip4, read.ip6) refl;
     }
 
+-- a family has at most as many rules as there are lines
 pub length-rules_of_family : (kept : Family) (lines : List RuleLine)
     → length (rules_of_family kept lines) ≤ length lines
 length-rules_of_family kept [] = omega arith

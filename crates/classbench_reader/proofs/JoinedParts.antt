@@ -35,23 +35,28 @@ gap_ends : (gap rest : List ℕ) → IsGap gap → EndsWord (gap ++ rest)
 gap_ends [] rest gap = absurd (omega (arith, gap.some))
 gap_ends (c ∷ cs) rest gap = (and_parts (is_blank c) _ gap.blanks).0
 
+-- a blank is a space or a tab
 is_space_or_tab : (c : ℕ) → is_blank c ≡ true → (c ≡ space) ⊎ (c ≡ tab)
 is_space_or_tab c blank =
     ⊎_elim (λ one. inl (eqb-true c space one)) (λ other. inr (eqb-true c tab other))
     (or_cases (eqb c space) (eqb c tab) blank)
 
+-- the byte is no hexadecimal digit and no `x`
 abbrev EndsAt : ℕ → Type 0
 EndsAt c = (is_digit c 16 ≡ false) × ((c ≡ 120 → ⊥) × (c ≡ 88 → ⊥))
 
+-- a blank is no hexadecimal digit and no `x`
 ends_at_blank : (c : ℕ) → is_blank c ≡ true → EndsAt c
 ends_at_blank c blank =
     ⊎_elim (λ is. subst EndsAt (sym is) (refl, (λ same. omega arith, λ same. omega arith)))
     (λ is. subst EndsAt (sym is) (refl, (λ same. omega arith, λ same. omega arith))) (is_space_or_tab c blank)
 
+-- what ends a word ends a number in hexadecimal
 ends_either : (rest : List ℕ) → EndsWord rest → EndsNumber 16 rest
 ends_either [] ends = tt
 ends_either (c ∷ rest) ends = ends_at_blank c ends
 
+-- a number ends at the blanks before a colon, or at the colon
 blanks_end : (gap rest : List ℕ) → IsBlanks gap → EndsNumber 16 (gap ++ colon ∷ rest)
 blanks_end [] rest blanks = (refl, (λ same. omega arith, λ same. omega arith))
 blanks_end (c ∷ gap) rest blanks = ends_at_blank c (and_parts (is_blank c) _ blanks).0
@@ -71,10 +76,12 @@ network_some : (word : List ℕ) (network : Network) → network_of word ≡ Ok 
 network_some [] network read = absurd (cc)
 network_some (c ∷ cs) network read = omega arith
 
+-- a word that is a protocol has a byte
 protocol_some : (word : List ℕ) (value : FieldValue) → protocol_of word ≡ Ok value → 0 < length word
 protocol_some [] value read = absurd (cc)
 protocol_some (c ∷ cs) value read = omega arith
 
+-- a word that spells a network is read as the network
 network_at : (text word rest : List ℕ) (network : Network) → NextWord text word rest → network_of word ≡ Ok network
     → next_network text ≡ Ok (read_of network rest)
 network_at text word rest network next read =
@@ -82,6 +89,7 @@ network_at text word rest network next read =
     (ap network_of next.first ∙ read)
     ∙ ap (λ r. Ok (read_of network r)) next.after
 
+-- a word that spells a protocol is read as the protocol
 protocol_at_word : (text word rest : List ℕ) (value : FieldValue) → NextWord text word rest
     → protocol_of word ≡ Ok value
     → next_protocol text ≡ Ok (read_of value rest)
@@ -94,9 +102,11 @@ protocol_at_word text word rest value next read =
 at_space : (greatest n : ℕ) (cs : List ℕ) → whole_number greatest (space ∷ cs) ≡ Some n → ⊥
 at_space greatest n cs is = cc
 
+-- no number begins with a tab
 at_tab : (greatest n : ℕ) (cs : List ℕ) → whole_number greatest (tab ∷ cs) ≡ Some n → ⊥
 at_tab greatest n cs is = cc
 
+-- the first byte of a number is no blank
 number_first : (greatest n c : ℕ) (cs : List ℕ) → whole_number greatest (c ∷ cs) ≡ Some n → is_blank c ≡ false
 number_first greatest n c cs is =
     elim (cases_Bool (is_blank c)) [
@@ -107,13 +117,16 @@ number_first greatest n c cs is =
       | inr other ↦ other
     ]
 
+-- a text without a byte is no number
 none_at_all : (greatest n : ℕ) → whole_number greatest [] ≡ Some n → ⊥
 none_at_all greatest n is = cc
 
+-- what follows a word, as a line says it, ends the word
 ends_word : (text : List ℕ) → EndsTheWord text → EndsWord text
 ends_word [] ends = tt
 ends_word (c ∷ cs) ends = ends
 
+-- a number is what comes after the blanks of a gap
 number_after_gap : (greatest n : ℕ) (gap text rest : List ℕ) → IsBlanks gap → whole_number greatest text ≡ Some n
     → after_blanks (gap ++ (text ++ rest)) ≡ text ++ rest
 number_after_gap greatest n gap [] rest blanks is = absurd (none_at_all greatest n is)
@@ -131,6 +144,7 @@ port_after_gap port gap text rest blanks is ends =
     (begins.begins max_port (whole_within max_port port text is))
     ∙ λ i. Ok (read_of (begins.value i) (begins.after i))
 
+-- two ports in order are a range if what follows ends a word
 range_at : (low high : ℕ) (rest : List ℕ) → EndsWord rest → low ≤ high
     → range_of low high rest ≡ Ok (read_of (Range low high) rest)
 range_at low high [] ends filled = rw (le-leb low high filled) refl

@@ -47,14 +47,17 @@ record IsIp4 (address : Address) : Type 0 where
   number : ℕ
   is : address ≡ Ip4 number
 
+-- an IPv6 address, by its number
 record IsIp6 (address : Address) : Type 0 where
   number : ℕ
   is : address ≡ Ip6 number
 
+-- an address of the family IPv4 is an IPv4 address
 ip4_of_family : (address : Address) → family_of_address address ≡ family.Ip4 → IsIp4 address
 ip4_of_family (Ip4 number) same = record { number = number; is = refl }
 ip4_of_family (Ip6 number) same = absurd (cc)
 
+-- an address of the family IPv6 is an IPv6 address
 ip6_of_family : (address : Address) → family_of_address address ≡ family.Ip6 → IsIp6 address
 ip6_of_family (Ip4 number) same = absurd (cc)
 ip6_of_family (Ip6 number) same = record { number = number; is = refl }
@@ -86,6 +89,7 @@ lawful_ip4 source destination bits others line source_fits source_within fits wi
   ),
 )
 
+-- the values of an IPv6 line are lawful, each address as the masks of its two halves
 lawful_ip6 : (source destination bits others : ℕ) (line : RuleLine) → source < 2 ^ 128 → bits ≤ 128
     → destination < 2 ^ 128 → others ≤ 128
     → IsLawfulLine line

@@ -55,6 +55,7 @@ record AreWithin (greatest : ℕ) (pair : ℕ × ℕ) : Type 0 where
   first : pair.0 ≤ greatest
   second : pair.1 ≤ greatest
 
+-- two numbers of a text that was cut are within their bound
 pair_within : (greatest : ℕ) (cut : Option (List ℕ × List ℕ)) (pair : ℕ × ℕ) → pair_of_cut greatest cut ≡ Some pair →
     AreWithin greatest pair
 pair_within greatest None pair is = absurd (cc)
@@ -93,11 +94,13 @@ abbrev Fits : Result Attributes LineKind → Type 0
 Fits (Ok attributes) = FitsSome attributes.userdata
 Fits (Err kind) = Unit {0}
 
+-- the number of an attribute is within its bound
 once_within : (earlier : Option ℕ) (greatest : ℕ) (text : List ℕ) (n : ℕ) → number_once earlier greatest text ≡ Some n →
     n ≤ greatest
 once_within None greatest text n is = whole_within greatest n text is
 once_within (Some other) greatest text n is = absurd (cc)
 
+-- attributes with a number that was read fit if they fit with each such number
 mapped_fits : (f : ℕ → Attributes) (read : Option ℕ) → ((n : ℕ) → read ≡ Some n → FitsSome (f n).userdata) →
     Fits (ok_or (option_map f read) BadAttribute)
 mapped_fits f None all = tt
@@ -112,6 +115,7 @@ chosen_fits false true c x y z one two three = two
 chosen_fits false false true x y z one two three = three
 chosen_fits false false false x y z one two three = tt
 
+-- the userdata stays within its bound after one more named attribute
 named_fits : (found : Attributes) (name text : List ℕ) → FitsSome found.userdata →
     Fits (ok_or (with_named found name text) BadAttribute)
 named_fits found name text fits =
@@ -123,16 +127,19 @@ named_fits found name text fits =
     (mapped_fits (λ n. record found { userdata = Some n }) (number_once found.userdata max_userdata text)
     (λ n is. once_within found.userdata max_userdata text n is))
 
+-- and after one more word, cut at its `=` or not
 cut_fits : (found : Attributes) (cut : Option (List ℕ × List ℕ)) → FitsSome found.userdata → Fits (with_cut found cut)
 cut_fits found None fits = tt
 cut_fits found (Some cut) fits = named_fits found cut.0 cut.1 fits
 
+-- and after all further words
 words_fit : (found : Result Attributes LineKind) (words : List (List ℕ)) → Fits found → Fits (with_words found words)
 words_fit found [] fits = fits
 words_fit (Ok attributes) (word ∷ words) fits =
     words_fit (with_word attributes word) words (cut_fits attributes (cut_at equals_sign word) fits)
 words_fit (Err kind) (word ∷ words) fits = words_fit (Err kind) words tt
 
+-- the userdata of attributes that were read is within its bound
 read_fits : (words : List (List ℕ)) (attributes : Attributes) → attributes_of words ≡ Ok attributes →
     FitsSome attributes.userdata
 read_fits words attributes is = subst Fits is (words_fit (Ok no_attributes) words tt)
@@ -148,6 +155,7 @@ record IsReadTag (tag : RuleTag) : Type 0 where
   lawful : IsLawfulTag tag
   userdata : tag.userdata < 2 ^ 32
 
+-- a tag is lawful if it names a category and its priority is at most the greatest
 made_tag_lawful : (p c u : ℕ) → eqb (c % 65536) 0 ≡ false → p ≤ max_priority →
     IsLawfulTag (record { category_mask = c; priority = pos p; userdata = u })
 made_tag_lawful p c u some within =
@@ -158,6 +166,7 @@ made_tag_lawful p c u some within =
       not_above = grind (arith, ints);
     }
 
+-- a tag that was made of its parts is lawful
 tag_lawful : (p c u : ℕ) (tag : RuleTag) → tag_with p c u ≡ Ok tag → u < 2 ^ 32 → IsReadTag tag
 tag_lawful p c u tag is below = elim (cases_Bool (eqb (c % 65536) 0)) [
   | inl none ↦ absurd (let fault = rw none at is in cc)
@@ -176,6 +185,7 @@ pub record IsReadLine (line : RuleLine) : Type 0 where
   pub lawful : IsLawfulLine line
   pub userdata : line.tag.userdata < 2 ^ 32
 
+-- a line that was read is lawful
 pub line_lawful : (ordinal : ℕ) (text : List ℕ) (line : RuleLine) → ordinal ≤ max_rules →
     rule_line_of ordinal text ≡ Ok line → IsReadLine line
 line_lawful ordinal text line few is =

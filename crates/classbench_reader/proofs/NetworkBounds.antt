@@ -51,6 +51,7 @@ ip4_byte group is =
     lt-ltb (place_value 10 group) 256
     (omega (arith, leb-true (place_value 10 group) 255 (and_parts (is_group 10 3 group) _ is).1))
 
+-- the value of an IPv4 text has 32 bits
 ip4_value_below : (text : List ℕ) → is_ip4 text ≡ true → ip4_value text < 2 ^ 32
 ip4_value_below text is =
     let groups = parts_of dot text in
@@ -64,6 +65,7 @@ ip4_value_below text is =
     let whole = rw four at number in
     omega (arith, whole)
 
+-- the number of an IPv4 address that was read has 32 bits
 ip4_of_below : (text : List ℕ) (number : ℕ) → ip4_of text ≡ Some number → number < 2 ^ 32
 ip4_of_below text number is = elim (cases_Bool (is_ip4 text)) [
   | inl spelled ↦
@@ -99,6 +101,7 @@ pieces_below text is = elim (cases_Bool (is_ip4 text)) [
   ]
 ]
 
+-- each piece of groups in a row has 16 bits
 all_pieces_below : (groups : List (List ℕ)) → list_all is_ip6_end groups ≡ true →
     are_below 65536 (pieces_of_all groups) ≡ true
 all_pieces_below [] all = refl
@@ -108,9 +111,11 @@ all_pieces_below (group ∷ groups) all =
     ∙ list_all_both (λ n. nat_lt n 65536) (pieces_of group) (pieces_of_all groups) (pieces_below group parts.0)
     (all_pieces_below groups parts.1)
 
+-- a group may stand at the end of an address
 group_is_end : (group : List ℕ) → is_ip6_group group ≡ true → is_ip6_end group ≡ true
 group_is_end group is = rw is refl
 
+-- pieces of zero have 16 bits
 zeros_below : (n : ℕ) → are_below 65536 (replicate n 0) ≡ true
 zeros_below zero = refl
 zeros_below (suc n) = zeros_below n
@@ -127,6 +132,7 @@ last_groups_are_ends : (groups : List (List ℕ)) → are_last_groups groups ≡
 last_groups_are_ends groups is =
     (and_parts (are_groups (take (length groups - 1) groups)) (list_all is_ip6_end groups) is).1
 
+-- the number of an address without `::` has 128 bits
 full_below : (text : List ℕ) → is_full text ≡ true → joined (pieces_of_all (groups_of text)) < 2 ^ 128
 full_below text is =
     let groups = groups_of text in
@@ -151,6 +157,7 @@ filled_below before after few first last =
     ))
     (list_all_both p (before ++ zeros) after (list_all_both p before zeros first (zeros_below count)) last)
 
+-- the number of an address with `::` has 128 bits
 shortened_below : (text : List ℕ) → is_shortened text ≡ true → joined (shortened_pieces text) < 2 ^ 128
 shortened_below text is =
     let before = groups_before text in
@@ -162,6 +169,7 @@ shortened_below text is =
     (all_pieces_below before (list_all_weaker is_ip6_group is_ip6_end before group_is_end sides.0))
     (all_pieces_below after (last_groups_are_ends after sides.1))
 
+-- the number of an IPv6 address that was read has 128 bits
 ip6_of_below : (text : List ℕ) (number : ℕ) → ip6_of text ≡ Some number → number < 2 ^ 128
 ip6_of_below text number is = elim (cases_Bool (has_gap text)) [
   | inl gap ↦ elim (cases_Bool (is_shortened text)) [
@@ -197,6 +205,7 @@ pub was_there : {A : Type 0} (found : Option A) (kind : LineKind) (a : A) → ok
 was_there (Some b) kind a is = cc
 was_there None kind a is = absurd (cc)
 
+-- a network that was read from an address and a prefix length is lawful
 prefix_lawful : (address_text bits_text : List ℕ) (network : Network) →
     network_with_prefix address_text bits_text ≡ Ok network → IsLawfulNetwork network
 prefix_lawful address_text bits_text network is =
@@ -214,6 +223,7 @@ prefix_lawful address_text bits_text network is =
           (was_there (whole_number (most_bits address) bits_text) BadPrefix bits says);
     }
 
+-- and so is one that was read from a word with or without a `/`
 cut_lawful : (word : List ℕ) (cut : Option (List ℕ × List ℕ)) (network : Network) →
     network_of_cut word cut ≡ Ok network → IsLawfulNetwork network
 cut_lawful word None network is =
@@ -221,5 +231,6 @@ cut_lawful word None network is =
     absurd (cc)
 cut_lawful word (Some cut) network is = prefix_lawful cut.0 cut.1 network is
 
+-- a network that a word spells is lawful
 pub network_lawful : (word : List ℕ) (network : Network) → network_of word ≡ Ok network → IsLawfulNetwork network
 network_lawful word network is = cut_lawful word (cut_at slash word) network is

@@ -36,9 +36,11 @@ no_end : (p : ℕ → Bool) → p line_feed ≡ false → p carriage_return ≡ 
 no_end p no_feed no_return c passes =
     rw (passes_other p c line_feed no_feed passes, passes_other p c carriage_return no_return passes) refl
 
+-- no byte of a number in decimal ends a line
 decimal_bytes : (n : ℕ) → n < 2 ^ 64 → list_all ends_no_line (decimal n) ≡ true
 decimal_bytes n small = decimal_all ends_no_line (no_end (λ c. is_digit c 10) refl refl) n small
 
+-- no byte of a printed network ends a line
 network_bytes : (network : Network) → network.bits < 2 ^ 64 → list_all ends_no_line (network_text network) ≡ true
 network_bytes network small =
     let address = address_text network.address in
@@ -47,23 +49,27 @@ network_bytes network small =
     (address_text-bytes network.address))
     (decimal_bytes network.bits small)
 
+-- no byte of printed ports ends a line
 ports_bytes : (low high : ℕ) → low ≤ high → high ≤ 65535 → list_all ends_no_line (ports_text (Range low high)) ≡ true
 ports_bytes low high filled within =
     list_all_both ends_no_line (decimal low) (codes " : " ++ decimal high) (decimal_bytes low (omega arith))
     (decimal_bytes high (omega arith))
 
+-- no byte of a byte in hexadecimal ends a line
 byte_bytes : (byte : ℕ) → byte < 256 → list_all ends_no_line (byte_text byte) ≡ true
 byte_bytes byte small =
     list_all_weaker (λ c. not (is_blank c) && (not (eqb c slash) && ends_no_line c)) ends_no_line (byte_text byte)
     (λ c passes. (and_parts (not (eqb c slash)) _ (and_parts (not (is_blank c)) _ passes).1).1)
     (reads_back byte small).bytes
 
+-- no byte of a printed protocol ends a line
 protocol_bytes : (value mask : ℕ) → value < 256 → mask < 256
     → list_all ends_no_line (protocol_text (Bitmask value mask)) ≡ true
 protocol_bytes value mask small masked =
     list_all_both ends_no_line (byte_text value) (slash ∷ byte_text mask) (byte_bytes value small)
     (byte_bytes mask masked)
 
+-- no byte of a printed tag ends a line
 tag_bytes : (p c u : ℕ) → p < 2 ^ 64 → c < 2 ^ 64 → u < 2 ^ 64
     → list_all ends_no_line (tag_text (record { category_mask = c; priority = pos p; userdata = u })) ≡ true
 tag_bytes p c u small_p small_c small_u =
@@ -93,23 +99,28 @@ plain_bytes from to n lawful_from lawful_to bounds =
     (protocol_bytes n.value n.mask bounds.small bounds.masked)
     (tag_bytes n.priority n.categories n.userdata small.0 small.1 small.2)))))
 
+-- a printed address has at most 39 bytes
 address_short : (address : Address) → length (address_text address) ≤ 39
 address_short (Ip4 address) = omega (arith, length-ip4_spelling-le address)
 address_short (Ip6 address) = length-ip6_spelling-le address
 
+-- a printed network has at most 60 bytes
 network_short : (network : Network) → network.bits < 2 ^ 64 → length (network_text network) ≤ 60
 network_short network small =
     length-append-le (address_text network.address) (slash ∷ decimal network.bits) 39 21 (address_short network.address)
     (omega (arith, long_digits network.bits small))
 
+-- printed ports have at most 43 bytes
 ports_short : (low high : ℕ) → low ≤ high → high ≤ 65535 → length (ports_text (Range low high)) ≤ 43
 ports_short low high filled within =
     length-append-le (decimal low) (codes " : " ++ decimal high) 20 23 (long_digits low (omega arith))
     (omega (arith, long_digits high (omega arith)))
 
+-- a printed protocol has at most 9 bytes
 protocol_short : (value mask : ℕ) → length (protocol_text (Bitmask value mask)) ≤ 9
 protocol_short value mask = length-append-le (byte_text value) (slash ∷ byte_text mask) 4 5 (omega arith) (omega arith)
 
+-- a printed tag has at most 75 bytes
 tag_short : (p c u : ℕ) → p < 2 ^ 64 → c < 2 ^ 64 → u < 2 ^ 64
     → length (tag_text (record { category_mask = c; priority = pos p; userdata = u })) ≤ 75
 tag_short p c u small_p small_c small_u =
@@ -120,6 +131,7 @@ tag_short p c u small_p small_c small_u =
     (omega (arith, second)) in
     omega (arith, first)
 
+-- a printed line has at most 296 bytes
 plain_short : (from to : Network) (n : Numbers) → IsLawfulNetwork from → IsLawfulNetwork to → Bounds n
     → length (line_text (plain_line from to n)) ≤ 296
 plain_short from to n lawful_from lawful_to bounds =
@@ -149,6 +161,7 @@ record IsTextOfLine (line : RuleLine) : Type 0 where
   bytes : list_all ends_no_line (line_text line) ≡ true
   short : length (line_text line) ≤ 296
 
+-- no byte of a lawful line's text ends a line, and it has at most 296 bytes
 text_of_line : (line : RuleLine) → IsLawfulLine line → FitsTag line.tag → IsTextOfLine line
 text_of_line line lawful fits =
     let it = plain line lawful fits in

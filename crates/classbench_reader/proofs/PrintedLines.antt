@@ -43,6 +43,7 @@ pub record NextWord (text word rest : List ℕ) : Type 0 where
   pub first : first_word (after_blanks text) ≡ word
   pub after : after_word (after_blanks text) ≡ rest
 
+-- a word at the front of a text stands next
 next_word : (word rest : List ℕ) → IsWord word → 0 < length word → EndsWord rest → NextWord (word ++ rest) word rest
 next_word word rest is some ends =
     let blanks = after_blanks-word word rest is some in
@@ -51,6 +52,7 @@ next_word word rest is some ends =
       after = ap after_word blanks ∙ after_word-append word rest is ends;
     }
 
+-- and so does a word after a tab
 word_after_tab : (word rest : List ℕ) → IsWord word → 0 < length word → EndsWord rest
     → NextWord (tab ∷ (word ++ rest)) word rest
 word_after_tab word rest is some ends =
@@ -77,16 +79,19 @@ protocol_next text rest value mask small masked next =
     (ap protocol_of next.first ∙ protocol_of-text value mask small masked)
     ∙ ap (λ r. Ok (read_of (Bitmask value mask) r)) next.after
 
--- the three attributes of a tag, word by word
+-- the word of the priority
 abbrev pri_word : ℕ → List ℕ
 pri_word n = codes "pri=" ++ decimal n
 
+-- the word of the categories
 abbrev cat_word : ℕ → List ℕ
 cat_word n = codes "cat=" ++ decimal n
 
+-- the word of the userdata
 abbrev data_word : ℕ → List ℕ
 data_word n = codes "data=" ++ decimal n
 
+-- the words of a printed tag are its three attributes
 tag_words : (p c u : ℕ) → p < 2 ^ 64 → c < 2 ^ 64 → u < 2 ^ 64
     → words_of (tab ∷ tag_text (record { category_mask = c; priority = pos p; userdata = u }))
     ≡ pri_word p ∷ cat_word c ∷ data_word u ∷ []
@@ -136,36 +141,45 @@ made from to ports others proto its_tag = Ok (record {
   tag = its_tag;
 })
 
+-- the line, after its attributes were read
 abbrev pub with_attributes : ℕ → Network → Network → FieldValue → FieldValue → FieldValue → Attributes
     → Result RuleLine LineKind
 with_attributes ordinal from to ports others proto attributes =
     tag_of ordinal attributes >>= made from to ports others proto
 
+-- the line, from the words of its attributes on
 abbrev pub with_words : ℕ → Network → Network → FieldValue → FieldValue → FieldValue → List (List ℕ)
     → Result RuleLine LineKind
 with_words ordinal from to ports others proto words =
     attributes_of words >>= with_attributes ordinal from to ports others proto
 
+-- the line, from what follows its protocol on
 abbrev pub with_protocol : ℕ → Network → Network → FieldValue → FieldValue → Read FieldValue → Result RuleLine LineKind
 with_protocol ordinal from to ports others proto =
     after_flags (words_of proto.rest) >>= with_words ordinal from to ports others proto.value
 
+-- the line, from what follows its destination ports on
 abbrev pub with_others : ℕ → Network → Network → FieldValue → Read FieldValue → Result RuleLine LineKind
 with_others ordinal from to ports others =
     next_protocol others.rest >>= with_protocol ordinal from to ports others.value
 
+-- the line, from what follows its source ports on
 abbrev pub with_ports : ℕ → Network → Network → Read FieldValue → Result RuleLine LineKind
 with_ports ordinal from to ports = ports_of ports.rest >>= with_others ordinal from to ports.value
 
+-- the line, from what follows its destination on
 abbrev pub with_destination : ℕ → Network → Read Network → Result RuleLine LineKind
 with_destination ordinal from to = ports_of to.rest >>= with_ports ordinal from to.value
 
+-- the line, from its second network on, which must be of the family of the source
 abbrev pub with_another : ℕ → Network → Read Network → Result RuleLine LineKind
 with_another ordinal from another = beside_source from another >>= with_destination ordinal from
 
+-- the line, from what follows its source on
 abbrev pub with_source : ℕ → Read Network → Result RuleLine LineKind
 with_source ordinal from = next_network from.rest >>= with_another ordinal from.value
 
+-- the line, from its first network on
 abbrev pub with_text : ℕ → List ℕ → Result RuleLine LineKind
 with_text ordinal text = next_network text >>= with_source ordinal
 
@@ -202,9 +216,11 @@ small_numbers n bounds = (
   omega (arith, bounds.lawful_userdata),
 )
 
+-- the tag of these numbers
 abbrev pub numbered_tag : Numbers → RuleTag
 numbered_tag n = record { category_mask = n.categories; priority = pos n.priority; userdata = n.userdata }
 
+-- the line of two networks and these numbers
 abbrev pub plain_line : Network → Network → Numbers → RuleLine
 plain_line from to n = record {
   source = from;
@@ -215,6 +231,7 @@ plain_line from to n = record {
   tag = numbered_tag n;
 }
 
+-- the prefix length of a lawful network has 64 bits
 pub network_small : (network : Network) → IsLawfulNetwork network → network.bits < 2 ^ 64
 network_small network lawful = omega (arith, lawful.within, most_bits-small network.address)
 
@@ -280,6 +297,7 @@ record Tested (value : FieldValue) (size : ℕ) : Type 0 where
   narrow : is_within_size value size ≡ true
   filled : is_range_filled value ≡ true
 
+-- a lawful value passes these tests
 tested : (kind : FieldKind) (size : ℕ) (value : FieldValue) → IsTrue (is_lawful kind size value) → Tested value size
 tested kind size value lawful =
     let filled = and_parts _ _ lawful in
@@ -294,6 +312,7 @@ record IsRange (value : FieldValue) : Type 0 where
   filled : low ≤ high
   within : high ≤ 65535
 
+-- a lawful value of a field of ports is a range
 range_value : (value : FieldValue) → IsTrue (is_lawful kinds.Range 2 value) → IsRange value
 range_value (Mask value bits) lawful = absurd (false≢true lawful)
 range_value (Range low high) lawful =
@@ -303,6 +322,7 @@ range_value (Range low high) lawful =
     record { low = low; high = high; is = refl; filled = leb-true low high tests.filled; within = omega arith }
 range_value (Bitmask value mask) lawful = absurd (false≢true lawful)
 
+-- a value and a mask of 8 bits each
 record IsBitmask (value : FieldValue) : Type 0 where
   number : ℕ
   mask : ℕ
@@ -310,6 +330,7 @@ record IsBitmask (value : FieldValue) : Type 0 where
   small : number < 256
   masked : mask < 256
 
+-- a lawful value of a protocol is a value and a mask
 bitmask_value : (value : FieldValue) → IsTrue (is_lawful kinds.Bitmask 1 value) → IsBitmask value
 bitmask_value (Mask value bits) lawful = absurd (false≢true lawful)
 bitmask_value (Range low high) lawful = absurd (false≢true lawful)
@@ -325,10 +346,12 @@ bitmask_value (Bitmask value mask) lawful =
           ltb-true mask 256 numbers.1;
     }
 
+-- an integer that is a natural number
 record IsNatural (z : ℤ) : Type 0 where
   number : ℕ
   is : z ≡ pos number
 
+-- an integer from 0 on is a natural number
 natural : (z : ℤ) → IsTrue (le_z (pos 0) z) → IsNatural z
 natural (pos n) lawful = record { number = n; is = refl }
 natural (negsuc n) lawful = absurd (false≢true lawful)
@@ -338,6 +361,7 @@ pub record FitsTag (its_tag : RuleTag) : Type 0 where
   pub categories : its_tag.category_mask < 2 ^ 32
   pub userdata : its_tag.userdata < 2 ^ 32
 
+-- a lawful tag names one of the sixteen categories
 some_category_left : (its_tag : RuleTag) → IsLawfulTag its_tag → its_tag.category_mask % 65536 ≡ 0 → ⊥
 some_category_left its_tag lawful none =
     let mask = its_tag.category_mask in
@@ -351,6 +375,7 @@ pub record IsPlain (line : RuleLine) : Type 0 where
   pub is : line ≡ plain_line line.source line.destination numbers
   pub bounds : Bounds numbers
 
+-- each lawful line has such numbers if its tag fits 32 bits
 pub plain : (line : RuleLine) → IsLawfulLine line → FitsTag line.tag → IsPlain line
 plain line lawful fits =
     let ports = range_value line.source_ports lawful.source_range in

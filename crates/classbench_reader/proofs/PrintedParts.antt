@@ -41,12 +41,14 @@ use Rattle.list_lemmas.proofs.Options.{some_below}
 abbrev pub is_address_byte : ℕ → Bool
 is_address_byte c = is_digit c 16 || (eqb c dot || eqb c colon)
 
+-- a byte of an IPv4 address is a byte of an address text
 ip4_to_address : (c : ℕ) → is_ip4_byte c ≡ true → is_address_byte c ≡ true
 ip4_to_address c passes =
     ⊎_elim (λ digit. or_left (is_digit c 16) _ (digit_16 c digit))
     (λ separator. or_right (is_digit c 16) _ (or_left (eqb c dot) (eqb c colon) separator))
     (or_cases (is_digit c 10) (eqb c dot) passes)
 
+-- a byte of an IPv6 address is a byte of an address text
 ip6_to_address : (c : ℕ) → is_ip6_byte c ≡ true → is_address_byte c ≡ true
 ip6_to_address c passes =
     ⊎_elim (λ digit. or_left (is_digit c 16) _ digit)
@@ -58,6 +60,7 @@ no_blank : (p : ℕ → Bool) → p space ≡ false → p tab ≡ false → (c :
 no_blank p no_space no_tab c passes =
     rw (passes_other p c space no_space passes, passes_other p c tab no_tab passes) refl
 
+-- the text of an address has only such bytes
 pub address_text-bytes : (address : Address) → list_all is_address_byte (address_text address) ≡ true
 address_text-bytes (Ip4 address) =
     list_all_weaker is_ip4_byte is_address_byte (ip4_spelling address) ip4_to_address (ip4_spelling-bytes address)
@@ -68,6 +71,7 @@ address_text-bytes (Ip6 address) =
 pub decimal_word : (n : ℕ) → n < 2 ^ 64 → IsWord (decimal n)
 decimal_word n small = decimal_all (λ c. not (is_blank c)) (no_blank (λ c. is_digit c 10) refl refl) n small
 
+-- the text of a network is a word
 pub network_text-word : (network : Network) → network.bits < 2 ^ 64 → IsWord (network_text network)
 network_text-word network small =
     let word : ℕ → Bool = λ c. not (is_blank c) in
@@ -89,10 +93,12 @@ address_of-text (Ip4 address) fits =
     rw (none, ip4_of-ip4_spelling address fits) refl
 address_of-text (Ip6 address) fits = rw (ip6_spelling-colon address, ip6_of-ip6_spelling address fits) refl
 
+-- an address has at most 128 bits
 pub most_bits-small : (address : Address) → most_bits address ≤ 128
 most_bits-small (Ip4 address) = omega arith
 most_bits-small (Ip6 address) = omega arith
 
+-- the text of a lawful network is read as the network
 pub network_of-text : (network : Network) → IsLawfulNetwork network → network_of (network_text network) ≡ Ok network
 network_of-text network lawful =
     let lacks = list_all-lacks is_address_byte slash refl (address_text network.address)
@@ -110,6 +116,7 @@ port_at rest =
     if begins_numeral max_port rest then Ok
     (read_of (numeral_value rest) (drop (numeral_len rest) rest)) else Err BadPorts
 
+-- a port in decimal after a blank is read as the port
 port_of-text : (c port : ℕ) (rest : List ℕ) → is_blank c ≡ true → port ≤ max_port → EndsNumber 10 rest
     → port_of (c ∷ (decimal port ++ rest)) ≡ Ok (read_of port rest)
 port_of-text c port rest blank within ends =
@@ -126,6 +133,7 @@ port_of-text c port rest blank within ends =
 ends_at_tab : (rest : List ℕ) → EndsNumber 10 (tab ∷ rest)
 ends_at_tab rest = (refl, (λ same. omega arith, λ same. omega arith))
 
+-- a space ends a number
 ends_at_space : (rest : List ℕ) → EndsNumber 10 (space ∷ rest)
 ends_at_space rest = (refl, (λ same. omega arith, λ same. omega arith))
 
@@ -138,16 +146,20 @@ bind read value next is = ap (λ r. r >>= next) is
 abbrev pub after_high : ℕ → Read ℕ → Result (Read FieldValue) LineKind
 after_high low high = range_of low high.value high.rest
 
+-- what is read of a range after its colon
 abbrev pub after_colon : ℕ → List ℕ → Result (Read FieldValue) LineKind
 after_colon low text = port_of text >>= after_high low
 
+-- what is read of a range after its first port
 abbrev pub after_low : Read ℕ → Result (Read FieldValue) LineKind
 after_low low = after_colon_of (after_blanks low.rest) >>= after_colon low.value
 
+-- two ports in order, before a tab, are a range
 range_of-text : (low high : ℕ) (rest : List ℕ) → low ≤ high
     → range_of low high (tab ∷ rest) ≡ Ok (read_of (Range low high) (tab ∷ rest))
 range_of-text low high rest filled = rw (le-leb low high filled) refl
 
+-- the text of a range between tabs is read as the range
 pub ports_of-text : (low high : ℕ) (rest : List ℕ) → low ≤ high → high ≤ max_port
     → ports_of (tab ∷ (ports_text (Range low high) ++ tab ∷ rest)) ≡ Ok (read_of (Range low high) (tab ∷ rest))
 ports_of-text low high rest filled within =
@@ -170,13 +182,16 @@ byte_reads_back byte =
     eqb (unwrap_or (whole_number max_protocol (byte_text byte)) 256) byte
     && list_all (λ c. not (is_blank c) && (not (eqb c slash) && ends_no_line c)) (byte_text byte)
 
+-- each of the 256 bytes reads back
 all_bytes_read_back : list_all byte_reads_back (range_with_len 0 256) ≡ true
 all_bytes_read_back = refl
 
+-- the byte in hexadecimal is read as the byte, and has no blank, no `/` and no end of a line
 pub record ReadsBack (byte : ℕ) : Type 0 where
   pub number : whole_number max_protocol (byte_text byte) ≡ Some byte
   pub bytes : list_all (λ c. not (is_blank c) && (not (eqb c slash) && ends_no_line c)) (byte_text byte) ≡ true
 
+-- each byte reads back
 pub reads_back : (byte : ℕ) → byte < 256 → ReadsBack byte
 reads_back byte small =
     let at = AllPass-from_list_all byte_reads_back (range_with_len 0 256) all_bytes_read_back byte 0 small in
@@ -196,10 +211,12 @@ protocol_text-word value mask small masked =
     (weaker (byte_text value) (reads_back value small).bytes)
     (weaker (byte_text mask) (reads_back mask masked).bytes)
 
+-- the protocol of a text that was cut at its `/`
 abbrev protocol_at : Option (List ℕ × List ℕ) → Result FieldValue LineKind
 protocol_at cut =
     ok_or (option_map (λ (pair : ℕ × ℕ). Bitmask pair.0 pair.1) (pair_of_cut max_protocol cut)) BadProtocol
 
+-- the text of a protocol is read as the protocol
 pub protocol_of-text : (value mask : ℕ) → value < 256 → mask < 256
     → protocol_of (protocol_text (Bitmask value mask)) ≡ Ok (Bitmask value mask)
 protocol_of-text value mask small masked =

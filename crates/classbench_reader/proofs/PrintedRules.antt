@@ -42,6 +42,7 @@ lawful_rule family.Ip4 rule printable =
 lawful_rule family.Ip6 rule printable =
     (faultless_rules ip6_fields rule.tag rule.fields ip6_is_layout).0 printable.lawful
 
+-- a rule that a line can say has a value for each field of its family
 pub printable_length : (its : Family) (rule : RuleView) → IsPrintable its rule
     → length rule.fields ≡ length (fields_of its)
 printable_length its rule printable =
@@ -52,6 +53,7 @@ pub record Ip4Masks (values : List FieldValue) (d : FieldValue) : Type 0 where
   pub source : IsTrue (is_lawful kinds.Mask 4 (get_or values 1 d))
   pub destination : IsTrue (is_lawful kinds.Mask 4 (get_or values 2 d))
 
+-- of lawful IPv4 values those of the addresses are masks
 ip4_masks_of : (values : List FieldValue) (d : FieldValue) → AllZip IsLawfulValue ip4_fields values → Ip4Masks values d
 ip4_masks_of [] d all = absurd all
 ip4_masks_of (a ∷ []) d all = absurd all.1
@@ -59,15 +61,18 @@ ip4_masks_of (a ∷ b ∷ []) d all = absurd all.1.1
 ip4_masks_of (a ∷ b ∷ e ∷ values) d all =
     record { source = is_lawful_of _ b all.1.0; destination = is_lawful_of _ e all.1.1.0 }
 
+-- of an IPv4 rule that a line can say the values of the addresses are masks
 pub ip4_masks : (rule : RuleView) (d : FieldValue) → IsPrintable family.Ip4 rule → Ip4Masks rule.fields d
 ip4_masks rule d printable = ip4_masks_of rule.fields d (lawful_rule family.Ip4 rule printable).values
 
+-- the four halves of the addresses are masks
 pub record Ip6Masks (values : List FieldValue) (d : FieldValue) : Type 0 where
   pub source_high : IsTrue (is_lawful kinds.Mask 8 (get_or values 1 d))
   pub source_low : IsTrue (is_lawful kinds.Mask 8 (get_or values 2 d))
   pub high : IsTrue (is_lawful kinds.Mask 8 (get_or values 3 d))
   pub low : IsTrue (is_lawful kinds.Mask 8 (get_or values 4 d))
 
+-- of lawful IPv6 values the halves of the addresses are masks
 ip6_masks_of : (values : List FieldValue) (d : FieldValue) → AllZip IsLawfulValue ip6_fields values → Ip6Masks values d
 ip6_masks_of [] d all = absurd all
 ip6_masks_of (a ∷ []) d all = absurd all.1
@@ -81,6 +86,7 @@ ip6_masks_of (a ∷ b ∷ e ∷ f ∷ g ∷ values) d all = record {
   low = is_lawful_of _ g all.1.1.1.1.0;
 }
 
+-- of an IPv6 rule that a line can say the halves of the addresses are masks
 pub ip6_masks : (rule : RuleView) (d : FieldValue) → IsPrintable family.Ip6 rule → Ip6Masks rule.fields d
 ip6_masks rule d printable = ip6_masks_of rule.fields d (lawful_rule family.Ip6 rule printable).values
 
@@ -98,6 +104,7 @@ record IsMask (value : FieldValue) (size : ℕ) : Type 0 where
   fits : number < 256 ^ size
   within : bits ≤ 8 * size
 
+-- a lawful value of a mask is one that fits its size
 mask_of : (value : FieldValue) (size : ℕ) → IsTrue (is_lawful kinds.Mask size value) → IsMask value size
 mask_of (Mask number bits) size lawful =
     let filled = and_parts (nat_lt number (256 ^ size) && nat_le bits (8 * size)) true lawful in
@@ -112,6 +119,7 @@ mask_of (Mask number bits) size lawful =
 mask_of (Range low high) size lawful = absurd (false≢true lawful)
 mask_of (Bitmask number mask) size lawful = absurd (false≢true lawful)
 
+-- the line of an IPv4 rule of five lawful values says the rule
 says_ip4 : (its_tag : RuleTag) (proto source destination ports others : FieldValue) → IsLawfulTag its_tag
     → AllZip IsLawfulValue ip4_fields (proto ∷ source ∷ destination ∷ ports ∷ others ∷ [])
     → SaysRule family.Ip4 (record { tag = its_tag; fields = proto ∷ source ∷ destination ∷ ports ∷ others ∷ [] })
@@ -173,6 +181,7 @@ says_ip6 its_tag proto source rest high low ports others tagged all prefixes =
       of_family = refl;
     })
 
+-- the line of a lawful IPv4 rule says the rule
 says_ip4_values : (its_tag : RuleTag) (values : List FieldValue) → IsLawfulTag its_tag
     → AllZip IsLawfulValue ip4_fields values
     → SaysRule family.Ip4 (record { tag = its_tag; fields = values })
@@ -184,6 +193,7 @@ says_ip4_values its_tag (a ∷ b ∷ d ∷ e ∷ []) tagged all = absurd all.1.1
 says_ip4_values its_tag (a ∷ b ∷ d ∷ e ∷ f ∷ []) tagged all = says_ip4 its_tag a b d e f tagged all
 says_ip4_values its_tag (a ∷ b ∷ d ∷ e ∷ f ∷ g ∷ values) tagged all = absurd all.1.1.1.1.1
 
+-- the line of a lawful IPv6 rule whose addresses have prefixes says the rule
 says_ip6_values : (its_tag : RuleTag) (values : List FieldValue) → IsLawfulTag its_tag
     → AllZip IsLawfulValue ip6_fields values
     → has_prefixes family.Ip6 values ≡ true → SaysRule family.Ip6 (record { tag = its_tag; fields = values })
@@ -198,6 +208,7 @@ says_ip6_values its_tag (a ∷ b ∷ d ∷ e ∷ f ∷ g ∷ h ∷ []) tagged al
     says_ip6 its_tag a b d e f g h tagged all prefixes
 says_ip6_values its_tag (a ∷ b ∷ d ∷ e ∷ f ∷ g ∷ h ∷ i ∷ values) tagged all prefixes = absurd all.1.1.1.1.1.1.1
 
+-- the line of a rule that a line can say says the rule
 pub says_rule : (its : Family) (rule : RuleView) → IsPrintable its rule → SaysRule its rule
 says_rule family.Ip4 rule printable =
     let lawful = lawful_rule family.Ip4 rule printable in

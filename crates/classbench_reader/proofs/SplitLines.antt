@@ -60,6 +60,7 @@ record NetworkReads (ordinal : ℕ) (text : List ℕ) (line : RuleLine) : Type 0
   one_family : same_family (family_of source.value) (family_of to.value) ≡ true
   left : with_destination ordinal source.value to ≡ Ok line
 
+-- a line that was read begins with its two networks
 network_reads : (ordinal : ℕ) (text : List ℕ) (line : RuleLine) → rule_line_of ordinal text ≡ Ok line →
     NetworkReads ordinal text line
 network_reads ordinal text line is =
@@ -88,6 +89,7 @@ record ColumnReads (ordinal : ℕ) (from to : Network) (text : List ℕ) (line :
   protocol_word : WordSplit protocol_of others.rest protocol
   left : with_protocol ordinal from to ports.value others.value protocol ≡ Ok line
 
+-- after the networks come its columns
 column_reads : (ordinal : ℕ) (from : Network) (to : Read Network) (line : RuleLine) →
     with_destination ordinal from to ≡ Ok line → ColumnReads ordinal from to.value to.rest line
 column_reads ordinal from to line is =
@@ -117,6 +119,7 @@ record TagReads (ordinal : ℕ) (from to : Network) (ports others protocol : Fie
   tag : tag_of ordinal attributes ≡ Ok its_tag
   is : made from to ports others protocol its_tag ≡ Ok line
 
+-- after the columns come its flags and its attributes
 tag_reads : (ordinal : ℕ) (from to : Network) (ports others : FieldValue) (protocol : Read FieldValue)
     (line : RuleLine) → with_protocol ordinal from to ports others protocol ≡ Ok line →
     TagReads ordinal from to ports others protocol.value protocol.rest line
@@ -136,6 +139,7 @@ tag_reads ordinal from to ports others protocol line is =
       is = is3;
     }
 
+-- a line whose parts were read is these parts, joined
 joined_of_reads : (ordinal : ℕ) (text : List ℕ) (line : RuleLine) (networks : NetworkReads ordinal text line)
     (columns : ColumnReads ordinal networks.source.value networks.to.value networks.to.rest line) →
     TagReads ordinal networks.source.value networks.to.value columns.ports.value columns.others.value
@@ -208,6 +212,7 @@ joined_after ordinal text line networks columns =
     (tag_reads ordinal networks.source.value networks.to.value columns.ports.value columns.others.value
     columns.protocol line columns.left)
 
+-- and so is a line whose networks were read
 joined_from : (ordinal : ℕ) (text : List ℕ) (line : RuleLine) → NetworkReads ordinal text line →
     IsJoined ordinal text line
 joined_from ordinal text line networks =

@@ -58,6 +58,7 @@ word_ends (c ∷ cs) = elim (cases_Bool (is_blank c)) [
       rw (other, more) (word_ends cs)
 ]
 
+-- what follows the first word of a text ends it
 after_word_ends : (text : List ℕ) → EndsTheWord (after_word text)
 after_word_ends text = rw (length-prefix_len (λ c. not (is_blank c)) text) (word_ends text)
 
@@ -85,6 +86,7 @@ text_some : {A : Type 0} (f : List ℕ → Result A LineKind) (text : List ℕ) 
 text_some f [] a none is = absurd (none is)
 text_some f (c ∷ cs) a none is = omega arith
 
+-- if the first word of a text was read, the text is blanks, that word and what is left
 pub word_split : {A : Type 0} (f : List ℕ → Result A LineKind) (text : List ℕ) (read : Read A) →
     ((a : A) → f [] ≡ Ok a → ⊥) →
     (f (first_word (after_blanks text)) >>= (λ a. Ok (read_of a (after_word (after_blanks text))))) ≡ Ok read →
@@ -106,9 +108,11 @@ word_split {A = A} f text read none is =
       ends = after_word_ends left;
     }
 
+-- a text without a byte is no network
 pub no_network : (network : Network) → network_of [] ≡ Ok network → ⊥
 no_network network read = cc
 
+-- a text without a byte is no protocol
 pub no_protocol : (value : FieldValue) → protocol_of [] ≡ Ok value → ⊥
 no_protocol value read = cc
 
@@ -137,6 +141,7 @@ hexadecimal_cut greatest a b d rest mark begins =
     ∙ cond-true (begins_numeral greatest cut && eqb (numeral_len cut) (length cut)) _ _ (and_from _ _ number whole)
     ∙ ap Some value
 
+-- a text that begins with a number in hexadecimal, cut after it, is that number
 marked_cut : (greatest : ℕ) (text : List ℕ) → begins_hexadecimal text ≡ true → begins_numeral greatest text ≡ true →
     whole_number greatest (take (numeral_len text) text) ≡ Some (numeral_value text)
 marked_cut greatest [] mark begins = absurd (cc)
@@ -187,6 +192,7 @@ port_some : (text : List ℕ) → begins_numeral max_port (after_blanks text) �
 port_some [] begins = absurd (cc)
 port_some (c ∷ cs) begins = omega arith
 
+-- if a port was read, the text is blanks, the port and what is left
 port_split : (text : List ℕ) (read : Read ℕ) → port_of text ≡ Ok read → PortSplit text read
 port_split text read is = elim (cases_Bool (begins_numeral max_port (after_blanks text))) [
   | inl begins ↦
@@ -232,6 +238,7 @@ record IsRange (low high : ℕ) (rest : List ℕ) (read : Read FieldValue) : Typ
   is : read_of (Range low high) rest ≡ read
   ends : EndsTheWord rest
 
+-- if two ports were read as a range, they are in order and what follows ends a word
 range_split : (low high : ℕ) (rest : List ℕ) (read : Read FieldValue) → range_of low high rest ≡ Ok read →
     IsRange low high rest read
 range_split low high rest read is = elim (cases_Bool (eqb (length (first_word rest)) 0)) [
@@ -269,6 +276,7 @@ ports_joined text gap ports low_rest second rest whole blanks colon_is last =
     ∙ ap (λ t. ports.before_colon ++ t) colon_is ∙ blanks))
     ∙ whole
 
+-- two ports with a colon between them are the ports of a text
 ports_of_parts : (text : List ℕ) (read : Read FieldValue) (low : Read ℕ) (second : List ℕ) (high : Read ℕ) →
     PortSplit text low → colon ∷ second ≡ after_blanks low.rest → PortSplit second high →
     IsRange low.value high.value high.rest read → PortsSplit text read
@@ -300,6 +308,7 @@ ports_of_parts text read low second high first colon_is last range =
       ends = range.ends;
     }
 
+-- if ports were read, the text is blanks, the ports and what is left
 pub ports_split : (text : List ℕ) (read : Read FieldValue) → ports_of text ≡ Ok read → PortsSplit text read
 ports_split text read is =
     let (low, low_read, after) = bound (port_of text) after_low read is in

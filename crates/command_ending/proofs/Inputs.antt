@@ -34,6 +34,7 @@ found_or_absent : (told : Content) (name : List ℕ) (found : Option (List ℕ))
 found_or_absent told name (Some bytes) e = inl (rw e refl)
 found_or_absent told name None e = inr (λ files same. let at : told.files ≡ files = cc in rw (← at) e)
 
+-- if no file was opened, the desk had a read fault or the file is absent
 known_or_absent : (content : Option Content) (name : List ℕ) (old new : DeskView) → IsKnown content name old new →
     Rose old.read_faults new.read_faults ⊎ IsAbsent content name
 known_or_absent None name old new known = inr (λ files told. absurd (cc))
@@ -95,6 +96,7 @@ begun : (name bytes : List ℕ) →
 begun name [] = refl
 begun name (b ∷ bs) = refl
 
+-- a file that was opened and read was heard with the bytes that were read
 pub heard_file : {T E : Type 0} (change : Heard → Heard) (name bytes : List ℕ) (old mid new : DeskView) (x : T) →
     OpensFile {E = E} name old mid (Ok x) → ReadsOn change bytes mid new →
     heard_of new ≡ change (record { name = name; bytes = bytes; ending = GoesOn }) ∷ heard_of old
@@ -131,6 +133,7 @@ ended_told cap bytes (Some old) (Some new) gives few content told =
     let short : length old.left ≤ cap = omega (arith, ap length gives.given, length-take cap old.left, few) in
     rw (← at) (gives.left ∙ drop_all cap old.left short)
 
+-- the file that was opened and read is the opened one, if the files are told
 pub opened_told : (name bytes : List ℕ) (old mid new : Option Content) → Changes (Opens name) old mid →
     Changes (Gives bytes) mid new →
     (files : List File) → option_map (λ c. c.files) old ≡ Some files → option_map (λ c. c.opened) new
@@ -151,6 +154,7 @@ opened_absent name old new (Some content) None there opens files told = absurd o
 opened_absent name old new (Some content) (Some after) there opens files told =
     there content refl (rw (opens.left) refl)
 
+-- opening a file and reading it keeps all files
 pub kept_files : {T E : Type 0} (name bytes : List ℕ) (old mid new : DeskView) (x : T) →
     OpensFile {E = E} name old mid (Ok x) →
     Changes (Gives bytes) mid.content new.content → KeepsMade mid new → KeepsCounts mid new → KeepsFiles old new

@@ -23,6 +23,7 @@ use Rattle.command_ending.proofs.Gained.{Gains-none, GainsPrefix-none}
 use Rattle.command_ending.proofs.Stops.{unwritten, Keeps-any}
 use Rattle.command_ending.proofs.Plans.{carried, then_found, Follows-found, Follows-then, Follows-cut, found-then}
 
+-- two steps that each keep all files keep them together
 pub KeepsFiles-then : (old mid new : DeskView) → KeepsFiles old mid → KeepsFiles mid new → KeepsFiles old new
 KeepsFiles-then old mid new first second = record {
   files = second.files ∙ first.files;
@@ -100,16 +101,19 @@ read_enough next name cap old new bytes read long =
       | inr on ↦ inr (on.0, λ more. long read.file.bytes more (ap length read.bytes ∙ on.1))
     ]
 
+-- a plan of a value reaches it, and nothing is heard
 follows_value : {A : Type 0} (told : Option (List File)) (result : Result A Status) (value : A)
     (old new : List Heard) →
     result ≡ Ok value → new ≡ old → Follows told (unless_refused result) old new (Given value)
 follows_value told result value old new is same = rw is (same, refl)
 
+-- a plan of a fault stops with it, and nothing is heard
 follows_stop : {A : Type 0} (told : Option (List File)) (result : Result A Status) (status : Status)
     (old new : List Heard) →
     result ≡ Err status → new ≡ old → Follows told (unless_refused result) old new (Stopped status)
 follows_stop told result status old new is same = rw is (same, refl)
 
+-- no text is said as no text, however the reading of a file stands
 nothing_in : (ending : Ending) → said_in ending [] ≡ []
 nothing_in NotOpened = refl
 nothing_in GoesOn = refl
@@ -194,11 +198,13 @@ Takes-read {X = X} {Y = Y} name cap parse seen old new bytes result read long pa
       kept = read.kept;
     }
 
+-- a file that couldn't be read comes without a report, and the status isn't of the words
 unread_reported : (status other : Status) → (status ≡ OutOfMemory) ⊎ ((status ≡ ReadFault) × (status ≡ other)) →
     (is_reported status ≡ false) × (is_usage status ≡ false)
 unread_reported status other (inl full) = (rw full refl, rw full refl)
 unread_reported status other (inr (fault, is)) = (rw fault refl, rw fault refl)
 
+-- the status of a file that wasn't read is that of its reading, or want of memory
 unread_cut : (status other : Status) → (status ≡ OutOfMemory) ⊎ ((status ≡ ReadFault) × (status ≡ other)) →
     (status ≡ OutOfMemory) ⊎ (status ≡ other)
 unread_cut status other (inl full) = inl full
@@ -228,6 +234,7 @@ Takes-unread name cap f seen old new status read = record {
   kept = read.kept;
 }
 
+-- what is cut off ends with the status of what was heard, at a write fault, or for want of memory
 cut_ended : {A : Type 0} (reached : Reached A) (status : Status) → IsCutOff reached status →
     (status ≡ (outcome_of (carried reached)).status) ⊎ ((status ≡ WriteFault) ⊎ (status ≡ OutOfMemory))
 cut_ended (Given value) status cut = absurd cut
@@ -236,6 +243,7 @@ cut_ended (Before name) status cut = inl cut
 cut_ended (Within file text) status (silent_text, inl full) = inr (inr full)
 cut_ended (Within file text) status (silent_text, inr is) = inl is
 
+-- what is cut off prints nothing
 cut_silent : {A : Type 0} (reached : Reached A) (status : Status) → IsCutOff reached status →
     (outcome_of (carried reached)).text ≡ []
 cut_silent (Given value) status cut = absurd cut
@@ -243,6 +251,7 @@ cut_silent (Stopped refusal) status cut = refl
 cut_silent (Before name) status cut = refl
 cut_silent (Within file text) status cut = cut.0
 
+-- what is cut off counts no transitions
 cut_transitions : {A : Type 0} (reached : Reached A) (status : Status) → IsCutOff reached status →
     (outcome_of (carried reached)).transitions ≡ 0
 cut_transitions (Given value) status cut = absurd cut
@@ -250,6 +259,7 @@ cut_transitions (Stopped refusal) status cut = refl
 cut_transitions (Before name) status cut = refl
 cut_transitions (Within file text) status cut = refl
 
+-- what is cut off makes no file
 cut_unmade : {A : Type 0} (reached : Reached A) (status : Status) → IsCutOff reached status →
     (outcome_of (carried reached)).made ≡ None
 cut_unmade (Given value) status cut = absurd cut

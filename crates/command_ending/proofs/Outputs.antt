@@ -69,6 +69,7 @@ made_after change name bytes old mid new x creates writes =
     ∙ ap (change_newest (λ file. change (with_written bytes file))) (made-creation name (Ok x) old mid creates)
     ∙ ap (λ file. change file ∷ made_of old) (begun name bytes)
 
+-- a file that was created and written has the bytes that were written
 held_after : {T E : Type 0} (name bytes : List ℕ) (old mid new : DeskView) (x : T) →
     CreatesFile {E = E} name old mid (Ok x) → Changes (Writes bytes) mid.content new.content →
     Changes (HoldsNow name bytes) old.content new.content

@@ -61,13 +61,14 @@ Follows-found (Read name shown next) told files old new reached at_files
     subst (IsFound files reached) (sym (found_next told files name next file at_files is_name one enough))
     (Follows-found (next file.bytes) told files (file ∷ old) new reached at_files rest)
 
--- a value that was reached, and whether one was
+-- a value that was reached
 abbrev value_of : {A : Type 0} → A → Reached A → A
 value_of other (Given value) = value
 value_of other (Stopped status) = other
 value_of other (Before name) = other
 value_of other (Within file text) = other
 
+-- whether a value was reached
 abbrev is_given : {A : Type 0} → Reached A → Bool
 is_given (Given value) = true
 is_given (Stopped status) = false
@@ -81,6 +82,7 @@ carried (Stopped status) = Stopped status
 carried (Before name) = Before name
 carried (Within file text) = Within file text
 
+-- what is enough of a file for a plan is enough for the plan and the next one
 enough_then : {A B : Type 0} (next : List ℕ → Plan A) (f : A → Plan B) (file : Heard) → IsEnough next file →
     IsEnough (λ bytes. next bytes >>= f) file
 enough_then next f file (inl ended) = inl ended
@@ -140,6 +142,7 @@ abbrev pub then_found : {A B : Type 0} → (A → Plan B) → List File → Resu
 then_found f files (Ok value) = found (f value) files
 then_found f files (Err status) = Err status
 
+-- a plan and the next one come to what follows from that to which the plan comes
 pub found-then : {A B : Type 0} (plan : Plan A) (f : A → Plan B) (files : List File) →
     found (plan >>= f) files ≡ then_found f files (found plan files)
 found-then (Give value) f files = refl

@@ -52,6 +52,7 @@ Ends-stopped makes refusal view unreported decided = record {
   count = omega arith;
 }
 
+-- a command that has heard nothing may end for want of memory
 full_at : (makes : Option (List ℕ)) (plan : Plan Outcome) (view : Outside) (reached : Reached Outcome) →
     Follows (files_of view.desk) plan (heard_of view.desk) (heard_of view.desk) reached →
     EndsMaking makes plan view view OutOfMemory

@@ -22,9 +22,11 @@ pub record BeginsWith (front text : List ℕ) : Type 0 where
   pub rest : List ℕ
   pub parts : text ≡ front ++ rest
 
+-- each text begins with no text
 pub BeginsWith-nothing : (text : List ℕ) → BeginsWith [] text
 BeginsWith-nothing text = record { rest = text; parts = refl }
 
+-- each text begins with itself
 BeginsWith-same : (text : List ℕ) → BeginsWith text text
 BeginsWith-same text = record { rest = []; parts = sym (append-nil text) }
 
@@ -36,12 +38,14 @@ IsFaithful files (Read name shown next) =
     ((bytes more : List ℕ) → BeginsWith (shown bytes) (settled (found (next (bytes ++ more)) files)).text)
     × ((bytes : List ℕ) → IsFaithful files (next bytes))
 
+-- a plan after a value or its fault is faithful if it is so after each value
 pub faithful_unless : {A : Type 0} (files : List File) (result : Result A Status) (f : A → Plan Outcome) →
     ((value : A) → IsFaithful files (f value)) →
     IsFaithful files (unless_refused result >>= f)
 faithful_unless files (Ok value) f each = each value
 faithful_unless files (Err status) f each = tt
 
+-- what is printed within a file is the first part of what is printed in all
 part_text : (files : List File) (file : Heard) (name : List ℕ) (shown : List ℕ → List ℕ)
     (next : List ℕ → Plan Outcome) →
     file.name ≡ name → IsPartOf files file →
@@ -153,11 +157,13 @@ Ends-told plan old new status faithful ends files told =
           broken_told files ends.reached (found plan files) old.desk new.desk is (ends.broken write);
     }
 
+-- without a fault of the outside each file can be read
 no_read_fault : {makes : Option (List ℕ)} (P : List File → Type 0) (old new : Outside) →
     HasNoFaultMaking makes old new → CannotRead old.desk new.desk P → ⊥
 no_read_fault P old new none (inl rose) = none.read_faults rose
 no_read_fault P old new none (inr (rose, absent)) = none.absent rose
 
+-- a command that ends within a file and at no read fault has no memory
 full_within : (status : Status) (ending : Ending) → (status ≡ ReadFault → ⊥) → status ≡ status_within ending →
     status ≡ OutOfMemory
 full_within status NotOpened never same = absurd (never same)
@@ -165,6 +171,7 @@ full_within status GoesOn never same = same
 full_within status Ended never same = same
 full_within status BrokenOff never same = absurd (never same)
 
+-- a command that ends at no read fault has the status that the files give, or no memory
 complete_reached : (files : List File) (reached : Reached Outcome) (result : Result Outcome Status)
     (status : Status) →
     IsFound files reached result → (status ≡ ReadFault → ⊥) → status ≡ (outcome_of reached).status →

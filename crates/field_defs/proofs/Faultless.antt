@@ -26,6 +26,7 @@ none_at (None ∷ options) zero h = refl
 none_at (None ∷ options) (suc i) h = none_at options i h
 none_at (Some fault ∷ options) i h = absurd (cc)
 
+-- without a fault the test holds
 pub passes_test : {F : Type 0} (test : Bool) (fault : F) → fault_unless test fault ≡ None → test ≡ true
 passes_test true fault h = refl
 passes_test false fault h = absurd (cc)
@@ -62,6 +63,7 @@ from_end holds number count after =
     let left : count - number ≡ 0 = omega arith in
     rw left refl
 
+-- without a failing number each number below the count passes
 pub passes_each : (holds : ℕ → Bool) (count number : ℕ) → failing_number holds count ≡ None → number < count →
     holds number ≡ true
 unfolding failing_number
@@ -100,6 +102,7 @@ first_size def defs none =
     let first : fault_unless (def.size == 1) FirstNotOneByte ≡ None = none_at (layout_faults (def ∷ defs)) 3 none in
     eqb-true def.size 1 (passes_test (def.size == 1) FirstNotOneByte first)
 
+-- a key of a lawful layout has at least one byte and at most 505
 pub short_keys : LawfulLayoutsHaveShortKeys
 short_keys [] lawful = absurd (omega (arith, some_first [] lawful.faultless))
 short_keys (def ∷ defs) lawful =

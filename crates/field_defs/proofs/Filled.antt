@@ -23,6 +23,7 @@ use Rattle.std.specs.Option.{option_map}
 abbrev Follow : List FieldDef → Type 0
 Follow defs = (place : ℕ) → suc place < length defs → may_follow (def_at defs place) (def_at defs (suc place)) ≡ true
 
+-- what holds of definitions in order holds of those after the first
 others_follow : (d : FieldDef) (ds : List FieldDef) → Follow (d ∷ ds) → Follow ds
 others_follow d ds follow place below = follow (suc place) (omega (arith, below))
 
@@ -53,6 +54,7 @@ filled_step : (d e : FieldDef) (group last : ℕ) → may_follow d e ≡ true �
     ≡ (nat_le d.input_index group && nat_le group last)
 filled_step d e group last follows below = grind (arith, nat_tests)
 
+-- fields in order fill exactly the groups from that of the first to the last that they fill
 filled_is : (d : FieldDef) (ds : List FieldDef) (group : ℕ) → Follow (d ∷ ds) →
     list_any (fills group) (d ∷ ds) ≡ (nat_le d.input_index group && nat_le group (end_group d ds))
 filled_is d [] group follow = grind (arith, nat_tests)
@@ -101,14 +103,16 @@ fit_from count bytes filled some = elim (cases_Bool (bytes == 4)) [
       inr (refl, one, eight)
 ]
 
--- the next group after that of a field of eight bytes, and of a smaller one
+-- the next group after that of a field of eight bytes is two later
 next_after_wide : (d e : FieldDef) → may_follow d e ≡ true → d.size ≡ 8 → e.input_index ≡ d.input_index + 2
 next_after_wide d e follows wide = grind (arith, nat_tests)
 
+-- the next group after that of a smaller field, if it is another one, is the next number
 next_after_narrow : (d e : FieldDef) → may_follow d e ≡ true → d.size ≤ 4 → e.input_index ≢ d.input_index →
     e.input_index ≡ d.input_index + 1
 next_after_narrow d e follows narrow other = grind (arith, nat_tests)
 
+-- a definition's group is at most two after that of the one before
 step_at_most_2 : (d e : FieldDef) → may_follow d e ≡ true → e.input_index ≤ d.input_index + 2
 step_at_most_2 d e follows = grind (arith, nat_tests)
 
@@ -117,9 +121,11 @@ follow_first : (d e : FieldDef) → d.size ≡ 1 → d.input_index == 0 ≡ true
     may_follow d e ≡ true
 follow_first d e one none next = grind (arith, nat_tests)
 
+-- a field of at most four bytes fills its own group alone
 narrow_end : (d : FieldDef) → d.size ≤ 4 → end_of d ≡ d.input_index
 narrow_end d narrow = grind (arith, nat_tests)
 
+-- a field of eight bytes fills its own group and the next one
 wide_end : (d : FieldDef) → d.size ≡ 8 → end_of d ≡ d.input_index + 1
 wide_end d wide = grind (arith, nat_tests)
 
@@ -185,6 +191,7 @@ next_group before d e es other rest follow filled fit small =
           omega (arith, whole, left, none, eight, here, next)
     ]
 
+-- fields in order that fit their groups have four bytes for each group to the last
 bytes_to_end : (before : ℕ) (d : FieldDef) (ds : List FieldDef) → ToEnd before d ds
 bytes_to_end before d [] follow filled fit small =
     let whole = sum_by-cons (λ (def : FieldDef). def.size) d [] in

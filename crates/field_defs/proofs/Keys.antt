@@ -11,10 +11,12 @@ use Rattle.field_defs.specs.Layout.{key_of, key_len_of, buffer_len_of}
 abbrev reach : ℕ → List FieldDef → ℕ
 reach n defs = fold (λ m d. max m (d.offset + d.size)) n defs
 
+-- the ends of the fields make the number no smaller
 reach_from : (n : ℕ) (defs : List FieldDef) → n ≤ reach n defs
 reach_from n [] = omega arith
 reach_from n (def ∷ defs) = omega (arith, reach_from (max n (def.offset + def.size)) defs)
 
+-- each field ends within the greatest end
 field_within_reach : (n : ℕ) (defs : List FieldDef) (i : ℕ) (d : FieldDef) → i < length defs →
     (get_or defs i d).offset + (get_or defs i d).size ≤ reach n defs
 field_within_reach n [] i d h = absurd (omega arith)

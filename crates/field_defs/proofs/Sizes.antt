@@ -7,5 +7,6 @@ use Rattle.field_defs.specs.FieldBounds.{is_size}
 pub size_at_most_8 : (size : ℕ) → IsTrue (is_size size) → size ≤ 8
 size_at_most_8 size is = grind (arith, nat_tests)
 
+-- a size is at least one byte
 pub size_at_least_1 : (size : ℕ) → IsTrue (is_size size) → 0 < size
 size_at_least_1 size is = grind (arith, nat_tests)

@@ -17,6 +17,7 @@ use Rattle.flat_table.proofs.Unsound.{is_unsound_root}
 use Rattle.flat_table.proofs.Safe.{levels_len, lt_levels, levels_few, word_in, root_leads, word_sound, first-is}
 use Rattle.list_lemmas.proofs.Searches.{none_passes}
 
+-- parts without a fault fit together, and each root and each word is sound
 pub each_is_sound : (table : TableView) → sound_fault table ≡ None → IsEachSound table
 each_is_sound table sound = record {
   shape = shape_is table sound;
@@ -84,6 +85,7 @@ module _ (table : TableView) (each : IsEachSound table) where
           ∙ rw (add-one depth) at (each.word trie depth (level.from + k) lt
           (omega (arith, in_trie, levels_few table trie shape lt)) (omega arith) (omega (arith, below)))
 
+-- parts that fit together have no fault if each root and each word is sound
 pub sound_of_each : (table : TableView) → IsEachSound table → sound_fault table ≡ None
 unfolding sound_fault
 sound_of_each table each = rw (each.shape, no_root table each, no_word table each) refl

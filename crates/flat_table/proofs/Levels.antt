@@ -16,6 +16,7 @@ levels-drop (suc n) place [] = refl
 levels-drop (suc n) place (len ∷ lens) = levels-drop n (place + len) lens
     ∙ ap (λ (k : ℕ). levels_from k (drop n lens)) (omega (arith, sum_by-cons (λ (x : ℕ). x) len (take n lens)))
 
+-- the first few levels are those of the first few lengths
 pub levels-take : (n place : ℕ) (lens : List ℕ) → take n (levels_from place lens) ≡ levels_from place (take n lens)
 levels-take zero place lens = refl
 levels-take (suc n) place [] = refl
@@ -49,6 +50,7 @@ tries_step depth kept others from lens =
     let back = levels-drop (depth kept) from lens in
     cc
 
+-- a loop that stands at a trie finds its levels there, and then stands at the next trie
 pub turn : (table : TableView) (trie first from end : ℕ) → trie < length table.kept →
     end ≡ first + depth_of table.key_len (get_or table.kept trie 0) →
     AtTrie table trie first from → Turn table trie first from end

@@ -72,13 +72,16 @@ first-is (level ∷ levels) = refl
 offset-below : (word byte : ℕ) → byte < 256 → offset_of word byte < node_len word
 offset-below word byte h = grind (arith, nat_tests)
 
+-- a word that leads into a level names no row
 node_is_no_match_of : (level : Level) (word : ℕ) → leads_into level word ≡ true → is_match word ≡ false
 node_is_no_match_of level word e = grind (arith, nat_tests)
 
+-- the node that it leads to lies whole in the level
 leads_within : (level : Level) (word : ℕ) → leads_into level word ≡ true →
     (level.from ≤ index_of word) × (index_of word + node_len word ≤ level.from + level.len)
 leads_within level word e = (grind (arith, nat_tests), grind (arith, nat_tests))
 
+-- no word leads into a level of no words
 nowhere : (word : ℕ) → leads_into no_level word ≡ false
 nowhere word = grind (arith, nat_tests)
 
@@ -213,6 +216,7 @@ module _ (table : TableView) (trie : ℕ) (sound : sound_fault table ≡ None) (
         level = s.1;
       }
 
+-- a word that leads into a level of a table names no row
 pub node_is_no_match : (table : TableView) (trie depth word : ℕ) → leads_into (level_of table trie depth) word
     ≡ true →
     is_match word ≡ false

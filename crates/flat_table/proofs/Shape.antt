@@ -12,6 +12,7 @@ use Rattle.std.specs.Option.{option_or}
 use Rattle.std.specs.Prelude.{Option, Some, None, option_map, if◌then◌else◌, refl}
 use Rattle.flat_table.specs.declared.sound.SoundFault.TheVariants.{Shape, Root, Word}
 
+-- each of the facts that the shape of parts stands for
 pub record IsShaped (table : TableView) : Type 0 where
   pub same : length table.kept ≡ length table.roots
   pub few : length table.roots ≤ max_tries
@@ -37,6 +38,7 @@ each_of a b c d e f g h all =
     let one = and_parts a b two.0 in
     (one.0, one.1, two.1, three.1, four.1, five.1, six.1, seven.1)
 
+-- parts in shape have each of these facts
 pub shaped : (table : TableView) → IsTrue (is_shaped table) → IsShaped table
 shaped table all =
     let h = each_of (length table.kept == length table.roots) (nat_le (length table.roots) max_tries)
@@ -65,6 +67,7 @@ pub record IsSound (table : TableView) : Type 0 where
   pub roots : first_unsound_root table ≡ None
   pub words : first_unsound_word table ≡ None
 
+-- parts without a fault are in shape, and no root and no word of them is unsound
 parts_of_none : (b : Bool) (root word : Option ℕ) →
     (if b then option_or (option_map Root root) (option_map Word word) else Some Shape) ≡ None →
     (b ≡ true) × (root ≡ None) × (word ≡ None)
@@ -73,12 +76,14 @@ parts_of_none true None None e = (refl, refl, refl)
 parts_of_none true None (Some place) e = cc
 parts_of_none true (Some trie) word e = cc
 
+-- parts without a fault are sound
 pub sound_parts : (table : TableView) → sound_fault table ≡ None → IsSound table
 unfolding sound_fault
 sound_parts table e =
     let p = parts_of_none (is_shaped table) (first_unsound_root table) (first_unsound_word table) e in
     record { shape = shaped table p.0; roots = p.1; words = p.2 }
 
+-- parts without a fault are in shape
 pub shape_is : (table : TableView) → sound_fault table ≡ None → is_shaped table ≡ true
 unfolding sound_fault
 shape_is table e =

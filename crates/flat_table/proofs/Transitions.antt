@@ -27,6 +27,7 @@ last_transition words word (byte ∷ bytes) =
           (last_transition words (next_word words word byte) bytes)
     ]
 
+-- the number after a sum is the sum with the number after its first part
 suc_plus : (m n : ℕ) → suc (m + n) ≡ suc m + n
 suc_plus m n = omega arith
 

@@ -11,10 +11,12 @@ use Rattle.flat_table.specs.Sound.{leads_into, is_sound_word, first_level, unsou
 use Rattle.flat_table.specs.Sound.{first_unsound_root}
 use Rattle.flat_table.proofs.Levels.{Turn}
 
+-- of two answers the first one counts if it is there
 found_here : (here later : Option ℕ) → is_some here ≡ true → option_or here later ≡ here
 found_here None later h = cc
 found_here (Some place) later h = refl
 
+-- and the second one counts if the first isn't there
 not_here : (here later : Option ℕ) → is_some here ≡ false → option_or here later ≡ later
 not_here None later h = refl
 not_here (Some place) later h = cc
@@ -46,6 +48,7 @@ lens_here : (depth : ℕ) (lens : List ℕ) → depth < length lens →
     drop depth lens ≡ get_or lens depth 0 ∷ drop (depth + 1) lens
 lens_here depth lens lt = rw (add-one depth) (drop-cons lens depth 0 lt)
 
+-- the words of the levels left are those of the level here and of the later ones
 pub words_here : (depth : ℕ) (lens : List ℕ) → depth < length lens →
     sum (drop depth lens) ≡ get_or lens depth 0 + sum (drop (depth + 1) lens)
 words_here depth lens lt =
@@ -97,6 +100,7 @@ root_step trie roots levels here lt e =
     ∙ ap (λ (ls : List (List Level)). position_from is_unsound_root trie
     (zip (get_or roots trie 0 ∷ drop (trie + 1) roots) ls)) e
 
+-- a choice is the same by whatever its test is equal to
 cond_at : {A : Type 0} (b : Bool) (value : Bool) (x y z : A) → b ≡ value → cond b x y ≡ z → cond value x y ≡ z
 cond_at b value x y z e h = ap (λ (v : Bool). cond v x y) (sym e) ∙ h
 

@@ -34,6 +34,7 @@ none_left machine done =
     (and_parts (nat_le machine.jobs machine.given) (list_all is_empty machine.slots) done).0 in
     grind (arith, nat_tests)
 
+-- each slot of a machine that is done is empty
 none_busy : (machine : Machine) → is_done machine ≡ true → list_all is_empty machine.slots ≡ true
 none_busy machine done = (and_parts (nat_le machine.jobs machine.given) (list_all is_empty machine.slots) done).1
 
@@ -43,6 +44,7 @@ filter-made_all : {A B : Type 0} (p : B → Bool) (f : A → B) (xs : List A) �
 filter-made_all p f [] all = refl
 filter-made_all {B = B} p f (x ∷ xs) all = rw (all x) (ap (λ (ys : List B). f x ∷ ys) (filter-made_all p f xs all))
 
+-- a test that passes no made element leaves none
 filter-made_none : {A B : Type 0} (p : B → Bool) (f : A → B) (xs : List A) → ((x : A) → p (f x) ≡ false) →
     filter p (map f xs) ≡ []
 filter-made_none p f [] none = refl

@@ -30,10 +30,12 @@ use Rattle.flow_core.proofs.Runs.{flown_step, first_flown, same_width, from_firs
 abbrev times : ℕ → List ℕ → ℕ
 times slot slots = count_by (λ entry. entry == slot) slots
 
+-- the slot at the front of a list stands there once more
 times-more : (slot i : ℕ) (slots : List ℕ) → (i == slot) ≡ true → times slot (i ∷ slots) ≡ 1 + times slot slots
 times-more slot i slots same =
     count_by-cons (λ entry. entry == slot) i slots ∙ ap (λ (b : Bool). cond b 1 0 + times slot slots) same
 
+-- another slot at the front changes nothing
 times-same : (slot i : ℕ) (slots : List ℕ) → (i == slot) ≡ false → times slot (i ∷ slots) ≡ times slot slots
 times-same slot i slots other =
     count_by-cons (λ entry. entry == slot) i slots ∙ ap (λ (b : Bool). cond b 1 0 + times slot slots) other
@@ -135,6 +137,7 @@ run_width table keys state (slot ∷ slots) =
 
 -- ---- turns of all slots
 
+-- a slot stands in two lists together as often as in both
 times-append : (slot : ℕ) (xs ys : List ℕ) → times slot (xs ++ ys) ≡ times slot xs + times slot ys
 times-append slot [] ys = omega arith
 times-append slot (x ∷ xs) ys = elim (cases_Bool (x == slot)) [
@@ -173,6 +176,7 @@ turns_are_slots width (suc n) =
     (All-from_get_or (λ slot. slot < width) (range_with_len 0 width) 0
     (λ k below. omega (arith, below, length-range_with_len 0 width, get_or-range_with_len 0 width k 0)))))
 
+-- each slot stands in n turns at least n times
 pub turns_count : (width n slot : ℕ) → slot < width → n ≤ times slot (turns width n)
 turns_count width zero slot below = omega arith
 turns_count width (suc n) slot below =
@@ -222,6 +226,7 @@ least_so_far p (suc n) = elim (least_so_far p n) [
   ]
 ]
 
+-- if some number passes, there is a least one that does
 least : (p : ℕ → Bool) (n : ℕ) → p n ≡ true →
     (m : ℕ) × (m ≤ n) × (p m ≡ true) × ((earlier : ℕ) → earlier < m → p earlier ≡ false)
 least p zero holds = (0, omega arith, holds, λ earlier below. absurd (omega (arith, below)))

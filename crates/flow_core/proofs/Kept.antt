@@ -35,6 +35,7 @@ nothing_past slots i job held = elim (cases_lt i (length slots)) [
   | inr past ↦ absurd (cc (ap (holds job) (get_or_past slots i None past), held))
 ]
 
+-- a job compares as one with itself
 pub same_itself : (job : Job) → same_job job job ≡ true
 same_itself job = rw (eq-eqb job.key job.key refl, eq-eqb job.trie job.trie refl) refl
 
@@ -124,6 +125,7 @@ later table keys given few (Some flight) in' = record {
   word = in'.word;
 }
 
+-- a number doesn't compare as one with what its equal differs from
 not_same_key : (a b c : ℕ) → a ≡ b → b ≢ c → (a == c) ≡ false
 not_same_key a b c is other = elim (cases_Bool (a == c)) [
   | inl same ↦ absurd (other (sym is ∙ eqb-true a c same))

@@ -28,6 +28,7 @@ zero_word : (category : ℕ) → category < row_len → slice_index zero_row cat
 unfolding zero_row
 zero_word category below = get_or-replicate row_len category 0 0 below
 
+-- none of the empty slots holds a job
 nothing_held : (width i : ℕ) (job : Job) → holds job (get_or (replicate width None) i None) ≡ false
 nothing_held width i job = elim (cases_lt i width) [
   | inl within ↦ ap (holds job) (get_or-replicate width i None None within)

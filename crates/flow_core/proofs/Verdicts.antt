@@ -22,6 +22,7 @@ use Rattle.flow_core.specs.Laws.{AreJoined}
 use Rattle.flow_core.proofs.Given.{even_pieces}
 use Rattle.list_lemmas.proofs.Ranges.{All-range}
 
+-- a row has as many verdicts as categories are asked for
 verdicts_len : (count : ℕ) (row : List ℕ) → length (row_verdicts count row) ≡ count
 verdicts_len count row = length-map (range_with_len 0 count) (λ category. slice_index row category % userdatas)
     ∙ length-range_with_len 0 count

@@ -47,6 +47,7 @@ use Rattle.field_defs.specs.declared.field.FieldDef.{FieldDef}
 
 -- ---- the run of a byte
 
+-- two successors that compare as one are one
 pub same_is : (a b : Succ) → same_succ a b ≡ true → a ≡ b
 same_is Dead Dead h = refl
 same_is (State m) (State n) h = ap State (eqb-true m n h)
@@ -141,10 +142,12 @@ module _ {X : Type 0} (same : X → X → Bool) (sound : (x y : X) → same x y 
 
 -- ---- every list of bytes is a prefix
 
+-- each of some bytes is below 256
 small_at : (bytes : List ℕ) (k : ℕ) → AreBytes bytes → k < length bytes → get_or bytes k 0 < 256
 small_at bytes k small within =
     All-get_or (λ byte. byte < 256) bytes k 0 within (All-from_recursion (λ byte. byte < 256) bytes small)
 
+-- the first few of some bytes are bytes
 bytes_before : (n : ℕ) (bytes : List ℕ) → AreBytes bytes → AreBytes (take n bytes)
 bytes_before zero bytes small = tt
 bytes_before (suc n) [] small = tt
@@ -218,10 +221,12 @@ unfolding state_through state_step
 dead_on set place [] = refl
 dead_on set place (byte ∷ bytes) = dead_on set (place + 1) bytes
 
+-- a list that has an element is live
 live_if_long : (xs : List ℕ) → 0 < length xs → is_live xs ≡ true
 live_if_long [] h = absurd (omega arith)
 live_if_long (x ∷ xs) h = refl
 
+-- a list is live and has an element, or is dead and has none
 live_or_not : {X : Type 0} (xs : List X) → (is_live xs ≡ true) × (0 < length xs) ⊎ (is_live xs ≡ false) × (xs ≡ [])
 live_or_not [] = inr (refl, refl)
 live_or_not (x ∷ xs) = inl (refl, omega arith)
@@ -408,6 +413,7 @@ module _ (set : RuleSetView) (group : List ℕ) (held : AllByRecursion (IsHeld s
   from_first some (place ∷ places) first =
       follow place places 0 first.gaps (first_there some place first.within first.before)
 
+-- for every key the runs lead to the row of the rules that match it, or to nothing if none does
 pub runs_lead : RunsLeadToTheRowOfTheMatchingRules
 unfolding levels_of
 runs_lead set group key is small long =

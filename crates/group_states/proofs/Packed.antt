@@ -30,6 +30,7 @@ use Rattle.group_states.specs.Entry.{FieldPlace, field_at}
 use Rattle.group_states.specs.RuleRest.{values_rest}
 use Rattle.field_defs.proofs.Offered.{size_at_least_1}
 
+-- the edge that is kept of a rule's values after some bytes of a key, or none
 abbrev pub packed_edge : List FieldDef → List FieldValue → List ℕ → Option Edge
 packed_edge [] [] key = Some Free
 packed_edge (def ∷ defs) (value ∷ values) key =
@@ -46,6 +47,7 @@ packed_edge (def ∷ defs) [] key = None
 pub number_push : (bytes : List ℕ) (byte : ℕ) → number_of (bytes ++ byte ∷ []) ≡ number_of bytes * 256 + byte
 number_push bytes byte = fold-append (λ n b. n * 256 + b) 0 bytes (byte ∷ [])
 
+-- one more byte lengthens a key by one
 pub length_one_more : (bytes : List ℕ) (byte : ℕ) → length (bytes ++ byte ∷ []) ≡ length bytes + 1
 length_one_more bytes byte = length-append bytes (byte ∷ [])
 
@@ -53,6 +55,7 @@ length_one_more bytes byte = length-append bytes (byte ∷ [])
 abbrev pub AreBytes : List ℕ → Type 0
 AreBytes bytes = AllByRecursion (λ byte. byte < 256) bytes
 
+-- bytes after a start spell less than the next start with as many zeros after it
 number_from : (start : ℕ) (bytes : List ℕ) → AreBytes bytes
     → fold (λ n b. n * 256 + b) start bytes < (start + 1) * 256 ^ length bytes
 number_from start [] below = omega arith
@@ -62,6 +65,7 @@ number_from start (byte ∷ bytes) below =
     let le : start * 256 + byte + 1 ≤ (start + 1) * 256 = omega (arith, below.0) in
     rw power (omega (arith, rest, mul-le-mul_right (256 ^ length bytes) le))
 
+-- the number that bytes spell fits into as many bytes
 pub number_small : (bytes : List ℕ) → AreBytes bytes → number_of bytes < 256 ^ length bytes
 number_small bytes below = let h = number_from 0 bytes below in omega arith
 
@@ -108,6 +112,7 @@ none_on value size place prefix byte begun below none =
 abbrev pub before_at : FieldValue → ℕ → ℕ → Edge → Edge
 before_at value size place edge = cond (eqb place 0) (unwrap_or (edge_after value size 0 0) Free) edge
 
+-- the edge that is kept of a field's bytes, which is free before the first one
 abbrev pub kept_in : FieldValue → ℕ → List ℕ → Option Edge
 kept_in value size key = cond (eqb (length key) 0) (Some Free) (edge_after value size (length key) (number_of key))
 
@@ -211,13 +216,16 @@ pub field_at_in : (def : FieldDef) (defs : List FieldDef) (place : ℕ) → plac
     → field_at (def ∷ defs) place ≡ record { field = 0; size = def.size; place = place }
 field_at_in def defs place begun = cond-true _ _ _ (lt-ltb place def.size begun)
 
+-- the place of a field, with one more field in front
 abbrev pub one_further : FieldPlace → FieldPlace
 one_further at = record { field = at.field + 1; size = at.size; place = at.place }
 
+-- a place after the first field lies in the fields after that
 pub field_at_after : (def : FieldDef) (defs : List FieldDef) (place : ℕ) → def.size ≤ place
     → field_at (def ∷ defs) place ≡ one_further (field_at defs (place - def.size))
 field_at_after def defs place whole = cond-false _ _ _ (le-ltb place def.size whole)
 
+-- the value of a field is the same with one more field in front
 pub further_value : (value : FieldValue) (values : List FieldValue) (n : ℕ)
     → get_or (value ∷ values) (n + 1) (Mask 0 0) ≡ get_or values n (Mask 0 0)
 further_value value values n = ap (λ k. get_or (value ∷ values) k (Mask 0 0)) (let e : n + 1 ≡ suc n = omega arith in e)
@@ -282,6 +290,7 @@ pub record Stands (values : List FieldValue) (at : FieldPlace) (edge : Edge) : T
   pub stands : StandsBefore (get_or values at.field (Mask 0 0)) at.size at.place
       (before_at (get_or values at.field (Mask 0 0)) at.size at.place edge)
 
+-- the edge that is kept inside a field stands before the field's next place
 stands_in : (def : FieldDef) (value : FieldValue) (key : List ℕ) (edge : Edge) → IsLawfulValue def value → AreBytes key
     → length key < def.size → kept_in value def.size key ≡ Some edge →
     StandsBefore value def.size (length key) (before_at value def.size (length key) edge)
@@ -297,6 +306,7 @@ stands_in def value (k ∷ ks) edge lawful small begun is =
     (sym (ap (λ b. cond b (unwrap_or (edge_after value def.size 0 0) Free) edge) some))
     (record { prefix = number_of (k ∷ ks); within = number_small (k ∷ ks) small; form = form })
 
+-- what is left of some bytes are bytes
 pub bytes_after : (n : ℕ) (bytes : List ℕ) → AreBytes bytes → AreBytes (drop n bytes)
 bytes_after zero bytes small = small
 bytes_after (suc n) [] small = tt
@@ -307,6 +317,7 @@ through : (b : Bool) (found : Option Edge) (edge : Edge) → cond b found None �
 through true found edge h = h
 through false found edge h = absurd cc
 
+-- the edge that is kept of a rule stands before the next place of the key
 pub packed_stands : (defs : List FieldDef) (values : List FieldValue) (key : List ℕ) (edge : Edge)
     → AllZip IsLawfulValue defs values → AreBytes key → length key < key_len_of defs →
     packed_edge defs values key ≡ Some edge → Stands values (field_at defs (length key)) edge
@@ -354,6 +365,7 @@ rest_at (def ∷ defs) (value ∷ values) place edge =
     (cond (eqb place 0) (unwrap_or (rest_after value def.size 0 0) Live) (rest_of value def.size place edge))
     (rest_at defs values (place - def.size) edge)
 
+-- the rest inside a field is the one that its kept edge stands for
 rest_in : (def : FieldDef) (value : FieldValue) (key : List ℕ) → IsLawfulValue def value → length key < def.size →
     rest_after value def.size (length key) (number_of key)
     ≡ option_map (λ edge. cond (eqb (length key) 0) (unwrap_or (rest_after value def.size 0 0) Live)
@@ -370,6 +382,7 @@ rest_in def value (k ∷ ks) lawful begun =
     (rest_of value def.size (length (k ∷ ks)) edge))
     (cond b (Some Free) (edge_after value def.size (length (k ∷ ks)) (number_of (k ∷ ks))))) some)
 
+-- the rest of a rule's values is the one that their kept edge stands for
 pub packed_rests : (defs : List FieldDef) (values : List FieldValue) (key : List ℕ) → AllZip IsLawfulValue defs values →
     values_rest defs values key ≡ option_map (rest_at defs values (length key)) (packed_edge defs values key)
 packed_rests [] [] key lawful = refl
@@ -406,6 +419,7 @@ packed_rests (def ∷ defs) (value ∷ values) key lawful = elim (cases_lt (leng
 
 -- ---- edges with one rest are one
 
+-- what is kept free is the free edge
 free_only : (edge : Edge) → Some Free ≡ Some edge → edge ≡ Free
 free_only edge is = cc
 
@@ -415,6 +429,7 @@ record Keeps (value : FieldValue) (size : ℕ) (bytes : List ℕ) (edge : Edge) 
   begun : length bytes < size
   is : kept_in value size bytes ≡ Some edge
 
+-- two edges kept inside a field are one if they stand for one rest
 apart_in : (def : FieldDef) (value : FieldValue) (one other : List ℕ) (edge another : Edge) →
     Keeps value def.size one edge → Keeps value def.size other another → length other ≡ length one →
     cond (eqb (length one) 0) (unwrap_or (rest_after value def.size 0 0) Live)
@@ -443,6 +458,7 @@ apart_in def value (k ∷ ks) other edge another first second long same =
     (record { prefix = number_of other; within = rw long at (number_small other second.small); form = other_form })).1
     rests
 
+-- two edges kept of a rule after as many bytes are one if they stand for one rest
 pub packed_apart : (defs : List FieldDef) (values : List FieldValue) (one other : List ℕ) (edge another : Edge)
     → AreBytes one → AreBytes other → length other ≡ length one →
     packed_edge defs values one ≡ Some edge → packed_edge defs values other ≡ Some another

@@ -42,6 +42,7 @@ pub record IsHeld (set : RuleSetView) (number : ℕ) : Type 0 where
   pub within : number < length set.rules
   pub lawful : AllZip IsLawfulValue set.layout (values_of set number)
 
+-- a rule in the place of one that isn't there
 no_rule : RuleView
 no_rule = record { tag = record { category_mask = 0; priority = pos 0; userdata = 0 }; fields = [] }
 
@@ -50,10 +51,12 @@ pub rule_there : (set : RuleSetView) (number : ℕ) → number < length set.rule
     → (rule : RuleView) × (slice_get set.rules number ≡ Some rule)
 rule_there set number within = (get_or set.rules number no_rule, slice_get-get_or set.rules number no_rule within)
 
+-- the values of a number are those of the rule that has it
 pub values_there : (set : RuleSetView) (number : ℕ) (rule : RuleView) → slice_get set.rules number ≡ Some rule
     → values_of set number ≡ rule.fields
 values_there set number rule there = ap (λ found. option_map_or (λ (r : RuleView). r.fields) found []) there
 
+-- each number of a lawful set has a rule with lawful values
 pub is_held : (set : RuleSetView) (number : ℕ) → IsRuleSet set → IsLayout set.layout → number < length set.rules
     → IsHeld set number
 is_held set number held layout within =
@@ -77,6 +80,7 @@ number_in-entry_of number Low = omega arith
 number_in-entry_of number High = omega arith
 number_in-entry_of number Both = omega arith
 
+-- the edge in an entry is the one that the entry was made of
 pub edge_in-entry_of : (number : ℕ) (edge : Edge) → edge_in (entry_of number edge) ≡ edge
 edge_in-entry_of number Free = ap edge_coded (let e : (number * 4 + 0) % 4 ≡ 0 = omega arith in e)
 edge_in-entry_of number Low = ap edge_coded (let e : (number * 4 + 1) % 4 ≡ 1 = omega arith in e)
@@ -167,6 +171,7 @@ module _ (set : RuleSetView) (place number : ℕ) (held : IsHeld set number) (ed
 
 -- ---- the entries of a group
 
+-- the entries that are kept of a group after some bytes of a key
 unfoldable pub packed_state : RuleSetView → List ℕ → List ℕ → List ℕ
 packed_state set group key =
     filter_map (λ number. option_map (entry_of number) (packed_edge set.layout (values_of set number) key)) group
@@ -240,6 +245,7 @@ decoded set place entry =
           rest_at set.layout (values_of set (number_in entry)) place (edge_in entry);
     }
 
+-- the entry of a number and an edge stands for the rule and the edge's rest
 decoded_is : (set : RuleSetView) (place number : ℕ) (edge : Edge)
     → decoded set place (entry_of number edge)
     ≡ record { number = number; rest = rest_at set.layout (values_of set number) place edge }
@@ -318,6 +324,7 @@ entries_apart set place one other a b same =
     ∙ ap (λ n. rest_at set.layout (values_of set a.number) n b.edge) (sym a.long)) in
     a.is ∙ (λ i. entry_of (numbers i) (edges i)) ∙ sym b.is
 
+-- two lists of entries are one if they stand for one state
 lists_apart : (set : RuleSetView) (place : ℕ) (xs ys : List ℕ) → AllByRecursion (IsEntryAt set place) xs
     → AllByRecursion (IsEntryAt set place) ys → map (decoded set place) xs ≡ map (decoded set place) ys → xs ≡ ys
 lists_apart set place [] [] ats bts same = refl
@@ -341,9 +348,11 @@ held_Decides a b = (
       ((rests_compared a.rest b.rest).1 (ap (λ (h : Held). h.rest) same)),
 )
 
+-- the comparison of two states decides whether they are one
 pub same_state-Decides : (xs ys : List Held) → Decides (same_state xs ys) (xs ≡ ys)
 same_state-Decides xs ys = slice_eq-Decides held_Decides xs ys (same_state xs ys) refl
 
+-- two tests are one if what each decides follows from what the other decides
 alike : {P Q : Type 0} (r s : Bool) → Decides r P → Decides s Q → (P → Q) → (Q → P) → r ≡ s
 alike true true d e f g = refl
 alike false false d e f g = refl
@@ -358,6 +367,7 @@ compared_alike set place xs ys ats bts =
     alike _ _ (same_state-Decides (map (decoded set place) xs) (map (decoded set place) ys)) (bytes_eq-Decides xs ys)
     (lists_apart set place xs ys ats bts) (ap (map (decoded set place)))
 
+-- a list is live exactly if what is made of its elements is live
 pub alive_alike : {X Y : Type 0} (f : X → Y) (xs : List X) → is_live (map f xs) ≡ is_live xs
 alive_alike f [] = refl
 alive_alike f (x ∷ xs) = refl

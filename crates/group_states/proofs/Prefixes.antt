@@ -6,26 +6,32 @@ use Rattle.list_lemmas.proofs.Each.{map-flat_map, map-singles, flat_map_same, al
 use Rattle.group_states.proofs.Packed.{AreBytes}
 use Rattle.group_states.specs.Found.{all_bytes, prefixes}
 
+-- so many numbers from a first one on are bytes if they end at 256
 below_from : (first count : ℕ) → first + count ≤ 256 → AllByRecursion (λ byte. byte < 256) (range_with_len first count)
 below_from first zero within = tt
 below_from first (suc count) within = (omega arith, below_from (first + 1) count (omega arith))
 
+-- each of all bytes is below 256
 pub bytes_below : AllByRecursion (λ byte. byte < 256) all_bytes
 unfolding all_bytes
 bytes_below = below_from 0 256 (omega arith)
 
+-- the key has so many bytes
 abbrev pub IsPrefix : ℕ → List ℕ → Type 0
 IsPrefix place key = AreBytes key × (length key ≡ place)
 
+-- a key of bytes with one more byte is one of bytes
 pub bytes_push : (key : List ℕ) (byte : ℕ) → AreBytes key → byte < 256 → AreBytes (key ++ byte ∷ [])
 bytes_push [] byte small below = (below, tt)
 bytes_push (k ∷ ks) byte small below = (small.0, bytes_push ks byte small.1 below)
 
+-- a prefix with one more byte is a prefix of the next place
 pub prefix_push : (place : ℕ) (key : List ℕ) (byte : ℕ) → IsPrefix place key → byte < 256
     → IsPrefix (place + 1) (key ++ byte ∷ [])
 prefix_push place key byte is below =
     (bytes_push key byte is.0 below, length-append key (byte ∷ []) ∙ ap (λ n. n + 1) is.1)
 
+-- all lists of so many bytes are prefixes of their place
 pub prefixes_are : (place : ℕ) → AllByRecursion (IsPrefix place) (prefixes place)
 unfolding prefixes
 prefixes_are zero = ((tt, refl), tt)

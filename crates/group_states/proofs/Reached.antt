@@ -32,6 +32,7 @@ use Rattle.group_states.specs.declared.run.Succ.TheVariants.{Dead, State}
 
 -- ---- the entries of all prefixes
 
+-- what is kept of a group at a place, found by all prefixes of the place
 unfoldable pub packed_at : RuleSetView → List ℕ → ℕ → List (List ℕ)
 packed_at set group place = found_in bytes_eq is_live (map (packed_state set group) (prefixes place))
 
@@ -168,6 +169,7 @@ module _ (set : RuleSetView) (group : List ℕ) (held : AllByRecursion (IsHeld s
 
 -- ---- successors
 
+-- so many zeros are bytes
 pub zeros_small : (count : ℕ) → AreBytes (replicate count 0)
 zeros_small zero = tt
 zeros_small (suc count) = (omega arith, zeros_small count)

@@ -35,15 +35,18 @@ module _ (def : FieldDef) (defs : List FieldDef) (value : FieldValue) (values : 
 abbrev onward : FieldDef → List FieldDef → List FieldValue → ℕ → Rest → Option Rest
 onward def defs values place after = cond (eqb (place + 1) def.size) (values_rest defs values []) (Some after)
 
+-- two steps of an option, one after the other, are a step of both
 and_then_all : {A B C : Type 0} (f : A → Option B) (g : B → Option C) (found : Option A)
     → option_and_then (λ x. option_and_then g (f x)) found ≡ option_and_then g (option_and_then f found)
 and_then_all f g None = refl
 and_then_all f g (Some x) = refl
 
+-- a step that keeps each value keeps the option
 and_then_some : {A : Type 0} (found : Option A) → option_and_then (λ (x : A). Some x) found ≡ found
 and_then_some None = refl
 and_then_some (Some x) = refl
 
+-- the rest after one more byte inside the first field, and what comes after the field
 in_field : (def : FieldDef) (defs : List FieldDef) (value : FieldValue) (values : List FieldValue) (key : List ℕ)
     (byte : ℕ) → length key < def.size → byte < 256 →
     values_rest (def ∷ defs) (value ∷ values) (key ++ byte ∷ [])
@@ -132,6 +135,7 @@ values_go_on (def ∷ defs) (value ∷ values) key byte lawful within below = el
     by true rest = rest
     by false rest = refl
 
+-- a rule's number and its rest
 abbrev hold : ℕ → Rest → Held
 hold number r = record { number = number; rest = r }
 

@@ -10,14 +10,17 @@ use Rattle.group_states.specs.Levels.{same_succ, is_end, runs_of}
 use Rattle.group_states.specs.declared.run.Run.{Run}
 use Rattle.group_states.specs.declared.run.Succ.{Succ}
 
+-- there are 256 bytes
 pub length-all_bytes : length all_bytes ≡ 256
 unfolding all_bytes
 length-all_bytes = length-range_with_len 0 256
 
+-- the byte at a place of all bytes is the place
 pub byte_at : (byte d : ℕ) → byte < 256 → get_or all_bytes byte d ≡ byte
 unfolding all_bytes
 byte_at byte d below = get_or-range_with_len 0 256 byte d below ∙ omega arith
 
+-- the first bytes up to one are those before it, and then it
 pub one_more_byte : (byte : ℕ) → byte < 256 → take (byte + 1) all_bytes ≡ take byte all_bytes ++ byte ∷ []
 one_more_byte byte below =
     take_more all_bytes byte 0 (rw length-all_bytes below)
@@ -27,13 +30,16 @@ one_more_byte byte below =
 run_at : (ℕ → Succ) → ℕ → Run
 run_at succ byte = record { last = byte; to = succ byte }
 
+-- the runs that end before a byte
 pub some_runs : (ℕ → Succ) → ℕ → List Run
 some_runs succ byte = map (run_at succ) (filter (is_end succ) (take byte all_bytes))
 
+-- no run ends before byte 0
 pub no_runs : (succ : ℕ → Succ) → some_runs succ 0 ≡ []
 unfolding some_runs
 no_runs succ = refl
 
+-- each run ends before byte 256
 pub all_runs : (succ : ℕ → Succ) (byte : ℕ) → 256 ≤ byte → some_runs succ byte ≡ runs_of succ
 unfolding some_runs run_at runs_of
 all_runs succ byte enough =

@@ -36,6 +36,7 @@ use Rattle.group_states.specs.Lists.{level_found, successor}
 use Rattle.group_states.specs.RuleRest.{values_rest}
 use Rattle.group_states.specs.State.{Held, state, state_step, state_through, same_state, is_live}
 
+-- after a whole key a rule's rest is live exactly if the rule matches the key
 pub whole_keys_are_live_where_they_match : WholeKeysAreLiveWhereTheyMatch
 whole_keys_are_live_where_they_match [] [] key long = refl
 whole_keys_are_live_where_they_match [] (v ∷ vs) key long = refl
@@ -52,9 +53,11 @@ whole_keys_are_live_where_they_match (def ∷ defs) (value ∷ values) key long 
     by true b is = is
     by false b is = refl
 
+-- each rule of a group is in the set and has lawful values
 pub held_of : (set : RuleSetView) (group : List ℕ) → IsGrouped set group → AllByRecursion (IsHeld set) group
 held_of set group is = group_held set group is.rules is.layout is.group.within
 
+-- the state after one more byte is the step of the state by the byte
 pub states_go_byte_by_byte : StatesGoByteByByte
 states_go_byte_by_byte set group key byte is within below =
     state_goes_on set group key byte (held_of set group is) within below
@@ -100,6 +103,7 @@ module _ (set : RuleSetView) (group : List ℕ) (held : AllByRecursion (IsHeld s
       ∙ sym (flat_map-map (λ before. map (reached set place next before) all_bytes) from packed)
       ∙ ap (flat_map (λ before. map (reached set place next before) all_bytes)) (sym (states_are set group held place)))
 
+-- the states of the next kept place are those that a kept place's states reach
 pub next_states_are_reached : NextStatesAreReached
 next_states_are_reached set group k is below =
     let held = held_of set group is in
@@ -126,6 +130,7 @@ states_of_each_place_lead_on set group place is within =
     (flat_map (λ before. map (λ byte. state_through set place before (byte ∷ replicate count 0)) all_bytes)
     (states_at set group place))) none
 
+-- inside an idle group every byte leads a state to one next state
 pub idle_bytes_lead_to_one_state : IdleBytesLeadToOneState
 idle_bytes_lead_to_one_state set group place one other is within idle one_below other_below =
     let held = held_of set group is in

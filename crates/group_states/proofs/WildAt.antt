@@ -32,6 +32,7 @@ pub record IsValueAt (defs : List FieldDef) (values : List FieldValue) (place : 
   pub can : CanMatch (get_or values at.field (Mask 0 0)) at.size
   pub wild : is_wild_at defs values place ≡ is_wild (get_or values at.field (Mask 0 0)) at.size
 
+-- each place of a key lies in a field whose value can be asked about
 pub value_at_place : (defs : List FieldDef) (values : List FieldValue) (place : ℕ) → AllZip IsLawfulValue defs values
     → place < key_len_of defs → IsValueAt defs values place (field_at defs place)
 value_at_place [] values place lawful within = absurd (omega arith)

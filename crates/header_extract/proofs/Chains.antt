@@ -19,11 +19,13 @@ IsShorter left (Ok (Leads next rest)) = length rest + 8 ≤ length left
 IsShorter left (Ok (Ends upper)) = Unit {0}
 IsShorter left (Err class) = Unit {0}
 
+-- the ports end the chain, so no step goes on
 ports-shorter : (left : List ℕ) (protocol : ℕ) (ports : Result (List ℕ) Class) →
     IsShorter left (ports >>= λ four. Ok (Ends (record { protocol = protocol; ports = four })))
 ports-shorter left protocol (Ok four) = tt
 ports-shorter left protocol (Err class) = tt
 
+-- each step goes on with at least 8 bytes less
 header_step-shorter : (next : ℕ) (left : List ℕ) → IsShorter left (header_step next left)
 header_step-shorter next left =
     elim (cases_Bool (is_options next)) [
@@ -76,10 +78,12 @@ upper_of-leads next after left rest leads =
     let shorter = rw leads at (header_step-shorter next left) in
     rw leads (upper_within-fuel (length left) (suc (length rest)) after rest (omega (arith, shorter)) (omega arith))
 
+-- a header that ends the chain gives the protocol and the ports
 pub upper_of-ends : (next : ℕ) (left : List ℕ) (upper : Upper) → header_step next left ≡ Ok (Ends upper) →
     upper_of next left ≡ Ok upper
 upper_of-ends next left upper ends = rw ends refl
 
+-- a header with a fault gives the fault
 pub upper_of-fails : (next : ℕ) (left : List ℕ) (class : Class) → header_step next left ≡ Err class →
     upper_of next left ≡ Err class
 upper_of-fails next left class fails = rw fails refl
@@ -88,9 +92,11 @@ upper_of-fails next left class fails = rw fails refl
 abbrev pub IsExtension : ℕ → Type 0
 IsExtension next = (is_options next || next == fragment) ≡ true
 
+-- 8 bytes for a fragment's header, and else as many as the header says
 abbrev pub extension_len : ℕ → List ℕ → ℕ
 extension_len next left = if next == fragment then 8 else 8 * (slice_index left 1 + 1)
 
+-- the header is that of a fragment which isn't the first
 abbrev pub is_later_part : ℕ → List ℕ → Bool
 is_later_part next left = next == fragment && not (is_first_part left)
 
@@ -107,6 +113,7 @@ extension_cases next extension =
       | inr others ↦ inl (grind (arith, extension, others), others)
     ]
 
+-- an extension header with fewer than 8 bytes left is cut
 pub header_step-short : (next : ℕ) (left : List ℕ) → IsExtension next → length left < 8 →
     header_step next left ≡ Err Short
 header_step-short next left extension short =
@@ -115,6 +122,7 @@ header_step-short next left extension short =
       | inr part ↦ rw (part.0, part.1, lt-leb 8 (length left) short) refl
     ]
 
+-- an extension header that is longer than what is left is cut
 pub header_step-cut : (next len : ℕ) (left : List ℕ) → IsExtension next → 8 ≤ length left →
     is_later_part next left ≡ false → len ≡ extension_len next left →
     length left < len → header_step next left ≡ Err Short
@@ -132,6 +140,7 @@ header_step-cut next len left extension eight first is_len cut =
           absurd (omega arith)
     ]
 
+-- a whole extension header leads to the header after it
 pub header_step-leads : (next len : ℕ) (left : List ℕ) → IsExtension next → 8 ≤ length left →
     is_later_part next left ≡ false → len ≡ extension_len next left →
     len ≤ length left → header_step next left ≡ Ok (Leads (slice_index left 0) (drop len left))
@@ -151,6 +160,7 @@ header_step-leads next len left extension eight first is_len whole =
           rw (part.0, part.1, le-leb 8 (length left) eight, is_first, words) refl
     ]
 
+-- a later fragment ends the chain without ports
 pub header_step-later : (next : ℕ) (left : List ℕ) → 8 ≤ length left → is_later_part next left ≡ true →
     header_step next left ≡ Ok (Ends (record { protocol = slice_index left 0; ports = no_ports }))
 header_step-later next left eight later =

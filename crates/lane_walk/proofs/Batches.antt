@@ -35,6 +35,7 @@ pub record Flies (table : TableView) (keys : List ℕ) : Type 0 where
   pub sound : sound_fault table ≡ None
   pub bytes : AreBytes keys
 
+-- turns over a sound table and keys of bytes have what they go by
 pub flies : {table : TableView} {keys : List ℕ} → WalksGoStepByStep → WalksStay → sound_fault table ≡ None →
     ((i : ℕ) → get_or keys i 0 < 256) → Flies table keys
 flies {keys = keys} law stay sound small = record {
@@ -111,6 +112,7 @@ pub record Turned (table : TableView) (keys : List ℕ) (width n : ℕ) (machine
   pub taken_is : taken + words_left table keys (state_of table keys machine rows) ≡ batch_transitions table keys
   pub counted : steps ≡ begun + taken
 
+-- before the first turn a machine stands in its first state
 pub turned_none : {table : TableView} {keys : List ℕ} {width : ℕ} {machine : Machine} {old rows : List (List ℕ)}
     {begun : ℕ} → state_of table keys machine rows ≡ first_state table keys width →
     StandsOver table keys machine (length rows) → rows ≡ cleared (keys_in table keys) old →
@@ -241,6 +243,7 @@ module _ {table : TableView} {keys : List ℕ} {width n : ℕ} {machine : Machin
 
 -- ---- the numbers fit
 
+-- the words that a batch takes are bounded by the greatest number of keys, tries and key bytes
 pub words_fit : (table : TableView) (keys : List ℕ) → keys_in table keys ≤ max_keys →
     length table.roots ≤ max_tries → table.key_len ≤ max_key_len →
     batch_transitions table keys ≤ max_keys * (max_tries * max_key_len)
@@ -250,6 +253,7 @@ words_fit table keys few tries short = omega (
   mul-le-mul few (mul-le-mul tries short),
 )
 
+-- and so are the steps of each slot that are enough
 pub steps_fit : (table : TableView) (keys : List ℕ) → keys_in table keys ≤ max_keys →
     length table.roots ≤ max_tries → table.key_len ≤ max_key_len →
     most_steps table keys ≤ max_keys * max_tries * (max_key_len + 1)

@@ -39,6 +39,7 @@ empty_is flight = elim (cases_Bool (is_match flight.word)) [
   | inr on ↦ rw on refl
 ]
 
+-- lanes that keep no flight are empty slots
 pub no_flights : (flight : Flight) → held_in flight ≡ None → (n : ℕ) →
     map held_in (replicate n flight) ≡ replicate n None
 no_flights flight none zero = refl
@@ -46,6 +47,7 @@ no_flights flight none (suc n) = λ i. none i ∷ no_flights flight none n i
 
 -- ---- one lane
 
+-- a lane alone counts as one busy slot exactly if it is busy
 one_busy : (slots : List (Option Flight)) (lane : ℕ) → lane < length slots →
     count_by is_busy (take 1 (drop lane slots)) ≡ cond (is_busy (get_or slots lane None)) 1 0
 one_busy [] lane within = absurd (omega (arith, within))
@@ -96,6 +98,7 @@ pub all_empty : (flights : List Flight) →
 all_empty [] = refl
 all_empty (flight ∷ flights) = λ i. sym (empty_is flight) i && all_empty flights i
 
+-- a slot that isn't busy holds nothing
 nothing : (held : Option Flight) → is_busy held ≡ false → held ≡ None
 nothing None empty = refl
 nothing (Some flight) empty = absurd (cc empty)
@@ -138,6 +141,7 @@ pub record BusyLane (table : TableView) (keys : List ℕ) (jobs given : ℕ) (fl
   pub holds : get_or (map held_in flights) lane None ≡ Some flight
   pub busy : is_busy (get_or before.slots lane None) ≡ true
 
+-- a lane whose slot is busy keeps the flight of the slot
 pub busy_lane : {table : TableView} {keys : List ℕ} {jobs given : ℕ} (flights : List Flight) {before : Machine}
     {rows : List (List ℕ)} {width lane : ℕ} → seen jobs given flights ≡ before →
     StandsOver table keys before (length rows) → lane < width → length flights ≡ width →

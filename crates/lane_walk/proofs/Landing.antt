@@ -74,6 +74,7 @@ lands {table = table} {keys = keys} {inside = inside} {rows = rows} {slot = slot
 
 -- ---- the places of four lanes
 
+-- a word that leads into a level leads to a node
 pub node_of : (table : TableView) (trie depth word : ℕ) → leads_into (level_of table trie depth) word ≡ true →
     is_node word ≡ true
 node_of table trie depth word leads =

@@ -173,6 +173,7 @@ first_left table keys width = omega (
   sum_by-replicate (slot_left table keys) width None,
 )
 
+-- empty slots have no words left to take
 empty_left : (table : TableView) (keys : List ℕ) (slots : List (Option Flight)) → list_all is_empty slots ≡ true →
     sum_by (slot_left table keys) slots ≡ 0
 empty_left table keys [] empty = refl

@@ -87,6 +87,7 @@ lanes_few (inl four) = omega (arith, four)
 lanes_few (inr (inl eight)) = omega (arith, eight)
 lanes_few (inr (inr sixteen)) = omega (arith, sixteen)
 
+-- the lanes are fours without a rest
 in_fours : {width : ℕ} → IsLanes width → width / 4 * 4 ≡ width
 in_fours (inl four) = omega (arith, four)
 in_fours (inr (inl eight)) = omega (arith, eight)

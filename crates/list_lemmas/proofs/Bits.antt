@@ -80,6 +80,7 @@ some_bit_set number bits =
       | inr set ↦ rw (ne_eqb _ _ set, lt-ltb 0 (number % 2 ^ bits) (omega arith)) refl
     ])
 
+-- a number lacks one of its lowest bits exactly if its rest by their power is below the greatest
 pub some_bit_clear : (number bits : ℕ) → not (eqb (bit_and number (2 ^ bits - 1)) (2 ^ bits - 1))
     ≡ ltb (number % 2 ^ bits) (2 ^ bits - 1)
 some_bit_clear number bits =

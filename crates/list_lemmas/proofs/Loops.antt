@@ -196,6 +196,7 @@ at_place F e1 e2 e3 e4 = e1 ∙ e2 ∙ (λ i. F (e3 i + e4 i))
 abbrev pub below : ℕ → List ℕ → ℕ
 below most numbers = count_by (λ number. nat_lt number most) numbers
 
+-- one more number at the front adds one exactly if it is below
 pub below-cons : (most number : ℕ) (numbers : List ℕ) → below most (number ∷ numbers)
     ≡ cond (nat_lt number most) 1 0 + below most numbers
 below-cons most number numbers = sum_by-cons (λ (n : ℕ). cond (nat_lt n most) 1 0) number numbers

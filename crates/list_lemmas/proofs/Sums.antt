@@ -37,6 +37,7 @@ module _ (p : ℕ → Bool) where
   abbrev pub bits_of : ℕ → ℕ
   bits_of n = sum_by (λ g. 2 ^ g) (filter p (range_with_len 0 n))
 
+  -- one more place adds its power of 2 if the place is marked
   bits_more : (n : ℕ) → bits_of (suc n) ≡ bits_of n + cond (p n) (2 ^ n) 0
   bits_more n =
       let more : bits_of (n + 1) ≡ bits_of n + cond (p n) (2 ^ n) 0 =

@@ -205,9 +205,11 @@ module _ (blank : ℕ → Bool) where
   abbrev pub past_blanks : List ℕ → List ℕ
   past_blanks text = drop (length (take_while blank text)) text
 
+  -- the bytes of a text before its first blank
   abbrev pub front_word : List ℕ → List ℕ
   front_word text = take_while (λ c. not (blank c)) text
 
+  -- what is left of a text from its first blank on
   abbrev pub past_word : List ℕ → List ℕ
   past_word text = drop (length (front_word text)) text
 
@@ -259,6 +261,7 @@ module _ (blank : ℕ → Bool) where
       rw other (omega arith) in
       ap (λ n. take n (c ∷ cs)) longer
 
+  -- each text is taken apart at its blanks
   cut : (text : List ℕ) → Cut text
   cut [] = record { parts = []; whole = refl; words = refl }
   cut (c ∷ cs) =
@@ -309,10 +312,12 @@ module _ (blank : ℕ → Bool) where
   abbrev pub LacksBlanks : List ℕ → Type 0
   LacksBlanks text = list_all (λ c. not (blank c)) text ≡ true
 
+  -- what follows a word so that it ends there: nothing, or a blank
   abbrev pub EndsRun : List ℕ → Type 0
   EndsRun [] = Unit {0}
   EndsRun (c ∷ cs) = blank c ≡ true
 
+  -- what ends a word begins with no byte of one
   no_word : (rest : List ℕ) → EndsRun rest → prefix_len (λ c. not (blank c)) rest ≡ 0
   no_word [] ends = refl
   no_word (c ∷ rest) ends = rw ends refl

@@ -53,12 +53,14 @@ edge_closing (suc left) low high byte = refl
 abbrev low_of : Edge → ℕ → ℕ → ℕ
 low_of edge low count = if has_low edge then low % count else 0
 
+-- the upper end that an edge leaves of numbers from low to high
 abbrev high_of : Edge → ℕ → ℕ → ℕ
 high_of edge high count = if has_high edge then high % count else count - 1
 
 -- the bytes of the ends, with the byte at the place and `left` more bytes to be read
 module _ (low high left : ℕ) (edge : Edge) (lawful : left < 8)
     (filled : low_of edge low (256 ^ suc left) ≤ high_of edge high (256 ^ suc left)) where
+  -- the bytes between the ends are those of the leading parts, each with what it keeps of its end
   between_ends : between (if has_low edge then low else 0) (if has_high edge then high else 2 ^ 64 - 1) (256 ^ left)
       ≡ Between (low_of edge low (256 ^ suc left) / 256 ^ left) (high_of edge high (256 ^ suc left) / 256 ^ left)
       (ltb 0 (low_of edge low (256 ^ suc left) % 256 ^ left))

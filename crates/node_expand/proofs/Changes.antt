@@ -71,6 +71,7 @@ module _ (answer : ℕ → Option Edge) where
   unfolding is_change
   is_change_after byte later = rw (lt-ltb 0 byte later) refl
 
+  -- a byte from 1 on is no change exactly if its answer is that of the byte before it
   changes : (byte : ℕ) → 0 < byte → (is_change answer byte ≡ false ↔ answer byte ≡ answer (byte - 1))
   changes byte later = rw (is_change_after byte later) (
     λ no. one_answer _ _ (not-false _ no),
@@ -87,12 +88,14 @@ module _ (answer : ℕ → Option Edge) where
       (changes (first + suc more) (omega arith)).0 (same (first + suc more) (omega arith) (omega arith))
       ∙ ap answer before ∙ unchanged_from first more (λ byte above below. same byte above (omega arith))
 
+  -- without a change the answer at the last byte is that at the first
   unchanged : (first last : ℕ) → first ≤ last
       → ((byte : ℕ) → first < byte → byte ≤ last → is_change answer byte ≡ false) → answer last ≡ answer first
   unchanged first last ordered same =
       let e : first + (last - first) ≡ last = omega arith in
       sym (ap answer e) ∙ unchanged_from first (last - first) (λ byte above below. same byte above (omega arith))
 
+  -- bytes without a change before the next one have one answer
   pub alike_until : (first last : ℕ) → first ≤ last
       → ((byte : ℕ) → first < byte → byte ≤ last → is_change answer byte ≡ false)
       → (last < 255 → is_change answer (last + 1) ≡ true) → AnswersAlike answer first last
@@ -116,10 +119,12 @@ module _ (answer : ℕ → Option Edge) where
             ∙ sym (none (byte - 1) (omega arith) (omega arith) (omega arith)))
       ]
 
+-- a byte from 1 on is no cut exactly if its answer is that of the byte before it
 pub cuts_are_changes : CutsAreChanges
 unfolding is_cut
 cuts_are_changes value size place edge = changes (edge_step value size place edge)
 
+-- bytes with no cut between them have one answer
 pub uncut_alike : UncutBytesAnswerAlike
 unfolding is_cut
 uncut_alike value size place edge first last ordered uncut =
@@ -128,6 +133,7 @@ uncut_alike value size place edge first last ordered uncut =
 -- what answers each byte the same has the same ends
 module _ (answer other : ℕ → Option Edge) (first last : ℕ) (same : (byte : ℕ) → byte < 256 → answer byte ≡ other byte)
     (below : last < 256) where
+  -- the ends of the one's answers are the ends of the other's
   pub ends_alike : AreEnds answer first last → AreEnds other first last
   ends_alike ends = record {
     first_answers = rw (← same first (omega (arith, ends.ordered))) ends.first_answers;
@@ -136,6 +142,7 @@ module _ (answer other : ℕ → Option Edge) (first last : ℕ) (same : (byte :
     none_outside = λ byte within some. ends.none_outside byte within (rw (same byte within) some);
   }
 
+  -- there is an answer at each byte of the other between two ends if there is of the one
   pub within_alike : AnswersWithin answer first last → AnswersWithin other first last
   within_alike within byte above at_most = rw (← same byte (omega arith)) (within byte above at_most)
 
@@ -153,11 +160,13 @@ module _ (answer other : ℕ → Option Edge) (first last : ℕ) (same : (byte :
 
 -- what the bytes between two ends answer
 module _ (low high : ℕ) (low_inner high_inner : Bool) where
+  -- there is no answer outside of the two ends
   answer_outside : (byte : ℕ) → (leb low byte && leb byte high) ≡ false →
       answer_of (Between low high low_inner high_inner) byte ≡ None
   unfolding answer_of
   answer_outside byte fails = cond-false _ _ _ fails
 
+  -- between them the answer is the edge with what each end keeps
   answer_within : (byte : ℕ) → low ≤ byte → byte ≤ high →
       answer_of (Between low high low_inner high_inner) byte
       ≡ Some (edge_with (eqb byte low && low_inner) (eqb byte high && high_inner))

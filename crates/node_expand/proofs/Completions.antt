@@ -27,6 +27,7 @@ one_rest Live Live same = refl
 one_rest (Interval low high) Live same = absurd cc
 one_rest Live (Interval low high) same = absurd cc
 
+-- two rests are one exactly if the comparison says so
 pub rests_compared : RestsAreCompared
 rests_compared one other = (one_rest one other, λ same. rw same (same_rest-refl other))
 
@@ -35,6 +36,7 @@ some_closing : (left : ℕ) (r : Rest) → IsSome (closing left (Some r))
 some_closing zero r = refl
 some_closing (suc left) r = refl
 
+-- what is left of a rest as an interval was that interval before
 closing_interval : (left first last : ℕ) (found : Rest) → closing left (Some found) ≡ Some (Interval first last) →
     found ≡ Interval first last
 closing_interval zero first last found is = cc
@@ -135,5 +137,6 @@ begun (Range low high) size place prefix within = range_holds (Range low high) l
     (λ number. refl)
 begun (Bitmask value mask) size place prefix within = bitmask_holds value mask size place prefix within
 
+-- every rest is what completes its prefix to a number that matches
 pub rests_hold_completions : RestsHoldCompletions
 rests_hold_completions = record { begun = begun; whole = rest_whole }

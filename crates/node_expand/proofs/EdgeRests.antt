@@ -117,6 +117,7 @@ rest_says_edge value size place edge within stands =
     sym (ap (option_map (edge_of (256 ^ (size - place)))) is) ∙ stands.form in
     cc
 
+-- an edge and the rest that it stands for are each made of the other
 pub edges_say_rests : EdgesSayRests
 edges_say_rests = record { rest = edge_says_rest; form = rest_says_edge }
 
@@ -197,6 +198,7 @@ starts value size edge is = record {
 -- the step from an edge that is the form of a rest
 module _ (value : FieldValue) (size place prefix byte : ℕ) (edge : Edge) (begun : place < size) (below : byte < 256)
     (is : edge_after value size place prefix ≡ Some edge) where
+  -- one more byte takes the rest of the edge to the rest of the longer prefix
   step_rest : rest_step value size place (rest_of value size place edge) byte
       ≡ rest_after value size (place + 1) (prefix * 256 + byte)
   step_rest = sym (rest_steps value size place prefix byte begun below
@@ -254,6 +256,7 @@ module _ (value bits size : ℕ) where
   range : FieldValue
   range = Range (mask_low value bits size) (mask_high value bits size)
 
+  -- an edge goes on by a byte as that of the range does
   edge_step_as_range : (place byte : ℕ) (edge : Edge) →
       edge_step range size place edge byte ≡ edge_step (Mask value bits) size place edge byte
   unfolding edge_step rest_of range
@@ -282,6 +285,7 @@ module _ (value bits size : ℕ) where
       (λ wild. mask_wild.1 (λ x below. mask_as_range value bits size x ∙ range_wild.0 wild x below))
       (λ wild. range_wild.1 (λ x below. sym (mask_as_range value bits size x) ∙ mask_wild.0 wild x below))
 
+  -- all that is said of the mask is said of its range
   mask_as_its_range : IsAsItsRange (Mask value bits) size
   unfolding range is_cut mask_low mask_high
   mask_as_its_range = record {
@@ -314,6 +318,7 @@ itself value size same = record {
   cut = λ place byte edge. rw same refl;
 }
 
+-- a value of a field may be taken as its range
 pub as_its_range : ValuesAreTheirRanges
 as_its_range (Mask value bits) size = mask_as_its_range value bits size
 as_its_range (Range low high) size = itself (Range low high) size refl
@@ -374,6 +379,7 @@ wild_after (Bitmask value mask) size place prefix = λ can wild begun within.
       and_zero_r (value / 256 ^ left),
     ) refl)
 
+-- the edge of a wild value is free after any bytes
 pub wild_stays_free : WildValuesStayFree
 wild_stays_free = record {
   edge = wild_after;
@@ -397,6 +403,7 @@ free_step low high size place byte begun below =
     all_stays_free (size - place) 1 byte (omega arith) (omega arith) in
     rw (rest_of_open (Range low high) size place Free begun, left) all
 
+-- a mask or a range that leaves all numbers leaves all after one more byte
 pub free_stays_free : FreeEdgesStayFree
 free_stays_free = record {
   mask = λ value bits size place byte begun below.
@@ -432,6 +439,7 @@ module _ (value : FieldValue) (size place : ℕ) (edge : Edge)
   pub all_left_within : AnswersWithin (edge_step value size place edge) 0 255
   all_left_within byte above below = rw (all_left_step value size place byte edge all begun (omega arith)) refl
 
+  -- there are answers from the first byte to the last one
   pub all_left_ends : AreEnds (edge_step value size place edge) 0 255
   all_left_ends = record {
     first_answers = all_left_within 0 (omega arith) (omega arith);

@@ -37,6 +37,7 @@ with_record state given captured rest next =
     ∙ ap (λ n. with_more n rest) next in
     records_from-record state (given ++ rest) captured rest more
 
+-- without a later answer no byte is in the pieces that are left
 last_piece : (pieces : List (List ℕ)) (later : List Answer) (state : CaptureState) → later ≡ [] →
     AreAnswersTo state pieces later → concat pieces ≡ []
 last_piece [] later state none answers = refl

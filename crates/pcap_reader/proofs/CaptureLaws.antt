@@ -21,9 +21,11 @@ IsShorter left End = Unit {0}
 IsShorter left (Record captured after) = length after + record_header_len ≤ length left
 IsShorter left (Fault fault) = Unit {0}
 
+-- with no byte left the capture has ended
 next_of-none : (state : CaptureState) (left : List ℕ) → length left ≡ 0 → next_of state left ≡ End
 next_of-none state left none = rw (eq-eqb (length left) 0 none) refl
 
+-- what stands next takes a record's header away at least
 pub next_of-shorter : (state : CaptureState) (left : List ℕ) → IsShorter left (next_of state left)
 next_of-shorter state left =
     let at : (next : Next) → next_of state left ≡ next → IsShorter left next →
@@ -62,6 +64,7 @@ linked : (link : Link) (test : Bool) (first second : Next) → HasLink link firs
 linked link true first second a b = a
 linked link false first second a b = b
 
+-- a record that stands next has the link type of the reader
 pub next_of-link : (state : CaptureState) (left : List ℕ) → HasLink state.start.link (next_of state left)
 next_of-link state left =
     let number = state.count + 1 in
@@ -148,6 +151,7 @@ IsNotEnd End = ⊥
 IsNotEnd (Record captured after) = Unit {0}
 IsNotEnd (Fault fault) = Unit {0}
 
+-- with a byte left the capture hasn't ended
 next_of-some : (state : CaptureState) (left : List ℕ) → 0 < length left → IsNotEnd (next_of state left)
 next_of-some state left some =
     let at : (next : Next) → next_of state left ≡ next → IsNotEnd next → IsNotEnd (next_of state left) =

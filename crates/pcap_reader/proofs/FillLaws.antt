@@ -24,6 +24,7 @@ take-put_mid len size count xs part within read =
     (take-append-add (take len xs) (part ++ rest) count) ∙
     ap (λ ys. take len xs ++ ys) (take-append-le count part rest read)
 
+-- a part put in the middle of a slice leaves it as long as it was
 pub length-put_mid : (len size : ℕ) (xs part : List ℕ) → len + size ≤ length xs → length part ≡ size →
     length (put_mid len size xs part) ≡ length xs
 length-put_mid len size xs part within fits =

@@ -16,11 +16,13 @@ pub record IsOpen (state : CaptureState) (left : List ℕ) : Type 0 where
   pub some : 0 < length left
   pub few : state.count < max_records
 
+-- a byte after as many records as there may be is a fault
 pub next_of-too_many : (state : CaptureState) (left : List ℕ) → 0 < length left → max_records ≤ state.count →
     next_of state left ≡ Fault TooManyRecords
 next_of-too_many state left some many =
     rw (ne_eqb (length left) 0 (λ e. omega (arith, e)), lt-ltb max_records (state.count + 1) (omega arith)) refl
 
+-- a record is cut if fewer bytes are left than its header has
 pub next_of-cut : (state : CaptureState) (left : List ℕ) → IsOpen state left → length left < record_header_len →
     next_of state left ≡ Fault (RecordCut (state.count + 1))
 next_of-cut state left is_open cut =
@@ -30,6 +32,7 @@ next_of-cut state left is_open cut =
       lt-ltb (length left) record_header_len cut,
     ) refl
 
+-- a record is too long if its header says more captured bytes than there may be
 pub next_of-too_long : (state : CaptureState) (left : List ℕ) → IsOpen state left →
     record_header_len ≤ length left →
     max_captured < captured_in state left → next_of state left ≡ Fault (RecordTooLong (state.count + 1))
@@ -41,6 +44,7 @@ next_of-too_long state left is_open header long =
       lt-ltb max_captured (captured_in state left) long,
     ) refl
 
+-- a record is cut if fewer bytes are left after its header than that says
 pub next_of-short : (state : CaptureState) (left : List ℕ) → IsOpen state left → record_header_len ≤ length left →
     captured_in state left ≤ max_captured → length left < record_header_len + captured_in state left →
     next_of state left ≡ Fault (RecordCut (state.count + 1))
@@ -53,6 +57,7 @@ next_of-short state left is_open header lawful short =
       lt-ltb (length left) (record_header_len + captured_in state left) short,
     ) refl
 
+-- a header and as many bytes as it says are a record
 pub next_of-record : (state : CaptureState) (left : List ℕ) → IsOpen state left → record_header_len ≤ length left →
     captured_in state left ≤ max_captured → record_header_len + captured_in state left ≤ length left →
     next_of state left ≡ Record (record_of state (take (captured_in state left) (drop record_header_len left)))

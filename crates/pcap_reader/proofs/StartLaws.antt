@@ -28,23 +28,27 @@ IsJudged (Err Version) = Unit {0}
 IsJudged (Err LinkType) = Unit {0}
 IsJudged (Err fault) = ⊥
 
+-- a link type is known, or has its fault
 link_judged : (order : Order) (link : Option Link) →
     IsJudged (or_fault LinkType link >>= λ l. Ok (record { order = order; link = l }))
 link_judged order None = tt
 link_judged order (Some l) = tt
 
+-- a version and a link type are known, or the first that isn't has its fault
 version_judged : (order : Order) (numbers : Option FileHeader) →
     IsJudged (or_fault Version numbers >>= λ n. or_fault LinkType (link_of n.network) >>= λ l.
     Ok (record { order = order; link = l }))
 version_judged order None = tt
 version_judged order (Some n) = link_judged order (link_of n.network)
 
+-- and so are a byte order and these two
 order_judged : (header : List ℕ) (order : Option Order) →
     IsJudged (or_fault Magic order >>= λ o. or_fault Version (of_version (file_header_of o header))
     >>= λ n. or_fault LinkType (link_of n.network) >>= λ l. Ok (record { order = o; link = l }))
 order_judged header None = tt
 order_judged header (Some o) = version_judged o (of_version (file_header_of o header))
 
+-- a whole header has one of these faults, or none
 start_judged : (header : List ℕ) → IsJudged (start_in header)
 start_judged header = order_judged header (order_of header)
 
@@ -83,10 +87,12 @@ reads-judged header old new (Err Version) judged reads = reads
 reads-judged header old new (Err LinkType) judged reads = reads
 reads-judged header old new (Err fault) judged reads = absurd judged
 
+-- what is judged is no read fault
 no_read_fault : (result : Result Start CaptureFault) (before now : ℕ) → IsJudged result → result ≡ Err ReadFault →
     Rose before now
 no_read_fault result before now judged is = absurd (rw is at judged)
 
+-- what is judged isn't a header that the end of the file cuts
 not_cut : (new : DeskView) (result : Result Start CaptureFault) → IsJudged result → is_cut_start result ≡ true →
     IsAtEnd new
 not_cut new (Ok start) judged cut = absurd (false≢true cut)
@@ -95,6 +101,7 @@ not_cut new (Err Version) judged cut = absurd (false≢true cut)
 not_cut new (Err LinkType) judged cut = absurd (false≢true cut)
 not_cut new (Err fault) judged cut = absurd judged
 
+-- first bytes and a part after them leave the rest of the same bytes
 more_after : (first part was now : List ℕ) → was ≡ part ++ now → first ++ was ≡ (first ++ part) ++ now
 more_after first part was now is = ap (λ (l : List ℕ). first ++ l) is ∙ sym (append_assoc first part now)
 
@@ -127,6 +134,7 @@ ReadsStart-whole first before part count old new all room whole filled =
     (reads-full (length before) count (take count part) old new (omega (arith, room)) filled.reads))
     filled.keeps
 
+-- a header is cut if there are fewer bytes than it has
 start_of-short : (bytes : List ℕ) → length bytes < file_header_len → start_of bytes ≡ Err HeaderCut
 start_of-short bytes short = rw (lt-leb file_header_len (length bytes) short) refl
 

@@ -136,6 +136,7 @@ none_passes test rules places =
       λ fails. rw (filter-none p places (λ y h. fails y (contained places y h))) refl,
     )
 
+-- the best of some places wins over all others that pass, and there is none if none passes
 pub best_wins : TheBestWinsOverAllOthers
 best_wins = record {
   best = λ test rules places place increases.
@@ -147,12 +148,14 @@ best_wins = record {
   none = none_passes;
 }
 
+-- what is found passes two tests together exactly if it passes each
 passes_both : (first second : RuleView → Bool) (found : Option RuleView) →
     option_map_or (λ rule. first rule && second rule) found false
     ≡ (option_map_or first found false && option_map_or second found false)
 passes_both first second None = refl
 passes_both first second (Some rule) = refl
 
+-- the best of those that pass two tests is the best by the second of those that pass the first
 pub tests_in_turn : TestsMayBeMadeInTurn
 unfolding best_among
 tests_in_turn first second rules places =
@@ -165,11 +168,13 @@ tests_in_turn first second rules places =
 abbrev LiesAt : List RuleView → ℕ → List RuleView → Type 0
 LiesAt rules n xs = (k : ℕ) → k < length xs → slice_get rules (n + k) ≡ slice_get xs k
 
+-- the rules after the first of a part lie one place later
 lies_after : (rules : List RuleView) (n : ℕ) (x : RuleView) (xs : List RuleView) → LiesAt rules n (x ∷ xs) →
     LiesAt rules (n + 1) xs
 lies_after rules n x xs lies k h = (let next : n + 1 + k ≡ n + suc k = omega arith in ap (slice_get rules) next)
     ∙ lies (suc k) (omega arith)
 
+-- the first rule of a part stands at the part's place
 lies_here : (rules : List RuleView) (n : ℕ) (x : RuleView) (xs : List RuleView) → LiesAt rules n (x ∷ xs) →
     slice_get rules n ≡ Some x
 lies_here rules n x xs lies = (let here : n ≡ n + 0 = omega arith in ap (slice_get rules) here) ∙ lies 0 (omega arith)
@@ -178,6 +183,7 @@ lies_here rules n x xs lies = (let here : n ≡ n + 0 = omega arith in ap (slice
 abbrev SaysSame : List RuleView → (RuleView → Bool) → (ℕ → Bool) → Type 0
 SaysSame rules test at = (place : ℕ) (rule : RuleView) → slice_get rules place ≡ Some rule → at place ≡ test rule
 
+-- whether the rule at a place passes is what the test says of it
 passes_says : (test : RuleView → Bool) (rules : List RuleView) → SaysSame rules test (passes_at test rules)
 passes_says test rules place rule is = ap (λ found. option_map_or test found false) is
 
@@ -216,6 +222,7 @@ first_at test holds at rules n (x ∷ xs) lies same =
       | inr e ↦ rw e rest
     ])
 
+-- the winner of a rule set is the winner among all its places
 pub winner_is_among_all : TheWinnerIsAmongAllPlaces
 unfolding best_among
 winner_is_among_all layout rules key category =

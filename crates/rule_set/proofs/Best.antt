@@ -44,6 +44,7 @@ filter-append_no : (test : RuleView → Bool) (rules : List RuleView) (rule : Ru
 filter-append_no test rules rule fails = filter-append test rules (rule ∷ [])
     ∙ rw fails (append-nil (filter test rules))
 
+-- a rule that passes, at the end of a list, is the last of those that pass
 filter-append_yes : (test : RuleView → Bool) (rules : List RuleView) (rule : RuleView) → test rule ≡ true →
     filter test (rules ++ rule ∷ []) ≡ filter test rules ++ rule ∷ []
 filter-append_yes test rules rule holds = filter-append test rules (rule ∷ []) ∙ rw holds refl

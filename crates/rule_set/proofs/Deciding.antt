@@ -50,6 +50,7 @@ place_of_numbered (first ∷ groups) group (suc k) place within is has =
     (Contains-append_right first (places_in groups) place
     (place_of_numbered groups group k place (omega arith) is has))
 
+-- a place of a group is one of the places of all groups
 pub place_of_group : (groups : List (List ℕ)) (group : List ℕ) (place : ℕ) → Contains groups group →
     Contains group place → Contains (places_in groups) place
 place_of_group groups group place at has = place_of_numbered groups group at.0 place at.1 at.2 has
@@ -83,6 +84,7 @@ place_of_set n groups group place parts at has =
     Contains-permutation (places_in groups) (range_with_len 0 n) place parts.once
     (place_of_group groups group place at has)
 
+-- each place of a set lies in one of the groups of its partition
 group_in_set : (n : ℕ) (groups : List (List ℕ)) (place : ℕ) → IsPartition n groups →
     Contains (range_with_len 0 n) place → (group : List ℕ) × Contains groups group × Contains group place
 group_in_set n groups place parts among =
@@ -180,6 +182,7 @@ same_rank test rules place (Some other) passes is same = elim (cases_eq place ot
       (passes_there test rules other whole.passes) apart same)
 ]
 
+-- the winner of all rules is the winner of a group that has the greatest rank
 pub groups_decide : TheGroupsWinnersDecide
 groups_decide = record {
   rank = λ layout rules groups key category parts.

@@ -51,6 +51,7 @@ keys_compare : (a b p q : ℕ) → p < max_rules → q < max_rules →
     ≡ (le_z (pos b) (pos a) && (not (le_z (pos a) (pos b)) || nat_lt p q))
 keys_compare a b p q p_below q_below = grind (arith, nat_tests)
 
+-- one rule's number is below another's exactly if the rule comes below the other
 key_below : (rules : List RuleView) (place other : ℕ) → length rules ≤ max_rules → All HasLawfulPriority rules →
     place < length rules → other < length rules →
     nat_lt (order_key (priority_at rules other) other) (order_key (priority_at rules place) place)
@@ -89,6 +90,7 @@ length-keys_of rules =
     length-map (range_with_len 0 (length rules)) (λ p. order_key (priority_at rules p) p)
     ∙ length-range_with_len 0 (length rules)
 
+-- the number of a priority and a place tells the place
 place_of_key : (priority place : ℕ) → place < max_rules →
     place_of (priority * max_rules + (max_rules - 1 - place)) ≡ place
 place_of_key priority place within = omega arith

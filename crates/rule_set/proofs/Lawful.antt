@@ -70,6 +70,7 @@ tag_lawful layout tag values none_there =
 abbrev IsPassed : (FieldDef → FieldValue → Bool) → Type 0
 IsPassed test = (def : FieldDef) (value : FieldValue) → IsLawfulValue def value → test def value ≡ true
 
+-- a test that lawful values pass fails at no place of a lawful rule
 all_pass : (test : FieldDef → FieldValue → Bool) → IsPassed test → (layout : List FieldDef) (values : List FieldValue) →
     AllZip IsLawfulValue layout values →
     prefix_len (λ pair. not (not (test pair.0 pair.1))) (zip layout values) ≡ length (zip layout values)
@@ -106,6 +107,7 @@ no_fault layout tag values lawful =
     let not_above : le_z tag.priority (pos max_priority) ≡ true = lawful.tag.not_above in
     rw (counted, kinds_fit, category, not_below, not_above, narrow, short, filled) refl
 
+-- a rule has no fault exactly if it is lawful
 pub faultless_rules : FaultlessRulesAreLawful
 faultless_rules layout tag values lawful = (
   λ none. record { tag = tag_lawful layout tag values none; values = values_lawful layout tag values lawful none },

@@ -30,6 +30,7 @@ pub record RankedSoFar (keys sorted ranks : List ℕ) (count : ℕ) : Type 0 whe
 abbrev share_place : ℕ → ℕ → Bool
 share_place one other = eqb (place_of one) (place_of other)
 
+-- it doesn't matter which of two keys is named first
 share_place_turned : (one other : ℕ) → share_place one other ≡ share_place other one
 share_place_turned one other = turned (place_of one) (place_of other)
   where

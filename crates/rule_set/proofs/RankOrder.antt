@@ -37,9 +37,11 @@ below_cases a b p q h =
       ],
     )
 
+-- nothing comes below itself
 below_itself : (a : ℤ) (p : ℕ) → below a a p p ≡ false
 below_itself a p = rw (le_z_refl a, le-ltb p p (omega arith)) refl
 
+-- what comes below what comes below a rule comes below that rule too
 below_trans : (a b c : ℤ) (p q r : ℕ) → below a b p q ≡ true → below b c q r ≡ true → below a c p r ≡ true
 below_trans a b c p q r h k =
     let one = below_cases a b p q h in
@@ -59,6 +61,7 @@ below_trans a b c p q r h k =
           below_later a c p r level down (omega arith)
     ]
 
+-- of two places one comes below the other
 below_total : (a b : ℤ) (p q : ℕ) → p ≢ q → (below a b p q ≡ true) ⊎ (below b a q p ≡ true)
 below_total a b p q apart = elim (cases_Bool (le_z a b)) [
   | inr less ↦ inl (below_less a b p q less)
@@ -88,6 +91,7 @@ lower_rank rules place other there comes =
           (below_itself b other) comes,
     )
 
+-- ranks go from 1 to the number of rules
 rank_bounds : (rules : List RuleView) (place : ℕ) → place < length rules →
     (1 ≤ rank_of rules place) × (rank_of rules place ≤ length rules)
 rank_bounds rules place here =
@@ -96,6 +100,7 @@ rank_bounds rules place here =
     (in_range 0 (length rules) place (omega arith) (omega arith)) (below_itself (priority_at rules place) place) refl in
     (omega arith, omega (arith, fewer, count_all all, length-range_with_len 0 (length rules)))
 
+-- a rank is lower than another exactly if its rule comes below the other rule
 rank_order : (rules : List RuleView) (place other : ℕ) → place < length rules → other < length rules →
     (rank_of rules other < rank_of rules place ↔ comes_below rules place other ≡ true)
 rank_order rules place other here there = (
@@ -109,6 +114,7 @@ rank_order rules place other here there = (
   lower_rank rules place other there,
 )
 
+-- two places have two ranks
 rank_distinct : (rules : List RuleView) (place other : ℕ) → place < length rules → other < length rules →
     place ≢ other → rank_of rules place ≢ rank_of rules other
 rank_distinct rules place other here there apart same =
@@ -117,6 +123,7 @@ rank_distinct rules place other here there apart same =
       | inr comes ↦ omega (arith, lower_rank rules other place here comes)
     ]
 
+-- the ranks order the rules of a set as they win
 pub ranks_order : RanksOrderRules
 ranks_order = record { bounds = rank_bounds; order = rank_order; distinct = rank_distinct }
 
@@ -130,6 +137,7 @@ wins_is_below rules place other (inr level) =
     below_later (priority_at rules place) (priority_at rules other) place other
     (rw same (le_z_refl (priority_at rules other))) (rw same (le_z_refl (priority_at rules other))) level.1
 
+-- a rule wins over what comes below it
 below_is_won : (rules : List RuleView) (place other : ℕ) → comes_below rules place other ≡ true →
     WinsOver rules place other
 below_is_won rules place other comes =
@@ -144,6 +152,7 @@ below_is_won rules place other comes =
       ]
     ]
 
+-- the best of some places is the one of greatest rank among those that pass
 pub best_has_greatest_rank : TheBestHasTheGreatestRank
 best_has_greatest_rank test rules places place increases =
     let best = best_wins.best test rules places place increases in (

@@ -48,6 +48,7 @@ around groups place within =
     ∙ ap (λ rest. take place groups ++ rest)
     (drop-cons groups place [] within ∙ ap (λ k. get_or groups place [] ∷ drop k groups) next)
 
+-- the places of all groups are those before a group, its own, and those after it
 places_around : (groups : List (List ℕ)) (place : ℕ) → place < length groups →
     places_in groups
     ≡ places_in (take place groups) ++ (get_or groups place [] ++ places_in (drop (place + 1) groups))
@@ -131,6 +132,7 @@ turn_is_by words set budget n groups None found parts = record { partition = par
 turn_is_by words set budget n groups (Some place) found parts =
     let at = found_is words budget groups place found in split_is set n groups place at.0 at.1 parts
 
+-- a turn leaves the groups a partition, with at most one more
 turn_is : (words : List ℕ → ℕ) (set : RuleSetView) (budget n : ℕ) (groups : List (List ℕ)) →
     IsPartition n groups → IsAfter n groups (turn words set budget groups)
 unfolding turn
@@ -203,6 +205,7 @@ groups_are set groups parts =
           (All-contains_itself group);
     }) groups (All-contains_itself groups)
 
+-- the groups of the split are a partition, and at most eight
 pub split_once : (set : RuleSetView) (budget : ℕ) →
     IsPartition (length set.rules) (groups_of set budget) × (length (groups_of set budget) ≤ max_tries)
 unfolding groups_of groups_by
@@ -211,6 +214,7 @@ split_once set budget =
     let after = turns_are (words_of_group set) set budget (length set.rules) 7 (first_groups set) first.0 in
     (after.0, omega (arith, after.1, first.1))
 
+-- the groups together hold each rule once, are groups of the set, and are at most eight
 pub groups_hold : GroupsHoldEachRuleOnce
 groups_hold = record {
   once = λ set budget. (split_once set budget).0;

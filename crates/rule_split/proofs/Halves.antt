@@ -31,6 +31,7 @@ rises-take n xs within rises k below =
     let long = length-take n xs in
     rw (get_or-take n xs k 0 (omega arith), get_or-take n xs (k + 1) 0 (omega arith)) (rises k (omega arith))
 
+-- what is left of a list that rises after its first few rises
 rises-drop : (n : ℕ) (xs : List ℕ) → n ≤ length xs → IsStrictlyIncreasing xs → IsStrictlyIncreasing (drop n xs)
 rises-drop n xs within rises k below =
     let long = length-drop n xs in
@@ -48,6 +49,7 @@ halves_are group rises two = record {
   once = rw (take-append-drop (half_of group) group) (IsPermutation-refl group);
 }
 
+-- what is denied twice is as it was
 not_not : (a : Bool) → a ≡ not (not a)
 not_not true = refl
 not_not false = refl

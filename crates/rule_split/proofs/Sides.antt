@@ -17,6 +17,7 @@ one_more : {X : Type 0} (is : Bool) (xs : List X) (x : X) → xs ++ cond is (x �
 one_more true xs x = refl
 one_more false xs x = append-nil xs
 
+-- an element is added unless the test holds
 one_less : {X : Type 0} (is : Bool) (xs : List X) (x : X) →
     xs ++ cond (not is) (x ∷ []) [] ≡ cond is xs (xs ++ x ∷ [])
 one_less true xs x = append-nil xs

@@ -33,6 +33,7 @@ words_of_all set (group ∷ groups) =
       words_of_all set groups,
     )
 
+-- a total within the budget is the sum of the words of all groups and of one row
 pub total_of_words : TheTotalIsOfAllWords
 unfolding total_of plan_of
 total_of_words set budget within =

@@ -40,6 +40,7 @@ module _ (table : TableView) (count : ℕ) (keys : List ℕ) where
       ap (λ (vs : List ℕ). length vs) (verdicts-more k)
       ∙ length-append (first_verdicts table count keys k) (key_verdicts table count (key_at table keys k)) ∙ len)
 
+-- one more key adds its transitions to those of the first keys
 pub transitions-more : (table : TableView) (keys : List ℕ) (k : ℕ) →
     first_transitions table keys (k + 1) ≡ first_transitions table keys k + key_transitions table (key_at table keys k)
 transitions-more table keys k =
@@ -114,6 +115,7 @@ pub record Classified (table : TableView) (keys : List ℕ) (count k : ℕ) (old
   pub most : taken ≤ k * (max_tries * max_key_len)
   pub counted : steps ≡ begun + taken
 
+-- keys that are classified up to a number are so up to an equal one
 pub classified_up_to : {table : TableView} {keys old out : List ℕ} {count k n taken begun steps : ℕ} → k ≡ n →
     Classified table keys count k old out taken begun steps → Classified table keys count n old out taken begun steps
 classified_up_to {table = table} {keys = keys} {old = old} {out = out} {count = count} {taken = taken} {begun = begun}
@@ -160,6 +162,7 @@ room_of_part out k m n count room within =
 pub next_block : (block n : ℕ) → block < n / 16 → block * 16 + 16 ≤ n
 next_block block n below = omega (arith, below)
 
+-- the number after a lower one is at most the number
 pub next_key : (k n : ℕ) → k < n → k + 1 ≤ n
 next_key k n below = omega (arith, below)
 

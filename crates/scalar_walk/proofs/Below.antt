@@ -10,20 +10,24 @@ use borrow.Rule.Slice.PartMut.{put_mid}
 use Rattle.list_lemmas.proofs.Positions.{range-push, WrittenTo, piece_written}
 use Rattle.scalar_walk.specs.Lanes.{sum_below, pieces_below}
 
+-- the sum below 0 is 0
 pub sum_none : (f : ℕ → ℕ) → sum_below f 0 ≡ 0
 unfolding sum_below
 sum_none f = refl
 
+-- one more number adds what the function gives for it
 pub sum_more : (f : ℕ → ℕ) (n : ℕ) → sum_below f (n + 1) ≡ sum_below f n + f n
 unfolding sum_below
 sum_more f n = ap (λ (k : ℕ). sum_below f k) (add-one n)
 
+-- two functions that agree below a number have one sum there
 pub sum_agree : (f g : ℕ → ℕ) (n : ℕ) → ((i : ℕ) → i < n → f i ≡ g i) → sum_below f n ≡ sum_below g n
 unfolding sum_below
 sum_agree f g zero same = refl
 sum_agree f g (suc n) same =
     omega (arith, sum_agree f g n (λ i h. same i (omega (arith, h))), same n (omega arith))
 
+-- a sum is that of the first numbers and that of those after them
 sum_split : (f : ℕ → ℕ) (m n : ℕ) → sum_below f (m + n) ≡ sum_below f m + sum_below (λ i. f (m + i)) n
 unfolding sum_below
 sum_split f m zero = let none : m + 0 ≡ m = omega arith in omega (arith, ap (λ (k : ℕ). sum_below f k) none)
@@ -31,6 +35,7 @@ sum_split f m (suc n) =
     let next : m + suc n ≡ suc (m + n) = omega arith in
     omega (arith, ap (λ (k : ℕ). sum_below f k) next, sum_split f m n)
 
+-- a function that gives 0 for each number has the sum 0
 pub sum_zero : (f : ℕ → ℕ) (n : ℕ) → ((i : ℕ) → f i ≡ 0) → sum_below f n ≡ 0
 unfolding sum_below
 sum_zero f zero none = refl
@@ -62,16 +67,19 @@ four_fours f = omega (arith, sum_split f 12 4, sum_split f 8 4, sum_split f 4 4,
 
 -- ---- pieces that are written one after the other
 
+-- one more number adds its piece at the end
 pieces_more : (f : ℕ → List ℕ) (n : ℕ) → pieces_below f (n + 1) ≡ pieces_below f n ++ f n
 unfolding pieces_below
 pieces_more f n =
     ap (flat_map f) (range-push 0 n) ∙ flat_map-append f (range_with_len 0 n) ((0 + n) ∷ [])
     ∙ ap (λ (xs : List ℕ). flat_map f (range_with_len 0 n) ++ xs) (append-nil (f (0 + n)) ∙ ap f (omega arith))
 
+-- the pieces below a number are those of the range, one after the other
 pub pieces_are : (f : ℕ → List ℕ) (n : ℕ) → pieces_below f n ≡ flat_map f (range_with_len 0 n)
 unfolding pieces_below
 pieces_are f n = refl
 
+-- two functions that agree below a number have the same pieces there
 pub pieces_agree : (f g : ℕ → List ℕ) (n : ℕ) → ((k : ℕ) → k < n → f k ≡ g k) → pieces_below f n ≡ pieces_below g n
 unfolding pieces_below
 pieces_agree f g zero same = refl
@@ -84,6 +92,7 @@ pieces_agree f g (suc n) same =
 pub record PiecesTo (f : ℕ → List ℕ) (count n : ℕ) (old out : List ℕ) : Type 0 where
   pub written : WrittenTo old (n * count) (pieces_below f n) out
 
+-- before the first piece is written all is as it was
 pub pieces_none : (f : ℕ → List ℕ) (count : ℕ) (old : List ℕ) → PiecesTo f count 0 old old
 unfolding pieces_below
 pieces_none f count old = record {

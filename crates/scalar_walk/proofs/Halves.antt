@@ -39,9 +39,11 @@ abbrev below : ℕ → ℕ → ℕ
 below high byte = cond (nat_lt (high % 256) byte) 1 0 + cond (nat_lt (high / 256 % 256) byte) 1 0
     + cond (nat_lt (high / 65536 % 256) byte) 1 0 + cond (nat_lt (high / 16777216 % 256) byte) 1 0
 
+-- how far a byte is above a boundary, and at most 1, says whether it is above
 at_most_one : (byte boundary : ℕ) → min (byte - boundary) 1 ≡ cond (nat_lt boundary byte) 1 0
 at_most_one byte boundary = grind (arith, nat_tests)
 
+-- what is at most a byte is a byte
 counts_small : (over most : ℕ) → min over (most % 256) < 256
 counts_small over most = grind (arith, nat_tests)
 

@@ -52,6 +52,7 @@ four_begin {way = way} {keys = keys} w k first in_keys root words taken = record
   few = λ i h. omega (arith, taken i h);
 }
 
+-- a test counts as at most 1
 at_most_one : (b : Bool) → (if b then 0 else 1) ≤ 1
 at_most_one true = omega arith
 at_most_one false = omega arith

@@ -52,6 +52,7 @@ module _ {n i : ℕ} (within : i < n) where
 
 -- ---- sums of four neighbours
 
+-- the sum at a place is that of the pair of elements there
 pair_at : (xs : List ℕ) (i : ℕ) → 2 * i + 1 < length xs →
     get_or (pair_sums xs) i 0 ≡ get_or xs (2 * i) 0 + get_or xs (2 * i + 1) 0
 pair_at [] i within = absurd (omega (arith, within))
@@ -63,6 +64,7 @@ pair_at (x ∷ y ∷ xs) (suc i) within =
     pair_at xs i (omega (arith, within))
     ∙ (λ j. get_or (x ∷ y ∷ xs) (sym first j) 0 + get_or (x ∷ y ∷ xs) (sym second j) 0)
 
+-- there are half as many sums as elements
 pair_sums_len : (n : ℕ) (xs : List ℕ) → length xs ≡ 2 * n → length (pair_sums xs) ≡ n
 pair_sums_len zero [] len = refl
 pair_sums_len zero (x ∷ xs) len = absurd (omega (arith, len))

@@ -41,6 +41,7 @@ abbrev pub first_tries_transitions : TableView → List ℕ → ℕ → ℕ
 first_tries_transitions table key n =
     fold (λ total trie. total + walk_transitions table trie key) 0 (range_with_len 0 n)
 
+-- one more trie adds the words that the walk through it takes
 pub first_tries_more : (table : TableView) (key : List ℕ) (n : ℕ) →
     first_tries_transitions table key (n + 1) ≡ first_tries_transitions table key n + walk_transitions table n key
 first_tries_more table key n =
@@ -53,6 +54,7 @@ one_joined : (table : TableView) (key : List ℕ) (category : ℕ) → length ta
     slice_index (get_or table.rows (walk_row table 0 key) []) category ≡ joined table key category
 one_joined table key category one = rw one (omega arith)
 
+-- the verdicts of a key are those of the row that the walk reaches if there is one trie
 pub one_verdicts : (table : TableView) (key : List ℕ) {row : ℕ} (count : ℕ) → length table.roots ≡ 1 →
     row ≡ walk_row table 0 key → row_verdicts table.rows count row ≡ key_verdicts table count key
 one_verdicts table key count one e =
@@ -60,6 +62,7 @@ one_verdicts table key count one e =
     ∙ map_agree _ _ (range_with_len 0 count)
     (λ category. ap (λ (word : ℕ). word % userdatas) (one_joined table key category one))
 
+-- a key takes the words of one walk if there is one trie
 pub one_transitions : (table : TableView) (key : List ℕ) → length table.roots ≡ 1 →
     key_transitions table key ≡ walk_transitions table 0 key
 one_transitions table key one = rw one (omega arith)

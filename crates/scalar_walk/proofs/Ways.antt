@@ -43,6 +43,7 @@ pub record Step (way : Way) (key : List ℕ) (n place byte word : ℕ) : Type 0 
   pub steps : transitions_after way.table way.trie key (n + 1)
       ≡ transitions_after way.table way.trie key n + (if is_match word then 0 else 1)
 
+-- a byte brings a walk from the word where it stands to the next one
 pub step : {way : Way} → IsWay way → (key : List ℕ) (n place byte word : ℕ) → n < length way.places →
     place ≡ slice_index way.places n → byte ≡ slice_index key place → byte < 2 ^ 8 →
     Stands way.table way.trie key n word → Step way key n place byte word

@@ -10,6 +10,7 @@ use Rattle.state_parts.specs.Target.{count, Grows, JoinsIn, HasEntry, Leads}
 use Rattle.state_parts.specs.Pieces.{number_at, Covers, PiecesLead, Pushed, Merges}
 use Rattle.state_parts.proofs.Leading.{count_grows, grows_on, leads_grow, PairLeads, pair_is_led}
 
+-- pieces don't end before they begin
 pub covers_rise : (first end : ℕ) (pieces : List Piece) → Covers first pieces end → first ≤ end
 covers_rise first end [] is = omega (arith, is)
 covers_rise first end (p ∷ ps) is = omega (arith, is.0, covers_rise (p.last + 1) end ps is.1)
@@ -18,9 +19,11 @@ covers_rise first end (p ∷ ps) is = omega (arith, is.0, covers_rise (p.last + 
 pub at_first : (p : Piece) (ps : List Piece) (byte : ℕ) → byte ≤ p.last → number_at (p ∷ ps) byte ≡ p.to
 at_first p ps byte within = ap (λ b. cond b p.to (number_at ps byte)) (le-leb byte p.last within)
 
+-- a byte after the first piece leads where the later pieces say
 pub at_later : (p : Piece) (ps : List Piece) (byte : ℕ) → p.last < byte → number_at (p ∷ ps) byte ≡ number_at ps byte
 at_later p ps byte after = ap (λ b. cond b p.to (number_at ps byte)) (lt-leb byte p.last after)
 
+-- one more piece covers the bytes up to its last one
 pub covers_push : (first end last to : ℕ) (pieces : List Piece) → Covers first pieces end → end ≤ last
     → Covers first (pieces ++ record { last = last; to = to } ∷ []) (last + 1)
 covers_push first end last to [] is after = (omega (arith, is, after), refl)
@@ -38,6 +41,7 @@ at_before first end byte (p ∷ ps) more is from below = elim (cases_lt p.last b
   | inr within ↦ at_first p (ps ++ more) byte within ∙ sym (at_first p ps byte within)
 ]
 
+-- a byte after some pieces leads where the pieces after them say
 pub at_after : (first end byte : ℕ) (pieces more : List Piece) → Covers first pieces end → end ≤ byte
     → number_at (pieces ++ more) byte ≡ number_at more byte
 at_after first end byte [] more is after = refl
@@ -45,6 +49,7 @@ at_after first end byte (p ∷ ps) more is after =
     at_later p (ps ++ more) byte (omega (arith, covers_rise (p.last + 1) end ps is.1, after))
     ∙ at_after (p.last + 1) end byte ps more is.1 after
 
+-- one more piece leads further bytes to its number
 pub pushed_after : (pieces : List Piece) (last to : ℕ)
     → Pushed pieces (pieces ++ record { last = last; to = to } ∷ []) last to
 pushed_after pieces last to = record {
@@ -63,6 +68,7 @@ covers_all_but first end [] p is = (first, refl, is.0, is.1)
 covers_all_but first end (q ∷ qs) p is =
     let rest = covers_all_but (q.last + 1) end qs p is.1 in (rest.0, (is.0, rest.1), rest.2, rest.3)
 
+-- a last piece with the number leads further bytes to it if it is made longer
 pub pushed_within : (pieces : List Piece) (p : Piece) (last to : ℕ) → p.to ≡ to
     → Pushed (pieces ++ p ∷ []) (pieces ++ record { last = last; to = to } ∷ []) last to
 pushed_within pieces p last to same = record {
@@ -95,9 +101,11 @@ pub record RestIs (pieces : List Piece) (place first : ℕ) : Type 0 where
   pub covers : Covers first (drop place pieces) 256
   pub same : (byte : ℕ) → first ≤ byte → number_at (drop place pieces) byte ≡ number_at pieces byte
 
+-- from the first place on the pieces are those of all bytes
 pub rest_all : (pieces : List Piece) → Covers 0 pieces 256 → RestIs pieces 0 0
 rest_all pieces is = record { covers = is; same = λ byte from. refl }
 
+-- a piece in the place of one that isn't there
 abbrev pub no_piece : Piece
 no_piece = record { last = 0; to = 0 }
 

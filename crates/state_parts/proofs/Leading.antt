@@ -19,6 +19,7 @@ use Rattle.state_parts.proofs.Standing.{IsPair, pair_sound, stands_grow, none_jo
 
 -- ---- numbers that come later
 
+-- what goes on from another has at least as many numbers
 pub count_grows : (old new : Target) → Grows old new → count old ≤ count new
 count_grows (Parts pairs) (Parts now) (more, is) = omega (arith, ap length is, length-append pairs more)
 count_grows (Parts pairs) (Rows rows) grows = absurd grows
@@ -26,10 +27,12 @@ count_grows (Rows rows) (Parts pairs) grows = absurd grows
 count_grows (Rows rows) (Rows now) (same, more) =
     omega (arith, ap length more.1, length-append rows.rows more.0)
 
+-- each target goes on from itself
 pub grows_none : (target : Target) → Grows target target
 grows_none (Parts pairs) = ([], sym (append-nil pairs))
 grows_none (Rows rows) = (refl, ([], sym (append-nil rows.rows)))
 
+-- what goes on from a target that goes on from another goes on from that one too
 pub grows_on : (old now new : Target) → Grows old now → Grows now new → Grows old new
 grows_on (Parts pairs) (Parts now) (Parts new) (more, is) (further, then) =
     (more ++ further, then ∙ ap (λ l. l ++ further) is ∙ append_assoc pairs more further)
@@ -40,6 +43,7 @@ grows_on (Parts pairs) (Rows now) new one two = absurd one
 grows_on (Rows rows) (Parts now) new one two = absurd one
 grows_on (Rows rows) (Rows now) (Parts new) one two = absurd two
 
+-- a number that stands for what is left of rules still does in what goes on
 pub still_stands : (old new : Target) (tree : Tree) (entries : ℕ → Option ℕ) (number : ℕ) → Grows old new
     → StandsIn old tree entries number → StandsIn new tree entries number
 still_stands (Parts pairs) (Parts now) tree entries number (more, is) stands =
@@ -51,6 +55,7 @@ still_stands (Rows rows) (Rows now) tree entries number (same, more) stands =
     (subst (λ rs. IsRow rs (best_row rows.ranked (filter_map entries (leaves tree))) number) (sym more.1)
     (row_grows rows.rows more.0 (best_row rows.ranked (filter_map entries (leaves tree))) number stands))
 
+-- a part that leads to a number still does in what goes on
 pub leads_grow : (step : ℕ → Option ℕ) (pairs : List (ℕ × ℕ)) (old new : Target) (part number : ℕ) → Grows old new
     → Leads step pairs old part number → Leads step pairs new part number
 leads_grow step pairs old new part number grows leads = record {
@@ -66,10 +71,12 @@ pub Nothing : Tree → (ℕ → Option ℕ) → Type 0
 Nothing (Leaf rule) entries = entries rule ≡ None
 Nothing (Node left right) entries = Nothing left entries × Nothing right entries
 
+-- a rule without an entry is a leaf of which nothing is left
 no_leaf : (rule : ℕ) (entries : ℕ → Option ℕ) → entries rule ≡ None → Nothing (Leaf rule) entries
 unfolding Nothing
 no_leaf rule entries is = is
 
+-- if number 0 stands for a tree, nothing is left of its rules
 nothing : (pairs : List (ℕ × ℕ)) (tree : Tree) (entries : ℕ → Option ℕ) → Stands pairs tree entries 0
     → Nothing tree entries
 unfolding Nothing
@@ -84,6 +91,7 @@ nothing pairs (Node left right) entries (one, other, a, b, joins) =
       nothing pairs right entries (subst (Stands pairs right entries) none.1 b),
     )
 
+-- if nothing is left of some rules, nothing is left after a step
 nothing_after : (step : ℕ → Option ℕ) (tree : Tree) (entries : ℕ → Option ℕ) → Nothing tree entries
     → Nothing tree (stepped step entries)
 unfolding Nothing
@@ -91,6 +99,7 @@ nothing_after step (Leaf rule) entries none = ap (option_and_then step) none
 nothing_after step (Node left right) entries none =
     (nothing_after step left entries none.0, nothing_after step right entries none.1)
 
+-- number 0 stands for a tree as a part if nothing is left of its rules
 no_part : (pairs : List (ℕ × ℕ)) (tree : Tree) (entries : ℕ → Option ℕ) → Nothing tree entries
     → Stands pairs tree entries 0
 unfolding Nothing
@@ -98,6 +107,7 @@ no_part pairs (Leaf rule) entries none = subst (λ found. IsLeaf pairs found 0) 
 no_part pairs (Node left right) entries none =
     (0, 0, no_part pairs left entries none.0, no_part pairs right entries none.1, inl (refl, refl))
 
+-- a tree of which nothing is left has no entries
 no_entries : (tree : Tree) (entries : ℕ → Option ℕ) → Nothing tree entries → filter_map entries (leaves tree) ≡ []
 unfolding Nothing
 no_entries (Leaf rule) entries none = ap (λ found. cons_option found []) none
@@ -105,6 +115,7 @@ no_entries (Node left right) entries none =
     filter_map-append entries (leaves left) (leaves right)
     ∙ (λ i. no_entries left entries none.0 i ++ no_entries right entries none.1 i)
 
+-- number 0 stands for a tree in any target if nothing is left of its rules
 none_stands : (target : Target) (tree : Tree) (entries : ℕ → Option ℕ) → Nothing tree entries
     → StandsIn target tree entries 0
 none_stands (Parts pairs) tree entries none = no_part pairs tree entries none
@@ -146,6 +157,7 @@ module _ (left right : Tree) (entries : ℕ → Option ℕ) where
 
 -- ---- an entry
 
+-- the number of a rule's entry stands for what is left of the rule
 entry_stands : (target : Target) (rule entry number : ℕ) (entries : ℕ → Option ℕ) → entries rule ≡ Some entry
     → IsEntryIn target entry number → StandsIn target (Leaf rule) entries number
 entry_stands (Parts pairs) rule entry number entries is at = subst (λ found. IsLeaf pairs found number) (sym is) at

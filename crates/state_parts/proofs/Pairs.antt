@@ -10,6 +10,7 @@ use Rattle.indexmap.specs.IndexSet.{insert_key}
 use Rattle.state_parts.specs.Keys.{KeyAt, same_pair, AreLower, AreDistinct, has_entry}
 use Rattle.state_parts.proofs.Keys.{key_grows}
 
+-- a pair compares as one with itself
 same_itself : (pair : ℕ × ℕ) → same_pair pair pair ≡ true
 same_itself pair =
     and_from (pair.0 == pair.0) (pair.1 == pair.1) (eq-eqb pair.0 pair.0 refl) (eq-eqb pair.1 pair.1 refl)
@@ -35,6 +36,7 @@ new_at pairs pair none = record {
         by true rest is = absurd (true≢false is)
         by false rest is = rw (rest is) (omega arith)
 
+-- distinct pairs stay distinct with a pair that isn't among them
 distinct_push : (pairs : List (ℕ × ℕ)) (pair : ℕ × ℕ) → list_any (same_pair pair) pairs ≡ false → AreDistinct pairs
     → AreDistinct (pairs ++ pair ∷ [])
 distinct_push pairs pair none distinct k below = elim (cases_lt k (length pairs)) [
@@ -49,6 +51,7 @@ distinct_push pairs pair none distinct k below = elim (cases_lt k (length pairs)
       (sym (get_or-append_seam pairs pair [] (0, 0))) (new_at pairs pair none))
 ]
 
+-- pairs of lower parts stay so with a pair whose parts are there
 lower_push : (pairs : List (ℕ × ℕ)) (pair : ℕ × ℕ)
     → (0 < pair.0 → (pair.0 ≤ length pairs) × (0 < pair.1) × (pair.1 ≤ length pairs)) → AreLower pairs
     → AreLower (pairs ++ pair ∷ [])
@@ -76,6 +79,7 @@ well_made pairs pair low made = by (list_any (same_pair pair) pairs) refl
     by true is = made
     by false is = (lower_push pairs pair low made.0, distinct_push pairs pair is made.1)
 
+-- if one of two holds, it is the first or the second
 or_last : (a b : Bool) → (a || (b || false)) ≡ true → (a ≡ true) ⊎ (b ≡ true)
 or_last true b is = inl refl
 or_last false true is = inr refl

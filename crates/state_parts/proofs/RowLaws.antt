@@ -12,11 +12,13 @@ use Rattle.state_parts.specs.Rows.{row_of_rule, row_of_entry, join_rows, best_ro
 use Rattle.list_lemmas.proofs.Tests.{bytes_eq_sound}
 use Rattle.state_parts.proofs.Keys.{key_grows, key_alone, key_some, key_is, key_at}
 
+-- two rows of one length have that length as one row
 pub length-join : (one other : List ℕ) → length one ≡ length other → length (join_rows one other) ≡ length one
 length-join [] other same = sym same
 length-join (x ∷ xs) [] same = refl
 length-join (x ∷ xs) (y ∷ ys) same = ap suc (length-join xs ys (omega (arith, same)))
 
+-- at each place two rows as one row have the greater of both ranks
 pub get-join : (one other : List ℕ) (i : ℕ) → length one ≡ length other → i < length one
     → get_or (join_rows one other) i 0 ≡ max (get_or one i 0) (get_or other i 0)
 get-join [] other i same below = absurd (omega arith)
@@ -32,10 +34,12 @@ get-join-any (x ∷ xs) [] i = omega arith
 get-join-any (x ∷ xs) (y ∷ ys) zero = refl
 get-join-any (x ∷ xs) (y ∷ ys) (suc i) = get-join-any xs ys i
 
+-- a row and a missing one are the row
 pub join-none : (row : List ℕ) → join_rows row [] ≡ row
 join-none [] = refl
 join-none (x ∷ xs) = refl
 
+-- it doesn't matter which two of three rows are made one first
 join_assoc : (a b c : List ℕ) → join_rows (join_rows a b) c ≡ join_rows a (join_rows b c)
 join_assoc [] b c = refl
 join_assoc (x ∷ xs) [] c = refl
@@ -51,18 +55,21 @@ best_append ranked (x ∷ xs) ys =
     ap (join_rows (row_of_entry ranked x)) (best_append ranked xs ys)
     ∙ sym (join_assoc (row_of_entry ranked x) (best_row ranked xs) (best_row ranked ys))
 
--- a row has an element, and so has that of some entries
+-- a row has an element
 pub HasRank : List ℕ → Type 0
 HasRank row = (rank : ℕ) × (ranks : List ℕ) × (row ≡ rank ∷ ranks)
 
+-- the row of an entry has an element
 pub entry_has_rank : (ranked : List Ranked) (entry : ℕ) → HasRank (row_of_entry ranked entry)
 unfolding HasRank row_of_entry row_of_rule
 entry_has_rank ranked entry = (_, _, refl)
 
+-- a row that has a first element has one
 pub has_rank : (rank : ℕ) (ranks : List ℕ) → HasRank (rank ∷ ranks)
 unfolding HasRank
 has_rank rank ranks = (rank, ranks, refl)
 
+-- two rows that have an element have one as one row
 pub join_has_rank : (one other : List ℕ) → HasRank one → HasRank (join_rows one other)
 unfolding HasRank
 join_has_rank one [] has = (has.0, has.1, join-none one ∙ has.2)
@@ -75,11 +82,13 @@ pub row_grows : (rows more : List (List ℕ)) (row : List ℕ) (number : ℕ) �
 row_grows rows more [] number is = is
 row_grows rows more (x ∷ xs) number is = key_grows bytes_eq rows more (x ∷ xs) number is
 
+-- a row has one number
 pub row_alone : (rows : List (List ℕ)) (row : List ℕ) (number other : ℕ) → IsRow rows row number
     → IsRow rows row other → number ≡ other
 row_alone rows [] number other one two = one ∙ sym two
 row_alone rows (x ∷ xs) number other one two = key_alone bytes_eq rows (x ∷ xs) number other one two
 
+-- a number stands for one row
 pub row_is : (rows : List (List ℕ)) (row other : List ℕ) (number : ℕ) → IsRow rows row number
     → IsRow rows other number → row ≡ other
 row_is rows [] [] number one two = refl
@@ -95,6 +104,7 @@ pub no_row : (rows : List (List ℕ)) (row : List ℕ) → IsRow rows row 0 → 
 no_row rows [] is = refl
 no_row rows (x ∷ xs) is = absurd (omega (arith, key_some bytes_eq rows (x ∷ xs) 0 is))
 
+-- the number of a row that has an element stands for the row
 pub some_row : (rows : List (List ℕ)) (row : List ℕ) (number : ℕ) → HasRank row
     → KeyAt bytes_eq rows row number → IsRow rows row number
 unfolding HasRank
@@ -103,6 +113,7 @@ some_row rows (x ∷ xs) number has is = is
 
 -- ---- rows that are written category by category
 
+-- a row that is as a function says before a place is so up to the place after it is set
 pub set_done : (row : List ℕ) (f : ℕ → ℕ) (k v : ℕ) → k < length row → v ≡ f k
     → ((c : ℕ) → c < k → get_or row c 0 ≡ f c) → (c : ℕ) → c < k + 1 → get_or (set row k v) c 0 ≡ f c
 set_done row f k v within is before c below = elim (cases_eq c k) [
@@ -110,11 +121,13 @@ set_done row f k v within is before c below = elim (cases_eq c k) [
   | inr other ↦ get_or-set_other row k c v 0 other ∙ before c (omega (arith, below, other))
 ]
 
+-- a row that is as a function says from a place on is so from the next one on after the place is set
 pub set_left : (row : List ℕ) (f : ℕ → ℕ) (k v : ℕ) → ((c : ℕ) → k ≤ c → get_or row c 0 ≡ f c)
     → (c : ℕ) → k + 1 ≤ c → get_or (set row k v) c 0 ≡ f c
 set_left row f k v after c above =
     get_or-set_other row k c v 0 (λ e. omega (arith, above, e)) ∙ after c (omega (arith, above))
 
+-- a row that is as a function says before a place and at it is so up to the place
 pub stay_done : (row : List ℕ) (f : ℕ → ℕ) (k : ℕ) → get_or row k 0 ≡ f k
     → ((c : ℕ) → c < k → get_or row c 0 ≡ f c) → (c : ℕ) → c < k + 1 → get_or row c 0 ≡ f c
 stay_done row f k is before c below = elim (cases_eq c k) [

@@ -10,6 +10,7 @@ use Rattle.state_parts.specs.Tree.{Tree, leaves, Joins, IsLeaf, Stands}
 use Rattle.state_parts.specs.Tree.Tree.{Leaf, Node}
 use Rattle.state_parts.proofs.Keys.{key_grows, key_alone, key_some, key_is}
 
+-- two pairs that compare as one are one
 pub pair_sound : (one other : ℕ × ℕ) → same_pair one other ≡ true → one ≡ other
 pair_sound one other same =
     let parts = and_parts (one.0 == other.0) (one.1 == other.1) same in

@@ -83,6 +83,7 @@ winner_same rules winner within = elim (eqb_tells winner 0) [
       (omega (arith, within, some.1)) (omega arith))
 ]
 
+-- the rows are the same with the rules' words worked out first
 pub tries_same : (rules : List RuleView) (tries : List LevelsView) → All (HasWinners (length rules)) tries →
     flat_map (λ (trie : LevelsView). map (map (winner_in (map (rule_word rules) (range_with_len 0 (length rules)))))
     trie.rows) tries ≡ flat_map (λ (trie : LevelsView). map (λ row. map (winner_word rules) row) trie.rows) tries
@@ -98,6 +99,7 @@ pub length-ranks : (rules : List RuleView) → length (ranks_of rules) ≡ lengt
 unfolding ranks_of
 length-ranks rules = length-map-range_with_len (rank_of rules) 0 (length rules)
 
+-- the rank at a place is that of the rule there
 pub rank_at : (rules : List RuleView) (place d : ℕ) → place < length rules → get_or (ranks_of rules) place d
     ≡ rank_of rules place
 unfolding ranks_of
@@ -105,6 +107,7 @@ rank_at rules place d h = get_or-map-range_with_len (rank_of rules) 0 (length ru
 
 -- ---- the walk through a trie
 
+-- a walk from a trie's root ends at the word of what its runs lead to
 pub from_root : (words matches key : List ℕ) (place : ℕ) (levels : List (List (List Run))) (places : List ℕ) →
     0 < length (get_or levels 0 []) → AreLevels (length matches) levels → AreBytes key →
     HasPart 0 words place (words_of_levels place matches levels) → place + sum_by level_len levels ≤ indexes
@@ -134,6 +137,7 @@ walk_to tbl trie key =
 abbrev pub word_or_none : List RuleView → Option ℕ → ℕ
 word_or_none rules found = option_map_or (rule_word rules) found 0
 
+-- the word of a winner's number plus 1 is that of the winner, and 0 if there is none
 winner_says : (rules : List RuleView) (found : Option ℕ) →
     winner_word rules (option_map_or (λ number. number + 1) found 0) ≡ word_or_none rules found
 winner_says rules None = refl
@@ -256,6 +260,7 @@ module _ (set : RuleSetView) (key : List ℕ) (some : 0 < key_len_of set.layout)
 
 -- ---- the winner's word is the greatest
 
+-- a rank above 0 is that of a rule that was found
 some_is : (o : Option ℕ) (rules : List RuleView) (m : ℕ) → 0 < m → rank_or_none rules o ≡ m → (place : ℕ)
     × (o ≡ Some place) × (rank_of rules place ≡ m)
 some_is None rules m some is = absurd (omega (arith, some, is))
@@ -454,5 +459,6 @@ module _ (set : RuleSetView) (groups : List (List ℕ)) (can : CanBeFilled set g
         (λ trie is. is.winners) tries_are));
   }
 
+-- a filled table answers for each key and category as its rules do
 pub filled_tables_decide : FilledTablesDecide
 filled_tables_decide = decide

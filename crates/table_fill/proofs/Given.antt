@@ -36,6 +36,7 @@ use Rattle.table_fill.proofs.Deciding.{tries_same, tries_are, can_stand, decide}
 
 -- ---- boundaries
 
+-- a boundary after the last run is 255
 pub boundary_past : (runs : List Run) (n : ℕ) → n < 4 → length runs ≤ n + 1 → 255 ≡ get_or (boundaries runs) n 0
 boundary_past runs n few h =
     let past : length (inner_lasts runs) ≤ n = omega (arith, length-inner runs, h) in
@@ -125,6 +126,7 @@ module _ (targets : List ℕ) where
 
 -- ---- levels
 
+-- the runs of a state have a word for each of their successors
 pub has_targets : (place rows : ℕ) (matches : List ℕ) (levels : List (List (List Run))) (runs : List Run) →
     length matches ≡ rows → AreRuns rows levels runs →
     HasTargets (length (targets_of place matches levels)) runs

@@ -89,11 +89,13 @@ runs_hold succ P each low first (suc count) from whole =
     )
     by false over rest = over
 
+-- what holds of each byte's successor holds of all runs
 all_runs_hold : (succ : ℕ → Succ) (P : Succ → Type 0) → ((byte : ℕ) → byte < 256 → P (succ byte)) →
     HoldFrom P 0 (runs_of succ)
 unfolding runs_of all_bytes
 all_runs_hold succ P each = runs_hold succ P each 0 0 255 (omega arith) refl
 
+-- the runs lead into the levels after them if each byte's successor is there
 are_runs : (count : ℕ) (levels : List (List (List Run))) (succ : ℕ → Succ) →
     ((byte : ℕ) → byte < 256 → IsThere count levels (succ byte)) → AreRuns count levels (runs_of succ)
 are_runs count levels succ each =

@@ -32,6 +32,7 @@ pub record HasParts (boundaries kind index word : ℕ) : Type 0 where
   pub kind_is : kind_of word ≡ kind
   pub boundaries_are : word / 2 ^ 32 ≡ boundaries
 
+-- a word of some parts has these parts
 pub parts : (boundaries kind index : ℕ) → kind < 8 → index < indexes →
     HasParts boundaries kind index (word_of boundaries kind index)
 parts boundaries kind index k i = record {
@@ -46,6 +47,7 @@ pub record IsMatchOf (row word : ℕ) : Type 0 where
   pub unbounded : is_unbounded word ≡ true
   pub names : index_of word ≡ row
 
+-- the match of a row names the row
 pub match_parts : (row : ℕ) → row < indexes → IsMatchOf row (match_of row)
 match_parts row i = record {
   matches = grind (arith, nat_tests);
@@ -115,6 +117,7 @@ run_is byte first (run ∷ next ∷ runs) d hold small = elim (cases_lt run.last
 
 -- ---- the boundaries of a node of a few runs
 
+-- there is one boundary less than there are runs
 pub length-inner : (runs : List Run) → length (inner_lasts runs) ≡ length runs - 1
 length-inner [] = refl
 length-inner (run ∷ []) = refl
@@ -124,6 +127,7 @@ length-inner (run ∷ next ∷ runs) = omega (arith, length-inner (next ∷ runs
 abbrev AreSmall : List ℕ → Type 0
 AreSmall boundaries = AllByRecursion (λ b. b < 256) boundaries
 
+-- the boundaries of runs are bytes
 inner_small : (first : ℕ) (runs : List Run) → HoldBytes first runs → AreSmall (inner_lasts runs)
 inner_small first [] hold = absurd hold
 inner_small first (run ∷ []) hold = tt
@@ -172,6 +176,7 @@ few_words targets runs few =
     ∙ take-append-add words (replicate few_runs (match_of 0)) unused
     ∙ ap (λ l. words ++ l) (take-replicate unused few_runs (match_of 0) bound)
 
+-- a node of more than five runs has a word for each byte
 pub many_words : (targets : List ℕ) (runs : List Run) → few_runs < length runs → node_words targets runs
     ≡ map (λ byte. succ_word targets (run_to runs byte)) all_bytes
 unfolding node_words
@@ -278,6 +283,7 @@ pub record IsInto (place len word : ℕ) : Type 0 where
   pub names : index_of word ≡ place
   pub len_is : node_len word ≡ len
 
+-- a word of one of the three kinds of nodes leads into a node of that length
 into_by : (boundaries kind place len : ℕ) → place < indexes → ((kind ≡ 0) × (boundaries ≡ 0) × (len ≡ 256))
     ⊎ ((kind ≡ 1) × (boundaries ≡ 0) × (len ≡ 1)) ⊎ ((kind ≡ 3) × (len ≡ 5)) →
     IsInto place len (word_of boundaries kind place)
@@ -292,6 +298,7 @@ into_by boundaries kind place len fits cases =
       len_is = grind (arith, nat_tests, p.kind_is);
     }
 
+-- the word of a state's node leads into the node
 pub node_into : (place : ℕ) (runs : List Run) → place < indexes → IsInto place (cost_of (length runs))
     (node_word place runs)
 node_into place runs fits =
@@ -311,10 +318,12 @@ pub record NodeAt (words targets : List ℕ) (until : ℕ) (runs : List Run) (wo
   pub within : at + cost_of (length runs) ≤ until
   pub has : HasPart 0 words at (node_words targets runs)
 
+-- one node more adds its words to those of a level
 pub level_len-cons : (runs : List Run) (states : List (List Run)) → level_len (runs ∷ states)
     ≡ cost_of (length runs) + level_len states
 level_len-cons runs states = sum_by-cons (λ (r : List Run). cost_of (length r)) runs states
 
+-- a level has as many words as its nodes together
 pub length-level : (targets : List ℕ) (states : List (List Run)) → length (flat_map (node_words targets) states)
     ≡ level_len states
 length-level targets [] = refl
@@ -342,6 +351,7 @@ module _ (words targets : List ℕ) (until : ℕ) where
 
 -- ---- walks
 
+-- a walk that is at the match of row 0 stays there
 dead_stays : (words bytes : List ℕ) → fold (moved words) (match_of 0) bytes ≡ match_of 0
 dead_stays words bytes = match_stays words (match_of 0) bytes (match_parts 0 (omega arith)).matches
 

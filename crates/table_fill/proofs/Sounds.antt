@@ -87,6 +87,7 @@ into_level lo len place (runs ∷ states) (suc number) above fits small within =
     into_level lo len (place + cost_of (length runs)) states number (omega (arith, above))
     (omega (arith, fits, level_len-cons runs states)) small (omega (arith, within))
 
+-- the match of a row that is there is sound
 match_sound : (rows row : ℕ) (next : Level) → row < rows → rows ≤ indexes → is_sound_word rows next (match_of row)
     ≡ true
 match_sound rows row next within small =
@@ -95,6 +96,7 @@ match_sound rows row next within small =
     (leads_into next (match_of row))) is.matches
     ∙ (λ i. is.unbounded i && nat_lt (is.names i) rows) ∙ (λ i. true && lt-ltb row rows within i)
 
+-- a word that leads into the next level is sound
 node_sound : (rows word : ℕ) (next : Level) → leads_into next word ≡ true → is_sound_word rows next word ≡ true
 node_sound rows word next leads =
     let no_match : is_match word ≡ false = grind (arith, nat_tests) in
@@ -152,6 +154,7 @@ levels_each place [] = []
 levels_each place (trie ∷ tries) = levels_from place (map level_len trie.levels) ∷ levels_each (place + nodes_len trie)
     tries
 
+-- the levels, taken trie by trie, are those of each trie
 pub portions_are : (place : ℕ) (tries : List LevelsView) →
     portions (map (λ (trie : LevelsView). length trie.levels) tries) (levels_from place (level_lens_of tries))
     ≡ levels_each place tries
@@ -172,6 +175,7 @@ portions_are place (trie ∷ tries) =
 
 -- ---- how many words, rows and levels there are
 
+-- the levels of a trie have as many words as their nodes together
 pub length-levels-words : (place : ℕ) (ms : List ℕ) (levels : List (List (List Run))) →
     length (words_of_levels place ms levels) ≡ sum_by level_len levels
 length-levels-words place ms [] = refl
@@ -181,6 +185,7 @@ length-levels-words place ms (states ∷ levels) =
     ∙ (λ i. length-level (targets_of after ms levels) states i + length-levels-words after ms levels i)
     ∙ sym (sum_by-cons level_len states levels)
 
+-- all tries have as many words as their nodes together
 pub length-words : (place row : ℕ) (tries : List LevelsView) → length (words_of_tries place row tries)
     ≡ sum_by nodes_len tries
 length-words place row [] = refl
@@ -191,16 +196,19 @@ length-words place row (trie ∷ tries) =
     (row + length trie.rows) tries i)
     ∙ sym (sum_by-cons nodes_len trie tries)
 
+-- there are as many roots as tries
 pub length-roots : (place : ℕ) (tries : List LevelsView) → length (roots_of place tries) ≡ length tries
 length-roots place [] = refl
 length-roots place (trie ∷ tries) = ap suc (length-roots (place + nodes_len trie) tries)
 
+-- there are as many lengths as levels of all tries
 length-lens : (tries : List LevelsView) → length (level_lens_of tries)
     ≡ sum (map (λ (trie : LevelsView). length trie.levels) tries)
 length-lens tries =
     length_parts (λ (trie : LevelsView). map level_len trie.levels) _ (λ trie. length-map trie.levels level_len) tries
     ∙ sym (sum-map (λ (trie : LevelsView). length trie.levels) tries)
 
+-- the lengths of all levels add up to the words of all nodes
 sum-lens : (tries : List LevelsView) → sum (level_lens_of tries) ≡ sum_by nodes_len tries
 sum-lens [] = refl
 sum-lens (trie ∷ tries) =
@@ -210,6 +218,7 @@ sum-lens (trie ∷ tries) =
 
 -- ---- roots and words
 
+-- the root of a trie leads into its first level
 root_leads : (place : ℕ) (levels : List (List (List Run))) → 0 < length (get_or levels 0 []) →
     place + sum_by level_len levels ≤ indexes →
     leads_into (first_level (levels_from place (map level_len levels)))
@@ -267,6 +276,7 @@ pub record StandsIn (rules : List RuleView) (words : List ℕ) (rows : List (Lis
   pub fits : place + nodes_len trie ≤ indexes
   pub few : row + length trie.rows ≤ indexes
 
+-- a trie in the place of one that isn't there
 pub no_trie : LevelsView
 no_trie = record { kept = 0; group = []; levels = []; rows = []; words = 0 }
 
@@ -321,6 +331,7 @@ level_fits trie depth has small below =
 
 -- ---- the whole table
 
+-- there is one row more than all tries have
 pub length-rows_of : (rules : List RuleView) (tries : List LevelsView) → length (rows_of_tries rules tries)
     ≡ 1 + sum_by row_count tries
 unfolding rows_of_tries

@@ -56,6 +56,7 @@ high_first-fold acc (b ∷ bs) small =
     let first : (acc * 256 + b) % 256 ≡ b = omega arith in
     rw (tail, byte_at-power (length bs) (fold (λ n b. n * 256 + b) (acc * 256 + b) bs), high, first) refl
 
+-- the number that bytes spell is spelled by these bytes
 pub spelled_again : (size : ℕ) (bs : List ℕ) → length bs ≡ size → AreBytes bs → spelled size (number_of bs) ≡ bs
 unfolding spelled
 spelled_again size bs len small = rw (← len) (high_first-fold 0 bs small)
@@ -65,6 +66,7 @@ length-high_first : (size n : ℕ) → length (bytes_high_first size n) ≡ size
 length-high_first zero n = refl
 length-high_first (suc size) n = ap suc (length-high_first size n)
 
+-- a number is spelled in as many bytes as its size says
 pub length_spelled : (size n : ℕ) → length (spelled size n) ≡ size
 unfolding spelled
 length_spelled size n = length-high_first size n

@@ -31,6 +31,7 @@ named number known = elim (cases_Bool (number == 1)) [
   | inr other ↦ rw other (sym (eqb-true number 2 (rw other at known)))
 ]
 
+-- a version that was read stands in front, after the number that marks an image
 version_at : (bytes : List ℕ) (version : Version) → AreBytes bytes → version_read bytes ≡ Ok version →
     VersionAt bytes version
 version_at bytes version are e =
@@ -54,6 +55,7 @@ pub record ImageAt (bytes : List ℕ) (pair : PairView) : Type 0 where
   pub version : Version
   pub is : IsImage version bytes pair
 
+-- bytes that were read as a pair are its image in some version
 pub image_read : (bytes : List ℕ) (pair : PairView) → AreBytes bytes → image_of bytes ≡ Ok pair → ImageAt bytes pair
 unfolding image_of spelled_pair
 image_read bytes pair are e =
@@ -105,14 +107,17 @@ version_small : (version : Version) → fits short (number_of_version version) �
 version_small One = refl
 version_small Two = refl
 
+-- the number of a version is 1 or 2
 version_known : (version : Version) → (number_of_version version == 1 || number_of_version version == 2) ≡ true
 version_known One = refl
 version_known Two = refl
 
+-- a version is found again by its number
 version_again : (version : Version) → version_of (number_of_version version) ≡ version
 version_again One = refl
 version_again Two = refl
 
+-- the image of a pair is read as the pair
 pub image_spelled : (version : Version) (bytes : List ℕ) (pair : PairView) → IsImage version bytes pair →
     image_of bytes ≡ Ok pair
 unfolding image_of spelled_pair

@@ -75,6 +75,7 @@ unfolding words_of_levels
 level_more rows bytes from p i lens first within =
     ap (λ ls. words_of_levels rows bytes from (levels_from p ls) first) (drop_more lens i 0 within)
 
+-- no words are read after the last level
 pub levels_end : (rows : ℕ) (bytes : List ℕ) (from p n : ℕ) (lens first : List ℕ) → length lens ≤ n →
     words_of_levels rows bytes from (levels_from p (drop n lens)) first ≡ Ok first
 unfolding words_of_levels
@@ -99,6 +100,7 @@ trie_words_more rows bytes from depth i p kept lens first within =
     >>= words_of_tries rows bytes from
     (portions (map depth (drop (i + 1) kept)) levels)) (levels-drop d p lens)
 
+-- no words are read after the last trie
 pub tries_words_end : (rows : ℕ) (bytes : List ℕ) (from : ℕ) (depth : ℕ → ℕ) (n p : ℕ) (kept lens first : List ℕ) →
     length kept ≤ n →
     words_of_tries rows bytes from (portions (map depth (drop n kept)) (levels_from p lens)) first ≡ Ok first
@@ -114,6 +116,7 @@ pub record TrieTurn (depth : ℕ → ℕ) (i first : ℕ) (kept lens : List ℕ)
       ≡ sum (drop first lens)
   pub back : drop (depth (get_or kept i 0)) (drop first lens) ≡ drop (first + depth (get_or kept i 0)) lens
 
+-- a loop that stands at a trie finds its levels, and after them those of the later tries
 pub trie_turn : (depth : ℕ → ℕ) (i first : ℕ) (kept lens : List ℕ) → i < length kept →
     first + sum (map depth (drop i kept)) ≡ length lens → TrieTurn depth i first kept lens
 trie_turn depth i first kept lens within at =
@@ -138,6 +141,7 @@ pub row_more : (rules : ℕ) (bytes : List ℕ) (from count left : ℕ) (first :
 unfolding rows_after
 row_more rules bytes from count left first some = rw (some, add-one left) refl
 
+-- no row is read after the last one
 pub rows_end : (rules : ℕ) (bytes : List ℕ) (from count : ℕ) (first : List (List ℕ)) → count ≡ 0 →
     rows_after rules bytes from count first ≡ Ok first
 unfolding rows_after
@@ -151,6 +155,7 @@ pub trie_more : (version : Version) (key_len taken : ℕ) (bytes : List ℕ) (co
 unfolding tries_after
 trie_more version key_len taken bytes count left tries some = rw (some, add-one left) refl
 
+-- no trie is read after the last one
 pub tries_end : (version : Version) (key_len taken : ℕ) (bytes : List ℕ) (count : ℕ) (tries : TriesView) → count ≡ 0 →
     tries_after version key_len taken bytes count tries ≡ Ok tries
 unfolding tries_after

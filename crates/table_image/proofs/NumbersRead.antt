@@ -29,6 +29,7 @@ pub record FieldAt (size : ℕ) (bytes : List ℕ) (at n : ℕ) : Type 0 where
   pub small : fits size n ≡ true
   pub inside : at + size ≤ length bytes
 
+-- a number that was read as a field stands at its place
 pub field_read : (size : ℕ) (bytes : List ℕ) (at n : ℕ) → AreBytes bytes → field size bytes at ≡ Ok n →
     FieldAt size bytes at n
 field_read size bytes at n are e =
@@ -48,6 +49,7 @@ field_read size bytes at n are e =
       inside = inside;
     }
 
+-- a number that is spelled at a place is read as a field
 pub field_spelled : (size : ℕ) (bytes : List ℕ) (at n : ℕ) (rest : List ℕ) → 0 < size →
     drop at bytes ≡ spelled size n ++ rest → fits size n ≡ true → field size bytes at ≡ Ok n
 field_spelled size bytes at n rest some e small =
@@ -82,6 +84,7 @@ tested_read kind size test bytes at n are e =
     let passed = of_check (test parts.0) kind at parts.0 n parts.2 in
     (field_read size bytes at n are (parts.1 ∙ ap Ok passed.1), rw passed.1 at passed.0)
 
+-- and so is one that has to pass a test and does
 pub tested_spelled : (kind : ImageKind) (size : ℕ) (test : ℕ → Bool) (bytes : List ℕ) (at n : ℕ) (rest : List ℕ) →
     0 < size →
     drop at bytes ≡ spelled size n ++ rest → fits size n ≡ true → test n ≡ true → tested kind size test bytes at ≡ Ok n
@@ -105,6 +108,7 @@ pub record NumbersAt (size : ℕ) (test : List ℕ → ℕ → Bool) (bytes : Li
   pub small : list_all (fits size) more ≡ true
   pub pass : AllTested test first more
 
+-- numbers that were read stand in the bytes, as many as were asked for, and pass their tests
 pub numbers_read : (kind : ImageKind) (size : ℕ) (test : List ℕ → ℕ → Bool) (bytes : List ℕ) (from count : ℕ)
     (first all : List ℕ) → AreBytes bytes → numbers_after kind size test bytes from count first ≡ Ok all →
     NumbersAt size test bytes from count first all
@@ -144,6 +148,7 @@ numbers_read kind size test bytes from (suc count) first all are e =
       pass = (here.1, rest.pass);
     }
 
+-- numbers that are spelled and pass their tests are read
 pub numbers_spelled : (kind : ImageKind) (size : ℕ) (test : List ℕ → ℕ → Bool) (bytes : List ℕ) (from : ℕ)
     (first more rest : List ℕ) → 0 < size → drop (from + size * length first) bytes ≡ all_spelled size more ++ rest →
     list_all (fits size) more ≡ true → AllTested test first more →
@@ -182,6 +187,7 @@ tested_all test first [] all = refl
 tested_all test first (n ∷ ns) all = and_from (test n) (list_all test ns) all.0
     (tested_all test (first ++ n ∷ []) ns all.1)
 
+-- numbers that pass a test each pass it, whatever comes before them
 pub all_tested : (test : ℕ → Bool) (first ns : List ℕ) → list_all test ns ≡ true → AllTested (λ _. test) first ns
 all_tested test first [] all = tt
 all_tested test first (n ∷ ns) all =

@@ -98,6 +98,7 @@ pub record Slots (old filled : List ℕ) (start whole : ℕ) : Type 0 where
   pub count : whole ≡ length filled - start
   pub before : old ≡ take start filled
 
+-- zeros after a list are room for as many numbers
 pub slots_of : (old filled : List ℕ) (start whole : ℕ) → filled ≡ old ++ replicate whole 0 → start ≡ length old →
     Slots old filled start whole
 slots_of old filled start whole e f =
@@ -114,6 +115,7 @@ slots_of old filled start whole e f =
 pub are_fewer : (whole count : ℕ) → whole ≤ count → (whole == count) ≡ false → whole < count
 are_fewer whole count few e = grind (arith, nat_tests)
 
+-- none is lacking if there are as many as were asked for
 pub are_all : (whole count : ℕ) → (whole == count) ≡ true → count - whole ≡ 0
 are_all whole count e = grind (arith, nat_tests)
 

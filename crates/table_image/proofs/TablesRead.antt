@@ -58,6 +58,7 @@ counts_text bytes at family c one two three four =
     one ∙ ap (λ xs. spelled short family ++ xs) (two ∙ ap (λ xs. spelled short c.rules ++ xs) (three
     ∙ ap (λ xs. spelled short c.tries ++ xs) four))
 
+-- the four numbers that were read stand in the bytes, each within its bound
 counts_read : (family : ℕ) (bytes : List ℕ) (at : ℕ) (c : Counts) → AreBytes bytes → counts family bytes at ≡ Ok c →
     CountsAt family bytes at c
 counts_read family bytes at c are e =
@@ -101,6 +102,7 @@ zeros_begin : (rows : List (List ℕ)) → begins_with_zeros (no_rule ∷ rows) 
 unfolding no_rule
 zeros_begin rows = refl
 
+-- the row of zeros is a row
 zeros_are_row : is_row no_rule ≡ true
 unfolding no_rule
 zeros_are_row = refl
@@ -144,6 +146,7 @@ rows_here bytes from rows more n text are count =
     let end : from + row_bytes * (0 + n) ≡ from + row_bytes * length rows = omega (arith, count) in
     ap (λ k. drop k bytes) none ∙ text ∙ (λ i. flat_map (all_spelled long) (sym are i) ++ drop (end i) bytes)
 
+-- the words and the rows that were read stand in the bytes, and the words are sound
 tail_read : (key_len : ℕ) (bytes : List ℕ) (c : Counts) (tries : TriesView) (read : TableRead) → AreBytes bytes →
     length tries.level_lens ≡ sum (map (depth_of key_len) tries.kept) →
     words_and_rows key_len bytes c tries ≡ Ok read → TailAt key_len bytes c tries read
@@ -225,6 +228,7 @@ saved version key_len c tries keyed front count s back =
       groups = of_version version key_len _ _ _ _ _ table s refl refl;
     })
 
+-- a table that was read stands in the bytes as it is spelled, and can be saved
 pub table_at : (version : Version) (family key_len : ℕ) (bytes : List ℕ) (at : ℕ) (read : TableRead) → AreBytes bytes →
     is_key_len key_len ≡ true → table_read version family key_len bytes at ≡ Ok read →
     TableAt version family key_len bytes at read

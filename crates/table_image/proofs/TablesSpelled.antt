@@ -38,6 +38,7 @@ record CountsOf (family : ℕ) (bytes : List ℕ) (at : ℕ) (c : Counts) (rest 
   pub read : counts family bytes at ≡ Ok c
   pub next : RestAt bytes (at + 16) rest
 
+-- four numbers within their bounds that are spelled are read
 counts_spelled : (family : ℕ) (bytes : List ℕ) (at : ℕ) (c : Counts) (rest : List ℕ) → fits short family ≡ true →
     c.rules ≤ max_rules → c.tries ≤ max_tries → row_len * (c.rows + 1) ≤ max_words →
     drop at bytes ≡ spelled short family
@@ -99,6 +100,7 @@ record Begun (rows : List (List ℕ)) : Type 0 where
   pub count : length (drop 1 rows) ≡ length rows - 1
   pub typed : list_all is_row (drop 1 rows) ≡ true
 
+-- rows that begin with zeros are the row of zeros, and the others after it
 begun : (rows : List (List ℕ)) → begins_with_zeros rows ≡ true → list_all is_row rows ≡ true → Begun rows
 unfolding no_rule
 begun [] zeros typed = absurd cc
@@ -127,6 +129,7 @@ pub record TableOf (version : Version) (family : ℕ) (bytes : List ℕ) (at : �
   pub next : drop end bytes ≡ rest
   pub within : end ≤ length bytes
 
+-- a table that can be saved and is spelled is read
 pub table_spelled : (version : Version) (family : ℕ) (bytes : List ℕ) (at : ℕ) (table : TableView) (rest : List ℕ) →
     fits short family ≡ true → 2 ^ groups_of table.key_len ≤ 256 ^ short → IsSaved version table.key_len table →
     drop at bytes ≡ spelled_table version family table ++ rest → TableOf version family bytes at table rest

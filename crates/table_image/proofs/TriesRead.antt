@@ -64,6 +64,7 @@ all_kept key_len =
     all_some : (k : ℕ) → 2 ≤ 2 ^ (1 + k)
     all_some k = omega (arith, pow-add 2 1 k, one-le-pow k 2 (omega arith))
 
+-- kept groups that were read stand in the bytes
 kept_read : (version : Version) (key_len : ℕ) (bytes : List ℕ) (at kept : ℕ) → AreBytes bytes →
     kept_groups version key_len bytes at ≡ Ok kept → KeptAt version key_len bytes at kept
 kept_read One key_len bytes at kept are e =
@@ -96,6 +97,7 @@ pub record TrieAt (version : Version) (key_len taken : ℕ) (bytes : List ℕ) (
   pub lens_are : more.level_lens ≡ tries.level_lens ++ own
   pub text : drop tries.end bytes ≡ spelled_trie version kept own root ++ drop more.end bytes
 
+-- a trie that was read after others is lawful and stands in the bytes
 one_read : (version : Version) (key_len taken : ℕ) (bytes : List ℕ) (tries more : TriesView) → AreBytes bytes →
     taken + sum tries.level_lens ≤ max_words → one_trie version key_len taken bytes tries ≡ Ok more →
     TrieAt version key_len taken bytes tries more
@@ -168,6 +170,7 @@ abbrev in_front : Version → ℕ → ℕ → ℕ → ℕ → ℕ → List ℕ �
 in_front version key_len taken from kept root own others roots lens =
     IsTrie version key_len taken from kept root own × AreTries version key_len taken (from + sum own) others roots lens
 
+-- a lawful trie in front of lawful ones makes all of them lawful
 front_lawful : (version : Version) (key_len taken from kept root : ℕ) (own others roots lens : List ℕ) →
     in_front version key_len taken from kept root own others roots lens →
     AreTries version key_len taken from (kept ∷ others) (root ∷ roots) (own ++ lens)
@@ -179,6 +182,7 @@ front_lawful version key_len taken from kept root own others roots lens h =
     subst (λ (p : List ℕ × List ℕ). in_front version key_len taken from kept root p.0 others roots p.1)
     (λ i. (front i, back i)) h
 
+-- tries that were read after others are lawful and stand in the bytes
 pub tries_read : (version : Version) (key_len taken : ℕ) (bytes : List ℕ) (count : ℕ) (tries all : TriesView) →
     AreBytes bytes →
     taken + sum tries.level_lens ≤ max_words → tries_after version key_len taken bytes count tries ≡ Ok all →

@@ -46,6 +46,7 @@ kept_small key_len kept few keeps =
         let nothing : a / b * b ≡ 0 = ap (λ q. q * b) none ∙ omega arith in
         omega arith
 
+-- kept groups that are spelled are read
 kept_spelled : (version : Version) (key_len : ℕ) (bytes : List ℕ) (at kept : ℕ) (rest : List ℕ) →
     2 ^ groups_of key_len ≤ 256 ^ short → is_kept_word key_len kept ≡ true →
     (version ≡ One → kept ≡ all_groups key_len) →
@@ -88,6 +89,7 @@ record TrieOf (version : Version) (key_len taken : ℕ) (bytes : List ℕ) (trie
   pub read : one_trie version key_len taken bytes tries ≡ Ok (with_trie tries kept root own end)
   pub next : RestAt bytes end rest
 
+-- a lawful trie that is spelled is read
 one_spelled : (version : Version) (key_len taken : ℕ) (bytes : List ℕ) (tries : TriesView) (kept root : ℕ)
     (own rest : List ℕ) →
     2 ^ groups_of key_len ≤ 256 ^ short → IsTrie version key_len taken (sum tries.level_lens) kept root own →

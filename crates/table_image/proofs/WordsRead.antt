@@ -73,6 +73,7 @@ abbrev level_fault : ℕ → Level → List Level → List ℕ → Option ℕ
 level_fault rows level levels words =
     position_from (λ word. not (is_sound_word rows (first_level levels) word)) level.from (words_in words level)
 
+-- the words of a trie that were read are sound and stand in the bytes
 pub words_read : (rows : ℕ) (bytes : List ℕ) (from : ℕ) (lens : List ℕ) (p : ℕ) (first all : List ℕ) → AreBytes bytes →
     p ≡ length first → words_of_levels rows bytes from (levels_from p lens) first ≡ Ok all →
     WordsAt bytes from (sum lens) first all (λ words. unsound_word rows words (levels_from p lens))
@@ -119,6 +120,7 @@ words_read rows bytes from (len ∷ lens) p first all are place e =
 abbrev pub tries_fault : ℕ → List (List Level) → List ℕ → Option ℕ
 tries_fault rows tries words = first_some (map (unsound_word rows words) tries)
 
+-- and so are the words of all tries
 pub tries_words_read : (rows : ℕ) (bytes : List ℕ) (from : ℕ) (depths lens : List ℕ) (p : ℕ) (first all : List ℕ) →
     AreBytes bytes → p ≡ length first → length lens ≡ sum depths →
     words_of_tries rows bytes from (portions depths (levels_from p lens)) first ≡ Ok all →

@@ -27,6 +27,7 @@ pub record InParts (size : ℕ) (bytes : List ℕ) (from : ℕ) (first one other
   pub here : drop (from + size * length first) bytes ≡ all_spelled size one ++ (all_spelled size other ++ rest)
   pub next : drop (from + size * length (first ++ one)) bytes ≡ all_spelled size other ++ rest
 
+-- a list of numbers is spelled as its first part, and then the other one
 pub in_parts : (size : ℕ) (bytes : List ℕ) (from : ℕ) (first one other rest : List ℕ) →
     drop (from + size * length first) bytes ≡ all_spelled size (one ++ other) ++ rest →
     InParts size bytes from first one other rest
@@ -56,6 +57,7 @@ pub record Halves (bytes : List ℕ) (from p n : ℕ) (first words rest : List �
   pub here : Spelled bytes from p first (take n words) (all_spelled long (drop n words) ++ rest)
   pub next : Spelled bytes from (p + n) (first ++ take n words) (drop n words) rest
 
+-- words are spelled as the first few of them, and then the others
 pub halves : {p : ℕ} {rest : List ℕ} (bytes : List ℕ) (from n : ℕ) (first words : List ℕ) → n ≤ length words →
     Spelled bytes from p first words rest → Halves bytes from p n first words rest
 halves {p = p} {rest = rest} bytes from n first words enough s =

@@ -127,6 +127,7 @@ depth_le key_len kept = omega (
   length-range_with_len 0 key_len,
 )
 
+-- each trie has at most 505 levels
 depths_bound : (key_len : ℕ) (kept : List ℕ) → key_len ≤ 505 → sum (map (depth_of key_len) kept) ≤ 505 * length kept
 depths_bound key_len [] few = omega arith
 depths_bound key_len (k ∷ kept) few =
@@ -146,10 +147,12 @@ zeros_typed zeros later len begins typed =
     and_from (is_row zeros) (list_all is_row later)
     (ap is_row (sym (zeros_are 16 zeros len begins))) typed
 
+-- rows that begin with zeros are at least one
 some_row : (rows : List (List ℕ)) → begins_with_zeros rows ≡ true → 0 < length rows
 some_row [] zeros = absurd cc
 some_row (row ∷ rows) zeros = omega arith
 
+-- a sound table is within these bounds
 pub bounded : (table : TableView) → sound_fault table ≡ None → IsBounded table
 bounded table sound =
     let shape = (sound_parts table sound).shape in

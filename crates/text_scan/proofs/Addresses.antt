@@ -303,6 +303,7 @@ bytes_below value =
     let below = λ (n : ℕ). mod_below n 256 (omega arith) in
     (below (value / 0x100_0000), (below (value / 0x1_0000), (below (value / 0x100), (below value, tt))))
 
+-- each of the eight pieces of an address has 16 bits
 pub pieces_below : (value : ℕ) → AllBelow 65536 (ip6_pieces value)
 pieces_below value =
     let below = λ (place : ℕ). mod_below (value / 65536 ^ place) 65536 (omega arith) in
@@ -355,6 +356,7 @@ ip4_of-ip4_spelling value small =
 piece_group : (n : ℕ) → n < 65536 → is_ip6_group (digits 16 false n) ≡ true
 piece_group n small = group_spelled 16 3 n (omega arith) (omega arith) small small
 
+-- a piece in hexadecimal has at least one digit and no colon
 piece_plain : (n : ℕ) → n < 65536 → (0 < length (digits 16 false n)) × Lacks colon (digits 16 false n)
 piece_plain n small =
     let spelled = digits_spelled 16 n (omega arith) (omega arith) (omega arith) in
@@ -405,10 +407,11 @@ ip6_of-ip6_spelling value small =
     ∙ ap joined read ∙ pieces_spell value small in
     cond-false _ _ _ none ∙ cond-true _ _ _ full ∙ ap (λ n. Some n) number
 
--- a byte of an IPv4 address, and one of an IPv6 address
+-- a byte of an IPv4 address: a decimal digit or a dot
 abbrev pub is_ip4_byte : ℕ → Bool
 is_ip4_byte c = is_digit c 10 || eqb c dot
 
+-- a byte of an IPv6 address: a hexadecimal digit or a colon
 abbrev pub is_ip6_byte : ℕ → Bool
 is_ip6_byte c = is_digit c 16 || eqb c colon
 
@@ -424,10 +427,12 @@ spelling-bytes base separator bound numbers low high few below =
     (λ n small. list_all_weaker (λ c. is_digit c base) test (digits base false n)
     (λ c digit. or_left (is_digit c base) _ digit) (digits_spelled base n low high (omega arith)).digits) numbers below)
 
+-- the text of an IPv4 address has no other bytes than decimal digits and dots
 pub ip4_spelling-bytes : (value : ℕ) → list_all is_ip4_byte (ip4_spelling value) ≡ true
 ip4_spelling-bytes value =
     spelling-bytes 10 dot 256 (ip4_bytes value) (omega arith) (omega arith) (omega arith) (bytes_below value)
 
+-- the text of an IPv6 address has no other bytes than hexadecimal digits and colons
 pub ip6_spelling-bytes : (value : ℕ) → list_all is_ip6_byte (ip6_spelling value) ≡ true
 ip6_spelling-bytes value =
     spelling-bytes 16 colon 65536 (ip6_pieces value) (omega arith) (omega arith) (omega arith) (pieces_below value)

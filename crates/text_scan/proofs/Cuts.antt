@@ -29,6 +29,7 @@ pub parts_of-whole : (separator : ℕ) (text : List ℕ) → Nowhere (Passes (is
     → parts_of separator text ≡ text ∷ []
 parts_of-whole separator text nowhere = parts_of_one separator text (lacks separator text nowhere)
 
+-- a text without the separator isn't cut
 pub cut_at-none : (separator : ℕ) (text : List ℕ) → Nowhere (Passes (is_byte separator) text) 0 (length text)
     → cut_at separator text ≡ None
 cut_at-none separator text nowhere =
@@ -50,6 +51,7 @@ parts_of-cut separator text place first here =
     let at = place_is separator text place first here in
     slice_split_first (λ c. eqb c separator) text 0 (omega (arith, at, first.high)) ∙ rw (at, add-one) refl
 
+-- a text is cut at the first separator in it
 pub cut_at-some : (separator : ℕ) (text : List ℕ) (place : ℕ)
     → NoneBefore (Passes (is_byte separator) text) 0 (length text) place → Passes (is_byte separator) text place
     → cut_at separator text ≡ Some (take place text, drop (place + 1) text)
@@ -63,6 +65,7 @@ lines_of-whole text filled nowhere =
     ap (λ parts. map strip_carriage_return (without_empty_end parts)) (parts_of-whole line_feed text nowhere)
     ∙ ap (map strip_carriage_return) (cond-false _ _ _ (ne_eqb (length text) 0 (λ empty. omega arith)))
 
+-- a part that others follow is kept
 without_empty_end-more : (part : List ℕ) (parts : List (List ℕ)) → 0 < length parts
     → without_empty_end (part ∷ parts) ≡ part ∷ without_empty_end parts
 without_empty_end-more part [] some = absurd (omega arith)
@@ -95,10 +98,12 @@ cut_at-append separator before rest lacks =
 abbrev pub ends_no_line : ℕ → Bool
 ends_no_line c = not (eqb c line_feed) && not (eqb c carriage_return)
 
+-- a text of bytes that end no line has no line feed
 lacks_line_feed : (text : List ℕ) → list_all ends_no_line text ≡ true → Lacks line_feed text
 lacks_line_feed text plain = λ k d inside.
     not-true _ (and_parts _ _ (AllPass-from_list_all ends_no_line text plain k d inside)).0
 
+-- nor a carriage return at its end that would be stripped
 strip-plain : (text : List ℕ) → list_all ends_no_line text ≡ true → strip_carriage_return text ≡ text
 strip-plain [] plain = refl
 strip-plain (c ∷ cs) plain =
@@ -118,31 +123,36 @@ lines_of-one text plain =
 abbrev pub IsWord : List ℕ → Type 0
 IsWord text = LacksBlanks is_blank text
 
+-- what follows a word so that it ends there: nothing, or a blank
 abbrev pub EndsWord : List ℕ → Type 0
 EndsWord rest = EndsRun is_blank rest
 
--- a blank at the beginning is passed over, another byte isn't, and nor is a word
+-- a blank at the beginning is passed over
 pub after_blanks-blank : (c : ℕ) (cs : List ℕ) → is_blank c ≡ true → after_blanks (c ∷ cs) ≡ after_blanks cs
 after_blanks-blank = past_blanks-blank is_blank
 
+-- nothing is skipped if the first byte is no blank
 pub after_blanks-other : (c : ℕ) (cs : List ℕ) → is_blank c ≡ false → after_blanks (c ∷ cs) ≡ c ∷ cs
 after_blanks-other = past_blanks-other is_blank
 
+-- nor in front of a word that has a byte
 pub after_blanks-word : (word rest : List ℕ) → IsWord word → 0 < length word
     → after_blanks (word ++ rest) ≡ word ++ rest
 after_blanks-word = past_blanks-word is_blank
 
--- the first word, and what follows it
+-- the first word of a text that begins with one is that word
 pub first_word-append : (word rest : List ℕ) → IsWord word → EndsWord rest → first_word (word ++ rest) ≡ word
 first_word-append = front_word-append is_blank
 
+-- after a word comes what follows it, if the word ends there
 pub after_word-append : (word rest : List ℕ) → IsWord word → EndsWord rest → after_word (word ++ rest) ≡ rest
 after_word-append = past_word-append is_blank
 
--- the words of a text that begins with one, and of one that begins with a blank
+-- the words of a text that begins with a word are that one and those of the rest
 pub words_of-append : (word rest : List ℕ) → IsWord word → 0 < length word → EndsWord rest
     → words_of (word ++ rest) ≡ word ∷ words_of rest
 words_of-append = all_words-append is_blank
 
+-- a blank in front adds no word
 pub words_of-blank : (c : ℕ) (rest : List ℕ) → is_blank c ≡ true → words_of (c ∷ rest) ≡ words_of rest
 words_of-blank = all_words-blank is_blank

@@ -103,6 +103,7 @@ digits_spelled base n low high small =
       value = omega (arith, digits_value_after-place_value base 0 text, numeral.1);
     }
 
+-- a number of 64 bits is spelled by its decimal digits
 pub decimal_spelled : (n : ℕ) → n < 2 ^ 64 → Spelled 10 n (decimal n)
 decimal_spelled n small = digits_spelled 10 n (omega arith) (omega arith) small
 
@@ -147,6 +148,7 @@ pub leading-marked : (text : List ℕ) → begins_hexadecimal text ≡ true
     → leading text ≡ leading_run 16 2 (run_of 16 (drop 2 text))
 leading-marked text mark = rw mark refl
 
+-- a text that isn't hexadecimal begins with the number of its decimal digits, if it has 64 bits
 pub leading-plain : (text : List ℕ) → begins_hexadecimal text ≡ false
     → leading text ≡ cond (nat_le 1 (length (run_of 10 text)) && nat_le (place_value 10 (run_of 10 text)) (2 ^ 64 - 1))
     (Some (place_value 10 (run_of 10 text), length (run_of 10 text))) None
@@ -161,6 +163,7 @@ begins_numeral-smaller : (greatest smaller : ℕ) (text : List ℕ) → smaller 
     → begins_numeral greatest text ≡ false → begins_numeral smaller text ≡ false
 begins_numeral-smaller greatest smaller text below none = grind (arith, nat_tests)
 
+-- there is no number at a place where none of 64 bits begins
 pub numeral_at-none : (text : List ℕ) (at greatest : ℕ) → greatest ≤ 2 ^ 64 - 1
     → begins_numeral (2 ^ 64 - 1) (drop at text) ≡ false → numeral_at text at greatest ≡ None
 numeral_at-none text at greatest within none =
@@ -194,6 +197,7 @@ no_run : (base : ℕ) (rest : List ℕ) → EndsNumber base rest → prefix_len 
 no_run base [] ends = refl
 no_run base (c ∷ rest) ends = rw ends.0 refl
 
+-- digits are the longest run of them at the front, if what follows ends the number
 digits_run : (base : ℕ) (text rest : List ℕ) → are_digits base text ≡ true → EndsNumber base rest
     → run_of base (text ++ rest) ≡ text
 digits_run base text rest digits ends =
@@ -207,6 +211,7 @@ pub record Begins (n : ℕ) (written rest : List ℕ) : Type 0 where
   pub begins : (greatest : ℕ) → n ≤ greatest → begins_numeral greatest (written ++ rest) ≡ true
   pub after : drop (numeral_len (written ++ rest)) (written ++ rest) ≡ rest
 
+-- a number stands at the front if its value and its length are those of what was written
 begins : (n : ℕ) (written rest : List ℕ) → numeral_value (written ++ rest) ≡ n
     → numeral_len (written ++ rest) ≡ length written → 0 < length (digits_of (written ++ rest)) → Begins n written rest
 begins n written rest value len some =
@@ -219,6 +224,7 @@ begins n written rest value len some =
       after = ap (λ k. drop k text) len ∙ drop-append_seam written rest;
     }
 
+-- digits in decimal that spell a number stand at the front as that number
 pub spelled_begins : (n : ℕ) (written rest : List ℕ) → Spelled 10 n written → EndsNumber 10 rest
     → Begins n written rest
 spelled_begins n written rest spelled ends =
@@ -261,6 +267,7 @@ record IsWhole (greatest n : ℕ) (text : List ℕ) : Type 0 where
   len : numeral_len text ≡ length text
   value : n ≡ numeral_value text
 
+-- what is known of a whole text that was read as a number
 is_whole : (greatest n : ℕ) (text : List ℕ) → whole_number greatest text ≡ Some n → IsWhole greatest n text
 is_whole greatest n text is =
     let passed = test_passed (begins_numeral greatest text && eqb (numeral_len text) (length text))
@@ -286,6 +293,7 @@ decimal_stands greatest n text rest whole mark ends =
 abbrev starts_with_mark : ℕ → ℕ → Bool
 starts_with_mark first second = eqb first 48 && (eqb second 120 || eqb second 88)
 
+-- a whole text in hexadecimal stands as its number before what ends it
 hexadecimal_stands : (greatest n a b d : ℕ) (digits rest : List ℕ) → IsWhole greatest n (a ∷ b ∷ d ∷ digits)
     → begins_hexadecimal (a ∷ b ∷ d ∷ digits) ≡ true → EndsNumber 16 rest → Begins n (a ∷ b ∷ d ∷ digits) rest
 hexadecimal_stands greatest n a b d digits rest whole mark ends =

@@ -34,9 +34,11 @@ first_number_matches def (Bitmask value mask) lawful = eq-eqb _ _ refl
 spelled_1 : (n : ℕ) → number_of (n ∷ []) ≡ n
 spelled_1 n = omega arith
 
+-- two bytes spell a number of 16 bits
 spelled_2 : (n : ℕ) → n < 2 ^ 16 → number_of (to_be_bytes w16 n) ≡ n
 spelled_2 n h = omega arith
 
+-- four bytes spell a number of 32 bits
 spelled_4 : (n : ℕ) → n < 2 ^ 32 → number_of (to_be_bytes w32 n) ≡ n
 spelled_4 n h = omega arith
 
@@ -53,6 +55,7 @@ port_matches port h =
     let below : nat_le port last_port ≡ true = grind (arith, nat_tests) in
     rw (spelled_2 port h) (and_from _ _ above below)
 
+-- five lawful values, all source ports among them, match the packet that is aimed at them
 values_match : (rule : RuleView) (words : List ℕ) (a b e f g : FieldValue) →
     rule.fields ≡ a ∷ b ∷ e ∷ f ∷ g ∷ [] → AllZip IsLawfulValue ip4_fields (a ∷ b ∷ e ∷ f ∷ g ∷ []) →
     f ≡ Range 0 last_port → slice_index words 3 < 2 ^ 32 →
@@ -69,6 +72,7 @@ values_match rule words a b e f g is lawful all_ports fits =
     and_from _ _ (port_matches port (omega arith)) (
     and_from _ _ (spelled_matches _ g (to_be_bytes w16 (first_number g)) lawful.1.1.1.1.0 low) refl)))))
 
+-- and so do the values of a rule, however they are given
 fields_match : (rule : RuleView) (words : List ℕ) (values : List FieldValue) → rule.fields ≡ values →
     AllZip IsLawfulValue ip4_fields values → slice_get values 3 ≡ Some (Range 0 last_port) →
     slice_index words 3 < 2 ^ 32 →
@@ -83,6 +87,7 @@ fields_match rule words (a ∷ b ∷ e ∷ f ∷ g ∷ []) is lawful all_ports f
     values_match rule words a b e f g is lawful all fits
 fields_match rule words (a ∷ b ∷ e ∷ f ∷ g ∷ h ∷ values) is lawful all_ports fits = absurd lawful.1.1.1.1.1
 
+-- a packet that is aimed at a lawful rule for all source ports matches it
 pub aimed_packets_match : AimedPacketsMatch
 aimed_packets_match rule words lawful all_ports fits =
     let values = ((faultless_rules ip4_fields rule.tag rule.fields ip4_is_layout).0 lawful).values in

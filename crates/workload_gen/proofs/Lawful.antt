@@ -49,6 +49,7 @@ protocol index input offset value mask fits decides = record {
   filled = refl;
 }
 
+-- the protocol of a word is a lawful value
 protocol_of_words : (index input offset word : ℕ) →
     IsLawfulValue (field kinds.Bitmask 1 index input offset) (protocol_value word)
 protocol_of_words index input offset word =
@@ -60,12 +61,14 @@ protocol_of_words index input offset word =
       ])
     ]
 
+-- at most 32 bits of a source decide
 few_source_bits : (i : ℕ) → i < 3 → nat_le (slice_index source_bits i) 32 ≡ true
 few_source_bits zero h = refl
 few_source_bits (suc zero) h = refl
 few_source_bits (suc (suc zero)) h = refl
 few_source_bits (suc (suc (suc i))) h = absurd (omega arith)
 
+-- at most 32 bits of a destination decide
 few_destination_bits : (i : ℕ) → i < 4 → nat_le (slice_index destination_bits i) 32 ≡ true
 few_destination_bits zero h = refl
 few_destination_bits (suc zero) h = refl
@@ -73,9 +76,11 @@ few_destination_bits (suc (suc zero)) h = refl
 few_destination_bits (suc (suc (suc zero))) h = refl
 few_destination_bits (suc (suc (suc (suc i)))) h = absurd (omega arith)
 
+-- the address of a word has 4 bytes
 address_fits : (word : ℕ) → nat_lt (address word) (256 ^ 4) ≡ true
 address_fits word = grind (arith, nat_tests)
 
+-- the source of a word is a lawful value
 source_of_words : (index input offset word : ℕ) →
     IsLawfulValue (field kinds.Mask 4 index input offset) (source_value word)
 source_of_words index input offset word = record {
@@ -88,6 +93,7 @@ source_of_words index input offset word = record {
   filled = refl;
 }
 
+-- the destination of a word is a lawful value
 destination_of_words : (index input offset word : ℕ) →
     IsLawfulValue (field kinds.Mask 4 index input offset) (destination_value word)
 destination_of_words index input offset word = record {
@@ -113,6 +119,7 @@ ports index input offset low high filled fits = record {
   filled = grind (arith, nat_tests);
 }
 
+-- the destination ports of a word are a lawful value
 ports_of_words : (index input offset word : ℕ) → word < 2 ^ 32 →
     IsLawfulValue (field kinds.Range 2 index input offset) (destination_ports word)
 ports_of_words index input offset word fits =
