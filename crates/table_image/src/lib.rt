@@ -12,10 +12,10 @@
 #![tactic(auto)]
 
 mod counts;
-mod load_fault;
 mod field;
 pub mod laws;
 mod list;
+mod load_fault;
 mod loading;
 mod pair;
 mod rows;
