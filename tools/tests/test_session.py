@@ -1,4 +1,4 @@
-"""The example of `session`: its script and replies stand once more in a crate that the gate runs, and in README."""
+"""The example of `session`: its script and replies stand once more in a crate that the gate runs, and in docs/LISTS_ALONE.md."""
 import re
 import subprocess
 import unittest
@@ -23,7 +23,7 @@ class Session(unittest.TestCase):
     def test_the_page_has_each_line_beside_its_reply(self):
         replies = REPLIES.read_text().splitlines()
         self.assertEqual(len(calls()), len(replies))
-        page = (TOP / "README.md").read_text(encoding="utf-8").split("## Fields of your own\n", 1)[1]
+        page = (TOP / "docs" / "LISTS_ALONE.md").read_text(encoding="utf-8").split("## Fields of your own\n", 1)[1]
         block = re.search(r"(?s)```console\n(.*?)```", page)[1].splitlines()
         rows = [f"{line}\t{reply}".expandtabs(36) for line, reply in zip(calls(), replies)]
         self.assertEqual([line for line in block if not line.startswith("$")], rows)

@@ -1,4 +1,4 @@
-//! Words and rows in, a sound table or the first fault with the parts back out.
+//! words and rows → a sound table, or the first fault with the parts back
 //!
 //! A table is what the rules of one family are made into: tries, whose nodes are words of 64 bits
 //! in one list, and rows, which say for each category which rule wins. A walk begins with the root

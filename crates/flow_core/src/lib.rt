@@ -1,4 +1,4 @@
-//! A table, keys and a list of slots in, the row and the verdicts of each key out.
+//! a table, keys and a list of slots → the row and the verdicts of each key
 //!
 //! Here many walks go on at once. A job is the walk of one key through one trie, and jobs are given
 //! out by key and then by trie. A machine has a number of slots, and its step is one step of one
@@ -6,6 +6,10 @@
 //! match, the row that it names is joined into the row of the slot's own key, word by word the
 //! greater, and the slot is empty again. Whatever the order in which the slots are stepped, the
 //! rows are the same in the end.
+//!
+//! `run_schedule` and `Flows` are the model that lanes are proved against. Both they and the lanes
+//! of `lane_walk` keep the definitions of `specs/Machine.antt`: here slot by slot, in any order.
+//! Tests run the model, and no program does.
 //!
 //! ```text
 //!     jobs ──► slot 0: key, trie, depth, word ── match ──┐

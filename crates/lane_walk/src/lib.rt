@@ -1,4 +1,4 @@
-//! A table and keys in, the row and the verdicts of each key by a walk of many lanes at once out.
+//! a table and keys → the row and the verdicts of each key, by a walk of many lanes at once
 //!
 //! A machine by lanes is the flow machine of `flow_core`, whose slots are stepped in turns, each
 //! once and in order. A turn goes by four lanes at a time: each busy lane reads its word and its

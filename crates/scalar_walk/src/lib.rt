@@ -1,4 +1,4 @@
-//! A table and keys in, the row that each walk reaches and the verdicts of each key out.
+//! a table and keys → the row that each walk reaches, and the verdicts of each key
 //!
 //! A key is walked through each trie of the table, and each walk reaches a row. Of these rows the
 //! greatest word of a category decides: its low half is the verdict, the userdata of the rule that

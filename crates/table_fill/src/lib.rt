@@ -1,4 +1,4 @@
-//! The merged states of groups of rules in, the table of the rules out.
+//! the merged states of groups of rules → the table of the rules
 //!
 //! Each state becomes a node: one word where all bytes lead to one state, five where they part into
 //! up to five runs, and otherwise one for each byte. A word says where the node that it leads to

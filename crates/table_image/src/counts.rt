@@ -5,8 +5,8 @@ ghost use Rattle.table_sizes.specs.Sizes.{max_rules, max_tries, max_words, row_l
 ghost use Rattle.table_image.specs.ImageReading.{counts};
 ghost use Rattle.table_image.specs.Loading.{counts_of};
 
-use crate::load_fault::{ImageFault, ImageKind};
 use crate::field::{checked, short};
+use crate::load_fault::{ImageFault, ImageKind};
 use table_sizes::{MAX_RULES, MAX_TRIES, MAX_WORDS, ROW_LEN};
 
 /// How many rules, tries and rows a table has, row 0 not counted.

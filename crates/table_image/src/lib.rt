@@ -1,4 +1,4 @@
-//! Pairs of tables in, their image out; any bytes in, the pair or the first failing check out.
+//! a pair of tables → its image; any bytes → the pair, or the first failing check
 //!
 //! An image is a header, the two tables of a pair one after the other, and nothing after them. It
 //! is read field by field: each part says what is first found wrong in it, with its place.
@@ -12,10 +12,10 @@
 #![tactic(auto)]
 
 mod counts;
-mod load_fault;
 mod field;
 pub mod laws;
 mod list;
+mod load_fault;
 mod loading;
 mod pair;
 mod rows;

@@ -6,8 +6,8 @@ ghost use Rattle.table_image.specs.Spelling.{IsImage};
 ghost use Rattle.table_image.specs.ImageReading.{version_of, version_read, image_of};
 ghost use Rattle.table_image.specs.Loading.{IsFaultOf, pair_of};
 
-use crate::load_fault::{ImageFault, ImageKind, LoadFault};
 use crate::field::{checked, short};
+use crate::load_fault::{ImageFault, ImageKind, LoadFault};
 use crate::pair::TablePair;
 use crate::saving::MAGIC;
 use crate::table::read_table;

@@ -7,9 +7,9 @@ ghost use Rattle.table_image.specs.Spelling.{is_row_word};
 ghost use Rattle.table_image.specs.ImageReading.{numbers, rows_after, row_bytes, no_rule};
 ghost use Rattle.table_image.specs.Loading.{IsFaultOf};
 
-use crate::load_fault::{ImageFault, ImageKind, LoadFault};
 use crate::field::{LONG, checked, long};
 use crate::list::push;
+use crate::load_fault::{ImageFault, ImageKind, LoadFault};
 use std::alloc::Global;
 use table_sizes::ROW_LEN;
 

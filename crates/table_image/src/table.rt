@@ -8,8 +8,8 @@ ghost use Rattle.table_image.specs.ImageReading.{table_read};
 ghost use Rattle.table_image.specs.Loading.{IsFaultOf, table_of_read};
 
 use crate::counts::Counts;
-use crate::load_fault::LoadFault;
 use crate::field::LONG;
+use crate::load_fault::LoadFault;
 use crate::rows::{ROW_BYTES, read_rows};
 use crate::tries::Tries;
 use crate::version::Version;

@@ -11,9 +11,9 @@ ghost use Rattle.table_image.specs.Spelling.{all_groups, kept_len};
 ghost use Rattle.table_image.specs.ImageReading.{numbers, tested, level_fits, kept_groups, one_trie, trie_of, tries_after, no_tries};
 ghost use Rattle.table_image.specs.Loading.{IsFaultOf, tries_of};
 
-use crate::load_fault::{ImageFault, ImageKind, LoadFault};
 use crate::field::{LONG, SHORT, checked, long, short};
 use crate::list::push;
+use crate::load_fault::{ImageFault, ImageKind, LoadFault};
 use crate::version::Version;
 use flat_table::{Level, depth_of, is_kept_word};
 use std::alloc::{AllocError, Global};

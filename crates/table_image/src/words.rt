@@ -11,9 +11,9 @@ ghost use Rattle.table_image.specs.declared.load_fault.ImageKind.TheVariants.{Un
 ghost use Rattle.table_image.specs.ImageReading.{checked, numbers_after, words_of_levels, words_of_tries};
 ghost use Rattle.table_image.specs.Loading.{IsFaultOf, levels_of_tries};
 
-use crate::load_fault::{ImageFault, ImageKind, LoadFault};
 use crate::field::{LONG, PORTION, checked};
 use crate::list::push_copies;
+use crate::load_fault::{ImageFault, ImageKind, LoadFault};
 use crate::tries::Tries;
 use byte_numbers::network_u64_at;
 use flat_table::{Level, MATCH, depth_of, is_sound_word};

@@ -1,6 +1,5 @@
-//! A rule set and a group of its rules in; the group's merged states, kept place by kept place,
-//! with the runs of bytes that lead from each, the rows at the end and the words of a table of them
-//! out, or that the words exceed a cap.
+//! a rule set and a group of its rules → the group's merged states for each kept place, with their
+//! runs, rows and words, or that the words exceed a cap
 //!
 //! What states, rows and runs are, and what they have to do with keys that match, `group_states`
 //! says: the state of a group after some bytes of a key is the list of its rules that can still
