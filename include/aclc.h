@@ -93,7 +93,7 @@ enum {
     ACLC_FULL = 12,          /* with these rules the context would hold more than it may */
     ACLC_TOO_LARGE = 13,     /* the table needs more words than the budget */
     ACLC_NULL = 14,          /* a pointer is null */
-    ACLC_NO_IMAGE = 15,      /* the keys haven't 13 bytes in one table and 37 in the other */
+    ACLC_NO_IMAGE = 15,      /* no image has the tables, as if their keys haven't 13 and 37 bytes */
     ACLC_NO_ROOM = 16,       /* the image has more bytes than there is room for */
     /* of field definitions */
     ACLC_TOO_MANY_FIELDS = 32,    /* more than ACLC_MAX_FIELDS */
@@ -197,7 +197,7 @@ uint32_t aclc_version(void);
  * ACLC_TOO_MANY_FIELDS, ACLC_BAD_KIND: with the first definition whose kind is none; then
  * ACLC_NO_FIELDS to ACLC_OFFSET_TOO_LARGE: each kind of fault is looked for over all definitions
  * before the next, in the order of the codes.
- * ACLC_NO_MEMORY. It takes memory for the context, some 2 KiB.
+ * ACLC_NO_MEMORY. It takes memory for the context.
  */
 aclc_code aclc_create(struct aclc_context *context, const struct aclc_field *fields,
                       size_t field_count, uint32_t max_rules, uint32_t *place);
@@ -246,7 +246,7 @@ aclc_code aclc_build(struct aclc_context *context, uint64_t budget, uint64_t *wo
  *
  * ACLC_EMPTY: the handle is empty.
  * ACLC_TOO_MANY_KEYS: keys is above ACLC_MAX_KEYS.
- * ACLC_NO_MEMORY: the room that was there stays. It takes 128 bytes for each key.
+ * ACLC_NO_MEMORY: the room that was there stays. It takes memory for a row of 16 words a key.
  */
 aclc_code aclc_lanes(struct aclc_context *context, uint32_t keys);
 
@@ -261,7 +261,8 @@ aclc_code aclc_lanes(struct aclc_context *context, uint32_t keys);
  * 1, and so on, then those of the second. verdicts_len counts verdicts, and fits exactly. A verdict
  * is the userdata of the winner, and 0 where no rule wins. Where a rule has userdata 0, aclc_marks
  * tells the two apart.
- * transitions: how many words of the table the walks read.
+ * transitions: how many transitions the walks take, one for each word that leads a walk on. What is
+ * read of the table beside them isn't counted, as by a walk in step that has ended.
  *
  * ACLC_EMPTY: the handle is empty.
  * ACLC_NOT_BUILT: no build succeeded since the context was made or reset.
@@ -335,8 +336,7 @@ void aclc_free(struct aclc_context *context);
  * ACLC_EMPTY: the handle of the context is empty.
  * ACLC_TAKEN: the handle of the table isn't.
  * ACLC_NOT_BUILT: no build succeeded since the context was made or reset.
- * ACLC_NO_MEMORY. It takes memory for the copy: 8 bytes for each word, 4 for each byte of a key and
- * each trie, and some 9 KiB.
+ * ACLC_NO_MEMORY. It takes memory for the copy, of which the words take the most.
  */
 aclc_code aclc_table_copy(struct aclc_context *context, struct aclc_table *table);
 
@@ -349,7 +349,7 @@ aclc_code aclc_table_copy(struct aclc_context *context, struct aclc_table *table
  *
  * ACLC_EMPTY: the handle of the table is empty.
  * ACLC_TAKEN: the other handle isn't.
- * ACLC_NO_MEMORY. It takes memory for the handle's own part, less than 100 bytes.
+ * ACLC_NO_MEMORY. It takes memory for the handle's own part.
  */
 aclc_code aclc_table_share(struct aclc_table *table, struct aclc_table *other);
 
@@ -399,10 +399,11 @@ void aclc_table_free(struct aclc_table *table);
  * image, room: where the image is written, from the first byte on, and how many bytes there are.
  * Those after the image stay.
  * image_len: on ACLC_OK and ACLC_NO_ROOM how many bytes the image has; else it stays. So a call
- * with no room asks for it. It takes 8 bytes for each word, 128 for each row, and less than 2 KiB.
+ * with no room asks for it. Most of them are the 8 bytes of each word and the 128 of each row.
  *
  * ACLC_EMPTY: one of the handles is empty.
- * ACLC_NO_IMAGE: the keys of ip4 haven't 13 bytes, or those of ip6 haven't 37.
+ * ACLC_NO_IMAGE: the keys of ip4 haven't 13 bytes, or those of ip6 haven't 37. It would come of a
+ * table with a row that isn't of its rules, too, and no build and no load makes one.
  * ACLC_NO_ROOM: the image has more bytes. Nothing is written of it.
  * ACLC_NO_MEMORY. It takes memory for the image, and gives that back.
  */
@@ -421,8 +422,7 @@ aclc_code aclc_save(struct aclc_table *ip4, struct aclc_table *ip6, uint8_t *ima
  *
  * ACLC_TAKEN: one of the handles isn't empty.
  * ACLC_IMAGE_MAGIC to ACLC_IMAGE_KEPT_GROUPS: of the first field that fails its check.
- * ACLC_NO_MEMORY. It takes memory for the tables, and never for words that aren't there: of bytes
- * that are no image some 8 KiB more than they are.
+ * ACLC_NO_MEMORY. It takes memory for the tables.
  */
 aclc_code aclc_load(struct aclc_table *ip4, struct aclc_table *ip6, const uint8_t *image,
                     size_t image_len, uint64_t *place);
