@@ -154,9 +154,6 @@ row_difference set levels more unlike =
     option_map (λ (u : Unlike). record { key = key_of_row set levels u.row; category = more + u.category }) unlike
 
 module _ (set : RuleSetView) (is : IsGrouped set (all_rules set)) (among : TheWinnerIsAmongAllPlaces) where
-  abbrev row_of_key : List ℕ → List ℕ
-  row_of_key key = final_row set (state set (all_rules set) key)
-
   verdict_by_row : (key : List ℕ) → length key ≡ key_len_of set.layout → (category : ℕ) → category < row_len
       → entry_userdata set.rules (get_or (final_row set (state set (all_rules set) key)) category 0)
       ≡ verdict_of set key category

@@ -138,9 +138,6 @@ not_live (h ∷ s) dead = absurd (true≢false dead)
 -- ---- what keys lead to
 
 module _ (set : RuleSetView) (group : List ℕ) (is : IsGrouped set group) where
-  abbrev pub st : List ℕ → List Held
-  st key = state set group key
-
   -- the lists of bytes whose states are found
   abbrev pub states_found : List (List ℕ) → List (List ℕ)
   states_found keys = found_by same_state is_live (state set group) keys

@@ -152,10 +152,6 @@ module _ (set : RuleSetView) (is : IsGrouped set (all_rules set)) (among : TheWi
   -- numbers of first rows and the keys of the rows tell the least keys
   module _ (firsts : List (List ℕ))
       (are : AreFirsts (levels_of set (all_rules set)).rows (length set.rules) firsts) where
-    told_keys : List ℕ
-    told_keys = keys_traced levels (kept_places set (all_rules set)) (key_len_of set.layout)
-        (length (levels_of set (all_rules set)).rows)
-
     one_rule : (rule : ℕ) → rule < length firsts
         → map (least_key set rule) categories
         ≡ map (key_numbered (flat_map (λ key. key) keys) (key_len_of set.layout)) (get_or firsts rule [])

@@ -1,5 +1,5 @@
 -- Numbers of keys.
-use Rattle.std.proofs.Common.{◌≡◌, ℕ, ◌+◌, ◌-◌, ◌<◌, ◌≤◌, List, [], ◌∷◌, ◌++◌, length, get_or, Bool, true, false, cond}
+use Rattle.std.proofs.Common.{◌≡◌, ℕ, ◌+◌, ◌-◌, ◌<◌, List, [], ◌∷◌, ◌++◌, length, get_or, Bool, true, false, cond}
 use Rattle.std.proofs.Common.{not, ◌||◌, refl, sym, ◌∙◌, ap, inl, inr, true≢false, arith, suc}
 use Rattle.std.specs.List.{list_any, position_or_len}
 use Rattle.std.proofs.lemmas.List.{append-nil}
@@ -56,9 +56,6 @@ module _ {X : Type 0} (same : X → X → Bool) where
 
   pub key_some : (keys : List X) (key : X) (number : ℕ) → KeyAt same keys key number → 0 < number
   key_some keys key number is = omega (arith, is.at)
-
-  pub key_within : (keys : List X) (key : X) (number : ℕ) → KeyAt same keys key number → number ≤ length keys
-  key_within keys key number is = omega (arith, is.at, place_below key keys is.there)
 
   module _ (sound : (x y : X) → same x y ≡ true → x ≡ y) where
     key_there : (key d : X) (keys : List X) → list_any (same key) keys ≡ true
