@@ -148,9 +148,11 @@ field_steps def value (k ∷ ks) byte lawful begun below =
 -- ---- the cases of the edge kept
 
 module _ (def : FieldDef) (defs : List FieldDef) (value : FieldValue) (values : List FieldValue) (key : List ℕ) where
+  -- inside the first field the kept edge is that of the field
   pub packed_in : length key < def.size → packed_edge (def ∷ defs) (value ∷ values) key ≡ kept_in value def.size key
   packed_in begun = cond-true _ _ _ (lt-ltb (length key) def.size begun)
 
+  -- after the first field the kept edge is that of the others, if the field matches
   pub packed_after : def.size ≤ length key → packed_edge (def ∷ defs) (value ∷ values) key
       ≡ cond (field_match value def.size (number_of (take def.size key))) (packed_edge defs values (drop def.size key))
       None
