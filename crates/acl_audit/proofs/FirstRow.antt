@@ -13,16 +13,19 @@ module _ (rules : List RuleView) (row : List ℕ) where
   NoneBefore category =
       unlike_category rules row ≡ find (is_unlike_in rules row) (range_with_len category (8 - category))
 
+  -- no category is before the first one
   pub none_yet : NoneBefore 0
   unfolding NoneBefore eight_from
   none_yet = λ i. unlike_category rules row
 
+  -- the categories from one on are it and those after it
   left_more : (category : ℕ) → category < 8
       → range_with_len category (8 - category) ≡ category ∷ range_with_len (category + 1) (8 - (category + 1))
   left_more category below =
       let e : 8 - category ≡ suc (8 - (category + 1)) = omega (arith, below) in
       ap (range_with_len category) e
 
+  -- after a category that answers alike those before the next one do
   pub one_alike : (category : ℕ) → category < 8 → is_unlike_in rules row category ≡ false → NoneBefore category
       → NoneBefore (category + 1)
   unfolding NoneBefore
@@ -32,6 +35,7 @@ module _ (rules : List RuleView) (row : List ℕ) where
       (range_with_len (category + 1) (8 - (category + 1)))))
       alike
 
+  -- a category that is unlike after those that answer alike is the first
   pub here_unlike : (category : ℕ) → category < 8 → is_unlike_in rules row category ≡ true → NoneBefore category
       → Some category ≡ unlike_category rules row
   unfolding NoneBefore
@@ -41,6 +45,7 @@ module _ (rules : List RuleView) (row : List ℕ) where
       (range_with_len (category + 1) (8 - (category + 1)))))
       unlike)
 
+  -- if all categories answer alike, none is unlike
   pub all_alike : (category : ℕ) → 8 ≤ category → NoneBefore category → None ≡ unlike_category rules row
   unfolding NoneBefore
   all_alike category end before =
@@ -52,5 +57,6 @@ module _ (rules : List RuleView) (rows : List (List ℕ)) where
   abbrev pub NoRowBefore : ℕ → Type 0
   NoRowBefore row = first_unlike rules 0 rows ≡ first_unlike rules row (drop row rows)
 
+  -- if all rows answer alike, none is unlike
   pub no_row : (row : ℕ) → length rows ≤ row → NoRowBefore row → None ≡ first_unlike rules 0 rows
   no_row row end before = sym (before ∙ ap (first_unlike rules row) (drop_all row rows end))
