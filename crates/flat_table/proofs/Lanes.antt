@@ -61,7 +61,7 @@ module _ (table : TableView) (trie : ℕ) (key : List ℕ) (sound : sound_fault 
     level = λ _. root_leads table trie sound lt;
   }
 
-  -- a walk stands at the word to which the byte led it
+  -- after one more byte a walk stands at the word to which the byte leads
   moves : (word byte n : ℕ) → Stands table trie key n word → byte < 256 →
       word_after table trie key (n + 1) ≡ moved table.words (word_after table trie key n) byte →
       Stands table trie key (n + 1) (moved table.words word byte)
@@ -88,7 +88,7 @@ module _ (table : TableView) (trie : ℕ) (key : List ℕ) (sound : sound_fault 
             }
       ]
 
-  -- one more byte leads the walk on
+  -- a walk has what one more byte needs
   pub goes : (n place byte word : ℕ) → n < length (places_of table trie) →
       place ≡ slice_index (places_of table trie) n → byte ≡ slice_index key place → byte < 256 →
       Stands table trie key n word → Goes table trie key n word byte

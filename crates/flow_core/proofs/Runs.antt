@@ -72,7 +72,7 @@ module _ (table : TableView) (keys : List ℕ) where
   same_width state slot = width_of state slot (get_or state.machine.slots slot None)
 
 module _ (table : TableView) (keys : List ℕ) where
-  -- the first state is as each state of a machine is
+  -- what holds of every state holds of the first one
   pub first_flown : (width : ℕ) → IsFlown table keys (first_state table keys width)
   first_flown width = record {
     jobs = refl;
@@ -86,7 +86,7 @@ module _ (table : TableView) (keys : List ℕ) where
   }
 
   module _ (stay : WalksStay) (sound : sound_fault table ≡ None) (bytes : AreBytes keys) where
-    -- and so is the state after a word
+    -- it holds after a word
     after_flight : (state : FlowState) (i : ℕ) → i < length state.machine.slots → IsFlown table keys state →
         (flight : Flight) → get_or state.machine.slots i None ≡ Some flight →
         IsFlown table keys (after_word table state i flight (word_of table keys flight))
@@ -100,7 +100,7 @@ module _ (table : TableView) (keys : List ℕ) where
           | inr on ↦ rw on (goes_on table keys state i within flown flight busy took on)
         ]
 
-    -- and so is the state after a step of what the slot holds
+    -- it holds after a step of what the slot holds
     step_kept : (state : FlowState) (i : ℕ) → i < length state.machine.slots → IsFlown table keys state →
         (held : Option Flight) → get_or state.machine.slots i None ≡ held →
         IsFlown table keys (step_of table keys state i held)
@@ -115,7 +115,7 @@ module _ (table : TableView) (keys : List ℕ) where
     ]
     step_kept state i within flown (Some flight) busy = after_flight state i within flown flight busy
 
-    -- and so is the state after each step
+    -- it holds after each step
     pub flown_step : (state : FlowState) (i : ℕ) → i < length state.machine.slots → IsFlown table keys state →
         IsFlown table keys (flow_step table keys state i)
     flown_step state i within flown = step_kept state i within flown (get_or state.machine.slots i None) refl
@@ -130,7 +130,7 @@ module _ (table : TableView) (keys : List ℕ) where
         (All-tail (λ s. s < length state.machine.slots) slot slots below))
         (flown_step state slot (All-head (λ s. s < length state.machine.slots) slot slots below) flown)
 
-    -- and so is the state after the steps of any list of slots
+    -- it holds after the steps of any list of slots
     pub from_first : (width : ℕ) (slots : List ℕ) → AreSlots width slots →
         IsFlown table keys (flow_from_first table keys width slots)
     from_first width slots below =

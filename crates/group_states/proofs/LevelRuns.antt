@@ -38,7 +38,7 @@ group_held set group held layout within =
     (recursion_from_All (λ number. number < length set.rules) group within)
 
 module _ (set : RuleSetView) (group : List ℕ) (held : AllByRecursion (IsHeld set) group) where
-  -- at place 0 the entries of all rules are found, and no others
+  -- at place 0 one list of entries is found, which is that before the first byte
   packed_at_zero : (entry : ℕ) (entries : List ℕ) → packed_state set group [] ≡ entry ∷ entries
       → packed_at set group 0 ≡ (entry ∷ entries) ∷ []
   unfolding packed_at found_in prefixes
@@ -76,7 +76,7 @@ module _ (set : RuleSetView) (group : List ℕ) (held : AllByRecursion (IsHeld s
     pub rows : length places ≡ 0
         → level_found set (column_at set place) is_last (packed_at set group place) ≡ rows_of set group
 
-  -- what is found at a kept place and its runs are those of its states
+  -- the runs of a kept place are those of what is found there, and lead to what is found next
   pub level_is : (place : ℕ) (places : List ℕ) → Gaps set group (place ∷ places)
       → LevelIs place places (length places == 0)
   unfolding level_runs

@@ -57,7 +57,7 @@ module _ (set : RuleSetView) (budget : ℕ) where
         first.1,
       )
 
-  -- after the last turn there are at most as many groups as tries
+  -- after the last turn there are at most as many groups as there may be tries
   pub last_few : (groups : List Counted) → map group_in groups ≡ groups_of set budget → length groups ≤ max_tries
   last_few groups is = omega (arith, length-map groups group_in, ap length is, (split_once set budget).1)
 

@@ -376,7 +376,7 @@ module _ (set : RuleSetView) (groups : List (List ℕ)) (can : CanBeFilled set g
 
   -- ---- the word that a trie gives
 
-  -- the kept word of a group's states is that of its kept bytes
+  -- the merged states keep the bits of the group
   level_parts : (group : List ℕ) → ((levels_of set group).kept ≡ kept_bits set group)
   unfolding levels_of
   level_parts group = refl
