@@ -3,6 +3,7 @@ use Rattle.std.proofs.Common.{◌≡◌, ℕ, suc, ◌+◌, ◌-◌, ◌<◌, Li
 use Rattle.acl_audit.specs.declared.links.Link.{Link}
 use Rattle.acl_audit.specs.Traced.{link_at, traced, AreChained}
 
+-- the key that is read from a link on, with its byte set, is the one that is read from its row
 pub one_back : (levels : List (List Link)) (places : List ℕ) (n passed number : ℕ) (key : List ℕ) (link : Link)
     → passed < n → link ≡ link_at levels (n - 1 - passed) number
     → traced levels places (n - (passed + 1)) link.before
@@ -17,6 +18,7 @@ one_back levels places n passed number key link within is =
     (slice_set key (get_or places (n - 1 - passed) 0) l.byte)) is
     ∙ ap (λ d. traced levels places d number key) (sym one)
 
+-- a link leads back to a link of the place before
 pub lower_number : (levels : List (List Link)) (n passed number : ℕ) (link : Link) → AreChained levels
     → n ≡ length levels
     → passed + 1 < n → number < length (get_or levels (n - passed - 1) [])

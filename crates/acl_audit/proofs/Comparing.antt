@@ -154,9 +154,7 @@ row_difference set levels more unlike =
     option_map (λ (u : Unlike). record { key = key_of_row set levels u.row; category = more + u.category }) unlike
 
 module _ (set : RuleSetView) (is : IsGrouped set (all_rules set)) (among : TheWinnerIsAmongAllPlaces) where
-  abbrev row_of_key : List ℕ → List ℕ
-  row_of_key key = final_row set (state set (all_rules set) key)
-
+  -- the verdict of a key is the userdata of the entry in its row
   verdict_by_row : (key : List ℕ) → length key ≡ key_len_of set.layout → (category : ℕ) → category < row_len
       → entry_userdata set.rules (get_or (final_row set (state set (all_rules set) key)) category 0)
       ≡ verdict_of set key category
@@ -164,6 +162,7 @@ module _ (set : RuleSetView) (is : IsGrouped set (all_rules set)) (among : TheWi
       ap (entry_userdata set.rules) (entry_is_winner set is among key long category within)
       ∙ userdata_is set.rules (winner set.layout set.rules key category)
 
+  -- the first unlike category of a key is that of its row
   category_by_row : (key : List ℕ) → length key ≡ key_len_of set.layout
       → unlike_category set.rules (final_row set (state set (all_rules set) key))
       ≡ find (unlike_inside set key) (eight_from 0)
@@ -177,6 +176,7 @@ module _ (set : RuleSetView) (is : IsGrouped set (all_rules set)) (among : TheWi
   abbrev differs : List ℕ → Bool
   differs row = is_some (unlike_category set.rules row)
 
+  -- a row that differs is live
   differing_is_live : (row : List ℕ) → differs row ≡ true → is_live row ≡ true
   differing_is_live [] named = absurd (true≢false (sym named ∙ ap is_some (dead_row set.rules)))
   differing_is_live (entry ∷ row) named = refl

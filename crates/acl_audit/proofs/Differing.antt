@@ -130,6 +130,7 @@ first_of_none None (Some y) is = absurd (cc)
 first_of_none (Some y) b is = absurd (cc)
 
 module _ (test : List ℕ → ℕ → Bool) (first : ℕ) where
+  -- a difference that is found has its key, and the first category that passes there
   found_there : (found : Option (List ℕ)) (at : Difference) → with_category test first found ≡ Some at
       → (found ≡ Some at.key) × (find (test at.key) (eight_from first) ≡ Some at.category)
   found_there None at is = absurd (cc)
@@ -146,6 +147,7 @@ module _ (test : List ℕ → ℕ → Bool) (first : ℕ) where
                 ∙ ap (λ (d : Difference). Some d.category) same,
           )
 
+  -- if there is no difference at a key, no category passes there
   none_there : (key : List ℕ) → with_category test first (Some key) ≡ None
       → list_any (test key) (eight_from first) ≡ false
   none_there key none = any_by_find (test key) (eight_from first) (by (find (test key) (eight_from first)) none)
@@ -199,6 +201,7 @@ module _ (one two : RuleSetView) where
           (not-false (verdict_of one key category == verdict_of two key category)
           (none_in_range (is_unlike one two key) first 8 category no_key from below))
 
+  -- at a difference the sets are unlike
   some_unlike : (at : Difference) → difference one two ≡ Some at → AreUnlikeAt one two at
   unfolding difference
   some_unlike at is = elim (first_of_two (difference_from one two 0) (difference_from one two 8) at is) [
@@ -206,6 +209,7 @@ module _ (one two : RuleSetView) where
     | inr high ↦ unlike_at 8 at (omega arith) high
   ]
 
+  -- without a difference the sets are alike
   none_alike : difference one two ≡ None → AreAlike one two
   unfolding difference
   none_alike none = λ key category its below.
@@ -215,6 +219,7 @@ module _ (one two : RuleSetView) where
         | inr high ↦ alike_from 8 both.1 key category its (omega (arith, high)) (omega (arith, below))
       ])
 
+  -- sets that are alike have no difference
   alike_none : AreAlike one two → difference one two ≡ None
   alike_none alike = by (difference one two) refl
     where

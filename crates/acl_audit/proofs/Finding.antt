@@ -38,9 +38,11 @@ found_by-map {X} same live of g xs =
     all_of (y ∷ ys) = (tt, all_of ys)
 
 module _ {X V : Type 0} (same : V → V → Bool) (live : V → Bool) (of : X → V) where
+  -- the value of an element is live and not among those found
   abbrev NewBy : List X → X → Bool
   NewBy found x = is_new (λ y z. same (of y) (of z)) (λ y. live (of y)) found x
 
+  -- no element has a new value
   abbrev pub NoneNewBy : List X → List X → Type 0
   NoneNewBy found xs = NoneNew (λ y z. same (of y) (of z)) (λ y. live (of y)) found xs
 
@@ -48,6 +50,7 @@ module _ {X V : Type 0} (same : V → V → Bool) (live : V → Bool) (of : X �
   pub new_alike : (found : List X) (x y : X) → of x ≡ of y → NewBy found x ≡ NewBy found y
   new_alike found x y e = ap (λ v. live v && not (list_any (λ z. same v (of z)) found)) e
 
+  -- what has nothing new by its values has none if the values are the same
   pub none_new_alike : (found xs ys : List X) → map of xs ≡ map of ys → NoneNewBy found ys → NoneNewBy found xs
   none_new_alike found [] ys e none = tt
   none_new_alike found (x ∷ xs) [] e none = absurd (cc)
@@ -73,9 +76,11 @@ pub record LeadsAlike {X Y V W : Type 0} (same : V → V → Bool) (live : V →
 module _ {X Y V W : Type 0} {same : V → V → Bool} {live : V → Bool} {of : X → V} {same_y : W → W → Bool}
     {live_y : W → Bool} {of_y : Y → W} {f : X → List Y} {P : X → Type 0}
     (its : LeadsAlike same live of same_y live_y of_y f P) where
+  -- the elements found with one more of those that are led to
   abbrev with_y : List Y → Y → List Y
   with_y found y = found_with (λ y z. same_y (of_y y) (of_y z)) (λ y. live_y (of_y y)) found y
 
+  -- the elements found with one more
   abbrev with_x : List X → X → List X
   with_x found x = found_with (λ y z. same (of y) (of z)) (λ y. live (of y)) found x
 
@@ -130,6 +135,7 @@ module _ {X Y V W : Type 0} {same : V → V → Bool} {live : V → Bool} {of : 
       none true is false is_m old =
           absurd (true≢false (sym (ap (λ b. b && true) is) ∙ ap (λ b. live (of x) && not b) (sym is_m) ∙ old))
 
+  -- what holds of elements and one more holds of those found with it
   all_with : (acc : List X) (x : X) → AllByRecursion P acc → P x → AllByRecursion P (with_x acc x)
   all_with acc x ps px = by (is_new (λ y z. same (of y) (of z)) (λ y. live (of y)) acc x)
     where
@@ -141,6 +147,7 @@ module _ {X Y V W : Type 0} {same : V → V → Bool} {live : V → Bool} {of : 
       by true = pushed acc ps
       by false = ps
 
+  -- what found elements lead to is found as what all elements lead to
   finds_of_finds : (acc xs : List X) → AllByRecursion P acc → AllByRecursion P xs
       → fold with_y [] (flat_map f (fold with_x acc xs)) ≡ fold with_y (fold with_y [] (flat_map f acc)) (flat_map f xs)
   finds_of_finds acc [] ps qs = refl
@@ -160,14 +167,17 @@ module _ {X Y V W : Type 0} {same : V → V → Bool} {live : V → Bool} {of : 
 module _ {X Y W : Type 0} (same : W → W → Bool) (live : W → Bool) (of : Y → W) (reflexive : (w : W) → same w w ≡ true)
     (first : X → Y) (rest : X → List Y) (P : X → Type 0)
     (repeats : (x : X) → P x → AllByRecursion (λ y. of y ≡ of (first x)) (rest x)) where
+  -- the elements found with one more of those that stand for values
   abbrev with_one : List Y → Y → List Y
   with_one found y = found_with (λ y z. same (of y) (of z)) (λ y. live (of y)) found y
 
+  -- what stands for an element that isn't new has nothing new
   old_alike : (found : List Y) (y : Y) (ys : List Y) → is_new (λ y z. same (of y) (of z)) (λ y. live (of y)) found y
       ≡ false → AllByRecursion (λ z. of z ≡ of y) ys → NoneNewBy same live of found ys
   old_alike found y [] old all = tt
   old_alike found y (z ∷ zs) old all = (new_alike same live of found z y all.0 ∙ old, old_alike found y zs old all.1)
 
+  -- the first ones are found as they are with those after them
   firsts_alone : (acc : List Y) (xs : List X) → AllByRecursion P xs
       → fold with_one acc (flat_map (λ x. first x ∷ rest x) xs) ≡ fold with_one acc (map first xs)
   firsts_alone acc [] ps = refl
@@ -180,6 +190,7 @@ module _ {X Y W : Type 0} (same : W → W → Bool) (live : W → Bool) (of : Y 
       (repeats x ps.0)))
       ∙ firsts_alone (with_one acc (first x)) xs ps.1
 
+  -- so all that is found is found among the first ones
   pub found_firsts : (xs : List X) → AllByRecursion P xs
       → found_by same live of (flat_map (λ x. first x ∷ rest x) xs) ≡ found_by same live of (map first xs)
   unfolding found_in
@@ -189,9 +200,11 @@ module _ {X Y W : Type 0} (same : W → W → Bool) (live : W → Bool) (of : Y 
 module _ {X V : Type 0} (same : V → V → Bool) (live : V → Bool) (of : X → V)
     (sound : (v w : V) → same v w ≡ true → v ≡ w) (test : V → Bool)
     (lives : (v : V) → test v ≡ true → live v ≡ true) where
+  -- the value of the element passes
   abbrev passes : X → Bool
   passes x = test (of x)
 
+  -- the elements found with one more whose value may be new
   abbrev with_v : List X → X → List X
   with_v found x = found_with (λ y z. same (of y) (of z)) (λ y. live (of y)) found x
 
@@ -209,10 +222,12 @@ module _ {X V : Type 0} (same : V → V → Bool) (live : V → Bool) (of : X �
     ]
   ]
 
+  -- nothing after an answer changes it
   none_after : (o : Option X) → first_then o None ≡ o
   none_after None = refl
   none_after (Some x) = refl
 
+  -- the first that passes with one more is that before it, or else the one
   one_then : (acc : List X) (x : X) → find passes (with_v acc x) ≡ first_then (find passes acc) (find passes (x ∷ []))
   one_then acc x = elim (cases_Bool (is_new (λ y z. same (of y) (of z)) (λ y. live (of y)) acc x)) [
     | inl new ↦
@@ -232,10 +247,12 @@ module _ {X V : Type 0} (same : V → V → Bool) (live : V → Bool) (of : X �
       known true h = refl
       known false h = absurd (true≢false h)
 
+  -- it doesn't matter which two of three answers are taken first
   then_assoc : (a b c : Option X) → first_then (first_then a b) c ≡ first_then a (first_then b c)
   then_assoc None b c = refl
   then_assoc (Some x) b c = refl
 
+  -- the first that passes among those found after some is that of all
   finds_then : (acc xs : List X) → find passes (fold with_v acc xs) ≡ first_then (find passes acc) (find passes xs)
   finds_then acc [] = sym (none_after (find passes acc))
   finds_then acc (x ∷ xs) =
@@ -244,6 +261,7 @@ module _ {X V : Type 0} (same : V → V → Bool) (live : V → Bool) (of : X �
       ∙ then_assoc (find passes acc) (find passes (x ∷ [])) (find passes xs)
       ∙ ap (first_then (find passes acc)) (sym (find-then passes (x ∷ []) xs))
 
+  -- the first that passes among those found is the first of all
   pub find_found : (xs : List X) → find passes xs ≡ find passes (found_by same live of xs)
   unfolding found_in
   find_found xs = sym (finds_then [] xs)

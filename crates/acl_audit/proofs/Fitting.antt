@@ -52,6 +52,7 @@ all_are_group set some =
 -- ---- the kept places
 
 module _ (set : RuleSetView) (group : List ℕ) where
+  -- a place is kept in the word exactly if its group is kept
   bit_says : (place : ℕ) → place < key_len_of set.layout → bits.is_kept (kept_bits set group) place
       ≡ is_kept set group (group_of place)
   unfolding kept_bits
@@ -64,12 +65,14 @@ module _ (set : RuleSetView) (group : List ℕ) where
       by true = refl
       by false = refl
 
+  -- the kept places of the merged states are those of the group
   pub places_are : bits.kept_places (key_len_of set.layout) (levels_of set group).kept ≡ kept_places set group
   unfolding kept_places levels_of
   places_are =
       filter_on_range (bits.is_kept (kept_bits set group)) (λ place. is_kept set group (group_of place)) 0
       (key_len_of set.layout) (λ k from below. bit_says k (omega (arith, below)))
 
+  -- each kept place is one of a key
   pub places_below : All (λ place. place < key_len_of set.layout) (kept_places set group)
   unfolding kept_places
   places_below = λ k d below.
@@ -83,6 +86,7 @@ module _ (set : RuleSetView) (group : List ℕ) where
 
   -- ---- how many states and rows there are
 
+  -- a state takes at least one word
   some_cost : (runs : ℕ) → 1 ≤ cost_of runs
   some_cost runs = elim (cases_Bool (runs == 1)) [
     | inl one ↦ rw one (omega arith)
@@ -92,6 +96,7 @@ module _ (set : RuleSetView) (group : List ℕ) where
     ]
   ]
 
+  -- there are at most as many states as their words
   count_by_words : (states : List (List Run)) → length states
       ≤ sum_by (λ (runs : List Run). cost_of (length runs)) states
   count_by_words [] = omega arith
@@ -103,12 +108,14 @@ module _ (set : RuleSetView) (group : List ℕ) where
         count_by_words states,
       )
 
+  -- the words of the merged states are those of all states and of the rows
   words_are : (levels_of set group).words
       ≡ sum_by (λ (states : List (List Run)). sum_by (λ (runs : List Run). cost_of (length runs)) states)
       (levels_of set group).levels + row_len * length (levels_of set group).rows
   unfolding levels_of
   words_are = refl
 
+  -- each place has at most as many states as a number of 32 bits counts
   pub few_states : (levels_of set group).words ≤ max_words
       → All (λ (states : List (List Run)). length states ≤ 2 ^ 32) (levels_of set group).levels
   few_states within = λ k d below.
@@ -122,6 +129,7 @@ module _ (set : RuleSetView) (group : List ℕ) where
             (levels_of set group).levels k d below,
       )
 
+  -- there are fewer rows than a number of 32 bits counts
   pub few_rows : (levels_of set group).words ≤ max_words → length (levels_of set group).rows < 2 ^ 32
   few_rows within = omega (arith, within, words_are)
 
@@ -154,6 +162,7 @@ module _ (set : RuleSetView) (is : IsGrouped set (all_rules set)) (among : TheWi
       ∙ ap (λ numbers. entry_for (winner_of set category numbers)) (whole_numbers set (all_rules set) key long)
       ∙ ap entry_for (winner_matching set key (short_keys set.layout is.layout).0 among category)
 
+  -- an entry of a key's row is at most the number of rules
   entry_low : (key : List ℕ) → length key ≡ key_len_of set.layout → (category : ℕ) → category < row_len
       → get_or (final_row set (state set (all_rules set) key)) category 0 ≤ length set.rules
   entry_low key long category within =
@@ -167,6 +176,7 @@ module _ (set : RuleSetView) (is : IsGrouped set (all_rules set)) (among : TheWi
     long : length row ≡ row_len
     low : All (λ entry. entry ≤ length set.rules) row
 
+  -- each row of the merged states is such a row
   rows_whole : AllByRecursion IsWhole (levels_of set (all_rules set)).rows
   rows_whole =
       subst (AllByRecursion IsWhole) (sym (rows_are set is among))
@@ -187,11 +197,13 @@ module _ (set : RuleSetView) (is : IsGrouped set (all_rules set)) (among : TheWi
             (entry_low key begins.1 category (omega (arith, below, long)));
       })) (prefixes_are (key_len_of set.layout)))))
 
+  -- each row has an entry for each category
   pub rows_long : All (λ row. length row ≡ row_len) (levels_of set (all_rules set)).rows
   rows_long = All-from_recursion (λ row. length row ≡ row_len) (levels_of set (all_rules set)).rows
       (all_weaker IsWhole (λ row. length row ≡ row_len) (levels_of set (all_rules set)).rows (λ row whole. whole.long)
       rows_whole)
 
+  -- each entry of a row is at most the number of rules
   pub rows_low : All (All (λ entry. entry ≤ length set.rules)) (levels_of set (all_rules set)).rows
   rows_low = All-from_recursion (All (λ entry. entry ≤ length set.rules)) (levels_of set (all_rules set)).rows
       (all_weaker IsWhole (All (λ entry. entry ≤ length set.rules)) (levels_of set (all_rules set)).rows

@@ -63,11 +63,13 @@ verdict_by layout rules key category =
 -- ---- rules with other masks
 
 module _ (half list : ℕ) where
+  -- a rule with the categories of the half is greatest exactly if the rule is
   none_greater : (rule : RuleView) (xs : List RuleView)
       → is_greatest (map (halved half list) xs) (halved half list rule) ≡ is_greatest xs rule
   none_greater rule [] = refl
   none_greater rule (x ∷ xs) = ap (λ b. le_z x.tag.priority rule.tag.priority && b) (none_greater rule xs)
 
+  -- the first that passes among rules of the half has the userdata of the first that passes
   first_of_halved : (p q : RuleView → Bool) → ((x : RuleView) → p (halved half list x) ≡ q x) → (xs : List RuleView)
       → userdata_or (find p (map (halved half list) xs)) ≡ userdata_or (find q xs)
   first_of_halved p q same [] = refl
@@ -81,10 +83,12 @@ module _ (half list : ℕ) where
       by true rest = refl
       by false rest = rest
 
+  -- rules with the categories of the half decide as the rules do
   decided_halved : (xs : List RuleView) → decided (map (halved half list) xs) ≡ decided xs
   decided_halved xs =
       first_of_halved (is_greatest (map (halved half list) xs)) (is_greatest xs) (λ x. none_greater x xs) xs
 
+  -- the rules of the half that pass are those that pass, with its categories
   filter_halved : (p q : RuleView → Bool) → ((x : RuleView) → p (halved half list x) ≡ q x) → (xs : List RuleView)
       → filter p (map (halved half list) xs) ≡ map (halved half list) (filter q xs)
   filter_halved p q same [] = refl

@@ -138,19 +138,18 @@ not_live (h ∷ s) dead = absurd (true≢false dead)
 -- ---- what keys lead to
 
 module _ (set : RuleSetView) (group : List ℕ) (is : IsGrouped set group) where
-  abbrev pub st : List ℕ → List Held
-  st key = state set group key
-
   -- the lists of bytes whose states are found
   abbrev pub states_found : List (List ℕ) → List (List ℕ)
   states_found keys = found_by same_state is_live (state set group) keys
 
+  -- the state after one more byte is the step of the state
   one_on : (key : List ℕ) (byte : ℕ) → length key < key_len_of set.layout → byte < 256
       → state set group (key ++ byte ∷ []) ≡ state_step set (length key) (state set group key) byte
   unfolding state_through
   one_on key byte within below =
       state_goes_through set group key (byte ∷ []) (held_of set group is) (below, tt) (omega (arith, within))
 
+  -- the states of a key with each byte are the steps of its state
   values_longer : (place : ℕ) (key : List ℕ) → place < key_len_of set.layout → IsPrefix place key
       → map (state set group) (longer key) ≡ map (state_step set place (state set group key)) all_bytes
   values_longer place key within begins =
@@ -161,12 +160,14 @@ module _ (set : RuleSetView) (group : List ℕ) (is : IsGrouped set group) where
       (λ byte below. one_on key byte (omega (arith, within, begins.1)) below
       ∙ ap (λ n. state_step set n (state set group key) byte) begins.1) bytes_below)
 
+  -- a dead state leads to none that is live
   steps_of_dead : (place : ℕ) (bytes : List ℕ)
       → AllByRecursion (λ s. is_live s ≡ false) (map (state_step set place []) bytes)
   unfolding state_step
   steps_of_dead place [] = tt
   steps_of_dead place (byte ∷ bytes) = (refl, steps_of_dead place bytes)
 
+  -- what holds of each value holds of each element by its value
   of_mapped : {X : Type 0} (P : X → Type 0) (f : List ℕ → X) (xs : List (List ℕ)) → AllByRecursion P (map f xs)
       → AllByRecursion (λ x. P (f x)) xs
   of_mapped P f [] all = tt
@@ -204,10 +205,12 @@ module _ (set : RuleSetView) (group : List ℕ) (is : IsGrouped set group) where
     pub begin : map (take place) keys ≡ states_found (prefixes place)
     pub keys_are : AllByRecursion (KeyFrom (key_len_of set.layout) place) keys
 
+  -- the prefixes of the next place are those of the place with each byte
   next_prefixes : (place : ℕ) → prefixes (place + 1) ≡ flat_map longer (prefixes place)
   unfolding prefixes
   next_prefixes place = (let e : place + 1 ≡ suc place = omega arith in ap prefixes e)
 
+  -- the first bytes of such keys are prefixes of the place
   begins_all : (place : ℕ) (keys : List (List ℕ)) → place ≤ key_len_of set.layout
       → AllByRecursion (KeyFrom (key_len_of set.layout) place) keys
       → AllByRecursion (IsPrefix place) (map (take place) keys)
@@ -216,6 +219,7 @@ module _ (set : RuleSetView) (group : List ℕ) (is : IsGrouped set group) where
       (all_weaker (KeyFrom (key_len_of set.layout) place) (λ key. IsPrefix place (take place key)) keys
       (λ key its. key_begins (key_len_of set.layout) place key within its) are)
 
+  -- such keys with each byte at the place lead to the states of the next place
   pub lead_first : (place : ℕ) (keys : List (List ℕ)) → place < key_len_of set.layout → AreLeast place keys
       → Lead (place + 1) (written place keys)
   lead_first place keys within least = record {
@@ -242,9 +246,11 @@ module _ (set : RuleSetView) (group : List ℕ) (is : IsGrouped set group) where
       ∙ (λ i. map (decoded set (long i)) (packed i))
       ∙ sym (state_is set group (key ++ 0 ∷ []) held)
 
+  -- the key with each byte but 0
   others : List ℕ → List (List ℕ)
   others key = flat_map (λ byte. (key ++ byte ∷ []) ∷ []) (range_with_len 1 255)
 
+  -- at a wild place each byte leads to the state to which byte 0 leads
   later_alike : (first count : ℕ) → first + count ≤ 256 → (key : List ℕ) → AreBytes key
       → length key < key_len_of set.layout → is_wild_place set group (length key) ≡ true
       → AllByRecursion (λ k. state set group k ≡ state set group (key ++ 0 ∷ []))
@@ -255,6 +261,7 @@ module _ (set : RuleSetView) (group : List ℕ) (is : IsGrouped set group) where
     later_alike (first + 1) count (omega (arith, small)) key bytes within wild,
   )
 
+  -- at a wild place keys with each byte lead to the states that keys with byte 0 lead to
   wild_on : (place : ℕ) (keys : List (List ℕ)) → place < key_len_of set.layout
       → is_wild_place set group place ≡ true → AllByRecursion (IsPrefix place) keys
       → states_found (flat_map longer keys) ≡ states_found (map (λ key. key ++ 0 ∷ []) keys)
@@ -264,6 +271,7 @@ module _ (set : RuleSetView) (group : List ℕ) (is : IsGrouped set group) where
       (λ key begins. later_alike 1 255 (omega arith) key begins.0 (omega (arith, within, begins.1))
       (ap (is_wild_place set group) begins.1 ∙ wild)) keys are
 
+  -- keys that lead to a wild place's states lead to those of the next place
   pub lead_on : (place : ℕ) (keys : List (List ℕ)) → place < key_len_of set.layout
       → is_wild_place set group place ≡ true → Lead place keys → Lead (place + 1) keys
   lead_on place keys within wild lead =

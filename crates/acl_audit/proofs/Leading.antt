@@ -76,22 +76,28 @@ module _ {V : Type 0} (same : V → V → Bool) (live : V → Bool) (reflexive :
     (lead : found_by same live value (prefixes next)
     ≡ found_by same live value (map (take next) (written place keys)))
     (values : all ≡ map value (found_by same live value (prefixes next))) where
+  -- as many bytes 0 as a key has
   abbrev zeros : List ℕ
   zeros = replicate len 0
 
+  -- the value of a key's first bytes
   abbrev of_key : List ℕ → V
   of_key key = value (take next key)
 
+  -- the value of the first bytes of a link's key
   abbrev of_link : Link → V
   of_link link = value (take next (keyed len keys place link))
 
+  -- the runs of each key by the byte at the place
   abbrev pub level : List (List Run)
   level = map (λ key. runs_of (λ byte. to (value (take next (slice_set key place byte))))) keys
 
+  -- the keys of all links are the keys with each byte at the place
   cands : map (keyed len keys place) (pairs_from 0 (length keys)) ≡ written place keys
   cands = pairs_keyed len place keys 0 keys
       (λ k below. (let e : 0 + k ≡ k = omega arith in ap (λ n. get_or keys n zeros) e))
 
+  -- the values of the next place are those of the links
   all_is : all ≡ found_in same live (map of_link (pairs_from 0 (length keys)))
   all_is =
       values ∙ ap (map value) lead
@@ -100,11 +106,13 @@ module _ {V : Type 0} (same : V → V → Bool) (live : V → Bool) (reflexive :
       ∙ ap (map of_key) (sym cands)
       ∙ map-map of_key (keyed len keys place) (pairs_from 0 (length keys)))
 
+  -- the links of the level are those that are found by their values
   links_found : links_of level ≡ found_by same live of_link (pairs_from 0 (length keys))
   links_found =
       links_are same live reflexive to all says (λ key byte. value (take next (slice_set key place byte)))
       (λ n. get_or keys n zeros) zeros keys (λ k below. refl) all_is
 
+  -- their keys are those that are found among keys with each byte
   keys_found : map (keyed len keys place) (links_of level) ≡ found_by same live of_key (written place keys)
   keys_found =
       ap (map (keyed len keys place)) links_found
@@ -119,6 +127,7 @@ module _ {V : Type 0} (same : V → V → Bool) (live : V → Bool) (reflexive :
       ∙ sym (found_by-map same live value (take next) (written place keys))
       ∙ sym lead
 
+  -- their keys have bytes 0 from the next place on
   pub next_keys : AllByRecursion (KeyFrom len (place + 1)) (map (keyed len keys place) (links_of level))
   next_keys =
       subst (AllByRecursion (KeyFrom len (place + 1))) (sym keys_found)
@@ -149,6 +158,7 @@ live_says_row count place true = refl
 live_says_row count place false = refl
 
 module _ (set : RuleSetView) (group : List ℕ) (is : IsGrouped set group) where
+  -- how many bytes a key has
   abbrev len : ℕ
   len = key_len_of set.layout
 
@@ -160,6 +170,7 @@ module _ (set : RuleSetView) (group : List ℕ) (is : IsGrouped set group) where
   abbrev pub rows_found : List (List ℕ) → List (List ℕ)
   rows_found keys = found_by bytes_eq is_live (λ key. final_row set (state set group key)) keys
 
+  -- the states of a place are those of the keys that lead to them
   pub states_of : (place : ℕ) (keys : List (List ℕ)) → AreLeast set group is place keys
       → states_at set group place ≡ map (λ key. state set group (take place key)) keys
   unfolding states_at

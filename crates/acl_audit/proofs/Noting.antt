@@ -20,17 +20,21 @@ not_eq m n apart = elim (cases_Bool (m == n)) [
 
 -- a table with a number at a place
 module _ (table : List (List ℕ)) (place category number : ℕ) where
+  -- the row of the place with the number in the category
   abbrev row_set : List ℕ
   row_set = slice_set (get_or table place []) category number
 
+  -- the numbers of other rules are as before
   set_elsewhere : (rule c : ℕ) → rule ≢ place
       → number_at (slice_set table place row_set) rule c ≡ number_at table rule c
   set_elsewhere rule c apart = ap (λ l. get_or l c 0) (get_or-set_other table place rule row_set [] apart)
 
+  -- the numbers of the place's rule are those of the row
   set_row : (c : ℕ) → place < length table
       → number_at (slice_set table place row_set) place c ≡ get_or row_set c 0
   set_row c inside = ap (λ l. get_or l c 0) (get_or-set_same table place row_set [] inside)
 
+  -- it is a table of as many rows
   set_table : (count : ℕ) → IsTable count table → place < count → IsTable count (slice_set table place row_set)
   set_table count is below = record {
     long = length-set table place row_set ∙ is.long;
@@ -105,12 +109,15 @@ entry_here count table (suc place) category number is low within rule =
 -- ---- one row
 
 module _ (count number : ℕ) where
+  -- each entry of a row names one of so many rules, or none
   abbrev Low : List ℕ → Type 0
   Low row = All (λ entry. entry ≤ count) row
 
+  -- what is left of such a row is such
   rest_low : (entry : ℕ) (row : List ℕ) → Low (entry ∷ row) → Low row
   rest_low entry row low = λ k d below. low (suc k) d (omega (arith, below))
 
+  -- after a row is noted, it is a table of as many rows
   pub row_table : (table : List (List ℕ)) (category : ℕ) (row : List ℕ) → IsTable count table → Low row
       → IsTable count (row_noted table number category row)
   row_table table category [] is low = is
@@ -118,6 +125,7 @@ module _ (count number : ℕ) where
       row_table (entry_noted table entry category number) (category + 1) row
       (entry_table count table entry category number is (low 0 0 (omega arith))) (rest_low entry row low)
 
+  -- the categories before those of the row are as before
   row_before : (table : List (List ℕ)) (category : ℕ) (row : List ℕ) → IsTable count table → Low row
       → (rule c : ℕ) → c < category → number_at (row_noted table number category row) rule c ≡ number_at table rule c
   row_before table category [] is low rule c before = refl
@@ -128,6 +136,7 @@ module _ (count number : ℕ) where
       ∙ entry_stays count table entry category number is (low 0 0 (omega arith)) rule c
       (λ e. omega (arith, before, e))
 
+  -- an entry that names the rule leaves it the number, and another leaves what was there
   pub row_here : (table : List (List ℕ)) (category : ℕ) (row : List ℕ) → IsTable count table → Low row
       → category + length row ≤ row_len → (rule k : ℕ) → k < length row
       → number_at (row_noted table number category row) rule (category + k)

@@ -84,12 +84,15 @@ module _ {V : Type 0} (same : V → V → Bool) (live : V → Bool) (reflexive :
           ∙ position_after (same v) found v grown.0 is_m (reflexive v)) ∙ sym (ap not is_m))
 
   module _ (of : Link → V) where
+    -- the links with one more, if what it leads to comes next
     abbrev next_linked : List Link → Link → List Link
     next_linked links link = linked_with links link (to (of link))
 
+    -- the links with one more, if its value is new
     abbrev found_next : List Link → Link → List Link
     found_next links link = found_with (λ x y. same (of x) (of y)) (λ x. live (of x)) links link
 
+    -- the values of links with one more are those found with its value
     value_of_next : (links : List Link) (link : Link)
         → map of (found_next links link) ≡ found_with same live (map of links) (of link)
     value_of_next links link =
@@ -102,6 +105,7 @@ module _ {V : Type 0} (same : V → V → Bool) (live : V → Bool) (reflexive :
         by true = map-append of links (link ∷ [])
         by false = refl
 
+    -- one more link is added exactly if its value is new
     one_linked : (links : List Link) (link : Link) (rest : List Link)
         → all ≡ fold (found_with same live) (map of links) (map of (link ∷ rest))
         → next_linked links link ≡ found_next links link
@@ -111,6 +115,7 @@ module _ {V : Type 0} (same : V → V → Bool) (live : V → Bool) (reflexive :
         ∙ next_is_new (map of links) (of link) (map of rest) whole
         ∙ ap (λ b. live (of link) && not b) (any_of (same (of link)) of links))
 
+    -- all links are added whose values are new
     all_linked : (links rest : List Link) → all ≡ fold (found_with same live) (map of links) (map of rest)
         → fold next_linked links rest ≡ fold found_next links rest
     all_linked links [] whole = refl
@@ -132,6 +137,7 @@ fold-map f g acc [] = refl
 fold-map f g acc (x ∷ xs) = fold-map f g (f acc (g x)) xs
 
 module _ {S : Type 0} (to : S → ℕ → Succ) (at : ℕ → S) (d : S) where
+  -- the links with one more of a state and a byte
   abbrev pub state_linked : List Link → Link → List Link
   state_linked links link = linked_with links link (to (at link.before) link.byte)
 

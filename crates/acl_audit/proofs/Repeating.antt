@@ -11,6 +11,7 @@ use Rattle.acl_audit.specs.Half.{has_equal_halves, have_equal_halves, are_halves
 use Rattle.acl_audit.proofs.Comparing.{old_category, unlike_inside, difference_by_half}
 
 module _ (list : ℕ) where
+  -- rules of equal halves are the same in both
   halved_same : (rules : List RuleView) → have_equal_halves list rules ≡ true
       → map (halved 0 list) rules ≡ map (halved 1 list) rules
   halved_same [] all = refl
@@ -19,6 +20,7 @@ module _ (list : ℕ) where
       let same = eqb-true (mask_of (is_in_half 0 list rule.tag)) (mask_of (is_in_half 1 list rule.tag)) both.0 in
       λ i. record rule { tag = record rule.tag { category_mask = same i } } ∷ halved_same rules both.1 i
 
+  -- and so the lists of both halves are the same
   rules_same : (rules : List RuleView) → have_equal_halves list rules ≡ true
       → halved_rules 0 list rules ≡ halved_rules 1 list rules
   unfolding halved_rules

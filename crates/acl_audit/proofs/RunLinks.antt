@@ -49,9 +49,11 @@ module _ (before : ℕ) (succ : ℕ → Succ) where
   abbrev pub byte_linked : List Link → ℕ → List Link
   byte_linked links byte = linked_with links (link_of byte) (succ byte)
 
+  -- the run that ends with a byte
   abbrev run_at : ℕ → Run
   run_at b = record { last = b; to = succ b }
 
+  -- the runs that end with one of so many bytes from one on
   abbrev runs_on : ℕ → ℕ → List Run
   runs_on first count = map run_at (filter (is_end succ) (range_with_len first count))
 
@@ -65,6 +67,7 @@ module _ (before : ℕ) (succ : ℕ → Succ) where
       (map run_at (cond b (first ∷ filter (is_end succ) (range_with_len (first + 1) count))
       (filter (is_end succ) (range_with_len (first + 1) count))))) ends
 
+  -- from a byte that ends no run the runs are those from the next byte
   runs_go : (links : List Link) (start first count : ℕ) → is_end succ first ≡ false
       → runs_linked links before start (runs_on first (suc count))
       ≡ runs_linked links before start (runs_on (first + 1) count)
@@ -73,11 +76,13 @@ module _ (before : ℕ) (succ : ℕ → Succ) where
       (map run_at (cond b (first ∷ filter (is_end succ) (range_with_len (first + 1) count))
       (filter (is_end succ) (range_with_len (first + 1) count))))) goes
 
+  -- a byte that ends no run isn't the last one
   not_last : (first : ℕ) → is_end succ first ≡ false → first ≢ 255
   not_last first goes e =
       true≢false (sym (eq-eqb first 255 e)
       ∙ (or_parts (first == 255) (not (same_succ (succ first) (succ (first + 1)))) goes).0)
 
+  -- a byte that ends no run leads where the next one does
   same_next : (first : ℕ) → is_end succ first ≡ false → succ first ≡ succ (first + 1)
   same_next first goes =
       same_is (succ first) (succ (first + 1))
@@ -108,6 +113,7 @@ module _ (before : ℕ) (succ : ℕ → Succ) where
         ∙ ap (linked_with (linked_with links (link_of start) (succ first)) (link_of (first + 1))) same)
   ]
 
+  -- the links over all runs are those over all bytes
   pub runs_are_bytes : (links : List Link)
       → runs_linked links before 0 (runs_of succ) ≡ fold byte_linked links all_bytes
   unfolding runs_of all_bytes

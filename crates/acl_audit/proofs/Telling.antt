@@ -46,9 +46,11 @@ room_for len (key ∷ keys) long (suc n) within =
     )
 
 module _ (set : RuleSetView) (is : IsGrouped set (all_rules set)) (among : TheWinnerIsAmongAllPlaces) where
+  -- all rules of the set
   abbrev group : List ℕ
   group = all_rules set
 
+  -- how many bytes a key has
   abbrev len : ℕ
   len = key_len_of set.layout
 
@@ -56,13 +58,16 @@ module _ (set : RuleSetView) (is : IsGrouped set (all_rules set)) (among : TheWi
   abbrev pub keys : List (List ℕ)
   keys = rows_found set (all_rules set) is (prefixes (key_len_of set.layout))
 
+  -- the links of each kept place
   abbrev levels : List (List Link)
   levels = map links_of (levels_of set (all_rules set)).levels
 
+  -- the rows are those of the keys, in order
   pub rows_are : (levels_of set (all_rules set)).rows ≡ map (row_at set is among 0 0 (omega arith)) keys
   unfolding levels_of
   rows_are = rows_values set (all_rules set) is
 
+  -- each key has as many bytes as the layout says
   pub all_long : AllByRecursion (λ key. length key ≡ key_len_of set.layout) keys
   all_long =
       All-found_in (λ x y. bytes_eq (final_row set (state set (all_rules set) x))
@@ -73,18 +78,23 @@ module _ (set : RuleSetView) (is : IsGrouped set (all_rules set)) (among : TheWi
       (λ key. is_live (final_row set (state set (all_rules set) key)) ≡ true → length key ≡ key_len_of set.layout)
       (prefixes (key_len_of set.layout)) (λ key begins live. begins.1) (prefixes_are (key_len_of set.layout)))
 
+  -- there are as many rows as keys
   pub row_count : length (levels_of set (all_rules set)).rows ≡ length keys
   row_count = ap length rows_are ∙ length-map keys (row_at set is among 0 0 (omega arith))
 
+  -- each link leads back to one of the place before
   pub chain : AreChained levels
   chain = (let led = lead_through set (all_rules set) is in are_chained led.chained.0 levels led.chained.1)
 
+  -- there is a kept place
   pub some_levels : 0 < length levels
   some_levels = (let led = lead_through set (all_rules set) is in omega (arith, led.some, led.long))
 
+  -- there are links for each kept place
   pub levels_long : length levels ≡ length (kept_places set (all_rules set))
   levels_long = (lead_through set (all_rules set) is).long
 
+  -- the kept places rise
   rising : (d e : ℕ) → d < e → e < length (kept_places set (all_rules set))
       → get_or (kept_places set (all_rules set)) d 0 < get_or (kept_places set (all_rules set)) e 0
   rising = places_rise set (all_rules set) (kept_places set (all_rules set)) (lead_through set (all_rules set) is).gaps
@@ -137,6 +147,7 @@ module _ (set : RuleSetView) (is : IsGrouped set (all_rules set)) (among : TheWi
       differs true no_way = absurd (no_way refl)
       differs false no_way = refl
 
+  -- the first row that names a rule is that of the rule's least key
   first_is : (rule category : ℕ) (within : category < row_len)
       → IsFirst keys 0 (first_from 0 (levels_of set (all_rules set)).rows rule category) (least_key set rule category)
   first_is rule category within =
@@ -145,6 +156,7 @@ module _ (set : RuleSetView) (is : IsGrouped set (all_rules set)) (among : TheWi
       (sym (least_by_rows set is among rule category within))
       (first_found (row_at set is among 0 0 (omega arith)) rule category 0 keys))
 
+  -- the number of a first row is at most that of all keys
   low_number : (number : ℕ) (found : Option (List ℕ)) → IsFirst keys 0 number found → number ≤ length keys
   low_number number found (inl (none, is_none)) = omega (arith, none)
   low_number number found (inr (k, below, is_k, is_found)) = omega (arith, below, is_k)
@@ -152,10 +164,7 @@ module _ (set : RuleSetView) (is : IsGrouped set (all_rules set)) (among : TheWi
   -- numbers of first rows and the keys of the rows tell the least keys
   module _ (firsts : List (List ℕ))
       (are : AreFirsts (levels_of set (all_rules set)).rows (length set.rules) firsts) where
-    told_keys : List ℕ
-    told_keys = keys_traced levels (kept_places set (all_rules set)) (key_len_of set.layout)
-        (length (levels_of set (all_rules set)).rows)
-
+    -- the least keys of a rule are those of its first rows, category by category
     one_rule : (rule : ℕ) → rule < length firsts
         → map (least_key set rule) categories
         ≡ map (key_numbered (flat_map (λ key. key) keys) (key_len_of set.layout)) (get_or firsts rule [])
@@ -171,6 +180,7 @@ module _ (set : RuleSetView) (is : IsGrouped set (all_rules set)) (among : TheWi
         (are.each rule category (omega (arith, below, are.long)) (omega (arith, within, long)))
         ∙ key_told rule category _ _ (first_is rule category (omega (arith, within, long))))))
 
+    -- the keys of all first rows are the least keys of the set
     pub told : keys_of firsts (keys_traced levels (kept_places set (all_rules set)) (key_len_of set.layout)
         (length (levels_of set (all_rules set)).rows)) (key_len_of set.layout) ≡ least_keys set
     unfolding least_keys
@@ -182,6 +192,7 @@ module _ (set : RuleSetView) (is : IsGrouped set (all_rules set)) (among : TheWi
         (λ rule below. (let e : 0 + rule ≡ rule = omega arith in
         ap (λ r. map (least_key set r) categories) e ∙ one_rule rule below)))
 
+    -- each first row has its key among those that are read off the links
     pub has_keys : HasKeys firsts (keys_traced levels (kept_places set (all_rules set)) (key_len_of set.layout)
         (length (levels_of set (all_rules set)).rows)) (key_len_of set.layout)
     has_keys = subst (λ ks. HasKeys firsts ks (key_len_of set.layout)) (sym keys_read) (record {

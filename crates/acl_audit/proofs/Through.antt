@@ -46,24 +46,29 @@ module _ (set : RuleSetView) (group : List ℕ) (is : IsGrouped set group) where
     pub chained : ChainedFrom (length keys) levels
     pub long : length levels ≡ length places
 
+  -- the rows are those of the keys that are found by their rows
   pub rows_values : rows_of set group ≡ map (row_for set group is)
       (rows_found set group is (prefixes (key_len_of set.layout)))
   unfolding rows_of
   rows_values = values_found bytes_eq is_live (row_for set group is) (prefixes (key_len_of set.layout))
 
+  -- the states of a place are those of the prefixes that are found by their states
   states_values : (place : ℕ)
       → states_at set group place ≡ map (state set group) (states_found set group is (prefixes place))
   unfolding states_at
   states_values place = values_found same_state is_live (state set group) (prefixes place)
 
+  -- a row comes next exactly if it is live and that is its number
   row_says : (v : List ℕ) (count : ℕ) → is_next count (row_succ (rows_of set group) v)
       ≡ (is_live v && position_or_len (bytes_eq v) (rows_of set group) == count)
   row_says v count = live_says_row count (position_or_len (bytes_eq v) (rows_of set group)) (is_live v)
 
+  -- a state comes next exactly if it is live and that is its number
   state_says : (place : ℕ) (v : List Held) (count : ℕ) → is_next count (state_succ (states_at set group place) v)
       ≡ (is_live v && position_or_len (same_state v) (states_at set group place) == count)
   state_says place v count = live_says count (position_or_len (same_state v) (states_at set group place)) (is_live v)
 
+  -- the first bytes of a whole key are all of it
   whole_keys : (place : ℕ) (keys : List (List ℕ)) → AllByRecursion (KeyFrom (key_len_of set.layout) place) keys
       → map (take (key_len_of set.layout)) keys ≡ keys
   whole_keys place [] are = refl
@@ -71,6 +76,7 @@ module _ (set : RuleSetView) (group : List ℕ) (is : IsGrouped set group) where
       let long = are.0.long in
       λ i. take_all (key_len_of set.layout) key (omega (arith, long)) i ∷ whole_keys place keys are.1 i
 
+  -- the links of all places from one on lead from its least keys to those of the rows
   through : (place : ℕ) (places : List ℕ) (keys : List (List ℕ)) → Gaps set group (place ∷ places)
       → AreLeast set group is place keys
       → IsThrough (place ∷ places) keys
@@ -133,11 +139,13 @@ module _ (set : RuleSetView) (group : List ℕ) (is : IsGrouped set group) where
 
   -- ---- the first kept place
 
+  -- each of some bytes 0 is 0
   get_or-zeros : (n i : ℕ) → get_or {A = ℕ} (replicate n 0) i 0 ≡ 0
   get_or-zeros zero i = refl
   get_or-zeros (suc n) zero = refl
   get_or-zeros (suc n) (suc i) = get_or-zeros n i
 
+  -- the key of bytes 0 is a key
   zeros_key : KeyFrom (key_len_of set.layout) 0 (zero_bytes (key_len_of set.layout))
   zeros_key = record {
     long = length-replicate (key_len_of set.layout) 0;
@@ -145,6 +153,7 @@ module _ (set : RuleSetView) (group : List ℕ) (is : IsGrouped set group) where
     none = λ i from. get_or-zeros (key_len_of set.layout) i;
   }
 
+  -- the key of bytes 0, alone
   abbrev start : List (List ℕ)
   start = zero_bytes (key_len_of set.layout) ∷ []
 
@@ -152,10 +161,12 @@ module _ (set : RuleSetView) (group : List ℕ) (is : IsGrouped set group) where
   first_keys : ℕ → List (List ℕ)
   first_keys place = found_by same_state is_live (λ key. state set group (take place key)) start
 
+  -- the key of bytes 0 leads to the states of place 0
   start_leads : Lead set group is 0 (zero_bytes (key_len_of set.layout) ∷ [])
   unfolding prefixes
   start_leads = record { found = refl; keys_are = (zeros_key, tt) }
 
+  -- the key of bytes 0 is the least of a place that only wild ones are before
   first_least : (place : ℕ) → place ≤ key_len_of set.layout
       → ((k : ℕ) → k < place → is_wild_place set group k ≡ true) → AreLeast set group is place (first_keys place)
   unfolding first_keys
@@ -171,6 +182,7 @@ module _ (set : RuleSetView) (group : List ℕ) (is : IsGrouped set group) where
             ((λ live. lead.keys_are.0), tt);
       }
 
+  -- each of the first keys is the key of bytes 0
   first_at : (place n : ℕ)
       → get_or (first_keys place) n (zero_bytes (key_len_of set.layout)) ≡ zero_bytes (key_len_of set.layout)
   unfolding first_keys found_in
@@ -183,6 +195,7 @@ module _ (set : RuleSetView) (group : List ℕ) (is : IsGrouped set group) where
       by true (suc n) = refl
       by false n = refl
 
+  -- each of the keys at the start is the key of bytes 0
   start_at : (n : ℕ) → get_or start n (zero_bytes (key_len_of set.layout)) ≡ zero_bytes (key_len_of set.layout)
   start_at zero = refl
   start_at (suc n) = refl
@@ -196,6 +209,7 @@ module _ (set : RuleSetView) (group : List ℕ) (is : IsGrouped set group) where
     pub some : 0 < length places
     pub gaps : Gaps set group places
 
+  -- the keys after all places are the same from the start and from the first keys
   from_start : (places : List ℕ) (levels : List (List Link)) (place : ℕ) → 0 < length places
       → length levels ≡ length places
       → keys_after (key_len_of set.layout) start places levels
@@ -207,6 +221,7 @@ module _ (set : RuleSetView) (group : List ℕ) (is : IsGrouped set group) where
       (map_agree (keyed (key_len_of set.layout) start p) (keyed (key_len_of set.layout) (first_keys place) p) links
       (λ link. ap (λ k. slice_set k p link.byte) (start_at link.before ∙ sym (first_at place link.before))))
 
+  -- the links of kept places lead from the start to the rows' least keys
   of_places : (places : List ℕ) → HasFirst set group places
       → LeadThrough places (map links_of (level_runs set (states_at set group) (rows_of set group) places))
   of_places [] first = absurd (omega (arith, first.some))
@@ -220,6 +235,7 @@ module _ (set : RuleSetView) (group : List ℕ) (is : IsGrouped set group) where
         gaps = first.gaps;
       }
 
+  -- so do the links of the group's kept places
   pub lead_through : LeadThrough (kept_places set group) (map links_of (levels_of set group).levels)
   unfolding levels_of
   lead_through =

@@ -81,16 +81,20 @@ are_chained count levels chained = record {
 module _ (len : ℕ) (levels : List (List Link)) (places : List ℕ) (chained : AreChained levels)
     (long : length levels ≡ length places)
     (rising : (d e : ℕ) → d < e → e < length places → get_or places d 0 < get_or places e 0) where
+  -- the key of bytes 0, alone
   abbrev start : List (List ℕ)
   start = zero_bytes len ∷ []
 
+  -- the keys after the first places
   abbrev keys_at : ℕ → List (List ℕ)
   keys_at depth = keys_after len (zero_bytes len ∷ []) (take depth places) (take depth levels)
 
+  -- each of the keys at the start is the key of bytes 0
   start_at : (n : ℕ) → get_or start n (zero_bytes len) ≡ zero_bytes len
   start_at zero = refl
   start_at (suc n) = refl
 
+  -- the keys after one more place are those that its links make
   one_more : (depth : ℕ) → depth < length levels
       → keys_at (suc depth) ≡ map (keyed len (keys_at depth) (get_or places depth 0)) (get_or levels depth [])
   one_more depth within =
@@ -102,6 +106,7 @@ module _ (len : ℕ) (levels : List (List Link)) (places : List ℕ) (chained : 
       (length-take-le depth places (omega (arith, within, long))
       ∙ sym (length-take-le depth levels (omega (arith, within))))
 
+  -- the key of a link is that of its state before, with the byte at the place
   key_read : (depth number : ℕ) → depth < length levels → number < length (get_or levels depth [])
       → get_or (keys_at (suc depth)) number (zero_bytes len)
       ≡ keyed len (keys_at depth) (get_or places depth 0) (link_at levels depth number)
@@ -110,6 +115,7 @@ module _ (len : ℕ) (levels : List (List Link)) (places : List ℕ) (chained : 
       ∙ get_or-map (keyed len (keys_at depth) (get_or places depth 0)) (get_or levels depth []) number no_link
       (zero_bytes len) below
 
+  -- the key that is read off a link is that of the one before it with the byte
   written_first : (depth number : ℕ) → depth < length levels
       → traced levels places (suc depth) number (zero_bytes len)
       ≡ slice_set (traced levels places depth (link_at levels depth number).before (zero_bytes len))
@@ -168,6 +174,7 @@ module _ (len : ℕ) (levels : List (List Link)) (places : List ℕ) (chained : 
 -- ---- kept places rise
 
 module _ (set : RuleSetView) (group : List ℕ) where
+  -- a kept place is below all those after it
   above_first : (place : ℕ) (places : List ℕ) → Gaps set group (place ∷ places) → (n : ℕ) → n < length places
       → place < get_or places n 0
   above_first place [] gaps n below = absurd (omega (arith, below))
@@ -175,10 +182,12 @@ module _ (set : RuleSetView) (group : List ℕ) where
   above_first place (next ∷ places) gaps (suc n) below =
       omega (arith, gaps.0.rises, above_first next places gaps.1 n (omega (arith, below)))
 
+  -- kept places after the first have wild places between them
   rest_of : (place : ℕ) (places : List ℕ) → Gaps set group (place ∷ places) → Gaps set group places
   rest_of place [] gaps = tt
   rest_of place (next ∷ places) gaps = gaps.1
 
+  -- the kept places rise
   pub places_rise : (places : List ℕ) → Gaps set group places → (d e : ℕ) → d < e → e < length places
       → get_or places d 0 < get_or places e 0
   places_rise [] gaps d e less below = absurd (omega (arith, below))

@@ -35,6 +35,7 @@ use Rattle.acl_audit.proofs.Least.{least_is_first}
 -- ---- the winner of all rules by the matching ones
 
 module _ (set : RuleSetView) (key : List ℕ) (some : 0 < key_len_of set.layout) where
+  -- a rule's values match the key exactly if the rule at its place passes
   same_match : (number : ℕ) → rule_match set.layout (values_of set number) key
       ≡ passes_at (λ rule. rule_match set.layout rule.fields key) set.rules number
   same_match number = by (slice_get set.rules number)
@@ -44,6 +45,7 @@ module _ (set : RuleSetView) (key : List ℕ) (some : 0 < key_len_of set.layout)
       by None = some_field set.layout key some
       by (Some rule) = refl
 
+  -- the winner of the rules that match is that of the set
   pub winner_matching : (among : TheWinnerIsAmongAllPlaces) (category : ℕ)
       → winner_of set category (matching set (all_rules set) key) ≡ winner set.layout set.rules key category
   winner_matching among category =
@@ -98,9 +100,11 @@ module _ (set : RuleSetView) (is : IsGrouped set (all_rules set)) (among : TheWi
   abbrev pub names : List ℕ → Bool
   names row = get_or row category 0 == rule + 1
 
+  -- the row of a key
   abbrev pub row_at : List ℕ → List ℕ
   row_at key = final_row set (state set (all_rules set) key)
 
+  -- the rule wins at a key exactly if the key's row names it
   wins_by_row : (key : List ℕ) → length key ≡ key_len_of set.layout → wins_at set rule category key ≡ names (row_at key)
   wins_by_row key long =
       entry_names (winner set.layout set.rules key category) rule
@@ -110,11 +114,13 @@ module _ (set : RuleSetView) (is : IsGrouped set (all_rules set)) (among : TheWi
       (sym (whole_numbers set (all_rules set) key long))
       ∙ ap (λ entry. entry == rule + 1) (sym (entry_is set (state set (all_rules set) key) category within))
 
+  -- two tests that agree on some keys find the same key among them
   find_where : (p q : List ℕ → Bool) (keys : List (List ℕ)) → AllByRecursion (λ key. p key ≡ q key) keys
       → find p keys ≡ find q keys
   find_where p q [] same = refl
   find_where p q (key ∷ keys) same = λ i. cond (same.0 i) (Some key) (find_where p q keys same.1 i)
 
+  -- a row that names a rule is live
   named_is_live : (row : List ℕ) → names row ≡ true → is_live row ≡ true
   named_is_live [] named = absurd (omega (arith, eqb-true (get_or {A = ℕ} [] category 0) (rule + 1) named))
   named_is_live (entry ∷ row) named = refl

@@ -4,6 +4,7 @@ use Rattle.std.specs.Option.{option_map}
 use Rattle.field_defs.specs.declared.field.FieldValue.{FieldValue}
 use Rattle.acl_session.specs.Values.{value_of, values_of}
 
+-- one more value comes after those before it
 more_of : (values : List FieldValue) (value : FieldValue) (rest : Option (List FieldValue)) →
     option_map (λ others. values ++ others) (option_map (λ others. value ∷ others) rest)
     ≡ option_map (λ others. (values ++ value ∷ []) ++ others) rest

@@ -65,6 +65,7 @@ replay_found files i c image capture options tables at_i at_c loaded =
     ∙ ap (λ (result : Result Tables Status). found (unless_refused result >>= report_by options c) files) loaded
     ∙ report_found (form_of (ByTables tables) tables options) files c capture at_c
 
+-- a `replay` of an image prints what a `classify` prints by the rules of which it was made
 pub agrees : FilledTablesDecide → AcceptedRulesAreLawful → (rules image capture : List ℕ) (budget : ℕ)
     (cats : Categories) (stats marks : Bool) → budget ≤ max_words → (walk : Walk) →
     ReplayAgrees rules image capture

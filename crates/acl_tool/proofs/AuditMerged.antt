@@ -142,6 +142,7 @@ module _ (categories budget : ℕ) (lists : RuleLists) where
       inl (λ i. lines_by (is i) (merged_within budget Ip6 (set_of Ip6 lists)), refusal)
   first_refuses status (inr full) = inr full
 
+  -- an audit is refused if the second family is and the first isn't
   pub second_refuses : (status : Status) → merged_within budget Ip4 (set_of Ip4 lists) ≡ Ok (set_of Ip4 lists) →
       Refuses (merged_within budget Ip6 (set_of Ip6 lists)) status → Refuses (audit_of categories budget lists) status
   second_refuses status one (inl (is, refusal)) = inl (λ i. lines_by (one i) (is i), refusal)

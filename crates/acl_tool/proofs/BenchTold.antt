@@ -34,6 +34,7 @@ drawn_transitions numbers told old new reached follows is =
     go true rest = ap (λ (r : Reached Outcome). (outcome_of r).transitions) (rest.1)
     go false rest = absurd (let large = is ∙ ap (λ (r : Reached Outcome). (outcome_of r).status) (rest.1) in cc)
 
+-- a `bench` that ends with Done has that status
 done_status : (status : Status) → (Done ≡ status) ⊎ ((Done ≡ WriteFault) ⊎ (Done ≡ OutOfMemory)) → Done ≡ status
 done_status status (inl is) = is
 done_status status (inr (inl written)) = absurd (cc)
@@ -49,6 +50,7 @@ bench_walked numbers old new ends =
     ends.steps refl ∙ ap (λ (n : ℕ). old.steps + n) same in
     (steps, omega (arith, steps, transitions-bound numbers))
 
+-- a `bench` that is done took the transitions of its keys
 pub bench_walks : (words : List (List ℕ)) (old new : Outside) (status : Status) →
     Answers (command words) old new status → BenchWalks words status old.steps new.steps
 bench_walks words old new status answers numbers is done =

@@ -25,6 +25,7 @@ pub record Asked (words : List (List ℕ)) (old new : Outside) (status : Status)
   pub totals : is_reported status ≡ true →
       HasTotals (Classify rules capture read) (heard_of old.desk) (heard_of new.desk)
 
+-- words after `classify` that were answered are two names and options
 asked_after : (after : List (List ℕ)) (old new : Outside) (status : Status) → is_usage status ≡ false →
     Answers (asked_by classify_request (named_of for_classify after)) old new status →
     Asked (codes "classify" ∷ after) old new status
@@ -48,6 +49,7 @@ asked_after (rules ∷ capture ∷ words) old new status lawful answers =
     }
     go (Err usage) at all = no_usage status usage lawful all.usage
 
+-- the words of a `classify` that was answered are `classify`, two names and options
 pub asked_words : (words : List (List ℕ)) (old new : Outside) (status : Status) →
     Answers (command words) old new status → is_usage status ≡ false → (after : List (List ℕ)) →
     words ≡ codes "classify" ∷ after → Asked words old new status

@@ -93,6 +93,7 @@ module _ (budget : ℕ) (one two : RuleLists) where
   abbrev pub line_in : Family → Result (List ℕ) Status
   line_in family = compared_within budget family (set_of family one) (set_of family two)
 
+  -- what is said of two lists are the lines of both families
   pub said_lines : (text : List ℕ) → compare_of budget one two ≡ Ok text →
       compared_text Ip4 (set_of Ip4 one) (set_of Ip4 two) ++ compared_text Ip6 (set_of Ip6 one) (set_of Ip6 two) ≡ text
   said_lines text is = go (line_in Ip4) (line_in Ip6) refl refl is
@@ -109,6 +110,7 @@ module _ (budget : ℕ) (one two : RuleLists) where
       go (Ok ip4) (Err fault) at_ip4 at_ip6 e = absurd (cc)
       go (Err fault) second at_ip4 at_ip6 e = absurd (cc)
 
+  -- if nothing is said of two lists, their rules are refused
   pub said_refusal : (status : Status) → compare_of budget one two ≡ Err status → is_refusal status ≡ true
   said_refusal status is = go (line_in Ip4) (line_in Ip6) refl refl is
     where
@@ -134,6 +136,7 @@ module _ (budget : ℕ) (one two : RuleLists) where
   first_stops status (inl (is, refusal)) = inl (λ i. lines_by (is i) (line_in Ip6), refusal)
   first_stops status (inr full) = inr full
 
+  -- a comparison is refused if the second family is and the first isn't
   pub second_stops : (status : Status) → line_in Ip4 ≡ Ok (compared_text Ip4 (set_of Ip4 one) (set_of Ip4 two)) →
       Refuses (line_in Ip6) status → Refuses (compare_of budget one two) status
   second_stops status first (inl (is, refusal)) = inl (λ i. lines_by (first i) (is i), refusal)

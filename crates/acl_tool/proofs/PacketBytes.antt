@@ -54,7 +54,7 @@ abbrev Fine : {A : Type 0} → (A → Type 0) → Result A Class → Type 0
 Fine P (Ok value) = P value
 Fine P (Err class) = key_len class ≡ 0
 
--- if a layer is fine and each further one after it, both together are
+-- if a layer is fine and so is each one after it, both together are fine
 fine_then : {A B : Type 0} (P : A → Type 0) (Q : B → Type 0) (result : Result A Class) (f : A → Result B Class) →
     Fine P result → ((value : A) → P value → Fine Q (f value)) → Fine Q (result >>= f)
 fine_then P Q (Ok value) f is next = next value is
@@ -70,7 +70,7 @@ fine_if P false one other yes_is no_is = no_is refl
 abbrev HasBytes : ℕ → List ℕ → Type 0
 HasBytes n bytes = AreBytes bytes × (n ≤ length bytes)
 
--- of bytes there are at least so many, or too few for a key
+-- bytes are at least as many as are asked for, or the class has no key
 at_least_fine : (n : ℕ) (bytes : List ℕ) → AreBytes bytes → Fine (HasBytes n) (at_least n bytes)
 at_least_fine n bytes all =
     fine_if (HasBytes n) (nat_le n (length bytes)) (Ok bytes) (Err _)
@@ -243,7 +243,7 @@ frame_fine links.Raw frame all = raw_fine frame all
 frame_fine links.Ip4 frame all = ip4_fine frame all
 frame_fine links.Ip6 frame all = ip6_fine frame all
 
--- a packet or the class of none is what a frame comes to
+-- what a frame comes to is a packet, also if it has no key
 settled_packet : (result : Result FrameClass Class) → Fine IsPacket result → IsPacket (settled result)
 settled_packet (Ok packet) is = is
 settled_packet (Err class) is = record { bytes = All-nil IsByte; len = sym is }
@@ -344,7 +344,7 @@ within_bytes (suc fuel) state left all =
     past_bytes state (block_of state left) (λ now after. next_within fuel now after)
     (block_bytes state (state.first ++ left) all) (λ now after are. within_bytes fuel now after are)
 
--- what stands next in a savefile is of bytes as what stands next in a capture
+-- what stands next in a savefile of bytes stands next in a capture of bytes
 with_state_bytes : (state : CaptureState) (next : savefile.Next) → IsOfBytes next →
     IsNextOfBytes (with_state state next)
 with_state_bytes state savefile.End is = tt

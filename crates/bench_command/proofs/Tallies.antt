@@ -6,6 +6,7 @@ use Rattle.list_lemmas.proofs.Sums.{sum-append}
 use Rattle.bench_command.specs.declared.tally.Tally.{Tally}
 use Rattle.bench_command.specs.Tally.{is_hit, tally_of, with_verdicts}
 
+-- the hits of two lists are those of each
 pub hits-append : (xs ys : List ℕ) → count_by is_hit (xs ++ ys) ≡ count_by is_hit xs + count_by is_hit ys
 hits-append xs ys = sum_by-append (λ x. cond (is_hit x) 1 0) xs ys
 

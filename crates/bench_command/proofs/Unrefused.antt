@@ -18,6 +18,7 @@ use Rattle.acl_context.specs.Add.{Adds, add_fault, has_room, refusal}
 abbrev IsLawfulFor : List FieldDef → RuleView → Type 0
 IsLawfulFor layout rule = rule_fault layout rule.tag rule.fields ≡ None
 
+-- none of some lawful rules is refused
 none_refused : (layout : List FieldDef) (first : ℕ) (rules : List RuleView) → All (IsLawfulFor layout) rules →
     first_of (map (refusal layout) (enumerate_from first rules)) ≡ None
 none_refused layout first [] lawful = refl

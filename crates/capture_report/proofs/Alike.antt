@@ -46,12 +46,15 @@ map_below f g limit same a (suc n) within =
 
 module _ (classifier : Classifier) (tables : Tables) (options : PrintOptions) (answers : AnswersAs classifier tables)
     (few : options.cats.count ≤ MAX_VERDICTS) where
+  -- the form that answers by the classifier
   alike : ReportForm
   alike = form_by classifier tables options
 
+  -- the form that answers by the tables
   by_tables : ReportForm
   by_tables = form_by (ByTables tables) tables options
 
+  -- both forms have the same answers for a key
   answers_same : (family : Family) (key : List ℕ) → IsKey family key →
       answers_of (form_by classifier tables options) family key
       ≡ answers_of (form_by (ByTables tables) tables options) family key
@@ -61,6 +64,7 @@ module _ (classifier : Classifier) (tables : Tables) (options : PrintOptions) (a
       (λ category below. ap (shown options.marks) (answers family key category is below)) 0 options.cats.count
       (omega (arith, few))
 
+  -- both forms have the same answers for a packet
   answers_on_same : (class : Class) (packet : FrameClass) → packet.class ≡ class → IsPacket packet →
       answers_on class (form_by classifier tables options) packet.key
       ≡ answers_on class (form_by (ByTables tables) tables options) packet.key
@@ -71,6 +75,7 @@ module _ (classifier : Classifier) (tables : Tables) (options : PrintOptions) (a
   answers_on_same Other packet is packet_is = refl
   answers_on_same Short packet is packet_is = refl
 
+  -- both forms have the same lines of packets
   lines_same : (number : ℕ) (packets : List FrameClass) → All IsPacket packets →
       lines_of_packets (form_by classifier tables options) number packets
       ≡ lines_of_packets (form_by (ByTables tables) tables options) number packets
@@ -82,12 +87,14 @@ module _ (classifier : Classifier) (tables : Tables) (options : PrintOptions) (a
       (number + 1) ps)
       (answers_on_same p.class p refl (All-head IsPacket p ps all))
 
+  -- both forms have the same last lines
   last_same : (records : List CaptureRecord) (fault : Option CaptureFault) →
       last_lines (form_by classifier tables options) records fault
       ≡ last_lines (form_by (ByTables tables) tables options) records fault
   last_same records None = refl
   last_same records (Some fault) = refl
 
+  -- both forms have the same text of what was read
   text_same : (read : Reading) → All IsPacket (map packet_of (records_read read)) →
       text_of (form_by (ByTables tables) tables options) read
       ≡ text_of (form_by classifier tables options) read

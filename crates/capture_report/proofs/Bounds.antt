@@ -23,12 +23,14 @@ use Rattle.capture_report.specs.Shown.{packet_of}
 use Rattle.capture_report.specs.Report.{transitions_on}
 use Rattle.capture_report.specs.ReportForm.{ReportForm}
 
+-- a key takes at most one transition for each trie and byte of its class
 class_bound : (class : Class) (tables : Tables) (key : List ℕ) → transitions_on class tables key ≤ most_on class tables
 class_bound Ip4 tables key = key_bound tables.ip4 key
 class_bound Ip6 tables key = key_bound tables.ip6 key
 class_bound Other tables key = omega arith
 class_bound Short tables key = omega arith
 
+-- a report takes at most one transition for each trie and byte of its records' keys
 capture_bound : (form : ReportForm) (capture : Result Recorded CaptureFault) →
     (report_of_capture form capture).transitions ≤ most_of_records form.tables (records_in capture)
 capture_bound form (Ok capture) =

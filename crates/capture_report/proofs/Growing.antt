@@ -24,6 +24,7 @@ pub record IsTaking (before after : AnyState) (packets : List FrameClass) (old n
   pub keys : All IsPacket packets
   pub took : Took before after records given old new stop
 
+-- before the first record no packet is taken
 pub IsTaking-none : (state : AnyState) (packets : List FrameClass) (view : DeskView) → packets ≡ [] →
     IsTaking state state packets view view Full
 IsTaking-none state packets view none = record {

@@ -67,12 +67,14 @@ module _ (table : TableView) (key rest : List ℕ) (len : length key ≡ table.k
       ∙ ap (λ (m : ℕ). take m (key ++ rest)) (sym len)
       ∙ take-append_seam key rest
 
+  -- a key of the batch after the first is one of the rest
   later_key : (k : ℕ) → key_at table (key ++ rest) (k + 1) ≡ key_at table rest k
   later_key k =
       let later : (k + 1) * table.key_len ≡ length key + k * table.key_len = omega (arith, len) in
       ap (λ (m : ℕ). take table.key_len (drop m (key ++ rest))) later
       ∙ ap (take table.key_len) (drop-append-add key rest (k * table.key_len))
 
+  -- the verdicts of a batch are those of the first key, and then those of the rest
   verdicts_later : (count n : ℕ) →
       first_verdicts table count (key ++ rest) (n + 1)
       ≡ key_verdicts table count key ++ first_verdicts table count rest n
@@ -84,6 +86,7 @@ module _ (table : TableView) (key rest : List ℕ) (len : length key ≡ table.k
       (λ k. ap (key_verdicts table count) (later_key k)) 0 n)
       ∙ ap (λ k. key_verdicts table count k ++ first_verdicts table count rest n) first_key
 
+  -- the transitions of a batch are those of the first key and of the rest
   transitions_later : (n : ℕ) →
       first_transitions table (key ++ rest) (n + 1) ≡ key_transitions table key + first_transitions table rest n
   transitions_later n =
@@ -111,10 +114,12 @@ class_len family.Ip6 Other is = absurd (cc)
 class_len family.Ip6 Short is = absurd (cc)
 
 module _ (family : Family) (table : TableView) (len : table.key_len ≡ key_len_of_family family) where
+  -- a packet of the family has a key as long as the table's
   own_len : (packet : FrameClass) → IsPacket packet → is_of family packet.class ≡ true →
       length packet.key ≡ table.key_len
   own_len packet is own = is.len ∙ class_len family packet.class own ∙ sym len
 
+  -- the verdicts of the batch are those of the family's packets
   verdicts_are : (count : ℕ) (packets : List FrameClass) → All IsPacket packets →
       first_verdicts table count (keys_of family packets) (number_of family packets)
       ≡ verdicts_of family table count packets
@@ -133,6 +138,7 @@ module _ (family : Family) (table : TableView) (len : table.key_len ≡ key_len_
           ∙ ap (λ l. key_verdicts table count p.key ++ l) later)
       go false own later = rw own later
 
+  -- the transitions of so many keys are those of the family's packets
   transitions_are : (packets : List FrameClass) → All IsPacket packets →
       first_transitions table (keys_of family packets) (number_of family packets)
       ≡ transitions_of_family family table packets
@@ -150,6 +156,7 @@ module _ (family : Family) (table : TableView) (len : table.key_len ≡ key_len_
           ∙ ap (λ n. key_transitions table p.key + n) later)
       go false own later = rw own later
 
+  -- the batch has a key for each packet of the family
   keys_len : (packets : List FrameClass) → All IsPacket packets →
       length (keys_of family packets) ≡ number_of family packets * table.key_len
   keys_len [] all = omega arith
@@ -191,6 +198,7 @@ module _ (family : Family) (table : TableView) (len : table.key_len ≡ key_len_
       ap (first_verdicts table count (keys_of family packets)) (keys_number packets all some)
       ∙ verdicts_are count packets all
 
+  -- the transitions of the batch are those of the family's packets
   pub batch_transitions_are : (packets : List FrameClass) → All IsPacket packets → 0 < table.key_len →
       batch_transitions table (keys_of family packets) ≡ transitions_of_family family table packets
   batch_transitions_are packets all some =

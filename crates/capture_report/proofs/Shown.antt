@@ -35,6 +35,7 @@ module _ (table : TableView) (key : List ℕ) where
   is_dash true category = not (not (joined table key category == 0))
   is_dash false category = false
 
+  -- the first dashes are those that the form shows, one for each category
   first_dashes : (marks : Bool) (form : ReportForm) → form.marks ≡ marks → (n : ℕ) → n ≤ MAX_VERDICTS →
       take n (dashes_of form table key) ≡ map (is_dash marks) (range_with_len 0 n)
   unfolding winners_of is_dash
@@ -60,6 +61,7 @@ module _ (table : TableView) (key : List ℕ) where
         | inr other ↦ rw other.0 refl
       ]
 
+  -- what is written of the verdicts and the dashes is what the table answers
   table_shown : (form : ReportForm) → form.categories ≤ MAX_VERDICTS →
       answers (key_verdicts table form.categories key)
       (take (length (key_verdicts table form.categories key)) (dashes_of form table key))

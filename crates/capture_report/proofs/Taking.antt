@@ -40,10 +40,12 @@ module _ (before mid : AnyState) (first : List CaptureRecord) (given : List ℕ)
       records_from before ((given ++ more) ++ later) ≡ followed_by first (records_from mid (more ++ later))
   records_later more later = ap (records_from before) (append_assoc given more later) ∙ a (more ++ later)
 
+  -- records and all records after them are all records
   AreAll-then : (second : List CaptureRecord) (more : List ℕ) (ending : Ending) (fault : Option CaptureFault) →
       AreAll mid more ending second fault → AreAll before (given ++ more) ending (first ++ second) fault
   AreAll-then second more ending fault b later none = records_later more later ∙ ap (followed_by first) (b later none)
 
+  -- records and those of a batch after them are those of a batch
   AreOfBatch-then : (stop : BatchEnd) (after : AnyState) (second : List CaptureRecord) (more : List ℕ)
       (ending : Ending) → AreOfBatch mid after more ending second stop →
       AreOfBatch before after (given ++ more) ending (first ++ second) stop

@@ -12,6 +12,7 @@ use Rattle.capture_report.proofs.LineLaws.{lines_of_records-append}
 use Rattle.capture_report.proofs.Reader.{AreFirst, whole_first}
 use Rattle.command_ending.proofs.Offered.{BeginsWith, BeginsWith-nothing}
 
+-- the lines of the first records are the first part of the lines of all
 lines_first : (form : ReportForm) (front all : List CaptureRecord) (later : List ℕ) → AreFirst front all →
     BeginsWith (lines_of_records form front) (lines_of_records form all ++ later)
 lines_first form front all later first =
@@ -25,10 +26,12 @@ lines_first form front all later first =
           ∙ append_assoc (lines_of_records form front) rest later;
     }
 
+-- what stands in front of nothing is nothing
 no_front : (front rest : List CaptureRecord) → [] ≡ front ++ rest → front ≡ []
 no_front [] rest e = refl
 no_front (r ∷ rs) rest e = absurd (cc)
 
+-- the lines of the first records are the first part of the report
 reported_first : (form : ReportForm) (front : List CaptureRecord) (capture : Result Recorded CaptureFault) →
     AreFirst front (records_in capture) →
     BeginsWith (lines_of_records form front) (report_of_capture form capture).text

@@ -24,6 +24,7 @@ pub record FindsPort (text rest : List ℕ) (port end : ℕ) : Type 0 where
   pub small : port ≤ max_port
   pub within : end ≤ length rest
 
+-- a number that is found after the blanks of a text is a port there
 pub FindsPort-from : (text rest : List ℕ) (port end : ℕ) → rest ≡ after_blanks text
     → Some (port, end) ≡ numeral_at rest 0 max_port → FindsPort text rest port end
 FindsPort-from text rest port end left found =

@@ -25,23 +25,27 @@ is_added f with_value None (Some value) chosen e =
     (let same : value ≡ chosen = cc in ap (λ x. Ok (with_value (f x))) same)
 
 module _ (allowed : Allowed) (given : Given) (word : List ℕ) where
+  -- a word that begins with the first option adds the number of categories
   pub first_option : (allowed.categories && begins_with categories_option word) ≡ true →
       with_option allowed given word ≡ adds (λ count. record given { categories = Some count })
       (once given.categories (categories_in (value_of categories_option word)))
   first_option is = rw is refl
 
   module _ (not_first : (allowed.categories && begins_with categories_option word) ≡ false) where
+    -- a word that begins with the second option adds the walk
     pub second_option : (allowed.walk && begins_with walk_option word) ≡ true →
         with_option allowed given word ≡ adds (λ walk. record given { walk = Some walk })
         (once given.walk (walk_in (value_of walk_option word)))
     second_option is = rw not_first (rw is refl)
 
     module _ (not_second : (allowed.walk && begins_with walk_option word) ≡ false) where
+      -- a word that begins with the third option adds the budget
       pub third_option : (allowed.max_words && begins_with max_words_option word) ≡ true →
           with_option allowed given word ≡ adds (λ words. record given { max_words = Some words })
           (once given.max_words (budget_in (value_of max_words_option word)))
       third_option is = rw not_first (rw not_second (rw is refl))
 
+      -- any other word adds a switch, or nothing
       pub no_option : (allowed.max_words && begins_with max_words_option word) ≡ false →
           with_option allowed given word ≡ with_switch allowed given word
       no_option none = rw not_first (rw not_second (rw none refl))

@@ -48,9 +48,11 @@ none_unsound rows words (level ∷ levels) each =
     rw here (none_unsound rows words levels (λ depth k lt below. each (suc depth) k (omega (arith, lt)) below))
 
 module _ (table : TableView) (each : IsEachSound table) where
+  -- the parts fit together
   shape : IsShaped table
   shape = shaped table each.shape
 
+  -- no root is unsound
   no_root : first_unsound_root table ≡ None
   no_root =
       let count = levels_len table shape in
@@ -61,6 +63,7 @@ module _ (table : TableView) (each : IsEachSound table) where
       (ap not (ap (λ (level : Level). leads_into level (root_of table trie))
       (first-is (get_or (trie_levels table) trie [])) ∙ each.root trie lt)))
 
+  -- no word is unsound
   no_word : first_unsound_word table ≡ None
   no_word =
       let unsound = unsound_word (length table.rows) table.words in

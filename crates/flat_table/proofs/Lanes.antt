@@ -49,9 +49,11 @@ pub record Goes (table : TableView) (trie : ℕ) (key : List ℕ) (n word byte :
 
 module _ (table : TableView) (trie : ℕ) (key : List ℕ) (sound : sound_fault table ≡ None)
     (lt : trie < length table.roots) where
+  -- each kept place lies within a key
   pub place_below : (n : ℕ) → n < length (places_of table trie) → slice_index (places_of table trie) n < table.key_len
   place_below n h = omega (arith, filter-range-below (is_kept (get_or table.kept trie 0)) 0 table.key_len n h)
 
+  -- a walk begins at the root
   pub begins : Stands table trie key 0 (root_of table trie)
   begins = record {
     is = refl;
@@ -59,6 +61,7 @@ module _ (table : TableView) (trie : ℕ) (key : List ℕ) (sound : sound_fault 
     level = λ _. root_leads table trie sound lt;
   }
 
+  -- after one more byte a walk stands at the word to which the byte leads
   moves : (word byte n : ℕ) → Stands table trie key n word → byte < 256 →
       word_after table trie key (n + 1) ≡ moved table.words (word_after table trie key n) byte →
       Stands table trie key (n + 1) (moved table.words word byte)
@@ -85,6 +88,7 @@ module _ (table : TableView) (trie : ℕ) (key : List ℕ) (sound : sound_fault 
             }
       ]
 
+  -- a walk has what one more byte needs
   pub goes : (n place byte word : ℕ) → n < length (places_of table trie) →
       place ≡ slice_index (places_of table trie) n → byte ≡ slice_index key place → byte < 256 →
       Stands table trie key n word → Goes table trie key n word byte

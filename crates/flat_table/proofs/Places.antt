@@ -30,13 +30,16 @@ level-len place (len ∷ lens) (suc n) = level-len (place + len) lens n
 
 -- the kept places of a trie are those that stand beside the parts
 module _ (table : TableView) (roots : List ℕ) (places : List (ArrayVec ℕ)) (t : IsTable table roots places) where
+  -- each trie has its places
   tries_len : length places ≡ length table.kept
   tries_len = sym (length-map places (λ (trie : ArrayVec ℕ). trie.items))
       ∙ ap (λ (xs : List (List ℕ)). length xs) t.read ∙ length-map table.kept (kept_places table.key_len)
 
+  -- there are as many as roots
   pub tries_of_places : length places ≡ length table.roots
   tries_of_places = tries_len ∙ (sound_parts table t.sound).shape.same
 
+  -- what stands beside a trie are its kept places
   pub places-at : (trie : ℕ) (here : ArrayVec ℕ) → trie < length table.roots → here ≡ get_or places trie here →
       here.items ≡ places_of table trie
   places-at trie here lt e =
@@ -58,15 +61,19 @@ levels-more table trie lt =
 -- where a level of a trie stands among all
 module _ (table : TableView) (s : IsShaped table) (trie depth : ℕ) (lt : trie < length table.roots)
     (below : depth < length (places_of table trie)) where
+  -- the trie has a kept word
   lt_kept : trie < length table.kept
   lt_kept = omega (arith, s.same)
 
+  -- the trie has a depth
   lt_depths : trie < length (depths_of table)
   lt_depths = omega (arith, lt_kept, length-map table.kept (depth_of table.key_len))
 
+  -- the trie's depth is the number of its kept places
   depth_is : get_or (depths_of table) trie 0 ≡ length (places_of table trie)
   depth_is = get_or-map (depth_of table.key_len) table.kept trie 0 0 lt_kept
 
+  -- the level is one of all levels
   pub level_bound : sum (take trie (depths_of table)) + depth < length table.level_lens
   level_bound = omega (
     arith,
@@ -87,6 +94,7 @@ module _ (table : TableView) (s : IsShaped table) (trie depth : ℕ) (lt : trie 
       (levels_from 0 table.level_lens)) depth no_level within
       ∙ get_or-drop (sum (take trie (depths_of table))) (levels_from 0 table.level_lens) depth no_level
 
+  -- the level is as long as is kept for it
   pub level_len_is : (level_of table trie depth).len ≡ get_or table.level_lens
       (sum (take trie (depths_of table)) + depth) 0
   level_len_is = ap (λ (l : Level). l.len) level_is ∙ level-len 0 table.level_lens

@@ -108,18 +108,23 @@ levels_len table shape =
 
 -- the tries of parts that fit together
 module _ (table : TableView) (trie : ℕ) (shape : IsShaped table) (lt : trie < length table.roots) where
+  -- the trie has a kept word
   lt_kept : trie < length table.kept
   lt_kept = omega (arith, shape.same)
 
+  -- the trie's depth is the number of its kept places
   depth_is : get_or (depths_of table) trie 0 ≡ length (places_of table trie)
   depth_is = get_or-map (depth_of table.key_len) table.kept trie 0 0 lt_kept
 
+  -- the trie has a depth
   lt_depths : trie < length (depths_of table)
   lt_depths = omega (arith, lt_kept, length-map table.kept (depth_of table.key_len))
 
+  -- the trie has its levels
   pub lt_levels : trie < length (trie_levels table)
   lt_levels = omega (arith, levels_len table shape)
 
+  -- its levels are those after the levels of earlier tries
   levels_cut : get_or (trie_levels table) trie [] ≡ take (length (places_of table trie))
       (drop (sum (take trie (depths_of table))) (levels_from 0 table.level_lens))
   levels_cut = portion-at (depths_of table) trie (levels_from 0 table.level_lens) lt_depths
@@ -129,12 +134,14 @@ module _ (table : TableView) (trie : ℕ) (shape : IsShaped table) (lt : trie < 
   pub levels_few : length (get_or (trie_levels table) trie []) ≤ length (places_of table trie)
   levels_few = omega (arith, ap (λ (ls : List Level). length ls) levels_cut, length-take {A = Level})
 
+  -- no word leads into a level after the last one
   pub none_after : (depth word : ℕ) → length (places_of table trie) ≤ depth →
       leads_into (level_of table trie depth) word ≡ false
   none_after depth word le =
       ap (λ (level : Level). leads_into level word) (get_or_past (get_or (trie_levels table) trie []) depth no_level
       (omega (arith, levels_few))) ∙ nowhere word
 
+  -- each of its levels lies within the words
   level_within : (depth : ℕ) → (level_of table trie depth).from + (level_of table trie depth).len ≤ length table.words
   level_within depth =
       let n : ℕ = sum (take trie (depths_of table)) in
@@ -157,9 +164,11 @@ word_in words level k below =
 
 -- the tries of a sound table
 module _ (table : TableView) (trie : ℕ) (sound : sound_fault table ≡ None) (lt : trie < length table.roots) where
+  -- the parts fit together
   shape : IsShaped table
   shape = (sound_parts table sound).shape
 
+  -- the root leads into the first level
   pub root_leads : leads_into (level_of table trie 0) (root_of table trie) ≡ true
   root_leads =
       let count = levels_len table shape in
@@ -172,6 +181,7 @@ module _ (table : TableView) (trie : ℕ) (sound : sound_fault table ≡ None) (
       (sym (first-is (get_or (trie_levels table) trie [])))
       ∙ not-false _ (rw at at none)
 
+  -- no word of its levels is unsound
   sound_levels : unsound_word (length table.rows) table.words (get_or (trie_levels table) trie []) ≡ None
   sound_levels =
       let below = lt_levels table trie shape lt in
@@ -202,6 +212,7 @@ module _ (table : TableView) (trie : ℕ) (sound : sound_fault table ≡ None) (
       ap (λ (w : ℕ). is_sound_word (length table.rows) (level_of table trie (depth + 1)) w) (sym at)
       ∙ level_sound (length table.rows) table.words (get_or (trie_levels table) trie []) depth k sound_levels in_words
 
+  -- the word of a node for a byte leads on into the next level
   pub next_leads_on : (depth word byte : ℕ) → byte < 256 → leads_into (level_of table trie depth) word ≡ true →
       LeadsOn table trie (depth + 1) (next_place word byte)
   next_leads_on depth word byte small leads =

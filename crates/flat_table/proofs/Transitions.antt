@@ -53,24 +53,30 @@ transitions_below words word (byte ∷ bytes) =
     ]
 
 module _ (table : TableView) (trie : ℕ) (key : List ℕ) where
+  -- a walk reads a byte for each kept place
   pub bytes_len : length (bytes_of table trie key) ≡ length (places_of table trie)
   bytes_len = length-map (places_of table trie) (λ place. slice_index key place)
 
+  -- as many first bytes as there are kept places are all bytes of the walk
   all_bytes : take (length (places_of table trie)) (bytes_of table trie key) ≡ bytes_of table trie key
   all_bytes = take_all (length (places_of table trie)) (bytes_of table trie key) (omega (arith, bytes_len))
 
+  -- the row of a walk is that of the word after its last byte
   pub row_is : walk_row table trie key ≡ index_of (word_after table trie key (length (places_of table trie)))
   row_is = ap index_of (last_transition table.words (root_of table trie) (bytes_of table trie key)
       ∙ ap (λ (bytes : List ℕ). fold (moved table.words) (root_of table trie) bytes) (sym all_bytes))
 
+  -- the transitions of a walk are those up to its last byte
   pub transitions_are : walk_transitions table trie key
       ≡ transitions_after table trie key (length (places_of table trie))
   transitions_are = ap (λ (bytes : List ℕ). length (transitions table.words (root_of table trie) bytes)) (sym all_bytes)
 
+  -- a walk has at most one transition for each kept place
   pub transitions_bound : walk_transitions table trie key ≤ length (places_of table trie)
   transitions_bound =
       omega (arith, transitions_below table.words (root_of table trie) (bytes_of table trie key), bytes_len)
 
+  -- one more place adds its byte of the key
   bytes_more : (n : ℕ) → n < length (places_of table trie) →
       take (n + 1) (bytes_of table trie key) ≡ take n (bytes_of table trie key) ++ slice_index key
       (slice_index (places_of table trie) n) ∷ []
@@ -80,6 +86,7 @@ module _ (table : TableView) (trie : ℕ) (key : List ℕ) where
       ∙ ap (λ (bytes : List ℕ). bytes ++ slice_index key (slice_index (places_of table trie) n) ∷ [])
       (sym (take-map (λ place. slice_index key place) n (places_of table trie)))
 
+  -- the word after one more byte is that to which the byte leads
   pub word_more : (n place : ℕ) → n < length (places_of table trie) → place ≡ slice_index (places_of table trie) n →
       word_after table trie key (n + 1) ≡ moved table.words (word_after table trie key n) (slice_index key place)
   word_more n place lt e =
@@ -88,6 +95,7 @@ module _ (table : TableView) (trie : ℕ) (key : List ℕ) where
       (slice_index key (slice_index (places_of table trie) n) ∷ [])
       ∙ ap (λ (p : ℕ). moved table.words (word_after table trie key n) (slice_index key p)) (sym e)
 
+  -- one more byte is one more transition, unless a match stood before it
   pub transition_more : (n : ℕ) → n < length (places_of table trie) →
       transitions_after table trie key (n + 1) ≡ transitions_after table trie key n +
       (if is_match (word_after table trie key n) then 0 else 1)

@@ -29,15 +29,18 @@ module _ (table : TableView) (trie first from end : ℕ) (place : Option ℕ)
     (all : first_some (map (unsound_word (length table.rows) table.words) (drop trie (trie_levels table)))
     ≡ first_unsound_word table)
     (t : Turn table trie first from end) where
+  -- the first unsound word is that of this trie, or else that of those after it
   word_step : option_or place (first_some (map (unsound_word (length table.rows) table.words)
       (drop (trie + 1) (trie_levels table)))) ≡ first_unsound_word table
   word_step =
       rw e (sym (ap (λ (levels : List (List Level)). first_some
       (map (unsound_word (length table.rows) table.words) levels)) t.here) ∙ all)
 
+  -- what is found in this trie is the first of all
   pub word_here : is_some place ≡ true → place ≡ first_unsound_word table
   word_here some = sym (found_here place _ some) ∙ word_step
 
+  -- if none is found in this trie, the first is that of those after it
   pub no_word_here : is_some place ≡ false → first_some
       (map (unsound_word (length table.rows) table.words) (drop (trie + 1) (trie_levels table)))
       ≡ first_unsound_word table
@@ -63,6 +66,7 @@ module _ (rows : ℕ) (words lens : List ℕ) (depth from : ℕ) (lt : depth < l
     (e : place ≡ position_from (λ word. not (is_sound_word rows next word)) from
     (take (from + get_or lens depth 0 - from) (drop from words)))
     (all : unsound_word rows words (levels_from from (drop depth lens)) ≡ whole) where
+  -- the first unsound word is that of this level, or else that of those after it
   level_step : option_or place (unsound_word rows words
       (levels_from (from + get_or lens depth 0) (drop (depth + 1) lens))) ≡ whole
   level_step =
@@ -76,9 +80,11 @@ module _ (rows : ℕ) (words lens : List ℕ) (depth from : ℕ) (lt : depth < l
       take_rest_all = take_all (length lens - (depth + 1)) (drop (depth + 1) lens)
           (omega (arith, length-drop (depth + 1) lens))
 
+  -- what is found in this level is the first of all
   pub level_here : is_some place ≡ true → place ≡ whole
   level_here some = sym (found_here place _ some) ∙ level_step
 
+  -- if none is found in this level, the first is that of those after it
   pub no_level_here : is_some place ≡ false →
       unsound_word rows words (levels_from (from + get_or lens depth 0) (drop (depth + 1) lens)) ≡ whole
   no_level_here none = sym (not_here place _ none) ∙ level_step
@@ -112,10 +118,12 @@ module _ (table : TableView) (trie first from end : ℕ) (lt : trie < length tab
     (all : position_from is_unsound_root trie (zip (drop trie table.roots) (drop trie (trie_levels table)))
     ≡ first_unsound_root table)
     (t : Turn table trie first from end) where
+  -- a root that is unsound here is the first
   pub root_here : sound ≡ false → Some trie ≡ first_unsound_root table
   root_here unsound = cond_at _ true _ _ _ (ap not (sym e ∙ unsound))
       (sym (root_step trie table.roots (trie_levels table) _ lt t.here) ∙ all)
 
+  -- if the root is sound here, the first is that of those after it
   pub no_root_here : sound ≡ true → position_from is_unsound_root (trie + 1)
       (zip (drop (trie + 1) table.roots) (drop (trie + 1) (trie_levels table))) ≡ first_unsound_root table
   no_root_here fine = cond_at _ false _ _ _ (ap not (sym e ∙ fine))

@@ -22,21 +22,25 @@ made n tries width = record { jobs = n * tries; given = 0; slots = replicate wid
 
 module _ (table : TableView) (keys : List ℕ) {n tries : ℕ} {old rows : List (List ℕ)}
     (b : Begins table keys n tries old rows) where
+  -- the rows are the old ones with those of the keys made zero
   pub begun_rows : rows ≡ cleared (keys_in table keys) old
   begun_rows = b.rows_are ∙ ap (λ (k : ℕ). cleared k old) b.keys_are
 
+  -- the rows of the keys are zero
   rows_zero : take (keys_in table keys) rows ≡ replicate (keys_in table keys) zero_row
   rows_zero =
       ap (λ (them : List (List ℕ)). take (keys_in table keys) them) begun_rows
       ∙ take_at (replicate (keys_in table keys) zero_row) _ (keys_in table keys)
       (length-replicate (keys_in table keys) zero_row)
 
+  -- the machine is in its first state
   pub begun_state : (width : ℕ) → state_of table keys (made n tries width) rows ≡ first_state table keys width
   begun_state width = λ i. record {
     machine = record { jobs = b.keys_are i * b.tries_are i; given = 0; slots = replicate width None };
     rows = rows_zero i;
   }
 
+  -- the machine stands over the batch
   pub begun_stands : (width : ℕ) → BatchFits table keys (length old) →
       StandsOver table keys (made n tries width) (length rows)
   begun_stands width fits = record {

@@ -66,6 +66,7 @@ module _ (table : TableView) where
       (λ trie. let apart : (first == key) ≡ false = grind (arith, nat_tests) in apart) i
       ++ later_jobs key (first + 1) n (omega arith) i)
 
+  -- the jobs of a key among those of several keys are its own
   own_jobs : (key first n : ℕ) → first ≤ key → key < first + n →
       filter (is_of key) (flat_map (jobs_of_key table) (range_with_len first n)) ≡ jobs_of_key table key
   own_jobs key first zero from below = absurd (omega arith)
@@ -95,11 +96,13 @@ module _ (table : TableView) (keys : List ℕ) where
       (λ trie. get_or table.rows (walk_row table trie (key_at table keys key)) []) (tries_of table)))
 
   module _ (state : FlowState) (flown : IsFlown table keys state) (done : is_done state.machine ≡ true) where
+    -- all jobs were given out
     all_given : take state.machine.given (jobs_of table keys) ≡ jobs_of table keys
     all_given =
         let over : state.machine.jobs ≤ state.machine.given = none_left state.machine done in
         take_all state.machine.given (jobs_of table keys) (omega (arith, over, flown.jobs, jobs_len table keys))
 
+    -- all jobs of each key have ended
     all_ended : (key : ℕ) → key < keys_in table keys →
         ended_jobs table keys state.machine key ≡ jobs_of_key table key
     all_ended key below =
@@ -110,6 +113,7 @@ module _ (table : TableView) (keys : List ℕ) where
         (jobs_of table keys)
         ∙ own_jobs table key 0 (keys_in table keys) (omega arith) (omega arith)
 
+    -- in each category a row has the greatest word over all tries
     joined_at : (key category : ℕ) → key < keys_in table keys → category < row_len →
         slice_index (get_or state.rows key []) category ≡ joined table (key_at table keys key) category
     joined_at key category below narrow =
@@ -117,6 +121,7 @@ module _ (table : TableView) (keys : List ℕ) where
         ∙ ap (λ (jobs : List Job). greatest (map (word_reached table keys category) jobs)) (all_ended key below)
         ∙ words_reached key category
 
+    -- each row is joined
     pub all_joined : AreJoined table keys state.rows
     all_joined = record {
       len = flown.len;

@@ -73,6 +73,7 @@ module _ (table : TableView) (keys : List ℕ) (stay : WalksStay) (sound : sound
   no_load (suc width) =
       omega (arith, sum_by-cons (slot_load table) None (replicate width None), no_load width)
 
+  -- the load of the first state is the number of steps that are enough
   first_load : (width : ℕ) → load table keys (first_state table keys width) ≡ most_steps table keys
   first_load width =
       let none : job_count table keys - 0 ≡ job_count table keys = omega arith in
@@ -103,6 +104,7 @@ module _ (table : TableView) (keys : List ℕ) (stay : WalksStay) (sound : sound
 
 -- a machine without a slot that is awake is done
 module _ (table : TableView) (keys : List ℕ) (state : FlowState) (flown : IsFlown table keys state) where
+  -- if a slot isn't awake, no job is left
   none_left : (slot : ℕ) → is_awake table keys slot state ≡ false →
       nat_le state.machine.jobs state.machine.given ≡ true
   none_left slot asleep =
@@ -112,6 +114,7 @@ module _ (table : TableView) (keys : List ℕ) (state : FlowState) (flown : IsFl
       let over : nat_le (job_count table keys) state.machine.given ≡ true = grind (arith, nat_tests) in
       ap (λ (n : ℕ). nat_le n state.machine.given) flown.jobs ∙ over
 
+  -- if no slot is awake, each slot is empty
   each_empty : ((slot : ℕ) → slot < length state.machine.slots → is_awake table keys slot state ≡ false) →
       list_all is_empty state.machine.slots ≡ true
   each_empty asleep =
@@ -122,6 +125,7 @@ module _ (table : TableView) (keys : List ℕ) (state : FlowState) (flown : IsFl
       (or_parts (nat_lt state.machine.given (job_count table keys))
       (not (is_empty (get_or state.machine.slots slot None))) (asleep slot within)).1)))
 
+  -- if no slot is awake, the machine is done
   pub done_asleep : 0 < length state.machine.slots →
       ((slot : ℕ) → slot < length state.machine.slots → is_awake table keys slot state ≡ false) →
       is_done state.machine ≡ true
@@ -191,6 +195,7 @@ turns_count width (suc n) slot below =
 
 module _ (table : TableView) (keys : List ℕ) (stay : WalksStay) (sound : sound_fault table ≡ None)
     (bytes : AreBytes keys) where
+  -- a machine is done after slots of which each was stepped often enough
   pub done_enough : (width : ℕ) (slots : List ℕ) → AreSlots width slots → 0 < width →
       AreEnough table keys width slots → is_done (flow_from_first table keys width slots).machine ≡ true
   done_enough width slots below some enough =
@@ -202,6 +207,7 @@ module _ (table : TableView) (keys : List ℕ) (stay : WalksStay) (sound : sound
       (λ slot within. none_awake table keys stay sound bytes width slot slots below
       (enough slot (omega (arith, as_many, within))))
 
+  -- a machine is done after as many turns as steps are enough
   pub turns_enough : (width n : ℕ) → 0 < width → most_steps table keys ≤ n →
       is_done (flow_from_first table keys width (turns width n)).machine ≡ true
   turns_enough width n some many =
@@ -236,6 +242,7 @@ least p (suc n) holds = elim (least_so_far p (suc n)) [
 ]
 
 module _ (table : TableView) (keys : List ℕ) (width : ℕ) where
+  -- there is a least number of turns after which the machine is done
   pub rounds_there : WalksStay → sound_fault table ≡ None → AreBytes keys → 0 < width →
       (n : ℕ) × IsRounds table keys width n × (n ≤ most_steps table keys)
   rounds_there stay sound bytes some =
@@ -243,6 +250,7 @@ module _ (table : TableView) (keys : List ℕ) (width : ℕ) where
       (turns_enough table keys stay sound bytes width (most_steps table keys) some (omega arith)) in
       (n.0, record { ends = n.2; least = n.3 }, n.1)
 
+  -- there is one such number
   pub one_round : (n other : ℕ) → IsRounds table keys width n → IsRounds table keys width other → n ≡ other
   one_round n other first second = elim (cases_lt n other) [
     | inl less ↦ absurd (cc (first.ends, second.least n less))

@@ -47,6 +47,7 @@ pub record Takes (table : TableView) (keys : List ℕ) (given : ℕ) (flight : F
       IsInWalk table keys given (moved_to (word_of table keys flight) flight)
 
 module _ (table : TableView) (keys : List ℕ) (sound : sound_fault table ≡ None) where
+  -- a flight in its walk takes the next word of the walk
   pub takes : (given : ℕ) (flight : Flight) → AreBytes keys → IsInWalk table keys given flight →
       Takes table keys given flight
   takes given flight bytes f =

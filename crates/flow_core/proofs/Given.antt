@@ -24,9 +24,11 @@ even_pieces f size each (x ∷ xs) =
     omega (arith, length-append (f x) (flat_map f xs), each x, even_pieces f size each xs)
 
 module _ (table : TableView) where
+  -- there are as many tries as roots
   tries_len : length (tries_of table) ≡ length table.roots
   tries_len = length-range_with_len 0 (length table.roots)
 
+  -- a key has a job for each trie
   key_jobs_len : (key : ℕ) → length (jobs_of_key table key) ≡ length table.roots
   key_jobs_len key = length-map (tries_of table) (λ trie. record { key = key; trie = trie }) ∙ tries_len
 
@@ -61,21 +63,26 @@ abbrev pub number_of : TableView → Job → ℕ
 number_of table job = job.key * length table.roots + job.trie
 
 module _ (table : TableView) (keys : List ℕ) where
+  -- there is a job for each key and trie
   pub jobs_len : length (jobs_of table keys) ≡ job_count table keys
   jobs_len = even_pieces (jobs_of_key table) (length table.roots) (key_jobs_len table)
       (range_with_len 0 (keys_in table keys))
       ∙ ap (λ (n : ℕ). n * length table.roots) (length-range_with_len 0 (keys_in table keys))
 
   module _ (m : ℕ) (below : m < job_count table keys) where
+    -- if there is a job, there is a trie
     some_tries : 0 < length table.roots
     some_tries = grind (arith)
 
+    -- the key of a job is there
     key_below : m / length table.roots < keys_in table keys
     key_below = (div-lt_iff_lt-mul some_tries).1 below
 
+    -- the number of a job's trie is below that of all tries
     trie_below : m % length table.roots < length table.roots
     trie_below = mod-lt m some_tries
 
+    -- the number of a job is made of its key and its trie
     number_is : m / length table.roots * length table.roots + m % length table.roots ≡ m
     number_is = omega (arith, div-add-mod m (length table.roots))
 
@@ -84,6 +91,7 @@ module _ (table : TableView) (keys : List ℕ) where
     job_is d = ap (λ (k : ℕ). get_or (jobs_of table keys) k d) (sym number_is)
         ∙ numbered table (keys_in table keys) (m / length table.roots) (m % length table.roots) d key_below trie_below
 
+    -- the job of a number stands at that place among all
     pub job_got : slice_get (jobs_of table keys) m ≡ Some (job_at table m)
     job_got = slice_get-get_or (jobs_of table keys) m (job_at table m) (omega (arith, below, jobs_len))
         ∙ ap Some (job_is (job_at table m))
@@ -92,9 +100,11 @@ module _ (table : TableView) (keys : List ℕ) where
     pub key_there : (job_at table m).key < keys_in table keys
     key_there = key_below
 
+    -- the trie of a job is there
     pub trie_there : (job_at table m).trie < length table.roots
     trie_there = trie_below
 
+    -- the number of the job is the one that it was found by
     pub numbered_is : number_of table (job_at table m) ≡ m
     numbered_is = number_is
 
@@ -105,6 +115,7 @@ pub record IsGivenOut (table : TableView) (keys : List ℕ) (given : ℕ) (job :
   pub number : number_of table job < given
 
 module _ (table : TableView) (keys : List ℕ) where
+  -- a job among the first ones was given out
   pub given_out : (given : ℕ) (job : Job) → Contains (take given (jobs_of table keys)) job →
       IsGivenOut table keys given job
   given_out given job (m, below, is) =
@@ -128,11 +139,13 @@ module _ (table : TableView) (keys : List ℕ) where
         ∙ ap (λ (job : Job). take given (jobs_of table keys) ++ job ∷ [])
         (job_is table keys given few (job_at table given))
 
+    -- a job that was given out still is when one more is
     pub still_given : (job : Job) → Contains (take given (jobs_of table keys)) job →
         Contains (take (given + 1) (jobs_of table keys)) job
     still_given job in' = subst (λ (jobs : List Job). Contains jobs job) (sym given_more)
         (Contains-append_left (take given (jobs_of table keys)) (job_at table given ∷ []) job in')
 
+    -- the next job is given out then
     pub now_given : Contains (take (given + 1) (jobs_of table keys)) (job_at table given)
     now_given = subst (λ (jobs : List Job). Contains jobs (job_at table given)) (sym given_more)
         (Contains-push (take given (jobs_of table keys)) (job_at table given))

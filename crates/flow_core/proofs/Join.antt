@@ -14,12 +14,14 @@ use Rattle.std.proofs.Common.{ltb}
 use Rattle.table_sizes.specs.Sizes.{row_len}
 use Rattle.flow_core.specs.Rows.{joined_row, zero_row}
 
+-- the other number, if the first is below it, is the greater of both
 chosen : (a b : ℕ) → cond (ltb a b) b a ≡ max a b
 chosen a b = elim (cases_Bool (ltb a b)) [
   | inl less ↦ rw less (omega (arith, ltb-true a b less))
   | inr not_less ↦ rw not_less (omega (arith, ltb-false a b not_less))
 ]
 
+-- the words that are chosen by comparing two rows are those of the rows joined
 pub greater_words : (row other : List ℕ) → length row ≡ 16 → length other ≡ 16 →
     sel_l (map (top 63) (zip2 (λ a b. cond (ltb a b) (2 ^ 64 - 1) 0) row other)) other row ≡ joined_row row other
 unfolding joined_row

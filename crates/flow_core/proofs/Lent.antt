@@ -31,6 +31,7 @@ lent is stands within told = record {
 
 module _ {table : TableView} {keys : List ℕ} {inside before : Machine} {rows : List (List ℕ)} {slot : ℕ}
     (l : IsLent table keys inside before rows slot) where
+  -- the machine inside stands over the batch
   stands_inside : StandsOver table keys inside (length rows)
   stands_inside = subst (λ (machine : Machine). StandsOver table keys machine (length rows)) (sym l.is) l.stands
 
@@ -43,9 +44,11 @@ module _ {table : TableView} {keys : List ℕ} {inside before : Machine} {rows :
   module _ {flight : Flight} (busy : get_or inside.slots slot None ≡ Some flight) {held : Option Flight}
       (held_is : held ≡ held_after flight (word_of table keys flight)) {new : List (List ℕ)}
       (new_is : new ≡ rows_after table flight (word_of table keys flight) rows) where
+    -- the flight is on its way
     pub on_way : IsOnWay table keys inside.given flight
     on_way = flight_on_way table keys inside rows slot stands_inside l.within flight busy
 
+    -- the word that was taken is a step of the machine
     pub word_step :
         state_of table keys record {
           jobs = inside.jobs;
@@ -60,11 +63,13 @@ module _ {table : TableView} {keys : List ℕ} {inside before : Machine} {rows :
         } (new_is i))
         ∙ busy_step table keys inside rows slot flight (key_of_flight on_way) busy ∙ seen
 
+    -- the rows after those of the keys are as before
     pub word_others : drop (keys_in table keys) new ≡ drop (keys_in table keys) rows
     word_others =
         ap (λ (them : List (List ℕ)). drop (keys_in table keys) them) new_is
         ∙ others_stay table keys inside rows slot flight (key_of_flight on_way) (word_of table keys flight)
 
+    -- the machine stands over the batch after the word
     pub word_stands : LeadsOnward table flight (word_of table keys flight) →
         StandsOver table keys record {
           jobs = inside.jobs;
@@ -86,6 +91,7 @@ module _ {table : TableView} {keys : List ℕ} {inside before : Machine} {rows :
 
   -- ---- an empty slot took a job, or found none
   module _ (empty : get_or inside.slots slot None ≡ None) where
+    -- a job that was taken is a step of the machine
     pub job_taken : {flight : Flight} → flight ≡ begun table (job_at table inside.given) →
         inside.given < inside.jobs →
         state_of table keys record {
@@ -101,6 +107,7 @@ module _ {table : TableView} {keys : List ℕ} {inside before : Machine} {rows :
         } rows) is
         ∙ job_step table keys inside rows slot stands_inside.jobs empty left ∙ seen
 
+    -- the machine stands over the batch after the job
     pub job_stands : {flight : Flight} → flight ≡ begun table (job_at table inside.given) →
         inside.given < inside.jobs → sound_fault table ≡ None → WalksStay →
         StandsOver table keys record {
@@ -116,6 +123,7 @@ module _ {table : TableView} {keys : List ℕ} {inside before : Machine} {rows :
         } (length rows)) (sym is)
         (stands_job table keys inside rows slot stands_inside sound stay left)
 
+    -- a step without a job that is left changes nothing
     pub none_left : inside.jobs ≤ inside.given →
         state_of table keys before rows ≡ flow_step table keys (state_of table keys before rows) slot
     none_left all =

@@ -96,6 +96,7 @@ module _ (table : TableView) (keys : List ℕ) where
       let left : nat_lt state.machine.given (job_count table keys) ≡ true = grind (arith, nat_tests) in
       rw left refl
 
+  -- a slot that holds a flight is awake
   flight_wakes : (state : FlowState) (slot : ℕ) (flight : Flight) →
       get_or state.machine.slots slot None ≡ Some flight → is_awake table keys slot state ≡ true
   flight_wakes state slot flight busy =
@@ -168,6 +169,7 @@ module _ (table : TableView) (keys : List ℕ) where
       slot_load table (get_or slots i None) ≤ sum_by (slot_load table) slots
   part_of_load slots i within = omega (arith, sum_by-set (slot_load table) slots i None None within)
 
+  -- if a slot isn't empty, the slots have some load
   busy_load : (state : FlowState) (slot : ℕ) → IsFlown table keys state → (held : Option Flight) →
       get_or state.machine.slots slot None ≡ held → is_empty held ≡ false →
       0 < sum_by (slot_load table) state.machine.slots

@@ -22,15 +22,18 @@ module _ {table : TableView} {keys : List ℕ} {given : ℕ} {flight : Flight} (
   pub key_of_flight : flight.key < keys_in table keys
   key_of_flight = (given_out table keys given (job_of flight) on.job).key
 
+  -- the trie of the flight is there
   pub trie_of_flight : flight.trie < length table.roots
   trie_of_flight = (given_out table keys given (job_of flight) on.job).trie
 
   -- the place of its next byte
   module _ (sound : sound_fault table ≡ None) {places : List ℕ} (are : places ≡ places_of table flight.trie)
       {place : ℕ} (is : place ≡ slice_index places flight.depth) where
+    -- it is the place at the flight's depth in its trie
     place_is : place ≡ slice_index (places_of table flight.trie) flight.depth
     place_is = is ∙ ap (λ (xs : List ℕ). slice_index xs flight.depth) are
 
+    -- it is a place of the key
     pub place_in_key : place < table.key_len
     place_in_key = omega (
       arith,
@@ -38,6 +41,7 @@ module _ {table : TableView} {keys : List ℕ} {given : ℕ} {flight : Flight} (
       place_below table flight.trie keys sound trie_of_flight flight.depth on.depth,
     )
 
+    -- its byte is among the bytes of the keys
     pub byte_there : {len : ℕ} → len ≡ table.key_len → length keys ≡ keys_in table keys * table.key_len →
         flight.key * len + place < length keys
     byte_there e whole =
@@ -47,6 +51,7 @@ module _ {table : TableView} {keys : List ℕ} {given : ℕ} {flight : Flight} (
         let len_is = ap (λ (n : ℕ). flight.key * n) e in
         omega (arith, more, len_is, whole, place_in_key)
 
+    -- its byte is the one that the flight reads
     pub byte_is : {len : ℕ} → len ≡ table.key_len →
         slice_index keys (flight.key * len + place) ≡ byte_of table keys flight
     byte_is e =
@@ -55,6 +60,7 @@ module _ {table : TableView} {keys : List ℕ} {given : ℕ} {flight : Flight} (
         ∙ get_or-drop (flight.key * table.key_len) keys place 0)
         ∙ ap (λ (p : ℕ). slice_index (key_at table keys flight.key) p) place_is
 
+  -- the place where the flight's key begins is within its bound
   pub product_fits : {len : ℕ} → len ≡ table.key_len → len ≤ max_key_len → keys_in table keys ≤ max_keys →
       flight.key * len ≤ max_keys * max_key_len
   product_fits {len = len} e short few =
@@ -68,6 +74,7 @@ module _ {table : TableView} {keys : List ℕ} {given : ℕ} {flight : Flight} (
   word_onward stay sound byte small =
       stay.next table flight.trie flight.depth flight.word byte sound trie_of_flight small on.word
 
+  -- a place that leads on in the trie has a word that leads the flight onward
   pub leads_onward : (stay : WalksStay) → sound_fault table ≡ None → (place : ℕ) →
       LeadsOn table flight.trie (flight.depth + 1) place →
       LeadsOnward table flight (slice_index table.words place)

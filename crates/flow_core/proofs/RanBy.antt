@@ -59,11 +59,13 @@ module _ {table : TableView} {keys : List ℕ} {width : ℕ} {slots : List ℕ} 
   ran_all {n = n} ran all =
       ran.state ∙ ap (λ (some : List ℕ). flow_from_first table keys width some) (take_all n slots all)
 
+  -- the machine is done exactly if the run by the slots ends done
   pub done_is : {n : ℕ} {machine : Machine} {old rows : List (List ℕ)} →
       RanBy table keys width slots n machine old rows → length slots ≤ n →
       is_done machine ≡ is_done (flow_from_first table keys width slots).machine
   done_is ran all = ap (λ (state : FlowState). is_done state.machine) (ran_all ran all)
 
+  -- the rows of the keys are those at the end of the run by the slots
   pub rows_are : {n : ℕ} {machine : Machine} {old rows : List (List ℕ)} →
       RanBy table keys width slots n machine old rows → length slots ≤ n →
       take (keys_in table keys) rows ≡ (flow_from_first table keys width slots).rows

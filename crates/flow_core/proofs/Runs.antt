@@ -46,28 +46,33 @@ past_last table keys given all = elim ((slice_get_cases (jobs_of table keys) giv
 
 -- a step leaves as many slots as there were
 module _ (table : TableView) (keys : List ℕ) where
+  -- after a word there are as many slots
   width_of_word : (state : FlowState) (slot : ℕ) (flight : Flight) (word : ℕ) (match : Bool) →
       is_match word ≡ match →
       length (after_word table state slot flight word).machine.slots ≡ length state.machine.slots
   width_of_word state slot flight word true e = rw e (length-set state.machine.slots slot None)
   width_of_word state slot flight word false e = rw e (length-set state.machine.slots slot _)
 
+  -- after a job, or none, there are as many slots
   width_of_job : (state : FlowState) (slot : ℕ) (job : Option Job) →
       length (after_empty table state slot job).machine.slots ≡ length state.machine.slots
   width_of_job state slot None = refl
   width_of_job state slot (Some job) = length-set state.machine.slots slot (Some (begun table job))
 
+  -- after a step of what the slot holds there are as many slots
   width_of : (state : FlowState) (slot : ℕ) (held : Option Flight) →
       length (step_of table keys state slot held).machine.slots ≡ length state.machine.slots
   width_of state slot None = width_of_job state slot (slice_get (jobs_of table keys) state.machine.given)
   width_of state slot (Some flight) =
       width_of_word state slot flight (word_of table keys flight) (is_match (word_of table keys flight)) refl
 
+  -- after each step there are as many slots
   pub same_width : (state : FlowState) (slot : ℕ) →
       length (flow_step table keys state slot).machine.slots ≡ length state.machine.slots
   same_width state slot = width_of state slot (get_or state.machine.slots slot None)
 
 module _ (table : TableView) (keys : List ℕ) where
+  -- what holds of every state holds of the first one
   pub first_flown : (width : ℕ) → IsFlown table keys (first_state table keys width)
   first_flown width = record {
     jobs = refl;
@@ -81,6 +86,7 @@ module _ (table : TableView) (keys : List ℕ) where
   }
 
   module _ (stay : WalksStay) (sound : sound_fault table ≡ None) (bytes : AreBytes keys) where
+    -- it holds after a word
     after_flight : (state : FlowState) (i : ℕ) → i < length state.machine.slots → IsFlown table keys state →
         (flight : Flight) → get_or state.machine.slots i None ≡ Some flight →
         IsFlown table keys (after_word table state i flight (word_of table keys flight))
@@ -94,6 +100,7 @@ module _ (table : TableView) (keys : List ℕ) where
           | inr on ↦ rw on (goes_on table keys state i within flown flight busy took on)
         ]
 
+    -- it holds after a step of what the slot holds
     step_kept : (state : FlowState) (i : ℕ) → i < length state.machine.slots → IsFlown table keys state →
         (held : Option Flight) → get_or state.machine.slots i None ≡ held →
         IsFlown table keys (step_of table keys state i held)
@@ -108,6 +115,7 @@ module _ (table : TableView) (keys : List ℕ) where
     ]
     step_kept state i within flown (Some flight) busy = after_flight state i within flown flight busy
 
+    -- it holds after each step
     pub flown_step : (state : FlowState) (i : ℕ) → i < length state.machine.slots → IsFlown table keys state →
         IsFlown table keys (flow_step table keys state i)
     flown_step state i within flown = step_kept state i within flown (get_or state.machine.slots i None) refl
@@ -122,6 +130,7 @@ module _ (table : TableView) (keys : List ℕ) where
         (All-tail (λ s. s < length state.machine.slots) slot slots below))
         (flown_step state slot (All-head (λ s. s < length state.machine.slots) slot slots below) flown)
 
+    -- it holds after the steps of any list of slots
     pub from_first : (width : ℕ) (slots : List ℕ) → AreSlots width slots →
         IsFlown table keys (flow_from_first table keys width slots)
     from_first width slots below =

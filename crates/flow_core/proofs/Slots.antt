@@ -8,10 +8,12 @@ use Rattle.flat_table.specs.Walk.{greatest}
 
 -- ---- the greatest
 
+-- the greatest of some numbers and a start is the greater of the start and their greatest
 from_start : (a : ℕ) (xs : List ℕ) → fold max a xs ≡ max a (fold max 0 xs)
 from_start a [] = omega arith
 from_start a (x ∷ xs) = omega (arith, from_start (max a x) xs, from_start (max 0 x) xs)
 
+-- the greatest with one more in front is the greater of that and the greatest
 pub greatest_cons : (x : ℕ) (xs : List ℕ) → greatest (x ∷ xs) ≡ max x (greatest xs)
 greatest_cons x xs = omega (arith, from_start (max 0 x) xs)
 
@@ -43,6 +45,7 @@ module _ {X : Type 0} (same : X → Bool) (w : X → ℕ) (p q : X → Bool) (x 
         ]
       ]
 
+  -- the greatest that pass are at least what an element weighs that passes
   reaches : (xs : List X) (k : ℕ) → k < length xs → get_or xs k x ≡ x → q x ≡ true →
       w x ≤ greatest (map w (filter q xs))
   reaches [] k within is passes = absurd (omega arith)

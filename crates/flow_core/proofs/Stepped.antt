@@ -32,6 +32,7 @@ module _ (table : TableView) (keys : List ℕ) (machine : Machine) (rows : List 
 
   -- ---- a busy slot takes a word
   module _ (flight : Flight) (below : flight.key < keys_in table keys) where
+    -- the state of the code after a word is that of the machine
     word_taken : (word : ℕ) →
         state_of table keys record {
           jobs = machine.jobs;
@@ -51,6 +52,7 @@ module _ (table : TableView) (keys : List ℕ) (machine : Machine) (rows : List 
       | inr on ↦ rw on refl
     ]
 
+    -- the step of a busy slot is one of the machine
     pub busy_step : get_or machine.slots slot None ≡ Some flight →
         state_of table keys record {
           jobs = machine.jobs;
@@ -60,6 +62,7 @@ module _ (table : TableView) (keys : List ℕ) (machine : Machine) (rows : List 
         ≡ flow_step table keys (state_of table keys machine rows) slot
     busy_step busy = rw busy (word_taken (word_of table keys flight))
 
+    -- the rows after those of the keys stay as they are
     pub others_stay : (word : ℕ) →
         drop (keys_in table keys) (rows_after table flight word rows) ≡ drop (keys_in table keys) rows
     others_stay word = elim (cases_Bool (is_match word)) [
@@ -70,6 +73,7 @@ module _ (table : TableView) (keys : List ℕ) (machine : Machine) (rows : List 
 
   -- ---- an empty slot takes a job, or finds none
   module _ (jobs : machine.jobs ≡ job_count table keys) (empty : get_or machine.slots slot None ≡ None) where
+    -- a job for an empty slot is a step of the machine
     pub job_step : machine.given < machine.jobs →
         state_of table keys record {
           jobs = machine.jobs;
@@ -78,6 +82,7 @@ module _ (table : TableView) (keys : List ℕ) (machine : Machine) (rows : List 
         } rows ≡ flow_step table keys (state_of table keys machine rows) slot
     job_step few = rw (empty, job_got table keys machine.given (omega (arith, few, jobs))) refl
 
+    -- without a job the step changes nothing
     pub idle_step : machine.jobs ≤ machine.given →
         state_of table keys machine rows ≡ flow_step table keys (state_of table keys machine rows) slot
     idle_step all = rw (empty, past_last table keys machine.given (omega (arith, all, jobs))) refl
@@ -104,6 +109,7 @@ still_on_way table keys given few (Some flight) on = record {
 -- ---- the machine may be stepped again
 module _ (table : TableView) (keys : List ℕ) (machine : Machine) (rows : List (List ℕ)) (slot : ℕ)
     (stands : StandsOver table keys machine (length rows)) where
+  -- as many rows fit the batch
   as_many : (new : List (List ℕ)) → length new ≡ length rows → BatchFits table keys (length new)
   as_many new same = record {
     whole = stands.fits.whole;
@@ -118,6 +124,7 @@ module _ (table : TableView) (keys : List ℕ) (machine : Machine) (rows : List 
       let P = λ (held : Option Flight). IfSome held (IsOnWay table keys machine.given) in
       subst P busy (All-get_or P machine.slots slot None within stands.flights)
 
+  -- the machine stands over the batch after a word
   pub stands_word : slot < length machine.slots → (flight : Flight) (word : ℕ) →
       get_or machine.slots slot None ≡ Some flight → LeadsOnward table flight word →
       StandsOver table keys record {
@@ -141,6 +148,7 @@ module _ (table : TableView) (keys : List ℕ) (machine : Machine) (rows : List 
         flights = All-set P machine.slots slot (held_after flight word) now stands.flights;
       }
 
+  -- the machine stands over the batch after a job
   pub stands_job : sound_fault table ≡ None → WalksStay → machine.given < machine.jobs →
       StandsOver table keys record {
         jobs = machine.jobs;

@@ -30,6 +30,7 @@ verdicts_len count row = length-map (range_with_len 0 count) (λ category. slice
 -- ---- they are written row by row
 module _ (rows : List (List ℕ)) (count keys : ℕ) (old : List ℕ) (few : keys ≤ length rows)
     (room : length old ≡ keys * count) where
+  -- the first rows have as many verdicts each
   written_len : (k : ℕ) → k ≤ keys → length (flat_map (row_verdicts count) (take k rows)) ≡ k * count
   written_len k within = even_pieces (row_verdicts count) count (verdicts_len count) (take k rows)
       ∙ ap (λ (n : ℕ). n * count) (length-take-le k rows (omega (arith, within, few)))
@@ -49,6 +50,7 @@ module _ (rows : List (List ℕ)) (count keys : ℕ) (old : List ℕ) (few : key
         length-drop (k * count) out,
       )
 
+  -- the verdicts of one more row come after those of the first rows
   pub row_written : (k : ℕ) (out verdicts row : List ℕ) → k < keys → length out ≡ length old →
       out ≡ flat_map (row_verdicts count) (take k rows) ++ drop (k * count) old → slice_get rows k ≡ Some row →
       verdicts ≡ row_verdicts (length (take ((k + 1) * count - k * count) (drop (k * count) out))) row →
@@ -78,6 +80,7 @@ module _ (rows : List (List ℕ)) (count keys : ℕ) (old : List ℕ) (few : key
 -- ---- of rows that are joined they are those of the table
 module _ (table : TableView) (keys : List ℕ) (count : ℕ) (few : count ≤ row_len) (rows : List (List ℕ))
     (joined : AreJoined table keys rows) where
+  -- the verdicts of a key's row are those of the key
   verdicts_of_key : (k : ℕ) → k < keys_in table keys →
       row_verdicts count (get_or rows k []) ≡ key_verdicts table count (key_at table keys k)
   verdicts_of_key k below =
@@ -87,6 +90,7 @@ module _ (table : TableView) (keys : List ℕ) (count : ℕ) (few : count ≤ ro
       ≡ table_verdict table (key_at table keys k) category) count
       (λ category narrow. joined.verdict_is k category below (omega (arith, narrow, few))))
 
+  -- the verdicts of all rows are those of the batch
   pub verdicts_of_rows : flat_map (row_verdicts count) rows ≡ batch_verdicts table count keys
   verdicts_of_rows =
       let n : ℕ = keys_in table keys in

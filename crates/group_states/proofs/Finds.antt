@@ -14,9 +14,11 @@ module _ {X : Type 0} (same : X → X → Bool) (live : X → Bool) where
   abbrev pub is_new : List X → X → Bool
   is_new found x = live x && not (list_any (same x) found)
 
+  -- an element that isn't new leaves those found as they are
   pub stays_found : (found : List X) (x : X) → is_new found x ≡ false → found_with same live found x ≡ found
   stays_found found x old = ap (λ b. cond b (found ++ x ∷ []) found) old
 
+  -- a new element comes after those found
   pub goes_after : (found : List X) (x : X) → is_new found x ≡ true → found_with same live found x ≡ found ++ x ∷ []
   goes_after found x new = ap (λ b. cond b (found ++ x ∷ []) found) new
 
@@ -48,6 +50,7 @@ module _ {X : Type 0} (same : X → X → Bool) (live : X → Bool) where
   abbrev pub NoneNew : List X → List X → Type 0
   NoneNew found xs = AllByRecursion (λ x. is_new found x ≡ false) xs
 
+  -- what has nothing new has nothing new after more were found
   pub none_new_more : (found more xs : List X) → NoneNew found xs → NoneNew (found ++ more) xs
   none_new_more found more [] old = tt
   none_new_more found more (x ∷ xs) old = (old_for_more found more x old.0, none_new_more found more xs old.1)
@@ -134,6 +137,7 @@ module _ {X Y : Type 0} (same : X → X → Bool) (live : X → Bool) (sound : (
       none true is false is_m old =
           absurd (true≢false (sym (ap (λ b. b && true) is) ∙ ap (λ b. live x && not b) (sym is_m) ∙ old))
 
+  -- what found elements lead to is found as what all elements lead to
   finds_of_finds : (acc xs : List X)
       → fold (found_with same_y live_y) [] (flat_map f (fold (found_with same live) acc xs))
       ≡ fold (found_with same_y live_y) (fold (found_with same_y live_y) [] (flat_map f acc)) (flat_map f xs)
@@ -203,6 +207,7 @@ module _ {X Y : Type 0} (same : X → X → Bool) (live : X → Bool) (same_y : 
 
 -- what holds of each element holds of each found, and each found is live
 module _ {X : Type 0} (same : X → X → Bool) (live : X → Bool) (P : X → Type 0) where
+  -- so it is with those that are found after some
   pub all_found : (acc xs : List X) → AllByRecursion P acc → AllByRecursion (λ x. live x ≡ true → P x) xs
       → AllByRecursion P (fold (found_with same live) acc xs)
   all_found acc [] ps qs = ps
@@ -218,6 +223,7 @@ module _ {X : Type 0} (same : X → X → Bool) (live : X → Bool) (P : X → T
       by true true px = ps
       by true false px = pushed (px refl) acc ps
 
+  -- so it is with all that are found
   pub All-found_in : (xs : List X) → AllByRecursion (λ x. live x ≡ true → P x) xs
       → AllByRecursion P (found_in same live xs)
   unfolding found_in

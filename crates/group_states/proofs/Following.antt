@@ -60,9 +60,11 @@ same_is (Row m) Dead h = absurd (true≢false (sym h))
 same_is (Row m) (State n) h = absurd (true≢false (sym h))
 
 module _ (succ : ℕ → Succ) (byte : ℕ) where
+  -- the run that ends with a byte
   abbrev run_at : ℕ → Run
   run_at b = record { last = b; to = succ b }
 
+  -- where the first of the runs leads that ends at the byte or after it
   abbrev first_run : List ℕ → Succ
   first_run bytes = option_map_or (λ (run : Run). run.to)
       (find (λ (run : Run). leb byte run.last) (map run_at (filter (is_end succ) bytes))) Dead
@@ -119,6 +121,7 @@ module _ (succ : ℕ → Succ) (byte : ℕ) where
     ]
   ]
 
+  -- the runs lead a byte to its successor
   pub run_to_byte : byte < 256 → run_to (runs_of succ) byte ≡ succ byte
   unfolding runs_of all_bytes
   run_to_byte below = run_until 0 256 refl (omega arith) below
@@ -126,6 +129,7 @@ module _ (succ : ℕ → Succ) (byte : ℕ) where
 -- ---- what is found at a number
 
 module _ {X : Type 0} (same : X → X → Bool) (sound : (x y : X) → same x y ≡ true → x ≡ y) where
+  -- an element that is among others is found at its position
   pub found_at : (x : X) (xs : List X) → list_any (same x) xs ≡ true
       → slice_get xs (position_or_len (same x) xs) ≡ Some x
   found_at x [] there = absurd (true≢false (sym there))
@@ -175,6 +179,7 @@ each_prefix (suc place) P all key small long =
 -- what a key leads to is found
 module _ {X : Type 0} (same : X → X → Bool) (live : X → Bool) (reflexive : (x : X) → same x x ≡ true)
     (sound : (x y : X) → same x y ≡ true → x ≡ y) (f : List ℕ → X) where
+  -- what a key leads to is found at its position if it is live
   pub found_for_key : (place : ℕ) (key : List ℕ) → AreBytes key → length key ≡ place → live (f key) ≡ true →
       slice_get (found_in same live (map f (prefixes place)))
       (position_or_len (same (f key)) (found_in same live (map f (prefixes place)))) ≡ Some (f key)
@@ -335,6 +340,7 @@ module _ (set : RuleSetView) (group : List ℕ) (held : AllByRecursion (IsHeld s
           (sym (ap (λ r. on_from (λ (next : ℕ). Dead) (row_succ (rows_of set group) r)) is))
           (sym (whole_numbers set group key long) ∙ ap (map (λ (h : Held). h.number)) none.1)
 
+  -- the runs lead from the key's state at a place to the row of the rules that match
   follow : (place : ℕ) (places : List ℕ) (number : ℕ) → Gaps set group (place ∷ places)
       → slice_get (states_at set group place) number ≡ Some (state set group (take place key)) →
       IsAnswer set (rows_of set group) (matching set group key)
@@ -406,6 +412,7 @@ module _ (set : RuleSetView) (group : List ℕ) (held : AllByRecursion (IsHeld s
       ∙ ap (map (map (decoded set place))) (packed_start set group held some place within wild))
       ∙ ap Some (sym (state_is set group (take place key) held ∙ (λ i. map (decoded set (shorter i)) (entries i))))
 
+  -- the runs lead there from the first state too
   from_first : 0 < length group → (places : List ℕ) → HasFirst set group places →
       IsAnswer set (rows_of set group) (matching set group key)
       (followed (level_runs set (states_at set group) (rows_of set group) places) places key 0)

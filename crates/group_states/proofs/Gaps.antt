@@ -18,6 +18,7 @@ module _ (set : RuleSetView) (group : List ℕ) where
   Gaps (place ∷ []) = IsGap set group place (key_len_of set.layout)
   Gaps (place ∷ next ∷ places) = IsGap set group place next × Gaps (next ∷ places)
 
+  -- the places from one on that pass the test have wild places between them
   gaps_from : (test : ℕ → Bool)
       (wild : (k : ℕ) → k < key_len_of set.layout → test k ≡ false → is_wild_place set group k ≡ true)
       (place first count : ℕ) → place < first → first + count ≡ key_len_of set.layout
@@ -53,6 +54,7 @@ module _ (set : RuleSetView) (group : List ℕ) where
     pub within : get_or places 0 0 ≤ key_len_of set.layout
     pub gaps : Gaps places
 
+  -- the places that pass the test have a first one, and the places before it are wild
   first_from : (test : ℕ → Bool)
       (wild : (k : ℕ) → k < key_len_of set.layout → test k ≡ false → is_wild_place set group k ≡ true)
       (first count : ℕ) → first + count ≡ key_len_of set.layout
@@ -129,6 +131,7 @@ module _ (set : RuleSetView) (group : List ℕ) where
     )
   ]
 
+  -- the kept places have a first one, and the places before it are wild
   pub kept_places_first : 0 < key_len_of set.layout → HasFirst (kept_places set group)
   unfolding kept_places
   kept_places_first some =

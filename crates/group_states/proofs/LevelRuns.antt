@@ -38,6 +38,7 @@ group_held set group held layout within =
     (recursion_from_All (λ number. number < length set.rules) group within)
 
 module _ (set : RuleSetView) (group : List ℕ) (held : AllByRecursion (IsHeld set) group) where
+  -- at place 0 one list of entries is found, which is that before the first byte
   packed_at_zero : (entry : ℕ) (entries : List ℕ) → packed_state set group [] ≡ entry ∷ entries
       → packed_at set group 0 ≡ (entry ∷ entries) ∷ []
   unfolding packed_at found_in prefixes
@@ -59,6 +60,7 @@ module _ (set : RuleSetView) (group : List ℕ) (held : AllByRecursion (IsHeld s
       at_zero [] some is = absurd (omega arith)
       at_zero (n ∷ g) some is = packed_at_zero (entry_of n Free) (map (λ number. entry_of number Free) g) is
 
+  -- the runs of the states of these kept places
   abbrev pub tail_runs : List ℕ → List (List (List Run))
   tail_runs places = level_runs set (states_at set group) (rows_of set group) places
 
@@ -74,6 +76,7 @@ module _ (set : RuleSetView) (group : List ℕ) (held : AllByRecursion (IsHeld s
     pub rows : length places ≡ 0
         → level_found set (column_at set place) is_last (packed_at set group place) ≡ rows_of set group
 
+  -- the runs of a kept place are those of what is found there, and lead to what is found next
   pub level_is : (place : ℕ) (places : List ℕ) → Gaps set group (place ∷ places)
       → LevelIs place places (length places == 0)
   unfolding level_runs
@@ -100,9 +103,11 @@ module _ (set : RuleSetView) (group : List ℕ) (held : AllByRecursion (IsHeld s
 
 module _ (set : RuleSetView) (group : List ℕ) (held : AllByRecursion (IsHeld set) group) (some : 0 < length group)
     (key : 0 < key_len_of set.layout) where
+  -- the kept places of the group
   abbrev places : List ℕ
   places = kept_places set group
 
+  -- kept places after the first few have wild places between them
   pub gaps_after : (ps : List ℕ) (n : ℕ) → Gaps set group ps → Gaps set group (drop n ps)
   gaps_after ps zero gaps = gaps
   gaps_after [] (suc n) gaps = tt
@@ -113,23 +118,28 @@ module _ (set : RuleSetView) (group : List ℕ) (held : AllByRecursion (IsHeld s
       by (suc m) = tt
   gaps_after (p ∷ q ∷ ps) (suc n) gaps = gaps_after (q ∷ ps) n gaps.1
 
+  -- a kept place is a place of the key
   gap_within : (place : ℕ) (ps : List ℕ) → Gaps set group (place ∷ ps) → place < key_len_of set.layout
   gap_within place [] gap = gap.rises
   gap_within place (q ∷ ps) gaps = omega (arith, gaps.0.rises, gaps.0.within)
 
   module _ (place : ℕ) (below : place < length places) where
+    -- the kept places from one on are that one and those after it
     pub rest_is : drop place places ≡ get_or places place 0 ∷ drop (place + 1) places
     rest_is = drop_more places place 0 below
 
+    -- the kept places from this one on have wild places between them
     pub gaps_here : Gaps set group (get_or places place 0 ∷ drop (place + 1) places)
     gaps_here = subst (Gaps set group) rest_is (gaps_after places place (kept_places_first set group key).gaps)
 
+    -- all places between this one and the next kept one are wild
     pub gap_next : place + 1 < length places → IsGap set group (get_or places place 0) (get_or places (place + 1) 0)
     gap_next more =
         let next : drop (place + 1) places ≡ get_or places (place + 1) 0 ∷ drop (place + 1 + 1) places =
         drop_more places (place + 1) 0 more in
         (subst (λ ps. Gaps set group (get_or places place 0 ∷ ps)) next gaps_here).0
 
+    -- this place is one of the key
     pub place_inside : get_or places place 0 < key_len_of set.layout
     place_inside = gap_within (get_or places place 0) (drop (place + 1) places) gaps_here
 

@@ -1,9 +1,7 @@
--- The edge that is kept of one rule after some bytes of a key. Before the first byte of a field and after a whole key
--- it is the free one.
+-- The edge that is kept of one rule after some bytes of a key: free before a field's first byte and after a whole key.
 use Rattle.std.proofs.Common.{◌≡◌, ℕ, zero, suc, ◌+◌, ◌-◌, ◌*◌, ◌^◌, ◌<◌, ◌≤◌, List, [], ◌∷◌, ◌++◌, length, take}
-use Rattle.std.proofs.Common.{drop}
 use Rattle.std.proofs.Common.{fold, get_or, Bool, true, false, cond, ltb, eqb, IsTrue, Option, Some, None, refl, sym}
-use Rattle.std.proofs.Common.{◌∙◌, ap, subst, inl, inr, arith, length-append}
+use Rattle.std.proofs.Common.{◌∙◌, ap, subst, inl, inr, arith, drop, length-append}
 use Rattle.std.specs.Option.{option_map, option_and_then, unwrap_or}
 use Rattle.std.specs.List.{AllZip, AllByRecursion}
 use Rattle.std.proofs.lemmas.List.{length-drop, drop-append-le, take-append-le, take_all, drop_all}
@@ -23,9 +21,8 @@ use Rattle.node_expand.specs.declared.edge.Edge.{Edge}
 use Rattle.node_expand.specs.declared.edge.Edge.TheVariants.{Free}
 use Rattle.node_expand.specs.Rest.{Rest, Live, live_where, rest_after, rest_step}
 use Rattle.node_expand.specs.Edges.{edge_of, rest_of, edge_after, edge_step, StandsBefore}
-use Rattle.node_expand.proofs.Offered.{rest_whole, rest_steps}
-use Rattle.node_expand.proofs.Offered.{range_start, mask_start, bitmask_start, step_form, starts}
-use Rattle.node_expand.proofs.Offered.{edges_say, edges_are_one}
+use Rattle.node_expand.proofs.Offered.{rest_whole, rest_steps, range_start, mask_start, bitmask_start, step_form}
+use Rattle.node_expand.proofs.Offered.{starts, edges_say, edges_are_one}
 use Rattle.group_states.specs.Entry.{FieldPlace, field_at}
 use Rattle.group_states.specs.RuleRest.{values_rest}
 use Rattle.field_defs.proofs.Offered.{size_at_least_1}
@@ -148,9 +145,11 @@ field_steps def value (k ∷ ks) byte lawful begun below =
 -- ---- the cases of the edge kept
 
 module _ (def : FieldDef) (defs : List FieldDef) (value : FieldValue) (values : List FieldValue) (key : List ℕ) where
+  -- inside the first field the kept edge is that of the field
   pub packed_in : length key < def.size → packed_edge (def ∷ defs) (value ∷ values) key ≡ kept_in value def.size key
   packed_in begun = cond-true _ _ _ (lt-ltb (length key) def.size begun)
 
+  -- after the first field the kept edge is that of the others, if the field matches
   pub packed_after : def.size ≤ length key → packed_edge (def ∷ defs) (value ∷ values) key
       ≡ cond (field_match value def.size (number_of (take def.size key))) (packed_edge defs values (drop def.size key))
       None

@@ -107,19 +107,23 @@ length-column set place =
     length-map set.rules (λ (r : RuleView). get_or r.fields (field_at set.layout place).field (Mask 0 0))
 
 module _ (set : RuleSetView) (place number : ℕ) (held : IsHeld set number) (edge : Edge) where
+  -- the value that the column has of the rule is that of its field
   value_is : value_in (column_at set place) (entry_of number edge)
       ≡ get_or (values_of set number) (field_at set.layout place).field (Mask 0 0)
   value_is = ap (λ n. get_or (column_at set place).values n (Mask 0 0)) (number_in-entry_of number edge)
       ∙ value_of_column set place number held
 
+  -- the column has the size of the field
   size_is : (column_at set place).size ≡ (field_at set.layout place).size
   unfolding column_at
   size_is = refl
 
+  -- the column has the place in the field
   place_is : (column_at set place).place ≡ (field_at set.layout place).place
   unfolding column_at
   place_is = refl
 
+  -- the column's edge before the place is the one that is kept before it
   before_is : edge_before (column_at set place) (entry_of number edge)
       ≡ before_at (get_or (values_of set number) (field_at set.layout place).field (Mask 0 0))
       (field_at set.layout place).size (field_at set.layout place).place edge
@@ -133,6 +137,7 @@ module _ (set : RuleSetView) (place number : ℕ) (held : IsHeld set number) (ed
   entry_steps byte = λ i. option_map (entry_of (number_in-entry_of number edge i))
       (edge_step (value_is i) (size_is i) (place_is i) (before_is i) byte)
 
+  -- the rule's value in the field of the place
   abbrev the_value : FieldValue
   the_value = get_or (values_of set number) (field_at set.layout place).field (Mask 0 0)
 

@@ -48,6 +48,7 @@ all_packed set group place P holds =
     (prefixes place) (λ key is live. holds key is) (prefixes_are place)))
 
 module _ (set : RuleSetView) (column : ColumnView) (is_last : Bool) where
+  -- what entries lead to by each byte
   abbrev pub successors : List ℕ → List (List ℕ)
   successors entries = map (successor set column is_last entries) all_bytes
 
@@ -105,6 +106,7 @@ module _ (set : RuleSetView) (group : List ℕ) (held : AllByRecursion (IsHeld s
       none [] = tt
       none (b ∷ bs) = (old, none bs)
 
+  -- what is repeated is found as if it stood once
   found_once : (bytes : List ℕ) → 0 < length bytes → (found : List (List ℕ)) (all : List (List ℕ)) →
       fold (found_with bytes_eq is_live) found (flat_map (λ entries. map (λ (byte : ℕ). entries) bytes) all)
       ≡ fold (found_with bytes_eq is_live) found all
@@ -207,9 +209,11 @@ module _ (set : RuleSetView) (group : List ℕ) (held : AllByRecursion (IsHeld s
       (λ gap below. wild gap (omega (arith, below, long)))
 
   module _ (place next : ℕ) (gap : IsGap set group place next) where
+    -- a byte 0 for each place of the gap
     abbrev zeros : List ℕ
     zeros = replicate (next - place - 1) 0
 
+    -- there are as many as places in the gap
     zeros_long : length zeros ≡ next - place - 1
     zeros_long = length-replicate {A = ℕ} (next - place - 1) 0
 
@@ -318,21 +322,25 @@ row_is set place (entry ∷ entries) =
 
 module _ (set : RuleSetView) (group : List ℕ) (held : AllByRecursion (IsHeld set) group) (place : ℕ)
     (gap : IsGap set group place (key_len_of set.layout)) where
+  -- dead entries have no row that is new
   dead_row : (entries : List ℕ) → is_live entries ≡ false → (found : List (List ℕ))
       → NoneNew bytes_eq is_live found (row_list set entries ∷ [])
   unfolding row_list
   dead_row [] dead found = (refl, tt)
   dead_row (entry ∷ entries) dead found = absurd (let e : true ≡ false = dead in true≢false e)
 
+  -- the row of some entries
   abbrev one_row : List ℕ → List (List ℕ)
   one_row entries = row_list set entries ∷ []
 
+  -- the rows of what is found are found as the rows of all
   rows_following : (all : List (List ℕ))
       → found_in bytes_eq is_live (flat_map one_row (found_in bytes_eq is_live all))
       ≡ found_in bytes_eq is_live (flat_map one_row all)
   rows_following all = found_after_found bytes_eq is_live bytes_eq_sound bytes_eq is_live bytes_eq_refl one_row dead_row
       all
 
+  -- lists that are joined twice are joined at once
   flat_map-flat_map : {X Y Z : Type 0} (f : Y → List Z) (g : X → List Y) (xs : List X)
       → flat_map f (flat_map g xs) ≡ flat_map (λ x. flat_map f (g x)) xs
   flat_map-flat_map f g [] = refl
@@ -348,6 +356,7 @@ module _ (set : RuleSetView) (group : List ℕ) (held : AllByRecursion (IsHeld s
   rows_after entries (byte ∷ bytes) =
       ap (λ l. row_list set (entries_step (column_at set place) entries byte) ∷ l) (rows_after entries bytes)
 
+  -- the rows of what entries lead to by each byte are their successors as rows
   all_rows_after : (all : List (List ℕ))
       → flat_map one_row (flat_map (successors set (column_at set place) false) all)
       ≡ flat_map (successors set (column_at set place) true) all

@@ -22,10 +22,12 @@ use Rattle.group_states.specs.RuleRest.{values_rest, values_step, values_of, rul
 use Rattle.group_states.specs.State.{Held, state, state_step, state_through}
 
 module _ (def : FieldDef) (defs : List FieldDef) (value : FieldValue) (values : List FieldValue) (key : List ℕ) where
+  -- inside the first field the rest is that of the field
   rest_in : length key < def.size
       → values_rest (def ∷ defs) (value ∷ values) key ≡ rest_after value def.size (length key) (number_of key)
   rest_in begun = cond-true _ _ _ (lt-ltb (length key) def.size begun)
 
+  -- after the first field the rest is that of the others, if the field matches
   rest_following : def.size ≤ length key → values_rest (def ∷ defs) (value ∷ values) key
       ≡ cond (field_match value def.size (number_of (take def.size key))) (values_rest defs values (drop def.size key))
       None

@@ -47,6 +47,7 @@ all_runs succ byte enough =
     (take_all byte all_bytes (omega (arith, length-all_bytes)))
 
 module _ (succ : ℕ → Succ) (byte : ℕ) (below : byte < 256) where
+  -- one more byte adds the run that ends with it, if one does
   both : some_runs succ (byte + 1) ≡ some_runs succ byte ++ map (run_at succ) (filter (is_end succ) (byte ∷ []))
   unfolding some_runs
   both =
@@ -54,17 +55,20 @@ module _ (succ : ℕ → Succ) (byte : ℕ) (below : byte < 256) where
       ∙ ap (map (run_at succ)) (filter-append (is_end succ) (take byte all_bytes) (byte ∷ []))
       ∙ map-append (run_at succ) (filter (is_end succ) (take byte all_bytes)) (filter (is_end succ) (byte ∷ []))
 
+  -- a byte that ends a run adds the run
   pub run_ends : is_end succ byte ≡ true
       → some_runs succ (byte + 1) ≡ some_runs succ byte ++ record { last = byte; to = succ byte } ∷ []
   unfolding run_at
   run_ends is = both ∙ ap (λ b. some_runs succ byte ++ map (run_at succ) (cond b (byte ∷ []) [])) is
 
+  -- a byte that ends no run adds none
   pub run_goes_on : is_end succ byte ≡ false → some_runs succ (byte + 1) ≡ some_runs succ byte
   run_goes_on is = both ∙ ap (λ b. some_runs succ byte ++ map (run_at succ) (cond b (byte ∷ []) [])) is
       ∙ append-nil (some_runs succ byte)
 
 -- successors that agree on bytes have the same runs
 module _ (f g : ℕ → Succ) (same : (byte : ℕ) → byte < 256 → f byte ≡ g byte) where
+  -- runs end with the same bytes
   same_end : (byte : ℕ) → byte < 256 → is_end f byte ≡ is_end g byte
   same_end byte below = elim (cases_eq byte 255) [
     | inl e ↦ ap (λ b. b || not (same_succ (f byte) (f (byte + 1)))) (eq-eqb byte 255 e)
@@ -72,6 +76,7 @@ module _ (f g : ℕ → Succ) (same : (byte : ℕ) → byte < 256 → f byte ≡
     | inr other ↦ λ i. byte == 255 || not (same_succ (same byte below i) (same (byte + 1) (omega (arith, other)) i))
   ]
 
+  -- the runs that end before a byte are the same
   same_some : (byte : ℕ) → byte ≤ 256 → some_runs f byte ≡ some_runs g byte
   same_some zero within = no_runs f ∙ sym (no_runs g)
   same_some (suc byte) within =
@@ -87,5 +92,6 @@ module _ (f g : ℕ → Succ) (same : (byte : ℕ) → byte < 256 → f byte ≡
             ∙ sym (run_goes_on g byte below (sym (same_end byte below) ∙ goes))
       ])
 
+  -- all runs are the same
   pub same_runs : runs_of f ≡ runs_of g
   same_runs = sym (all_runs f 256 (omega arith)) ∙ same_some 256 (omega arith) ∙ all_runs g 256 (omega arith)

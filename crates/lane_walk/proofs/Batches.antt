@@ -53,6 +53,7 @@ record LanesStepped (table : TableView) (keys : List ℕ) (state now : FlowState
   pub left : words_left table keys now + count_by is_busy (take n state.machine.slots) ≡ words_left table keys state
 
 module _ {table : TableView} {keys : List ℕ} (f : Flies table keys) where
+  -- one more slot is stepped
   lane_stepped : {state now : FlowState} {n : ℕ} → LanesStepped table keys state now n →
       n < length state.machine.slots → LanesStepped table keys state (flow_step table keys now n) (n + 1)
   lane_stepped {state = state} {now = now} {n = n} s below =
@@ -77,6 +78,7 @@ module _ {table : TableView} {keys : List ℕ} (f : Flies table keys) where
         ];
       }
 
+  -- after as many steps in order the first n slots were stepped
   lanes_stepped : (state : FlowState) → IsFlown table keys state → (n : ℕ) → n ≤ length state.machine.slots →
       LanesStepped table keys state (flow_run table keys state (range_with_len 0 n)) n
   lanes_stepped state flown zero within = record {

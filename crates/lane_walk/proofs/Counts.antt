@@ -21,6 +21,7 @@ module _ (law : WalksGoStepByStep) (table : TableView) (trie : ℕ) (key : List 
     | inr other ↦ other
   ]
 
+  -- a walk that stands at no match after n bytes took n transitions
   taken_so_far : (n : ℕ) → n ≤ length (places_of table trie) → is_match (word_after table trie key n) ≡ false →
       transitions_after table trie key n ≡ n
   taken_so_far zero within no_match = (law.begin table trie key).1

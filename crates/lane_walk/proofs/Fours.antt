@@ -97,15 +97,18 @@ module _ {table : TableView} {keys : List ℕ} {jobs given : ℕ} where
 
 -- what a lane keeps, after those before it were changed
 module _ (flights : List Flight) (first : ℕ) (one two three : Flight) where
+  -- the second lane keeps what it kept after the first one is changed
   pub second_is : get_or (set flights first one) (first + 1) no_one ≡ get_or flights (first + 1) no_one
   second_is = get_or-set_other flights first (first + 1) one no_one (omega arith)
 
+  -- the third lane keeps what it kept after the first two are changed
   pub third_is : get_or (set (set flights first one) (first + 1) two) (first + 2) no_one
       ≡ get_or flights (first + 2) no_one
   third_is =
       get_or-set_other (set flights first one) (first + 1) (first + 2) two no_one (omega arith)
       ∙ get_or-set_other flights first (first + 2) one no_one (omega arith)
 
+  -- the fourth lane keeps what it kept after the first three are changed
   pub fourth_is : get_or (set (set (set flights first one) (first + 1) two) (first + 2) three) (first + 3) no_one
       ≡ get_or flights (first + 3) no_one
   fourth_is =
@@ -147,11 +150,13 @@ at_once view stands room told busy are stay sound bytes = record {
 module _ {table : TableView} {keys : List ℕ} {jobs given : ℕ} (flights : List Flight) {before : Machine}
     {rows : List (List ℕ)} {first : ℕ} {places : List ℕ}
     (a : AtOnce table keys jobs given flights before rows first places) where
+  -- each of the four lanes is busy
   lane_at : (k : ℕ) → k < 4 →
       BusyLane table keys jobs given flights before rows (first + k) (get_or flights (first + k) no_one)
   lane_at k h = busy_lane flights {width = length flights} a.view a.stands (omega (arith, a.room, h)) refl (a.busy k h)
       no_one
 
+  -- each of the four flights lands at its place
   lands_at : (k : ℕ) → k < 4 → Lands table keys (get_or flights (first + k) no_one) (slice_index places k)
   lands_at k h = lands (lane_at k h).lent (lane_at k h).holds a.stay a.sound a.bytes (a.are k h)
 
@@ -188,24 +193,31 @@ module _ {table : TableView} {keys : List ℕ} {jobs given : ℕ} (flights : Lis
       ≡ moved_to (slice_index words 2) (get_or (set (set flights first one) (first + 1) two) (first + 2) no_one))
       (is_four : four ≡ moved_to (slice_index words 3)
       (get_or (set (set (set flights first one) (first + 1) two) (first + 2) three) (first + 3) no_one)) where
+    -- the lanes with the first one changed
     abbrev f1 : List Flight
     f1 = set flights first one
 
+    -- the lanes with the first two changed
     abbrev f2 : List Flight
     f2 = set f1 (first + 1) two
 
+    -- the lanes with the first three changed
     abbrev f3 : List Flight
     f3 = set f2 (first + 2) three
 
+    -- the lanes with all four changed
     abbrev f4 : List Flight
     f4 = set f3 (first + 3) four
 
+    -- as many lanes after the first change
     n1 : length f1 ≡ length flights
     n1 = length-set flights first one
 
+    -- as many lanes after the second change
     n2 : length f2 ≡ length flights
     n2 = length-set f1 (first + 1) two ∙ n1
 
+    -- as many lanes after the third change
     n3 : length f3 ≡ length flights
     n3 = length-set f2 (first + 2) three ∙ n2
 
@@ -217,6 +229,7 @@ module _ {table : TableView} {keys : List ℕ} {jobs given : ℕ} (flights : Lis
         ∙ get_or-set_other f1 (first + 1) first two no_one (omega arith)
         ∙ get_or-set_same flights first one no_one (omega (arith, a.room)) ∙ is_one
 
+    -- the second lane has gone on to its word
     second_at : get_or f4 (first + 1) no_one ≡ moved_to (slice_index words 1) (get_or flights (first + 1) no_one)
     second_at =
         get_or-set_other f3 (first + 3) (first + 1) four no_one (omega arith)
@@ -224,17 +237,20 @@ module _ {table : TableView} {keys : List ℕ} {jobs given : ℕ} (flights : Lis
         ∙ get_or-set_same f1 (first + 1) two no_one (omega (arith, a.room, n1)) ∙ is_two
         ∙ ap (λ (f : Flight). moved_to (slice_index words 1) f) (second_is flights first one two three)
 
+    -- the third lane has gone on to its word
     third_at : get_or f4 (first + 2) no_one ≡ moved_to (slice_index words 2) (get_or flights (first + 2) no_one)
     third_at =
         get_or-set_other f3 (first + 3) (first + 2) four no_one (omega arith)
         ∙ get_or-set_same f2 (first + 2) three no_one (omega (arith, a.room, n2)) ∙ is_three
         ∙ ap (λ (f : Flight). moved_to (slice_index words 2) f) (third_is flights first one two three)
 
+    -- the fourth lane has gone on to its word
     fourth_at : get_or f4 (first + 3) no_one ≡ moved_to (slice_index words 3) (get_or flights (first + 3) no_one)
     fourth_at =
         get_or-set_same f3 (first + 3) four no_one (omega (arith, a.room, n3)) ∙ is_four
         ∙ ap (λ (f : Flight). moved_to (slice_index words 3) f) (fourth_is flights first one two three)
 
+    -- each of the four lanes has gone on to its word
     four_at : (k : ℕ) → k < 4 →
         get_or f4 (first + k) no_one ≡ moved_to (slice_index words k) (get_or flights (first + k) no_one)
     four_at =
@@ -256,6 +272,7 @@ module _ {table : TableView} {keys : List ℕ} {jobs given : ℕ} (flights : Lis
         (All-set EndsOrLeads flights first one
         (lawful (get_or flights first no_one) (goes 0 (lit< tt)).onward is_one) all)))
 
+    -- each of the four flights has come to a word of the table
     pub four_come : (k : ℕ) → k < 4 → HasCome table (get_or f4 (first + k) no_one) (length rows)
     four_come k h = come (get_or flights (first + k) no_one) (goes k h).onward (four_keys k h) (four_at k h)
 

@@ -68,6 +68,7 @@ pub record StepsOne (table : TableView) (keys : List ℕ) (before : Machine) (ol
 
 module _ {table : TableView} {keys : List ℕ} {before now : Machine} {old rows : List (List ℕ)} {lane : ℕ}
     (s : StepsOne table keys before old lane now rows) where
+  -- a step of one lane is one of one lane among many, busy or not
   stepped : (busy : ℕ) → busy ≡ cond (is_busy (get_or before.slots lane None)) 1 0 →
       StepsLanes table keys before old lane 1 now rows busy
   stepped busy is = record {
@@ -78,10 +79,12 @@ module _ {table : TableView} {keys : List ℕ} {before now : Machine} {old rows 
     busy_is = is ∙ sym (one_busy before.slots lane s.within);
   }
 
+  -- a step of a busy lane counts as one
   pub busy_stepped : is_busy (get_or before.slots lane None) ≡ true →
       StepsLanes table keys before old lane 1 now rows 1
   busy_stepped busy = stepped 1 (rw busy refl)
 
+  -- a step of an empty lane counts as none
   pub empty_stepped : is_busy (get_or before.slots lane None) ≡ false →
       StepsLanes table keys before old lane 1 now rows 0
   empty_stepped empty = stepped 0 (rw empty refl)
@@ -160,9 +163,11 @@ busy_lane flights {lane = lane} is stands within told busy d =
 -- what becomes of what a lane keeps
 module _ {table : TableView} {keys : List ℕ} {jobs given : ℕ} (flights : List Flight) {before : Machine}
     {rows : List (List ℕ)} {lane : ℕ} (l : IsLent table keys (seen jobs given flights) before rows lane) where
+  -- the lane is one of the slots
   there : lane < length before.slots
   there = omega (arith, l.within, ap (λ (machine : Machine). length machine.slots) l.is)
 
+  -- the lanes after it keep what they kept
   later_stay : (next : Flight) →
       drop (lane + 1) (map held_in (set flights lane next)) ≡ drop (lane + 1) before.slots
   later_stay next =
@@ -197,10 +202,12 @@ module _ {table : TableView} {keys : List ℕ} {jobs given : ℕ} (flights : Lis
       } busy
 
   module _ (empty : is_busy (get_or before.slots lane None) ≡ false) where
+    -- an empty lane holds no flight
     holds_none : get_or (map held_in flights) lane None ≡ None
     holds_none = nothing (get_or (map held_in flights) lane None)
         (ap (λ (machine : Machine). is_busy (get_or machine.slots lane None)) l.is ∙ empty)
 
+    -- a flight that begins the next job is on its way
     job_on_way : (flight : Flight) → flight ≡ begun table (job_at table given) → given < jobs →
         sound_fault table ≡ None → WalksStay → IsOnWay table keys (given + 1) flight
     job_on_way flight flight_is few sound stay =

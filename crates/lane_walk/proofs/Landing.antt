@@ -25,6 +25,7 @@ pub record Lands (table : TableView) (keys : List ℕ) (flight : Flight) (place 
   pub place_is : place ≡ next_place flight.word (byte_of table keys flight)
 
 module _ {table : TableView} {keys : List ℕ} {flight : Flight} {place : ℕ} (l : Lands table keys flight place) where
+  -- the byte that the flight reads is a byte
   small : byte_of table keys flight < 256
   small =
       let at : ℕ = slice_index (places_of table flight.trie) flight.depth in

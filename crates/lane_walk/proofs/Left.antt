@@ -50,6 +50,7 @@ record Nears (table : TableView) (keys : List ℕ) (flight : Flight) : Type 0 wh
       ≡ slot_left table keys (Some flight)
 
 module _ (law : WalksGoStepByStep) (stay : WalksStay) (table : TableView) (keys : List ℕ) where
+  -- a flight in its walk has one word less left after the next one
   nears : (given : ℕ) (flight : Flight) → IsInWalk table keys given flight → Nears table keys flight
   nears given flight f =
       let trie : ℕ = flight.trie in
@@ -133,11 +134,13 @@ module _ (law : WalksGoStepByStep) (stay : WalksStay) (table : TableView) (keys 
 
 -- a step changes no other slot
 module _ (table : TableView) (keys : List ℕ) (state : FlowState) (i other : ℕ) (apart : other ≢ i) where
+  -- a job for a slot leaves each other slot as it is
   other_of_job : (job : Option Job) →
       get_or (after_empty table state i job).machine.slots other None ≡ get_or state.machine.slots other None
   other_of_job None = refl
   other_of_job (Some job) = get_or-set_other state.machine.slots i other (Some (begun table job)) None apart
 
+  -- a step of what a slot holds leaves each other slot as it is
   pub other_slot : (held : Option Flight) →
       get_or (step_of table keys state i held).machine.slots other None ≡ get_or state.machine.slots other None
   other_slot None = other_of_job (slice_get (jobs_of table keys) state.machine.given)

@@ -1,11 +1,11 @@
 -- The lanes of a turn, one after the other.
 use Rattle.std.proofs.Common.{◌≡◌, ℕ, ◌+◌, ◌-◌, ◌*◌, ◌/◌, ◌<◌, ◌≤◌, List, [], ◌∷◌, sym, ap, ◌∙◌, arith, take, drop}
-use Rattle.std.proofs.Common.{get_or, Bool, cond, inl, inr, length-take}
+use Rattle.std.proofs.Common.{get_or, Bool, cond, inl, inr}
 use Rattle.std.specs.Prelude.{None, count_by}
 use Rattle.std.specs.List.{range_with_len}
 use Rattle.std.proofs.Math.Seq.{take-add}
 use Rattle.std.proofs.lemmas.List.{drop-drop, get_or-drop}
-use Rattle.std.proofs.lemmas.List.Sums.{fold-append, count_by-le-length, sum_by-append}
+use Rattle.std.proofs.lemmas.List.Sums.{fold-append, sum_by-append}
 use Rattle.list_lemmas.proofs.Positions.{range-append, range-push}
 use Rattle.flat_table.specs.Table.{TableView}
 use Rattle.flow_core.specs.Machine.{Machine, FlowState, state_of, flow_step, flow_run}
@@ -65,15 +65,6 @@ module _ {table : TableView} {keys : List ℕ} {before mid : Machine} {old rows 
       ∙ ap (λ (held : List _). get_or held (lane - (from + a)) None) s.later
       ∙ get_or-drop (from + a) before.slots (lane - (from + a)) None
       ∙ ap (λ (n : ℕ). get_or before.slots n None) at
-
-  -- no more of them were busy than there are
-  pub busy_few : busy ≤ a
-  busy_few = omega (
-    arith,
-    s.busy_is,
-    count_by-le-length is_busy (take a (drop from before.slots)),
-    length-take a (drop from before.slots),
-  )
 
 -- there is a lane
 pub lanes_some : {width : ℕ} → IsLanes width → 0 < width

@@ -3,7 +3,7 @@ use Rattle.std.proofs.Common.{◌≡◌, ℕ, zero, suc, ◌+◌, ◌-◌, ◌<�
 use Rattle.std.proofs.Common.{eqb, Option, Some, None, refl, sym, ◌∙◌, ap, inl, inr, arith, leb, ◌↔◌}
 use Rattle.std.specs.Prelude.{bit_and, bit_or}
 use mathlib.Core.Bool.{beq}
-use Rattle.std.proofs.lemmas.Bool.{cases_eq, le-leb, cond-false, lt-ltb}
+use Rattle.std.proofs.lemmas.Bool.{cases_eq, le-leb, lt-ltb}
 use Rattle.std.proofs.lemmas.Bool.{not-false, not_from_true, eq-eqb, eqb-true, leb-true, and_parts}
 use Rattle.std.proofs.lemmas.Bool.Decides.{nat_tests}
 use Rattle.node_expand.specs.declared.edge.Edge.{Edge}
@@ -160,12 +160,6 @@ module _ (answer other : ℕ → Option Edge) (first last : ℕ) (same : (byte :
 
 -- what the bytes between two ends answer
 module _ (low high : ℕ) (low_inner high_inner : Bool) where
-  -- there is no answer outside of the two ends
-  answer_outside : (byte : ℕ) → (leb low byte && leb byte high) ≡ false →
-      answer_of (Between low high low_inner high_inner) byte ≡ None
-  unfolding answer_of
-  answer_outside byte fails = cond-false _ _ _ fails
-
   -- between them the answer is the edge with what each end keeps
   answer_within : (byte : ℕ) → low ≤ byte → byte ≤ high →
       answer_of (Between low high low_inner high_inner) byte

@@ -19,6 +19,7 @@ ended Reading same is holds = absurd (false≢true (sym is ∙ holds))
 ended Ended same is holds = refl
 ended Failed same is holds = absurd (false≢true (sym is ∙ holds))
 
+-- a reader that isn't compared as ended hasn't ended
 pub not_ended : (progress : Progress) (same : Bool) → same ≡ sameb the_type progress Ended → same ≡ false →
     has_ended progress ≡ false
 not_ended Reading same is fails = refl

@@ -27,9 +27,11 @@ counted_is set budget (Fits levels) is =
 counted_is set budget (TooLarge group) is = omega (arith, is)
 
 module _ (set : RuleSetView) (budget : ℕ) where
+  -- the group was counted rightly
   abbrev Right : Counted → Type 0
   Right = IsCounted set budget
 
+  -- the words of a group, or one more than the budget
   abbrev cost : List ℕ → ℕ
   cost = capped (words_of_group set) budget
 
@@ -58,6 +60,7 @@ module _ (set : RuleSetView) (budget : ℕ) where
         | inr not ↦ rw not (let same : max a 0 ≡ a = omega arith in rw same (most_from a groups rest))
       ]
 
+  -- the greatest count is that of the group with the most words
   most_is : (groups : List Counted) → All Right groups →
       most_counted budget groups ≡ most_words (words_of_group set) budget (map group_in groups)
   most_is groups right = most_from 0 groups right
@@ -74,6 +77,7 @@ module _ (set : RuleSetView) (budget : ℕ) where
       ap (λ words. can_split (group_in group) && words == most) here in
       λ i. cond (not (same i)) (1 + rest i) 0
 
+  -- the group that is found by its count is the one that is split
   pub place_is : (groups : List Counted) → All Right groups →
       position (is_most budget (most_counted budget groups)) groups
       ≡ split_place (words_of_group set) budget (map group_in groups)
@@ -85,6 +89,7 @@ module _ (set : RuleSetView) (budget : ℕ) where
       (nat_lt (first_is (most_words (words_of_group set) budget (map group_in groups)) groups right i) (sym long i))
       (Some (first_is (most_words (words_of_group set) budget (map group_in groups)) groups right i)) None)
 
+  -- the counts add up to the total of the groups
   pub total_is : (groups : List Counted) → All Right groups →
       row_len + sum_by (words_counted budget) groups ≡ total (words_of_group set) budget (map group_in groups)
   total_is groups right = ap (λ words. row_len + words) (sum_is groups right)

@@ -21,6 +21,7 @@ module _ (set : RuleSetView) (budget : ℕ) where
   unfolding turns
   no_turn = refl
 
+  -- the groups after one more turn are what the turn makes of them
   pub turn_more : (count : ℕ) (groups : List (List ℕ)) →
       groups ≡ turns (words_of_group set) set budget count (first_groups set) →
       turn (words_of_group set) set budget groups ≡ turns (words_of_group set) set budget (count + 1) (first_groups set)
@@ -30,6 +31,7 @@ module _ (set : RuleSetView) (budget : ℕ) where
       ap (turn (words_of_group set) set budget) is
       ∙ ap (λ n. turns (words_of_group set) set budget n (first_groups set)) next
 
+  -- the groups after seven turns are those of the split
   pub last_turn : (count : ℕ) → count ≡ 7 →
       turns (words_of_group set) set budget count (first_groups set) ≡ groups_of set budget
   unfolding groups_of groups_by
@@ -42,6 +44,7 @@ module _ (set : RuleSetView) (budget : ℕ) where
   turns_part count groups is =
       rw is (turns_are (words_of_group set) set budget (length set.rules) count (first_groups set) (first_is set).0).0
 
+  -- after some turns there is at most one group more than turns
   pub turns_few : (count : ℕ) (groups : List Counted) →
       map group_in groups ≡ turns (words_of_group set) set budget count (first_groups set) → length groups ≤ 1 + count
   turns_few count groups is =
@@ -54,6 +57,7 @@ module _ (set : RuleSetView) (budget : ℕ) where
         first.1,
       )
 
+  -- after the last turn there are at most as many groups as there may be tries
   pub last_few : (groups : List Counted) → map group_in groups ≡ groups_of set budget → length groups ≤ max_tries
   last_few groups is = omega (arith, length-map groups group_in, ap length is, (split_once set budget).1)
 

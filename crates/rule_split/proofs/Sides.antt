@@ -24,9 +24,11 @@ one_less true xs x = append-nil xs
 one_less false xs x = refl
 
 module _ (set : RuleSetView) (group : List ℕ) (field count : ℕ) (within : count < length group) where
+  -- the next rule of the group
   abbrev next : ℕ
   next = get_or group count 0
 
+  -- one more rule joins the wild ones exactly if it is wild in the field
   pub wild_more : wild_rules set (take (count + 1) group) field
       ≡ cond (is_wild_in set field next) (wild_rules set (take count group) field ++ next ∷ [])
       (wild_rules set (take count group) field)
@@ -35,6 +37,7 @@ module _ (set : RuleSetView) (group : List ℕ) (field count : ℕ) (within : co
       filter_more (is_wild_in set field) group count 0 within
       ∙ one_more (is_wild_in set field next) (wild_rules set (take count group) field) next
 
+  -- one more rule joins the bound ones exactly if it isn't wild in the field
   pub bound_more : bound_rules set (take (count + 1) group) field
       ≡ cond (is_wild_in set field next) (bound_rules set (take count group) field)
       (bound_rules set (take count group) field ++ next ∷ [])

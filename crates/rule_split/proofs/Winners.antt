@@ -4,6 +4,7 @@ use Rattle.rule_split.specs.Split.{groups_of}
 use Rattle.rule_split.specs.Laws.{TheWinnerHasTheGreatestRank}
 use Rattle.rule_split.proofs.Groups.{split_once}
 
+-- the winner of all rules is the groups' winner of greatest rank
 pub winner_ranks : TheWinnerHasTheGreatestRank
 winner_ranks = record {
   rank = λ set budget key category.

@@ -21,6 +21,7 @@ use Rattle.flat_table.proofs.Offered.{batch_bound}
 use Rattle.table_sizes.specs.Sizes.{max_tries}
 
 module _ (table : TableView) (count : ℕ) (keys : List ℕ) where
+  -- one more key adds its verdicts to those of the first keys
   pub verdicts-more : (k : ℕ) → first_verdicts table count keys (k + 1)
       ≡ first_verdicts table count keys k ++ key_verdicts table count (key_at table keys k)
   verdicts-more k =
@@ -29,9 +30,11 @@ module _ (table : TableView) (count : ℕ) (keys : List ℕ) where
       ∙ ap (λ (vs : List ℕ). first_verdicts table count keys k ++ vs) (append-nil _
       ∙ ap (λ (j : ℕ). key_verdicts table count (key_at table keys j)) (omega arith))
 
+  -- each key has as many verdicts as categories are asked for
   pub verdicts_len : (k : ℕ) → length (key_verdicts table count (key_at table keys k)) ≡ count
   verdicts_len k = length-map (range_with_len 0 count) _ ∙ length-range_with_len 0 count
 
+  -- the first keys have as many verdicts each
   pub first-len : (k : ℕ) → length (first_verdicts table count keys k) ≡ k * count
   first-len zero = omega arith
   first-len (suc k) = subst (λ (n : ℕ). length (first_verdicts table count keys n) ≡ n * count) (add-one k)
@@ -70,6 +73,7 @@ part_key table keys len k m j e within =
     ∙ ap (λ (xs : List ℕ). take n xs) (drop-drop (j * n) (k * n) keys ∙ ap (λ (c : ℕ). drop c keys) (omega arith))
 
 module _ (table : TableView) (count : ℕ) (keys : List ℕ) (len k m : ℕ) (e : len ≡ table.key_len) where
+  -- the verdicts of keys that go on in a part are those before it, and then the part's
   part_verdicts : (n : ℕ) → n ≤ m → first_verdicts table count keys (k + n)
       ≡ first_verdicts table count keys k ++ first_verdicts table count (part_of keys len k m) n
   part_verdicts zero h = ap (λ (j : ℕ). first_verdicts table count keys j) (omega arith)
@@ -87,6 +91,7 @@ module _ (table : TableView) (count : ℕ) (keys : List ℕ) (len k m : ℕ) (e 
       (key_verdicts table count (key_at table part n))
       ∙ ap (λ (xs : List ℕ). first_verdicts table count keys k ++ xs) (sym more)
 
+  -- and so are the transitions
   part_transitions : (n : ℕ) → n ≤ m → first_transitions table keys (k + n)
       ≡ first_transitions table keys k + first_transitions table (part_of keys len k m) n
   part_transitions zero h =

@@ -18,6 +18,7 @@ pub record RowsTo (lows counts old : List ℕ) (at n : ℕ) (rows : List ℕ) (t
   pub taken_is : taken ≡ sum_below (λ (k : ℕ). get_or counts k 0) n
   pub most : taken ≤ n * max_key_len
 
+-- before the first lane no row is written
 pub rows_none : (lows counts old : List ℕ) (at : ℕ) → length old ≡ 16 → RowsTo lows counts old at 0 old 0
 rows_none lows counts old at len = record {
   len = len;
@@ -27,6 +28,7 @@ rows_none lows counts old at len = record {
   most = omega arith;
 }
 
+-- the row of one more lane is written, and its words are counted
 pub rows_more : {lows counts old rows : List ℕ} {at n taken row count : ℕ} → RowsTo lows counts old at n rows taken →
     n < 4 → at + 4 ≤ 16 → row ≡ bit_and (get_or lows n 0) 536870911 → count ≡ get_or counts n 0 → count ≤ max_key_len →
     RowsTo lows counts old at (n + 1) (set rows (at + n) row) (taken + count)

@@ -124,6 +124,7 @@ group_ends {way = way} {keys = keys} {first = first} {n = n} {walks = walks} r a
 -- what one byte more brings them
 module _ {way : Way} {keys : List ℕ} {first n count k : ℕ} {groups : List ℕ} {walks : Four}
     (r : FourRead way keys first n count groups k walks) (more : k < count) where
+  -- the byte brings each of the four walks one step on
   lane_step : (i : ℕ) → i < 4 → Step way (key_at way.table keys (first + i)) (n + k) (slice_index way.places n + k)
       (slice_index groups (4 * i + k)) (word_in walks.lows walks.highs i)
   lane_step i few =
@@ -141,6 +142,7 @@ module _ {way : Way} {keys : List ℕ} {first n count k : ℕ} {groups : List �
       step w.is_way (key_at way.table keys (first + i)) (n + k) place (slice_index groups (4 * i + k))
       (word_in walks.lows walks.highs i) within place_is byte small (w.stands i few)
 
+  -- each of the four walks can go on by its byte
   pub group_ready : WalksStay → length way.places ≤ max_key_len → (i : ℕ) → i < 4 →
       CanGoOn way.words (word_in walks.lows walks.highs i) (slice_index groups (4 * i + k)) (slice_index walks.taken i)
   group_ready stay short i few =
@@ -152,6 +154,7 @@ module _ {way : Way} {keys : List ℕ} {first n count k : ℕ} {groups : List �
         few = omega (arith, r.walks_are.few i few, r.group.within, more, short);
       }
 
+  -- once each of the four has gone on, one more byte is read
   pub group_went : {next : Four} → ((i : ℕ) → i < 4 → GoesOn way.words (word_in walks.lows walks.highs i)
       (slice_index groups (4 * i + k)) (word_in next.lows next.highs i) (slice_index walks.taken i)
       (slice_index next.taken i)) → FourRead way keys first n count groups (k + 1) next
@@ -185,9 +188,11 @@ module _ {way : Way} {keys : List ℕ} {first n count k : ℕ} {groups : List �
 -- where all places are read, each has ended at a row, and all its transitions are counted
 module _ {way : Way} {keys : List ℕ} {first n : ℕ} {walks : Four} (w : FourWalks way keys first n walks)
     (all : n ≡ length way.places) where
+  -- all places of the trie are read
   all_read : n ≡ length (places_of way.table way.trie)
   all_read = all ∙ count_of_places way w.is_way
 
+  -- each walk has ended at the row that its word names
   pub lane_ends : (i row : ℕ) → i < 4 → row ≡ slice_index walks.lows i % 2 ^ 29 →
       EndsAt way.table way.trie (key_at way.table keys (first + i)) row
   lane_ends i row few is_row =
@@ -201,6 +206,7 @@ module _ {way : Way} {keys : List ℕ} {first n : ℕ} {walks : Four} (w : FourW
         there = omega (arith, named, s.row match);
       }
 
+  -- each walk has taken its transitions
   pub lane_took : (i : ℕ) → i < 4 →
       slice_index walks.taken i ≡ walk_transitions way.table way.trie (key_at way.table keys (first + i))
   lane_took i few =
@@ -208,6 +214,7 @@ module _ {way : Way} {keys : List ℕ} {first n : ℕ} {walks : Four} (w : FourW
       ∙ ap (λ (k : ℕ). transitions_after way.table way.trie (key_at way.table keys (first + i)) k) all_read
       ∙ sym (transitions_are way.table way.trie (key_at way.table keys (first + i)))
 
+  -- each walk has taken at most as many as a key may have bytes
   pub lane_took_few : length way.places ≤ max_key_len → (i : ℕ) → i < 4 → slice_index walks.taken i ≤ max_key_len
   lane_took_few short i few = omega (arith, w.few i few, all, short)
 

@@ -18,9 +18,11 @@ pub lane_of : {n : ℕ} {xs : List ℕ} → length xs ≡ n → (i : ℕ) → La
 lane_of len i = record { len = len; at = refl }
 
 module _ {n i : ℕ} (within : i < n) where
+  -- a lane of a vector of one number has the number
   pub splat : (x : ℕ) → Lane n i (replicate n x) x
   splat x = record { len = length-replicate n x; at = get_or-replicate n i x 0 within }
 
+  -- a lane of two vectors that are combined has what the two lanes come to
   pub zipped : (f : ℕ → ℕ → ℕ) {xs ys : List ℕ} {x y : ℕ} → Lane n i xs x → Lane n i ys y →
       Lane n i (zip2 f xs ys) (f x y)
   zipped f {xs = xs} {ys = ys} a b = record {
@@ -74,10 +76,12 @@ pair_sums_len (suc n) (x ∷ y ∷ xs) len = ap suc (pair_sums_len n xs (omega (
 
 -- of products with ones
 module _ (n : ℕ) (xs : List ℕ) (len : length xs ≡ 4 * n) where
+  -- a product with 1 is the number
   product_at : (k : ℕ) → k < 4 * n → get_or (products xs (replicate (4 * n) 1)) k 0 ≡ get_or xs k 0
   product_at k within =
       (zipped within (λ x y. x * y) (lane_of len k) (splat within 1)).at ∙ omega arith
 
+  -- a lane of the sums is the sum of its four bytes
   pub dot_at : (i : ℕ) → i < n → get_or (dots xs (replicate (4 * n) 1)) i 0
       ≡ get_or xs (4 * i) 0 + get_or xs (4 * i + 1) 0 + get_or xs (4 * i + 2) 0 + get_or xs (4 * i + 3) 0
   dot_at i within =
@@ -131,10 +135,12 @@ byte_places firsts place = zip2 (λ x y. (x + y) % 256) firsts (replicate 16 pla
 
 module _ (firsts : List ℕ) (place : ℕ) (len : length firsts ≡ 16)
     (are : (i k : ℕ) → i < 4 → k < 4 → get_or firsts (4 * i + k) 0 ≡ 4 * i) (small : place < 4) where
+  -- there are sixteen places
   pub byte_places_len : length (byte_places firsts place) ≡ 16
   byte_places_len = length-zip2 (λ x y. (x + y) % 256) firsts (replicate 16 place)
       (len ∙ sym (length-replicate 16 place)) ∙ len
 
+  -- each place is that of the byte in its group
   pub byte_place : (m : ℕ) → m < 16 → get_or (byte_places firsts place) m 0 ≡ 4 * (m / 4) + place
   byte_place m within =
       let at : m ≡ 4 * (m / 4) + m % 4 = omega arith in

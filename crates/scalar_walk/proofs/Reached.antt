@@ -70,6 +70,7 @@ one_transitions table key one = rw one (omega arith)
 -- of all tries
 module _ {table : TableView} {key rows : List ℕ} (r : Reaches table key (length table.roots) rows)
     (few : length table.roots ≤ max_tries) where
+  -- each row that was reached is there
   pub rows_there : All (λ row. row < length table.rows) (take (length table.roots) rows)
   rows_there = λ k d h.
       let lt : k < length table.roots = omega (arith, h, length-take {A = ℕ}) in
@@ -77,12 +78,14 @@ module _ {table : TableView} {key rows : List ℕ} (r : Reaches table key (lengt
       get_or-take (length table.roots) rows k d lt ∙ get_or_default rows k d 0 (omega (arith, r.len)) in
       omega (arith, same, r.there k lt)
 
+  -- the rows that were reached are those of the walks, trie by trie
   rows_are : take (length table.roots) rows ≡ map (λ trie. walk_row table trie key) (tries_of table)
   rows_are =
       fill_by_all (λ trie. walk_row table trie key) (take (length table.roots) rows) (length table.roots) 0
       (omega (arith, length-take {A = ℕ}, r.len))
       (λ k h. get_or-take (length table.roots) rows k 0 h ∙ r.each k h)
 
+  -- their greatest word is that over all tries
   pub joined_is : (category : ℕ) → joined_rows table.rows (take (length table.roots) rows) category
       ≡ joined table key category
   joined_is category =
@@ -93,12 +96,14 @@ module _ {table : TableView} {key rows : List ℕ} (r : Reaches table key (lengt
       ∙ sym (map-map (λ row. slice_index row category) (λ trie. get_or table.rows (walk_row table trie key) [])
       (tries_of table)))
 
+  -- the userdata of these words are the verdicts of the key
   pub verdicts_are : (count : ℕ) →
       map (λ category. joined_rows table.rows (take (length table.roots) rows) category % userdatas)
       (range_with_len 0 count) ≡ key_verdicts table count key
   verdicts_are count = map_agree _ _ (range_with_len 0 count)
       (λ category. ap (λ (word : ℕ). word % userdatas) (joined_is category))
 
+  -- a category has a winner exactly if its word isn't 0
   pub won_are : (won : List Bool) → length won ≡ row_len →
       ((k : ℕ) → k < row_len → get_or won k false ≡ not (joined_rows table.rows (take (length table.roots) rows) k ==
       0)) → won ≡ winners_of table key

@@ -42,6 +42,7 @@ module _ {way : Way} {key : List ℕ} {n word : ℕ} (w : Walks way key n word) 
   pub at_node : is_match word ≡ false → is_node word ≡ true
   at_node no_match = leads_to_node (level_of way.table way.trie n) word (w.stands.level no_match)
 
+  -- a walk that isn't at a match has a place to read
   pub one_more : is_match word ≡ false → n < length way.places
   one_more no_match =
       elim (eq-or-lt_of_le w.within) [
@@ -63,10 +64,12 @@ module _ {way : Way} {key : List ℕ} {n word : ℕ} (w : Walks way key n word) 
   next_step place no_match is = step w.is_way key n place (slice_index key place) word (one_more no_match) is refl
       (w.bytes place) w.stands
 
+  -- the place to which the byte leads has a word of the table
   pub word_there : {place at : ℕ} → is_match word ≡ false → place ≡ slice_index way.places n →
       at ≡ next_place word (slice_index key place) → at < length way.words
   word_there {place = place} no_match is at_is = omega (arith, at_is, (next_step place no_match is).in_words no_match)
 
+  -- and the walk stands at that word then
   pub walks_on : {place at : ℕ} → is_match word ≡ false → place ≡ slice_index way.places n →
       at ≡ next_place word (slice_index key place) → Walks way key (n + 1) (slice_index way.words at)
   walks_on {place = place} {at = at} no_match is at_is =
@@ -86,6 +89,7 @@ module _ {way : Way} {key : List ℕ} {n word : ℕ} (w : Walks way key n word) 
   row_of_match match =
       ap index_of w.stands.is ∙ sym (row_at_match way.table way.trie key n (rw (sym w.stands.is) match))
 
+  -- a walk that is at a match has taken all its transitions
   pub transitions_of_match : is_match word ≡ true → n ≡ walk_transitions way.table way.trie key
   transitions_of_match match =
       sym (transitions_at_match way.table way.trie key n (rw (sym w.stands.is) match) ∙ w.steps)

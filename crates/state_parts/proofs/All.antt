@@ -9,6 +9,7 @@ use Rattle.state_parts.specs.Rows.{rule_of}
 use Rattle.state_parts.specs.Joined.{IsAll}
 use Rattle.state_parts.proofs.Standing.{stands_grow}
 
+-- the part of an entry is all of the entry alone
 pub one_entry : (pairs : List (ℕ × ℕ)) (entry number : ℕ) → KeyAt same_pair pairs (0, entry) number
     → IsAll pairs (entry ∷ []) number
 one_entry pairs entry number at = record {
@@ -17,6 +18,7 @@ one_entry pairs entry number at = record {
   stands = λ f all. subst (λ found. IsLeaf pairs found number) (sym all.0) at;
 }
 
+-- what holds of each element of two lists holds of those of each
 split_all : (P : ℕ → Type 0) (xs ys : List ℕ) → AllByRecursion P (xs ++ ys)
     → AllByRecursion P xs × AllByRecursion P ys
 split_all P [] ys all = (tt, all)

@@ -135,10 +135,12 @@ rest_end pieces place first past rest = subst (λ ps. Covers first ps 256) (drop
 
 module _ (pieces : List Piece) (place first : ℕ) (below : first < 256) (rest : RestIs pieces place first) (p : Piece)
     (is : p ≡ get_or pieces place no_piece) where
+  -- the pieces from the place on are the one there and those after it
   piece_first : drop place pieces ≡ p ∷ drop (place + 1) pieces
   piece_first = drop_more pieces place no_piece (rest_some pieces place first below rest)
       ∙ ap (λ q. q ∷ drop (place + 1) pieces) (sym is)
 
+  -- these pieces cover the bytes from the first one on
   covers_piece : Covers first (p ∷ drop (place + 1) pieces) 256
   covers_piece = subst (λ ps. Covers first ps 256) piece_first rest.covers
 
@@ -146,9 +148,11 @@ module _ (pieces : List Piece) (place first : ℕ) (below : first < 256) (rest :
   pub piece_from : first ≤ p.last
   piece_from = covers_piece.0
 
+  -- the piece ends with a byte
   pub piece_small : p.last < 256
   piece_small = omega (arith, covers_rise (p.last + 1) 256 (drop (place + 1) pieces) covers_piece.1)
 
+  -- the bytes up to the piece's last one lead where it says
   pub piece_at : (byte : ℕ) → first ≤ byte → byte ≤ p.last → number_at pieces byte ≡ p.to
   piece_at byte from within =
       sym (rest.same byte from) ∙ ap (λ ps. number_at ps byte) piece_first
@@ -210,6 +214,7 @@ module _ {old now : Target} {one other pieces : List Piece} {i j first : ℕ} (b
   pub left_from : first ≤ mine.last
   left_from = piece_from one i first below so_far.left mine refl
 
+  -- the piece doesn't end before the byte
   pub right_from : first ≤ its.last
   right_from = piece_from other j first below so_far.right its refl
 
@@ -223,6 +228,7 @@ module _ {old now : Target} {one other pieces : List Piece} {i j first : ℕ} (b
         count_grows old now so_far.grows,
       )
 
+  -- the number to which the piece leads is there
   pub right_within : ((byte : ℕ) → byte < 256 → number_at other byte ≤ count old) → its.to ≤ count now
   right_within all =
       omega (

@@ -1,5 +1,5 @@
 -- Numbers of keys.
-use Rattle.std.proofs.Common.{◌≡◌, ℕ, ◌+◌, ◌-◌, ◌<◌, ◌≤◌, List, [], ◌∷◌, ◌++◌, length, get_or, Bool, true, false, cond}
+use Rattle.std.proofs.Common.{◌≡◌, ℕ, ◌+◌, ◌-◌, ◌<◌, List, [], ◌∷◌, ◌++◌, length, get_or, Bool, true, false, cond}
 use Rattle.std.proofs.Common.{not, ◌||◌, refl, sym, ◌∙◌, ap, inl, inr, true≢false, arith, suc}
 use Rattle.std.specs.List.{list_any, position_or_len}
 use Rattle.std.proofs.lemmas.List.{append-nil}
@@ -17,6 +17,7 @@ module _ {X : Type 0} (same : X → X → Bool) where
       by true = ([], sym (append-nil keys))
       by false = (key ∷ [], refl)
 
+  -- a key that is there stays at its place when more keys come
   place_stays : (key : X) (keys more : List X) → list_any (same key) keys ≡ true
       → position_or_len (same key) (keys ++ more) ≡ position_or_len (same key) keys
   place_stays key [] more there = absurd (true≢false (sym there))
@@ -30,6 +31,7 @@ module _ {X : Type 0} (same : X → X → Bool) where
       by true rest is = refl
       by false rest is = ap (λ n. 1 + n) (rest is)
 
+  -- the place of a key that is there is one of the places
   place_below : (key : X) (keys : List X) → list_any (same key) keys ≡ true
       → position_or_len (same key) keys < length keys
   place_below key [] there = absurd (true≢false (sym there))
@@ -54,13 +56,12 @@ module _ {X : Type 0} (same : X → X → Bool) where
       → KeyAt same keys key other → number ≡ other
   key_alone keys key number other one two = one.at ∙ sym two.at
 
+  -- the number of a key is above 0
   pub key_some : (keys : List X) (key : X) (number : ℕ) → KeyAt same keys key number → 0 < number
   key_some keys key number is = omega (arith, is.at)
 
-  pub key_within : (keys : List X) (key : X) (number : ℕ) → KeyAt same keys key number → number ≤ length keys
-  key_within keys key number is = omega (arith, is.at, place_below key keys is.there)
-
   module _ (sound : (x y : X) → same x y ≡ true → x ≡ y) where
+    -- the key at the place of a key that is there is the key
     key_there : (key d : X) (keys : List X) → list_any (same key) keys ≡ true
         → get_or keys (position_or_len (same key) keys) d ≡ key
     key_there key d [] there = absurd (true≢false (sym there))

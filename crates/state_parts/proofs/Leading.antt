@@ -125,6 +125,7 @@ none_stands (Rows rows) tree entries none =
 -- ---- two trees as one
 
 module _ (left right : Tree) (entries : ℕ → Option ℕ) where
+  -- if nothing is left on the left, the number of the right tree stands for both
   pub only_right : (target : Target) (number : ℕ) → Nothing left entries → StandsIn target right entries number
       → StandsIn target (Node left right) entries number
   only_right (Parts pairs) number none stands = (0, number, no_part pairs left entries none, stands, inl (refl, refl))
@@ -133,6 +134,7 @@ module _ (left right : Tree) (entries : ℕ → Option ℕ) where
       (sym (filter_map-append entries (leaves left) (leaves right)
       ∙ ap (λ l. l ++ filter_map entries (leaves right)) (no_entries left entries none))) stands
 
+  -- if nothing is left on the right, the number of the left tree stands for both
   pub only_left : (target : Target) (number : ℕ) → Nothing right entries → StandsIn target left entries number
       → StandsIn target (Node left right) entries number
   only_left (Parts pairs) number none stands =
@@ -243,6 +245,7 @@ module _ (step : ℕ → Option ℕ) (pairs : List (ℕ × ℕ)) (target : Targe
       (leads.left.stands left entries (subst (Stands pairs left entries) e sl))
       (leads.right.stands right entries (subst (Stands pairs right entries) d sr))
 
+  -- the part of an entry leads to the number of what the step makes of the entry
   pub entry_is_led : (entry : ℕ) → KeyAt same_pair pairs (0, entry) part → IsFoundIn target (step entry) number
       → number ≤ count target → Leads step pairs target part number
   entry_is_led entry at found within = record { within = within; stands = entry_leads entry at found }

@@ -2,8 +2,7 @@
 
 -- key_at: the key of a number
 -- key_some: a number of a key is above 0
--- key_within: and at most the number of keys
-pub use Rattle.state_parts.proofs.Keys.{key_at, key_some, key_within}
+pub use Rattle.state_parts.proofs.Keys.{key_at, key_some}
 -- pair_sound: pairs that pass the test are one
 pub use Rattle.state_parts.proofs.Standing.{pair_sound}
 -- SameOn: two functions give the leaves of a tree the same entries

@@ -18,12 +18,14 @@ module _ {X : Type 0} (xs more : List X) where
   last_piece = ap (take (length xs + length more - length xs)) (drop_at xs more (length xs) refl)
       ∙ take_all (length xs + length more - length xs) more (omega arith)
 
+  -- more elements at the end are one more piece
   pub pieces-push : (start : ℕ) (ends : List ℕ) → IsPieces start ends (length xs)
       → pieces_of (xs ++ more) start (ends ++ (length xs + length more) ∷ []) ≡ pieces_of xs start ends ++ more ∷ []
   pieces-push start [] is = ap (λ s. slice_range (xs ++ more) s (length xs + length more) ∷ []) is
       ∙ ap (λ p. p ∷ []) last_piece
   pieces-push start (end ∷ ends) is = λ i. piece_stays start end is.0 is.1 i ∷ pieces-push end ends is.2 i
 
+  -- and the ends are those of pieces with one more
   pub IsPieces-push : (start : ℕ) (ends : List ℕ) → IsPieces start ends (length xs)
       → IsPieces start (ends ++ (length xs + length more) ∷ []) (length (xs ++ more))
   IsPieces-push start [] is = (omega arith, omega (arith, length-append xs more), sym (length-append xs more))

@@ -28,12 +28,14 @@ pub record IsPair (pairs : List (ℕ × ℕ)) (one other number : ℕ) : Type 0 
   pub at : KeyAt same_pair pairs (one, other) number
 
 module _ (pairs more : List (ℕ × ℕ)) where
+  -- a number that joins two parts still does when more pairs come
   pub joins_grow : (left right number : ℕ) → Joins pairs left right number → Joins (pairs ++ more) left right number
   joins_grow left right number (inl a) = inl a
   joins_grow left right number (inr (inl b)) = inr (inl b)
   joins_grow left right number (inr (inr (a, b, at))) =
       inr (inr (a, b, key_grows same_pair pairs more (left, right) number at))
 
+  -- a number that stands for a leaf still does when more pairs come
   leaf_grows : (found : Option ℕ) (number : ℕ) → IsLeaf pairs found number → IsLeaf (pairs ++ more) found number
   leaf_grows None number is = is
   leaf_grows (Some entry) number is = key_grows same_pair pairs more (0, entry) number is
@@ -51,6 +53,7 @@ module _ (pairs more : List (ℕ × ℕ)) where
   )
 
 module _ (pairs : List (ℕ × ℕ)) where
+  -- number 0 joins nothing but number 0 with itself
   pub none_joined : (left right : ℕ) → Joins pairs left right 0 → (left ≡ 0) × (right ≡ 0)
   none_joined left right (inl (l, n)) = (l, sym n)
   none_joined left right (inr (inl (r, n))) = (sym n, r)
@@ -70,6 +73,7 @@ module _ (pairs : List (ℕ × ℕ)) where
       ∙ (λ i. none_left left entries (subst (Stands pairs left entries) none.0 a) i
       ++ none_left right entries (subst (Stands pairs right entries) none.1 b) i)
 
+  -- two lists that are empty together are both empty
   both_none : (xs ys : List ℕ) → xs ++ ys ≡ [] → (xs ≡ []) × (ys ≡ [])
   both_none [] ys none = (refl, none)
   both_none (x ∷ xs) ys none = absurd cc
@@ -92,6 +96,7 @@ module _ (pairs : List (ℕ × ℕ)) where
       by x y (inr (inl (r, n))) = n ∙ x
       by x y (inr (inr (some, more, at))) = absurd (omega (arith, x, some))
 
+  -- one number joins two parts
   joins_alone : (left right one other : ℕ) → Joins pairs left right one → Joins pairs left right other → one ≡ other
   joins_alone left right one other (inl (l, n)) (inl (k, m)) = n ∙ sym m
   joins_alone left right one other (inl (l, n)) (inr (inl (k, m))) = omega (arith, l, n, k, m)
@@ -118,12 +123,14 @@ module _ (pairs : List (ℕ × ℕ)) where
       joins_alone x' y' one other
       (subst (λ l. Joins pairs l y' one) e (subst (λ r. Joins pairs x r one) d joins)) joins'
 
+  -- one pair has a number
   one_key : (one other : ℕ × ℕ) (number : ℕ) → KeyAt same_pair pairs one number → KeyAt same_pair pairs other number
       → (one.0 ≡ other.0) × (one.1 ≡ other.1)
   one_key one other number a b =
       let e = key_is same_pair pair_sound pairs one other number a b in (ap (λ p. p.0) e, ap (λ p. p.1) e)
 
   module _ (f g : ℕ → Option ℕ) where
+    -- trees for which one number stands have the same entries
     abbrev Same : Tree → Tree → Type 0
     Same one other = (number : ℕ) → Stands pairs one f number → Stands pairs other g number
         → filter_map f (leaves one) ≡ filter_map g (leaves other)
@@ -135,6 +142,7 @@ module _ (pairs : List (ℕ × ℕ)) where
         filter_map-append h (leaves left) (leaves right) ∙ ap (λ l. l ++ filter_map h (leaves right))
         (none_left left h none)
 
+    -- a node has the entries of its left tree if number 0 stands for the right one
     none_after : (left right : Tree) (h : ℕ → Option ℕ) → Stands pairs right h 0
         → filter_map h (leaves (Node left right)) ≡ filter_map h (leaves left)
     none_after left right h none =

@@ -162,6 +162,7 @@ module _ (set : RuleSetView) (rows : List (List ℕ)) (row : ℕ) (trie : Levels
     (within : category < row_len)
     (zeros : get_or rows 0 [] ≡ replicate row_len 0) (has : HasPart [] rows row (rows_of_trie set.rules trie))
     (fits : row + length trie.rows ≤ indexes) where
+  -- the row to which a walk leads has the word of the rule that wins in the category
   pub answered : (succ : Succ) → IsAnswer set trie.rows numbers succ →
       slice_index (slice_index_or rows (index_of (succ_word (matches_of row trie) succ)) []) category
       ≡ word_or_none set.rules (winner_of set category numbers)
@@ -220,6 +221,7 @@ ranked_rule rules place here small =
     rw high (grind (arith, nat_tests, rank_within rules place here))
 
 module _ (rules : List RuleView) (small : All (λ (rule : RuleView). rule.tag.userdata < userdatas) rules) where
+  -- the word of a winner has a rank of the rules
   ranked_winner : (winner : ℕ) → winner ≤ length rules → is_ranked (length rules) (winner_word rules winner) ≡ true
   ranked_winner winner within =
       elim (eqb_tells winner 0) [
@@ -229,6 +231,7 @@ module _ (rules : List RuleView) (small : All (λ (rule : RuleView). rule.tag.us
             (small_userdata rules (winner - 1) small))
       ]
 
+  -- each word of the rows has a rank of the rules
   pub ranked_rows : (tries : List LevelsView) → All (HasWinners (length rules)) tries →
       list_all (list_all (is_ranked (length rules))) (flat_map (rows_of_trie rules) tries) ≡ true
   ranked_rows tries all =
@@ -240,6 +243,7 @@ module _ (rules : List RuleView) (small : All (λ (rule : RuleView). rule.tag.us
 -- ---- the winner of a group is the best of its rules that match
 
 module _ (set : RuleSetView) (key : List ℕ) (some : 0 < key_len_of set.layout) where
+  -- a rule's values match the key exactly if the rule at its place passes
   same_match : (number : ℕ) → rule_match set.layout (values_of set number) key
       ≡ passes_at (λ rule. rule_match set.layout rule.fields key) set.rules number
   same_match number = by (slice_get set.rules number)
@@ -249,6 +253,7 @@ module _ (set : RuleSetView) (key : List ℕ) (some : 0 < key_len_of set.layout)
       by None = some_field set.layout key some
       by (Some rule) = refl
 
+  -- the winner of the rules of a group that match is that of the group
   pub group_winner : (group : List ℕ) (category : ℕ) → winner_of set category (matching set group key)
       ≡ winner_among set.layout set.rules group key category
   group_winner group category =
@@ -273,9 +278,11 @@ module _ (layout : List FieldDef) (rules : List RuleView) (groups : List (List �
   wins_in : List ℕ → Option ℕ
   wins_in group = winner_among layout rules group key category
 
+  -- the rank of a group's winner, or 0
   rank_in : List ℕ → ℕ
   rank_in group = rank_or_none rules (winner_among layout rules group key category)
 
+  -- the word of a group's winner, or 0
   word_in : List ℕ → ℕ
   word_in group = word_or_none rules (winner_among layout rules group key category)
 
@@ -296,6 +303,7 @@ module _ (layout : List FieldDef) (rules : List RuleView) (groups : List (List �
         | inr apart ↦ omega (arith, bound, apart, small_userdata rules q small)
       ]
 
+  -- the greatest word of all groups is that of the rule that wins
   pub greatest_word : (found : Option ℕ) → winner layout rules key category ≡ found →
       greatest (map (λ group. word_or_none rules (winner_among layout rules group key category)) groups)
       ≡ word_or_none rules found
@@ -328,6 +336,7 @@ module _ (layout : List FieldDef) (rules : List RuleView) (groups : List (List �
 -- ---- the tries of the groups
 
 module _ (set : RuleSetView) (groups : List (List ℕ)) (can : CanBeFilled set groups) where
+  -- each group is one of the rules of the set
   group_is : (group : List ℕ) → Contains groups group → IsGrouped set group
   group_is group at = record {
     rules = can.rules;
@@ -343,12 +352,14 @@ module _ (set : RuleSetView) (groups : List (List ℕ)) (can : CanBeFilled set g
     };
   }
 
+  -- the merged states of the groups are tries of the set
   pub tries_are : AllByRecursion (IsTrie set) (map (levels_of set) groups)
   tries_are = all-map (IsTrie set) (levels_of set) groups
       (recursion_from_All (λ group. IsTrie set (levels_of set group)) groups
       (λ k d within. trie_is set _ (group_is _ (All-contains_itself groups k d within))
       (whole_keys set.layout can.layout)))
 
+  -- the table of these tries isn't too large
   pub can_stand : CanStand set (map (levels_of set) groups)
   can_stand = record {
     tries_are = tries_are;
@@ -365,15 +376,18 @@ module _ (set : RuleSetView) (groups : List (List ℕ)) (can : CanBeFilled set g
 
   -- ---- the word that a trie gives
 
+  -- the merged states keep the bits of the group
   level_parts : (group : List ℕ) → ((levels_of set group).kept ≡ kept_bits set group)
   unfolding levels_of
   level_parts group = refl
 
   module _ (key : List ℕ) (category : ℕ) (bytes : AreBytes key) (long : length key ≡ key_len_of set.layout)
       (within : category < row_len) where
+    -- the table of the groups
     abbrev tbl : TableView
     tbl = table_of_tries set (map (levels_of set) groups)
 
+    -- the walk through a group's trie leads to the word of the group's winner
     word_of_trie : (t : ℕ) → t < length groups →
         slice_index (slice_index_or tbl.rows (walk_row tbl t key) []) category
         ≡ word_or_none set.rules (winner_among set.layout set.rules (get_or groups t []) key category)
@@ -438,10 +452,12 @@ module _ (set : RuleSetView) (groups : List (List ℕ)) (can : CanBeFilled set g
   verdict_of None = refl
   verdict_of (Some place) = omega (arith, small_userdata set.rules place can.userdata)
 
+  -- the word is 0 exactly if there is no winner
   none_of : (found : Option ℕ) → (word_or_none set.rules found ≡ 0 ↔ found ≡ None)
   none_of None = (λ zero_word. refl, λ none. refl)
   none_of (Some place) = (λ zero_word. absurd (omega (arith, zero_word)), λ none. absurd (cc))
 
+  -- the table answers as the rules do
   pub decide : Serves set (filled set groups)
   unfolding filled table_of_tries rows_of_tries
   decide = record {

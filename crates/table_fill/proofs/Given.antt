@@ -90,9 +90,11 @@ run_written {runs = runs} {k = k} {first = first} {last = last} {word = word} ta
     )
 
 module _ (targets : List ℕ) where
+  -- the word of a byte's successor
   of_byte : List Run → ℕ → ℕ
   of_byte runs b = succ_word targets (run_to runs b)
 
+  -- the words from a byte on are those of each byte's successor
   words_are : (first : ℕ) (runs : List Run) → HoldBytes first runs → words_from targets first runs
       ≡ map (λ b. succ_word targets (run_to runs b)) (range_with_len first (256 - first))
   unfolding of_byte
@@ -119,6 +121,7 @@ module _ (targets : List ℕ) where
       ∙ sym (ap (map f) (range-append first n m) ∙ map-append f (range_with_len first n) (range_with_len (first + n) m))
       ∙ ap (λ k. map f (range_with_len first k)) count
 
+  -- the words of a node of more than five runs are written byte by byte
   pub many_is : (runs : List Run) → few_runs < length runs → HoldBytes 0 runs → words_from targets 0 runs
       ≡ node_words targets runs
   unfolding all_bytes
@@ -171,6 +174,7 @@ pub record AreGiven (set : RuleSetView) (tries : List LevelsView) : Type 0 where
   pub stand : CanStand set tries
 
 module _ {set : RuleSetView} {tries : List LevelsView} where
+  -- tries of groups whose table can be filled are given
   pub given : IsRuleSet set → IsLayout set.layout → All (λ (rule : RuleView). rule.tag.userdata < userdatas) set.rules →
       AreOfGroups set tries → AreGiven set tries
   given rules layout userdata of =
@@ -221,9 +225,11 @@ module _ {set : RuleSetView} {tries : List LevelsView} where
   unfolding filled
   table_is is = ap (table_of_tries set) (sym is.same)
 
+  -- the table of given tries answers as the rules do
   pub serves : AreGiven set tries → Serves set (table_of_tries set tries)
   serves is = subst (Serves set) (sym (table_is is)) (decide set (groups_of_tries tries) is.can)
 
+  -- the table of given tries is sound
   pub sound : AreGiven set tries → sound_fault (table_of_tries set tries) ≡ None
   sound is = table_sound set tries is.stand
 

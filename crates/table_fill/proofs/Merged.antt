@@ -111,6 +111,7 @@ module _ (set : RuleSetView) (group : List ℕ) (held : AllByRecursion (IsHeld s
   abbrev IsOfBytes : ℕ → List Held → Type 0
   IsOfBytes place s = (key : List ℕ) × IsPrefix place key × (s ≡ state set group key)
 
+  -- each state of a place is one of as many bytes
   states_of_bytes : (place : ℕ) → AllByRecursion (IsOfBytes place) (states_at set group place)
   unfolding states_at
   states_of_bytes place =
@@ -129,6 +130,7 @@ module _ (set : RuleSetView) (group : List ℕ) (held : AllByRecursion (IsHeld s
       (found_for_key same_state is_live (λ s. (same_state-Decides s s).1 refl) (λ s t. (same_state-Decides s t).0)
       (state set group) place key is.0 is.1 alive)
 
+  -- a live final row is one of the group's rows
   row_there : (key : List ℕ) → IsPrefix (key_len_of set.layout) key → is_live (final_row set (state set group key))
       ≡ true →
       position_or_len (bytes_eq (final_row set (state set group key))) (rows_of set group) < length (rows_of set group)
@@ -177,10 +179,12 @@ module _ (set : RuleSetView) (group : List ℕ) (held : AllByRecursion (IsHeld s
   first_level_is place [] = (_, _, refl)
   first_level_is place (next ∷ places) = (_, _, refl)
 
+  -- what a whole key leads to is there
   row_is_there : (key : List ℕ) → IsPrefix (key_len_of set.layout) key → IsThere (length (rows_of set group)) []
       (row_succ (rows_of set group) (final_row set (state set group key)))
   row_is_there key is = holds_of_cond (IsThere (length (rows_of set group)) []) _ _ Dead (row_there key is) tt
 
+  -- what the first bytes of a key lead to is there
   state_is_there : (next : ℕ) (places key : List ℕ) → IsPrefix next key →
       IsThere (length (rows_of set group)) (runs_at (next ∷ places))
       (state_succ (states_at set group next) (state set group key))
@@ -209,6 +213,7 @@ module _ (set : RuleSetView) (group : List ℕ) (held : AllByRecursion (IsHeld s
       (sym (ap (λ b. reached set place next b byte) of.2 ∙ r.1)) (each _ r.0))))
       (states_of_bytes place)))
 
+  -- each level leads into the one after it, and the last one to the rows
   levels_lead : (places : List ℕ) → Gaps set group places → AreLevels (length (rows_of set group)) (runs_at places)
   unfolding level_runs
   levels_lead [] gaps = tt
@@ -223,6 +228,7 @@ module _ (set : RuleSetView) (group : List ℕ) (held : AllByRecursion (IsHeld s
     levels_lead (next ∷ places) gaps.1,
   )
 
+  -- there is a first state
   first_there : 0 < length group → (places : List ℕ) → HasFirst set group places →
       0 < length (get_or (runs_at places) 0 [])
   first_there some [] first = absurd (omega (arith, first.some))
@@ -235,6 +241,7 @@ module _ (set : RuleSetView) (group : List ℕ) (held : AllByRecursion (IsHeld s
         length-map (states_at set group place) levels.0,
       )
 
+  -- there are runs for each kept place
   length-runs_at : (places : List ℕ) → length (runs_at places) ≡ length places
   unfolding level_runs
   length-runs_at [] = refl
@@ -253,12 +260,14 @@ module _ (set : RuleSetView) (group : List ℕ) where
       (omega (arith, within)))
       ∙ one_says (is_kept set group (group_of place))
 
+  -- the kept places of the word are those of the group
   pub places_are : bits.kept_places (key_len_of set.layout) (kept_bits set group) ≡ kept_places set group
   unfolding kept_places
   places_are =
       filter_on_range (bits.is_kept (kept_bits set group)) (λ place. is_kept set group (group_of place)) 0
       (key_len_of set.layout) (λ k from below. bit_says k (omega (arith, below)))
 
+  -- the word of the kept places is one for keys of this length
   kept_word : table.is_key_len (key_len_of set.layout) ≡ true → HasFirst set group (kept_places set group) →
       table.is_kept_word (key_len_of set.layout) (kept_bits set group) ≡ true
   unfolding kept_bits
@@ -296,6 +305,7 @@ module _ (set : RuleSetView) where
   abbrev AreSmall : List ℕ → Type 0
   AreSmall row = All (λ winner. winner ≤ length set.rules) row
 
+  -- the best of those that pass a test passes it
   best_passes : (test : RuleView → Bool) (numbers : List ℕ) (w : ℕ) → best_among test set.rules numbers ≡ Some w →
       passes_at test set.rules w ≡ true
   unfolding best_among
@@ -303,6 +313,7 @@ module _ (set : RuleSetView) where
       find_in_filter (is_greatest_at set.rules (filter (passes_at test set.rules) numbers)) (passes_at test set.rules)
       numbers w is
 
+  -- a winner is none, or a rule of the set
   winner_small : (category : ℕ) (numbers : List ℕ) → option_map_or (λ number. number + 1)
       (winner_of set category numbers) 0 ≤ length set.rules
   winner_small category numbers = by (winner_of set category numbers) refl
@@ -314,12 +325,14 @@ module _ (set : RuleSetView) where
           let test : RuleView → Bool = λ rule. is_in_category rule.tag category in
           omega (arith, passes_there test set.rules w (best_passes test numbers w is))
 
+  -- so is each winner of a final row
   final_small : (whole : List Held) → AreSmall (final_row set whole)
   unfolding final_row row_of
   final_small [] = All-from_recursion (λ winner. winner ≤ length set.rules) [] tt
   final_small (h ∷ hs) =
       All-map (λ winner. winner ≤ length set.rules) _ categories (λ k d within. winner_small (get_or categories k d) _)
 
+  -- so is each winner of the rows of a group
   rows_small : (group : List ℕ) → All AreSmall (rows_of set group)
   unfolding rows_of
   rows_small group =
@@ -330,6 +343,7 @@ module _ (set : RuleSetView) where
       (all_each (λ key. is_live (row key) ≡ true → AreSmall (row key)) (λ key alive. final_small (state set group key))
       (prefixes (key_len_of set.layout)))))
 
+  -- the merged states of a group are a trie of its set
   pub trie_is : (group : List ℕ) → IsGrouped set group → is_key_len (key_len_of set.layout) ≡ true →
       IsTrie set (levels_of set group)
   unfolding levels_of

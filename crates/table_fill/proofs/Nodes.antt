@@ -226,6 +226,7 @@ no_run = record { last = 0; to = Dead }
 module _ (words targets : List ℕ) (place : ℕ) (runs : List Run) (byte : ℕ) (hold : HoldBytes 0 runs)
     (small : byte < 256) (fits : place < indexes)
     (has : HasPart 0 words place (node_words targets runs)) where
+  -- the word of a run's successor
   abbrev f : Run → ℕ
   f run = succ_word targets run.to
 
@@ -233,6 +234,7 @@ module _ (words targets : List ℕ) (place : ℕ) (runs : List Run) (byte : ℕ)
   abbrev n : ℕ
   n = below byte (inner_lasts runs)
 
+  -- the next word is the one of the node to which the kind and the byte point
   next_by : (numbers kind offset : ℕ) → kind < 8 →
       cond (kind == 0) byte (cond (kind == 3) (below byte (boundaries_of (word_of numbers kind place))) 0) ≡ offset →
       offset < length (node_words targets runs) →
@@ -258,6 +260,7 @@ module _ (words targets : List ℕ) (place : ℕ) (runs : List Run) (byte : ℕ)
       ∙ get_or-map f runs n no_run 0 run.0
       ∙ ap (succ_word targets) run.1
 
+  -- in a node of a word for each byte it is that of the byte's successor
   by_full : few_runs < length runs → next_word words (word_of 0 0 place) byte ≡ succ_word targets (run_to runs byte)
   unfolding all_bytes
   by_full many =
@@ -267,6 +270,7 @@ module _ (words targets : List ℕ) (place : ℕ) (runs : List Run) (byte : ℕ)
       ∙ ap (λ (l : List ℕ). get_or l byte 0) all
       ∙ get_or-map-range_with_len of_byte 0 256 byte byte 0 small (omega arith)
 
+  -- the next word from a node is that of the byte's successor
   node_next : next_word words (node_word place runs) byte ≡ succ_word targets (run_to runs byte)
   node_next =
       node_cases (λ word. next_word words word byte ≡ succ_word targets (run_to runs byte)) place runs
@@ -333,6 +337,7 @@ length-level targets (runs ∷ states) =
     ∙ sym (level_len-cons runs states)
 
 module _ (words targets : List ℕ) (until : ℕ) where
+  -- the node of a state stands where the word into it says
   node_at : (place : ℕ) (states : List (List Run)) (number : ℕ) → number < length states →
       HasPart 0 words place (flat_map (node_words targets) states) → place + level_len states ≤ until →
       NodeAt words targets until (get_or states number []) (get_or (words_into place states) number 0)
@@ -427,6 +432,7 @@ module _ (words matches key : List ℕ) where
   more_of place next levels bytes on (State n) there rest = rest n there
   more_of place next levels bytes on (Row n) there rest = absurd there
 
+  -- a walk through the words leads to the word of what the runs lead to
   pub walk_follows : (place : ℕ) (states : List (List Run)) (levels : List (List (List Run))) (at : ℕ) (places : List ℕ)
       (number : ℕ) →
       AreLevels (length matches) (states ∷ levels) → AllByRecursion (λ p. get_or key p 0 < 256) (at ∷ places) →

@@ -44,6 +44,7 @@ use Rattle.flat_table.specs.declared.sound.SoundFault.TheVariants as faults
 
 module _ (P : ℕ → Type 0) (rows : ℕ) (levels : List (List (List Run))) (targets : List ℕ)
     (dead : P (match_of 0)) (each : (succ : Succ) → IsThere rows levels succ → P (succ_word targets succ)) where
+  -- what holds of the word of each successor holds of each word of a node
   of_node : (runs : List Run) → All (λ (run : Run). IsThere rows levels run.to) runs → All P (node_words targets runs)
   of_node runs there =
       let leads : Run → Type 0 = λ run. IsThere rows levels run.to in
@@ -59,6 +60,7 @@ module _ (P : ℕ → Type 0) (rows : ℕ) (levels : List (List (List Run))) (ta
             (All-replicate P (cost_of (length runs) - length runs) (match_of 0) dead))
       ]
 
+  -- and of each word of a level
   pub of_level : (states : List (List Run)) → All (AreRuns rows levels) states →
       All P (flat_map (node_words targets) states)
   of_level states are = All-flat_map P (node_words targets) states
@@ -110,6 +112,7 @@ module _ (rows : ℕ) (words : List ℕ) (row count : ℕ) (enough : row + count
   abbrev row_words : List ℕ
   row_words = map match_of (range_with_len row count)
 
+  -- the word of a successor that is there is sound
   succ_sound : (after : ℕ) (levels : List (List (List Run))) → after + sum_by level_len levels ≤ indexes →
       (succ : Succ) → IsThere count levels succ →
       is_sound_word rows (first_level (levels_from after (map level_len levels)))
@@ -126,6 +129,7 @@ module _ (rows : ℕ) (words : List ℕ) (row count : ℕ) (enough : row + count
       (omega (arith, sum_by-cons level_len next levels, fits)) there)
   succ_sound after (next ∷ levels) fits (Row n) there = absurd there
 
+  -- no word of a trie is unsound
   pub trie_sound : (place : ℕ) (levels : List (List (List Run))) → AreLevels count levels →
       HasPart 0 words place (words_of_levels place row_words levels) → place + sum_by level_len levels ≤ indexes →
       unsound_word rows words (levels_from place (map level_len levels)) ≡ None
@@ -281,6 +285,7 @@ pub no_trie : LevelsView
 no_trie = record { kept = 0; group = []; levels = []; rows = []; words = 0 }
 
 module _ (rules : List RuleView) (words : List ℕ) (rows : List (List ℕ)) where
+  -- each trie stands among the words and the rows
   pub trie_stands : (place row : ℕ) (tries : List LevelsView) (t : ℕ) → t < length tries →
       HasPart 0 words place (words_of_tries place row tries) →
       HasPart [] rows row (flat_map (rows_of_trie rules) tries) → place + sum_by nodes_len tries ≤ indexes →
@@ -350,14 +355,17 @@ pub record CanStand (set : RuleSetView) (tries : List LevelsView) : Type 0 where
   pub size : row_len + (sum_by nodes_len tries + row_len * sum_by row_count tries) ≤ max_words
 
 module _ (set : RuleSetView) (tries : List LevelsView) (can : CanStand set tries) where
+  -- each of them is a trie of the set
   trie_at : All (IsTrie set) tries
   trie_at = All-from_recursion (IsTrie set) tries can.tries_are
 
+  -- the depth of each trie is the number of its levels
   depths_are : depths_of (table_of_tries set tries) ≡ map (λ (trie : LevelsView). length trie.levels) tries
   unfolding table_of_tries
   depths_are = map-map (depth_of (key_len_of set.layout)) (λ (trie : LevelsView). trie.kept) tries
       ∙ map_where _ _ tries (λ t d within. (trie_at t d within).depth)
 
+  -- the parts of the table fit together
   shaped : is_shaped (table_of_tries set tries) ≡ true
   unfolding table_of_tries rows_of_tries
   shaped =
@@ -379,11 +387,13 @@ module _ (set : RuleSetView) (tries : List LevelsView) (can : CanStand set tries
       ≡ true = le-leb _ _ (omega (arith, words, rows, can.size)) in
       λ i. s0 i && s1 i && can.key i && kept i && s4 i && s5 i && s6 i && s7 i
 
+  -- the levels of the table are those of the tries
   levels_are : trie_levels (table_of_tries set tries) ≡ levels_each 0 tries
   unfolding table_of_tries
   levels_are = ap (λ ds. portions ds (levels_from 0 (level_lens_of tries))) (depths_are)
       ∙ portions_are 0 tries
 
+  -- the table is sound
   pub table_sound : sound_fault (table_of_tries set tries) ≡ None
   unfolding table_of_tries sound_fault
   table_sound =

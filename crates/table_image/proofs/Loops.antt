@@ -37,21 +37,25 @@ fault_of_same one other OutOfMemory same e = tt
 module _ (kind : ImageKind) (size : ℕ) (test : List ℕ → ℕ → Bool) (bytes : List ℕ) (from count left at : ℕ)
     (first : List ℕ)
     (some : count ≡ left + 1) (here : at ≡ from + size * length first) where
+  -- numbers are read as the next one, and then the others
   one_more : numbers_after kind size test bytes from count first
       ≡ (tested kind size (test first) bytes at >>= λ number.
       numbers_after kind size test bytes from left (first ++ number ∷ []))
   unfolding numbers_after
   one_more = rw (some, add-one left, here) refl
 
+  -- a number that is read and passes is added to those before it
   pub number_read : (n m : ℕ) → field size bytes at ≡ Ok n → checked (test first n) kind at n ≡ Ok m →
       numbers_after kind size test bytes from count first
       ≡ numbers_after kind size test bytes from left (first ++ m ∷ [])
   number_read n m e f = one_more ∙ (rw (e, f) refl)
 
+  -- a fault of the next number is that of all
   pub number_cut : (fault : ImageFault) → field size bytes at ≡ Err fault →
       numbers_after kind size test bytes from count first ≡ Err fault
   number_cut fault e = one_more ∙ (rw e refl)
 
+  -- and so is the fault of its test
   pub number_refused : (n : ℕ) (fault : ImageFault) → field size bytes at ≡ Ok n →
       checked (test first n) kind at n ≡ Err fault →
       numbers_after kind size test bytes from count first ≡ Err fault

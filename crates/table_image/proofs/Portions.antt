@@ -41,6 +41,7 @@ numbers_split kind size test bytes from (suc count) other first =
 module _ (kind : ImageKind) (size : ℕ) (test : List ℕ → ℕ → Bool) (bytes : List ℕ) (from count whole : ℕ)
     (before : List ℕ)
     (few : whole ≤ count) where
+  -- numbers are read as a portion, and then the others
   pub two_portions : numbers_after kind size test bytes from count before
       ≡ (numbers_after kind size test bytes from whole before >>= numbers_after kind size test bytes from
       (count - whole))
@@ -49,10 +50,12 @@ module _ (kind : ImageKind) (size : ℕ) (test : List ℕ → ℕ → Bool) (byt
       ap (λ n. numbers_after kind size test bytes from n before) total
       ∙ numbers_split kind size test bytes from whole (count - whole) before
 
+  -- after a portion that is read the others are read
   pub portion_read : (all : List ℕ) → numbers_after kind size test bytes from whole before ≡ Ok all →
       numbers_after kind size test bytes from count before ≡ numbers_after kind size test bytes from (count - whole) all
   portion_read all e = two_portions ∙ rw e refl
 
+  -- a fault of a portion is that of all
   pub portion_fault : (fault : ImageFault) → numbers_after kind size test bytes from whole before ≡ Err fault →
       numbers_after kind size test bytes from count before ≡ Err fault
   portion_fault fault e = two_portions ∙ rw e refl

@@ -9,6 +9,7 @@ pub of_both : {A B : Type 0} (first : Reading A) (second : A → Reading B) (val
 of_both (Ok x) second value e = (x, refl, e)
 of_both (Err fault) second value e = absurd cc
 
+-- two readings that follow one another come to what the second one comes to
 pub both : {A B : Type 0} (first : Reading A) (second : A → Reading B) (x : A) (result : Reading B) → first ≡ Ok x →
     second x ≡ result → (first >>= second) ≡ result
 both first second x result e f = rw e f
@@ -19,6 +20,7 @@ pub of_check : {A : Type 0} (passes : Bool) (kind : ImageKind) (at : ℕ) (value
 of_check true kind at value result e = (refl, cc)
 of_check false kind at value result e = absurd cc
 
+-- a check that passes gives its value
 pub check_passed : {A : Type 0} (passes : Bool) (kind : ImageKind) (at : ℕ) (value : A) → passes ≡ true →
     checked passes kind at value ≡ Ok value
 check_passed passes kind at value e = rw e refl

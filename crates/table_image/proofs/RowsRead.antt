@@ -25,6 +25,7 @@ pub record RowsAt (rules : ℕ) (bytes : List ℕ) (from count : ℕ) (first all
   pub ranked : list_all (list_all (is_row_word rules)) more ≡ true
   pub typed : list_all is_row more ≡ true
 
+-- rows that were read stand in the bytes, and their words name rules
 pub rows_read : (rules : ℕ) (bytes : List ℕ) (from count : ℕ) (first all : List (List ℕ)) → AreBytes bytes →
     rows_after rules bytes from count first ≡ Ok all → RowsAt rules bytes from count first all
 unfolding rows_after
@@ -79,6 +80,7 @@ length-rows (row ∷ rows) typed =
     length-append (all_spelled long row) (flat_map (all_spelled long) rows)
     ∙ omega (arith, length-rows rows parts.1, length-all_spelled long row, eqb-true (length row) row_len wide.0)
 
+-- rows that are spelled, and whose words name rules, are read
 pub rows_spelled : (rules : ℕ) (bytes : List ℕ) (from : ℕ) (first more : List (List ℕ)) (rest : List ℕ) →
     drop (from + row_bytes * length first) bytes ≡ flat_map (all_spelled long) more ++ rest →
     list_all (list_all (is_row_word rules)) more ≡ true → list_all is_row more ≡ true →

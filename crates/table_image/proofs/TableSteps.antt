@@ -25,6 +25,7 @@ module _ (version : Version) (family key_len : ℕ) (bytes : List ℕ) (at : ℕ
   counts_fault fault e = rw e refl
 
   module _ (c : Counts) (e : counts family bytes at ≡ Ok c) where
+    -- after its four numbers a table is read as tries, words and rows
     after_counts : table_read version family key_len bytes at
         ≡ (tries_after version key_len (row_len * (c.rows + 1)) bytes c.tries (no_tries (at + 16))
         >>= words_and_rows key_len bytes c)
@@ -50,6 +51,7 @@ module _ (version : Version) (family key_len : ℕ) (bytes : List ℕ) (at : ℕ
           let s = are_sound version key_len taken 0 r.kept r.roots r.lens (omega arith) r.are in
           ap length r.lens_are ∙ s.levels ∙ ap (λ ks. sum (map (depth_of key_len) ks)) (sym r.kept_are)
 
+      -- after its tries a table is read as words and rows
       after_tries : table_read version family key_len bytes at ≡ words_and_rows key_len bytes c tries
       after_tries = after_counts ∙ (rw t refl)
 
@@ -70,6 +72,7 @@ module _ (version : Version) (family key_len : ℕ) (bytes : List ℕ) (at : ℕ
       module _ (words : List ℕ)
           (w : words_of_tries (c.rows + 1) bytes tries.end (levels_of_tries key_len tries.kept tries.level_lens) []
           ≡ Ok words) where
+        -- after its words a table is read as rows
         after_words : table_read version family key_len bytes at
             ≡ (rows_after c.rules bytes (tries.end + long * length words) c.rows [] >>= λ rows.
             Ok (record {

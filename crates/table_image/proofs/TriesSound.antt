@@ -31,6 +31,7 @@ pub record AreSound (version : Version) (key_len taken from : ℕ) (kept roots l
   pub leads : list_all root_leads (zip roots (portions (map (depth_of key_len) kept) (levels_from from lens))) ≡ true
   pub small : list_all (fits long) roots ≡ true
 
+-- of lawful tries each list is as a table's must be
 pub are_sound : (version : Version) (key_len taken from : ℕ) (kept roots lens : List ℕ) → taken + from ≤ max_words →
     AreTries version key_len taken from kept roots lens → AreSound version key_len taken from kept roots lens
 are_sound version key_len taken from [] [] lens bound are = record {
@@ -67,6 +68,7 @@ are_sound version key_len taken from (kept ∷ others) (root ∷ roots) lens bou
       small = and_from (fits long root) _ here.small rest.small;
     }
 
+-- lists as a table's must be are those of lawful tries
 pub sound_are : (version : Version) (key_len taken from : ℕ) (kept roots lens : List ℕ) →
     AreSound version key_len taken from kept roots lens → AreTries version key_len taken from kept roots lens
 sound_are version key_len taken from [] [] [] s = refl

@@ -11,6 +11,7 @@ use Rattle.rule_set.specs.Groups.{IsPartition}
 use Rattle.list_lemmas.proofs.Positions.{range-append}
 use Rattle.group_states.specs.Levels.{LevelsView, levels_of, IsGroup}
 
+-- a range rises
 rises : (first len : ℕ) → IsStrictlyIncreasing (range_with_len first len)
 rises first len k below =
     let long = length-range_with_len first len in
@@ -18,6 +19,7 @@ rises first len k below =
     let next = get_or-range_with_len first len (k + 1) 0 (omega (arith, long)) in
     omega (arith, one, next)
 
+-- a range of the places of a set that isn't empty is a group
 pub group_of_range : (set : RuleSetView) (first len : ℕ) → 0 < len → first + len ≤ length set.rules →
     IsGroup set (range_with_len first len)
 group_of_range set first len some fits =
@@ -29,6 +31,7 @@ group_of_range set first len some fits =
           omega (arith, number, long, fits));
     }
 
+-- one group of all rules is a partition
 pub one_group : (len : ℕ) → 0 < len → IsPartition len (range_with_len 0 len ∷ [])
 one_group len some = record {
   some = All-from_recursion (λ group. 0 < length group) (range_with_len 0 len ∷ [])
@@ -38,6 +41,7 @@ one_group len some = record {
       (sym (append-nil (range_with_len 0 len))) (IsPermutation-refl (range_with_len 0 len));
 }
 
+-- a group of the first rules and one of those after them are a partition
 pub two_groups : (len first : ℕ) → 0 < first → first < len →
     IsPartition len (range_with_len 0 first ∷ range_with_len first (len - first) ∷ [])
 two_groups len first some more =

@@ -28,6 +28,7 @@ pub record HoldsNumbers (values : List FieldValue) : Type 0 where
   pub destination : (d : FieldValue) → first_number (get_or values 2 d) < 2 ^ 32
   pub destination_port : (d : FieldValue) → first_number (get_or values 4 d) < 2 ^ 16
 
+-- five lawful values of an IPv4 rule hold such numbers
 holds_numbers : (values : List FieldValue) → AllZip IsLawfulValue ip4_fields values → HoldsNumbers values
 holds_numbers [] lawful = absurd lawful
 holds_numbers (a ∷ []) lawful = absurd lawful.1
