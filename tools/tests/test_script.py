@@ -175,7 +175,7 @@ class Script(unittest.TestCase):
             (self.folder / "bin" / name).symlink_to(shutil.which(name))
         code, lines, _ = self.run_script("help", PATH=str(self.folder / "bin"))
         self.assertEqual(code, 0)
-        self.assertIn("refused layout  K , or  K F\n", lines)
+        self.assertIn("refused layout K, or K F\n", lines)
         self.assertNotRegex(lines, r"(?m)\\f[A-Z]|^\.[A-Z]")
 
 
