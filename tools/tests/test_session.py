@@ -1,4 +1,4 @@
-"""The example of `session`: its script and replies stand once more in a crate that the gate runs, and in docs/LISTS_ALONE.md."""
+"""The example of `session`: its script and replies stand once more in a crate that the gate runs, and in LISTS_ALONE."""
 import re
 import subprocess
 import unittest
