@@ -1,13 +1,15 @@
 -- Pieces of bytes, one after the other.
-use Rattle.std.proofs.Common.{◌≡◌, ℕ, ◌+◌, ◌<◌, ◌≤◌, List, [], ◌∷◌, ◌++◌, length, drop, cond, ◌==◌, refl, sym, ◌∙◌}
-use Rattle.std.proofs.Common.{ap, subst, inl, inr, arith, Option, get_or}
+use Rattle.std.proofs.Common.{◌≡◌, ℕ, ◌+◌, ◌-◌, ◌<◌, ◌≤◌, List, [], ◌∷◌, ◌++◌, length, drop, cond, ◌==◌, refl, sym, ◌∙◌}
+use Rattle.std.proofs.Common.{ap, subst, inl, inr, arith, Option, get_or, false}
 use Rattle.std.proofs.lemmas.Bool.{cases_lt, le-leb, lt-leb, cases_eq, eq-eqb, ne_eqb}
-use Rattle.std.proofs.lemmas.List.{drop_more, drop_all}
+use Rattle.std.proofs.lemmas.List.{drop_more, drop_all, get_or_append_left, length-append}
+use Rattle.std.proofs.Math.Seq.{get_or-append_seam}
 use Rattle.state_parts.specs.declared.pieces.Piece.{Piece}
 use Rattle.state_parts.specs.declared.target.Target.{Target}
 use Rattle.state_parts.specs.Keys.{KeyAt, same_pair}
 use Rattle.state_parts.specs.Target.{count, Grows, JoinsIn, HasEntry, Leads}
-use Rattle.state_parts.specs.Pieces.{number_at, Covers, PiecesLead, Pushed, Merges}
+use Rattle.state_parts.specs.Pieces.{number_at, AreApart, Covers, PiecesLead, Pushed, Merges}
+pub use Rattle.state_parts.specs.Pieces.{no_piece}
 use Rattle.state_parts.proofs.Leading.{count_grows, grows_on, leads_grow, PairLeads, pair_is_led}
 
 -- pieces don't end before they begin
@@ -49,10 +51,61 @@ at_after first end byte (p ∷ ps) more is after =
     at_later p (ps ++ more) byte (omega (arith, covers_rise (p.last + 1) end ps is.1, after))
     ∙ at_after (p.last + 1) end byte ps more is.1 after
 
+-- the pieces don't end with one that leads to the number
+abbrev pub EndsElsewhere : List Piece → ℕ → Type 0
+EndsElsewhere pieces to = 0 < length pieces → ((get_or pieces (length pieces - 1) no_piece).to == to) ≡ false
+
+-- a piece after the others stands apart if the last of them leads elsewhere
+apart_after : (pieces : List Piece) (p : Piece) → EndsElsewhere pieces p.to → AreApart pieces →
+    AreApart (pieces ++ p ∷ [])
+apart_after pieces p elsewhere apart k within = elim (cases_lt (k + 1) (length pieces)) [
+  | inl early ↦
+      rw (
+        get_or_append_left pieces (p ∷ []) no_piece k (omega (arith, early)),
+        get_or_append_left pieces (p ∷ []) no_piece (k + 1) early,
+      )
+      (apart k early)
+  | inr late ↦
+      let end : k + 1 ≡ length pieces = omega (arith, within, late, length-append pieces (p ∷ [])) in
+      let seam : get_or (pieces ++ p ∷ []) (k + 1) no_piece ≡ p =
+      ap (λ n. get_or (pieces ++ p ∷ []) n no_piece) end ∙ get_or-append_seam pieces p [] no_piece in
+      let before : length pieces - 1 ≡ k = omega (arith, end) in
+      rw (get_or_append_left pieces (p ∷ []) no_piece k (omega (arith, end)), seam)
+      (subst (λ n. ((get_or pieces n no_piece).to == p.to) ≡ false) before (elsewhere (omega (arith, end))))
+]
+
+-- a last piece in the place of one that leads to the same number leaves each place leading where it led
+same_number : (rest : List Piece) (one other : Piece) → one.to ≡ other.to → (k : ℕ) →
+    k < length (rest ++ one ∷ []) →
+    (get_or (rest ++ other ∷ []) k no_piece).to ≡ (get_or (rest ++ one ∷ []) k no_piece).to
+same_number rest one other same k within = elim (cases_lt k (length rest)) [
+  | inl early ↦
+      ap (λ (p : Piece). p.to) (get_or_append_left rest (other ∷ []) no_piece k early)
+      ∙ sym (ap (λ (p : Piece). p.to) (get_or_append_left rest (one ∷ []) no_piece k early))
+  | inr late ↦
+      let end : k ≡ length rest = omega (arith, within, late, length-append rest (one ∷ [])) in
+      ap (λ n. (get_or (rest ++ other ∷ []) n no_piece).to) end
+      ∙ ap (λ (p : Piece). p.to) (get_or-append_seam rest other [] no_piece)
+      ∙ sym same
+      ∙ sym (ap (λ (p : Piece). p.to) (get_or-append_seam rest one [] no_piece))
+      ∙ sym (ap (λ n. (get_or (rest ++ one ∷ []) n no_piece).to) end)
+]
+
+-- so pieces that are apart stay so
+apart_within : (rest : List Piece) (one other : Piece) → one.to ≡ other.to → AreApart (rest ++ one ∷ []) →
+    AreApart (rest ++ other ∷ [])
+apart_within rest one other same apart k within =
+    let below : k + 1 < length (rest ++ one ∷ []) =
+    omega (arith, within, length-append rest (one ∷ []), length-append rest (other ∷ [])) in
+    rw (same_number rest one other same k (omega (arith, below)), same_number rest one other same (k + 1) below)
+    (apart k below)
+
 -- one more piece leads further bytes to its number
 pub pushed_after : (pieces : List Piece) (last to : ℕ)
+    → EndsElsewhere pieces to
     → Pushed pieces (pieces ++ record { last = last; to = to } ∷ []) last to
-pushed_after pieces last to = record {
+pushed_after pieces last to elsewhere = record {
+  apart = apart_after pieces (record { last = last; to = to }) elsewhere;
   covers = λ first is after. covers_push 0 first last to pieces is after;
   before = λ first byte is after below.
       at_before 0 first byte pieces (record { last = last; to = to } ∷ []) is (omega arith) below;
@@ -72,6 +125,7 @@ covers_all_but first end (q ∷ qs) p is =
 pub pushed_within : (pieces : List Piece) (p : Piece) (last to : ℕ) → p.to ≡ to
     → Pushed (pieces ++ p ∷ []) (pieces ++ record { last = last; to = to } ∷ []) last to
 pushed_within pieces p last to same = record {
+  apart = apart_within pieces p (record { last = last; to = to }) same;
   covers = λ first is after.
       (let all = covers_all_but 0 first pieces p is in
       covers_push 0 all.0 last to pieces all.1 (omega (arith, all.2, all.3, after)));
@@ -106,8 +160,6 @@ pub rest_all : (pieces : List Piece) → Covers 0 pieces 256 → RestIs pieces 0
 rest_all pieces is = record { covers = is; same = λ byte from. refl }
 
 -- a piece in the place of one that isn't there
-abbrev pub no_piece : Piece
-no_piece = record { last = 0; to = 0 }
 
 -- there is a piece before the end
 pub rest_some : (pieces : List Piece) (place first : ℕ) → first < 256 → RestIs pieces place first →
@@ -189,6 +241,7 @@ pub record Merged (old now : Target) (one other pieces : List Piece) (i j first 
   pub left : RestIs one i first
   pub right : RestIs other j first
   pub covers : Covers 0 pieces first
+  pub apart : AreApart pieces
   pub leads : (step : ℕ → ℕ → Option ℕ) (pairs : List (ℕ × ℕ)) (a b part : ℕ) → KeyAt same_pair pairs (a, b) part →
       0 < a → 0 < b → PiecesLead step pairs old a one → PiecesLead step pairs old b other →
       (byte : ℕ) → byte < first → Leads (step byte) pairs now part (number_at pieces byte)
@@ -249,6 +302,7 @@ module _ {old now : Target} {one other pieces : List Piece} {i j first : ℕ} (b
     left = rest_on one i first below so_far.left mine refl last from in_mine;
     right = rest_on other j first below so_far.right its refl last from in_its;
     covers = pushed.covers first so_far.covers from;
+    apart = pushed.apart so_far.apart;
     leads = λ step pairs a b part at some more lead_a lead_b byte under. elim (cases_lt byte first) [
       | inl early ↦
           subst (Leads (step byte) pairs new part) (sym (pushed.before first byte so_far.covers from early))
@@ -283,6 +337,7 @@ all_merged {one = one} {pieces = pieces} {i = i} {first = first} end so_far =
       grows = so_far.grows;
       entries = so_far.entries;
       covers = subst (Covers 0 pieces) last so_far.covers;
+      apart = so_far.apart;
       leads = λ step pairs a b part at some more lead_a lead_b byte below.
           so_far.leads step pairs a b part at some more lead_a lead_b byte (omega (arith, below, last));
     }

@@ -1,9 +1,9 @@
 //! Where each byte leads from a part.
 
-ghost use Rattle.std.specs.Prelude.{◌≡◌, ℕ, ◌+◌, ◌-◌, ◌<◌, ◌≤◌, ◌^◌, ◌==◌, true, length, OnOk};
-ghost use Rattle.std.specs.Prelude.{slice_index_or, if◌then◌else◌};
+ghost use Rattle.std.specs.Prelude.{◌≡◌, ℕ, ◌+◌, ◌-◌, ◌<◌, ◌≤◌, ◌^◌, ◌==◌, true, false, length};
+ghost use Rattle.std.specs.Prelude.{slice_index_or, if◌then◌else◌, OnOk};
 ghost use Rattle.state_parts.specs.Target.{count};
-ghost use Rattle.state_parts.specs.Pieces.{number_at, Covers, Pushed, Merges};
+ghost use Rattle.state_parts.specs.Pieces.{number_at, no_piece, Covers, Pushed, Merges};
 
 use crate::target::Target;
 use std::alloc::AllocError;
@@ -20,9 +20,10 @@ pub struct Piece {
 
 /// Whether there are pieces and the last leads to the number.
 fn ends_in(pieces: &[Piece], to: u32) -> bool
-    ensures { result ≡ true → (0 < length pieces.now)
-        × ((slice_index_or pieces.now (length pieces.now - 1) (record { last = 0; to = 0 })).to
-        ≡ to) }
+    ensures same { result ≡ true → (0 < length pieces.now)
+        × ((slice_index_or pieces.now (length pieces.now - 1) no_piece).to ≡ to) }
+    ensures other { result ≡ false → 0 < length pieces.now →
+        ((slice_index_or pieces.now (length pieces.now - 1) no_piece).to == to) ≡ false }
 {
     !pieces.is_empty() && pieces[pieces.len() - 1].to == to
 }

@@ -1,5 +1,6 @@
 use Rattle.std.proofs.Common.{get_or, arith}
-use Rattle.state_parts.proofs.Covering.{no_piece, HasJoined}
+use Rattle.state_parts.specs.Pieces.{no_piece}
+use Rattle.state_parts.proofs.Covering.{HasJoined}
 use Rattle.state_parts.proofs.Covering.{left_from, right_from, left_within, right_within, one_merged, all_merged}
 use Rattle.state_parts.proofs.pieces.merge.Goals as goal
 

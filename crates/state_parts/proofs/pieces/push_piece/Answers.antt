@@ -9,7 +9,7 @@ pub returns-then-ends_in : goal.returns-then-ends_in
 returns-then-ends_in c =
     let all : List Piece = c.args.pieces.now.items in
     let rest : List Piece = c.pop.new.self.items in
-    let ends = rw c.as_slice.ensures.value at (c.ends_in.ensures c.if-ends_in.true) in
+    let ends = rw c.as_slice.ensures.value at (c.ends_in.ensures.same c.if-ends_in.true) in
     let p : Piece = get_or all (length all - 1) (record { last = 0; to = 0 }) in
     let long : vec_len c.args.pieces.now ≡ length all = omega (arith, c.args.pieces.now.ok) in
     let popped = c.pop.ensures.value (record { last = 0; to = 0 }) (omega (arith, ends.0, long))
@@ -22,4 +22,5 @@ returns-then-ends_in c =
 pub returns : goal.returns
 returns c =
     subst (λ new. Pushed c.args.pieces.now.items new c.args.last c.args.to) (sym c.in_ok-push-2.ensures.items)
-    (pushed_after c.args.pieces.now.items c.args.last c.args.to)
+    (pushed_after c.args.pieces.now.items c.args.last c.args.to
+    (rw c.as_slice.ensures.value at (c.ends_in.ensures.other c.if-ends_in.false)))
