@@ -3,7 +3,7 @@ use Rattle.std.proofs.Common.{◌≡◌, ℕ, ◌+◌, ◌%◌, ◌<◌, ◌≤�
 use Rattle.std.specs.Prelude.{slice_get}
 use Rattle.std.proofs.lemmas.Bool.{le-ltb}
 use Rattle.std.proofs.Common.{false, inl}
-use Rattle.std.proofs.Common.{refl, sym, ap, ◌∙◌, length-drop, arith}
+use Rattle.std.proofs.Common.{refl, sym, subst, ap, ◌∙◌, length-append, length-drop, arith}
 use Rattle.std.proofs.lemmas.List.{take-append-le, drop-append-le}
 use Rattle.acl_outside.specs.Desk.{DeskView}
 use Rattle.acl_outside.specs.Heard.{GoesOn, Ended}
@@ -19,7 +19,7 @@ use Rattle.pcapng_reader.specs.declared.said.Said.TheVariants as said
 use Rattle.pcapng_reader.specs.declared.kind.Kind.TheVariants.{Packet}
 use Rattle.pcapng_reader.specs.declared.blocks.BlockRead.{BlockRead}
 use Rattle.pcapng_reader.specs.declared.blocks.BlockRead.TheVariants as read
-use Rattle.pcapng_reader.specs.BlockReading.{HasRead, HasBroken, ReadsBlock, StandsWithin, block_read}
+use Rattle.pcapng_reader.specs.BlockReading.{AnswersBlock, HasRead, HasBroken, ReadsBlock, StandsWithin, block_read}
 use Rattle.pcapng_reader.proofs.BlockLaws.{HasFront-from, front_least, block-none, block-front_fault, front-cut}
 use Rattle.pcapng_reader.proofs.BlockLaws.{front-whole}
 use Rattle.pcapng_reader.proofs.Steps.{refuse-no}
@@ -70,7 +70,7 @@ front-packet state bytes total few there kind is lawful =
     (rw is at lawful))
 
 -- a packet stands in the front of a buffer as in the whole of it
-pub block_read-front : (now : BlockState) (front rest : List ℕ) (result : Result BlockRead CaptureFault) →
+block_read-front : (now : BlockState) (front rest : List ℕ) (result : Result BlockRead CaptureFault) →
     StandsWithin (length front) result → block_read now front result ≡ block_read now (front ++ rest) result
 block_read-front now front rest (Ok read.End) within = refl
 block_read-front now front rest (Ok read.Passed) within = refl
@@ -81,12 +81,23 @@ block_read-front now front rest (Ok (read.Given place)) within =
 block_read-front now front rest (Err fault) within = refl
 
 -- and so it stands within it
-pub within-more : (small large : ℕ) (result : Result BlockRead CaptureFault) → small ≤ large →
+within-more : (small large : ℕ) (result : Result BlockRead CaptureFault) → small ≤ large →
     StandsWithin small result → StandsWithin large result
 within-more small large (Ok read.End) more within = tt
 within-more small large (Ok read.Passed) more within = tt
 within-more small large (Ok (read.Given place)) more within = omega (arith, more, within)
 within-more small large (Err fault) more within = tt
+
+-- what is read into the front of a buffer is read into the buffer
+pub answers-front : {state now : BlockState} {front : List ℕ} {old new : DeskView}
+    {result : Result BlockRead CaptureFault} (rest : List ℕ) → AnswersBlock state now front old new result →
+    AnswersBlock state now (front ++ rest) old new result
+answers-front {state} {now} {front} {old} {new} {result} rest read = record {
+  block = subst (λ b. ReadsBlock state old new b) (block_read-front now front rest result read.within) read.block;
+  within = within-more (length front) (length (front ++ rest)) result (omega (arith, length-append front rest))
+      read.within;
+  stays = read.stays;
+}
 
 -- a packet isn't refused whose captured bytes have room before the last four bytes
 pub packet-says : (state : BlockState) (front : Front) (block : List ℕ) (link : Link) →

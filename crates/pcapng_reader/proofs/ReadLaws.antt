@@ -12,7 +12,8 @@ use Rattle.acl_outside.specs.DeskReading.{ReadsOn}
 use Rattle.acl_outside.proofs.Offered.{ReadsOn-none, ReadsOn-then}
 use Rattle.pcap_reader.specs.declared.capture_fault.CaptureFault.{CaptureFault}
 use Rattle.std.specs.Prelude.{◌⊎◌, ⊤, Bool, ◌==◌, true, false, not, nat_lt, slice_get}
-use Rattle.pcap_reader.specs.declared.capture_fault.CaptureFault.TheVariants.{HeaderCut, RecordCut, RecordTooLong, ReadFault}
+use Rattle.pcap_reader.specs.declared.capture_fault.CaptureFault.TheVariants.{HeaderCut, RecordCut, RecordTooLong}
+use Rattle.pcap_reader.specs.declared.capture_fault.CaptureFault.TheVariants.{ReadFault}
 use Rattle.pcap_reader.specs.declared.capture_fault.CaptureFault.TheVariants.{PngCut, PngLength, PngOrder, PngVersion}
 use Rattle.pcap_reader.specs.declared.capture_fault.CaptureFault.TheVariants.{PngInterface, PngLink, PngTooMany}
 use Rattle.pcap_reader.specs.Headers.{number_in}
@@ -32,9 +33,12 @@ use Rattle.pcapng_reader.specs.declared.front.Front.{Front}
 use Rattle.pcapng_reader.specs.declared.kind.Kind.{Kind}
 use Rattle.pcapng_reader.specs.declared.kind.Kind.TheVariants.{Section, Interface, Packet, Other}
 use Rattle.pcapng_reader.proofs.BlockLaws.{front-whole}
-use Rattle.pcapng_reader.specs.BlockReading.{HasRead, HasBroken, ReadsPart, ReadsMore, HasNoBlock, BlockStands, FaultStands}
+use Rattle.pcapng_reader.specs.BlockReading.{HasRead, HasBroken, ReadsPart, ReadsMore, HasNoBlock, BlockStands}
+use Rattle.pcapng_reader.specs.BlockReading.{FaultStands}
 use Rattle.pcapng_reader.specs.BlockReading.{IsBlock, ReadsBlock, block_read, stands}
+use Rattle.pcapng_reader.specs.BlockReading.{AnswersBlock, HasRoom, StandsWithin, Stays, captured_by, read_of}
 use Rattle.pcapng_reader.specs.declared.blocks.BlockRead.{BlockRead}
+use Rattle.pcapng_reader.specs.declared.blocks.BlockRead.TheVariants as read
 
 -- nothing was read yet but what was read before
 pub HasRead-none : (state : BlockState) (view : DeskView) → HasRead state state.first GoesOn view view
@@ -282,14 +286,52 @@ ReadsPart-none {E} state before more (Ok count) old new is fits filled =
 ReadsPart-none {E} state before more (Err fault) old new is fits filled =
     ReadsPart-failed {E = E} state [] before more fault old new is fits filled
 
+-- a block that is refused leaves the reader as it was
+pub answers_fault : {state : BlockState} {buffer : List ℕ} {old new : DeskView} {fault : CaptureFault} →
+    ReadsBlock state old new (Fault fault) → AnswersBlock state state buffer old new (Err fault)
+answers_fault read = record { block = read; within = tt; stays = refl }
+
+-- and so does the end of the file
+pub answers_end : {state : BlockState} {buffer : List ℕ} {old new : DeskView} →
+    ReadsBlock state old new End → AnswersBlock state state buffer old new (Ok read.End)
+answers_end read = record { block = read; within = tt; stays = refl }
+
+-- a block was read, which changes what the reader knows
+stays_read : (x : Said) (at : ℕ) (state now : BlockState) → Stays state now (Ok (read_of x at))
+stays_read said.Section at state now = tt
+stays_read (said.Interface link) at state now = tt
+stays_read (said.Packet link captured) at state now = tt
+stays_read said.Other at state now = tt
+
+-- the captured bytes of a packet have room after its first 28 bytes
+pub within_block : (x : Said) (state : BlockState) (front : Front) (len : ℕ) → HasRoom state front x →
+    front.total ≤ len → StandsWithin len (Ok (read_of x 28))
+within_block said.Section state front len room fits = tt
+within_block (said.Interface link) state front len room fits = tt
+within_block (said.Packet link captured) state front len room fits = omega (arith, room.1, fits)
+within_block said.Other state front len room fits = tt
+
+-- or they alone stand in the buffer
+pub within_front : (x : Said) (len : ℕ) → captured_by x ≤ len → StandsWithin len (Ok (read_of x 0))
+within_front said.Section len fits = tt
+within_front (said.Interface link) len fits = tt
+within_front (said.Packet link captured) len fits = omega (arith, fits)
+within_front said.Other len fits = tt
+
 -- the block that was read, by what the code has in place of its parts
-pub as_read : {state : BlockState} {old new : DeskView} {bytes buffer : List ℕ} {says now : BlockState}
-    {r s : BlockRead} → buffer ≡ bytes → now ≡ says → s ≡ r → ReadsBlock state old new (block_read says bytes (Ok r)) →
-    ReadsBlock state old new (block_read now buffer (Ok s))
-as_read {state} {old} {new} {bytes} {buffer} {says} {now} {r} {s} is_bytes is_said is_read reads =
-    subst (λ b. ReadsBlock state old new (block_read now b (Ok s))) (sym is_bytes)
-    (subst (λ x. ReadsBlock state old new (block_read x bytes (Ok s))) (sym is_said)
-    (subst (λ x. ReadsBlock state old new (block_read says bytes (Ok x))) (sym is_read) reads))
+pub answers_read : {state : BlockState} {old new : DeskView} {bytes buffer : List ℕ} {says now : BlockState}
+    {s : BlockRead} (x : Said) (at : ℕ) → buffer ≡ bytes → now ≡ says → s ≡ read_of x at →
+    StandsWithin (length buffer) (Ok (read_of x at)) →
+    ReadsBlock state old new (block_read says bytes (Ok (read_of x at))) →
+    AnswersBlock state now buffer old new (Ok s)
+answers_read {state} {old} {new} {bytes} {buffer} {says} {now} {s} x at is_bytes is_said is_read within reads =
+    subst (λ r. AnswersBlock state now buffer old new (Ok r)) (sym is_read)
+    record {
+      block = subst (λ b. ReadsBlock state old new (block_read now b (Ok (read_of x at)))) (sym is_bytes)
+          (subst (λ k. ReadsBlock state old new (block_read k bytes (Ok (read_of x at)))) (sym is_said) reads);
+      within = within;
+      stays = stays_read x at state now;
+    }
 
 -- So many bytes more were read.
 pub record Passes (state : BlockState) (part : List ℕ) (count : ℕ) (old new : DeskView) : Type 0 where

@@ -193,3 +193,21 @@ Stays before now (Ok read.End) = now ≡ before
 Stays before now (Ok read.Passed) = ⊤
 Stays before now (Ok (read.Given place)) = ⊤
 Stays before now (Err fault) = now ≡ before
+
+-- All that a call promises that reads the next block into a buffer. `state` is what the reader knew
+-- before, and `now` what it knows after the call. The answer is the block that was read, and
+-- nothing else was read. The captured bytes stand within the buffer. Without a block the reader
+-- knows what it knew.
+pub record AnswersBlock (state now : BlockState) (buffer : List ℕ) (old new : DeskView)
+    (answer : Result BlockRead CaptureFault) : Type 0 where
+  pub block : ReadsBlock state old new (block_read now buffer answer)
+  pub within : StandsWithin (length buffer) answer
+  pub stays : Stays state now answer
+
+-- All that a call promises that reads the rest of a block, of which the front stood in the buffer
+-- with these bytes: the same as of the whole block, from any view from which the front was read.
+abbrev pub AnswersRest : BlockState → BlockState → List ℕ → List ℕ → DeskView → DeskView →
+    Result BlockRead CaptureFault → Type 0
+AnswersRest state now had buffer old new answer =
+    (before : DeskView) → HasRead state (take front_len had) GoesOn before old →
+    AnswersBlock state now buffer before new answer

@@ -1,15 +1,28 @@
 //! Reading the blocks from the opened file of a desk.
+//!
+//! A block is read in two parts: its front, which has twelve bytes, and its rest. Most blocks are
+//! whole packets in the section's order. These go the fast way:
+//!
+//!     read_block → read_rest → read_within → read_short
+//!
+//! All others leave it, by a call that is never inlined:
+//!
+//!     | from | by | when |
+//!     | `read_block` | `read_slow` | its type was read before, or no block more may be read |
+//!     | `read_rest` | `read_any` | it is no packet, its front is refused, or it is long |
+//!     | `read_any` | `read_long` | it has no room in the buffer |
+//!     | `read_short` | `settle` | it isn't a whole packet that ends in its length |
+//!
+//! What a call promises is one record of `specs/BlockReading.antt`: `AnswersBlock`, or once the
+//! front was read `AnswersRest`.
 
-ghost use Rattle.std.specs.Prelude.{◌≡◌, ◌+◌, ◌<◌, ◌≤◌, List, ℕ, Ok, IsTrue, false, length, take};
-ghost use Rattle.std.specs.Prelude.{[], true};
+ghost use Rattle.std.specs.Prelude.{[], ◌≡◌, ◌+◌, ◌≤◌, List, ℕ, Ok, IsTrue, false, true};
+ghost use Rattle.std.specs.Prelude.{length, take};
 ghost use Rattle.acl_outside.specs.Desk.{DeskView};
-ghost use Rattle.acl_outside.specs.Heard.{GoesOn};
 ghost use Rattle.pcap_reader.specs.Capture.{max_captured};
-ghost use Rattle.pcapng_reader.specs.Block.{BlockState, front_len, front_of, is_last};
+ghost use Rattle.pcapng_reader.specs.Block.{front_len, front_of, is_last};
 ghost use Rattle.pcapng_reader.specs.Capture.{section_bytes};
-ghost use Rattle.pcapng_reader.specs.BlockReading.{HasRead, HasRest};
-ghost use Rattle.pcapng_reader.specs.BlockReading.{ReadsBlock, ReadsPart};
-ghost use Rattle.pcapng_reader.specs.BlockReading.{StandsWithin, Stays, block_read};
+ghost use Rattle.pcapng_reader.specs.BlockReading.{AnswersBlock, AnswersRest, HasRest, ReadsPart};
 ghost use Rattle.pcapng_reader.specs.BlockReading.{read_of};
 
 use crate::front::Front;
@@ -57,18 +70,13 @@ pub fn read_block<D: Desk>(
 ) -> Result<BlockRead, CaptureFault>
     requires reading { IsTrue (D.view desk.old).reading }
     requires room { length buffer.old ≡ max_captured }
-    ensures block { ReadsBlock reader.old (D.view desk.old) (D.view desk.new)
-        (block_read reader.new buffer.new result) }
-    ensures within { StandsWithin max_captured result }
-    ensures stays { Stays reader.old reader.new result }
+    ensures { AnswersBlock reader.old reader.new buffer.new (D.view desk.old)
+        (D.view desk.new) result }
 {
-    if reader.is_last() {
-        return slow_apart(desk, reader, buffer);
+    if reader.takes_slow_way() {
+        return in_parts(read_slow(desk, reader, buffer));
     }
-    if reader.type_read {
-        return slow_apart(desk, reader, buffer);
-    }
-    match read_more(desk, reader, &mut buffer[..FRONT_LEN]) {
+    match read_new_front(desk, reader, &mut buffer[..FRONT_LEN]) {
         Ok(FRONT_LEN) => {}
         Ok(0) => return Ok(BlockRead::End),
         Ok(_) => return Err(CaptureFault::PngCut(reader.count + 1)),
@@ -81,23 +89,6 @@ pub fn read_block<D: Desk>(
     }
 }
 
-/// The same as [`read_slow`], whose answer stands in memory here alone.
-#[inline(always)]
-fn slow_apart<D: Desk>(
-    desk: &mut D,
-    reader: &mut Reader,
-    buffer: &mut [u8],
-) -> Result<BlockRead, CaptureFault>
-    requires reading { IsTrue (D.view desk.old).reading }
-    requires room { length buffer.old ≡ max_captured }
-    ensures block { ReadsBlock reader.old (D.view desk.old) (D.view desk.new)
-        (block_read reader.new buffer.new result) }
-    ensures within { StandsWithin max_captured result }
-    ensures stays { Stays reader.old reader.new result }
-{
-    in_parts(read_slow(desk, reader, buffer))
-}
-
 /// Reads the next block, whatever was read before it.
 #[inline(never)]
 fn read_slow<D: Desk>(
@@ -107,10 +98,8 @@ fn read_slow<D: Desk>(
 ) -> Result<BlockRead, CaptureFault>
     requires reading { IsTrue (D.view desk.old).reading }
     requires room { length buffer.old ≡ max_captured }
-    ensures block { ReadsBlock reader.old (D.view desk.old) (D.view desk.new)
-        (block_read reader.new buffer.new result) }
-    ensures within { StandsWithin max_captured result }
-    ensures stays { Stays reader.old reader.new result }
+    ensures { AnswersBlock reader.old reader.new buffer.new (D.view desk.old)
+        (D.view desk.new) result }
 {
     if reader.is_last() {
         return read_end(desk, reader);
@@ -138,38 +127,14 @@ fn read_rest<D: Desk>(
     requires few { is_last reader.old ≡ false }
     requires order { order ≡ reader.old.order }
     requires room { length buffer.old ≡ max_captured }
-    ensures block { (before : DeskView)
-        → HasRead reader.old (take front_len buffer.old) GoesOn before (D.view desk.old)
-        → ReadsBlock reader.old before (D.view desk.new)
-        (block_read reader.new buffer.new result) }
-    ensures within { StandsWithin max_captured result }
-    ensures stays { Stays reader.old reader.new result }
+    ensures { AnswersRest reader.old reader.new buffer.old buffer.new (D.view desk.old)
+        (D.view desk.new) result }
 {
     // Most blocks are packets, whose kind is settled where they are read.
     match reader.packet_front(order, &buffer[..FRONT_LEN]) {
         Some(front) => read_within(desk, reader, &front, buffer),
-        None => any_apart(desk, reader, buffer),
+        None => in_parts(read_any(desk, reader, buffer)),
     }
-}
-
-/// The same as [`read_any`], whose answer stands in memory here alone.
-#[inline(always)]
-fn any_apart<D: Desk>(
-    desk: &mut D,
-    reader: &mut Reader,
-    buffer: &mut [u8],
-) -> Result<BlockRead, CaptureFault>
-    requires reading { IsTrue (D.view desk.old).reading }
-    requires few { is_last reader.old ≡ false }
-    requires room { length buffer.old ≡ max_captured }
-    ensures block { (before : DeskView)
-        → HasRead reader.old (take front_len buffer.old) GoesOn before (D.view desk.old)
-        → ReadsBlock reader.old before (D.view desk.new)
-        (block_read reader.new buffer.new result) }
-    ensures within { StandsWithin max_captured result }
-    ensures stays { Stays reader.old reader.new result }
-{
-    in_parts(read_any(desk, reader, buffer))
 }
 
 /// Reads the rest of a block of any kind, of which `buffer` has the first twelve bytes.
@@ -182,12 +147,8 @@ fn read_any<D: Desk>(
     requires reading { IsTrue (D.view desk.old).reading }
     requires few { is_last reader.old ≡ false }
     requires room { length buffer.old ≡ max_captured }
-    ensures block { (before : DeskView)
-        → HasRead reader.old (take front_len buffer.old) GoesOn before (D.view desk.old)
-        → ReadsBlock reader.old before (D.view desk.new)
-        (block_read reader.new buffer.new result) }
-    ensures within { StandsWithin max_captured result }
-    ensures stays { Stays reader.old reader.new result }
+    ensures { AnswersRest reader.old reader.new buffer.old buffer.new (D.view desk.old)
+        (D.view desk.new) result }
 {
     let front = match reader.front(&buffer[..FRONT_LEN]) {
         Ok(front) => front,
@@ -212,12 +173,8 @@ fn read_within<D: Desk>(
     requires front { front_of reader.old (take front_len buffer.old) ≡ Ok front.now }
     requires room { length buffer.old ≡ max_captured }
     requires fits { front.now.total ≤ max_captured }
-    ensures block { (before : DeskView)
-        → HasRead reader.old (take front_len buffer.old) GoesOn before (D.view desk.old)
-        → ReadsBlock reader.old before (D.view desk.new)
-        (block_read reader.new buffer.new result) }
-    ensures within { StandsWithin max_captured result }
-    ensures stays { Stays reader.old reader.new result }
+    ensures { AnswersRest reader.old reader.new buffer.old buffer.new (D.view desk.old)
+        (D.view desk.new) result }
 {
     read_short(desk, reader, front, &mut buffer[..front.total as usize])
 }
@@ -230,14 +187,14 @@ fn read_front<D: Desk>(desk: &mut D, reader: &Reader, into: &mut [u8]) -> Result
     ensures { ReadsPart reader.now into.new (D.view desk.old) (D.view desk.new) result }
 {
     if reader.type_read {
-        return read_first(desk, reader, into);
+        return read_front_after_type(desk, reader, into);
     }
     fill(desk, into)
 }
 
 /// The same where no byte of the block was read before.
 #[inline(always)]
-fn read_more<D: Desk>(desk: &mut D, reader: &Reader, into: &mut [u8]) -> Result<usize, Failed>
+fn read_new_front<D: Desk>(desk: &mut D, reader: &Reader, into: &mut [u8]) -> Result<usize, Failed>
     requires reading { IsTrue (D.view desk.old).reading }
     requires room { length into.old ≡ front_len }
     requires first { reader.now.first ≡ [] }
@@ -248,7 +205,11 @@ fn read_more<D: Desk>(desk: &mut D, reader: &Reader, into: &mut [u8]) -> Result<
 
 /// The same where the type was read before.
 #[inline(never)]
-fn read_first<D: Desk>(desk: &mut D, reader: &Reader, into: &mut [u8]) -> Result<usize, Failed>
+fn read_front_after_type<D: Desk>(
+    desk: &mut D,
+    reader: &Reader,
+    into: &mut [u8],
+) -> Result<usize, Failed>
     requires reading { IsTrue (D.view desk.old).reading }
     requires room { length into.old ≡ front_len }
     requires first { reader.now.first ≡ section_bytes }
@@ -275,11 +236,8 @@ fn read_short<D: Desk>(
     requires front { front_of reader.old (take front_len block.old) ≡ Ok front.now }
     requires total { length block.old ≡ front.now.total }
     requires fits { front.now.total ≤ max_captured }
-    ensures block { (before : DeskView)
-        → HasRead reader.old (take front_len block.old) GoesOn before (D.view desk.old)
-        → ReadsBlock reader.old before (D.view desk.new) (block_read reader.new block.new result) }
-    ensures within { StandsWithin (length block.old) result }
-    ensures stays { Stays reader.old reader.new result }
+    ensures { AnswersRest reader.old reader.new block.old block.new (D.view desk.old)
+        (D.view desk.new) result }
 {
     let count = match fill(desk, &mut block[FRONT_LEN..]) {
         Ok(count) => count,
@@ -291,29 +249,8 @@ fn read_short<D: Desk>(
             reader.count_packet();
             Ok(BlockRead::Given(place))
         }
-        None => settle_apart(reader, *front, block, count),
+        None => in_parts(settle(reader, *front, block, count)),
     }
-}
-
-/// The same as [`settle`], whose answer stands in memory here alone.
-#[inline(always)]
-fn settle_apart(
-    reader: &mut Reader,
-    front: Front,
-    block: &[u8],
-    count: usize,
-) -> Result<BlockRead, CaptureFault>
-    requires few { is_last reader.old ≡ false }
-    requires front { front_of reader.old (take front_len block.now) ≡ Ok front }
-    requires total { length block.now ≡ front.total }
-    requires within { front_len + count ≤ length block.now }
-    ensures block { (before after : DeskView)
-        → HasRest reader.old block.now count before after
-        → ReadsBlock reader.old before after (block_read reader.new block.now result) }
-    ensures within { StandsWithin (length block.now) result }
-    ensures stays { Stays reader.old reader.new result }
-{
-    in_parts(settle(reader, front, block, count))
 }
 
 /// The same answer, made of its parts anew. A packet that is read at once then meets none in
@@ -347,11 +284,8 @@ fn settle(
     requires front { front_of reader.old (take front_len block.now) ≡ Ok front }
     requires total { length block.now ≡ front.total }
     requires within { front_len + count ≤ length block.now }
-    ensures block { (before after : DeskView)
-        → HasRest reader.old block.now count before after
-        → ReadsBlock reader.old before after (block_read reader.new block.now result) }
-    ensures within { StandsWithin (length block.now) result }
-    ensures stays { Stays reader.old reader.new result }
+    ensures { (before after : DeskView) → HasRest reader.old block.now count before after
+        → AnswersBlock reader.old reader.new block.now before after result }
 {
     let number = reader.count + 1;
     let len = FRONT_LEN + count;
@@ -377,10 +311,8 @@ fn settle(
 fn read_end<D: Desk>(desk: &mut D, reader: &Reader) -> Result<BlockRead, CaptureFault>
     requires reading { IsTrue (D.view desk.old).reading }
     requires last { is_last reader.now ≡ true }
-    ensures block { (now : BlockState) (buffer : List ℕ)
-        → ReadsBlock reader.now (D.view desk.old) (D.view desk.new)
-        (block_read now buffer result) }
-    ensures within { StandsWithin max_captured result }
+    ensures { (buffer : List ℕ)
+        → AnswersBlock reader.now reader.now buffer (D.view desk.old) (D.view desk.new) result }
 {
     if reader.type_read {
         return Err(CaptureFault::TooManyRecords);

@@ -5,9 +5,8 @@ ghost use Rattle.acl_outside.specs.Desk.{DeskView};
 ghost use Rattle.acl_outside.specs.Heard.{GoesOn};
 ghost use Rattle.pcap_reader.specs.Capture.{max_captured};
 ghost use Rattle.pcapng_reader.specs.Block.{BlockState, front_len, front_of, is_last};
-ghost use Rattle.pcapng_reader.specs.BlockReading.{EndIn, HasRead, HasRoom, IsHead, ReadsBlock};
-ghost use Rattle.pcapng_reader.specs.BlockReading.{ReadsMore, StandsWithin, Stays, block_read};
-ghost use Rattle.pcapng_reader.specs.BlockReading.{captured_by};
+ghost use Rattle.pcapng_reader.specs.BlockReading.{AnswersBlock, AnswersRest, EndIn, HasRead};
+ghost use Rattle.pcapng_reader.specs.BlockReading.{HasRoom, IsHead, ReadsMore, captured_by};
 ghost use Rattle.pcapng_reader.specs.declared.long.TheConstants.{PIECE_LEN};
 
 use crate::blocks::{BlockRead, FRONT_LEN, read_of};
@@ -36,12 +35,8 @@ pub fn read_long<D: Desk>(
     requires front { front_of reader.old (take front_len buffer.old) ≡ Ok front.now }
     requires room { length buffer.old ≡ max_captured }
     requires long { max_captured < front.now.total }
-    ensures block { (before : DeskView)
-        → HasRead reader.old (take front_len buffer.old) GoesOn before (D.view desk.old)
-        → ReadsBlock reader.old before (D.view desk.new)
-        (block_read reader.new buffer.new result) }
-    ensures within { StandsWithin max_captured result }
-    ensures stays { Stays reader.old reader.new result }
+    ensures { AnswersRest reader.old reader.new buffer.old buffer.new (D.view desk.old)
+        (D.view desk.new) result }
 {
     let number = reader.count + 1;
     let head = front.kind.head_len();
@@ -73,13 +68,10 @@ fn read_captured<D: Desk>(
     requires total { captured_by said + 32 ≤ front.now.total }
     requires head { head ≤ 28 }
     requires room { length buffer.old ≡ max_captured }
-    ensures block { (before : DeskView) (part : List ℕ)
+    ensures { (before : DeskView) (part : List ℕ)
         → IsHead reader.old front.now said head part
         → HasRead reader.old part GoesOn before (D.view desk.old)
-        → ReadsBlock reader.old before (D.view desk.new)
-        (block_read reader.new buffer.new result) }
-    ensures within { StandsWithin max_captured result }
-    ensures stays { Stays reader.old reader.new result }
+        → AnswersBlock reader.old reader.new buffer.new before (D.view desk.new) result }
 {
     let number = reader.count + 1;
     let captured = captured_by(said);

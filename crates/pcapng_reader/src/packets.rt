@@ -104,7 +104,8 @@ fn take_packet<D: Desk>(
     requires room { length buffer.old ≡ max_captured }
     ensures takes { TakesNext (Blocks reader.old) (Blocks reader.new)
         (D.view desk.old) (D.view desk.new) (answer_in buffer.new result) }
-    ensures within { IfOk result (λ place. IfSome place (λ p. p.at + p.len ≤ max_captured)) }
+    ensures within { IfOk result (λ place. IfSome place (λ p.
+        p.at + p.len ≤ length buffer.new)) }
 {
     if reader.has_ended() {
         return Ok(None);
@@ -134,7 +135,8 @@ fn read_packet<D: Desk>(
     requires room { length buffer.old ≡ max_captured }
     ensures packet { Finds reader.old reader.new (D.view desk.old) (D.view desk.new)
         (answer_in buffer.new result) }
-    ensures within { IfOk result (λ place. IfSome place (λ p. p.at + p.len ≤ max_captured)) }
+    ensures within { IfOk result (λ place. IfSome place (λ p.
+        p.at + p.len ≤ length buffer.new)) }
 {
     'passing: loop {
         match read_block(desk, reader, buffer) {

@@ -93,6 +93,16 @@ impl Reader {
         self.count >= MAX_RECORDS || self.blocks >= MAX_BLOCKS
     }
 
+    /// Whether the next block isn't read from its front on in the fast way: its type was read
+    /// before, or no block more may be read.
+    #[inline(always)]
+    pub fn takes_slow_way(&self) -> bool
+        ensures few { result ≡ false → is_last self.now ≡ false }
+        ensures first { result ≡ false → self.now.first ≡ [] }
+    {
+        self.is_last() || self.type_read
+    }
+
     /// What the first twelve bytes of the next block say, or why it is refused.
     #[inline]
     pub fn front(&self, bytes: &[u8]) -> Result<Front, CaptureFault>

@@ -1,5 +1,5 @@
 -- The rest of the block was read after its front: it is a whole packet, or is looked at again.
-use Rattle.std.proofs.Common.{◌≡◌, ℕ, ◌+◌, ◌-◌, ◌≤◌, List, ◌++◌, length, take, drop, Ok, refl, sym, subst, ap, ◌∙◌}
+use Rattle.std.proofs.Common.{◌≡◌, ℕ, ◌+◌, ◌-◌, ◌≤◌, List, ◌++◌, length, take, drop, Ok, sym, subst, ap, ◌∙◌}
 use Rattle.std.proofs.Common.{arith, length-append, length-take, length-drop}
 use Rattle.std.proofs.lemmas.List.{take_at, drop_at}
 use borrow.Rule.Slice.PartMut.{put_mid}
@@ -9,8 +9,9 @@ use Rattle.pcapng_reader.specs.Block.{BlockState, front_of, has_other_end, least
 use Rattle.pcapng_reader.specs.declared.front.Front.{Front}
 use Rattle.pcapng_reader.specs.declared.said.Said.TheVariants as said
 use Rattle.pcap_reader.specs.Fill.{Fills}
-use Rattle.pcapng_reader.specs.BlockReading.{HasRead, StandsWithin}
+use Rattle.pcapng_reader.specs.BlockReading.{HasRead}
 use Rattle.pcapng_reader.proofs.BlockLaws.{HasFront-from}
+use Rattle.pcapng_reader.proofs.ReadLaws.{answers_fault}
 use Rattle.pcapng_reader.proofs.ShortLaws.{HasFrontRead, block-filled, short-broken, short-whole}
 use Rattle.pcapng_reader.proofs.blocks.read_short.Goals as goal
 
@@ -54,8 +55,8 @@ is_filled block rest there fits =
       len = ap length parts ∙ omega (arith, there, fits, first, length-append (take 12 block) rest);
     }
 
-pub returns-in-Err-clause-block : goal.returns-in-Err-clause-block
-returns-in-Err-clause-block g c before h =
+pub returns-in-Err : goal.returns-in-Err
+returns-in-Err g c before h =
     let state = c.args.reader.now in
     let block = c.args.block.now in
     let is = cut state c.args.front.now block c.requires.front c.requires.total in
@@ -68,7 +69,7 @@ returns-in-Err-clause-block g c before h =
       total = is.total;
       read = h;
     } in
-    short-broken of_front c.in-Err.field-0 c.in-Err.ensures
+    answers_fault (short-broken of_front c.in-Err.field-0 c.in-Err.ensures)
 
 pub packet_at-requires-clause-there : goal.packet_at-requires-clause-there
 packet_at-requires-clause-there g c =
@@ -92,26 +93,26 @@ packet_at-requires-clause-within g c =
     let now = is_filled c.args.block.now c.fill.new.into is.there (c.fill.auto.into ∙ is.rest) in
     omega (arith, c.in-Ok.ensures.within, is.rest, now.len, is.there)
 
-pub settle_apart-requires-clause-front : goal.settle_apart-requires-clause-front
-settle_apart-requires-clause-front g c =
+pub settle-requires-clause-front : goal.settle-requires-clause-front
+settle-requires-clause-front g c =
     let is = cut c.args.reader.now c.args.front.now c.args.block.now c.requires.front c.requires.total in
     let now = is_filled c.args.block.now c.fill.new.into is.there (c.fill.auto.into ∙ is.rest) in
     ap (front_of c.args.reader.now) now.first ∙ c.requires.front
 
-pub settle_apart-requires-clause-total : goal.settle_apart-requires-clause-total
-settle_apart-requires-clause-total g c =
+pub settle-requires-clause-total : goal.settle-requires-clause-total
+settle-requires-clause-total g c =
     let is = cut c.args.reader.now c.args.front.now c.args.block.now c.requires.front c.requires.total in
     let now = is_filled c.args.block.now c.fill.new.into is.there (c.fill.auto.into ∙ is.rest) in
     now.len ∙ c.requires.total
 
-pub settle_apart-requires-clause-within : goal.settle_apart-requires-clause-within
-settle_apart-requires-clause-within g c =
+pub settle-requires-clause-within : goal.settle-requires-clause-within
+settle-requires-clause-within g c =
     let is = cut c.args.reader.now c.args.front.now c.args.block.now c.requires.front c.requires.total in
     let now = is_filled c.args.block.now c.fill.new.into is.there (c.fill.auto.into ∙ is.rest) in
     omega (arith, c.in-Ok.ensures.within, is.rest, now.len, is.there)
 
-pub returns-in-Some-clause-block : goal.returns-in-Some-clause-block
-returns-in-Some-clause-block g c since h =
+pub returns-in-Some : goal.returns-in-Some
+returns-in-Some g c since h =
     let state = c.args.reader.now in
     let front = c.args.front.now in
     let block = c.args.block.now in
@@ -131,28 +132,28 @@ returns-in-Some-clause-block g c since h =
       total = is.total;
       read = h;
     } in
-    rw (now.parts, c.count_packet.ensures, packet.start)
-    (short-whole of_front {E = Failed} (said.Packet place.link place.len)
-    (rw all at c.in-Ok.ensures) (omega (arith, is.least))
-    (ap (said_by front.kind state front) (sym now.parts)
-    ∙ ap (λ k. said_by k state front (put_mid 12 (length block - 12) block c.fill.new.into)) kind ∙ packet.says)
-    (ap (has_other_end front) (sym now.parts) ∙ packet.ends))
+    record {
+      block =
+          rw (now.parts, c.count_packet.ensures, packet.start)
+          (short-whole of_front {E = Failed} (said.Packet place.link place.len)
+          (rw all at c.in-Ok.ensures) (omega (arith, is.least))
+          (ap (said_by front.kind state front) (sym now.parts)
+          ∙ ap (λ k. said_by k state front (put_mid 12 (length block - 12) block c.fill.new.into)) kind ∙ packet.says)
+          (ap (has_other_end front) (sym now.parts) ∙ packet.ends));
+      within = packet.within;
+      stays = tt;
+    }
 
-pub returns-in-Some-clause-within : goal.returns-in-Some-clause-within
-returns-in-Some-clause-within g c =
-    let is = cut c.args.reader.now c.args.front.now c.args.block.now c.requires.front c.requires.total in
-    let now = is_filled c.args.block.now c.fill.new.into is.there (c.fill.auto.into ∙ is.rest) in
-    omega (arith, c.in-Some.ensures.1.within, now.len)
-
-pub returns-in-None-clause-block : goal.returns-in-None-clause-block
-returns-in-None-clause-block g c since h =
+pub returns-in-None : goal.returns-in-None
+returns-in-None g c since h =
     let state = c.args.reader.now in
     let block = c.args.block.now in
     let old = g.D.Desk.view c.args.desk.now in
     let new = g.D.Desk.view c.fill.new.desk in
     let is = cut state c.args.front.now block c.requires.front c.requires.total in
     let now = is_filled block c.fill.new.into is.there (c.fill.auto.into ∙ is.rest) in
-    c.settle_apart.ensures.block since new
+    rw c.in_parts.ensures
+    (c.settle.ensures since new
     (record {
       mid = old;
       before = take (length block - 12) (drop 12 block);
@@ -160,22 +161,4 @@ returns-in-None-clause-block g c since h =
       front = subst (λ l. HasRead state l GoesOn since old) (sym now.first) h;
       rest = subst (λ l. Fills {E = Failed} (take (length block - 12) (drop 12 block)) l old new (Ok c.in-Ok.count))
           (sym now.rest_is) c.in-Ok.ensures;
-    })
-
-pub returns-in-None-clause-within : goal.returns-in-None-clause-within
-returns-in-None-clause-within g c =
-    let is = cut c.args.reader.now c.args.front.now c.args.block.now c.requires.front c.requires.total in
-    let now = is_filled c.args.block.now c.fill.new.into is.there (c.fill.auto.into ∙ is.rest) in
-    subst (λ n. StandsWithin n c.settle_apart.result) now.len c.settle_apart.ensures.within
-
-pub returns-in-Err-clause-stays : goal.returns-in-Err-clause-stays
-returns-in-Err-clause-stays g c = refl
-
-pub returns-in-Err-clause-within : goal.returns-in-Err-clause-within
-returns-in-Err-clause-within g c = tt
-
-pub returns-in-Some-clause-stays : goal.returns-in-Some-clause-stays
-returns-in-Some-clause-stays g c = tt
-
-pub returns-in-None-clause-stays : goal.returns-in-None-clause-stays
-returns-in-None-clause-stays g c = c.settle_apart.ensures.stays
+    }))

@@ -6,9 +6,9 @@ use Rattle.acl_outside.specs.Heard.{GoesOn}
 use Rattle.pcap_reader.specs.Capture.{max_captured}
 use Rattle.pcapng_reader.specs.Block.{BlockState, front_of}
 use Rattle.pcapng_reader.specs.declared.front.Front.{Front}
-use Rattle.pcapng_reader.specs.BlockReading.{HasRead, ReadsBlock, StandsWithin}
+use Rattle.pcapng_reader.specs.BlockReading.{HasRead}
 use Rattle.pcapng_reader.proofs.BlockLaws.{HasFront-from, front_least}
-use Rattle.pcapng_reader.proofs.FrontLaws.{block_read-front, within-more}
+use Rattle.pcapng_reader.proofs.FrontLaws.{answers-front}
 use Rattle.pcapng_reader.proofs.blocks.read_within.Goals as goal
 
 -- the front of a block in a buffer is that of the buffer
@@ -29,23 +29,11 @@ read_short-requires-clause-front g c =
     rw (same_front c.args.reader.now c.args.front.now c.args.buffer.now c.requires.front
     (fits c.args.front.now c.args.buffer.now c.requires.fits c.requires.room)) at c.requires.front
 
-pub returns-clause-block : goal.returns-clause-block
-returns-clause-block g c before h =
+pub returns : goal.returns
+returns g c before h =
     let state = c.args.reader.now in
-    let new = g.D.Desk.view c.read_short.new.desk in
-    let total = c.args.front.now.total in
     let same = same_front state c.args.front.now c.args.buffer.now c.requires.front
     (fits c.args.front.now c.args.buffer.now c.requires.fits c.requires.room) in
-    subst (λ b. ReadsBlock state before new b)
-    (block_read-front c.read_short.new.reader c.read_short.new.block (drop total c.args.buffer.now) c.read_short.result
-    (subst (λ n. StandsWithin n c.read_short.result) (sym c.read_short.auto.block) c.read_short.ensures.within))
-    (c.read_short.ensures.block before
+    answers-front (drop c.args.front.now.total c.args.buffer.now)
+    (c.read_short.ensures before
     (subst (λ l. HasRead state l GoesOn before (g.D.Desk.view c.args.desk.now)) same h))
-
-pub returns-clause-within : goal.returns-clause-within
-returns-clause-within g c =
-    within-more (length (take c.args.front.now.total c.args.buffer.now)) _ c.read_short.result
-    (omega (arith, c.requires.room, length-take c.args.front.now.total c.args.buffer.now)) c.read_short.ensures.within
-
-pub returns-clause-stays : goal.returns-clause-stays
-returns-clause-stays g c = c.read_short.ensures.stays

@@ -1,5 +1,5 @@
 -- The block was read after its front, in full or not.
-use Rattle.std.proofs.Common.{◌≡◌, ℕ, ◌+◌, ◌≤◌, List, ◌++◌, length, take, drop, Ok, refl, sym, subst, ap, ◌∙◌}
+use Rattle.std.proofs.Common.{◌≡◌, ℕ, ◌+◌, ◌≤◌, List, ◌++◌, length, take, drop, Ok, sym, subst, ap, ◌∙◌}
 use Rattle.std.proofs.Common.{arith, length-take, length-drop}
 use Rattle.std.proofs.lemmas.List.{take-append-drop}
 use Rattle.acl_outside.specs.declared.desk.Failed.{Failed}
@@ -12,7 +12,7 @@ use Rattle.pcapng_reader.specs.BlockReading.{HasRest, ReadsBlock}
 use Rattle.pcapng_reader.proofs.BlockLaws.{HasFront-from}
 use Rattle.pcapng_reader.proofs.ShortLaws.{short-cut_head, short-refused, short-cut, other_end, same_end}
 use Rattle.pcapng_reader.proofs.ShortLaws.{HasFrontRead, short-other_end, short-whole}
-use Rattle.pcapng_reader.proofs.ReadLaws.{as_read}
+use Rattle.pcapng_reader.proofs.ReadLaws.{answers_fault, answers_read, within_block}
 use Rattle.pcapng_reader.proofs.blocks.settle.Goals as goal
 
 -- The front of a block was read, which has as many bytes more as its length says.
@@ -39,86 +39,67 @@ cut state front block count old new is total read =
       least = facts.least;
     }
 
-pub returns-then-len-least_len-clause-block : goal.returns-then-len-least_len-clause-block
-returns-then-len-least_len-clause-block c before after h =
+pub returns-then-len-least_len : goal.returns-then-len-least_len
+returns-then-len-least_len c before after h =
     let state = c.args.reader.now in
     let block = c.args.block.now in
     let is = cut state c.args.front block c.args.count before after c.requires.front c.requires.total h in
-    subst (λ n. ReadsBlock state before after (Fault (PngCut (n + 1)))) (sym (ap (λ s. s.count) c.reader.view_is))
+    answers_fault
+    (subst (λ n. ReadsBlock state before after (Fault (PngCut (n + 1)))) (sym (ap (λ s. s.count) c.reader.view_is))
     (short-cut_head is.of_front c.args.count h.rest
-    (omega (arith, c.if-len-least_len.true, c.least_len.ensures)) is.least)
+    (omega (arith, c.if-len-least_len.true, c.least_len.ensures)) is.least))
 
-pub returns-in-Err-clause-block : goal.returns-in-Err-clause-block
-returns-in-Err-clause-block c before after h =
+pub returns-in-Err : goal.returns-in-Err
+returns-in-Err c before after h =
     let state = c.args.reader.now in
     let front = c.args.front in
     let block = c.args.block.now in
     let is = cut state front block c.args.count before after c.requires.front c.requires.total h in
-    short-refused is.of_front c.args.count c.in-Err.fault h.rest
+    answers_fault
+    (short-refused is.of_front c.args.count c.in-Err.fault h.rest
     (omega (arith, c.if-len-least_len.false, c.least_len.ensures))
     (omega (arith, c.requires.within, c.requires.total, is.of_front.total))
-    (ap (said_by front.kind state front) is.parts ∙ sym c.said.ensures.said ∙ c.in-Err.is)
+    (ap (said_by front.kind state front) is.parts ∙ sym c.said.ensures.said ∙ c.in-Err.is))
 
-pub returns-then-len-block-clause-block : goal.returns-then-len-block-clause-block
-returns-then-len-block-clause-block c before after h =
+pub returns-then-len-block : goal.returns-then-len-block
+returns-then-len-block c before after h =
     let state = c.args.reader.now in
     let front = c.args.front in
     let block = c.args.block.now in
     let is = cut state front block c.args.count before after c.requires.front c.requires.total h in
-    subst (λ n. ReadsBlock state before after (Fault (PngCut (n + 1)))) (sym (ap (λ s. s.count) c.reader.view_is))
+    answers_fault
+    (subst (λ n. ReadsBlock state before after (Fault (PngCut (n + 1)))) (sym (ap (λ s. s.count) c.reader.view_is))
     (short-cut is.of_front c.args.count c.in-Ok.said h.rest
     (omega (arith, c.if-len-least_len.false, c.least_len.ensures))
     (omega (arith, c.if-len-block.true, c.requires.total, is.of_front.total))
-    (ap (said_by front.kind state front) is.parts ∙ sym c.said.ensures.said ∙ c.in-Ok.is))
+    (ap (said_by front.kind state front) is.parts ∙ sym c.said.ensures.said ∙ c.in-Ok.is)))
 
-pub returns-then-u32_in-front-clause-block : goal.returns-then-u32_in-front-clause-block
-returns-then-u32_in-front-clause-block c before after h =
+pub returns-then-u32_in-front : goal.returns-then-u32_in-front
+returns-then-u32_in-front c before after h =
     let state = c.args.reader.now in
     let front = c.args.front in
     let block = c.args.block.now in
     let is = cut state front block c.args.count before after c.requires.front c.requires.total h in
     let all : c.args.count ≡ length h.before =
     omega (arith, c.if-len-block.false, c.requires.within, c.requires.total, is.of_front.total) in
-    subst (λ n. ReadsBlock state before after (Fault (PngLength (n + 1)))) (sym (ap (λ s. s.count) c.reader.view_is))
+    answers_fault
+    (subst (λ n. ReadsBlock state before after (Fault (PngLength (n + 1)))) (sym (ap (λ s. s.count) c.reader.view_is))
     (short-other_end is.of_front {E = Failed} c.in-Ok.said (rw all at h.rest) (omega (arith, is.least))
     (ap (said_by front.kind state front) is.parts ∙ sym c.said.ensures.said ∙ c.in-Ok.is)
     (ap (has_other_end front) is.parts
-    ∙ other_end front block c.u32_in.result c.requires.total c.u32_in.ensures c.if-u32_in-front.true))
+    ∙ other_end front block c.u32_in.result c.requires.total c.u32_in.ensures c.if-u32_in-front.true)))
 
-pub returns-clause-block : goal.returns-clause-block
-returns-clause-block c before after h =
+pub returns : goal.returns
+returns c before after h =
     let state = c.args.reader.now in
     let front = c.args.front in
     let block = c.args.block.now in
     let is = cut state front block c.args.count before after c.requires.front c.requires.total h in
     let all : c.args.count ≡ length h.before =
     omega (arith, c.if-len-block.false, c.requires.within, c.requires.total, is.of_front.total) in
-    as_read (sym is.parts) c.learn.ensures c.read_of.ensures
+    answers_read c.in-Ok.said 28 (sym is.parts) c.learn.ensures c.read_of.ensures
+    (within_block c.in-Ok.said state front (length block) c.in-Ok.ensures.room (omega (arith, c.requires.total)))
     (short-whole is.of_front {E = Failed} c.in-Ok.said (rw all at h.rest) (omega (arith, is.least))
     (ap (said_by front.kind state front) is.parts ∙ sym c.said.ensures.said ∙ c.in-Ok.is)
     (ap (has_other_end front) is.parts
     ∙ same_end front block c.u32_in.result c.requires.total c.u32_in.ensures c.if-u32_in-front.false))
-
-pub returns-then-len-least_len-clause-stays : goal.returns-then-len-least_len-clause-stays
-returns-then-len-least_len-clause-stays c = refl
-
-pub returns-then-len-least_len-clause-within : goal.returns-then-len-least_len-clause-within
-returns-then-len-least_len-clause-within c = tt
-
-pub returns-in-Err-clause-stays : goal.returns-in-Err-clause-stays
-returns-in-Err-clause-stays c = refl
-
-pub returns-in-Err-clause-within : goal.returns-in-Err-clause-within
-returns-in-Err-clause-within c = tt
-
-pub returns-then-len-block-clause-stays : goal.returns-then-len-block-clause-stays
-returns-then-len-block-clause-stays c = refl
-
-pub returns-then-len-block-clause-within : goal.returns-then-len-block-clause-within
-returns-then-len-block-clause-within c = tt
-
-pub returns-then-u32_in-front-clause-stays : goal.returns-then-u32_in-front-clause-stays
-returns-then-u32_in-front-clause-stays c = refl
-
-pub returns-then-u32_in-front-clause-within : goal.returns-then-u32_in-front-clause-within
-returns-then-u32_in-front-clause-within c = tt

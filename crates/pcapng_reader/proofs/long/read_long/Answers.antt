@@ -1,5 +1,5 @@
 -- What says what the block is was read, and then the rest of it.
-use Rattle.std.proofs.Common.{◌≡◌, ℕ, ◌+◌, ◌-◌, ◌≤◌, List, ◌++◌, length, take, drop, refl, sym, subst, ap, ◌∙◌}
+use Rattle.std.proofs.Common.{◌≡◌, ℕ, ◌+◌, ◌-◌, ◌≤◌, List, ◌++◌, length, take, drop, sym, subst, ap, ◌∙◌}
 use Rattle.std.proofs.Common.{arith, length-append, length-take, length-drop}
 use Rattle.std.proofs.lemmas.List.{take_all}
 use borrow.Rule.Slice.PartMut.{put_mid}
@@ -11,7 +11,7 @@ use Rattle.pcapng_reader.specs.BlockReading.{ReadsBlock}
 use Rattle.pcapng_reader.proofs.BlockLaws.{HasFront-from, front-append}
 use Rattle.pcapng_reader.proofs.LongLaws.{head_cut, head_enough, head_most, head_packet, long-broken, long-cut_head}
 use Rattle.pcapng_reader.proofs.LongLaws.{long-refused, room_left}
-use Rattle.pcapng_reader.proofs.ReadLaws.{ReadsMore-refused}
+use Rattle.pcapng_reader.proofs.ReadLaws.{ReadsMore-refused, answers_fault}
 use Rattle.pcapng_reader.proofs.long.read_long.Goals as goal
 
 -- a front has twelve bytes
@@ -32,8 +32,8 @@ head_bytes buffer into head room least fits most =
       len,
     )
 
-pub returns-in-Err-clause-block : goal.returns-in-Err-clause-block
-returns-in-Err-clause-block g c before h =
+pub returns-in-Err : goal.returns-in-Err
+returns-in-Err g c before h =
     let state = c.args.reader.now in
     let front = c.args.front.now in
     let buffer = c.args.buffer.now in
@@ -49,7 +49,8 @@ returns-in-Err-clause-block g c before h =
       length-take (head - 12) (drop 12 buffer),
       length-drop 12 buffer,
     ) in
-    ReadsMore-refused state (take 12 buffer) (c.reader.inside.count + 1) before new
+    answers_fault
+    (ReadsMore-refused state (take 12 buffer) (c.reader.inside.count + 1) before new
     (λ (done : Unit {0}) (more : List ℕ). more ≡ c.fill_part.new.into) c.in-Err.fault _
     (c.in-Err.ensures.more state (take 12 buffer) before h)
     (λ more less read. subst (λ k. ReadsBlock state before new (Fault (PngCut (k + 1))))
@@ -57,10 +58,10 @@ returns-in-Err-clause-block g c before h =
     (long-cut_head state front (take 12 buffer) before new c.requires.front _ more less
     (omega (arith, twelve, count, head_cut front.kind (length more) (omega (arith, less, count)))) read))
     (long-broken state front (take 12 buffer) before new c.requires.front _
-    (omega (arith, twelve, count, head_most front.kind, c.requires.long)))
+    (omega (arith, twelve, count, head_most front.kind, c.requires.long))))
 
-pub returns-in-Err-said-clause-block : goal.returns-in-Err-said-clause-block
-returns-in-Err-said-clause-block g c before h =
+pub returns-in-Err-said : goal.returns-in-Err-said
+returns-in-Err-said g c before h =
     let state = c.args.reader.now in
     let front = c.args.front.now in
     let buffer = c.args.buffer.now in
@@ -71,7 +72,8 @@ returns-in-Err-said-clause-block g c before h =
     (omega (arith, c.head_len-head.ensures, enough.0)) c.fill_part.auto.into
     (omega (arith, c.head_len-head.ensures, head_most front.kind)) in
     let read = c.in-Ok.ensures.more state (take 12 buffer) before h in
-    long-refused state front (take 12 buffer ++ into) before (g.D.Desk.view c.fill_part.new.desk)
+    answers_fault
+    (long-refused state front (take 12 buffer ++ into) before (g.D.Desk.view c.fill_part.new.desk)
     (front-append state (take 12 buffer) into facts.few facts.there ∙ c.requires.front) c.in-Err-said.fault
     (omega (
       arith,
@@ -83,10 +85,10 @@ returns-in-Err-said-clause-block g c before h =
       length-append (take 12 buffer) into,
     ))
     (rw bytes.0 at (sym c.said.ensures.said ∙ c.in-Err-said.is))
-    (rw read.1 at read.2)
+    (rw read.1 at read.2))
 
-pub returns-clause-block : goal.returns-clause-block
-returns-clause-block g c before h =
+pub returns : goal.returns
+returns g c before h =
     let state = c.args.reader.now in
     let front = c.args.front.now in
     let buffer = c.args.buffer.now in
@@ -97,7 +99,7 @@ returns-clause-block g c before h =
     (omega (arith, c.head_len-head.ensures, enough.0)) c.fill_part.auto.into
     (omega (arith, c.head_len-head.ensures, head_most front.kind)) in
     let read = c.in-Ok.ensures.more state (take 12 buffer) before h in
-    c.read_captured.ensures.block before (take 12 buffer ++ into)
+    c.read_captured.ensures before (take 12 buffer ++ into)
     record {
       front_is = front-append state (take 12 buffer) into facts.few facts.there ∙ c.requires.front;
       says = rw bytes.0 at (sym c.said.ensures.said ∙ c.in-Ok-said.is);
@@ -132,21 +134,3 @@ read_captured-requires-clause-total g c =
 
 pub read_captured-requires-clause-head : goal.read_captured-requires-clause-head
 read_captured-requires-clause-head g c = omega (arith, c.head_len-head.ensures, head_most c.args.front.now.kind)
-
-pub returns-in-Err-clause-stays : goal.returns-in-Err-clause-stays
-returns-in-Err-clause-stays g c = refl
-
-pub returns-in-Err-clause-within : goal.returns-in-Err-clause-within
-returns-in-Err-clause-within g c = tt
-
-pub returns-in-Err-said-clause-stays : goal.returns-in-Err-said-clause-stays
-returns-in-Err-said-clause-stays g c = refl
-
-pub returns-in-Err-said-clause-within : goal.returns-in-Err-said-clause-within
-returns-in-Err-said-clause-within g c = tt
-
-pub returns-clause-stays : goal.returns-clause-stays
-returns-clause-stays g c = c.read_captured.ensures.stays
-
-pub returns-clause-within : goal.returns-clause-within
-returns-clause-within g c = c.read_captured.ensures.within

@@ -51,3 +51,6 @@ returns-in-Err-clause-packet g c =
     rw c.in-Err.ensures.stays
     (Finds-fault c.args.reader.now c.passing.reader (view c.args.desk.now) (view c.passing.desk)
     c.passing.invariant.passed c.in-Err.fault (view c.read_block.new.desk) c.in-Err.ensures.block)
+
+pub returns-in-Ok-Given-clause-within : goal.returns-in-Ok-Given-clause-within
+returns-in-Ok-Given-clause-within g c = rw c.in-Ok-Given.field-0-is at c.in-Ok-Given.ensures.within

@@ -31,4 +31,4 @@ returns-clause-within g c =
     let fits = c.take_packet.auto.buffer ∙ c.deref_mut.ensures.len in
     let whole = take_at lent (drop (length lent) inside.buffer.items) inside.buffer.len fits in
     subst (λ (n : ℕ). IfOk c.take_packet.result (λ place. IfSome place (λ p. p.at + p.len ≤ n)))
-    (sym (ap length whole ∙ fits ∙ c.self.invariant)) c.take_packet.ensures.within
+    (sym (ap length whole)) c.take_packet.ensures.within

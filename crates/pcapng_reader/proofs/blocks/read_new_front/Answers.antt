@@ -1,6 +1,6 @@
 -- No byte of the block was read before.
 use Rattle.pcapng_reader.proofs.ReadLaws.{ReadsPart-none}
-use Rattle.pcapng_reader.proofs.blocks.read_more.Goals as goal
+use Rattle.pcapng_reader.proofs.blocks.read_new_front.Goals as goal
 
 pub returns : goal.returns
 returns g c =

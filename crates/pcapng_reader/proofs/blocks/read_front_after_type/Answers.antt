@@ -7,7 +7,7 @@ use Rattle.acl_outside.specs.declared.desk.Failed.{Failed}
 use Rattle.pcapng_reader.specs.BlockReading.{HasBroken, ReadsPart}
 use Rattle.pcapng_reader.proofs.ReadLaws.{ReadsPart-ok, ReadsPart-failed}
 use Rattle.pcapng_reader.proofs.ShortLaws.{block-filled}
-use Rattle.pcapng_reader.proofs.blocks.read_first.Goals as goal
+use Rattle.pcapng_reader.proofs.blocks.read_front_after_type.Goals as goal
 
 -- what stands in the front
 front : (copied zeros rest : List ℕ) → length copied ≡ 4 → length zeros ≡ 12 →
