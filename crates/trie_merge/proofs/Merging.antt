@@ -1,6 +1,7 @@
 -- Merging the states of a place, one after the other.
 use Rattle.std.proofs.Common.{◌≡◌, ℕ, ◌+◌, ◌*◌, ◌<◌, ◌≤◌, List, [], ◌∷◌, ◌++◌, length, map, take, fold, Bool, true}
-use Rattle.std.proofs.Common.{false, cond, Option, Some, None, refl, sym, ◌∙◌, ap, arith}
+use Rattle.std.proofs.Common.{false, cond, Option, Some, None, refl, sym, ◌∙◌, ap, arith, length-append}
+use Rattle.std.proofs.Math.ListN.{get_or-append}
 use Rattle.std.proofs.lemmas.List.Elements.{All-from_recursion, recursion_from_All}
 use Rattle.std.specs.Prelude.{All, nat_eq}
 use Rattle.std.specs.List.Sorted.{IsStrictlyIncreasing}
@@ -21,7 +22,7 @@ use Rattle.state_parts.specs.declared.pieces.Piece.{Piece}
 use Rattle.state_parts.specs.declared.target.Target.{Target}
 use Rattle.state_parts.specs.declared.target.Target.TheVariants.{Parts, Rows}
 use Rattle.state_parts.specs.Pieces.{number_at}
-use Rattle.state_parts.specs.Target.{count}
+use Rattle.state_parts.specs.Target.{count, Grows}
 use Rattle.state_parts.proofs.Offered.{count_grows}
 use Rattle.list_lemmas.proofs.Tests.{bytes_eq_refl}
 use Rattle.list_lemmas.proofs.Each.{all_weaker, all-map}
@@ -33,9 +34,14 @@ use Rattle.group_states.specs.Levels.{runs_of}
 use Rattle.group_states.specs.Lists.{lists_with, successor, level_found, state_runs}
 use Rattle.group_states.specs.State.{is_live}
 use Rattle.group_states.specs.declared.run.Run.{Run}
+use Rattle.trie_merge.specs.declared.cuts.Cuts.{Cuts}
+use Rattle.trie_merge.specs.declared.merge.Budget.{Budget}
 use Rattle.trie_merge.specs.declared.merge.Place.{Place}
 use Rattle.trie_merge.specs.declared.merge.Progress.{Progress}
-use Rattle.trie_merge.specs.Merged.{runs_in, IsStateAdded, IsFirst, StateMerged, IsReady}
+use Rattle.trie_merge.specs.declared.merge.Merged.{Merged}
+use Rattle.trie_merge.specs.Merged.{numbers_of, target_of, total, runs_in, runs_by, IsFirst, StateMerged, IsReady}
+use Rattle.trie_merge.specs.Merged.{AddsState, CanMergeAll, CanAdd}
+use Rattle.trie_merge.specs.Priced.{IsNumber, AreNumbers}
 use Rattle.list_lemmas.proofs.Passing.{sum_by_const, AllZip-none, AllZip-last, AllZip-split}
 use Rattle.trie_merge.proofs.Leads.{none_led, led_on}
 use Rattle.trie_merge.proofs.Successors.{succ_stays, fold_long}
@@ -89,7 +95,7 @@ module _ (set : RuleSetView) (place : Place) where
 -- are found ahead are no more than it takes.
 pub record ListsSoFar (set : RuleSetView) (place : Place) (tree : RuleTree) (now : Progress)
     (lists : List (List ℕ)) : Type 0 where
-  pub finds : AreIn set now.merged.reached.target tree (found_from set place lists) now.merged.reached.found.keys
+  pub finds : AreIn set (target_of now.merged) tree (found_from set place lists) (numbers_of now.merged)
   pub its_runs : (more : List (List ℕ))
       → runs_in now.merged ≡ runs_among set place (found_from set place lists ++ more) lists
   pub priced : now.least ≤ least_cost place.next place.is_last (found_from set place lists)
@@ -97,36 +103,36 @@ pub record ListsSoFar (set : RuleSetView) (place : Place) (tree : RuleTree) (now
 -- So it is for each set, group and tree that the states are those of.
 pub record SoFar (place : Place) (before : ℕ) (pairs : List (ℕ × ℕ)) (old : Target) (done : List ℕ) (now : Progress) :
     Type 0 where
-  pub led : AllLed place.column pairs old now.merged.reached.target now.work.steps
+  pub led : AllLed place.column pairs old (target_of now.merged) now.work.steps
   pub sum : now.merged.words ≡ before + states_words (runs_in now.merged)
-  pub few : length now.merged.reached.found.keys ≤ now.least
-  pub rows : place.is_last ≡ true → row_len * length now.merged.reached.found.keys ≤ now.least
+  pub rows : place.is_last ≡ true → row_len * length (numbers_of now.merged) ≤ now.least
   pub lists : (set : RuleSetView) (group : List ℕ) (tree : RuleTree) (lists : List (List ℕ))
       → IsFor set place.is_last old → ArePlaced set group tree pairs lists done → ListsSoFar set place tree now lists
 
-module _ {column : ColumnView} {is_last : Bool} {pairs : List (ℕ × ℕ)} {new : Target} {found found' : List ℕ}
-    {runs runs' : List (List Run)} {state cost : ℕ}
-    (merged : StateMerged column is_last pairs new found found' runs runs' state cost) where
+module _ {place : Place} {pairs : List (ℕ × ℕ)} {state : ℕ} {old new : Merged}
+    (merged : StateMerged place pairs state old new) where
   -- the numbers that a state finds are there
-  pub inside_grows : {now : Target} {steps : List (List Piece)} → All (λ n. (0 < n) × (n ≤ count now)) found
-      → AllLed column pairs now new steps → All (λ n. (0 < n) × (n ≤ count new)) found'
-  inside_grows {now = now} inside led =
-      let there : ℕ → Type 0 = λ n. (0 < n) × (n ≤ count new) in
+  pub inside_grows : {steps : List (List Piece)} → AreNumbers (target_of old) (numbers_of old)
+      → AllLed place.column pairs (target_of old) (target_of new) steps → AreNumbers (target_of new) (numbers_of new)
+  inside_grows inside led =
+      let was : ℕ → Type 0 = λ n. IsNumber (target_of old) n in
+      let there : ℕ → Type 0 = λ n. IsNumber (target_of new) n in
       let number : ℕ → ℕ = number_at merged.pieces in
-      All-from_recursion there found'
+      All-from_recursion there (numbers_of new)
       (rw merged.finds
-      (all_found nat_eq is_some_number there found (map number all_bytes)
-      (all_weaker (λ n. (0 < n) × (n ≤ count now)) there found
-      (λ n is. (is.0, omega (arith, is.1, count_grows now new led.grows)))
-      (recursion_from_All (λ n. (0 < n) × (n ≤ count now)) found inside))
+      (all_found nat_eq is_some_number there (numbers_of old) (map number all_bytes)
+      (all_weaker was there (numbers_of old)
+      (λ n is. (is.0, omega (arith, is.1, count_grows (target_of old) (target_of new) led.grows)))
+      (recursion_from_All was (numbers_of old) inside))
       (all-map (λ n. is_some_number n ≡ true → there n) number all_bytes
       (all_weaker (λ byte. byte < 256) (λ byte. is_some_number (number byte) ≡ true → there (number byte)) all_bytes
       (λ byte below live. (ltb-true 0 (number byte) live, (merged.leads byte below).within)) bytes_below))))
 
   -- there are no more of them than one for each byte
-  pub few_more : (length found' ≤ length found + 256) × (length found ≤ length found')
+  pub few_more : (length (numbers_of new) ≤ length (numbers_of old) + 256)
+      × (length (numbers_of old) ≤ length (numbers_of new))
   few_more =
-      let long = fold_long found (map (number_at merged.pieces) all_bytes) in
+      let long = fold_long (numbers_of old) (map (number_at merged.pieces) all_bytes) in
       rw merged.finds
       (omega (arith, long.1, length-map all_bytes (number_at merged.pieces), length-all_bytes), long.0)
 
@@ -136,6 +142,18 @@ pub still_ask : {column : ColumnView} {pairs : List (ℕ × ℕ)} {old new : Tar
     → CanAsk next new
 still_ask None led ask on = tt
 still_ask (Some next) led ask on = λ entry has. ⊎_elim (ask entry) (on entry) (led.entries entry has)
+
+-- the cuts that are known stay those of the parts, where there are more of these
+pub cuts_stay : (next : Option ColumnView) (old new : Target) (known : List Cuts) → Grows old new
+    → CutsFor next old known → CutsFor next new known
+cuts_stay None old new known grows cuts = tt
+cuts_stay (Some next) (Parts pairs) (Parts now) known grows cuts = rw grows.1 (record {
+  few = omega (arith, cuts.few, length-append pairs grows.0);
+  each = λ k below. rw (get_or-append pairs grows.0 (0, 0) k (omega (arith, below, cuts.few))) (cuts.each k below);
+})
+cuts_stay (Some next) (Parts pairs) (Rows rows) known grows cuts = absurd grows
+cuts_stay (Some next) (Rows rows) (Parts pairs) known grows cuts = absurd grows
+cuts_stay (Some next) (Rows rows) (Rows now) known grows cuts = tt
 
 -- before the first part no cuts are known
 pub no_cuts_yet : (next : Option ColumnView) (target : Target) → CutsFor next target []
@@ -150,12 +168,11 @@ unfolding level_found found_in
 none_so_far place before pairs target progress first = record {
   led = rw (first.steps, first.reached) (none_led place.column pairs target);
   sum = rw (first.runs, first.ends) (omega (arith, first.words));
-  few = omega (arith, first.found);
   rows = λ last. omega (arith, first.found);
   lists = λ set group tree lists for placed.
       rw (AllZip-none (IsIn set (Parts pairs) tree) lists placed.each)
       (record {
-        finds = rw (nil_from_length progress.merged.reached.found.keys first.found) tt;
+        finds = rw (nil_from_length (numbers_of progress.merged) first.found) tt;
         its_runs = λ more. rw (first.runs, first.ends) refl;
         priced = omega (arith, first.least);
       });
@@ -163,9 +180,8 @@ none_so_far place before pairs target progress first = record {
 
 module _ {place : Place} {before : ℕ} {pairs : List (ℕ × ℕ)} {old : Target} {done : List ℕ} {now : Progress}
     (so_far : SoFar place before pairs old done now) where
-  module _ (order : RanksOrderRules) (law : TheBestHasTheGreatestRank) (new : Progress) {state : ℕ}
-      (led : AllLed place.column pairs now.merged.reached.target new.merged.reached.target new.work.steps)
-      (added : IsStateAdded place pairs state now new) where
+  module _ (order : RanksOrderRules) (law : TheBestHasTheGreatestRank) {new : Progress} {state : ℕ}
+      (added : AddsState place pairs state now new) where
     module _ {set : RuleSetView} {group : List ℕ} {tree : RuleTree} {lists : List (List ℕ)} {list : List ℕ}
         (for : IsFor set place.is_last old) (placed : ArePlaced set group tree pairs lists done)
         (is : IsState pairs tree list state) where
@@ -189,26 +205,26 @@ module _ {place : Place} {before : ℕ} {pairs : List (ℕ × ℕ)} {old : Targe
       after_lists = fold lists_with (found_from set place lists) (led_to set place list)
 
       byte_leads : (byte : ℕ) → byte < 256
-          → IsIn set new.merged.reached.target tree (next_list byte) (next_number byte)
+          → IsIn set (target_of new.merged) tree (next_list byte) (next_number byte)
       byte_leads byte below =
           state_leads set place.column place.is_last byte
-          (for_grows set place.is_last old new.merged.reached.target (led_on so_far.led led).grows for) is
+          (for_grows set place.is_last old (target_of new.merged) (led_on so_far.led added.led).grows for) is
           (added.merged.leads byte below)
 
-      found_after : AreIn set new.merged.reached.target tree after_lists new.merged.reached.found.keys
+      found_after : AreIn set (target_of new.merged) tree after_lists (numbers_of new.merged)
       found_after =
           rw added.merged.finds
-          (finds_alike set order law tree ascending inside new.merged.reached.target next_list next_number all_bytes
-          (found_from set place lists) now.merged.reached.found.keys
+          (finds_alike set order law tree ascending inside (target_of new.merged) next_list next_number all_bytes
+          (found_from set place lists) (numbers_of now.merged)
           (all_weaker (λ byte. byte < 256) _ all_bytes byte_leads bytes_below)
-          (are_grown set now.merged.reached.target new.merged.reached.target tree led.grows (found_from set place lists)
-          now.merged.reached.found.keys was.finds))
+          (are_grown set (target_of now.merged) (target_of new.merged) tree added.led.grows (found_from set place lists)
+          (numbers_of now.merged) was.finds))
 
       grown : (more : List (List ℕ)) × (after_lists ≡ found_from set place lists ++ more)
       grown = found_grows bytes_eq is_live (found_from set place lists) (led_to set place list)
 
       runs_here : (more : List (List ℕ))
-          → runs_of (λ byte. succ_of place.is_last new.merged.reached.found.keys (next_number byte))
+          → runs_of (λ byte. succ_of place.is_last (numbers_of new.merged) (next_number byte))
           ≡ state_runs set place.column place.is_last (after_lists ++ more) list
       runs_here more =
           let known : (byte : ℕ) → byte < 256 → is_new bytes_eq is_live after_lists (next_list byte) ≡ false =
@@ -216,8 +232,8 @@ module _ {place : Place} {before : ℕ} {pairs : List (ℕ × ℕ)} {old : Targe
           (none_new_once_found bytes_eq is_live bytes_eq_refl (found_from set place lists) (led_to set place list)) in
           same_runs _ _ (λ byte below.
           sym (succ_stays place.is_last (next_list byte) after_lists more (known byte below)
-          ∙ succ_alike set order law tree ascending inside new.merged.reached.target place.is_last (next_list byte)
-          (next_number byte) after_lists new.merged.reached.found.keys (byte_leads byte below) found_after))
+          ∙ succ_alike set order law tree ascending inside (target_of new.merged) place.is_last (next_list byte)
+          (next_number byte) after_lists (numbers_of new.merged) (byte_leads byte below) found_after))
 
       runs_before : (more : List (List ℕ)) → runs_in now.merged ≡ runs_among set place (after_lists ++ more) lists
       runs_before more = rw (grown.1, append_assoc (found_from set place lists) grown.0 more)
@@ -227,9 +243,9 @@ module _ {place : Place} {before : ℕ} {pairs : List (ℕ × ℕ)} {old : Targe
       one_more_list =
           let all = found_both set place lists (list ∷ [])
           ∙ ap (fold lists_with (found_from set place lists)) (append-nil (led_to set place list)) in
-          let long = length-AllZip (IsIn set now.merged.reached.target tree) (found_from set place lists)
-          now.merged.reached.found.keys was.finds in
-          let taken : take (length now.merged.reached.found.keys) after_lists ≡ found_from set place lists =
+          let long = length-AllZip (IsIn set (target_of now.merged) tree) (found_from set place lists)
+          (numbers_of now.merged) was.finds in
+          let taken : take (length (numbers_of now.merged)) after_lists ≡ found_from set place lists =
           rw (grown.1, long) (take-append_seam (found_from set place lists) grown.0) in
           record {
             finds = rw all found_after;
@@ -239,7 +255,7 @@ module _ {place : Place} {before : ℕ} {pairs : List (ℕ × ℕ)} {old : Targe
             priced = omega (
               arith,
               was.priced,
-              added.priced set tree after_lists ascending found_after,
+              added.priced.least set tree after_lists ascending found_after,
               added.its_least,
               ap (least_cost place.next place.is_last) taken,
               ap (least_cost place.next place.is_last) all,
@@ -249,16 +265,14 @@ module _ {place : Place} {before : ℕ} {pairs : List (ℕ × ℕ)} {old : Targe
     -- one more state
     pub one_more_state : SoFar place before pairs old (done ++ state ∷ []) new
     one_more_state =
-        let its : List Run = runs_of (λ byte.
-        succ_of place.is_last new.merged.reached.found.keys (number_at added.merged.pieces byte)) in
-        let more : states_words (runs_in new.merged) ≡ states_words (runs_in now.merged) + added.cost =
-        rw (added.merged.its_runs, added.merged.its_cost)
+        let its : List Run = runs_by place new.merged added.merged.pieces in
+        let more : states_words (runs_in new.merged) ≡ states_words (runs_in now.merged) + cost_of (length its) =
+        rw added.merged.its_runs
         (sum_by_push (λ (rs : List Run). cost_of (length rs)) (runs_in now.merged) its) in
         record {
-          led = led_on so_far.led led;
-          sum = omega (arith, so_far.sum, more, added.its_words);
-          few = omega (arith, so_far.few, added.some, added.its_least);
-          rows = λ last. omega (arith, so_far.rows last, added.rows last, added.its_least);
+          led = led_on so_far.led added.led;
+          sum = omega (arith, so_far.sum, more, added.merged.its_words);
+          rows = λ last. omega (arith, so_far.rows last, added.priced.rows last, added.its_least);
           lists = λ set group tree lists for placed.
               (let ends = AllZip-last (IsIn set (Parts pairs) tree) lists done state placed.each in
               rw ends.2
@@ -267,11 +281,11 @@ module _ {place : Place} {before : ℕ} {pairs : List (ℕ × ℕ)} {old : Targe
         }
 
   -- all states
-  pub all_merged : (cap : ℕ) → now.merged.words + now.least ≤ cap → (set : RuleSetView) (group : List ℕ)
+  pub all_merged : (cap : ℕ) → total now ≤ cap → (set : RuleSetView) (group : List ℕ)
       (tree : RuleTree) (lists : List (List ℕ)) → IsFor set place.is_last old
       → ArePlaced set group tree pairs lists done
       → IsMergedWithin set place.column place.is_last cap before lists (runs_in now.merged) now.merged.words
-      × AreIn set now.merged.reached.target tree (found_from set place lists) now.merged.reached.found.keys
+      × AreIn set (target_of now.merged) tree (found_from set place lists) (numbers_of now.merged)
   all_merged cap within set group tree lists for placed =
       let its = so_far.lists set group tree lists for placed in (
         record {
@@ -282,15 +296,15 @@ module _ {place : Place} {before : ℕ} {pairs : List (ℕ × ℕ)} {old : Targe
             arith,
             within,
             so_far.rows end,
-            length-AllZip (IsIn set now.merged.reached.target tree) (found_from set place lists)
-                now.merged.reached.found.keys its.finds,
+            length-AllZip (IsIn set (target_of now.merged) tree) (found_from set place lists)
+                (numbers_of now.merged) its.finds,
           );
         },
         its.finds,
       )
 
   -- the states so far exceed the cap
-  pub past_cap : (cap : ℕ) (more : List ℕ) → cap < now.merged.words + now.least → (set : RuleSetView)
+  pub past_cap : (cap : ℕ) (more : List ℕ) → cap < total now → (set : RuleSetView)
       (group : List ℕ) (tree : RuleTree) (lists : List (List ℕ)) → IsFor set place.is_last old
       → ArePlaced set group tree pairs lists (done ++ more)
       → cap < least_words set place.column place.next place.is_last before lists
@@ -321,9 +335,22 @@ pub first_ready : (place : Place) (before : ℕ) (pairs : List (ℕ × ℕ)) (ta
 first_ready place before pairs target progress first ask = record {
   led = (none_so_far place before pairs target progress first).led.led;
   pieces = rw (first.runs, first.ends) refl;
-  inside = All-from_recursion (λ n. (0 < n) × (n ≤ count progress.merged.reached.target))
-      progress.merged.reached.found.keys
-      (rw (nil_from_length progress.merged.reached.found.keys first.found) tt);
+  inside = All-from_recursion (λ n. IsNumber (target_of progress.merged) n)
+      (numbers_of progress.merged)
+      (rw (nil_from_length (numbers_of progress.merged) first.found) tt);
   ask = rw first.reached ask;
-  cuts = rw first.cuts (no_cuts_yet place.next progress.merged.reached.target);
+  cuts = rw first.cuts (no_cuts_yet place.next (target_of progress.merged));
+  few = omega (arith, first.found);
+}
+
+-- each state can be added, while the words are within the cap
+pub can_add : {place : Place} {budget : Budget} {pairs : List (ℕ × ℕ)} {states : List ℕ} {target : Target}
+    {progress : Progress} → CanMergeAll place budget pairs states target → IsReady place pairs progress
+    → total progress ≤ budget.cap → {state : ℕ} → IsNumber (Parts pairs) state
+    → CanAdd place pairs state progress
+can_add can ready within number = record {
+  number = number;
+  can = can.can;
+  ready = ready;
+  within = omega (arith, within, can.cap);
 }

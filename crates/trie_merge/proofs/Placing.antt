@@ -2,7 +2,7 @@
 use Rattle.std.proofs.Common.{◌≡◌, ℕ, ◌+◌, ◌*◌, ◌<◌, ◌≤◌, ◌==◌, ◌&&◌, List, [], ◌∷◌, ◌++◌, length, map, drop}
 use Rattle.std.proofs.Common.{get_or, replicate, Bool, true, false, Some, None, refl, sym, ◌∙◌, ap, subst}
 use Rattle.std.proofs.Common.{inl, inr, arith, append_assoc}
-use Rattle.std.specs.Prelude.{All, nat_lt}
+use Rattle.std.specs.Prelude.{nat_lt}
 use Rattle.std.specs.List.{AllByRecursion, list_any}
 use Rattle.std.proofs.lemmas.Bool.{cases_lt, eq-eqb, ne_eqb, lt-ltb, le-ltb, ltb-true, cond_both}
 use Rattle.std.proofs.lemmas.List.{drop_all, length-map, length-drop, length-replicate, append-nil, get_or-drop}
@@ -14,7 +14,7 @@ use Rattle.rule_set.specs.Rule.{RuleSetView}
 use Rattle.node_expand.specs.declared.edge.Edge.TheVariants.{Free}
 use Rattle.state_parts.specs.Rows.{rule_of}
 use Rattle.state_parts.specs.RowsView.{RowsView}
-use Rattle.state_parts.specs.Target.{count, HasEntry}
+use Rattle.state_parts.specs.Target.{HasEntry}
 use Rattle.state_parts.specs.declared.target.Target.{Target}
 use Rattle.state_parts.specs.declared.target.Target.TheVariants.{Parts, Rows}
 use Rattle.table_sizes.specs.Sizes.{cost_of, row_len}
@@ -38,11 +38,15 @@ use Rattle.list_lemmas.proofs.Spans.{all_of_mapped, map_as_filter_map}
 use Rattle.trie_merge.proofs.Zipped.{for_grows, state_live}
 use Rattle.trie_merge.specs.Cuts.{CanGoOn}
 use Rattle.trie_merge.specs.Led.{ComesFrom}
-use Rattle.trie_merge.specs.Merged.{PlaceMerged}
+use Rattle.trie_merge.specs.Gathered.{GathersGroup}
+use Rattle.trie_merge.specs.Merged.{PlaceMerged, numbers_of, runs_in, target_of}
 use Rattle.trie_merge.specs.Names.{ranked_of}
 use Rattle.trie_merge.specs.Shared.{RuleTree, IsState, AreIn, ArePlaced, IsFor}
-use Rattle.trie_merge.specs.Started.{IsStarted, AreRows}
-use Rattle.trie_merge.specs.Places.{next_of, place_of, IsGroupMerged, AreStates}
+use Rattle.trie_merge.specs.Started.{IsStarted}
+use Rattle.trie_merge.specs.Places.{next_of, place_of, AreStates}
+use Rattle.trie_merge.specs.Priced.{AreNumbers}
+use Rattle.trie_merge.specs.declared.build.Gathered.{Gathered}
+use Rattle.trie_merge.specs.declared.merge.Merged.{Merged}
 use Rattle.trie_merge.specs.Words.{states_words, least_cost, least_words}
 use Rattle.trie_merge.specs.declared.merge.Reached.{Reached}
 
@@ -94,7 +98,7 @@ module _ (set : RuleSetView) (group : List ℕ) where
     pub within : words ≤ cap
     pub whole : length places ≤ place → words + row_len * length lists ≤ cap
     pub each : AreIn set target tree lists numbers
-    pub inside : All (λ n. (0 < n) × (n ≤ count target)) numbers
+    pub inside : AreNumbers target numbers
     pub kind : IsFor set (place == length places) target
     pub entries : place < length places → (entry : ℕ) → HasEntry target entry → EntryOf (get_or places place 0) entry
 
@@ -300,20 +304,20 @@ module _ (set : RuleSetView) (group : List ℕ) where
           }
 
       -- the next place
-      pub placed_on : {new : Target} {runs : List (List Run)} {found' : List ℕ} {words' : ℕ}
+      pub placed_on : {new : Merged}
           → ((pairs : List (ℕ × ℕ)) → target ≡ Parts pairs
-          → PlaceMerged set (column place) (is_last place) cap words pairs numbers new found' runs words')
-          → Placed cap (place + 1) (levels ++ runs ∷ []) new found' words'
-      placed_on {new = new} {runs = runs} merges =
+          → PlaceMerged set (column place) (is_last place) (record { cap = cap; before = words }) pairs numbers new)
+          → Placed cap (place + 1) (levels ++ runs_in new ∷ []) (target_of new) (numbers_of new) new.words
+      placed_on {new = new} merges =
           let merged = merges parts.0 parts.1 in
-          let both = merged.merged group so_far.tree so_far.lists placed in
+          let both = merged.each group so_far.tree so_far.lists placed in
           let within = rw (so_far.states below) at both.0 in
           let split = runs_split place below in
           record {
             lists = found place;
             tree = so_far.tree;
             rules = so_far.rules;
-            runs = append_assoc levels (runs ∷ []) (runs_from (drop (place + 1) places))
+            runs = append_assoc levels (runs_in new ∷ []) (runs_from (drop (place + 1) places))
                 ∙ cc (so_far.runs, within.its_runs);
             states = found_next place below;
             rows = found_rows place below;
@@ -322,7 +326,7 @@ module _ (set : RuleSetView) (group : List ℕ) where
             whole = λ h. within.whole (eq-eqb (place + 1) (length places) (omega (arith, h, below)));
             each = rw (so_far.states below) at both.1;
             inside = merged.inside;
-            kind = for_grows set (is_last place) merged.old new merged.led.grows merged.kind;
+            kind = for_grows set (is_last place) merged.old (target_of new) merged.led.grows merged.kind;
             entries = λ more entry has. elim (merged.led.entries entry has) [
               | inl was ↦ absurd (merged.none entry was)
               | inr comes ↦ next_entry parts.0 parts.1 more entry comes
@@ -355,23 +359,33 @@ module _ (set : RuleSetView) (group : List ℕ) where
     }
 
     -- after the last place all is merged
-    pub placed_end : {cap place : ℕ} {levels : List (List (List Run))} {target : Target} {numbers : List ℕ} {words : ℕ}
-        → Placed cap place levels target numbers words → place ≡ length places
-        → IsGroupMerged set group cap levels words × AreRows set group target numbers
+    pub placed_end : {cap place : ℕ} (gathered : Gathered)
+        → Placed cap place gathered.levels.items gathered.reached.target gathered.reached.found.keys gathered.words
+        → place ≡ length places → GathersGroup set group cap gathered
     unfolding level_runs levels_of
-    placed_end {place = place} {levels = levels} {target = target} so_far end =
+    placed_end {place = place} gathered so_far end =
         let none : drop place places ≡ [] = drop_all place places (omega (arith, end)) in
-        let rows = so_far.rows (omega (arith, end)) in (
-          record {
-            runs = sym (append-nil levels) ∙ (rw none at so_far.runs);
-            sum = omega (arith, rw none at so_far.sum);
-            within = omega (arith, so_far.whole (omega (arith, end)), ap length rows);
-          },
-          record {
+        let rows = so_far.rows (omega (arith, end)) in
+        let target : Target = gathered.reached.target in
+        record {
+          runs = sym (append-nil gathered.levels.items) ∙ (rw none at so_far.runs);
+          sum = omega (arith, rw none at so_far.sum);
+          within = omega (arith, so_far.whole (omega (arith, end)), ap length rows);
+          rows = record {
             tree = so_far.tree;
             rules = so_far.rules;
             rows = rows_for set target (rw (eq-eqb place (length places) end) at so_far.kind);
             each = rw rows at so_far.each;
             inside = so_far.inside;
-          },
-        )
+          };
+        }
+
+-- what is within a cap is within a greater one
+pub within_more : {set : RuleSetView} {group : List ℕ} {cap most : ℕ} {gathered : Gathered}
+    → GathersGroup set group cap gathered → cap ≤ most → GathersGroup set group most gathered
+within_more its more = record {
+  runs = its.runs;
+  sum = its.sum;
+  within = omega (arith, its.within, more);
+  rows = its.rows;
+}

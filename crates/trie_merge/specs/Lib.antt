@@ -1,10 +1,12 @@
 pub mod Asked
 pub mod Cuts
+pub mod Gathered
 pub mod Led
 pub mod Merged
 pub mod Names
 pub mod Numbers
 pub mod Places
+pub mod Priced
 pub mod Shared
 pub mod Started
 pub mod Wild

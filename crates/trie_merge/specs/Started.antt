@@ -1,6 +1,6 @@
 -- The state before the first byte, and the rows after a whole key, as numbers.
 use Rattle.std.specs.List.{list_any}
-use Rattle.std.specs.Prelude.{◌≡◌, ℕ, ◌==◌, ◌<◌, ◌≤◌, List, [], ◌∷◌, length, map, true, All, Contains}
+use Rattle.std.specs.Prelude.{◌≡◌, ℕ, ◌==◌, ◌≤◌, List, [], ◌∷◌, length, map, true, Contains}
 use Rattle.node_expand.specs.declared.edge.Edge.TheVariants.{Free}
 use Rattle.rule_set.specs.Rule.{RuleSetView}
 use Rattle.state_parts.specs.declared.target.Target.{Target}
@@ -8,10 +8,10 @@ use Rattle.state_parts.specs.declared.target.Target.TheVariants.{Parts, Rows}
 use Rattle.state_parts.specs.RowsView.{RowsView}
 use Rattle.state_parts.specs.Keys.{has_entry}
 use Rattle.state_parts.specs.Joined.{IsAll}
-use Rattle.state_parts.specs.Target.{count}
 use Rattle.group_states.specs.Entry.{entry_of}
 use Rattle.group_states.specs.Row.{rows_of}
 use Rattle.trie_merge.specs.Names.{ranked_of}
+use Rattle.trie_merge.specs.Priced.{AreNumbers}
 use Rattle.trie_merge.specs.Shared.{RuleTree, AreIn}
 use Rattle.trie_merge.specs.declared.order.Keyed.{Keyed}
 
@@ -48,4 +48,4 @@ pub record AreRows (set : RuleSetView) (group : List ℕ) (target : Target)
   pub rules : tree.rules ≡ group
   pub rows : (rows : RowsView) × (target ≡ Rows rows) × (rows.ranked ≡ ranked_of set)
   pub each : AreIn set target tree (rows_of set group) numbers
-  pub inside : All (λ number. (0 < number) × (number ≤ count target)) numbers
+  pub inside : AreNumbers target numbers

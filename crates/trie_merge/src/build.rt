@@ -1,23 +1,19 @@
 //! From the rules of a group to its merged states.
 
-ghost use Rattle.std.specs.Prelude.{◌≡◌, ℕ, ◌<◌, ◌≤◌, ◌^◌, ◌+◌, ◌==◌, []};
-ghost use Rattle.std.specs.Prelude.{map, length, slice_index_or, true, None, min, All, OnOk, IfOk};
-ghost use Rattle.std.specs.Prelude.{IfSome};
+ghost use Rattle.std.specs.Prelude.{◌≡◌, ℕ, ◌<◌, ◌≤◌, ◌^◌, ◌+◌, []};
+ghost use Rattle.std.specs.Prelude.{map, length, min, All, OnOk, IfOk};
 ghost use Rattle.node_expand.specs.declared.edge.Edge.TheVariants.{Free};
-ghost use Rattle.field_defs.specs.Layout.{key_len_of};
-ghost use Rattle.state_parts.specs.Target.{HasEntry};
 ghost use Rattle.table_sizes.specs.Sizes.{max_words};
-ghost use Rattle.group_states.specs.Entry.{entry_of, column_at};
+ghost use Rattle.group_states.specs.Entry.{entry_of};
 ghost use Rattle.group_states.specs.Kept.{kept_places, kept_bits};
 ghost use Rattle.group_states.specs.Laws.{IsGrouped};
 ghost use Rattle.group_states.specs.Levels.{IsGroup, levels_of};
-ghost use Rattle.trie_merge.specs.Merged.{ArePieces};
 ghost use Rattle.group_states.specs.Row.{rows_of};
-ghost use Rattle.trie_merge.specs.Shared.{IsFor};
+ghost use Rattle.trie_merge.specs.Gathered.{CanMergeGroup, GathersGroup, IsBegun};
+ghost use Rattle.trie_merge.specs.Places.{AreInKey, CanMergePlace, IsEmptyFor, IsKnown};
+ghost use Rattle.trie_merge.specs.Places.{IsPlaceAt, IsPlaceOver, MergesPlace, next_of};
 ghost use Rattle.trie_merge.specs.Started.{numbers_in, AreJoined, IsStarted, AreRows};
 ghost use Rattle.trie_merge.specs.declared.order.Keyed.{Keyed};
-ghost use Rattle.trie_merge.specs.Places.{next_of, place_of, AreStates, IsPlaceMerged, IsPlaceOver};
-ghost use Rattle.trie_merge.specs.Places.{IsGroupMerged};
 
 use crate::column::Column;
 use crate::entry::entry_of;
@@ -91,19 +87,14 @@ struct Gathered {
 }
 
 impl Gathered {
-    ghost use Rattle.std.specs.Prelude.{◌≡◌, ◌++◌, ◌∷◌, [], OnOk};
-    ghost use Rattle.trie_merge.specs.Merged.{ArePieces, runs_in};
+    ghost use Rattle.std.specs.Prelude.{◌≡◌, OnOk};
+    ghost use Rattle.trie_merge.specs.Gathered.{TakesIn};
+    ghost use Rattle.trie_merge.specs.Merged.{ArePieces};
 
     /// Goes on to what the states of one more place come to.
     fn push(&mut self, merged: Merged) -> Result<(), AllocError>
         requires { ArePieces merged }
-        ensures levels { OnOk result
-            (self.new.levels.items ≡ self.old.levels.items ++ runs_in merged ∷ []) }
-        ensures target { OnOk result (self.new.reached.target ≡ merged.reached.target) }
-        ensures found { OnOk result
-            (self.new.reached.found.keys ≡ merged.reached.found.keys) }
-        ensures words { OnOk result (self.new.words ≡ merged.words) }
-        ensures ahead { self.new.ahead ≡ self.old.ahead }
+        ensures { OnOk result (TakesIn merged self.old self.new) }
     {
         self.reached = merged.reached;
         self.words = merged.words;
@@ -126,8 +117,7 @@ fn next_column(
     places: &[usize],
     j: usize,
 ) -> Result<Option<Column>, AllocError>
-    requires places { (k : ℕ) → k < length places.now
-        → slice_index_or places.now k 0 < key_len_of rules.now.layout }
+    requires places { AreInKey rules.now places.now }
     requires j { j < length places.now }
     ensures { IfOk result (λ next. next ≡ next_of rules.now places.now j) }
 {
@@ -147,15 +137,10 @@ fn place_at(
     j: usize,
     ahead: Option<Column>,
 ) -> Result<Place, AllocError>
-    requires places { (k : ℕ) → k < length places.now
-        → slice_index_or places.now k 0 < key_len_of rules.now.layout }
+    requires places { AreInKey rules.now places.now }
     requires j { j < length places.now }
-    requires ahead { IfSome ahead (λ column. column ≡ place_of rules.now places.now j) }
-    ensures column { IfOk result
-        (λ place. place.column ≡ column_at rules.now (slice_index_or places.now j 0)) }
-    ensures is_last { IfOk result (λ place. place.is_last ≡ (j + 1 == length places.now)) }
-    ensures next { IfOk result (λ place. place.next ≡ next_of rules.now places.now j) }
-    ensures last { IfOk result (λ place. place.is_last ≡ true → place.next ≡ None) }
+    requires ahead { IsKnown rules.now places.now j ahead }
+    ensures { IfOk result (IsPlaceAt rules.now places.now j) }
 {
     let column = match ahead {
         Some(column) => column,
@@ -176,8 +161,7 @@ fn start_target(
     is_last: bool,
     before: usize,
 ) -> Result<Target, AllocError>
-    ensures kind { IfOk result (λ target. IsFor rules.now is_last target) }
-    ensures none { IfOk result (λ target. (entry : ℕ) → HasEntry target entry → ⊥) }
+    ensures { IfOk result (IsEmptyFor rules.now is_last) }
 {
     if is_last {
         let ranked = rank_rules(alloc, rules)?;
@@ -198,17 +182,9 @@ fn merge_place(
     reached: &Reached,
     ahead: &mut Option<Column>,
 ) -> Result<Merged, MergeFault>
-    requires places { (k : ℕ) → k < length places.now
-        → slice_index_or places.now k 0 < key_len_of rules.now.layout }
-    requires j { j < length places.now }
-    requires cap { budget.cap ≤ max_words }
-    requires before { budget.before ≤ budget.cap }
-    requires states { AreStates rules.now places.now j reached.now }
-    requires ahead { IfSome ahead.old (λ column. column ≡ place_of rules.now places.now j) }
-    ensures ahead { OnOk result (ahead.new ≡ next_of rules.now places.now j) }
+    requires { CanMergePlace rules.now places.now j budget reached.now ahead.old }
     ensures merged { IfOk result
-        (λ merged. IsPlaceMerged rules.now places.now j budget reached.now merged) }
-    ensures pieces { IfOk result (λ merged. ArePieces merged) }
+        (MergesPlace rules.now places.now j budget reached.now ahead.new) }
     ensures over { (result ≡ Err MergeFault.OverCap) →
         IsPlaceOver rules.now places.now j budget reached.now }
 {
@@ -234,18 +210,9 @@ fn merge_places(
     places: &[usize],
     gathered: &mut Gathered,
 ) -> Result<(), MergeFault>
-    requires group { IsGrouped rules.now group.now }
-    requires cap { cap ≤ max_words }
-    requires places { places.now ≡ kept_places rules.now group.now }
-    requires start { IsStarted group.now gathered.old.reached.target
-        gathered.old.reached.found.keys }
-    requires levels { gathered.old.levels.items ≡ [] }
-    requires words { gathered.old.words ≡ 0 }
-    requires ahead { gathered.old.ahead ≡ None }
-    ensures merged { OnOk result
-        (IsGroupMerged rules.now group.now cap gathered.new.levels.items gathered.new.words) }
-    ensures rows { OnOk result
-        (AreRows rules.now group.now gathered.new.reached.target gathered.new.reached.found.keys) }
+    requires can { CanMergeGroup rules.now group.now cap places.now }
+    requires begun { IsBegun group.now gathered.old }
+    ensures merged { OnOk result (GathersGroup rules.now group.now cap gathered.new) }
     ensures over { (result ≡ Err MergeFault.OverCap) → cap < (levels_of rules.now group.now).words }
 {
     for j in 0..places.len() {
@@ -269,13 +236,8 @@ fn merge_group(
     cap: u64,
     places: &[usize],
 ) -> Result<Gathered, MergeFault>
-    requires group { IsGrouped rules.now group.now }
-    requires cap { cap ≤ max_words }
-    requires places { places.now ≡ kept_places rules.now group.now }
-    ensures merged { IfOk result
-        (λ its. IsGroupMerged rules.now group.now cap its.levels.items its.words) }
-    ensures rows { IfOk result
-        (λ its. AreRows rules.now group.now its.reached.target its.reached.found.keys) }
+    requires { CanMergeGroup rules.now group.now cap places.now }
+    ensures merged { IfOk result (GathersGroup rules.now group.now cap) }
     ensures over { (result ≡ Err MergeFault.OverCap) → cap < (levels_of rules.now group.now).words }
 {
     let reached = start(alloc, rules, group, places)?;
@@ -365,10 +327,7 @@ fn finish(
 ) -> Result<Levels, AllocError>
     requires group { IsGrouped rules.now group.now }
     requires kept { kept ≡ kept_bits rules.now group.now }
-    requires merged { IsGroupMerged rules.now group.now max_words gathered.levels.items
-        gathered.words }
-    requires rows { AreRows rules.now group.now gathered.reached.target
-        gathered.reached.found.keys }
+    requires merged { GathersGroup rules.now group.now max_words gathered }
     ensures { IfOk result (λ levels. levels ≡ levels_of rules.now group.now) }
 {
     let rows = finish_rows(alloc, rules, group, &gathered.reached)?;

@@ -1,20 +1,12 @@
 //! The states of one kept place, one after the other: their runs, their words, and the states or
 //! rows that they lead to.
 
-ghost use Rattle.std.specs.Prelude.{◌≡◌, ℕ, ◌<◌, ◌+◌, ◌*◌, ◌^◌, ◌≤◌, List, length, take, All};
-ghost use Rattle.std.specs.Prelude.{true, false, Some, None, OnOk, IfOk};
-ghost use Rattle.std.specs.List.Sorted.{IsStrictlyIncreasing};
-ghost use Rattle.rule_set.specs.Rule.{RuleSetView};
-ghost use Rattle.state_parts.specs.Keys.{has_entry};
-ghost use Rattle.state_parts.specs.Target.{count};
-ghost use Rattle.table_sizes.specs.Sizes.{cost_of, max_words, row_len};
+ghost use Rattle.std.specs.Prelude.{◌≡◌, ℕ, ◌<◌, ◌+◌, ◌≤◌, length, false, Some, OnOk, IfOk};
+ghost use Rattle.table_sizes.specs.Sizes.{cost_of};
+ghost use Rattle.trie_merge.specs.Merged.{AddsState, AreMerged, AreOver, CanAdd, CanMergeAll};
+ghost use Rattle.trie_merge.specs.Merged.{IsFirst, MergesState, target_of};
+ghost use Rattle.trie_merge.specs.Priced.{AreNumbers, ArePriced, CanPrice, IsNumber, IsPriced};
 ghost use Rattle.trie_merge.specs.Cuts.{CanAsk, CutsFor};
-ghost use Rattle.group_states.specs.Entry.{CanStep};
-ghost use Rattle.trie_merge.specs.Led.{StepsLed, AllLed};
-ghost use Rattle.trie_merge.specs.Words.{price, least_cost};
-ghost use Rattle.trie_merge.specs.Merged.{ArePieces, IsStateMerged, IsStateAdded, CanMerge};
-ghost use Rattle.trie_merge.specs.Merged.{IsFirst, IsReady, AreMerged, AreOver};
-ghost use Rattle.trie_merge.specs.Shared.{RuleTree, IsIn, AreIn};
 
 use crate::column::Column;
 use crate::cuts::{Cuts, fill_cuts, words_of};
@@ -149,135 +141,6 @@ struct Work {
     buffer: Vec<Piece>,
 }
 
-/// Merges what one state leads to into the others, and gives the state's words.
-fn merge_state(
-    place: &Place,
-    parts: &Parts,
-    state: u32,
-    work: &mut Work,
-    merged: &mut Merged,
-) -> Result<u64, AllocError>
-    requires state { (0 < state) × (state ≤ length parts.now) }
-    requires can { (entry : ℕ) → has_entry parts.now entry ≡ true → CanStep place.now.column entry }
-    requires led { StepsLed place.now.column parts.now merged.old.reached.target work.old.steps }
-    requires room { length merged.old.reached.found.keys + 256 < 2 ^ 32 }
-    requires pieces { ArePieces merged.old }
-    ensures led { OnOk result (AllLed place.now.column parts.now merged.old.reached.target
-        merged.new.reached.target work.new.steps) }
-    ensures merged { IfOk result (λ cost. IsStateMerged place.now parts.now state merged.old
-        merged.new cost) }
-    ensures cuts { OnOk result (work.new.cuts.items ≡ work.old.cuts.items) }
-    ensures words { OnOk result (merged.new.words ≡ merged.old.words) }
-    ensures pieces { OnOk result (ArePieces merged.new) }
-    ensures bound { IfOk result (λ cost. (0 < cost) × (cost ≤ 256)) }
-{
-    let until = state as usize;
-    let reached = &mut merged.reached;
-    let pieces = &mut merged.pieces;
-    lead_parts(
-        &place.column,
-        parts,
-        &mut work.steps,
-        &mut reached.target,
-        until,
-        &mut work.buffer,
-    )?;
-    let start = pieces.runs.len();
-    let its = work.steps.pieces(until - 1);
-    join_runs(place.is_last, its, &mut reached.found, &mut pieces.runs)?;
-    let end = pieces.runs.len();
-    pieces.ends.push(end)?;
-    Ok(cost_of(end - start))
-}
-
-/// How many words a state that is found takes at least, by the bytes at which its part changes what
-/// it leads to.
-fn price_ahead(
-    next: &Column,
-    target: &Target,
-    cuts: &mut Vec<Cuts>,
-    number: u32,
-) -> Result<u64, AllocError>
-    requires ask { CanAsk (Some next.now) target.now }
-    requires cuts { CutsFor (Some next.now) target.now cuts.old.items }
-    requires some { 0 < number }
-    requires there { number ≤ count target.now }
-    ensures cuts { OnOk result (CutsFor (Some next.now) target.now cuts.new.items) }
-    ensures price { IfOk result (λ words. (set : RuleSetView) (tree : RuleTree) (list : List ℕ) →
-        IsStrictlyIncreasing tree.rules → IsIn set target.now tree list number →
-        words ≤ price (Some next.now) false list) }
-    ensures bound { IfOk result (λ words. (0 < words) × (words ≤ 256)) }
-{
-    match target {
-        Target::Parts(parts) => {
-            fill_cuts(next, parts, cuts, number as usize)?;
-            Ok(words_of(cuts[number as usize - 1]))
-        }
-        Target::Rows(_) => Ok(1),
-    }
-}
-
-/// How many words what is found takes at least.
-fn price(
-    place: &Place,
-    target: &Target,
-    cuts: &mut Vec<Cuts>,
-    number: u32,
-) -> Result<u64, AllocError>
-    requires last { place.now.is_last ≡ true → place.now.next ≡ None }
-    requires ask { CanAsk place.now.next target.now }
-    requires cuts { CutsFor place.now.next target.now cuts.old.items }
-    requires some { 0 < number }
-    requires there { number ≤ count target.now }
-    ensures cuts { OnOk result (CutsFor place.now.next target.now cuts.new.items) }
-    ensures price { IfOk result (λ words. (set : RuleSetView) (tree : RuleTree) (list : List ℕ) →
-        IsStrictlyIncreasing tree.rules → IsIn set target.now tree list number →
-        words ≤ price place.now.next place.now.is_last list) }
-    ensures bound { IfOk result (λ words. (0 < words) × (words ≤ 256)) }
-    ensures row { IfOk result (λ words. place.now.is_last ≡ true → words ≡ row_len) }
-{
-    if place.is_last {
-        return Ok(ROW_LEN as u64);
-    }
-    match &place.next {
-        Some(next) => price_ahead(next, target, cuts, number),
-        None => Ok(1),
-    }
-}
-
-/// How many words what is found from a place on takes at least.
-fn price_all(
-    place: &Place,
-    target: &Target,
-    cuts: &mut Vec<Cuts>,
-    found: &[u32],
-    seen: usize,
-) -> Result<u64, AllocError>
-    requires last { place.now.is_last ≡ true → place.now.next ≡ None }
-    requires ask { CanAsk place.now.next target.now }
-    requires cuts { CutsFor place.now.next target.now cuts.old.items }
-    requires there { All (λ number. (0 < number) × (number ≤ count target.now)) found.now }
-    requires seen { seen ≤ length found.now }
-    requires few { length found.now ≤ seen + 256 }
-    ensures cuts { OnOk result (CutsFor place.now.next target.now cuts.new.items) }
-    ensures price { IfOk result
-        (λ words. (set : RuleSetView) (tree : RuleTree) (lists : List (List ℕ)) →
-        IsStrictlyIncreasing tree.rules → AreIn set target.now tree lists found.now →
-        least_cost place.now.next place.now.is_last (take seen lists) + words
-        ≤ least_cost place.now.next place.now.is_last lists) }
-    ensures some { IfOk result (λ words. length found.now ≤ seen + words) }
-    ensures rows { IfOk result (λ words. place.now.is_last ≡ true →
-        row_len * length found.now ≤ row_len * seen + words) }
-    ensures bound { IfOk result (λ words. words ≤ 65536) }
-{
-    let mut words = 0;
-    for k in seen..found.len() {
-        let its = price(place, target, cuts, found[k])?;
-        words += its;
-    }
-    Ok(words)
-}
-
 /// What the states of one place come to so far.
 #[derive(Drop)]
 struct Progress {
@@ -320,36 +183,118 @@ impl Progress {
     }
 }
 
-/// Merges one more state, and counts its words and the least that what it leads to takes.
-fn merge_next(
+/// Merges what one state leads to into the others, and counts the state's words.
+fn merge_state(
     place: &Place,
     parts: &Parts,
     state: u32,
     progress: &mut Progress,
 ) -> Result<(), AllocError>
-    requires some { 0 < state }
-    requires state { state ≤ length parts.now }
-    requires can { CanMerge place.now parts.now }
-    requires ready { IsReady place.now parts.now progress.old }
-    requires room { length progress.old.merged.reached.found.keys + 256 < 2 ^ 32 }
-    requires bound { progress.old.merged.words + progress.old.least ≤ max_words }
-    ensures led { OnOk result (AllLed place.now.column parts.now
-        progress.old.merged.reached.target progress.new.merged.reached.target
-        progress.new.work.steps) }
-    ensures added { OnOk result
-        (IsStateAdded place.now parts.now state progress.old progress.new) }
-    ensures ready { OnOk result (IsReady place.now parts.now progress.new) }
-    ensures bound { OnOk result (progress.new.merged.words + progress.new.least
-        ≤ progress.old.merged.words + progress.old.least + 65792) }
+    requires { CanAdd place.now parts.now state progress.old }
+    ensures { OnOk result (MergesState place.now parts.now state progress.old progress.new) }
 {
     let work = &mut progress.work;
     let merged = &mut progress.merged;
-    let seen = merged.reached.found.len();
-    let cost = merge_state(place, parts, state, work, merged)?;
-    let reached = &merged.reached;
-    let found = reached.found.as_slice();
-    let more = price_all(place, &reached.target, &mut work.cuts, found, seen)?;
-    merged.words += cost;
+    let reached = &mut merged.reached;
+    let pieces = &mut merged.pieces;
+    let until = state as usize;
+    lead_parts(
+        &place.column,
+        parts,
+        &mut work.steps,
+        &mut reached.target,
+        until,
+        &mut work.buffer,
+    )?;
+    let start = pieces.runs.len();
+    let its = work.steps.pieces(until - 1);
+    join_runs(place.is_last, its, &mut reached.found, &mut pieces.runs)?;
+    let end = pieces.runs.len();
+    pieces.ends.push(end)?;
+    merged.words += cost_of(end - start);
+    Ok(())
+}
+
+/// How many words a state that is found takes at least, by the bytes at which its part changes what
+/// it leads to.
+fn price_ahead(
+    next: &Column,
+    target: &Target,
+    cuts: &mut Vec<Cuts>,
+    number: u32,
+) -> Result<u64, AllocError>
+    requires ask { CanAsk (Some next.now) target.now }
+    requires cuts { CutsFor (Some next.now) target.now cuts.old.items }
+    requires number { IsNumber target.now number }
+    ensures { IfOk result (IsPriced (Some next.now) false target.now number cuts.new.items) }
+{
+    match target {
+        Target::Parts(parts) => {
+            fill_cuts(next, parts, cuts, number as usize)?;
+            Ok(words_of(cuts[number as usize - 1]))
+        }
+        Target::Rows(_) => Ok(1),
+    }
+}
+
+/// How many words what is found takes at least.
+fn price(
+    place: &Place,
+    target: &Target,
+    cuts: &mut Vec<Cuts>,
+    number: u32,
+) -> Result<u64, AllocError>
+    requires can { CanPrice place.now target.now cuts.old.items }
+    requires number { IsNumber target.now number }
+    ensures { IfOk result
+        (IsPriced place.now.next place.now.is_last target.now number cuts.new.items) }
+{
+    if place.is_last {
+        return Ok(ROW_LEN as u64);
+    }
+    match &place.next {
+        Some(next) => price_ahead(next, target, cuts, number),
+        None => Ok(1),
+    }
+}
+
+/// How many words what is found from a place on takes at least.
+fn price_all(
+    place: &Place,
+    target: &Target,
+    cuts: &mut Vec<Cuts>,
+    found: &[u32],
+    seen: usize,
+) -> Result<u64, AllocError>
+    requires can { CanPrice place.now target.now cuts.old.items }
+    requires numbers { AreNumbers target.now found.now }
+    requires seen { seen ≤ length found.now }
+    requires few { length found.now ≤ seen + 256 }
+    ensures { IfOk result (ArePriced place.now target.now found.now seen cuts.new.items) }
+{
+    let mut words = 0;
+    for k in seen..found.len() {
+        let its = price(place, target, cuts, found[k])?;
+        words += its;
+    }
+    Ok(words)
+}
+
+/// Adds one more state: merges it, and counts the least that what it leads to takes.
+fn add_state(
+    place: &Place,
+    parts: &Parts,
+    state: u32,
+    progress: &mut Progress,
+) -> Result<(), AllocError>
+    requires { CanAdd place.now parts.now state progress.old }
+    ensures { OnOk result (AddsState place.now parts.now state progress.old progress.new) }
+{
+    let seen = progress.merged.reached.found.len();
+    merge_state(place, parts, state, progress)?;
+    let reached = &progress.merged.reached;
+    let cuts = &mut progress.work.cuts;
+    let more = price_all(place, &reached.target, cuts, reached.found.as_slice(), seen)?;
     progress.least += more;
     Ok(())
 }
@@ -364,21 +309,18 @@ fn merge_all(
     states: &[u32],
     progress: &mut Progress,
 ) -> Result<(), MergeFault>
-    requires states { All (λ state. (0 < state) × (state ≤ length parts.now)) states.now }
-    requires can { CanMerge place.now parts.now }
-    requires ask { CanAsk place.now.next progress.old.merged.reached.target }
-    requires cap { budget.cap ≤ max_words }
-    requires before { budget.before ≤ budget.cap }
-    requires first { IsFirst progress.old.merged.reached.target budget.before progress.old }
+    requires can { CanMergeAll place.now budget parts.now states.now
+        (target_of progress.old.merged) }
+    requires first { IsFirst (target_of progress.old.merged) budget.before progress.old }
     ensures merged { OnOk result (AreMerged place.now budget parts.now states.now
-        progress.old.merged.reached.target progress.new.merged) }
+        (target_of progress.old.merged) progress.new.merged) }
     ensures over { (result ≡ Err MergeFault.OverCap) →
-        AreOver place.now budget parts.now states.now progress.old.merged.reached.target }
+        AreOver place.now budget parts.now states.now (target_of progress.old.merged) }
 {
     rule_set::laws::ranks_order_rules();
     rule_set::laws::the_best_has_the_greatest_rank();
     for state in states {
-        merge_next(place, parts, *state, progress)?;
+        add_state(place, parts, *state, progress)?;
         if progress.merged.words + progress.least > budget.cap {
             return Err(MergeFault::OverCap);
         }
@@ -395,13 +337,8 @@ pub(crate) fn merge_states(
     states: &[u32],
     target: Target,
 ) -> Result<Merged, MergeFault>
-    requires states { All (λ state. (0 < state) × (state ≤ length parts.now)) states.now }
-    requires can { CanMerge place.now parts.now }
-    requires ask { CanAsk place.now.next target }
-    requires cap { budget.cap ≤ max_words }
-    requires before { budget.before ≤ budget.cap }
-    ensures merged { IfOk result
-        (λ merged. AreMerged place.now budget parts.now states.now target merged) }
+    requires { CanMergeAll place.now budget parts.now states.now target }
+    ensures merged { IfOk result (AreMerged place.now budget parts.now states.now target) }
     ensures over { (result ≡ Err MergeFault.OverCap) →
         AreOver place.now budget parts.now states.now target }
 {

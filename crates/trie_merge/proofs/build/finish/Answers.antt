@@ -1,3 +1,4 @@
+-- The words are those of the states and of the rows.
 use Rattle.std.proofs.Common.{◌≡◌, length, ap, refl, arith}
 use Rattle.trie_merge.proofs.build.finish.Goals as goal
 use Rattle.group_states.specs.Levels.{levels_of}

@@ -41,29 +41,31 @@ overflow_sub-end c =
       arith,
       c.len-start.ensures,
       c.len-end.ensures,
-      c.args.merged.now.pieces.runs.ok,
+      c.args.progress.now.merged.pieces.runs.ok,
       c.join_runs.new.runs.ok,
       runs_long _ _ _ _ _ c.in_ok-join_runs.ensures.runs,
     )
 
+pub join_runs-requires-clause-room : goal.join_runs-requires-clause-room
+join_runs-requires-clause-room c = omega (arith, c.requires.ready.few, c.requires.within)
+
 pub returns : goal.returns
 returns c =
-    let old = c.args.merged.now.pieces in
+    let old = c.args.progress.now.merged.pieces in
     let led = c.in_ok-lead_parts.ensures in
     let apart = runs_apart _ _ _ _ _ c.in_ok-join_runs.ensures.runs old.ends.items _ c.len-start.result
     c.len-end.result (omega (arith, c.len-start.ensures, old.runs.ok))
-    (omega (arith, c.len-end.ensures, c.join_runs.new.runs.ok)) c.in_ok-push.ensures.items c.requires.pieces in
+    (omega (arith, c.len-end.ensures, c.join_runs.new.runs.ok)) c.in_ok-push.ensures.items c.requires.ready.pieces in
     record {
       led = led.led;
       merged = record {
         pieces = c.pieces-its.result.now;
-        leads = rw c.pieces-its.ensures (step_at led.led.led c.args.state c.requires.state.0 led.far);
+        leads = rw c.pieces-its.ensures (step_at led.led.led c.args.state c.requires.number.0 led.far);
         finds = c.in_ok-join_runs.ensures.found;
         its_runs = apart.0;
-        its_cost = rw (← apart.2) c.cost_of.ensures.cost;
+        its_words = rw (← apart.2, ← c.cost_of.ensures.cost) refl;
+        are_pieces = apart.1;
       };
       cuts = refl {A = List Cuts};
-      words = refl;
-      pieces = apart.1;
-      bound = c.cost_of.ensures.bound;
+      least = refl;
     }
