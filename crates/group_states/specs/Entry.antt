@@ -1,6 +1,6 @@
--- How a state is kept: for each of its rules one number, which holds the rule's number and the edge
--- of its rest. Before the first byte of a field the rule's value says the rest, so the edge kept
--- there is the one after a whole field.
+-- How a state is kept: for each of its rules one number, which holds the rule's place in the set
+-- and the edge of its rest. Before the first byte of a field the rule's value says the rest, so the
+-- edge kept there is the one after a whole field.
 use Rattle.std.specs.Prelude.{ℕ, ◌+◌, ◌-◌, ◌*◌, ◌/◌, ◌%◌, ◌<◌, ◌==◌, List, [], ◌∷◌, length, map}
 use Rattle.std.specs.Prelude.{slice_index_or, nat_lt, Bool, IsTrue, Option}
 use Rattle.std.specs.Prelude.{if◌then◌else◌}
@@ -32,11 +32,11 @@ abbrev pub edge_coded : ℕ → Edge
 edge_coded code = if code == 0 then Free else
     (if code == 1 then Low else (if code == 2 then High else Both))
 
--- the rule's number and the edge as one number
+-- the rule's place in the set and the edge as one number
 abbrev pub entry_of : ℕ → Edge → ℕ
 entry_of number edge = number * edge_count + edge_code edge
 
--- the rule's number
+-- the rule's place in the set
 abbrev pub number_in : ℕ → ℕ
 number_in entry = entry / edge_count
 

@@ -1,5 +1,5 @@
--- The input groups of a key that a trie keeps. A group in which each rule of the trie lets every
--- number through decides nothing, so it is left out.
+-- The input groups of a key that a trie keeps. An input group in which each rule of the trie lets
+-- every number through decides nothing, so it is left out.
 use Rattle.std.specs.Prelude.{ℕ, ◌+◌, ◌-◌, ◌^◌, ◌==◌, List, [], ◌∷◌, filter, nat_lt, Bool}
 use Rattle.std.specs.Prelude.{true, not, ◌&&◌, ◌||◌, if◌then◌else◌}
 use Rattle.std.specs.List.{list_all, range_with_len, sum_by}
@@ -34,17 +34,17 @@ is_idle set group input =
     list_all (λ place. not (group_of place == input) || is_wild_place set group place)
     (key_places set)
 
--- an input group is kept where it isn't idle, and group 0 also where all are idle
+-- an input group is kept where it isn't idle, and input group 0 also where all are idle
 unfoldable pub is_kept : RuleSetView → List ℕ → ℕ → Bool
 is_kept set group input =
     not (is_idle set group input)
     || (input == 0 && list_all (is_wild_place set group) (key_places set))
 
--- the places of the kept groups, ascending
+-- the places of the kept input groups, ascending
 unfoldable pub kept_places : RuleSetView → List ℕ → List ℕ
 kept_places set group = filter (λ place. is_kept set group (group_of place)) (key_places set)
 
--- the kept groups as the bits of a number, bit g for group g
+-- the kept input groups as the bits of a number, bit g for input group g
 unfoldable pub kept_bits : RuleSetView → List ℕ → ℕ
 kept_bits set group = sum_by (λ input. 2 ^ input)
     (filter (is_kept set group) (range_with_len 0 (1 + group_of (key_len_of set.layout - 1))))

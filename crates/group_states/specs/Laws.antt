@@ -64,7 +64,7 @@ StatesOfEachPlaceLeadOn =
     states_at set group (place + 1) ≡ found_in same_state is_live
     (flat_map (λ before. map (state_step set place before) all_bytes) (states_at set group place))
 
--- Inside an idle group of a key every byte leads a state to one and the same next state.
+-- Inside an idle input group of a key every byte leads a state to one and the same next state.
 abbrev pub IdleBytesLeadToOneState : Type 0
 IdleBytesLeadToOneState =
     (set : RuleSetView) (group : List ℕ) (place one other : ℕ) → IsGrouped set group

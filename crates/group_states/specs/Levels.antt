@@ -22,7 +22,7 @@ use Rattle.group_states.specs.declared.run.Succ.TheVariants.{Dead, State, Row}
 unfoldable pub states_at : RuleSetView → List ℕ → ℕ → List (List Held)
 states_at set group place = found_in same_state is_live (map (state set group) (prefixes place))
 
--- A group of rules: numbers of rules of the set, ascending, and at least one.
+-- A group of rules: places of rules of the set, ascending, and at least one.
 pub record IsGroup (set : RuleSetView) (group : List ℕ) : Type 0 where
   pub some : 0 < length group
   pub ascending : IsStrictlyIncreasing group
@@ -80,8 +80,8 @@ abbrev pub words_of : List (List (List Run)) → List (List ℕ) → ℕ
 words_of levels rows = sum_by (λ states. sum_by (λ (runs : List Run). cost_of (length runs)) states)
     levels + row_len * length rows
 
--- Merged states as contracts see them: the kept groups, the group of rules, the runs of each state
--- at each kept place, the rows, and the words.
+-- Merged states as contracts see them: the kept input groups, the group of rules, the runs of each
+-- state at each kept place, the rows, and the words.
 pub record LevelsView : Type 0 where
   pub kept : ℕ
   pub group : List ℕ

@@ -14,7 +14,7 @@ use Rattle.field_defs.specs.Layout.{key_len_of}
 use Rattle.group_states.specs.Found.{found_in, prefixes}
 use Rattle.group_states.specs.State.{Held, state, is_live}
 
--- the winner among the numbered rules that take part in the category, or none
+-- the winner among the rules at these places that are in the category, or none
 abbrev pub winner_of : RuleSetView → ℕ → List ℕ → Option ℕ
 winner_of set category numbers =
     best_among (λ rule. is_in_category rule.tag category) set.rules numbers
@@ -26,7 +26,7 @@ is_better tag best category =
     is_in_category tag category && option_map_or (λ other. not (le_z tag.priority other.priority))
     best true
 
--- for each category the winner's number plus 1, or 0 for none
+-- for each category the winner's number, which is its place in the set plus 1, or 0 for none
 unfoldable pub row_of : RuleSetView → List ℕ → List ℕ
 row_of set numbers = map (λ category. option_map_or (λ number. number + 1)
     (winner_of set category numbers) 0) categories

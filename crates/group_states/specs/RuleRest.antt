@@ -35,7 +35,7 @@ values_step (def ∷ defs) (value ∷ values) place before byte =
 values_step [] values place before byte = None
 values_step (def ∷ defs) [] place before byte = None
 
--- the values of the rule of that number, which is its place in the set
+-- the values of the rule at that place of the set
 abbrev pub values_of : RuleSetView → ℕ → List FieldValue
 values_of set number = option_map_or (λ rule. rule.fields) (slice_get set.rules number) []
 

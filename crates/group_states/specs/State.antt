@@ -1,6 +1,6 @@
--- The state of a group of rules after some bytes of a key. A group is a list of numbers of rules,
--- ascending, and the number of a rule is its place in the set. Merging equal states makes the trie
--- of the group (DPDK's `lib/acl`, `acl_bld.c`).
+-- The state of a group of rules after some bytes of a key. A group is a list of the places that its
+-- rules have in the set, ascending. Merging equal states makes the trie of the group (DPDK's
+-- `lib/acl`, `acl_bld.c`).
 use Rattle.std.specs.Prelude.{ℕ, ◌+◌, ◌==◌, List, [], ◌∷◌, Bool, true, false, ◌&&◌}
 use Rattle.std.specs.List.{filter_map}
 use Rattle.std.specs.Option.{option_map}
@@ -9,7 +9,7 @@ use Rattle.rule_set.specs.Rule.{RuleSetView}
 use Rattle.node_expand.specs.Rest.{Rest, same_rest}
 use Rattle.group_states.specs.RuleRest.{rule_rest, rule_step}
 
--- A rule that can still match, by its number, and its rest.
+-- A rule that can still match, by its place in the set, and its rest.
 pub record Held : Type 0 where
   pub number : ℕ
   pub rest : Rest

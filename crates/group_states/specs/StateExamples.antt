@@ -51,7 +51,7 @@ steps_over_a_field : map (rule_step two_rules 0 0 Live) (16 ∷ 17 ∷ [])
 unfolding rule_step rest_step rest_after part
 steps_over_a_field = refl
 
--- states name the rules by their numbers
+-- states name the rules by their places in the set
 states_of_prefixes : map (state two_rules (0 ∷ 1 ∷ []))
     ((16 ∷ []) ∷ (17 ∷ 12 ∷ []) ∷ (17 ∷ 15 ∷ []) ∷ (16 ∷ 12 ∷ []) ∷ [])
     ≡ (record { number = 1; rest = Interval 15 255 } ∷ [])

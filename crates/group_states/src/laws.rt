@@ -27,7 +27,7 @@ pub fn states_of_each_place_lead_on()
     ensures { StatesOfEachPlaceLeadOn }
 {}
 
-/// Inside an idle group every byte leads a state to one next state.
+/// Inside an idle input group every byte leads a state to one next state.
 pub fn idle_bytes_lead_to_one_state()
     ensures { IdleBytesLeadToOneState }
 {}

@@ -13,7 +13,7 @@ use Rattle.rule_set.specs.Rule.{RuleSetView}
 use Rattle.rule_set.specs.Groups.{greatest}
 use Rattle.group_states.specs.RuleRest.{values_of}
 
--- the rule of that number is wild in the field of that place
+-- the rule at that place of the set is wild in the field at that place of the layout
 abbrev pub is_wild_in : RuleSetView → ℕ → ℕ → Bool
 is_wild_in set field number =
     is_wild (slice_index_or (values_of set number) field (Mask 0 0)) (def_at set.layout field).size

@@ -10,7 +10,7 @@ use trie_merge::{Levels, MergeFault};
 pub(crate) enum Counted {
     /// The words are within the budget: the merged states.
     Fits(Levels),
-    /// They are more: the numbers of the rules alone.
+    /// They are more: only the places of its rules in the set.
     TooLarge(Vec<u32>),
 }
 
@@ -43,7 +43,7 @@ impl Counted {
         }
     }
 
-    /// The numbers of its rules.
+    /// The places of its rules in the set.
     pub(crate) fn group(&self) -> &[u32]
         ensures { result.now ≡ group_in self.now }
     {

@@ -20,7 +20,7 @@ pub(crate) struct Divided {
 impl Divided {
     ghost use Rattle.std.specs.Prelude.{◌≡◌, ◌++◌, ◌∷◌, [], OnOk, if◌then◌else◌};
 
-    /// Puts the number after those of its side: the second one where the rule is wild.
+    /// Puts the rule after those of its side: the second one where it is wild.
     fn push(&mut self, number: u32, is_wild: bool) -> Result<(), AllocError>
         ensures first { OnOk result (self.new.first.items
             ≡ (if is_wild then self.old.first.items else self.old.first.items ++ number ∷ [])) }
@@ -36,7 +36,7 @@ impl Divided {
     }
 }
 
-/// Whether the rule of that number is wild in the field of that place.
+/// Whether the rule at that place of the set is wild in the field at that place of the layout.
 fn is_wild_in(rules: &RuleSet, field: usize, number: u32) -> bool
     requires field { field < length rules.now.layout }
     requires number { number < length rules.now.rules }

@@ -135,7 +135,7 @@ fn take_turn(
     }
 }
 
-/// The numbers of all rules.
+/// The places of all rules in the set.
 fn all_rules(alloc: Global, rules: &RuleSet) -> Result<Vec<u32>, AllocError>
     ensures { IfOk result (λ numbers. numbers.items ≡ range_with_len 0 (length rules.now.rules)) }
 {

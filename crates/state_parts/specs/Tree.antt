@@ -4,7 +4,7 @@ use Rattle.std.specs.Prelude.{◌≡◌, ℕ, ◌<◌, List, [], ◌∷◌, ◌+
 use Rattle.std.specs.Option.{option_and_then}
 use Rattle.state_parts.specs.Keys.{KeyAt, same_pair}
 
--- a tree whose leaves are numbers of rules
+-- a tree whose leaves are the places of rules in the set
 pub data Tree : Type 0 where
   Leaf : (rule : ℕ) → Tree
   Node : (left : Tree) → (right : Tree) → Tree

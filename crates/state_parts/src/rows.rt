@@ -17,7 +17,7 @@ pub struct Ranked {
     pub rank: u32,
 }
 
-/// The rule of that number, or one that takes part in no category.
+/// The rule at that place of the set, or one that takes part in no category.
 fn rule_at(ranked: &[Ranked], number: usize) -> Ranked
     ensures { result ≡ slice_index_or ranked.now number (record { mask = 0; rank = 0 }) }
 {

@@ -22,7 +22,8 @@ ranked_at set number = record {
 unfoldable pub ranked_of : RuleSetView → List Ranked
 ranked_of set = map (ranked_at set) (range_with_len 0 (length set.rules))
 
--- The names say the number plus 1 of the rule of each rank, and 0 for rank 0.
+-- The names say the number of the rule of each rank, which is its place in the set plus 1, and 0
+-- for rank 0.
 pub record IsNames (set : RuleSetView) (names : List ℕ) : Type 0 where
   pub none : slice_index_or names 0 0 ≡ 0
   pub each : (number : ℕ) → number < length set.rules →

@@ -18,7 +18,7 @@ pub record RuleTree : Type 0 where
   pub tree : Tree
   pub same : (rule : ℕ) → list_any (λ r. r == rule) (leaves tree) ≡ list_any (λ r. r == rule) rules
 
--- Each rule has an entry of its own number, or none.
+-- Each rule has an entry of its own place in the set, or none.
 abbrev pub AreOwn : (ℕ → Option ℕ) → Type 0
 AreOwn entries = (rule entry : ℕ) → entries rule ≡ Some entry → number_in entry ≡ rule
 

@@ -15,7 +15,7 @@ use Rattle.trie_merge.specs.Priced.{AreNumbers}
 use Rattle.trie_merge.specs.Shared.{RuleTree, AreIn}
 use Rattle.trie_merge.specs.declared.order.Keyed.{Keyed}
 
--- the numbers of rules in their order
+-- the places of rules in the set, in their order
 abbrev pub numbers_in : List Keyed → List ℕ
 numbers_in order = map (λ (keyed : Keyed). keyed.number) order
 

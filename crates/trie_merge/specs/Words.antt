@@ -44,7 +44,7 @@ least_words set column next is_last before states =
     before + states_words (map (state_runs set column is_last found) states) + least_cost next
     is_last found
 
--- The numbers of the entries' rules rise, the first of them from a number on.
+-- The places of the entries' rules rise, the first of them from a place on.
 abbrev pub RisesFrom : ℕ → List ℕ → Type 0
 RisesFrom least [] = Unit {0}
 RisesFrom least (entry ∷ entries) =

@@ -260,7 +260,7 @@ impl Levels {
 
     /// The merged states of the group.
     ///
-    /// The group has numbers of rules of the set, ascending, and at least one; the cap is at most
+    /// The group has places of rules of the set, ascending, and at least one; the cap is at most
     /// [`table_sizes::MAX_WORDS`]. `OverCap` comes exactly where the words exceed the cap, unless
     /// memory ran out before that was known. It takes memory for the parts of two places, for the
     /// runs and for the rows, and gives it back after a refusal. Source: DPDK Programmer's Guide,

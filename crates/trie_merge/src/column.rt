@@ -13,7 +13,7 @@ use rule_set::RuleSet;
 use std::alloc::{AllocError, Global};
 use std::marker::Model;
 
-/// The values of all rules of the set for the field that has the place, by the number of the rule,
+/// The values of all rules, in the order of the set, for the field that has the place of the key,
 /// the size of the field in bytes, and the place in the field. Contracts see the three.
 #[derive(Drop)]
 pub(crate) struct Column {

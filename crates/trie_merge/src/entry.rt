@@ -9,7 +9,7 @@ use node_expand::Edge;
 /// How many edges there are.
 const EDGE_COUNT: u32 = 4;
 
-/// The number of a rule and an edge as one number.
+/// A rule's place in the set and an edge as one number.
 pub(crate) fn entry_of(number: u32, edge: Edge) -> u32
     requires { number < 2 ^ 30 }
     ensures { result ≡ entry_of number edge }
@@ -17,7 +17,7 @@ pub(crate) fn entry_of(number: u32, edge: Edge) -> u32
     number * EDGE_COUNT + edge_code(edge)
 }
 
-/// The number of the rule.
+/// The rule's place in the set.
 pub(crate) fn number_in(entry: u32) -> u32
     ensures { result ≡ number_in entry }
 {

@@ -16,12 +16,12 @@ use rule_set::{RuleSet, StoredRule};
 use std::alloc::{AllocError, Global};
 use table_sizes::group_of;
 
-/// The kept groups of a trie.
+/// The kept input groups of a trie.
 #[derive(Drop)]
 pub(crate) struct Kept {
     /// Their places in the key, ascending.
     pub(crate) places: Vec<usize>,
-    /// The groups, bit g for group g.
+    /// The input groups, bit g for input group g.
     pub(crate) bits: u128,
 }
 
@@ -31,7 +31,7 @@ impl Kept {
     ghost use Rattle.table_sizes.specs.Groups.{max_key_len};
     ghost use Rattle.group_states.specs.Kept.{kept_places, kept_bits};
 
-    /// The groups that the rules keep, and their places.
+    /// The input groups that the rules keep, and their places.
     pub(crate) fn new(alloc: Global, rules: &RuleSet, group: &[u32]) -> Result<Self, AllocError>
         requires numbers { All (λ number. number < length rules.now.rules) group.now }
         requires some { 0 < key_len_of rules.now.layout }
@@ -126,7 +126,7 @@ fn is_kept(wild: &[bool], input: usize) -> bool
     !is_idle(wild, input) || (input == 0 && all_wild(wild))
 }
 
-/// The places of the kept groups, ascending.
+/// The places of the kept input groups, ascending.
 fn kept_places(alloc: Global, wild: &[bool]) -> Result<Vec<usize>, AllocError>
     requires { length wild.now ≤ max_key_len }
     ensures { IfOk result (λ places. places.items ≡ places_by wild.now) }
@@ -148,7 +148,7 @@ fn bit(place: usize) -> u128
     1 << place
 }
 
-/// The kept groups, bit g for group g.
+/// The kept input groups, bit g for input group g.
 fn kept_bits(wild: &[bool]) -> u128
     requires some { 0 < length wild.now }
     requires few { length wild.now ≤ max_key_len }

@@ -56,8 +56,8 @@ impl Level {
     }
 }
 
-/// The merged states of a group of rules, kept place by kept place. Contracts see the kept groups,
-/// the group, the runs of each state at each place, the rows and the words.
+/// The merged states of a group of rules, kept place by kept place. Contracts see the kept input
+/// groups, the group of rules, the runs of each state at each place, the rows and the words.
 pub struct Levels {
     pub(crate) kept: u128,
     pub(crate) group: Vec<u32>,
@@ -96,14 +96,14 @@ impl Model for Levels {
 impl Levels {
     ghost use Rattle.std.specs.Prelude.{◌≡◌, ◌<◌, [], length, slice_index_or};
 
-    /// The kept groups, bit g for input group g.
+    /// The kept input groups, bit g for input group g.
     pub fn kept(&self) -> u128
         ensures { result ≡ self.now.kept }
     {
         self.kept
     }
 
-    /// The group: numbers of rules, ascending.
+    /// The group: the places of its rules in the set, ascending.
     pub fn group(&self) -> &[u32]
         ensures { result.now ≡ self.now.group }
     {
@@ -145,7 +145,7 @@ impl Levels {
     }
 
     /// The row of that number, which is below [`Levels::rows`]: for each category the winner's
-    /// number plus 1, or 0 for none.
+    /// number, which is its place in the set plus 1, or 0 for none.
     pub fn row(&self, r: usize) -> &[u32; ROW_LEN]
         requires { r < length self.now.rows }
         ensures { result.now ≡ slice_index_or self.now.rows r [] }

@@ -24,7 +24,7 @@ pub(crate) fn rank_rules(alloc: Global, rules: &RuleSet) -> Result<Vec<Ranked>, 
     Ok(ranked)
 }
 
-/// The number plus 1 of the rule of each rank, and 0 for rank 0.
+/// The number of the rule of each rank, which is its place in the set plus 1, and 0 for rank 0.
 pub(crate) fn names_of(
     alloc: Global,
     rules: &RuleSet,
@@ -42,7 +42,7 @@ pub(crate) fn names_of(
     Ok(names)
 }
 
-/// The rank of the rule of that number.
+/// The rank of the rule at that place of the set.
 fn rank_at(ranked: &[Ranked], number: usize) -> u32
     requires { number < length ranked.now }
     ensures { result ≡ (slice_index_or ranked.now number (record { mask = 0; rank = 0 })).rank }
@@ -61,7 +61,7 @@ fn name_ranks(ranks: &[u32; ROW_LEN], names: &[u32]) -> [u32; ROW_LEN]
     row
 }
 
-/// The row of a number, with the numbers of rules in the place of their ranks.
+/// The row of a number, with the numbers of the rules where their ranks stood.
 #[tactic(auto, unfolding(crate::specs::Names::row_named))]
 fn name_row(rows: &Rows, names: &[u32], number: u32) -> [u32; ROW_LEN]
     requires some { 0 < number }
@@ -81,7 +81,7 @@ fn name_of(names: &[u32], rank: u32) -> u32
     }
 }
 
-/// The rows of the numbers found, with the numbers of rules in the place of their ranks.
+/// The rows of the numbers found, with the numbers of the rules where their ranks stood.
 pub(crate) fn name_rows(
     alloc: Global,
     rows: &Rows,
