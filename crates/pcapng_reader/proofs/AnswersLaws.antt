@@ -41,6 +41,7 @@ last_piece [] later state none answers = refl
 last_piece (given ∷ pieces) [] state none answers = absurd answers
 last_piece (given ∷ pieces) (answer ∷ later) state none answers = absurd (cc)
 
+-- without a later answer no byte comes after those that were given
 only_piece : (given : List ℕ) (pieces : List (List ℕ)) (later : List Answer) (state : AnyState) → later ≡ [] →
     AreAnswersTo state pieces later → given ++ concat pieces ≡ given
 only_piece given pieces later state none answers =

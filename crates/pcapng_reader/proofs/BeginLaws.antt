@@ -31,6 +31,7 @@ start-fault bytes fault is = by_format (is_blocks bytes) refl
     by_format false isnt = by_header isnt (savefile_start bytes) refl
     by_format true is_so = absurd (let e = sym (start_blocks bytes is_so) ∙ is in cc)
 
+-- a capture whose first bytes have a fault has no record
 start_none : (bytes : List ℕ) (fault : CaptureFault) → start_of bytes ≡ Err fault → whole_records bytes ≡ []
 start_none bytes fault is = ap records_in (start-fault bytes fault is)
 

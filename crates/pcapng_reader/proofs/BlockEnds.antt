@@ -25,6 +25,7 @@ IsShorterBlock bytes (Passed state after) = length (state.first ++ after) + fron
 IsShorterBlock bytes (Given captured state after) = length (state.first ++ after) + front_len ≤ length bytes
 IsShorterBlock bytes (Fault fault) = ⊤
 
+-- a block takes its front away at least, whatever it says
 said_shorter : (x : Said) (state : BlockState) (front : Front) (bytes : List ℕ) → front_len ≤ front.total →
     front.total ≤ length bytes → IsShorterBlock bytes (block_said state front x bytes)
 said_shorter said.Section state front bytes least whole = omega (arith, least, whole, length-drop front.total bytes)
@@ -81,6 +82,7 @@ came state bytes = elim (cases_eq (length bytes) 0) [
           | inr there ↦ by_said front is facts there (said_by front.kind state front bytes) refl
         ]
 
+-- each block takes its front away at least
 pub block-shorter : (state : BlockState) (bytes : List ℕ) → IsShorterBlock bytes (block_at state bytes)
 block-shorter state bytes = go (came state bytes)
   where

@@ -71,6 +71,7 @@ pub record HasFront (state : BlockState) (bytes : List ℕ) (front : Front) : Ty
   pub least : least_len front.kind ≤ front.total
   pub multiple : front.total % 4 ≡ 0
 
+-- what isn't less is at least as much
 not_less : (a b : ℕ) → nat_lt a b ≡ false → b ≤ a
 not_less a b is = elim (cases_lt a b) [
   | inl less ↦ absurd (false≢true (sym is ∙ lt-ltb a b less))
@@ -84,6 +85,7 @@ multiple_of_4 n is = elim (cases_eq (n % 4) 0) [
   | inr other ↦ absurd (false≢true (sym is ∙ ap not (ne_eqb (n % 4) 0 other)))
 ]
 
+-- a front that isn't refused says all this
 pub HasFront-from : (state : BlockState) (bytes : List ℕ) (front : Front) → front_of state bytes ≡ Ok front →
     HasFront state bytes front
 HasFront-from state bytes front is =
@@ -177,6 +179,7 @@ said_next state front bytes x =
     >>= λ whole. refuse (has_other_end front bytes) (PngLength (state.count + 1))
     >>= λ same. Ok x
 
+-- a block with enough bytes for its kind says what the kind says, and then its end is tested
 said-there : (state : BlockState) (front : Front) (bytes : List ℕ) →
     least_len front.kind - 4 ≤ length bytes →
     said_in state front bytes ≡ (said_by front.kind state front bytes >>= said_next state front bytes)
@@ -255,6 +258,7 @@ block-whole state bytes front x is said =
 padded_more : (len : ℕ) → len ≤ padded len
 padded_more len = omega arith
 
+-- there is room for what a block says
 pub said-room : (kind : Kind) (state : BlockState) (front : Front) (bytes : List ℕ) (x : Said) →
     said_by kind state front bytes ≡ Ok x → HasRoom state front x
 said-room Section state front bytes x is =
@@ -297,6 +301,7 @@ IsDecidedFault (PngCut number) = ⊥
 IsDecidedFault (RecordCut number) = ⊥
 IsDecidedFault fault = ⊤
 
+-- the block isn't the end, and if it has a fault, that is decided
 abbrev pub IsDecidedBlock : Block → Type 0
 IsDecidedBlock End = ⊥
 IsDecidedBlock (Passed state after) = ⊤

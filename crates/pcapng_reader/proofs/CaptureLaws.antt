@@ -101,6 +101,7 @@ savefile_within (suc fuel) state left = elim (savefile_cases (savefile.next_of s
   | inr (inr fails) ↦ rw fails.1 refl
 ]
 
+-- the records of a savefile are those that its own format says
 pub savefile-records : (state : CaptureState) (left : List ℕ) →
     records_from (Savefile state) left ≡ savefile.records_from state left
 savefile-records state left = savefile_within (length left) state left

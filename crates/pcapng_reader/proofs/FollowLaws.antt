@@ -48,6 +48,7 @@ counts_past before now (Record captured later after) count same is =
     (omega (arith, count, is.0), is.1 ∙ ap (λ (n : ℕ). n + 1) count, is.2 ∙ same)
 counts_past before now (Fault fault) count same is = tt
 
+-- what stands next past some blocks is counted
 within-counts : (fuel : ℕ) (state : BlockState) (left : List ℕ) → length (state.first ++ left) < fuel →
     CountsNext (Blocks state) (next_of (Blocks state) left)
 within-counts zero state left enough = absurd (omega (arith, enough))
@@ -84,6 +85,7 @@ savefile_few state left captured after next = elim (cases_eq (length left) 0) [
   ]
 ]
 
+-- what stands next in either format is counted
 pub next-counts : (state : AnyState) (left : List ℕ) → CountsNext state (next_of state left)
 next-counts (Blocks state) left = within-counts (suc (length (state.first ++ left))) state left (omega arith)
 next-counts (Savefile state) left = elim (savefile_cases (savefile.next_of state left)) [
@@ -110,6 +112,7 @@ end_none state bytes ends = go (came state bytes)
     go (Faulty fault some is) = absurd (let e = sym is ∙ ends in cc)
     go (Whole front x is facts room whole says) = absurd (said_some x state front bytes (sym says ∙ ends))
 
+-- two lists that have no element together are empty
 parts_none : (xs ys : List ℕ) → length (xs ++ ys) ≡ 0 → (xs ≡ []) × (ys ≡ [])
 parts_none [] [] none = (refl, refl)
 parts_none [] (y ∷ ys) none = absurd (omega (arith, none))
@@ -121,11 +124,13 @@ IsNoEnd savefile.End = ⊥
 IsNoEnd (savefile.Record captured after) = ⊤
 IsNoEnd (savefile.Fault fault) = ⊤
 
+-- a fault, or else what is no end, is no end
 no_end_if : (test : Bool) (fault : CaptureFault) (other : savefile.Next) → IsNoEnd other →
     IsNoEnd (if test then savefile.Fault fault else other)
 no_end_if true fault other is = tt
 no_end_if false fault other is = is
 
+-- what a record of a savefile is read as is no end
 savefile_some : (state : CaptureState) (left : List ℕ) → IsNoEnd (savefile.next_record state left)
 savefile_some state left =
     let len = (record_header_of state.start.order left).captured in
@@ -134,6 +139,7 @@ savefile_some state left =
     (no_end_if (nat_lt max_captured len) _ _
     (no_end_if (nat_lt (length left) (record_header_len + len)) _ _ tt)))
 
+-- if a savefile has ended, no byte is left
 savefile_none : (state : CaptureState) (left : List ℕ) → savefile.next_of state left ≡ savefile.End → left ≡ []
 savefile_none state [] ends = refl
 savefile_none state (byte ∷ bytes) ends =
@@ -148,6 +154,7 @@ EndsSo before left more (End now) = (first_of now ≡ []) × (next_of before (le
 EndsSo before left more (Record captured now after) = ⊤
 EndsSo before left more (Fault fault) = ⊤
 
+-- so it is past a block, if it is so after it
 ends_past : (before now : AnyState) (left after more : List ℕ) (next : Next) →
     next_of before (left ++ more) ≡ next_of now (after ++ more) → EndsSo now after more next →
     EndsSo before left more next
@@ -155,6 +162,7 @@ ends_past before now left after more (End later) same is = (is.0, same ∙ is.1)
 ends_past before now left after more (Record captured later rest) same is = tt
 ends_past before now left after more (Fault fault) same is = tt
 
+-- so it is past all blocks
 within-end : (fuel : ℕ) (state : BlockState) (left more : List ℕ) → length (state.first ++ left) < fuel →
     EndsSo (Blocks state) left more (next_of (Blocks state) left)
 within-end zero state left more enough = absurd (omega (arith, enough))
@@ -180,6 +188,7 @@ within-end (suc fuel) state left more enough =
           subst (EndsSo (Blocks state) left more) (sym (next-fault state left fails.0 fails.1)) tt
     ]
 
+-- so it is in either format
 next-ends : (state : AnyState) (left more : List ℕ) → EndsSo state left more (next_of state left)
 next-ends (Blocks state) left more = within-end (suc (length (state.first ++ left))) state left more (omega arith)
 next-ends (Savefile state) left more = elim (savefile_cases (savefile.next_of state left)) [
@@ -232,6 +241,7 @@ after_record before now left after more captured records next rest =
           ∙ followed_by-then (captured ∷ []) records (records_from rest.state more);
     }
 
+-- the records of more bytes follow those of the first ones, if these have no fault
 follow : (fuel : ℕ) (before : AnyState) (left more : List ℕ) → size_of before left < fuel →
     (records_from before left).fault ≡ None → GoesAfter before left more (records_from before left).records
 follow zero before left more enough whole = absurd (omega (arith, enough))
@@ -287,6 +297,7 @@ savefile_byte state byte none = go (nat_lt max_records (state.count + 1)) refl
     go true e = absurd (let faulty = rw e at none in cc)
     go false e = absurd (let faulty = rw e at none in cc)
 
+-- one byte is a block with a fault
 block_byte : (state : BlockState) (byte : ℕ) → state.first ≡ [] → (fault : CaptureFault) ×
     (block_of state (byte ∷ []) ≡ block.Fault fault)
 block_byte state byte none = elim (block_cases (block_of state (byte ∷ []))) [
@@ -305,6 +316,7 @@ block_byte state byte none = elim (block_cases (block_of state (byte ∷ []))) [
         let facts = HasFront-from state (state.first ++ byte ∷ []) front says in
         omega (arith, facts.least, front_least front.kind))
 
+-- one byte has a fault in either format
 one_byte : (state : AnyState) (byte : ℕ) → first_of state ≡ [] → (records_from state (byte ∷ [])).fault ≡ None → ⊥
 one_byte (Savefile state) byte none whole =
     savefile_byte state byte (sym (ap (λ r. r.fault) (savefile-records state (byte ∷ []))) ∙ whole)

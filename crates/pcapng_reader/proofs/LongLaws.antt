@@ -36,6 +36,7 @@ use Rattle.pcapng_reader.proofs.BlockEnds.{short-stuck}
 -- A block's front isn't refused, and these bytes of it were read, at least the front.
 module _ (state : BlockState) (front : Front) (part : List ℕ) (old new : DeskView)
     (is : front_of state part ≡ Ok front) where
+  -- the front stays when more bytes are read
   longer : (more : List ℕ) → front_of state (part ++ more) ≡ Ok front
   longer more =
       let facts = HasFront-from state part front is in
@@ -117,28 +118,35 @@ module _ {state : BlockState} {front : Front} {x : Said} {head_size size end : �
     (rest : EndIn front.order size end tail) (some : 4 ≤ size)
     (total : length head + length captured + size ≡ front.total)
     (read : HasRead state ((head ++ captured) ++ tail) GoesOn old new) where
+  -- all bytes of the block
   abbrev all : List ℕ
   all = (head ++ captured) ++ tail
 
+  -- they are the head, and then the captured bytes and the rest
   as_one : all ≡ head ++ (captured ++ tail)
   as_one = append_assoc head captured tail
 
+  -- they are as many as the front says
   len : length all ≡ front.total
   len = omega (arith, total, rest.len, length-append (head ++ captured) tail, length-append head captured)
 
+  -- they begin with the front
   fronted : front_of state all ≡ Ok front
   fronted =
       let facts = HasFront-from state head front its.front_is in
       ap (front_of state) as_one ∙ front-append state head (captured ++ tail) facts.few facts.there ∙ its.front_is
 
+  -- they say what the head says
   says_all : said_by front.kind state front all ≡ Ok x
   says_all =
       ap (said_by front.kind state front) as_one
       ∙ said-append front.kind state front head (captured ++ tail) its.enough ∙ its.says
 
+  -- they are enough for what the kind says
   there_all : least_len front.kind - 4 ≤ length all
   there_all = omega (arith, its.enough, length-append (head ++ captured) tail, length-append head captured)
 
+  -- the length at their end is that of the rest
   end_is : number_in front.order all (front.total - 4) 4 ≡ end
   end_is =
       end_of_tail front (head ++ captured) tail (omega (arith, some, rest.len)) len

@@ -77,11 +77,13 @@ pub next-end : (state : BlockState) (left : List ℕ) → block_of state left �
     next_of (Blocks state) left ≡ End (Blocks state)
 next-end state left is = within_step (length (state.first ++ left)) state left _ is
 
+-- a block with a packet stands next as its record
 pub next-given : (state : BlockState) (left : List ℕ) (captured : CaptureRecord) (now : BlockState) (after : List ℕ) →
     block_of state left ≡ block.Given captured now after →
     next_of (Blocks state) left ≡ Record captured (Blocks now) after
 next-given state left captured now after is = within_step (length (state.first ++ left)) state left _ is
 
+-- a block with a fault stands next as the fault
 pub next-fault : (state : BlockState) (left : List ℕ) (fault : CaptureFault) →
     block_of state left ≡ block.Fault fault → next_of (Blocks state) left ≡ Fault fault
 next-fault state left fault is = within_step (length (state.first ++ left)) state left _ is
@@ -105,6 +107,7 @@ block_of-append state left more decided =
     ap (block_at state) (sym (append_assoc state.first left more))
     ∙ block-append state (state.first ++ left) more decided
 
+-- more bytes change nothing of what is decided past some blocks
 within-append : (fuel : ℕ) (state : BlockState) (left more : List ℕ) → length (state.first ++ left) < fuel →
     IsDecidedNext (next_of (Blocks state) left) →
     next_of (Blocks state) (left ++ more) ≡ next_more (next_of (Blocks state) left) more
@@ -166,6 +169,7 @@ IsShorterNext size (End state) = ⊤
 IsShorterNext size (Record captured state after) = size_of state after < size
 IsShorterNext size (Fault fault) = ⊤
 
+-- a record past some blocks takes bytes away
 within-shorter : (fuel : ℕ) (state : BlockState) (left : List ℕ) → length (state.first ++ left) < fuel →
     IsShorterNext (length (state.first ++ left)) (next_of (Blocks state) left)
 within-shorter zero state left enough = absurd (omega (arith, enough))
@@ -193,6 +197,7 @@ within-shorter (suc fuel) state left enough =
     longer small large (Record captured state after) more is = omega (arith, more, is)
     longer small large (Fault fault) more is = tt
 
+-- a record of either format takes bytes away
 pub next-shorter : (state : AnyState) (left : List ℕ) → IsShorterNext (size_of state left) (next_of state left)
 next-shorter (Blocks state) left = within-shorter (suc (length (state.first ++ left))) state left (omega arith)
 next-shorter (Savefile state) left = elim (savefile_cases (savefile.next_of state left)) [
@@ -216,12 +221,14 @@ NoneRead (block.Passed now after) = now.first ≡ []
 NoneRead (block.Given captured now after) = now.first ≡ []
 NoneRead (block.Fault fault) = ⊤
 
+-- a block that was read leaves no byte of the next one read, whatever it says
 said_none : (x : Said) (state : BlockState) (front : Front) (bytes : List ℕ) → NoneRead (block_said state front x bytes)
 said_none said.Section state front bytes = refl
 said_none (said.Interface link) state front bytes = refl
 said_none (said.Packet link captured) state front bytes = refl
 said_none said.Other state front bytes = refl
 
+-- no block leaves a byte of the next one read
 block_none_read : (state : BlockState) (bytes : List ℕ) → NoneRead (block_at state bytes)
 block_none_read state bytes = go (came state bytes)
   where
@@ -230,6 +237,7 @@ block_none_read state bytes = go (came state bytes)
     go (Faulty fault some is) = subst NoneRead (sym is) tt
     go (Whole front x is facts room whole says) = subst NoneRead (sym says) (said_none x state front bytes)
 
+-- a record past some blocks leaves no byte of the next block read
 within-first : (fuel : ℕ) (state : BlockState) (left : List ℕ) → length (state.first ++ left) < fuel →
     FirstNone (next_of (Blocks state) left)
 within-first zero state left enough = absurd (omega (arith, enough))
@@ -247,6 +255,7 @@ within-first (suc fuel) state left enough =
       | inr (inr (inr fails)) ↦ subst FirstNone (sym (next-fault state left fails.0 fails.1)) tt
     ]
 
+-- a record of either format leaves no byte of the next block read
 pub next-first : (state : AnyState) (left : List ℕ) → FirstNone (next_of state left)
 next-first (Blocks state) left = within-first (suc (length (state.first ++ left))) state left (omega arith)
 next-first (Savefile state) left = elim (savefile_cases (savefile.next_of state left)) [

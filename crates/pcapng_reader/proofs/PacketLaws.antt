@@ -39,12 +39,14 @@ CountsBlock state (block.Given captured now after) =
     (state.count < max_records) × (now.count ≡ state.count + 1) × (now.progress ≡ state.progress)
 CountsBlock state (block.Fault fault) = ⊤
 
+-- a count that isn't refused is below its limit
 below : (limit count : ℕ) → nat_lt limit (count + 1) ≡ false → count < limit
 below limit count is = elim (cases_lt limit (count + 1)) [
   | inl less ↦ absurd (false≢true (sym is ∙ lt-ltb limit (count + 1) less))
   | inr more ↦ omega (arith, more)
 ]
 
+-- a block is counted, whatever it says
 said_counts : (x : Said) (state : BlockState) (front : Front) (bytes : List ℕ) → is_last state ≡ false →
     CountsBlock state (block_said state front x bytes)
 said_counts said.Section state front bytes few =
@@ -56,6 +58,7 @@ said_counts (said.Packet link captured) state front bytes few =
 said_counts said.Other state front bytes few =
     (refl, below max_blocks state.blocks (or_parts (nat_lt max_records (state.count + 1)) _ few).1, refl, refl)
 
+-- each block is counted
 pub block-counts : (state : BlockState) (bytes : List ℕ) → CountsBlock state (block_at state bytes)
 block-counts state bytes = go (came state bytes)
   where
@@ -85,6 +88,7 @@ Passing-none state view = record {
   progress = refl;
 }
 
+-- a reading that goes on stands as it stood
 stood_on : (ending : Ending) (given : List ℕ) (old new : DeskView) → ending ≡ GoesOn →
     ReadsOn (stands ending) given old new → ReadsOn and_goes_on given old new
 stood_on ending given old new is reads = rw is at reads
@@ -123,6 +127,7 @@ module _ (before state : BlockState) (old mid : DeskView) (passed : Passing befo
       next_of (Blocks before) (passed.given ++ given) ≡ next
   leads_to given next is = passed.leads given ∙ is
 
+  -- an answer by the block that was read is what is found
   found : (now : BlockState) (new : DeskView) (answer : Answer) (given : List ℕ) (ending : Ending) →
       AnswerStands answer ending → ReadsOn (stands ending) given mid new → (ending ≡ Ended → IsAtEnd new) →
       KeepsReading mid new → IsNext (Blocks before) (Blocks now) (passed.given ++ given) [] answer →
@@ -157,6 +162,7 @@ module _ (before state : BlockState) (old mid : DeskView) (passed : Passing befo
       (subst IsEnd (sym (leads_to read.given _ (next-end state read.given read.is))) tt, refl)
       (passed.count, passed.progress) (λ e. absurd (cc))
 
+  -- bytes before a block that isn't there have no record
   no_record : (given : List ℕ) → HasNoBlock (block_of state given) →
       HasNoRecord (next_of (Blocks before) (passed.given ++ given))
   no_record given none = go (block_of state given) refl

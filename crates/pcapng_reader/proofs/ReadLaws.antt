@@ -170,6 +170,7 @@ stands-plain (PngCut number) ending plain or = absurd plain
 stands-plain ReadFault ending plain or = absurd plain
 stands-plain fault ending plain or = or
 
+-- such a fault is no read fault
 plain_no_read : (fault : CaptureFault) → IsPlain fault → Fault fault ≢ Fault ReadFault
 plain_no_read fault plain is = subst IsPlain (let e : fault ≡ ReadFault = cc in e) plain
 
@@ -186,16 +187,19 @@ abbrev IsJudged : {A : Type 0} → Result A CaptureFault → Type 0
 IsJudged (Ok x) = ⊤
 IsJudged (Err fault) = IsPlain fault
 
+-- a test passes or has such a fault, and then what follows does
 judged_refused : {B : Type 0} (test : Bool) (fault : CaptureFault) (next : Bool → Result B CaptureFault) →
     IsPlain fault → ((x : Bool) → IsJudged (next x)) → IsJudged (refuse test fault >>= next)
 judged_refused true fault next plain each = plain
 judged_refused false fault next plain each = each false
 
+-- a value is there or has such a fault, and then what follows does
 judged_found : {A B : Type 0} (fault : CaptureFault) (found : Option A) (next : A → Result B CaptureFault) →
     IsPlain fault → ((x : A) → IsJudged (next x)) → IsJudged (or_fault fault found >>= next)
 judged_found fault None next plain each = plain
 judged_found fault (Some x) next plain each = each x
 
+-- what a block says by its kind passes or has such a fault
 said_judged : (kind : Kind) (state : BlockState) (front : Front) (bytes : List ℕ) →
     IsJudged (said_by kind state front bytes)
 said_judged Section state front bytes =
@@ -265,6 +269,7 @@ ReadsPart-ok {E} state first before more count old new is fits filled =
           (omega (arith, less, fits, length-append first more)) filled),
     )
 
+-- a read that failed broke the part off
 pub ReadsPart-failed : {E : Type 0} (state : BlockState) (first before more : List ℕ) (fault : E) (old new : DeskView) →
     state.first ≡ first → length more ≡ length before → Fills before more old new (Err fault) →
     HasBroken state state.first (length (first ++ more)) old new

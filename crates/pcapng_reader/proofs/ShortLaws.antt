@@ -60,6 +60,7 @@ pub record HasFrontRead (state : BlockState) (front : Front) (first before rest 
 -- And then the rest of the block was read.
 module _ {state : BlockState} {front : Front} {first before rest : List ℕ} {old mid : DeskView}
     (its : HasFrontRead state front first before rest old mid) where
+  -- one block more may be read
   few : is_last state ≡ false
   few = (HasFront-from state first front its.is).few
 
@@ -67,6 +68,7 @@ module _ {state : BlockState} {front : Front} {first before rest : List ℕ} {ol
   longer : (more : List ℕ) → front_of state (first ++ more) ≡ Ok front
   longer more = front-append state first more few (omega (arith, its.whole)) ∙ its.is
 
+  -- each kind has at least the bytes of a front
   least : front_len ≤ least_len front.kind
   least = front_least front.kind
 
@@ -138,6 +140,7 @@ module _ {state : BlockState} {front : Front} {first before rest : List ℕ} {ol
       (block-said_fault state part front _ (longer (take count rest))
       (said-cut state front part x enough alone (omega (arith, len, less, its.total)))) refl (λ e. absurd (cc))
 
+  -- the block has as many bytes as its front says
   all_len : length (first ++ rest) ≡ front.total
   all_len = omega (arith, its.whole, its.fits, its.total, length-append first rest)
 

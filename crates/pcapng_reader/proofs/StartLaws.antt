@@ -35,6 +35,7 @@ savefile_says (Err fault) = Err fault
 pub start_blocks : (bytes : List ℕ) → is_blocks bytes ≡ true → start_of bytes ≡ Ok (Blocks (begun_blocks section_bytes))
 start_blocks bytes is = rw is refl
 
+-- a file that isn't of blocks begins as a savefile
 pub start_savefile : (bytes : List ℕ) → is_blocks bytes ≡ false → (r : Result Start CaptureFault) →
     savefile_start bytes ≡ r → start_of bytes ≡ savefile_says r
 start_savefile bytes isnt (Ok start) says = rw (isnt, says) refl
@@ -60,6 +61,7 @@ blocks_are bytes is =
     (bytes_eq-Decides (take 4 bytes) section_bytes).1
     (take_all 4 bytes (omega (arith, ap length is)) ∙ is)
 
+-- four other bytes than those of a section don't begin a file of blocks
 blocks_arent : (bytes : List ℕ) → length bytes ≡ 4 → bytes ≢ section_bytes → is_blocks bytes ≡ false
 blocks_arent bytes four isnt = go (is_blocks bytes) refl
   where
@@ -79,6 +81,7 @@ header-append bytes more there =
       take-append-le file_header_len bytes more there,
     ) refl
 
+-- a header of a savefile is cut if there are fewer bytes than it has
 header-cut : (bytes : List ℕ) → length bytes < file_header_len → savefile_start bytes ≡ Err HeaderCut
 header-cut bytes cut = rw (lt-leb file_header_len (length bytes) cut) refl
 

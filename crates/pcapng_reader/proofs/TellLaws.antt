@@ -76,6 +76,7 @@ is_next_by (Ok (Some captured)) before found now given shows is =
 is_next_by (Err ReadFault) before found now given shows is = is
 is_next_by (Err fault) before found now given shows is = is
 
+-- a reader of blocks that shows so, and counted so, goes to that state
 goes_to_by : (answer : Answer) (before found now : BlockState) → ShowsAfter found now answer → Counts before found
     answer →
     GoesTo (Blocks before) (Blocks now) answer
@@ -124,6 +125,7 @@ ending_by (Err (PngCut n)) = Ended
 ending_by (Err ReadFault) = BrokenOff
 ending_by (Err fault) = GoesOn
 
+-- the reading stands so after the answer
 stands_by : (answer : Answer) → AnswerStands answer (ending_by answer)
 stands_by (Ok None) = refl
 stands_by (Ok (Some captured)) = refl
@@ -133,6 +135,7 @@ stands_by (Err (PngCut n)) = refl
 stands_by (Err ReadFault) = refl
 stands_by (Err fault) = inl refl
 
+-- a reading that stands by the answer of a savefile stands so
 reads_by : (answer : Answer) (given : List ℕ) (old new : DeskView) →
     ReadsOn (savefile_reader.after_next answer) given old new → ReadsOn (stands (ending_by answer)) given old new
 reads_by (Ok None) given old new reads = reads
@@ -143,6 +146,7 @@ reads_by (Err (PngCut n)) given old new reads = reads
 reads_by (Err ReadFault) given old new reads = reads
 reads_by (Err fault) given old new reads = reads
 
+-- if the reading has ended, the answer met the end
 meets_by : (answer : Answer) → ending_by answer ≡ Ended → savefile_reader.meets_end answer ≡ true
 meets_by (Ok None) e = refl
 meets_by (Ok (Some captured)) e = absurd (cc)
@@ -152,12 +156,14 @@ meets_by (Err (PngCut n)) e = refl
 meets_by (Err ReadFault) e = absurd (cc)
 meets_by (Err fault) e = absurd (cc)
 
+-- what is no record of a savefile is none of a capture
 no_record : (next : savefile.Next) (state : CaptureState) → savefile_reader.HasNoRecord next →
     HasNoRecord (with_state state next)
 no_record savefile.End state none = tt
 no_record (savefile.Record captured after) state none = absurd none
 no_record (savefile.Fault fault) state none = tt
 
+-- an answer to what stands next in a savefile is one in a capture
 savefile_next : (answer : Answer) (before now : CaptureState) (given : List ℕ) →
     now ≡ state_after before answer → savefile_reader.IsNext before given [] answer →
     IsNext (Savefile before) (Savefile now) given [] answer
@@ -172,12 +178,14 @@ savefile_next (Err ReadFault) before now given shows is = record {
 }
 savefile_next (Err fault) before now given shows is = ap (with_state before) is
 
+-- the reader of a savefile goes to the state after its answer
 savefile_goes : (answer : Answer) (before now : CaptureState) → now ≡ state_after before answer →
     GoesTo (Savefile before) (Savefile now) answer
 savefile_goes (Ok None) before now shows = (ap (λ s. s.progress) shows, ap (λ s. s.count) shows)
 savefile_goes (Ok (Some captured)) before now shows = (ap (λ s. s.progress) shows, ap (λ s. s.count) shows)
 savefile_goes (Err fault) before now shows = (ap (λ s. s.progress) shows, ap (λ s. s.count) shows)
 
+-- a reader that has ended is at the end
 ended_is : (p : Progress) → has_ended p ≡ true → p ≡ progress.Ended
 ended_is progress.Reading e = absurd (false≢true e)
 ended_is progress.Ended e = refl
