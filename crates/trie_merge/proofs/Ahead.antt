@@ -73,6 +73,7 @@ module _ (column : ColumnView) where
 
 -- ---- lists that differ are reached as states that differ
 
+-- two lists that were found have one successor exactly if they are one list
 pub apart_where_lists_are : (found : List (List ℕ)) (one other : List ℕ) → is_new bytes_eq is_live found one ≡ false →
     is_new bytes_eq is_live found other ≡ false
     → same_succ (succ_in false found one) (succ_in false found other) ≡ bytes_eq one other
@@ -86,6 +87,7 @@ apart_where_lists_are found (x ∷ xs) (y ∷ ys) known known' =
 -- ---- so the words are known
 
 module _ (set : RuleSetView) (column : ColumnView) (states : List (List ℕ)) where
+  -- what the states lead to
   abbrev found : List (List ℕ)
   found = level_found set column false states
 
@@ -93,6 +95,7 @@ module _ (set : RuleSetView) (column : ColumnView) (states : List (List ℕ)) wh
   abbrev IsKnown : List ℕ → Type 0
   IsKnown entries = (byte : ℕ) → byte < 256 → is_new bytes_eq is_live found (entries_step column entries byte) ≡ false
 
+  -- the entries of each state are known
   all_known : AllByRecursion IsKnown states
   unfolding level_found found_in successor
   all_known =

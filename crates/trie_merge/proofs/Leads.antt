@@ -72,6 +72,7 @@ module _ {column : ColumnView} {entry : ℕ} {old now : Target} {pieces : List P
 -- ---- parts
 
 module _ {column : ColumnView} {pairs : List (ℕ × ℕ)} {entry part : ℕ} {old new : Target} {pieces : List Piece} where
+  -- a part of an entry is led as the entry is
   pub entry_part : KeyAt same_pair pairs (0, entry) part → EntryLed column entry old new pieces
       → PartLed column pairs part old new pieces
   entry_part at led = record {
@@ -84,12 +85,14 @@ module _ {column : ColumnView} {pairs : List (ℕ × ℕ)} {entry part : ℕ} {o
 
 module _ {column : ColumnView} {pairs : List (ℕ × ℕ)} {old : Target} {steps : List (List Piece)}
     (led : StepsLed column pairs old steps) where
+  -- the pieces of a number lead as its part does
   pub step_at : (number : ℕ) → 0 < number → number ≤ length steps
       → PiecesLead (step_of column) pairs old number (get_or steps (number - 1) [])
   step_at number some within =
       let e : number - 1 + 1 ≡ number = omega (arith, some) in
       rw e at (led.leads (number - 1) (omega (arith, some, within)))
 
+  -- a part of a pair is led as its two parts are, merged
   pub pair_part : {left right part : ℕ} {new : Target} {pieces : List Piece} → KeyAt same_pair pairs (left, right) part
       → 0 < left → 0 < right → left ≤ length steps → right ≤ length steps →
       Merges old new (get_or steps (left - 1) []) (get_or steps (right - 1) []) pieces
@@ -129,6 +132,7 @@ module _ {column : ColumnView} {pairs : List (ℕ × ℕ)} {old now new : Target
         };
       })
 
+-- before the first part nothing is led, and the target is as it was
 pub none_led : (column : ColumnView) (pairs : List (ℕ × ℕ)) (old : Target) → AllLed column pairs old old []
 none_led column pairs old = record {
   grows = grows_none old;
@@ -160,6 +164,7 @@ one_more_known {column = column} {entries = entries} {byte = byte} knows is few 
 -- ---- cuts of more entries
 
 module _ (column : ColumnView) (left right : List ℕ) where
+  -- a cut of the entries on the left is one of both
   pub cut_before : (byte : ℕ) → IsCutAt column left byte → IsCutAt column (left ++ right) byte
   cut_before byte is = record {
     some = is.some;
@@ -167,6 +172,7 @@ module _ (column : ColumnView) (left right : List ℕ) where
     cut = rw (list_any-append (λ entry. is_entry_cut column entry byte) left right, is.cut) refl;
   }
 
+  -- a cut of the entries on the right is one of both
   pub cut_after : (byte : ℕ) → IsCutAt column right byte → IsCutAt column (left ++ right) byte
   cut_after byte is = record {
     some = is.some;
@@ -196,6 +202,7 @@ kept_cut {column = column} {entries = entries} {cuts = cuts} k knows few below =
 -- ---- cuts of parts
 
 module _ {column : ColumnView} {pairs : List (ℕ × ℕ)} {all : List Cuts} {cuts : Cuts} where
+  -- the cuts of one more pair are built from those before
   pub built_push : length all < length pairs → AreBuilt column pairs all
       → IsBuilt column (get_or pairs (length all) (0, 0)) all (length all) cuts
       → AreBuilt column pairs (all ++ cuts ∷ [])
@@ -223,6 +230,7 @@ module _ {column : ColumnView} {pairs : List (ℕ × ℕ)} {all : List Cuts} {cu
 
 -- the cuts of a number are those of the entries that it stands for
 module _ (column : ColumnView) (pairs : List (ℕ × ℕ)) (all : List Cuts) (built : AreBuilt column pairs all) where
+  -- the cuts of a number tell those of the entries that it stands for
   pub built_tells : (tree : Tree) (f : ℕ → Option ℕ) (number : ℕ) → Stands pairs tree f number → 0 < number
       → number ≤ length all → Knows column (filter_map f (leaves tree)) (get_or all (number - 1) no_cuts)
   built_tells (Leaf rule) f number stands some within = by (f rule) stands
@@ -259,6 +267,7 @@ module _ (column : ColumnView) (pairs : List (ℕ × ℕ)) (all : List Cuts) (bu
 cost_up : (few more : ℕ) → 0 < few → few ≤ more → cost_of few ≤ cost_of more
 cost_up few more some up = grind (arith, nat_tests)
 
+-- a run of entries ends before each of their cuts
 change_before : (column : ColumnView) (entries : List ℕ) (byte : ℕ) → RisesFrom 0 entries
     → IsCutAt column entries byte → is_change column entries (byte - 1) ≡ true
 unfolding is_change

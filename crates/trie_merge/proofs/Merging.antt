@@ -185,12 +185,15 @@ module _ {place : Place} {before : ℕ} {pairs : List (ℕ × ℕ)} {old : Targe
     module _ {set : RuleSetView} {group : List ℕ} {tree : RuleTree} {lists : List (List ℕ)} {list : List ℕ}
         (for : IsFor set place.is_last old) (placed : ArePlaced set group tree pairs lists done)
         (is : IsState pairs tree list state) where
+      -- the lists before this one
       was : ListsSoFar set place tree now lists
       was = so_far.lists set group tree lists for placed
 
+      -- the rules of the tree ascend
       ascending : IsStrictlyIncreasing tree.rules
       ascending = rw placed.rules placed.grouped.group.ascending
 
+      -- the rules of the tree are rules of the set
       inside : All (λ rule. rule < length set.rules) tree.rules
       inside = rw placed.rules placed.grouped.group.within
 
@@ -198,12 +201,15 @@ module _ {place : Place} {before : ℕ} {pairs : List (ℕ × ℕ)} {old : Targe
       abbrev next_list : ℕ → List ℕ
       next_list = successor set place.column place.is_last list
 
+      -- the number to which a byte leads
       abbrev next_number : ℕ → ℕ
       next_number = number_at added.merged.pieces
 
+      -- the lists that were found, with those to which this one leads
       abbrev after_lists : List (List ℕ)
       after_lists = fold lists_with (found_from set place lists) (led_to set place list)
 
+      -- the number to which a byte leads stands for the list to which it leads
       byte_leads : (byte : ℕ) → byte < 256
           → IsIn set (target_of new.merged) tree (next_list byte) (next_number byte)
       byte_leads byte below =
@@ -211,6 +217,7 @@ module _ {place : Place} {before : ℕ} {pairs : List (ℕ × ℕ)} {old : Targe
           (for_grows set place.is_last old (target_of new.merged) (led_on so_far.led added.led).grows for) is
           (added.merged.leads byte below)
 
+      -- the numbers that were found then stand for these lists
       found_after : AreIn set (target_of new.merged) tree after_lists (numbers_of new.merged)
       found_after =
           rw added.merged.finds
@@ -220,9 +227,11 @@ module _ {place : Place} {before : ℕ} {pairs : List (ℕ × ℕ)} {old : Targe
           (are_grown set (target_of now.merged) (target_of new.merged) tree added.led.grows (found_from set place lists)
           (numbers_of now.merged) was.finds))
 
+      -- the lists that were found before come first among these
       grown : (more : List (List ℕ)) × (after_lists ≡ found_from set place lists ++ more)
       grown = found_grows bytes_eq is_live (found_from set place lists) (led_to set place list)
 
+      -- the runs of the list are those of its state
       runs_here : (more : List (List ℕ))
           → runs_of (λ byte. succ_of place.is_last (numbers_of new.merged) (next_number byte))
           ≡ state_runs set place.column place.is_last (after_lists ++ more) list
@@ -235,10 +244,12 @@ module _ {place : Place} {before : ℕ} {pairs : List (ℕ × ℕ)} {old : Targe
           ∙ succ_alike set order law tree ascending inside (target_of new.merged) place.is_last (next_list byte)
           (next_number byte) after_lists (numbers_of new.merged) (byte_leads byte below) found_after))
 
+      -- the runs of the lists before it stay as they are
       runs_before : (more : List (List ℕ)) → runs_in now.merged ≡ runs_among set place (after_lists ++ more) lists
       runs_before more = rw (grown.1, append_assoc (found_from set place lists) grown.0 more)
           (was.its_runs (grown.0 ++ more))
 
+      -- the lists with this one more
       one_more_list : ListsSoFar set place tree new (lists ++ list ∷ [])
       one_more_list =
           let all = found_both set place lists (list ∷ [])

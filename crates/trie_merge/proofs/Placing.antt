@@ -59,12 +59,14 @@ parts_for : (set : RuleSetView) (t : Target) → IsFor set false t → (pairs : 
 parts_for set (Parts pairs) kind = (pairs, refl)
 parts_for set (Rows rows) kind = absurd cc
 
+-- at the last place rows are numbered, with the ranks of the set
 rows_for : (set : RuleSetView) (t : Target) → IsFor set true t
     → (rows : RowsView) × (t ≡ Rows rows) × (rows.ranked ≡ ranked_of set)
 rows_for set (Parts pairs) kind = absurd cc
 rows_for set (Rows rows) kind = (rows, refl, kind.1)
 
 module _ (set : RuleSetView) (group : List ℕ) where
+  -- the kept places of the group
   abbrev places : List ℕ
   places = kept_places set group
 
@@ -81,6 +83,7 @@ module _ (set : RuleSetView) (group : List ℕ) where
   abbrev runs_from : List ℕ → List (List (List Run))
   runs_from ps = level_runs set (states_at set group) (rows_of set group) ps
 
+  -- the words of the places from some on
   abbrev words_from : List ℕ → ℕ
   words_from ps = words_of (runs_from ps) (rows_of set group)
 
@@ -111,9 +114,11 @@ module _ (set : RuleSetView) (group : List ℕ) where
       (list_all_at_member (λ n. is_wild_at set.layout (values_of set n) place) group rule wild member)
 
   module _ (its : IsGrouped set group) where
+    -- each rule of the group is in the set, with lawful values
     abbrev held : AllByRecursion (IsHeld set) group
     held = group_held set group its.rules its.layout its.group.within
 
+    -- a key has at least one byte
     abbrev key : 0 < key_len_of set.layout
     key = (short_keys set.layout its.layout).0
 
@@ -150,6 +155,7 @@ module _ (set : RuleSetView) (group : List ℕ) where
           member = subst IsMember (sym (number_in-entry_of rule Free)) member;
         }
 
+    -- before the first place nothing is placed
     pub placed_start : (cap : ℕ) {target : Target} {numbers : List ℕ} → IsStarted group target numbers
         → Placed cap 0 [] target numbers 0
     placed_start cap start =
@@ -203,12 +209,15 @@ module _ (set : RuleSetView) (group : List ℕ) where
       abbrev column : ColumnView
       column = place_of set places place
 
+      -- the place is the last kept one
       abbrev is_last : Bool
       is_last = place + 1 == length places
 
+      -- the entries that are found at the place
       abbrev states : List (List ℕ)
       states = packed_at set group (get_or places place 0)
 
+      -- what these entries lead to
       abbrev found : List (List ℕ)
       found = level_found set column is_last states
 
@@ -223,6 +232,7 @@ module _ (set : RuleSetView) (group : List ℕ) where
             ap runs_from (rest_is set group held its.group.some key place below)
             ∙ (level_here set group held its.group.some key place below).runs
 
+        -- the words of the places from one on are its own and those of the places after it
         words_split : words_from (drop place places) ≡ states_words its_runs + words_from (drop (place + 1) places)
         words_split =
             let rest : List (List (List Run)) = runs_from (drop (place + 1) places) in
@@ -236,6 +246,7 @@ module _ (set : RuleSetView) (group : List ℕ) where
             ((level_here set group held its.group.some key place below).next
             (omega (arith, more, length-drop (place + 1) places)))
 
+        -- what the last place's entries lead to are the rows
         found_rows : length places ≤ place + 1 → found ≡ rows_of set group
         found_rows end =
             (level_here set group held its.group.some key place below).rows
@@ -274,6 +285,7 @@ module _ (set : RuleSetView) (group : List ℕ) where
       parts : (pairs : List (ℕ × ℕ)) × (target ≡ Parts pairs)
       parts = parts_for set target (rw (ne_eqb place (length places) (λ e. omega (arith, e, below))) at so_far.kind)
 
+      -- what was placed so far stands in the tree
       placed : ArePlaced set group so_far.tree parts.0 so_far.lists numbers
       placed = record {
         grouped = its;

@@ -44,6 +44,7 @@ module _ (ranked : List Ranked) where
   abbrev rank_in : ℕ → ℕ → ℕ
   rank_in category number = get_or (row_of_rule (get_or ranked number (record { mask = 0; rank = 0 }))) category 0
 
+  -- in each category the best row of entries has the greatest rank of their rules
   best_at : (category : ℕ) (entries : List ℕ)
       → get_or (best_row ranked entries) category 0 ≡ greatest (rank_in category) (map number_in entries)
   unfolding row_of_entry
@@ -148,9 +149,11 @@ module _ (tree : RuleTree) (f : ℕ → Option ℕ) where
   abbrev there : List ℕ
   there = filter_map f tree.rules
 
+  -- both lists have the same elements
   alike : SameElements here there
   alike = same_filter_maps f (leaves tree.tree) tree.rules tree.same
 
+  -- both lists have one best row
   pub row_arranged : (ranked : List Ranked) → best_row ranked here ≡ best_row ranked there
   row_arranged ranked =
       let same = greatest_same (map number_in here) (map number_in there) (same_maps number_in here there alike) in
@@ -159,6 +162,7 @@ module _ (tree : RuleTree) (f : ℕ → Option ℕ) where
       (λ category below. best_at ranked category here ∙ same (rank_in ranked category)
       ∙ sym (best_at ranked category there))
 
+  -- cuts that tell the one list tell the other
   pub known_arranged : (column : ColumnView) (cuts : Cuts) → Knows column here cuts → Knows column there cuts
   known_arranged column cuts knows = record {
     bytes = knows.bytes;

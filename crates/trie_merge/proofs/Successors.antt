@@ -64,6 +64,7 @@ one_more_run f old_runs runs b succ succ' below before last here =
           (append_assoc old_runs (some_runs f b) (record { last = b; to = succ } ∷ []))
     ]
 
+-- a successor compares as one with itself
 same_as_itself : (succ : Succ) → same_succ succ succ ≡ true
 same_as_itself Dead = refl
 same_as_itself (State number) = eq-eqb number number refl

@@ -38,6 +38,7 @@ use Rattle.trie_merge.specs.Words.{RisesFrom}
 
 -- ---- entries of the leaves of a tree
 
+-- two functions that agree on the leaves of a tree give it the same entries
 same_on : (tree : Tree) (f g : ℕ → Option ℕ) → ((rule : ℕ) → Among (leaves tree) rule → f rule ≡ g rule)
     → SameOn tree f g
 same_on (Leaf rule) f g same = same rule (among_here rule rule [] refl)
@@ -55,6 +56,7 @@ nothing_stands pairs (Node left right) =
 -- ---- states
 
 module _ (pairs : List (ℕ × ℕ)) (tree : RuleTree) where
+  -- two lists are one exactly if their numbers are
   pub states_agree : (list other : List ℕ) (n m : ℕ) → IsState pairs tree list n → IsState pairs tree other m
       → bytes_eq list other ≡ nat_eq n m
   states_agree list other n m a b =
@@ -66,6 +68,7 @@ module _ (pairs : List (ℕ × ℕ)) (tree : RuleTree) where
       made_same number_in a.entries b.entries a.own b.own tree.rules (sym a.is ∙ e ∙ b.is) rule
       (sym (tree.same rule) ∙ there))) a.stands b.stands)
 
+  -- a list is live exactly if its number isn't 0
   pub state_live : (list : List ℕ) (n : ℕ) → IsState pairs tree list n → is_live list ≡ is_some_number n
   state_live list n a = by list (states_agree list [] n 0 a (record {
     entries = λ _. None;
@@ -100,6 +103,7 @@ module _ (set : RuleSetView) (order : RanksOrderRules) (law : TheBestHasTheGreat
     (rise : IsStrictlyIncreasing tree.rules) (inside : All (λ rule. rule < length set.rules) tree.rules) where
   -- ---- a number of a row stands for the ranks of what the row says, which are rules of the set
 
+  -- the number of a row stands for the ranks of what the row says, each of a rule of the set
   row_stands : (rows : RowsView) (row : List ℕ) (n : ℕ) → IsRowOf set rows tree row n
       → IsRow rows.rows (map (rank_said set) row) n × AllByRecursion (λ said. said ≤ length set.rules) row
   row_stands rows row n a =
@@ -131,6 +135,7 @@ module _ (set : RuleSetView) (order : RanksOrderRules) (law : TheBestHasTheGreat
 
   -- ---- tests on numbers say what tests on lists say
 
+  -- in any target two lists are one exactly if their numbers are
   numbers_agree : (target : Target) (list other : List ℕ) (n m : ℕ) → IsIn set target tree list n
       → IsIn set target tree other m → bytes_eq list other ≡ nat_eq n m
   numbers_agree (Parts pairs) list other n m a b = states_agree pairs tree list other n m a b
@@ -142,6 +147,7 @@ module _ (set : RuleSetView) (order : RanksOrderRules) (law : TheBestHasTheGreat
       list other one.1 two.1 (row_is rows.rows _ _ n one.0 (rw e two.0)))
       (λ e. row_alone rows.rows (map (rank_said set) list) n m one.0 (rw e two.0))
 
+  -- in any target a list is live exactly if its number isn't 0
   number_live : (target : Target) (list : List ℕ) (n : ℕ) → IsIn set target tree list n
       → is_live list ≡ is_some_number n
   number_live (Parts pairs) list n a = state_live pairs tree list n a
@@ -176,6 +182,7 @@ module _ (set : RuleSetView) (order : RanksOrderRules) (law : TheBestHasTheGreat
 
 -- ---- numbers when more come
 
+-- the number of a list stands for it when the target goes on
 state_grows : (set : RuleSetView) (old new : Target) (tree : RuleTree) → Grows old new → (list : List ℕ) (n : ℕ)
     → IsIn set old tree list n → IsIn set new tree list n
 state_grows set (Parts pairs) (Parts now) tree grows list n a = record {
@@ -196,6 +203,7 @@ state_grows set (Rows rows) (Rows now) tree (same, (more, is)) list n a =
       stands = subst (λ rs. IsRow rs row n) (sym is) (row_grows rows.rows more row n (rw same a.stands));
     }
 
+-- and so do the numbers of several lists
 pub are_grown : (set : RuleSetView) (old new : Target) (tree : RuleTree) → Grows old new → (lists : List (List ℕ))
     (numbers : List ℕ) → AreIn set old tree lists numbers → AreIn set new tree lists numbers
 are_grown set old new tree grows lists numbers all =
