@@ -23,8 +23,10 @@ E = record {
 abbrev pub FromParts : Slot 0
 FromParts = plain (λ _. parts.the_row held.the_row Heap.the_row ghosts)
 
+-- the parameter that is the slot itself
 abbrev pub FromSlot : Slot 0
 FromSlot = plain (λ _. slot.the_row)
 
+-- the parameter that is its allocator
 abbrev pub FromAlloc : Slot 0
 FromAlloc = plain (λ _. Heap.the_row)

@@ -18,6 +18,7 @@ use Rattle.acl_c.specs.contracts.shared.Shared as shared
 use Rattle.acl_c.specs.contracts.table_handle.TableHandle as table_handle
 use Rattle.acl_c.specs.contracts.table_slot.TableSlot as table_slot
 
+-- a pointer may go to another thread
 pointer_send : IsSend RawPtr
 pointer_send = search sendable
 

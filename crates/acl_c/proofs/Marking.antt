@@ -21,6 +21,7 @@ mark_of_not : (none : Bool) → mark_of (not none) ≡ (if none then 1 else 0)
 mark_of_not true = refl
 mark_of_not false = refl
 
+-- the marks of some categories are those of the table
 marks_of : (table : TableView) (key categories : List ℕ) →
     map mark_of (map (λ category. not (joined table key category == 0)) categories) ≡ map
     (table_mark table key) categories
