@@ -42,13 +42,15 @@ record Asked (words : List (List ℕ)) (old new : Outside) : Type 0 where
 
 -- words after a `compare` that was done are two names and options
 asked_after : (after : List (List ℕ)) (old new : Outside) →
-    Answers (asked_by compare_request (named_of for_compare after)) old new Done → Asked (codes "compare" ∷ after) old new
+    Answers (asked_by compare_request (named_of for_compare after)) old new Done →
+    Asked (codes "compare" ∷ after) old new
 asked_after [] old new answers = no_usage Done _ refl answers.usage
 asked_after (rules ∷ []) old new answers = no_usage Done _ refl answers.usage
 asked_after (rules ∷ second ∷ words) old new answers = go (options_from for_compare 4 none_given words) answers
   where
-    go : (options : Result Options UsageFault) → Answers (asked_by compare_request (named_with rules second options)) old new
-        Done → Asked (codes "compare" ∷ rules ∷ second ∷ words) old new
+    go : (options : Result Options UsageFault) →
+        Answers (asked_by compare_request (named_with rules second options)) old new Done →
+        Asked (codes "compare" ∷ rules ∷ second ∷ words) old new
     go (Ok options) all = record {
       rules = rules;
       second = second;

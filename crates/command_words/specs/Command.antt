@@ -125,8 +125,10 @@ abbrev pub other_command : List ℕ → List (List ℕ) → Result Request Usage
 other_command verb words =
     if bytes_eq verb (codes "bench") then asked_by Bench (numbers_of words)
     else if bytes_eq verb (codes "audit") then asked_by audit_request (single_of for_audit words)
-    else if bytes_eq verb (codes "compare") then asked_by compare_request (named_of for_compare words)
-    else if bytes_eq verb (codes "session") then asked_by session_request (single_of for_session words)
+    else if bytes_eq verb (codes "compare")
+    then asked_by compare_request (named_of for_compare words)
+    else if bytes_eq verb (codes "session")
+    then asked_by session_request (single_of for_session words)
     else Err (fault_at 1 UnknownCommand)
 
 -- the command of a verb and of the words after it: the table of the commands, one after the other

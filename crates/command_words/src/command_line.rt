@@ -129,7 +129,8 @@ fn read_classify(words: &[String]) -> Result<Request<'_>, UsageFault>
         asked_by classify_request (named_of for_classify (map string_bytes words.now))
         ≡ Ok (request_of request)) }
     ensures fault { IfErr result (λ fault.
-        asked_by classify_request (named_of for_classify (map string_bytes words.now)) ≡ Err fault) }
+        asked_by classify_request (named_of for_classify (map string_bytes words.now))
+        ≡ Err fault) }
 {
     let names = read_names(words, Allowed::for_classify())?;
     Ok(Request::Classify {

@@ -1,5 +1,5 @@
--- Which sizes a field may have, and which values: those that let every number through, and those that
--- are within its size.
+-- Which sizes a field may have, and which values: those that let every number through, and those
+-- that are within its size.
 use Rattle.std.specs.Prelude.{◌≡◌, ℕ, ◌+◌, ◌-◌, ◌*◌, ◌^◌, ◌<◌, ◌==◌, Bool, true, false, ◌&&◌}
 use Rattle.std.specs.Prelude.{◌||◌, nat_le, nat_lt, IsTrue}
 use Rattle.field_defs.specs.declared.field.FieldKind.{FieldKind}

@@ -7,9 +7,9 @@ use std::sync::ledger::{Blank, Book, Ledger, Share};
 
 /// How many transitions were counted, as contracts see it. No count is kept when the program runs.
 ///
-/// Only [`Steps::raise`] raises it, by one for each call, and nothing lowers it. That a walk calls it
-/// for each word that it takes is said by the walk's own contract, and not by this type. It is the
-/// total of a ledger, and the ledger is any.
+/// Only [`Steps::raise`] raises it, by one for each call, and nothing lowers it. That a walk calls
+/// it for each word that it takes is said by the walk's own contract, and not by this type. It is
+/// the total of a ledger, and the ledger is any.
 #[derive(Drop)]
 pub struct Steps<L: Ledger> {
     book: Book<L>,

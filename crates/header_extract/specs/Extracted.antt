@@ -1,4 +1,4 @@
--- What a reader of a header gives, and what `extract` promises of its answer and of the key's bytes.
+-- What a reader of a header gives, and what `extract` promises of its answer and the key's bytes.
 use Rattle.std.specs.Prelude.{◌≡◌, ℕ, List, ◌++◌, length, drop, Option, Some, None, Result, Ok, Err}
 use Rattle.table_sizes.specs.Groups.{ip4_key_len, ip6_key_len}
 use Rattle.header_extract.specs.declared.class.Class.{Class}

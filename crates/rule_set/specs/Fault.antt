@@ -1,7 +1,7 @@
 -- Why a rule is refused (DPDK Programmer's Guide, "Packet Classification and Access Control", and
 -- `rte_acl.h`: a rule has a value for each field, some category, and a priority from 0 to
--- 536,870,911). DPDK answers one number for all of these; here each kind of check has a fault of its
--- own, and the kinds have an order. Userdata 0 is lawful, as in DPDK 22.11.
+-- 536,870,911). DPDK answers one number for all of these; here each kind of check has a fault of
+-- its own, and the kinds have an order. Userdata 0 is lawful, as in DPDK 22.11.
 use Rattle.std.specs.Prelude.{ℕ, pos, ◌==◌, List, [], ◌∷◌, length, position, Bool, not}
 use Rattle.std.specs.Prelude.{◌&&◌, Option}
 use Rattle.std.specs.List.{list_any, range_with_len, zip}

@@ -391,13 +391,3 @@ module _ (set : RuleSetView) (group : List ℕ) where
             inside = so_far.inside;
           };
         }
-
--- what is within a cap is within a greater one
-pub within_more : {set : RuleSetView} {group : List ℕ} {cap most : ℕ} {gathered : Gathered}
-    → GathersGroup set group cap gathered → cap ≤ most → GathersGroup set group most gathered
-within_more its more = record {
-  runs = its.runs;
-  sum = its.sum;
-  within = omega (arith, its.within, more);
-  rows = its.rows;
-}
