@@ -1,4 +1,14 @@
 //! From the rules of a group to its merged states.
+//!
+//! [`Levels::build`] takes four steps:
+//!
+//! 1. `keep` finds the places of the key that are kept.
+//! 2. `start` makes the state before the first byte.
+//! 3. `merge_places` merges the states of each place, `merge_place` after `merge_place`.
+//! 4. `finish` reads the rows, and adds their words.
+//!
+//! What a call asks for, and what it gives, is one record each: of `specs/Places.antt` for a place,
+//! of `specs/Gathered.antt` for all of them.
 
 ghost use Rattle.std.specs.Prelude.{◌≡◌, ℕ, ◌<◌, ◌≤◌, ◌^◌, ◌+◌, []};
 ghost use Rattle.std.specs.Prelude.{map, length, min, All, OnOk, IfOk};

@@ -1,5 +1,15 @@
 //! The states of one kept place, one after the other: their runs, their words, and the states or
 //! rows that they lead to.
+//!
+//!     merge_states → merge_all → add_state → merge_state
+//!                                          → price_all → price → price_ahead
+//!
+//! A state's words are known once it is merged. What it leads to is merged at the next place, and
+//! until then it has a price: how many words it takes at least. So a merge ends as soon as it can't
+//! stay within the cap.
+//!
+//! What a call asks for, and what it gives, is one record each: of `specs/Merged.antt`, or of
+//! `specs/Priced.antt` for prices.
 
 ghost use Rattle.std.specs.Prelude.{◌≡◌, ℕ, ◌<◌, ◌+◌, ◌≤◌, length, false, Some, OnOk, IfOk};
 ghost use Rattle.table_sizes.specs.Sizes.{cost_of};
@@ -97,7 +107,7 @@ impl Reached {
     ghost use Rattle.std.specs.Prelude.{◌≡◌, ℕ, List};
     ghost use Rattle.state_parts.specs.RowsView.{RowsView};
 
-    /// The parts of the next place, before which the last one is not.
+    /// The parts of the next place. The place isn't the last one.
     pub(crate) fn parts(&self) -> &Parts
         requires { (pairs : List (ℕ × ℕ)) × (self.now.target ≡ Target.Parts pairs) }
         ensures { self.now.target ≡ Target.Parts result.now }
@@ -108,7 +118,7 @@ impl Reached {
         }
     }
 
-    /// The rows after the last place.
+    /// The rows after the last place, which the place is.
     pub(crate) fn rows(&self) -> &Rows
         requires { (rows : RowsView) × (self.now.target ≡ Target.Rows rows) }
         ensures { self.now.target ≡ Target.Rows result.now }
@@ -146,7 +156,7 @@ struct Work {
 struct Progress {
     work: Work,
     merged: Merged,
-    /// How many words what they lead to takes at least.
+    /// The price of what they lead to.
     least: u64,
 }
 
@@ -215,8 +225,8 @@ fn merge_state(
     Ok(())
 }
 
-/// How many words a state that is found takes at least, by the bytes at which its part changes what
-/// it leads to.
+/// The price of a number, where the place after it is given: the bytes at which its part changes
+/// what it leads to there tell the words of its state.
 fn price_ahead(
     next: &Column,
     target: &Target,
@@ -237,7 +247,7 @@ fn price_ahead(
     }
 }
 
-/// How many words what is found takes at least.
+/// The price of a number that is found: how many words its state or row takes at least.
 fn price(
     place: &Place,
     target: &Target,
@@ -258,7 +268,7 @@ fn price(
     }
 }
 
-/// How many words what is found from a place on takes at least.
+/// The price of all numbers that weren't seen before: those after the first `seen` ones.
 fn price_all(
     place: &Place,
     target: &Target,
@@ -280,7 +290,7 @@ fn price_all(
     Ok(words)
 }
 
-/// Adds one more state: merges it, and counts the least that what it leads to takes.
+/// Adds one more state: merges it, and counts the price of what it finds anew.
 fn add_state(
     place: &Place,
     parts: &Parts,
