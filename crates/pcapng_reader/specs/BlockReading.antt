@@ -20,7 +20,7 @@ use Rattle.pcapng_reader.specs.Block.{BlockState, block_of, front_of, least_len,
 use Rattle.pcapng_reader.specs.Block.{front_len, has_other_end, packet_said, said_by}
 use Rattle.pcapng_reader.specs.declared.blocks.BlockRead.{BlockRead}
 use Rattle.pcapng_reader.specs.declared.blocks.BlockRead.TheVariants as read
-use Rattle.pcapng_reader.specs.declared.blocks.Place.{Place}
+use Rattle.pcapng_reader.specs.declared.blocks.PacketPlace.{PacketPlace}
 use Rattle.pcapng_reader.specs.declared.front.Front.{Front}
 use Rattle.pcapng_reader.specs.declared.kind.Kind.TheVariants.{Packet}
 use Rattle.pcapng_reader.specs.declared.said.Said.{Said}
@@ -144,7 +144,7 @@ pub record ReadsBlock (state : BlockState) (old new : DeskView) (block : Block) 
   pub keeps : KeepsReading old new
 
 -- the packet at a place of a buffer
-abbrev pub packet_in : Place → List ℕ → CaptureRecord
+abbrev pub packet_in : PacketPlace → List ℕ → CaptureRecord
 packet_in place buffer = record { link = place.link; bytes = take place.len (drop place.at buffer) }
 
 -- the block that the code answers, where the reader knows so much after it and the buffer has these
@@ -173,7 +173,7 @@ read_of said.Other at = read.Passed
 -- A packet stands at a place of a block, of which so many bytes were read: all of them. It isn't
 -- refused, and ends in its length.
 pub record IsPacketAt (state : BlockState) (front : Front) (block : List ℕ) (len : ℕ)
-    (place : Place) : Type 0 where
+    (place : PacketPlace) : Type 0 where
   pub whole : len ≡ length block
   pub says : packet_said state front block ≡ Ok (said.Packet place.link place.len)
   pub ends : has_other_end front block ≡ false

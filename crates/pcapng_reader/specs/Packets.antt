@@ -12,7 +12,7 @@ use Rattle.pcapng_reader.specs.Block.{BlockState}
 use Rattle.pcapng_reader.specs.Capture.{Blocks}
 use Rattle.pcapng_reader.specs.Reader.{AnswerStands, IsNext}
 use Rattle.pcapng_reader.specs.BlockReading.{packet_in, stands}
-use Rattle.pcapng_reader.specs.declared.blocks.Place.{Place}
+use Rattle.pcapng_reader.specs.declared.blocks.PacketPlace.{PacketPlace}
 
 -- what a capture of blocks shows: what its reader knows, and the bytes in its buffer
 pub record BlocksView : Type 0 where
@@ -20,7 +20,7 @@ pub record BlocksView : Type 0 where
   pub room : List ℕ
 
 -- the answer with the packet in place of where it stands in a buffer
-abbrev pub answer_in : List ℕ → Result (Option Place) CaptureFault → Answer
+abbrev pub answer_in : List ℕ → Result (Option PacketPlace) CaptureFault → Answer
 answer_in buffer (Ok None) = Ok None
 answer_in buffer (Ok (Some place)) = Ok (Some (packet_in place buffer))
 answer_in buffer (Err fault) = Err fault

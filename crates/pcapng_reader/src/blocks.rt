@@ -41,9 +41,9 @@ pub const SECTION_BYTES: [u8; 4] = [0x0A, 0x0D, 0x0D, 0x0A];
 /// Where the captured bytes of an enhanced packet begin.
 pub const CAPTURED_AT: usize = 28;
 
-/// A packet of this link type, whose captured bytes stand in the buffer from a place on.
+/// Where the captured bytes of a packet stand in the buffer, and its link type.
 #[derive(Clone, Copy)]
-pub struct Place {
+pub struct PacketPlace {
     pub link: Link,
     pub at: usize,
     pub len: usize,
@@ -57,7 +57,7 @@ pub enum BlockRead {
     /// A block without a record.
     Passed,
     /// A packet.
-    Given(Place),
+    Given(PacketPlace),
 }
 
 /// Reads the next block, and says where in `buffer` the captured bytes of its packet stand, if it
@@ -260,7 +260,7 @@ fn in_parts(answer: Result<BlockRead, CaptureFault>) -> Result<BlockRead, Captur
     ensures { result ≡ answer }
 {
     match answer {
-        Ok(BlockRead::Given(place)) => Ok(BlockRead::Given(Place {
+        Ok(BlockRead::Given(place)) => Ok(BlockRead::Given(PacketPlace {
             link: place.link,
             at: place.at,
             len: place.len,
@@ -333,7 +333,7 @@ pub fn read_of(said: Said, at: usize) -> BlockRead
     match said {
         Said::Packet(link, captured) => {
             let len = captured as usize;
-            BlockRead::Given(Place { link, at, len })
+            BlockRead::Given(PacketPlace { link, at, len })
         }
         Said::Section | Said::Interface(_) | Said::Other => BlockRead::Passed,
     }

@@ -7,7 +7,7 @@ ghost use Rattle.pcapng_reader.specs.Capture.{Blocks};
 ghost use Rattle.pcapng_reader.specs.Packets.{Finds, answer_in};
 ghost use Rattle.pcapng_reader.specs.Reader.{TakesNext};
 
-use crate::blocks::{BlockRead, Place, read_block};
+use crate::blocks::{BlockRead, PacketPlace, read_block};
 use crate::reader::Reader;
 use acl_outside::Desk;
 use pcap_reader::{CaptureFault, Link, Progress};
@@ -64,7 +64,7 @@ impl BlockCapture {
 
     /// Reads the next packet into the buffer, and says where its captured bytes stand there.
     #[inline]
-    fn advance<D: Desk>(&mut self, desk: &mut D) -> Result<Option<Place>, CaptureFault>
+    fn advance<D: Desk>(&mut self, desk: &mut D) -> Result<Option<PacketPlace>, CaptureFault>
         requires reading { IsTrue (D.view desk.old).reading }
         requires unfailed { has_failed self.old.state.progress ≡ false }
         ensures takes { TakesNext (Blocks self.old.state) (Blocks self.new.state)
@@ -99,7 +99,7 @@ fn take_packet<D: Desk>(
     desk: &mut D,
     reader: &mut Reader,
     buffer: &mut [u8],
-) -> Result<Option<Place>, CaptureFault>
+) -> Result<Option<PacketPlace>, CaptureFault>
     requires reading { IsTrue (D.view desk.old).reading }
     requires room { length buffer.old ≡ max_captured }
     ensures takes { TakesNext (Blocks reader.old) (Blocks reader.new)
@@ -130,7 +130,7 @@ fn read_packet<D: Desk>(
     desk: &mut D,
     reader: &mut Reader,
     buffer: &mut [u8],
-) -> Result<Option<Place>, CaptureFault>
+) -> Result<Option<PacketPlace>, CaptureFault>
     requires reading { IsTrue (D.view desk.old).reading }
     requires room { length buffer.old ≡ max_captured }
     ensures packet { Finds reader.old reader.new (D.view desk.old) (D.view desk.new)

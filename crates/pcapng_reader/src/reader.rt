@@ -9,7 +9,7 @@ ghost use Rattle.pcap_reader.specs.ReaderStates.{has_ended};
 ghost use Rattle.pcapng_reader.specs.Capture.{begun_blocks, section_bytes};
 ghost use Rattle.pcapng_reader.specs.BlockReading.{HasRoom, IsPacketAt};
 
-use crate::blocks::{CAPTURED_AT, Place};
+use crate::blocks::{CAPTURED_AT, PacketPlace};
 use crate::front::Front;
 use crate::interfaces::Interfaces;
 use crate::kind::Kind;
@@ -232,7 +232,7 @@ impl Reader {
     /// Where a packet stands whose block was read in full and isn't refused. `None`: that isn't so,
     /// or only looks so. Of the block so many bytes were read.
     #[inline(always)]
-    pub fn packet_at(&self, front: &Front, block: &[u8], len: usize) -> Option<Place>
+    pub fn packet_at(&self, front: &Front, block: &[u8], len: usize) -> Option<PacketPlace>
         requires there { least_len front.now.kind ≤ length block.now }
         requires multiple { front.now.total % 4 ≡ 0 }
         requires total { length block.now ≡ front.now.total }
@@ -249,7 +249,7 @@ impl Reader {
 
     /// The same, where the block is that of a packet.
     #[inline(always)]
-    fn whole_packet(&self, front: &Front, block: &[u8], len: usize) -> Option<Place>
+    fn whole_packet(&self, front: &Front, block: &[u8], len: usize) -> Option<PacketPlace>
         requires there { least_len Kind.Packet ≤ length block.now }
         requires multiple { front.now.total % 4 ≡ 0 }
         requires total { length block.now ≡ front.now.total }
@@ -272,7 +272,7 @@ impl Reader {
         if u32_in(front.order, block, block.len() - 4) != front.total {
             return None;
         }
-        Some(Place {
+        Some(PacketPlace {
             link,
             at: CAPTURED_AT,
             len: captured,

@@ -1,7 +1,7 @@
 -- What was taken into the buffer is lent out of it.
 use Rattle.std.proofs.Common.{◌≡◌, ℕ, ◌+◌, ◌-◌, List, take, drop, None, Some, Ok, Err, refl, sym, subst, ap, ◌∙◌, arith}
 use Rattle.pcap_reader.specs.State.{CaptureRecord}
-use Rattle.pcapng_reader.specs.declared.blocks.Place.{Place}
+use Rattle.pcapng_reader.specs.declared.blocks.PacketPlace.{PacketPlace}
 use Rattle.pcapng_reader.specs.Block.{BlockState}
 use Rattle.pcapng_reader.specs.Capture.{Blocks}
 use Rattle.pcapng_reader.specs.Packets.{BlocksView}
@@ -10,7 +10,7 @@ use Rattle.pcapng_reader.specs.BlockReading.{packet_in}
 use Rattle.pcapng_reader.proofs.packets.BlockCapture.next.Goals as goal
 
 -- the packet that is lent is the one that stands in the buffer
-lent_packet : (place : Place) (items room : List ℕ) → items ≡ room →
+lent_packet : (place : PacketPlace) (items room : List ℕ) → items ≡ room →
     packet_in place room
     ≡ record { link = place.link; bytes = take ((place.at + place.len) - place.at) (drop place.at items) }
 lent_packet place items room is =
