@@ -24,7 +24,7 @@ fn is_row_word(rules: u32, word: u64) -> bool
 }
 
 /// The row of no rule.
-#[tactic(auto, unfolding(crate::specs::Reading::no_rule))]
+#[tactic(auto, unfolding(crate::specs::ImageReading::no_rule))]
 fn no_rule() -> [u64; ROW_LEN]
     ensures { result ≡ no_rule }
 {
