@@ -101,12 +101,19 @@ def fail_each(commands, table, command, words, whole, file=None):
             table.note(command, label_of(call.name, call.file, fault), run, right)
 
 
-def fail_calls(commands, table):
+def lack():
+    """Why no call can be watched or made to fail here, or nothing."""
     if not shutil.which("strace"):
-        print("strace isn't installed (Debian: apt-get install strace), so no call of the system is made to fail")
-        return
+        return "strace isn't installed (Debian: apt-get install strace)"
     if subprocess.run(["strace", "-o", "/dev/null", "true"], stderr=subprocess.DEVNULL).returncode:
-        print("strace may not watch programs here, so no call of the system is made to fail")
+        return "strace may not watch programs here"
+    return None
+
+
+def fail_calls(commands, table):
+    why = lack()
+    if why:
+        print(f"{why}, so no call of the system is made to fail")
         return
     for command, words in commands.words.items():
         fail_each(commands, table, command, words, commands.whole[command])

@@ -59,12 +59,12 @@ def limited(commands, words, size, made=None):
     return commands.run(words, before=limit, made=made)
 
 
-def enough(commands, command, words):
-    """A size with which the command ends well, by halving."""
+def enough(commands, words, code=0):
+    """A size with which the program ends with this code, by halving."""
     low, high = 0, 1 << 30
     while high - low > STEP:
         middle = (low + high) // 2 // 1024 * 1024
-        low, high = (low, middle) if limited(commands, words, middle).code == 0 else (middle, high)
+        low, high = (low, middle) if limited(commands, words, middle).code == code else (middle, high)
     return high
 
 
@@ -72,7 +72,7 @@ def fail_limits(commands, table):
     """Runs each command with more and more memory, from where it can't be loaded to where it has enough."""
     for command, words in commands.words.items():
         made, loaded = b"before" if command == "build" else None, False
-        most = enough(commands, command, words)
+        most = enough(commands, words)
         for size in range(STEP, most + 8 * STEP, STEP):
             run = limited(commands, words, size, made)
             loaded = loaded or run.code in (0, 1, 7, 8, 9)
