@@ -1,0 +1,110 @@
+"""Lists with one line damaged, each converted without loss or refused.
+
+FORMS is the registry: each form has a module `draws_NAME` with a function `draw(random)`, which gives a Drawn. To judge a
+damaged list is the list's own `judge(text)`: it gives what decides packets, with a method `decides(fields)`, or raises what
+the form's UNLAWFUL is. It isn't made of the converter's code.
+"""
+import random
+import re
+from collections import Counter, namedtuple
+
+import draws_iptables
+import draws_nft
+import packets
+from aclc_tools import forms, lists, rule_file
+from converting import decided
+
+# A list as lines, how they stand in a file, the options of the converter, what judges its text, and what that raises.
+Drawn = namedtuple("Drawn", "lines join options judge unlawful")
+FORMS = {"iptables": draws_iptables, "nft": draws_nft}
+LETTERS = "abcdefghijklmnopqrstuvwxyz0123456789-:./!_,\"ACDEJRT"
+
+
+def changed(draw, lines, at):
+    """A word, or a number, of a line becomes one of another line."""
+    words, others = re.split(r"(\W+)", lines[at]), re.split(r"\W+", draw.choice(lines))
+    words[2 * draw.randrange((len(words) + 1) // 2)] = draw.choice(others)
+    return lines[:at] + ["".join(words)] + lines[at + 1:]
+
+
+def swapped(draw, lines, at):
+    """Two words of a line change places."""
+    words = lines[at].split(" ")
+    one, other = draw.randrange(len(words)), draw.randrange(len(words))
+    words[one], words[other] = words[other], words[one]
+    return lines[:at] + [" ".join(words)] + lines[at + 1:]
+
+
+def removed(draw, lines, at):
+    return lines[:at] + lines[at + 1:]
+
+
+def doubled(draw, lines, at):
+    place = draw.randrange(len(lines) + 1)
+    return lines[:place] + [lines[at]] + lines[place:]
+
+
+def misspelled(draw, lines, at):
+    """A letter is left out, put in, or another one."""
+    line, place = lines[at], draw.randrange(len(lines[at]) + 1)
+    return lines[:at] + [line[:place] + draw.choice(["", draw.choice(LETTERS)]) + line[place + draw.randrange(2):]] + lines[at + 1:]
+
+
+def cut(draw, lines, at):
+    """A word of a line is left out, or all that follows it."""
+    words = lines[at].split(" ")
+    place = draw.randrange(len(words))
+    return lines[:at] + [" ".join(words[:place] + draw.choice([[], words[place + 1:]]))] + lines[at + 1:]
+
+
+def moved(draw, lines, at):
+    rest = lines[:at] + lines[at + 1:]
+    place = draw.randrange(len(rest) + 1)
+    return rest[:place] + [lines[at]] + rest[place:]
+
+
+DAMAGES = (changed, changed, swapped, removed, doubled, misspelled, misspelled, cut, moved)
+
+
+def judged(drawn, text, count, draw):
+    """What became of a list: `refused`, `converted`, or a sentence that tells a fault."""
+    try:
+        done = forms.converted(drawn.options, text)
+    except lists.CantSay as said:
+        return "refused" if re.search(r"\w .*\w", said.reason) else f"its reason is no sentence: {said.reason}"
+    rules, faults = rule_file.read_rules("\n".join(done.lines).encode())
+    if faults:
+        return f"the rule file has a fault: {faults[0].kind}"
+    try:
+        judge = drawn.judge(text)
+        for fields in fields_near(rules, count, draw):
+            wanted, found = judge.decides(fields), decided(rules, fields)
+            if (wanted or 0) != (found or 0):
+                return f"packet {fields}: the list decides by {wanted}, and the rule file says {found}"
+    except drawn.unlawful as error:
+        return f"it isn't lawful, and was converted: {error}"
+    return "converted"
+
+
+def fields_near(rules, count, draw):
+    """Packets near the rules; those without ports have 0."""
+    for family, source, destination, ports, protocol in packets.draw_fields(rules, count, draw.random()) if rules else ():
+        yield family, source, destination, tuple(ports) if protocol in (6, 17, 132) else (0, 0), protocol
+
+
+def run(form, count, seed, near=12):
+    """Counts of what became of so many damaged lists, and each fault with its list."""
+    draw, counts, faults = random.Random(seed), Counter(), []
+    for place in range(count):
+        drawn = FORMS[form].draw(draw)
+        lines = drawn.lines
+        if place % 10:
+            lines = draw.choice(DAMAGES)(draw, lines, draw.randrange(len(lines)))
+        text = drawn.join(lines)
+        found = judged(drawn, text, near, draw)
+        counts[found if found in ("refused", "converted") else "fault"] += 1
+        if found not in ("refused", "converted"):
+            faults.append((found, text))
+        if not place % 10 and found == "refused":
+            faults.append(("a list without damage is refused", text))
+    return counts, faults
