@@ -1,4 +1,5 @@
 """tools/convert: shipped lists against expected rule files, what it refuses, and chains against a plain walk over them."""
+import os
 import subprocess
 import unittest
 
@@ -63,6 +64,41 @@ class Convert(unittest.TestCase):
             self.assertEqual(done.returncode, code, done.stderr)
             self.assertIn(said, done.stderr.decode())
             self.assertEqual(code == 0, bool(done.stdout))
+
+    def test_userdata_is_the_line_the_verdict_or_a_number(self):
+        text = "*filter\n:INPUT DROP [0:0]\n-A INPUT -s 10.0.0.1 -j ACCEPT\n-A INPUT -s 10.0.0.2 -j REJECT\nCOMMIT\n"
+        for data, expected in (("line", [3, 4, 2]), ("verdict", [1, 3, 2]), (7, [7, 7, 7])):
+            rules = rules_of(convert("iptables", text, data=data)[0])
+            self.assertEqual([rule.userdata for rule in rules], expected)
+
+    def test_the_unsaid_end_of_a_list_has_a_verdict_and_no_line(self):
+        for data, expected in (("line", [2]), ("verdict", [1, 2])):
+            rules = rules_of(convert("cisco", CISCO.format("permit tcp any any"), data=data)[0])
+            self.assertEqual([rule.userdata for rule in rules], expected)
+
+    def test_what_is_assumed_is_read_or_a_usage_error(self):
+        said = assume.parse("in=eth0,state=new,local=10.0.0.1,local=2001:db8::1")
+        self.assertEqual(said.told(), "in=eth0,state=new,local=10.0.0.1,local=2001:db8::1")
+        self.assertEqual(said.local_addresses(6), ((1, 1), (0x20010DB8 << 96 | 1,) * 2))
+        for text in ("in", "in=", "way=eth0", "state=gone", "local=router", "in=a,in=b", "in=a,", " in=a"):
+            with self.assertRaises(ValueError, msg=text):
+                assume.parse(text)
+        for words in (["--assume", "state=gone"], ["--data", "lines"], ["--data", "4294967296"]):
+            done = subprocess.run([str(CONVERT), "iptables", *words, "-"], stdout=subprocess.PIPE, stderr=subprocess.PIPE)
+            self.assertEqual((done.returncode, done.stdout), (2, b""))
+
+    def test_what_is_assumed_is_told_in_the_file(self):
+        done = forms.converted(forms.options_of("iptables", "x", chain="INPUT", assume=assume.parse("in=eth0,state=new,local=192.0.2.10")),
+                               (DATA / "server.iptables-save").read_text())
+        self.assertEqual(done.lines[1], "# Assumed: in=eth0,state=new,local=192.0.2.10.")
+
+    def test_a_closed_pipe_is_no_traceback(self):
+        for form, file in (("iptables", "gateway6.ip6tables-save"), ("classbench-trace", "sample.trace")):
+            reading, writing = os.pipe()
+            os.close(reading)
+            done = subprocess.run([str(CONVERT), form, str(DATA / file)], stdout=writing, stderr=subprocess.PIPE)
+            os.close(writing)
+            self.assertEqual((done.returncode, done.stderr), (1, b""))
 
     def test_traces_with_what_a_packet_cannot_say(self):
         for text, reason in (("1 2 3 4 1", "has no ports"), ("1 2 3", "a line has"),

@@ -1,0 +1,20 @@
+"""Lists with one line damaged, of each form: converted without loss, or refused. `damage` does it for more of them."""
+import unittest
+
+import damages
+
+COUNT, SEED = 150, 48
+
+
+class Damage(unittest.TestCase):
+    def test_no_damaged_list_is_converted_wrongly(self):
+        for form in damages.FORMS:
+            with self.subTest(form=form):
+                counts, faults = damages.run(form, COUNT, SEED)
+                self.assertEqual(faults, [])
+                self.assertGreater(counts["converted"], COUNT // 10)
+                self.assertGreater(counts["refused"], COUNT // 10)
+
+
+if __name__ == "__main__":
+    unittest.main()
