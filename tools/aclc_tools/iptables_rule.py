@@ -138,6 +138,8 @@ class Reading:
         parts = [network(part, self.family) for part in text.split(",")]
         if option.negated and len(parts) > 1:
             raise Malformed(f"{option.name} has several addresses, and ! before it")
+        if option.negated and parts[0] == (0, (1 << boxes.BITS[self.family]) - 1):
+            raise Malformed(f"{option.name} excludes all addresses")
         self.match.keep(SIDES[option.name], parts, option.negated)
 
     def take_protocol(self, text, negated):

@@ -10,6 +10,8 @@ from aclc_tools.nft_text import SHAPES, one_of, plain
 QUIET = ("val", "comment", "counter", "last")
 # Flags of a set whose elements don't come and go by themselves.
 KEPT = ("interval", "constant")
+# Types of elements that are compared here.
+TYPES = ("ipv4_addr", "ipv6_addr", "inet_service", "inet_proto", "ifname", "ct_state", "iface_index", "nf_proto", "ether_type", "fib_addrtype")
 # The element that stands for all others.
 OTHERS = "*"
 
@@ -41,6 +43,9 @@ def named_elements(name, sets):
     other = [it for it in (flags if isinstance(flags, list) else [flags]) if it not in KEPT]
     if other or "timeout" in said:
         raise CantSay(f"the elements of the set {name} come and go, since it is {' and '.join(map(str, other)) or 'timed'}")
+    types = said["type"] if isinstance(said["type"], list) else [said["type"]]
+    if not all(isinstance(it, str) and it in TYPES for it in types):
+        raise CantSay(f"the type of the set {name} isn't known here: {plain(said['type'])}")
     if any(one_of(it)[0] not in QUIET for it in said.get("stmt", [])):
         raise CantSay(f"the set {name} has a statement that decides")
     found = said.get("elem", [])
@@ -62,12 +67,12 @@ def number_of(value, side, family):
     if side in ("source", "destination"):
         return address(value, family)
     if isinstance(value, bool) or not isinstance(value, (int, str)):
-        raise CantSay(f"the value {plain(value)} is no number")
-    if isinstance(value, int) and 0 <= value <= MOST[side]:
+        raise Malformed(f"the value {plain(value)} is no number")
+    if isinstance(value, int):
+        if not 0 <= value <= MOST[side]:
+            raise Malformed(f"{value} is no {'protocol' if side == 'protocols' else 'port'}")
         return value
-    found = None
-    if isinstance(value, str):
-        found = names.firewall_protocol(value) if side == "protocols" else names.SERVICES.get(value)
+    found = names.firewall_protocol(value) if side == "protocols" else names.SERVICES.get(value)
     if found is None:
         raise CantSay(f"the value {value} is no {'protocol' if side == 'protocols' else 'port'} that is known")
     return found
@@ -78,7 +83,7 @@ def address(text, family):
     read = rule_file.ip4_address if family == 4 else rule_file.ip6_address
     value = read(text.encode()) if isinstance(text, str) else None
     if value is None or family == 4 and re.search(r"(?<!\d)0\d", text):
-        raise CantSay(f"{text} is no address of IPv{family}")
+        raise Malformed(f"{text} is no address of IPv{family}")
     return value
 
 
@@ -86,7 +91,7 @@ def prefix(said, family):
     """The interval of a prefix."""
     low, length = address(said["addr"], family), said["len"]
     if isinstance(length, bool) or not isinstance(length, int) or not 0 <= length <= boxes.BITS[family]:
-        raise CantSay(f"{plain(length)} is no length of a prefix")
+        raise Malformed(f"{plain(length)} is no length of a prefix")
     free = boxes.BITS[family] - length
     low = low >> free << free
     return low, low + (1 << free) - 1

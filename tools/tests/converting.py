@@ -1,10 +1,13 @@
 """Converts lists for tests, and decides packets by rule files, a rule at a time."""
+from collections import namedtuple
 from pathlib import Path
 
 from aclc_tools import rule_file
 from aclc_tools.forms import converted, options_of
 
 DATA = Path(__file__).resolve().parent / "data"
+# A list as lines, how they stand in a file, the options of the converter, what judges its text, and what that raises.
+Drawn = namedtuple("Drawn", "lines join options judge unlawful")
 
 
 def convert(form, text, file="-", **given):

@@ -1,12 +1,12 @@
 """Lists with one line damaged, each converted without loss or refused.
 
-FORMS is the registry: each form has a module `draws_NAME` with a function `draw(random)`, which gives a Drawn. To judge a
-damaged list is the list's own `judge(text)`: it gives what decides packets, with a method `decides(fields)`, or raises what
-the form's UNLAWFUL is. It isn't made of the converter's code.
+FORMS is the registry: each form has a module `draws_NAME` with a function `draw(draw)`, which gives a Drawn. Its `judge`
+reads a text with none of the converter's code, and gives what has a method `decides(fields)`: the number that decides a
+packet. It raises what `unlawful` names where the text is no lawful list.
 """
 import random
 import re
-from collections import Counter, namedtuple
+from collections import Counter
 
 import draws_iptables
 import draws_nft
@@ -14,8 +14,6 @@ import packets
 from aclc_tools import forms, lists, rule_file
 from converting import decided
 
-# A list as lines, how they stand in a file, the options of the converter, what judges its text, and what that raises.
-Drawn = namedtuple("Drawn", "lines join options judge unlawful")
 FORMS = {"iptables": draws_iptables, "nft": draws_nft}
 LETTERS = "abcdefghijklmnopqrstuvwxyz0123456789-:./!_,\"ACDEJRT"
 
@@ -66,6 +64,11 @@ def moved(draw, lines, at):
 DAMAGES = (changed, changed, swapped, removed, doubled, misspelled, misspelled, cut, moved)
 
 
+def damaged(draw, lines):
+    """The lines with one of them damaged."""
+    return draw.choice(DAMAGES)(draw, lines, draw.randrange(len(lines)))
+
+
 def judged(drawn, text, count, draw):
     """What became of a list: `refused`, `converted`, or a sentence that tells a fault."""
     try:
@@ -97,10 +100,7 @@ def run(form, count, seed, near=12):
     draw, counts, faults = random.Random(seed), Counter(), []
     for place in range(count):
         drawn = FORMS[form].draw(draw)
-        lines = drawn.lines
-        if place % 10:
-            lines = draw.choice(DAMAGES)(draw, lines, draw.randrange(len(lines)))
-        text = drawn.join(lines)
+        text = drawn.join(damaged(draw, drawn.lines) if place % 10 else drawn.lines)
         found = judged(drawn, text, near, draw)
         counts[found if found in ("refused", "converted") else "fault"] += 1
         if found not in ("refused", "converted"):

@@ -2,7 +2,7 @@
 import walk_iptables
 from aclc_tools import assume
 from aclc_tools.forms import options_of
-from converting import DATA
+from converting import DATA, Drawn
 
 SHIPPED = (("gateway.iptables-save", 4, "FORWARD", ""), ("gateway6.ip6tables-save", 6, "FORWARD", ""),
            ("server.iptables-save", 4, "INPUT", "in=eth0,state=new,local=192.0.2.10"))
@@ -19,7 +19,8 @@ def addresses(draw, family):
     words = []
     for option in ("-s", "-d"):
         if draw.random() < 0.4:
-            words += ["!"] * (draw.random() < 0.3) + [option, draw.choice(NETWORKS[family])]
+            network = draw.choice(NETWORKS[family])
+            words += ["!"] * (draw.random() < 0.3 and not network.endswith("/0")) + [option, network]
     if draw.random() < 0.1:
         words += ["-m", "iprange"] + ["!"] * (draw.random() < 0.3) + [draw.choice(["--src-range", "--dst-range"]), draw.choice(RANGES[family])]
     return words
@@ -79,16 +80,24 @@ def assumed_of(text):
     return found, assume.parse(text)
 
 
-def draw(random):
-    """A list, how it is converted, and what judges it."""
-    from damages import Drawn
-    if random.random() < 0.3:
-        file, family, chain, text = random.choice(SHIPPED)
-        lines = (DATA / file).read_text().rstrip("\n").split("\n")
-    else:
-        family, chain, text = random.choice([4, 4, 6]), random.choice(["INPUT", "FORWARD"]), random.choice(ASSUMED)
-        lines = drawn_lines(random, family, chain)
+def made(lines, family, chain, text):
+    """Some lines, how they are converted under an assumption, and what judges them."""
     assumed, parsed = assumed_of(text)
     options = options_of("iptables", "-", chain=chain, family=family, assume=parsed)
     return Drawn(lines, lambda lines: "".join(line + "\n" for line in lines), options,
                  lambda text: walk_iptables.Judge(text, chain, family, assumed), walk_iptables.Unlawful)
+
+
+def forwarding(draw, text):
+    """A drawn list of the packets that are forwarded."""
+    family = draw.choice([4, 4, 6])
+    return made(drawn_lines(draw, family, "FORWARD"), family, "FORWARD", text)
+
+
+def draw(draw):
+    """A list that is shipped or drawn."""
+    if draw.random() < 0.3:
+        file, family, chain, text = draw.choice(SHIPPED)
+        return made((DATA / file).read_text().rstrip("\n").split("\n"), family, chain, text)
+    family, chain = draw.choice([4, 4, 6]), draw.choice(["INPUT", "FORWARD"])
+    return made(drawn_lines(draw, family, chain), family, chain, draw.choice(ASSUMED))

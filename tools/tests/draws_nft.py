@@ -3,7 +3,7 @@ import json
 
 import walk_nft
 from aclc_tools.forms import options_of
-from converting import DATA
+from converting import DATA, Drawn
 from draws_iptables import ASSUMED, assumed_of
 
 SHIPPED = (("router.nft-json", "forward", ""), ("server.nft-json", "input", "in=eth0,state=new,local=192.0.2.10"))
@@ -25,34 +25,38 @@ def some(draw, values):
     return draw.choice([draw.choice(values), {"set": draw.sample(values, 2)}])
 
 
-def address(draw, family):
-    protocol = family if family != "inet" else draw.choice(["ip", "ip6"])
-    right = draw.choice([some(draw, ADDRESSES[protocol]), some(draw, ADDRESSES[protocol]), "@hosts" if protocol == "ip" else "@hosts6"])
-    return comparison(payload(protocol, draw.choice(["saddr", "daddr"])), draw.choice(["==", "==", "!="]), right)
+def address(draw, network, _):
+    right = draw.choice([some(draw, ADDRESSES[network]), some(draw, ADDRESSES[network]), "@hosts" if network == "ip" else "@hosts6"])
+    return comparison(payload(network, draw.choice(["saddr", "daddr"])), draw.choice(["==", "==", "!="]), right)
 
 
-def port(draw, _):
-    left = payload(draw.choice(["tcp", "udp"]), draw.choice(["sport", "dport"]))
+def port(draw, _, transport):
+    left = payload(transport, draw.choice(["sport", "dport"]))
     if draw.random() < 0.3:
         return comparison(left, draw.choice(["<", ">=", ">", "<="]), draw.choice([22, 1024]))
     return comparison(left, draw.choice(["==", "!="]), some(draw, PORTS))
 
 
-def pair(draw, family):
-    protocol = "ip6" if family == "ip6" else "ip"
-    element = lambda: {"concat": [draw.choice(ADDRESSES[protocol]), draw.choice(PORTS)]}
-    return comparison({"concat": [payload(protocol, "saddr"), payload("tcp", "dport")]}, "==", {"set": [element(), element()]})
+def pair(draw, network, transport):
+    element = lambda at: {"concat": [ADDRESSES[network][at], draw.choice(PORTS)]}
+    values = {"set": [element(3), element(draw.choice([0, 2]))]} if network == "ip" else {"set": [element(0), element(2)]}
+    return comparison({"concat": [payload(network, "saddr"), payload(transport, "dport")]}, "==", values)
 
 
-def other(draw, family):
+def other(draw, network, transport):
     """A comparison of the protocol, or of what is assumed."""
     return draw.choice([
-        comparison({"meta": {"key": "l4proto"}}, draw.choice(["==", "!="]), some(draw, ["tcp", "udp", "icmp", "gre"])),
-        comparison({"meta": {"key": "nfproto"}}, "==", "ipv4" if family != "ip6" else "ipv6"),
+        comparison({"meta": {"key": "l4proto"}}, "==", transport),
         comparison({"ct": {"key": "state"}}, "in", ["established", "related"]),
         comparison({"ct": {"key": "state"}}, draw.choice(["==", "!="]), "new"),
         comparison({"meta": {"key": "iifname"}}, draw.choice(["==", "!="]), draw.choice(["eth0", "eth*", {"set": ["lo", "eth1"]}])),
         comparison({"fib": {"result": "type", "flags": ["daddr"]}}, draw.choice(["==", "!="]), "local")])
+
+
+def first(draw, family):
+    """A comparison that stands alone: of the family, or of protocols that have no ports."""
+    choices = [comparison({"meta": {"key": "l4proto"}}, "!=", some(draw, ["tcp", "udp", "icmp", "gre"]))]
+    return draw.choice(choices + [comparison({"meta": {"key": "nfproto"}}, "==", draw.choice(["ipv4", "ipv6"]))] * (family == "inet"))
 
 
 def verdict(draw, later):
@@ -65,20 +69,23 @@ def verdict(draw, later):
 
 def expression(draw, family, later):
     """The statements of a rule."""
-    found = [draw.choice([address, address, port, port, pair, other])(draw, family) for _ in range(draw.randrange(3))]
-    if draw.random() < 0.2:
+    network, transport = family if family != "inet" else draw.choice(["ip", "ip6"]), draw.choice(["tcp", "udp"])
+    if draw.random() < 0.1:
+        return [first(draw, family)] + verdict(draw, later)
+    found = [draw.choice([address, address, port, port, pair, other])(draw, network, transport) for _ in range(draw.randrange(3))]
+    if draw.random() < 0.2 and transport == "tcp":
         pairs = [[22, {"drop": None}], [{"range": [80, 90]}, {"accept": None}]]
         pairs += [[443, {"jump": {"target": draw.choice(later)}}]] if later else []
         return found + [{"vmap": {"key": payload("tcp", "dport"), "data": draw.choice([{"set": pairs}, "@services"])}}]
     return found + verdict(draw, later)
 
 
-def drawn_objects(draw):
+def drawn_objects(draw, hook):
     """The objects of a drawn ruleset."""
     family, handles = draw.choice(["ip", "ip6", "inet", "inet"]), iter(range(1, 100))
     of = {"family": family, "table": "t"}
     objects = [{"metainfo": {"version": "1.0.6"}}, {"table": {"family": family, "name": "t", "handle": 1}}]
-    objects.append({"chain": {**of, "name": "input", "handle": next(handles), "type": "filter", "hook": "input", "prio": 0,
+    objects.append({"chain": {**of, "name": hook, "handle": next(handles), "type": "filter", "hook": hook, "prio": 0,
                               "policy": draw.choice(["accept", "drop"])}})
     objects += [{"chain": {**of, "name": name, "handle": next(handles)}} for name in ("one", "two")]
     objects.append({"set": {**of, "name": "hosts", "type": "ipv4_addr", "handle": next(handles), "flags": ["interval"],
@@ -86,7 +93,7 @@ def drawn_objects(draw):
     objects.append({"set": {**of, "name": "hosts6", "type": "ipv6_addr", "handle": next(handles), "elem": ["2001:db8::1"]}})
     objects.append({"map": {**of, "name": "services", "type": "inet_service", "handle": next(handles), "map": "verdict",
                             "elem": [[25, {"drop": None}], ["*", {"accept": None}]]}})
-    chains = ["input", "one", "two"]
+    chains = [hook, "one", "two"]
     for place, chain in enumerate(chains):
         for _ in range(draw.randrange(1, 5)):
             objects.append({"rule": {**of, "chain": chain, "handle": next(handles), "expr": expression(draw, family, chains[place + 1:])}})
@@ -97,14 +104,21 @@ def joined(lines):
     return '{"nftables": [\n' + ",\n".join(lines) + "\n]}\n"
 
 
-def draw(random):
-    """A ruleset, how it is converted, and what judges it."""
-    from damages import Drawn
-    if random.random() < 0.3:
-        file, chain, text = random.choice(SHIPPED)
-        objects = json.loads((DATA / file).read_text())["nftables"]
-    else:
-        objects, chain, text = drawn_objects(random), "input", random.choice(ASSUMED)
+def made(objects, chain, text):
+    """Some objects, how they are converted under an assumption, and what judges them."""
     assumed, parsed = assumed_of(text)
     return Drawn([json.dumps(it) for it in objects], joined, options_of("nft", "-", chain=chain, assume=parsed),
                  lambda text: walk_nft.Judge(text, chain, assumed), (walk_nft.Unlawful, KeyError, TypeError, AttributeError, ValueError))
+
+
+def forwarding(draw, text):
+    """A drawn ruleset of the packets that are forwarded."""
+    return made(drawn_objects(draw, "forward"), "forward", text)
+
+
+def draw(draw):
+    """A ruleset that is shipped or drawn."""
+    if draw.random() < 0.3:
+        file, chain, text = draw.choice(SHIPPED)
+        return made(json.loads((DATA / file).read_text())["nftables"], chain, text)
+    return made(drawn_objects(draw, "input"), "input", draw.choice(ASSUMED))
