@@ -28,7 +28,8 @@ class Assumption(namedtuple("Assumption", "inward outward state local")):
 
     def told(self):
         """What is assumed, as it is given."""
-        parts = [("in", self.inward), ("out", self.outward), ("state", self.state), *(("local", it) for it in self.local or ())]
+        parts = [("in", self.inward), ("out", self.outward), ("state", self.state),
+                 *(("local", it) for it in self.local or ())]
         return ",".join(f"{key}={value}" for key, value in parts if value)
 
 
@@ -41,7 +42,7 @@ def parse(text):
     for part in text.split(",") if text else ():
         key, sign, value = part.partition("=")
         if key not in found or not sign or not value or value != value.strip():
-            raise ValueError(f"{part or 'nothing'} is no assumption: it is in=NAME, out=NAME, state=NAME or local=ADDRESS")
+            raise ValueError(f"{part or 'nothing'} is no assumption: in=, out=, state= or local= begins one")
         if key == "state" and value not in STATES:
             raise ValueError(f"{value} is no state: it is {', '.join(STATES)}")
         if key == "local":

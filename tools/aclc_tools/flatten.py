@@ -1,7 +1,8 @@
 """Chains of rules, brought into one list of boxes whose first match decides, and written as rules of aclc.
 
-A box may be dear: two addresses that are excluded take 128 rules of IPv6 each, and 16,384 together. Where a box of more than
-DEAR rules leaves out little, what it leaves out is decided first, by what follows in the list, and the whole comes after it.
+A box may be dear: two addresses that are excluded take 128 rules of IPv6 each, and 16,384 together. Where a box of
+more than DEAR rules leaves out little, what it leaves out is decided first, by what follows in the list, and the
+whole comes after it.
 """
 import sys
 from collections import namedtuple
@@ -50,7 +51,8 @@ def check_jumps(chains):
                 if rule.target in way:
                     raise CantSay(f"the jump leads back to chain {rule.target}", rule.number, rule.text)
                 if len(way) > MOST_DEPTH:
-                    raise CantSay(f"chain {rule.target} is reached by more than {MOST_DEPTH} jumps", rule.number, rule.text)
+                    raise CantSay(f"chain {rule.target} is reached by more than {MOST_DEPTH} jumps", rule.number,
+                                  rule.text)
                 if rule.target not in done:
                     visit(rule.target)
         done.add(way.pop())
@@ -86,7 +88,7 @@ class Flattener:
         return self.found
 
     def idle(self):
-        """The rules that were met and decide nothing: those that only log or count, and those that nothing is left for."""
+        """The rules that were met and decide nothing: they only log or count, or nothing is left for them."""
         deciding = {rule.number for rule, _ in self.found}
         return [rule for number, rule in sorted(self.met.items()) if number not in deciding
                 and number not in self.left_out and rule.verdict in (*DECIDING, PASS)]

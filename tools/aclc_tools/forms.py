@@ -5,7 +5,7 @@ from pathlib import Path
 
 from aclc_tools import assume, cisco, flatten, iptables, l3fwd, lists, nftables
 
-# Each form's reader, what numbers its rules, what its lists are called, and the verdict of a list's end that no rule says.
+# Each form's reader, what numbers its rules, what its lists are called, and the verdict of a list's unsaid end.
 Form = namedtuple("Form", "reader what kind end", defaults=("line", "list", lists.DROP))
 FORMS = {
     "iptables": Form(iptables, kind="chain", end=None),
@@ -58,7 +58,8 @@ def complete(options):
 
 def head_of(options, form, chain):
     """The first comment of a rule file."""
-    data = {"line": f"the {form.what} that decides", "verdict": "1 where a rule accepts, 2 where it drops, 3 where it rejects"}
+    data = {"line": f"the {form.what} that decides",
+            "verdict": "1 where a rule accepts, 2 where it drops, 3 where it rejects"}
     head = (f"Made by tools/convert {options.form} of {Path(options.file).name}, {chain}. "
             f"Userdata is {data.get(options.data, options.data)}.")
     return head + (f"\nAssumed: {options.assume.told()}." if options.assume.told() else "")
@@ -83,7 +84,8 @@ def converted(options, text):
     flattener = flatten.Flattener(read.chains, options.lenient, end_of(form, options.data))
     flattener.list_of(read.chain, read.families)
     lines = list(flatten.write(flattener, head_of(options, form, read.chain), form.what, options.data))
-    return Converted(lines, [rule for _, rule in sorted(flattener.left_out.items())], notes + list(flattener.notes()), flattener)
+    return Converted(lines, [rule for _, rule in sorted(flattener.left_out.items())], notes + list(flattener.notes()),
+                     flattener)
 
 
 def rule_file_of(options, text):

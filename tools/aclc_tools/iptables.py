@@ -14,7 +14,8 @@ BASE = {"filter": ("INPUT", "FORWARD", "OUTPUT"), "nat": ("PREROUTING", "INPUT",
         "mangle": ("PREROUTING", "INPUT", "FORWARD", "OUTPUT", "POSTROUTING"), "raw": ("PREROUTING", "OUTPUT"),
         "security": ("INPUT", "FORWARD", "OUTPUT")}
 # The chains that are on the way of a packet that comes to a chain.
-WAYS = {"INPUT": ("PREROUTING", "INPUT"), "FORWARD": ("PREROUTING", "FORWARD", "POSTROUTING"), "OUTPUT": ("OUTPUT", "POSTROUTING"),
+WAYS = {"INPUT": ("PREROUTING", "INPUT"), "FORWARD": ("PREROUTING", "FORWARD", "POSTROUTING"),
+        "OUTPUT": ("OUTPUT", "POSTROUTING"),
         "PREROUTING": ("PREROUTING", "INPUT", "FORWARD", "POSTROUTING"),
         "POSTROUTING": ("PREROUTING", "FORWARD", "OUTPUT", "POSTROUTING")}
 COUNTERS = r"\[\d+:\d+\]"
@@ -90,7 +91,8 @@ def checked(rule, chains, lenient):
     if rule.verdict not in (JUMP, GO) or rule.target in chains and chains[rule.target].policy == "-":
         return rule
     reason = (f"no rule leads to {rule.target}, which packets come to by themselves" if rule.target in chains
-              else f"the target {rule.target} is none that a rule of aclc has" if rule.target in iptables_options.TARGETS
+              else f"the target {rule.target} is none that a rule of aclc has"
+              if rule.target in iptables_options.TARGETS
               else f"the target {rule.target} isn't known, and no chain has that name")
     if not lenient:
         raise Malformed(reason, rule.number, rule.text)
@@ -133,7 +135,8 @@ def aside_of(line, table):
     if read.target in iptables_options.CHANGING:
         return Aside(line.number, line.text, f"it changes addresses in the table {table}", False), None
     if untracked:
-        return Aside(line.number, line.text, f"it takes packets out of the table of connections, in the table {table}", False), None
+        return Aside(line.number, line.text, f"it takes packets out of the table of connections, in the table {table}",
+                     False), None
     if drops(read.target):
         return Aside(line.number, line.text, f"it may drop packets in the table {table}", True), read.target
     return None, read.target
@@ -157,7 +160,8 @@ def asides_of(tables, chosen, chain):
         done = set()
         for name in (it for it in declared if it in way and (table, it) != (chosen, chain) and it in BASE[table]):
             if declared[name].policy == "DROP":
-                found.append(Aside(declared[name].number, declared[name].text, f"its policy drops packets in the table {table}", True))
+                found.append(Aside(declared[name].number, declared[name].text,
+                                   f"its policy drops packets in the table {table}", True))
             found += asides_of_chain(declared, table, name, done)
     return sorted(found)
 
@@ -169,7 +173,8 @@ def family_of(lines, given):
     if not found:
         # Between quotes stand comments.
         bare = re.sub(r'"[^"\n]*"', "", text)
-        found = {6 if sign == ":" else 4 for sign in re.findall(r"(?m) (?:-[sd]|--(?:src|dst)-range) [0-9a-fA-F]*([.:])", bare)}
+        addresses = r"(?m) (?:-[sd]|--(?:src|dst)-range) [0-9a-fA-F]*([.:])"
+        found = {6 if sign == ":" else 4 for sign in re.findall(addresses, bare)}
         found |= {6 if six else 4 for six in re.findall(r"(?m) --reject-with (?:icmp(6)?-|adm-)", bare)}
     if given or len(found) == 1:
         return given or found.pop()

@@ -12,8 +12,10 @@ MULTICAST = ((0xE0000000, 0xEFFFFFFF),)
 MOST_LISTED = 15
 # The matches that are read.
 READ = ("tcp", "udp", "sctp", "icmp", "icmp6", "multiport", "iprange", "comment", "conntrack", "state", "addrtype")
-SIDES = {"-s": "source", "-d": "destination", "--src-range": "source", "--dst-range": "destination", "--src-type": "source",
-         "--dst-type": "destination", "--sport": "source_ports", "--dport": "destination_ports", "--sports": "source_ports",
+SIDES = {"-s": "source", "-d": "destination", "--src-range": "source", "--dst-range": "destination",
+         "--src-type": "source",
+         "--dst-type": "destination", "--sport": "source_ports", "--dport": "destination_ports",
+         "--sports": "source_ports",
          "--dports": "destination_ports"}
 
 

@@ -75,7 +75,8 @@ class Line:
         if implied and implied not in self.matches and name in known.MATCHES[implied]:
             self.matches.append(implied)
             return self.owner(name)
-        raise Malformed(f"{name} is no option that belongs to this rule" if name.startswith("-") else f"the word {name} belongs to no option")
+        raise Malformed(f"{name} is no option that belongs to this rule" if name.startswith("-")
+                        else f"the word {name} belongs to no option")
 
     def take(self, name, negated):
         """Takes an option, whose name was read, with its arguments."""

@@ -1,16 +1,17 @@
 """What a reader makes of a list of another program: chains of rules whose first match decides.
 
-A form plugs in as one module with a function `convert(lines, options)`, and as a line in FORMS of `forms`. The function
-reads the lines of the list, and gives a `Read`, or a tuple of its first three fields:
+A form plugs in as one module with a function `convert(lines, options)`, and as a line in FORMS of `forms`. The
+function reads the lines of the list, and gives a `Read`, or a tuple of its first three fields:
 
-- the chains by name. A `Chain` has its rules, and a policy (a rule without boxes) where packets come to it by themselves;
-  a policy of PASS gives no answer at the list's end;
+- the chains by name. A `Chain` has its rules, and a policy (a rule without boxes) where packets come to it by
+  themselves; a policy of PASS gives no answer at the list's end;
 - the name of the chain that is meant, and the families (4, 6) of the packets that come to it;
 - asides: what else in the file decides on these packets, and where a reader's own notes are due.
 
-A `Rule` matches the packets of its boxes, and has a verdict; JUMP and GO have a target, the name of a chain. What a rule
-says beyond that is its reason, a sentence why it can't be said; such a rule is refused, or left out leniently. A reader
-raises CantSay for what isn't the form at all. Readers turn nothing into rules of aclc: `flatten` does that for all forms.
+A `Rule` matches the packets of its boxes, and has a verdict; JUMP and GO have a target, the name of a chain. What a
+rule says beyond that is its reason, a sentence why it can't be said; such a rule is refused, or left out leniently. A
+reader raises CantSay for what isn't the form at all. Readers turn nothing into rules of aclc: `flatten` does that for
+all forms.
 """
 from collections import namedtuple
 
@@ -24,7 +25,7 @@ DECIDING = (ACCEPT, DROP, REJECT)
 
 
 class CantSay(Exception):
-    """What a list of aclc can't say, with the number and the text of the rule that says it, and what is told beside it."""
+    """What a list of aclc can't say, with the number and the text of its rule, and what is told beside it."""
 
     def __init__(self, reason, number=0, text="", notes=()):
         super().__init__(reason)

@@ -35,7 +35,7 @@ class Match:
         self.boxes = narrowed
 
     def keep(self, side, intervals, negated=False, family=None):
-        """Keeps the packets whose number of a side is in the intervals, or isn't; those of one family, where it is said."""
+        """Keeps the packets whose number of a side is in the intervals, or isn't, and all of other families."""
         kept = []
         for box in self.boxes:
             most = MOST.get(side, (1 << boxes.BITS[box.family]) - 1)

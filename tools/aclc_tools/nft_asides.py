@@ -5,8 +5,10 @@ from aclc_tools.nft_text import SHAPES, one_of, rule_text
 
 FAMILIES = {"ip": (4,), "ip6": (6,), "inet": (4, 6), "netdev": (4, 6)}
 # The hooks on the way of a packet that comes to a hook.
-WAYS = {"input": ("ingress", "prerouting", "input"), "forward": ("ingress", "prerouting", "forward", "postrouting", "egress"),
-        "output": ("output", "postrouting", "egress"), "ingress": ("ingress", "prerouting", "input", "forward", "postrouting", "egress"),
+WAYS = {"input": ("ingress", "prerouting", "input"), "forward": ("ingress", "prerouting", "forward", "postrouting",
+                                                                 "egress"),
+        "output": ("output", "postrouting", "egress"), "ingress": ("ingress", "prerouting", "input", "forward",
+                                                                   "postrouting", "egress"),
         "prerouting": ("ingress", "prerouting", "input", "forward", "postrouting", "egress"),
         "postrouting": ("ingress", "prerouting", "forward", "output", "postrouting", "egress")}
 CHANGING = ("snat", "dnat", "masquerade", "redirect")

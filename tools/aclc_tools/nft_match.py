@@ -10,7 +10,8 @@ NFPROTO = {"ipv4": 4, "ipv6": 6}
 ETHERTYPES = {"ip": 4, "ip6": 6}
 INTERFACES = {"iifname": "in", "iif": "in", "oifname": "out", "oif": "out"}
 STATES = ("new", "established", "related", "invalid", "untracked")
-META_REASONS = {"mark": "a mark", "iiftype": "a type of interface", "skuid": "a user", "skgid": "a user", "length": "a length",
+META_REASONS = {"mark": "a mark", "iiftype": "a type of interface", "skuid": "a user", "skgid": "a user",
+                "length": "a length",
                 "pkttype": "a type of frame", "hour": "a time", "day": "a time", "time": "a time"}
 
 
@@ -25,7 +26,8 @@ class Comparing:
         name, said = one_of(left)
         if operator not in ("==", "in", "!=", "<", "<=", ">", ">="):
             raise CantSay(f"the comparison {operator} isn't known")
-        taking = {"payload": self.payload, "meta": self.meta, "ct": self.state, "fib": self.fib, "concat": self.concat}.get(name)
+        taking = {"payload": self.payload, "meta": self.meta, "ct": self.state, "fib": self.fib,
+                  "concat": self.concat}.get(name)
         if not taking:
             raise CantSay(f"it compares {name}, which no rule of aclc can")
         taking(match, said, operator, right)
@@ -52,7 +54,7 @@ class Comparing:
             match.keep("protocols", PORTED[protocol])
             self.keep(match, SIDES[field], operator, right, families)
         elif protocol == "ip6" and field == "nexthdr":
-            raise CantSay("it compares the first header after IPv6's own; meta l4proto is the protocol that aclc compares")
+            raise CantSay("it compares the first header after IPv6's own, where aclc compares meta l4proto")
         elif protocol in ("icmp", "icmpv6"):
             raise CantSay("it compares a type of ICMP")
         else:
@@ -69,7 +71,8 @@ class Comparing:
             self.keep(match, "protocols", operator, right, (4, 6))
         elif key in ("nfproto", "protocol"):
             known = NFPROTO if key == "nfproto" else ETHERTYPES
-            found = self.equal(operator, right, lambda it: known.get(it) if isinstance(it, str) else None, "family of packets")
+            found = self.equal(operator, right, lambda it: known.get(it) if isinstance(it, str) else None,
+                               "family of packets")
             wanted = {4, 6} if OTHERS in found else set(found)
             match.of_family(*({4, 6} - wanted if operator == "!=" else wanted))
         elif key in INTERFACES:
@@ -91,7 +94,8 @@ class Comparing:
 
     def interface(self, match, key, operator, right):
         """A comparison of the name of an interface."""
-        names = self.equal(operator, right, lambda it: it if isinstance(it, str) and "\\" not in it else None, "name of an interface")
+        names = self.equal(operator, right, lambda it: it if isinstance(it, str) and "\\" not in it else None,
+                           "name of an interface")
         given = self.assumption.interface(key)
         if given is None:
             raise CantSay(f"it compares an interface, which only --assume {key}=NAME tells")

@@ -11,7 +11,8 @@ QUIET = ("val", "comment", "counter", "last")
 # Flags of a set whose elements don't come and go by themselves.
 KEPT = ("interval", "constant")
 # Types of elements that are compared here.
-TYPES = ("ipv4_addr", "ipv6_addr", "inet_service", "inet_proto", "ifname", "ct_state", "iface_index", "nf_proto", "ether_type", "fib_addrtype")
+TYPES = ("ipv4_addr", "ipv6_addr", "inet_service", "inet_proto", "ifname", "ct_state", "iface_index", "nf_proto",
+         "ether_type", "fib_addrtype")
 # The element that stands for all others.
 OTHERS = "*"
 
@@ -42,7 +43,8 @@ def named_elements(name, sets):
     flags = said.get("flags", [])
     other = [it for it in (flags if isinstance(flags, list) else [flags]) if it not in KEPT]
     if other or "timeout" in said:
-        raise CantSay(f"the elements of the set {name} come and go, since it is {' and '.join(map(str, other)) or 'timed'}")
+        kind = " and ".join(map(str, other)) or "timed"
+        raise CantSay(f"the elements of the set {name} come and go, since it is {kind}")
     types = said["type"] if isinstance(said["type"], list) else [said["type"]]
     if not all(isinstance(it, str) and it in TYPES for it in types):
         raise CantSay(f"the type of the set {name} isn't known here: {plain(said['type'])}")

@@ -13,7 +13,8 @@ from aclc_tools.nft_text import SHAPES, one_of, plain
 FAMILIES = {"ip": (4,), "ip6": (6,), "inet": (4, 6)}
 POLICIES = {"accept": ACCEPT, "drop": DROP}
 # Objects that say nothing of packets by themselves.
-SILENT = ("metainfo", "flowtable", "counter", "quota", "limit", "ct helper", "ct timeout", "ct expectation", "secmark", "synproxy")
+SILENT = ("metainfo", "flowtable", "counter", "quota", "limit", "ct helper", "ct timeout", "ct expectation", "secmark",
+          "synproxy")
 MOST_HANDLE = 0xFFFFFFFF
 
 
@@ -106,7 +107,7 @@ def chosen(ruleset, options):
     if not options.chain:
         fitting = [key for key in fitting if "hook" in ruleset.chains[key] and ruleset.rules[key]]
     if len(fitting) != 1:
-        raise CantSay("which chain is meant isn't said: --chain NAME, and --table NAME or --family 4 or 6 where several have it;"
+        raise CantSay("which chain is meant isn't said: --chain NAME, and --table NAME or --family 4|6 where several have it;"
                       f" there are: {', '.join(map(' '.join, ruleset.chains)) or 'none'}")
     if fitting[0][0] not in FAMILIES:
         raise CantSay(f"a table of the family {fitting[0][0]} isn't of IPv4 or IPv6 alone")
@@ -144,7 +145,9 @@ def read(text, options):
     own = {key[2]: said for key, said in ruleset.chains.items() if key[:2] == (family, table)}
     chains = {}
     for key, said in own.items():
-        rules = [rule for it in ruleset.rules[(family, table, key)] for rule in nft_rule.read_rule(it, families, comparing, options.lenient)]
+        rules = [rule for it in ruleset.rules[(family, table, key)] for rule in nft_rule.read_rule(it, families,
+                                                                                                   comparing,
+                                                                                                   options.lenient)]
         chains[key] = Chain(key, [checked(rule, own, options.lenient) for rule in rules], policy_of(said))
     asides = asides_of(ruleset, own[name]) if "hook" in own[name] else ()
     return Read(chains, name, families, asides)
@@ -155,6 +158,7 @@ def convert(lines, options):
     try:
         return read("\n".join(lines), options)
     except json.JSONDecodeError as error:
-        raise CantSay(f"the file isn't JSON ({error.msg}, line {error.lineno}): nft -j list ruleset writes it") from None
+        reason = f"the file isn't JSON ({error.msg}, line {error.lineno}): nft -j list ruleset writes it"
+        raise CantSay(reason) from None
     except SHAPES:
         raise CantSay("the JSON isn't what nft -j list ruleset writes") from None

@@ -1,8 +1,8 @@
 """Lists with one line damaged, each converted without loss or refused.
 
-FORMS is the registry: each form has a module `draws_NAME` with a function `draw(draw)`, which gives a Drawn. Its `judge`
-reads a text with none of the converter's code, and gives what has a method `decides(fields)`: the number that decides a
-packet. It raises what `unlawful` names where the text is no lawful list.
+FORMS is the registry: each form has a module `draws_NAME` with a function `draw(draw)`, which gives a Drawn. Its
+`judge` reads a text with none of the converter's code, and gives what has a method `decides(fields)`: the number that
+decides a packet. It raises what `unlawful` names where the text is no lawful list.
 """
 import random
 import re
@@ -45,7 +45,8 @@ def doubled(draw, lines, at):
 def misspelled(draw, lines, at):
     """A letter is left out, put in, or another one."""
     line, place = lines[at], draw.randrange(len(lines[at]) + 1)
-    return lines[:at] + [line[:place] + draw.choice(["", draw.choice(LETTERS)]) + line[place + draw.randrange(2):]] + lines[at + 1:]
+    spelled = line[:place] + draw.choice(["", draw.choice(LETTERS)]) + line[place + draw.randrange(2):]
+    return lines[:at] + [spelled] + lines[at + 1:]
 
 
 def cut(draw, lines, at):
@@ -91,7 +92,8 @@ def judged(drawn, text, count, draw):
 
 def fields_near(rules, count, draw):
     """Packets near the rules; those without ports have 0."""
-    for family, source, destination, ports, protocol in packets.draw_fields(rules, count, draw.random()) if rules else ():
+    for family, source, destination, ports, protocol in packets.draw_fields(rules, count,
+                                                                            draw.random()) if rules else ():
         yield family, source, destination, tuple(ports) if protocol in (6, 17, 132) else (0, 0), protocol
 
 

@@ -6,9 +6,11 @@ from converting import DATA, Drawn
 
 SHIPPED = (("gateway.iptables-save", 4, "FORWARD", ""), ("gateway6.ip6tables-save", 6, "FORWARD", ""),
            ("server.iptables-save", 4, "INPUT", "in=eth0,state=new,local=192.0.2.10"))
-NETWORKS = {4: ("10.0.0.0/8", "10.1.0.0/16", "10.1.2.0/24", "10.1.2.3/32", "192.0.2.0/255.255.255.0", "0.0.0.0/0", "10.1.2.128/25"),
+NETWORKS = {4: ("10.0.0.0/8", "10.1.0.0/16", "10.1.2.0/24", "10.1.2.3/32", "192.0.2.0/255.255.255.0", "0.0.0.0/0",
+                "10.1.2.128/25"),
             6: ("2001:db8::/32", "2001:db8:1::/48", "2001:db8::1/128", "2001:db8::2/128", "::/0", "fe80::/10")}
-RANGES = {4: ("10.1.2.3-10.1.2.9", "10.0.0.0-10.1.255.255"), 6: ("2001:db8::1-2001:db8::7", "2001:db8::-2001:db8:1::ffff")}
+RANGES = {4: ("10.1.2.3-10.1.2.9", "10.0.0.0-10.1.255.255"),
+          6: ("2001:db8::1-2001:db8::7", "2001:db8::-2001:db8:1::ffff")}
 ASSUMED = ("in=eth0,state=new,local=10.1.2.3", "in=eth1,out=eth0,state=established,local=10.1.2.4,local=2001:db8::1",
            "in=wlan0,out=ppp0,state=related,local=2001:db8::2")
 REJECTS = {4: "icmp-port-unreachable", 6: "icmp6-port-unreachable"}
@@ -22,7 +24,8 @@ def addresses(draw, family):
             network = draw.choice(NETWORKS[family])
             words += ["!"] * (draw.random() < 0.3 and not network.endswith("/0")) + [option, network]
     if draw.random() < 0.1:
-        words += ["-m", "iprange"] + ["!"] * (draw.random() < 0.3) + [draw.choice(["--src-range", "--dst-range"]), draw.choice(RANGES[family])]
+        words += ["-m", "iprange"] + ["!"] * (draw.random() < 0.3) + [draw.choice(["--src-range", "--dst-range"]),
+                                                                      draw.choice(RANGES[family])]
     return words
 
 
@@ -35,7 +38,8 @@ def ports(draw):
 def protocol(draw, family):
     """Words on the protocol and its ports."""
     if draw.random() < 0.3:
-        return draw.choice([[], ["!", "-p", "tcp"], ["-p", "gre"], ["-p", "ipv6-icmp" if family == 6 else "icmp"], ["-p", "50"]])
+        return draw.choice([[], ["!", "-p", "tcp"], ["-p", "gre"], ["-p", "ipv6-icmp" if family == 6 else "icmp"],
+                            ["-p", "50"]])
     name = draw.choice(["tcp", "udp"])
     one = ["!"] * (draw.random() < 0.2) + [draw.choice(["--sport", "--dport"]), ports(draw)]
     several = ["!"] * (draw.random() < 0.2) + [draw.choice(["--sports", "--dports", "--ports"]), "22,80:90,443"]
@@ -44,15 +48,19 @@ def protocol(draw, family):
 
 def conditions(draw):
     """Words on what is assumed, and on what is always true."""
-    return draw.choice([[], [], [], ["-i", "eth0"], ["!", "-i", "eth+"], ["-m", "conntrack", "--ctstate", "RELATED,ESTABLISHED"],
+    return draw.choice([[], [], [], ["-i", "eth0"], ["!", "-i", "eth+"],
+                        ["-m", "conntrack", "--ctstate", "RELATED,ESTABLISHED"],
                         ["-m", "state", "--state", "NEW"], ["-m", "conntrack", "!", "--ctstate", "INVALID"],
-                        ["-m", "addrtype", "--dst-type", "LOCAL"], ["-m", "comment", "--comment", '"it\'s \\"-j DROP\\""']])
+                        ["-m", "addrtype", "--dst-type", "LOCAL"],
+                        ["-m", "comment", "--comment", '"it\'s \\"-j DROP\\""']])
 
 
 def target(draw, family, later):
     """Words on what a rule does."""
-    return draw.choice([["-j", "ACCEPT"], ["-j", "DROP"], ["-j", "REJECT", "--reject-with", REJECTS[family]], ["-j", "RETURN"],
-                        ["-j", "LOG", "--log-prefix", '"seen "'], [], *([["-j", draw.choice(later)], ["-g", draw.choice(later)]] * 2
+    return draw.choice([["-j", "ACCEPT"], ["-j", "DROP"], ["-j", "REJECT", "--reject-with", REJECTS[family]],
+                        ["-j", "RETURN"],
+                        ["-j", "LOG", "--log-prefix", '"seen "'], [],
+                        *([["-j", draw.choice(later)], ["-g", draw.choice(later)]] * 2
                                                                          if later else [])])
 
 

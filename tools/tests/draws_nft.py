@@ -7,8 +7,10 @@ from converting import DATA, Drawn
 from draws_iptables import ASSUMED, assumed_of
 
 SHIPPED = (("router.nft-json", "forward", ""), ("server.nft-json", "input", "in=eth0,state=new,local=192.0.2.10"))
-ADDRESSES = {"ip": ("10.1.2.3", {"prefix": {"addr": "10.1.0.0", "len": 16}}, {"range": ["10.1.2.3", "10.1.2.9"]}, "10.1.2.4"),
-             "ip6": ("2001:db8::1", {"prefix": {"addr": "2001:db8::", "len": 32}}, {"range": ["2001:db8::4", "2001:db8::9"]})}
+ADDRESSES = {"ip": ("10.1.2.3", {"prefix": {"addr": "10.1.0.0", "len": 16}}, {"range": ["10.1.2.3", "10.1.2.9"]},
+                    "10.1.2.4"),
+             "ip6": ("2001:db8::1", {"prefix": {"addr": "2001:db8::", "len": 32}},
+                     {"range": ["2001:db8::4", "2001:db8::9"]})}
 PORTS = (22, 80, {"range": [1000, 2000]}, 443)
 
 
@@ -26,7 +28,8 @@ def some(draw, values):
 
 
 def address(draw, network, _):
-    right = draw.choice([some(draw, ADDRESSES[network]), some(draw, ADDRESSES[network]), "@hosts" if network == "ip" else "@hosts6"])
+    right = draw.choice([some(draw, ADDRESSES[network]), some(draw, ADDRESSES[network]), "@hosts" if network == "ip"
+                         else "@hosts6"])
     return comparison(payload(network, draw.choice(["saddr", "daddr"])), draw.choice(["==", "==", "!="]), right)
 
 
@@ -39,7 +42,8 @@ def port(draw, _, transport):
 
 def pair(draw, network, transport):
     element = lambda at: {"concat": [ADDRESSES[network][at], draw.choice(PORTS)]}
-    values = {"set": [element(3), element(draw.choice([0, 2]))]} if network == "ip" else {"set": [element(0), element(2)]}
+    values = {"set": [element(3), element(draw.choice([0, 2]))]} if network == "ip" else {"set": [element(0),
+                                                                                                  element(2)]}
     return comparison({"concat": [payload(network, "saddr"), payload(transport, "dport")]}, "==", values)
 
 
@@ -49,19 +53,22 @@ def other(draw, network, transport):
         comparison({"meta": {"key": "l4proto"}}, "==", transport),
         comparison({"ct": {"key": "state"}}, "in", ["established", "related"]),
         comparison({"ct": {"key": "state"}}, draw.choice(["==", "!="]), "new"),
-        comparison({"meta": {"key": "iifname"}}, draw.choice(["==", "!="]), draw.choice(["eth0", "eth*", {"set": ["lo", "eth1"]}])),
+        comparison({"meta": {"key": "iifname"}}, draw.choice(["==", "!="]),
+                   draw.choice(["eth0", "eth*", {"set": ["lo", "eth1"]}])),
         comparison({"fib": {"result": "type", "flags": ["daddr"]}}, draw.choice(["==", "!="]), "local")])
 
 
 def first(draw, family):
     """A comparison that stands alone: of the family, or of protocols that have no ports."""
     choices = [comparison({"meta": {"key": "l4proto"}}, "!=", some(draw, ["tcp", "udp", "icmp", "gre"]))]
-    return draw.choice(choices + [comparison({"meta": {"key": "nfproto"}}, "==", draw.choice(["ipv4", "ipv6"]))] * (family == "inet"))
+    return draw.choice(choices + [comparison({"meta": {"key": "nfproto"}}, "==",
+                                             draw.choice(["ipv4", "ipv6"]))] * (family == "inet"))
 
 
 def verdict(draw, later):
     """The statements at a rule's end."""
-    choices = [{"accept": None}, {"drop": None}, {"return": None}, {"counter": {"packets": 0, "bytes": 0}}, {"log": {"prefix": "seen "}}]
+    choices = [{"accept": None}, {"drop": None}, {"return": None}, {"counter": {"packets": 0, "bytes": 0}},
+               {"log": {"prefix": "seen "}}]
     choices += [{"jump": {"target": draw.choice(later)}}, {"goto": {"target": draw.choice(later)}}] * 2 if later else []
     one = draw.choice(choices)
     return [one] if draw.random() < 0.7 or "log" in one else [{"log": {"prefix": "x "}}, one]
@@ -72,7 +79,8 @@ def expression(draw, family, later):
     network, transport = family if family != "inet" else draw.choice(["ip", "ip6"]), draw.choice(["tcp", "udp"])
     if draw.random() < 0.1:
         return [first(draw, family)] + verdict(draw, later)
-    found = [draw.choice([address, address, port, port, pair, other])(draw, network, transport) for _ in range(draw.randrange(3))]
+    found = [draw.choice([address, address, port, port, pair, other])(draw, network, transport)
+             for _ in range(draw.randrange(3))]
     if draw.random() < 0.2 and transport == "tcp":
         pairs = [[22, {"drop": None}], [{"range": [80, 90]}, {"accept": None}]]
         pairs += [[443, {"jump": {"target": draw.choice(later)}}]] if later else []
@@ -90,13 +98,15 @@ def drawn_objects(draw, hook):
     objects += [{"chain": {**of, "name": name, "handle": next(handles)}} for name in ("one", "two")]
     objects.append({"set": {**of, "name": "hosts", "type": "ipv4_addr", "handle": next(handles), "flags": ["interval"],
                             "elem": ["10.1.2.3", {"prefix": {"addr": "10.2.0.0", "len": 16}}]}})
-    objects.append({"set": {**of, "name": "hosts6", "type": "ipv6_addr", "handle": next(handles), "elem": ["2001:db8::1"]}})
+    objects.append({"set": {**of, "name": "hosts6", "type": "ipv6_addr", "handle": next(handles),
+                            "elem": ["2001:db8::1"]}})
     objects.append({"map": {**of, "name": "services", "type": "inet_service", "handle": next(handles), "map": "verdict",
                             "elem": [[25, {"drop": None}], ["*", {"accept": None}]]}})
     chains = [hook, "one", "two"]
     for place, chain in enumerate(chains):
         for _ in range(draw.randrange(1, 5)):
-            objects.append({"rule": {**of, "chain": chain, "handle": next(handles), "expr": expression(draw, family, chains[place + 1:])}})
+            objects.append({"rule": {**of, "chain": chain, "handle": next(handles),
+                                     "expr": expression(draw, family, chains[place + 1:])}})
     return objects
 
 
@@ -108,7 +118,8 @@ def made(objects, chain, text):
     """Some objects, how they are converted under an assumption, and what judges them."""
     assumed, parsed = assumed_of(text)
     return Drawn([json.dumps(it) for it in objects], joined, options_of("nft", "-", chain=chain, assume=parsed),
-                 lambda text: walk_nft.Judge(text, chain, assumed), (walk_nft.Unlawful, KeyError, TypeError, AttributeError, ValueError))
+                 lambda text: walk_nft.Judge(text, chain, assumed),
+                 (walk_nft.Unlawful, KeyError, TypeError, AttributeError, ValueError))
 
 
 def forwarding(draw, text):

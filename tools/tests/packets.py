@@ -1,4 +1,4 @@
-"""Packets at the edges of the rules of a file, for tests: addresses and ports in, at and beside the ends of what rules name."""
+"""Packets at the edges of the rules of a file, for tests: addresses and ports at the ends of their ranges."""
 import random
 import struct
 
@@ -10,7 +10,8 @@ PAYLOAD, MARK = 48, 20
 
 def ends(low, high, most, draw):
     """A number in an interval, at its ends or beside them."""
-    return max(0, min(most, draw.choice([low, high, low - 1, high + 1, draw.randint(low, high), draw.randint(low, high)])))
+    return max(0, min(most, draw.choice([low, high, low - 1, high + 1, draw.randint(low, high),
+                                         draw.randint(low, high)])))
 
 
 def address(network, bits, draw):
@@ -51,7 +52,8 @@ def packet(family, source, destination, ports, protocol, number):
         header += struct.pack(">II", source, destination)
         header = header[:10] + struct.pack(">H", checksum(header)) + header[12:]
     else:
-        header = struct.pack(">IHBB", 6 << 28, len(payload), protocol, 64) + source.to_bytes(16, "big") + destination.to_bytes(16, "big")
+        header = struct.pack(">IHBB", 6 << 28, len(payload), protocol,
+                             64) + source.to_bytes(16, "big") + destination.to_bytes(16, "big")
     return header + payload
 
 

@@ -1,4 +1,4 @@
-"""tools/convert: shipped lists against expected rule files, what it refuses, and chains against a plain walk over them."""
+"""tools/convert: its words, what it writes and refuses, and what userdata and assumptions become."""
 import os
 import subprocess
 import unittest
@@ -9,7 +9,8 @@ from converting import DATA, convert, rules_of
 
 CONVERT = TOP / "tools" / "convert"
 SHIPPED = [("cisco", {"list": "OUTSIDE-IN"}, "edge.cisco", "edge-outside.rules"),
-           ("cisco", {"list": "101"}, "edge.cisco", "edge-101.rules"), ("cisco", {"list": "WEB6"}, "edge.cisco", "edge-web6.rules"),
+           ("cisco", {"list": "101"}, "edge.cisco", "edge-101.rules"),
+           ("cisco", {"list": "WEB6"}, "edge.cisco", "edge-web6.rules"),
            ("cisco", {"list": "WITH-STATE", "lenient": True}, "edge.cisco", "edge-state.rules"),
            ("l3fwd", {}, "sample.l3fwd", "sample-l3fwd.rules")]
 CISCO = "ip access-list extended A\n {}\n"
@@ -56,7 +57,8 @@ class Convert(unittest.TestCase):
                                   (["cisco", "--lenient", "--list", "WITH-STATE", "edge.cisco"], 0,
                                    "edge.cisco:31: left out: a type of ICMP"),
                                   (["classbench-trace", "sample.trace"], 0, ""),
-                                  (["l3fwd", str(TOP / "examples" / "office.rules")], 1, "office.rules:2: pri=20 is an attribute"),
+                                  (["l3fwd", str(TOP / "examples" / "office.rules")], 1,
+                                   "office.rules:2: pri=20 is an attribute"),
                                   (["l3fwd", "--lenient", str(TOP / "examples" / "office.rules")], 0,
                                    "office.rules:3: left out: pri=10 is an attribute"),
                                   (["l3fwd", "none"], 7, "No such file"), (["other", "x"], 2, "")):
@@ -84,11 +86,13 @@ class Convert(unittest.TestCase):
             with self.assertRaises(ValueError, msg=text):
                 assume.parse(text)
         for words in (["--assume", "state=gone"], ["--data", "lines"], ["--data", "4294967296"]):
-            done = subprocess.run([str(CONVERT), "iptables", *words, "-"], stdout=subprocess.PIPE, stderr=subprocess.PIPE)
+            done = subprocess.run([str(CONVERT), "iptables", *words, "-"], stdout=subprocess.PIPE,
+                                  stderr=subprocess.PIPE)
             self.assertEqual((done.returncode, done.stdout), (2, b""))
 
     def test_what_is_assumed_is_told_in_the_file(self):
-        done = forms.converted(forms.options_of("iptables", "x", chain="INPUT", assume=assume.parse("in=eth0,state=new,local=192.0.2.10")),
+        done = forms.converted(forms.options_of("iptables", "x", chain="INPUT",
+                                                assume=assume.parse("in=eth0,state=new,local=192.0.2.10")),
                                (DATA / "server.iptables-save").read_text())
         self.assertEqual(done.lines[1], "# Assumed: in=eth0,state=new,local=192.0.2.10.")
 

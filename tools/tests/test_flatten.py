@@ -51,13 +51,16 @@ def random_chains(draw):
             number += 1
             whole = boxes.whole(4)
             box = whole._replace(source=interval(draw, whole.source), destination=interval(draw, whole.destination),
-                                 source_ports=interval(draw, boxes.PORTS), protocols=draw.choice([((6, 6),), ((0, 5), (7, 255))]))
-            verdict = draw.choice([lists.ACCEPT, lists.DROP, lists.RETURN, lists.JUMP, lists.JUMP, lists.GO, lists.PASS])
+                                 source_ports=interval(draw, boxes.PORTS),
+                                 protocols=draw.choice([((6, 6),), ((0, 5), (7, 255))]))
+            verdict = draw.choice([lists.ACCEPT, lists.DROP, lists.RETURN, lists.JUMP, lists.JUMP, lists.GO,
+                                   lists.PASS])
             target = draw.randrange(place + 1, 4) if place < 3 else None
             verdict = lists.DROP if target is None and verdict in (lists.JUMP, lists.GO) else verdict
             parts = [box, whole._replace(destination=((3, 5),))][:draw.randrange(1, 3)]
             rules.append(lists.Rule(number, "", parts, verdict, str(target), None))
-        chains[str(place)] = lists.Chain(str(place), rules, lists.Rule(99, "", [], lists.DROP, None, None) if place == 0 else None)
+        chains[str(place)] = lists.Chain(str(place), rules, lists.Rule(99, "", [], lists.DROP, None, None) if place == 0
+                                         else None)
     return chains
 
 
@@ -109,7 +112,8 @@ class Flatten(unittest.TestCase):
         nothing = lists.Rule(0, "", [], lists.PASS, None, None)
         chains = {"0": lists.Chain("0", [excluding(1, 3, 4)], nothing)}
         rules = rules_for(chains, (6,))
-        self.assertEqual([decided(rules, (6, source, destination, (0, 0), 6)) for source, destination in ((3, 1), (1, 4), (1, 1))],
+        self.assertEqual([decided(rules, (6, source, destination, (0, 0), 6)) for source,
+                          destination in ((3, 1), (1, 4), (1, 1))],
                          [None, None, 1])
 
     def test_an_unsaid_end_is_written_where_it_is_asked_for(self):
@@ -120,7 +124,8 @@ class Flatten(unittest.TestCase):
     def test_jumps_in_a_circle_and_too_many_ways_are_refused(self):
         jump = lambda number, target: lists.Rule(number, "", [boxes.whole(4)], lists.JUMP, target, None)
         policy = lists.Rule(99, "", [], lists.DROP, None, None)
-        circle = {"0": lists.Chain("0", [jump(1, "1")], policy), "1": lists.Chain("1", [jump(2, "0"), jump(3, "0")], None)}
+        circle = {"0": lists.Chain("0", [jump(1, "1")], policy), "1": lists.Chain("1", [jump(2, "0"), jump(3, "0")],
+                                                                                  None)}
         with self.assertRaises(lists.CantSay) as raised:
             rules_for(circle)
         self.assertEqual(raised.exception.number, 2)
@@ -136,7 +141,8 @@ class Flatten(unittest.TestCase):
         for place in range(1, 1500):
             part = boxes.whole(4)._replace(source_ports=((place, 65535),))
             chains["0"].rules.append(lists.Rule(place, "", [boxes.whole(4)], lists.JUMP, str(place), None))
-            chains[str(place)] = lists.Chain(str(place), [lists.Rule(2000 + place, "", [part], lists.RETURN, None, None)], None)
+            chains[str(place)] = lists.Chain(str(place),
+                                             [lists.Rule(2000 + place, "", [part], lists.RETURN, None, None)], None)
         with self.assertRaises(lists.CantSay) as raised:
             rules_for(chains)
         self.assertIn("nest more than", raised.exception.reason)

@@ -1,19 +1,24 @@
 """What a list of iptables-save does with a packet: read plainly from iptables(8), with none of the converter's code.
 
-A line that isn't understood is unlawful, and no packet is judged by such a list. Rules are gone through one by one, each
-option is a question about the packet, and what is assumed of interfaces, state and local addresses is part of the packet.
+A line that isn't understood is unlawful, and no packet is judged by such a list. Rules are gone through one by one,
+each option is a question about the packet, and what is assumed of interfaces, state and local addresses is part of
+the packet.
 """
 import ipaddress
 import re
 
-PROTOCOLS = {"tcp": 6, "udp": 17, "sctp": 132, "icmp": 1, "ipv6-icmp": 58, "icmpv6": 58, "gre": 47, "esp": 50, "ah": 51, "ipip": 94,
+PROTOCOLS = {"tcp": 6, "udp": 17, "sctp": 132, "icmp": 1, "ipv6-icmp": 58, "icmpv6": 58, "gre": 47, "esp": 50, "ah": 51,
+             "ipip": 94,
              "ipencap": 4, "all": 0, "udplite": 136, "igmp": 2, "ospf": 89}
 WITH_PORTS = (6, 17, 132)
-ASIDE = {"LOG": ("--log-prefix", "--log-level"), "MARK": ("--set-mark", "--set-xmark"), "NFLOG": ("--nflog-group", "--nflog-prefix")}
+ASIDE = {"LOG": ("--log-prefix", "--log-level"), "MARK": ("--set-mark", "--set-xmark"),
+         "NFLOG": ("--nflog-group", "--nflog-prefix")}
 ENDING = {"ACCEPT": (), "DROP": (), "REJECT": ("--reject-with",), "RETURN": ()}
 MODULES = {"tcp": ("--sport", "--dport"), "udp": ("--sport", "--dport"), "sctp": ("--sport", "--dport"),
-           "multiport": ("--sports", "--dports", "--ports"), "comment": ("--comment",), "iprange": ("--src-range", "--dst-range"),
-           "conntrack": ("--ctstate",), "state": ("--state",), "addrtype": ("--src-type", "--dst-type"), "icmp": ("--icmp-type",),
+           "multiport": ("--sports", "--dports", "--ports"), "comment": ("--comment",),
+           "iprange": ("--src-range", "--dst-range"),
+           "conntrack": ("--ctstate",), "state": ("--state",), "addrtype": ("--src-type", "--dst-type"),
+           "icmp": ("--icmp-type",),
            "limit": ("--limit", "--limit-burst")}
 STATES = ("NEW", "ESTABLISHED", "RELATED", "INVALID", "UNTRACKED")
 BUILT_IN = {"filter": ("INPUT", "FORWARD", "OUTPUT")}
@@ -122,9 +127,11 @@ class Rule:
             require(module not in self.modules or self.protocol == number, f"{module} without its protocol")
         for module in self.modules:
             wanted = MODULES[module]
-            require(module in ("tcp", "udp", "sctp", "limit") or any(it in names for it in wanted), f"{module} without an option")
+            require(module in ("tcp", "udp", "sctp", "limit") or any(it in names for it in wanted),
+                    f"{module} without an option")
         require("multiport" not in self.modules or self.protocol in (6, 17, 132, 136), "ports without a protocol")
-        require(sum(it in MODULES["multiport"] for it in names) <= self.modules.count("multiport"), "two lists of ports")
+        require(sum(it in MODULES["multiport"] for it in names) <= self.modules.count("multiport"),
+                "two lists of ports")
 
     def matches(self, packet):
         return all(self.asked(option, argument, packet) != negated for option, argument, negated in self.questions)
@@ -154,7 +161,8 @@ class Rule:
             require(self.protocol in WITH_PORTS, "ports of another protocol")
             parts = argument.split(",") if option.endswith("s") else [argument]
             require(not option.endswith("s") or all(re.fullmatch(r"\d+(:\d+)?", it) for it in parts), argument)
-            ports = {"--sport": [sport], "--sports": [sport], "--dport": [dport], "--dports": [dport], "--ports": [sport, dport]}
+            ports = {"--sport": [sport], "--sports": [sport], "--dport": [dport], "--dports": [dport],
+                     "--ports": [sport, dport]}
             return any([port_matches(it, port) for it in parts for port in ports[option]])
         require(option == "--comment" or option == "--icmp-type" and argument == "any", option)
         return True
@@ -190,7 +198,8 @@ class Judge:
         for number, line in lines[1:-1]:
             words = words_of(line)
             if line[0] == ":":
-                require(re.fullmatch(r":\S+ (ACCEPT|DROP|-)( \[\d+:\d+\])?", line) and words[0][1:] not in self.chains, line)
+                require(re.fullmatch(r":\S+ (ACCEPT|DROP|-)( \[\d+:\d+\])?", line) and words[0][1:] not in self.chains,
+                        line)
                 require((words[0][1:] in BUILT_IN["filter"]) == (words[1] != "-"), line)
                 self.chains[words[0][1:]] = []
                 if words[1] != "-":
@@ -205,7 +214,8 @@ class Judge:
         require(target in self.chains and target not in self.policies or not rule.goes
                 and (target is None or target in ENDING or target in ASIDE), str(target))
         if target is not None and target not in ASIDE:
-            require("limit" not in rule.modules or target in self.chains and not rule.goes and not self.ends(target), "a rate")
+            require("limit" not in rule.modules or target in self.chains and not rule.goes and not self.ends(target),
+                    "a rate")
 
     def ends(self, chain):
         """Whether a chain decides anything."""
@@ -225,7 +235,8 @@ class Judge:
     def walk(self, chain, packet):
         """The line that decides within a chain, or None at its end."""
         for rule in self.chains[chain]:
-            if rule.target is None or rule.target in ASIDE or not rule.goes and rule.target in self.chains and not self.ends(rule.target):
+            leads = rule.target in self.chains
+            if rule.target is None or rule.target in ASIDE or leads and not rule.goes and not self.ends(rule.target):
                 continue
             if not rule.matches(packet):
                 continue

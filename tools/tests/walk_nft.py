@@ -1,12 +1,13 @@
-"""What a ruleset of nft does with a packet: its JSON is read plainly from libnftables-json(5), with none of the converter's code.
+"""What a ruleset of nft does with a packet: JSON read plainly from libnftables-json(5), with no code of the converter.
 
-Statements are gone through one by one, as nft does: a comparison asks for a number of the packet, and compares it. What isn't
-understood is unlawful, and no packet is judged by such a ruleset.
+Statements are gone through one by one, as nft does: a comparison asks for a number of the packet, and compares it.
+What isn't understood is unlawful, and no packet is judged by such a ruleset.
 """
 import ipaddress
 import json
 
-PROTOCOLS = {"tcp": 6, "udp": 17, "sctp": 132, "icmp": 1, "ipv6-icmp": 58, "gre": 47, "esp": 50, "ah": 51, "ipip": 94, "igmp": 2}
+PROTOCOLS = {"tcp": 6, "udp": 17, "sctp": 132, "icmp": 1, "ipv6-icmp": 58, "gre": 47, "esp": 50, "ah": 51, "ipip": 94,
+             "igmp": 2}
 QUIET = ("counter", "log")
 ENDING = ("accept", "drop", "reject", "return", "continue")
 
@@ -77,7 +78,8 @@ class Judge:
         key = (*table, said.get("chain" if kind == "rule" else "name"))
         if kind == "chain":
             require(key not in self.chains and said.get("policy", "accept") in ("accept", "drop"), said)
-            require(("hook" in said) == ("type" in said) == ("prio" in said) and ("hook" in said or "policy" not in said), said)
+            require(("hook" in said) == ("type" in said) == ("prio" in said)
+                    and ("hook" in said or "policy" not in said), said)
             self.chains[key], self.rules[key] = said, []
         elif kind == "rule":
             require(key in self.rules and isinstance(said["expr"], list), said)
@@ -248,13 +250,15 @@ class Judge:
             if key == "l4proto":
                 return protocol, "protocol"
             if key in ("nfproto", "protocol"):
-                return ("ipv4" if family == 4 else "ipv6") if key == "nfproto" else ("ip" if family == 4 else "ip6"), "name"
+                return ("ipv4" if family == 4 else "ipv6") if key == "nfproto" else ("ip" if family == 4
+                                                                                     else "ip6"), "name"
             way = {"iifname": "in", "oifname": "out"}.get(key)
             require(way in self.assumed, key)
             return self.assumed[way], "name"
         if name == "ct" and said["key"] == "state":
             require("state" in self.assumed, left)
             return self.assumed["state"], "name"
-        require(name == "fib" and said["result"] == "type" and said["flags"] in ("daddr", ["daddr"]) and "local" in self.assumed, left)
+        require(name == "fib" and said["result"] == "type" and said["flags"] in ("daddr", ["daddr"])
+                and "local" in self.assumed, left)
         own = [int(ipaddress.ip_address(it)) for it in self.assumed["local"]]
         return destination in own or (destination >> 24 == 127 if family == 4 else destination == 1), "local"
