@@ -99,10 +99,10 @@ def checked(rule, chains, lenient):
     return rule._replace(reason=reason)
 
 
-def read_line(line, family, options):
+def read_line(line, chain, family, options):
     """The rule of a line; one that isn't lawful is left out where that is asked for."""
     try:
-        return iptables_rule.read_rule(*line, family, options.assume)
+        return iptables_rule.read_rule(line, chain, family, options.assume)
     except Malformed as said:
         if not options.lenient:
             raise
@@ -115,7 +115,7 @@ def chains_of(declared, family, options):
     for name, chain in declared.items():
         verdict = POLICIES.get(chain.policy)
         policy = Rule(chain.number, chain.text, [], verdict, None, None) if verdict else None
-        rules = [read_line(line, family, options) for line in chain.lines]
+        rules = [read_line(line, name, family, options) for line in chain.lines]
         chains[name] = Chain(name, [checked(rule, declared, options.lenient) for rule in rules], policy)
     return chains
 

@@ -32,7 +32,8 @@ MATCHES = {name: table(text) for name, text in {
     "length": "--length",
     "hashlimit": "--hashlimit-upto --hashlimit-above --hashlimit-burst --hashlimit-mode --hashlimit-name "
                  "--hashlimit-srcmask --hashlimit-dstmask --hashlimit-htable-size --hashlimit-htable-max "
-                 "--hashlimit-htable-expire --hashlimit-htable-gcinterval --hashlimit-rate-match/0 --hashlimit-rate-interval",
+                 "--hashlimit-htable-expire --hashlimit-htable-gcinterval --hashlimit-rate-match/0 "
+                 "--hashlimit-rate-interval",
     "recent": "--name --set/0 --rcheck/0 --update/0 --remove/0 --seconds --hitcount --rttl/0 --rsource/0 --rdest/0 "
               "--mask --reap/0",
     "set": "--match-set/2 --return-nomatch/0 --update-counters/0 --update-subcounters/0",

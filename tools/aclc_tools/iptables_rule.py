@@ -10,6 +10,12 @@ VERDICTS = {"ACCEPT": ACCEPT, "DROP": DROP, "REJECT": REJECT, "RETURN": RETURN}
 STATES = ("INVALID", "NEW", "ESTABLISHED", "RELATED", "UNTRACKED")
 MULTICAST = ((0xE0000000, 0xEFFFFFFF),)
 MOST_LISTED = 15
+# What REJECT answers with in each family.
+REJECTS = {4: ("icmp-net-unreachable", "icmp-host-unreachable", "icmp-proto-unreachable", "icmp-port-unreachable",
+               "icmp-net-prohibited", "icmp-host-prohibited", "icmp-admin-prohibited"),
+           6: ("icmp6-no-route", "icmp6-adm-prohibited", "icmp6-addr-unreachable", "icmp6-port-unreachable",
+               "icmp6-policy-fail", "icmp6-reject-route", "no-route", "adm-prohibited", "addr-unreach", "port-unreach",
+               "policy-fail", "reject-route")}
 # The matches that are read.
 READ = ("tcp", "udp", "sctp", "icmp", "icmp6", "multiport", "iprange", "comment", "conntrack", "state", "addrtype")
 SIDES = {"-s": "source", "-d": "destination", "--src-range": "source", "--dst-range": "destination",
@@ -163,6 +169,8 @@ class Reading:
 
     def take_ports(self, name, intervals, negated):
         self.match.ports_read = True
+        if negated and boxes.union(intervals) == boxes.PORTS:
+            raise Malformed(f"{name} excludes all ports")
         if name != "--ports":
             self.match.keep(SIDES[name], intervals, negated)
             return
@@ -206,10 +214,25 @@ def verdict_of(line):
     return JUMP, line.target
 
 
-def read_rule(number, text, words, family, assumption=assume.NOTHING):
-    """The rule of a line, of the words after its chain; Malformed where the line isn't lawful."""
+def check_place(line, chain, family):
+    """Refuses what a chain's packets can't have yet, or have no more, and answers that aren't of the list's family."""
+    for option, chains in (("-o", ("PREROUTING", "INPUT")), ("-i", ("OUTPUT", "POSTROUTING"))):
+        if chain in chains and any(it.name == option for it in line.options):
+            raise Malformed(f"{option} stands in no rule of {chain}")
+    if "icmp6" in line.matches and family == 4 or "icmp" in line.matches and family == 6:
+        raise Malformed(f"its match on a type of ICMP isn't one of IPv{family}")
+    if line.reject not in (None, "tcp-reset", *REJECTS[family]):
+        raise Malformed(f"{line.reject} is no answer of REJECT in IPv{family}")
+    if line.reject == "tcp-reset" and line.protocol != 6:
+        raise Malformed("tcp-reset needs -p tcp")
+
+
+def read_rule(saved, chain, family, assumption=assume.NOTHING):
+    """The rule of a line of a chain; Malformed where the line isn't lawful."""
+    number, text, words = saved
     try:
         line = Line(words)
+        check_place(line, chain, family)
         reading = Reading(line, family, assumption)
     except Malformed as said:
         raise Malformed(said.reason, number, text) from None

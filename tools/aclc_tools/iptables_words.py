@@ -39,7 +39,7 @@ class Line:
 
     def __init__(self, words):
         self.options, self.matches = [], []
-        self.protocol, self.target, self.goes = None, None, False
+        self.protocol, self.target, self.goes, self.reject = None, None, False, None
         self.words, self.at = words, 0
         self.seen = set()
         self.read()
@@ -94,6 +94,8 @@ class Line:
             self.add_match(arguments[0])
         elif name in ("-j", "-g"):
             self.take_target(name, arguments[0])
+        elif name == "--reject-with":
+            self.reject = arguments[0]
         elif of >= 0:
             if name == "-p" and not negated:
                 self.protocol = protocol(arguments[0])
@@ -119,6 +121,8 @@ class Line:
             if name == "multiport" and len(own) > 1:
                 raise Malformed("the match multiport has two options")
             number = next((it for it, match in known.OF_PROTOCOL.items() if match == name), None)
+            if number and self.matches.count(name) > 1:
+                raise Malformed(f"the match {name} stands twice")
             if number and self.protocol != number:
                 raise Malformed(f"the match {name} needs its protocol before it, by -p")
             if name == "multiport" and self.protocol not in (6, 17, 33, 132, 136):

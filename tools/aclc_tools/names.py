@@ -16,9 +16,9 @@ SYSTEM = {"ip": 0, "hopopt": 0, "icmp": 1, "igmp": 2, "ggp": 3, "ipencap": 4, "s
           "fc": 133, "mobility-header": 135, "udplite": 136, "mpls-in-ip": 137, "manet": 138, "hip": 139, "shim6": 140,
           "wesp": 141, "rohc": 142, "ethernet": 143}
 # Names of iptables, ip6tables and nft that the database hasn't.
-FIREWALL = {"icmpv6": 58, "icmp6": 58, "ipv6-mh": 135, "mh": 135}
-# Names of Cisco's lists that the database hasn't, or has with another number.
-CISCO = {"ipinip": 4, "igrp": 9, "ahp": 51, "nos": 94, "pcp": 108}
+FIREWALL = {"icmpv6": 58, "ipv6-mh": 135, "mh": 135}
+# Names in lists of routers that the database hasn't.
+ROUTERS = {"ipinip": 4, "igrp": 9, "ahp": 51, "icmp6": 58, "nos": 94, "pcp": 108}
 # The names that Cisco's IOS writes for ports.
 PORTS = {"bgp": 179, "biff": 512, "bootpc": 68, "bootps": 67, "chargen": 19, "cmd": 514, "daytime": 13, "discard": 9,
          "dnsix": 195,
@@ -48,7 +48,7 @@ def number_of(text, tables):
 
 def protocol(text):
     """The number of a protocol by its name or number, or None."""
-    return number_of(text, (CISCO, SYSTEM, FIREWALL))
+    return number_of(text, (ROUTERS, SYSTEM, FIREWALL))
 
 
 def firewall_protocol(text):

@@ -107,7 +107,7 @@ def chosen(ruleset, options):
     if not options.chain:
         fitting = [key for key in fitting if "hook" in ruleset.chains[key] and ruleset.rules[key]]
     if len(fitting) != 1:
-        raise CantSay("which chain is meant isn't said: --chain NAME, and --table NAME or --family 4|6 where several have it;"
+        raise CantSay("which chain is meant isn't said: --chain NAME, with --table or --family where several have it;"
                       f" there are: {', '.join(map(' '.join, ruleset.chains)) or 'none'}")
     if fitting[0][0] not in FAMILIES:
         raise CantSay(f"a table of the family {fitting[0][0]} isn't of IPv4 or IPv6 alone")

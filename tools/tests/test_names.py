@@ -22,7 +22,7 @@ class Names(unittest.TestCase):
 
     def test_own_names_hide_none_of_the_system(self):
         system = {words[0]: int(words[1]) for words in entries("/etc/protocols")}
-        for table in (names.FIREWALL, names.CISCO):
+        for table in (names.FIREWALL, names.ROUTERS):
             for name, number in table.items():
                 self.assertEqual(system.get(name, number), number, name)
 
