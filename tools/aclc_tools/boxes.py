@@ -94,6 +94,7 @@ def masks(intervals, low=0, free=8):
 
 
 def address_text(family, value):
+    """An address as it is written in a rule."""
     if family == 4:
         return ".".join(str(value >> shift & 255) for shift in (24, 16, 8, 0))
     from aclc_tools.warnings import ip6_text

@@ -45,6 +45,7 @@ def check_jumps(chains):
     done, way = set(), []
 
     def visit(chain):
+        """Follows the jumps of a chain."""
         way.append(chain)
         for rule in chains[chain].rules:
             if rule.verdict in (JUMP, GO) and rule.target in chains:
@@ -94,6 +95,7 @@ class Flattener:
                 and number not in self.left_out and rule.verdict in (*DECIDING, PASS)]
 
     def decide(self, box, rule):
+        """Takes a box that a rule decides."""
         self.count += boxes.size(box)
         if self.count > self.most:
             raise CantSay(f"more than {MOST_RULES} rules would be needed", rule.number, rule.text)
@@ -194,6 +196,7 @@ class Flattener:
             self.decide(box, self.policy)
 
     def known(self, rule):
+        """The chain that a rule leads to."""
         if rule.target not in self.chains:
             raise CantSay(f"there is no chain {rule.target}", rule.number, rule.text)
         return rule.target

@@ -125,12 +125,16 @@ def drops(target):
     return target not in (None, "ACCEPT", "RETURN", *iptables_options.PASSING, *iptables_options.CHANGING)
 
 
-def aside_of(line, table):
+def aside_of(line, table, way):
     """What a line of another table does to a packet, or None, and the chain that it leads to."""
     try:
         read = iptables_words.Line(line.words)
+        reading = iptables_rule.Reading(read, *way)
     except CantSay as said:
-        return Aside(line.number, line.text, f"in the table {table}, and it can't be read: {said.reason}", True), None
+        return Aside(line.number, line.text, f"it can't be read, in the table {table}: {said.reason}", True), None
+    if not reading.reason and not reading.match.boxes:
+        # It matches nothing, under what is assumed.
+        return None, None
     untracked = read.target == "NOTRACK" or read.target == "CT" and "--notrack" in line.words
     if read.target in iptables_options.CHANGING:
         return Aside(line.number, line.text, f"it changes addresses in the table {table}", False), None
@@ -142,27 +146,27 @@ def aside_of(line, table):
     return None, read.target
 
 
-def asides_of_chain(declared, table, name, done):
+def asides_of_chain(declared, table, name, done, way):
     """What the lines of a chain and of those that it leads to do to packets."""
     done.add(name)
     for line in declared[name].lines:
-        aside, target = aside_of(line, table)
+        aside, target = aside_of(line, table, way)
         if target in declared:
-            yield from asides_of_chain(declared, table, target, done) if target not in done else ()
+            yield from asides_of_chain(declared, table, target, done, way) if target not in done else ()
         elif aside:
             yield aside
 
 
-def asides_of(tables, chosen, chain):
+def asides_of(tables, chosen, chain, family, assumption):
     """What other tables do to packets that come to a chain."""
-    found, way = [], WAYS.get(chain, ())
+    found, way, given = [], WAYS.get(chain, ()), (family, assumption)
     for table, declared in tables.items():
         done = set()
         for name in (it for it in declared if it in way and (table, it) != (chosen, chain) and it in BASE[table]):
             if declared[name].policy == "DROP":
                 found.append(Aside(declared[name].number, declared[name].text,
                                    f"its policy drops packets in the table {table}", True))
-            found += asides_of_chain(declared, table, name, done)
+            found += asides_of_chain(declared, table, name, done, given)
     return sorted(found)
 
 
@@ -201,4 +205,4 @@ def convert(lines, options):
     family = family_of(lines, options.family)
     chains = chains_of(tables[name], family, options)
     chain = options.chain or only_chain(chains)
-    return Read(chains, chain, [family], asides_of(tables, name, chain))
+    return Read(chains, chain, [family], asides_of(tables, name, chain, family, options.assume))

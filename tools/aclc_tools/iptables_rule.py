@@ -51,6 +51,7 @@ def network(text, family):
 
 
 def address_range(text, family):
+    """The interval of two addresses, or of one."""
     low, dash, high = text.partition("-")
     ends = address(low, family), address(high if dash else low, family)
     if ends[0] > ends[1]:
@@ -103,6 +104,7 @@ class Reading:
         self.attempt(self.match.check)
 
     def note(self, reason):
+        """Keeps the first reason why the rule can't be said."""
         self.reason = self.reason or reason
 
     def attempt(self, what, *given):
@@ -115,6 +117,7 @@ class Reading:
             self.note(said.reason)
 
     def take(self, option):
+        """Takes one option."""
         name, negated = option.name, option.negated
         text = option.arguments[0] if option.arguments else ""
         if name in ("-s", "-d"):
@@ -139,10 +142,12 @@ class Reading:
             self.refuse(option)
 
     def refuse(self, option):
+        """Refuses an option of which no rule of aclc can say anything."""
         reasons = {**iptables_options.REASONS, **iptables_options.OPTION_REASONS}
         raise CantSay(f"it matches {reasons.get(option.name) or reasons.get(option.match, option.name)}")
 
     def take_addresses(self, option, text):
+        """Takes -s or -d with its addresses."""
         parts = [network(part, self.family) for part in text.split(",")]
         if option.negated and len(parts) > 1:
             raise Malformed(f"{option.name} has several addresses, and ! before it")
@@ -151,6 +156,7 @@ class Reading:
         self.match.keep(SIDES[option.name], parts, option.negated)
 
     def take_protocol(self, text, negated):
+        """Takes -p."""
         number = protocol(text)
         if not number and negated:
             raise Malformed("it matches no protocol at all")
@@ -158,6 +164,7 @@ class Reading:
             self.match.keep("protocols", [(number, number)], negated)
 
     def take_interface(self, name, text, negated):
+        """Takes -i or -o, as it is assumed; a name that ends with + stands for all that begin so."""
         key = "in" if name == "-i" else "out"
         if not text or len(text.rstrip("+")) > 15 or re.search(r"[/\s]", text):
             raise Malformed(f"{text or 'nothing'} is no interface")
@@ -168,6 +175,7 @@ class Reading:
         self.match.truth(met != negated)
 
     def take_ports(self, name, intervals, negated):
+        """Takes an option on ports."""
         self.match.ports_read = True
         if negated and boxes.union(intervals) == boxes.PORTS:
             raise Malformed(f"{name} excludes all ports")
@@ -182,6 +190,7 @@ class Reading:
             self.match.narrow([(side, intervals) for side in sides])
 
     def take_state(self, text, negated):
+        """Takes the states of a connection, as it is assumed."""
         states = text.upper().split(",")
         for state in states:
             if state in ("SNAT", "DNAT"):
@@ -193,6 +202,7 @@ class Reading:
         self.match.truth((self.assumption.state.upper() in states) != negated)
 
     def take_type(self, side, text, negated):
+        """Takes the type of an address."""
         if text == "LOCAL":
             self.match.keep_local(side, self.assumption, negated)
         elif text == "MULTICAST" and self.family == 4:

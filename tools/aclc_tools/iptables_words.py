@@ -102,12 +102,14 @@ class Line:
             self.options.append(Option(name, arguments, negated, of, match))
 
     def add_match(self, name):
+        """Loads a match, whose options are known after it."""
         name = known.MATCH_SYNONYMS.get(name, name)
         if name not in known.MATCHES:
             raise Malformed(f"the match {name} isn't known")
         self.matches.append(name)
 
     def take_target(self, name, target):
+        """Takes -j or -g with its target."""
         if self.target is not None:
             raise Malformed("it has two targets")
         self.target, self.goes = target, name == "-g"

@@ -18,6 +18,7 @@ class Match:
         return other
 
     def of_family(self, *families):
+        """Keeps the packets of some families."""
         self.boxes = [box for box in self.boxes if box.family in families]
 
     def truth(self, value):

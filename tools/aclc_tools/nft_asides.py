@@ -1,6 +1,7 @@
 """What other base chains of nft do to the packets that come to one chain."""
-from aclc_tools.lists import Aside, CantSay
-from aclc_tools.nft_rule import PASSING, QUIET_XT, HALTING, map_of
+from aclc_tools.lists import PASS, Aside, CantSay
+from aclc_tools.nft_match import Comparing
+from aclc_tools.nft_rule import HALTING, PASSING, QUIET_XT, map_of, read_rule
 from aclc_tools.nft_text import SHAPES, one_of, rule_text
 
 FAMILIES = {"ip": (4,), "ip6": (6,), "inet": (4, 6), "netdev": (4, 6)}
@@ -27,6 +28,7 @@ def base_chains(ruleset, chosen):
 
 
 def priority(chain):
+    """The priority of a base chain."""
     value = chain.get("prio", 0)
     return value if isinstance(value, int) else 0
 
@@ -39,8 +41,9 @@ def place_of(chain):
 class Scan:
     """The rules of a base chain and of those that it leads to."""
 
-    def __init__(self, ruleset, base):
-        self.ruleset, self.base, self.seen = ruleset, base, set()
+    def __init__(self, ruleset, base, families, assumption):
+        self.ruleset, self.base, self.families, self.seen = ruleset, base, families, set()
+        self.comparing = Comparing(ruleset.sets_of(base["family"], base["table"]), assumption)
 
     def asides(self):
         """What each of them does."""
@@ -50,12 +53,17 @@ class Scan:
         yield from self.of_chain(self.base["name"])
 
     def of_chain(self, name):
+        """What the rules of a chain do, and those that it leads to."""
         key = self.base["family"], self.base["table"], name
         if name in self.seen or key not in self.ruleset.chains:
             return
         self.seen.add(name)
         for rule in self.ruleset.rules[key]:
             targets, done = [], None
+            read = read_rule(rule, self.families, self.comparing, True)
+            if not any(it.boxes or it.reason or it.verdict == PASS for it in read):
+                # It matches nothing, under what is assumed.
+                continue
             try:
                 for statement in rule["expr"]:
                     done = self.worst(done, self.statement(statement, targets))
@@ -95,6 +103,7 @@ class Scan:
         return done
 
 
-def asides_of(ruleset, chosen):
-    """What the other base chains do, in the order in which packets come to them."""
-    return [aside for base in base_chains(ruleset, chosen) for aside in Scan(ruleset, base).asides()]
+def asides_of(ruleset, chosen, families, assumption):
+    """What the other base chains do to packets of some families, in the order in which packets come to them."""
+    scans = (Scan(ruleset, base, families, assumption) for base in base_chains(ruleset, chosen))
+    return [aside for scan in scans for aside in scan.asides()]

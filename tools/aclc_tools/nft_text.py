@@ -17,6 +17,7 @@ def one_of(value):
 
 
 def plain(value):
+    """A value as JSON."""
     return json.dumps(value, ensure_ascii=False)
 
 

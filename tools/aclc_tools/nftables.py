@@ -57,12 +57,14 @@ class Ruleset:
         self.handles.add((table, handle))
 
     def add_table(self, said):
+        """Takes a table, which stands once."""
         key = self.key(said, "family", "name")
         if key in self.tables:
             raise CantSay(f"the table {' '.join(key)} stands twice")
         self.tables[key] = said
 
     def add_chain(self, said):
+        """Takes a chain of a table, which stands once."""
         key = self.key(said, "family", "table", "name")
         if key in self.chains:
             raise CantSay(f"the chain {' '.join(key)} stands twice")
@@ -74,6 +76,7 @@ class Ruleset:
         self.chains[key], self.rules[key] = said, []
 
     def add_rule(self, said):
+        """Takes a rule of a chain that stands before it."""
         key = self.key(said, "family", "table", "chain")
         if key not in self.chains:
             raise CantSay(f"the chain {' '.join(key)} isn't declared before its rule", said["handle"])
@@ -83,6 +86,7 @@ class Ruleset:
         self.rules[key].append(said)
 
     def add_set(self, said):
+        """Takes a set or a map of a table, which stands once."""
         key = self.key(said, "family", "table", "name")
         if key in self.sets:
             raise CantSay(f"the set {' '.join(key)} stands twice")
@@ -149,7 +153,7 @@ def read(text, options):
                                                                                                    comparing,
                                                                                                    options.lenient)]
         chains[key] = Chain(key, [checked(rule, own, options.lenient) for rule in rules], policy_of(said))
-    asides = asides_of(ruleset, own[name]) if "hook" in own[name] else ()
+    asides = asides_of(ruleset, own[name], families, options.assume) if "hook" in own[name] else ()
     return Read(chains, name, families, asides)
 
 

@@ -6,12 +6,14 @@ decides a packet. It raises what `unlawful` names where the text is no lawful li
 """
 import random
 import re
+import tempfile
 from collections import Counter
+from pathlib import Path
 
 import draws_iptables
 import draws_nft
 import packets
-from aclc_tools import forms, lists, rule_file
+from aclc_tools import capture, forms, lists, program, rule_file
 from converting import decided
 
 FORMS = {"iptables": draws_iptables, "nft": draws_nft}
@@ -34,10 +36,12 @@ def swapped(draw, lines, at):
 
 
 def removed(draw, lines, at):
+    """A line is left out."""
     return lines[:at] + lines[at + 1:]
 
 
 def doubled(draw, lines, at):
+    """A line stands twice."""
     place = draw.randrange(len(lines) + 1)
     return lines[:place] + [lines[at]] + lines[place:]
 
@@ -57,6 +61,7 @@ def cut(draw, lines, at):
 
 
 def moved(draw, lines, at):
+    """A line stands elsewhere."""
     rest = lines[:at] + lines[at + 1:]
     place = draw.randrange(len(rest) + 1)
     return rest[:place] + [lines[at]] + rest[place:]
@@ -95,6 +100,33 @@ def fields_near(rules, count, draw):
     for family, source, destination, ports, protocol in packets.draw_fields(rules, count,
                                                                             draw.random()) if rules else ():
         yield family, source, destination, tuple(ports) if protocol in (6, 17, 132) else (0, 0), protocol
+
+
+def by_program(form, count, seed):
+    """Each packet of so many lists that the program answers in another way than the list's own judge, and the count."""
+    draw, wrong, asked = random.Random(seed), [], 0
+    for _ in range(count):
+        drawn = FORMS[form].draw(draw)
+        text = drawn.join(drawn.lines)
+        judge, lines = drawn.judge(text), forms.converted(drawn.options, text).lines
+        rules = ("\n".join(lines) + "\n").encode()
+        near = list(fields_near(rule_file.read_rules(rules)[0], 50, draw))
+        frames = [packets.ethernet(packets.packet(*fields, number)) for number, fields in enumerate(near)]
+        for fields, answer in zip(near, answers(rules, frames)):
+            asked += 1
+            if (judge.decides(fields) or 0) != answer:
+                wrong.append((fields, judge.decides(fields), answer, text))
+    return wrong, asked
+
+
+def answers(rules, frames):
+    """The userdata that the program prints for each frame."""
+    with tempfile.TemporaryDirectory() as folder:
+        names = Path(folder) / "list.rules", Path(folder) / "sent.pcap"
+        names[0].write_bytes(rules)
+        names[1].write_bytes(capture.write(frames))
+        done = program.run("classify", *names, path=program.built_program())
+    return [int(line.split()[2]) for line in done.lines.decode().split("\n")[:len(frames)]]
 
 
 def run(form, count, seed, near=12):

@@ -15,10 +15,12 @@ PORTS = (22, 80, {"range": [1000, 2000]}, 443)
 
 
 def payload(protocol, field):
+    """A field of a header."""
     return {"payload": {"protocol": protocol, "field": field}}
 
 
 def comparison(left, operator, right):
+    """A comparison as JSON."""
     return {"match": {"op": operator, "left": left, "right": right}}
 
 
@@ -28,12 +30,14 @@ def some(draw, values):
 
 
 def address(draw, network, _):
+    """A comparison of an address."""
     right = draw.choice([some(draw, ADDRESSES[network]), some(draw, ADDRESSES[network]), "@hosts" if network == "ip"
                          else "@hosts6"])
     return comparison(payload(network, draw.choice(["saddr", "daddr"])), draw.choice(["==", "==", "!="]), right)
 
 
 def port(draw, _, transport):
+    """A comparison of a port."""
     left = payload(transport, draw.choice(["sport", "dport"]))
     if draw.random() < 0.3:
         return comparison(left, draw.choice(["<", ">=", ">", "<="]), draw.choice([22, 1024]))
@@ -41,6 +45,7 @@ def port(draw, _, transport):
 
 
 def pair(draw, network, transport):
+    """A comparison of an address and a port at once."""
     element = lambda at: {"concat": [ADDRESSES[network][at], draw.choice(PORTS)]}
     values = {"set": [element(3), element(draw.choice([0, 2]))]} if network == "ip" else {"set": [element(0),
                                                                                                   element(2)]}
@@ -111,6 +116,7 @@ def drawn_objects(draw, hook):
 
 
 def joined(lines):
+    """The text of a ruleset with these objects."""
     return '{"nftables": [\n' + ",\n".join(lines) + "\n]}\n"
 
 

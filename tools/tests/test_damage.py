@@ -2,6 +2,7 @@
 import unittest
 
 import damages
+from aclc_tools.program import built_program
 
 COUNT, SEED = 150, 48
 
@@ -14,6 +15,13 @@ class Damage(unittest.TestCase):
                 self.assertEqual(faults, [])
                 self.assertGreater(counts["converted"], COUNT // 10)
                 self.assertGreater(counts["refused"], COUNT // 10)
+
+    @unittest.skipUnless(built_program(), "the program isn't built")
+    def test_the_program_answers_as_the_lists_decide(self):
+        for form in damages.FORMS:
+            wrong, asked = damages.by_program(form, 6, SEED)
+            self.assertEqual(wrong, [])
+            self.assertGreater(asked, 100)
 
 
 if __name__ == "__main__":

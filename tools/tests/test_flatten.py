@@ -81,9 +81,11 @@ def excluding(number, source, destination, verdict=lists.ACCEPT):
 
 class Flatten(unittest.TestCase):
     def setUp(self):
+        """Keeps the limits, which tests change."""
         self.limits = flatten.DEAR, flatten.MOST_STEPS
 
     def tearDown(self):
+        """Puts the limits back."""
         flatten.DEAR, flatten.MOST_STEPS = self.limits
 
     def test_a_list_of_chains_decides_as_the_chains_do(self):

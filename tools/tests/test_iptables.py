@@ -29,7 +29,7 @@ RULES_REFUSED = [
     ("-j INPUT", "which packets come to by themselves"), ("-g INPUT", "which packets come to by themselves"),
     ("-j", "the line ends"),
     ("-o eth1 -j DROP", "-o stands in no rule of INPUT"), ("-j REJECT --reject-with none", "no answer of REJECT"),
-    ("-j REJECT --reject-with tcp-reset", "needs -p tcp"), ("-p tcp -m tcp -m tcp --dport 1 -j DROP", "tcp stands twice"),
+    ("-j REJECT --reject-with tcp-reset", "needs -p tcp"), ("-p tcp -m tcp -m tcp --dport 1 -j DROP", "stands twice"),
     ("-p tcp ! --dport : -j DROP", "excludes all ports"), ("! -s 0.0.0.0/0 -j DROP", "excludes all addresses"),
     ("-s", "the line ends"), ("-s 10.0.0.0/8 -j", "the line ends"), ("-s 10.0.0.0/8 !", "follows the last !"),
     ("! ! -s 10.0.0.0/8 -j DROP", "two !"), ("! -j DROP", "can't be negated"), ("-j ACCEPT -j DROP", "stands twice"),
@@ -119,6 +119,7 @@ def number(address):
 
 class Iptables(unittest.TestCase):
     def refused(self, text, **given):
+        """Why a list is refused."""
         with self.assertRaises(lists.CantSay) as raised:
             convert("iptables", text, **given)
         return raised.exception
@@ -179,9 +180,13 @@ class Iptables(unittest.TestCase):
                 self.assertIn("may drop packets in the table raw", self.refused(text).reason)
             notes = converted(options_of("iptables", "-", lenient=drops), text).notes
             self.assertEqual(any("changes addresses in the table nat" in note[2] for note in notes), True)
-        self.assertIn("its policy drops",
-                      self.refused(OTHERS.format("").replace("ACCEPT", "DROP",
-                                                             1) + ONE.format("-s 10.0.0.1 -j DROP")).reason)
+        dropping = OTHERS.format("").replace("ACCEPT", "DROP", 1) + ONE.format("-s 10.0.0.1 -j DROP")
+        self.assertIn("its policy drops", self.refused(dropping).reason)
+
+    def test_other_tables_that_match_nothing_as_it_is_assumed_end_nothing(self):
+        text = OTHERS.format("-A PREROUTING -i eth9 -j DROP\n") + ONE.format("-s 10.0.0.1 -j DROP")
+        self.assertIn("may drop packets", self.refused(text).reason)
+        convert("iptables", text, assume=ASSUMED)
 
     def test_what_is_left_out_is_told(self):
         text = ONE.replace("-A INPUT {}",

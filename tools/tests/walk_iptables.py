@@ -29,6 +29,7 @@ class Unlawful(Exception):
 
 
 def require(condition, what):
+    """Ends it where a condition doesn't hold."""
     if not condition:
         raise Unlawful(what)
 
@@ -68,6 +69,7 @@ def port_matches(text, value):
 
 
 def range_matches(text, value, family):
+    """Whether an address lies between two others."""
     low, _, high = text.partition("-")
     kind = ipaddress.IPv4Address if family == 4 else ipaddress.IPv6Address
     try:
@@ -79,6 +81,7 @@ def range_matches(text, value, family):
 
 
 def protocol_of(text):
+    """The number of a protocol."""
     number = int(text) if text.isdigit() and str(int(text)) == text else PROTOCOLS.get(text.lower(), 256)
     require(number < 256, text)
     return number
@@ -102,6 +105,7 @@ class Rule:
         self.check()
 
     def take(self, option, argument, negated):
+        """Takes an option with its argument."""
         if option == "-m":
             require(argument in MODULES and not negated, argument)
             self.modules.append(argument)
@@ -134,6 +138,7 @@ class Rule:
                 "two lists of ports")
 
     def matches(self, packet):
+        """Whether all questions are answered with yes."""
         return all(self.asked(option, argument, packet) != negated for option, argument, negated in self.questions)
 
     def asked(self, option, argument, packet):
@@ -223,6 +228,7 @@ class Judge:
                    for rule in self.chains[chain])
 
     def check_loops(self, chain, way):
+        """Refuses jumps that lead in a circle."""
         require(chain not in way, "a loop")
         for rule in self.chains[chain]:
             if rule.target in self.chains:

@@ -17,6 +17,7 @@ class Unlawful(Exception):
 
 
 def require(condition, what):
+    """Ends it where a condition doesn't hold."""
     if not condition:
         raise Unlawful(what)
 
@@ -89,6 +90,7 @@ class Judge:
             self.sets[key] = said
 
     def only_chain(self, name):
+        """The one base chain of a name."""
         found = [key for key in self.chains if key[2] == name]
         require(len(found) == 1 and found[0][0] in ("ip", "ip6", "inet") and "hook" in self.chains[found[0]], name)
         return found[0]
@@ -122,9 +124,6 @@ class Judge:
         else:
             found = only(value)[1]
         return found if isinstance(found, list) else [found]
-
-    def families(self):
-        return {"ip": (4,), "ip6": (6,), "inet": (4, 6)}[self.start[0]]
 
     def decides(self, fields):
         """The handle that decides a packet."""
