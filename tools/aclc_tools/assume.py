@@ -36,6 +36,11 @@ class Assumption(namedtuple("Assumption", "inward outward state local")):
 NOTHING = Assumption(None, None, None, None)
 
 
+def of(options):
+    """What options say of it; nothing, where they are of a tool that doesn't ask."""
+    return getattr(options, "assume", None) or NOTHING
+
+
 def parse(text):
     """The assumption of a text; ValueError with a sentence where it is none."""
     found = {"in": None, "out": None, "state": None, "local": ()}

@@ -62,7 +62,7 @@ def head_of(options, form, chain):
             "verdict": "1 where a rule accepts, 2 where it drops, 3 where it rejects"}
     head = (f"Made by tools/convert {options.form} of {Path(options.file).name}, {chain}. "
             f"Userdata is {data.get(options.data, options.data)}.")
-    return head + (f"\nAssumed: {options.assume.told()}." if options.assume.told() else "")
+    return head + (f"\nAssumed: {assume.of(options).told()}." if assume.of(options).told() else "")
 
 
 def end_of(form, data):
@@ -73,14 +73,15 @@ def end_of(form, data):
 def converted(options, text):
     """The rule file of a list, with all that is told of it; CantSay where one can't be said."""
     options, form = complete(options), FORMS[options.form]
-    read = lists.Read(*form.reader.convert(text.split("\n"), options))
+    read = form.reader.convert(text.split("\n"), options)
+    read = read if isinstance(read, lists.Read) else lists.Read(*read)
     if read.chain not in read.chains:
         raise lists.CantSay(f"there is no {form.kind} {read.chain}; there are: {', '.join(read.chains) or 'none'}")
     notes = [(it.number, it.text, it.reason) for it in read.asides]
     dropping = next((it for it in read.asides if it.drops), None)
     if dropping and not options.lenient:
         raise lists.CantSay(f"{dropping.reason}; --lenient leaves it out", dropping.number, dropping.text,
-                            [it for it in notes if it[0] != dropping.number])
+                            [note for note, it in zip(notes, read.asides) if it is not dropping])
     flattener = flatten.Flattener(read.chains, options.lenient, end_of(form, options.data))
     flattener.list_of(read.chain, read.families)
     lines = list(flatten.write(flattener, head_of(options, form, read.chain), form.what, options.data))

@@ -5,7 +5,7 @@ Source: the manual pages iptables(8), ip6tables(8), iptables-extensions(8) and i
 import re
 from collections import namedtuple
 
-from aclc_tools import iptables_options, iptables_rule, iptables_words
+from aclc_tools import assume, iptables_options, iptables_rule, iptables_words
 from aclc_tools.lists import ACCEPT, DROP, GO, JUMP, Aside, CantSay, Chain, Malformed, Read, Rule
 
 POLICIES = {"ACCEPT": ACCEPT, "DROP": DROP}
@@ -99,24 +99,24 @@ def checked(rule, chains, lenient):
     return rule._replace(reason=reason)
 
 
-def read_line(line, chain, family, options):
+def read_line(line, chain, given, lenient):
     """The rule of a line; one that isn't lawful is left out where that is asked for."""
     try:
-        return iptables_rule.read_rule(line, chain, family, options.assume)
+        return iptables_rule.read_rule(line, chain, *given)
     except Malformed as said:
-        if not options.lenient:
+        if not lenient:
             raise
         return Rule(line.number, line.text, [], DROP, None, said.reason)
 
 
-def chains_of(declared, family, options):
-    """The chains of a table, with their rules."""
+def chains_of(declared, given, lenient):
+    """The chains of a table, with their rules: of a family, and as it is assumed."""
     chains = {}
     for name, chain in declared.items():
         verdict = POLICIES.get(chain.policy)
         policy = Rule(chain.number, chain.text, [], verdict, None, None) if verdict else None
-        rules = [read_line(line, name, family, options) for line in chain.lines]
-        chains[name] = Chain(name, [checked(rule, declared, options.lenient) for rule in rules], policy)
+        rules = [read_line(line, name, given, lenient) for line in chain.lines]
+        chains[name] = Chain(name, [checked(rule, declared, lenient) for rule in rules], policy)
     return chains
 
 
@@ -125,11 +125,11 @@ def drops(target):
     return target not in (None, "ACCEPT", "RETURN", *iptables_options.PASSING, *iptables_options.CHANGING)
 
 
-def aside_of(line, table, way):
+def aside_of(line, table, given):
     """What a line of another table does to a packet, or None, and the chain that it leads to."""
     try:
         read = iptables_words.Line(line.words)
-        reading = iptables_rule.Reading(read, *way)
+        reading = iptables_rule.Reading(read, *given)
     except CantSay as said:
         return Aside(line.number, line.text, f"it can't be read, in the table {table}: {said.reason}", True), None
     if not reading.reason and not reading.match.boxes:
@@ -146,20 +146,20 @@ def aside_of(line, table, way):
     return None, read.target
 
 
-def asides_of_chain(declared, table, name, done, way):
+def asides_of_chain(declared, table, name, done, given):
     """What the lines of a chain and of those that it leads to do to packets."""
     done.add(name)
     for line in declared[name].lines:
-        aside, target = aside_of(line, table, way)
+        aside, target = aside_of(line, table, given)
         if target in declared:
-            yield from asides_of_chain(declared, table, target, done, way) if target not in done else ()
+            yield from asides_of_chain(declared, table, target, done, given) if target not in done else ()
         elif aside:
             yield aside
 
 
-def asides_of(tables, chosen, chain, family, assumption):
-    """What other tables do to packets that come to a chain."""
-    found, way, given = [], WAYS.get(chain, ()), (family, assumption)
+def asides_of(tables, chosen, chain, given):
+    """What other tables do to packets that come to a chain: of a family, and as it is assumed."""
+    found, way = [], WAYS.get(chain, ())
     for table, declared in tables.items():
         done = set()
         for name in (it for it in declared if it in way and (table, it) != (chosen, chain) and it in BASE[table]):
@@ -198,11 +198,11 @@ def only_chain(chains):
 
 
 def convert(lines, options):
-    """The chains of the table, the chain that is meant, its family, and what other tables do."""
+    """The chains of the table, the chain that is meant and its family, beside what other tables do."""
     tables, name = Tables(lines).tables, options.table or "filter"
     if name not in tables:
         raise CantSay(f"there is no table {name}; a list of iptables-save begins with a line such as *filter")
-    family = family_of(lines, options.family)
-    chains = chains_of(tables[name], family, options)
+    family, given = family_of(lines, options.family), assume.of(options)
+    chains = chains_of(tables[name], (family, given), options.lenient)
     chain = options.chain or only_chain(chains)
-    return Read(chains, chain, [family], asides_of(tables, name, chain, family, options.assume))
+    return Read(chains, chain, [family]).beside(asides_of(tables, name, chain, (family, given)))

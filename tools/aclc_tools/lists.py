@@ -1,12 +1,14 @@
 """What a reader makes of a list of another program: chains of rules whose first match decides.
 
-A form plugs in as one module with a function `convert(lines, options)`, and as a line in FORMS of `forms`. The
-function reads the lines of the list, and gives a `Read`, or a tuple of its first three fields:
+A form plugs in as one module with a function `convert(lines, options)`, and as a line in FORMS of `forms`. The function
+reads the lines of the list, and gives a `Read`, or a plain tuple of the same three:
 
 - the chains by name. A `Chain` has its rules, and a policy (a rule without boxes) where packets come to it by
   themselves; a policy of PASS gives no answer at the list's end;
-- the name of the chain that is meant, and the families (4, 6) of the packets that come to it;
-- asides: what else in the file decides on these packets, and where a reader's own notes are due.
+- the name of the chain that is meant;
+- the families (4, 6) of the packets that come to it.
+
+A `Read` may have asides: what else in the file decides on these packets.
 
 A `Rule` matches the packets of its boxes, and has a verdict; JUMP and GO have a target, the name of a chain. What a
 rule says beyond that is its reason, a sentence why it can't be said; such a rule is refused, or left out leniently. A
@@ -19,9 +21,19 @@ Rule = namedtuple("Rule", "number text boxes verdict target reason")
 Chain = namedtuple("Chain", "name rules policy")
 # What else decides on a packet's way: whether it can drop one, and a sentence.
 Aside = namedtuple("Aside", "number text reason drops")
-Read = namedtuple("Read", "chains chain families asides", defaults=((),))
 ACCEPT, DROP, REJECT, JUMP, GO, RETURN, PASS = "accept", "drop", "reject", "jump", "go", "return", "pass"
 DECIDING = (ACCEPT, DROP, REJECT)
+
+
+class Read(namedtuple("Read", "chains chain families")):
+    """The chains of a list, the one that is meant, and its families; and asides."""
+
+    asides = ()
+
+    def beside(self, asides):
+        """The same with these asides."""
+        self.asides = tuple(asides)
+        return self
 
 
 class CantSay(Exception):

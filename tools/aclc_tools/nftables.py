@@ -4,7 +4,7 @@ Source: the manual pages nft(8) and libnftables-json(5). A rule is named by its 
 """
 import json
 
-from aclc_tools import nft_rule
+from aclc_tools import assume, nft_rule
 from aclc_tools.lists import ACCEPT, DROP, CantSay, Chain, Malformed, Read, Rule
 from aclc_tools.nft_asides import asides_of
 from aclc_tools.nft_match import Comparing
@@ -140,21 +140,19 @@ def checked(rule, chains, lenient):
 
 
 def read(text, options):
-    """The chains of the table, the chain that is meant, its families, and what other chains do."""
-    objects = json.loads(text, object_pairs_hook=unique)["nftables"]
-    ruleset = Ruleset(objects)
+    """The chains of the table, the chain that is meant and its families, beside what other chains do."""
+    ruleset, given = Ruleset(json.loads(text, object_pairs_hook=unique)["nftables"]), assume.of(options)
     family, table, name = chosen(ruleset, options)
     families = [it for it in FAMILIES[family] if options.family in (None, it)]
-    comparing = Comparing(ruleset.sets_of(family, table), options.assume)
+    comparing = Comparing(ruleset.sets_of(family, table), given)
     own = {key[2]: said for key, said in ruleset.chains.items() if key[:2] == (family, table)}
     chains = {}
     for key, said in own.items():
-        rules = [rule for it in ruleset.rules[(family, table, key)] for rule in nft_rule.read_rule(it, families,
-                                                                                                   comparing,
-                                                                                                   options.lenient)]
+        rules = [rule for it in ruleset.rules[(family, table, key)]
+                 for rule in nft_rule.read_rule(it, families, comparing, options.lenient)]
         chains[key] = Chain(key, [checked(rule, own, options.lenient) for rule in rules], policy_of(said))
-    asides = asides_of(ruleset, own[name], families, options.assume) if "hook" in own[name] else ()
-    return Read(chains, name, families, asides)
+    asides = asides_of(ruleset, own[name], families, given) if "hook" in own[name] else ()
+    return Read(chains, name, families).beside(asides)
 
 
 def convert(lines, options):

@@ -111,11 +111,13 @@ class Flatten(unittest.TestCase):
             self.assertEqual(decided(rules, fields), 99 if walked is None else walked)
 
     def test_a_list_without_an_end_takes_no_holes(self):
-        nothing = lists.Rule(0, "", [], lists.PASS, None, None)
-        chains = {"0": lists.Chain("0", [excluding(1, 3, 4)], nothing)}
-        rules = rules_for(chains, (6,))
-        self.assertEqual([decided(rules, (6, source, destination, (0, 0), 6)) for source,
-                          destination in ((3, 1), (1, 4), (1, 1))],
+        nothing, flatten.DEAR = lists.Rule(0, "", [], lists.PASS, None, None), 1
+        but = boxes.minus(boxes.whole(4).source, ((3, 3),))
+        box = boxes.whole(4)._replace(source=but, destination=but)
+        chains = {"0": lists.Chain("0", [lists.Rule(1, "", [box], lists.ACCEPT, None, None)], nothing)}
+        rules = rules_for(chains)
+        self.assertEqual([decided(rules, (4, source, destination, (0, 0), 6)) for source,
+                          destination in ((3, 1), (1, 3), (1, 1))],
                          [None, None, 1])
 
     def test_an_unsaid_end_is_written_where_it_is_asked_for(self):
