@@ -82,7 +82,7 @@ class Flattener:
         self.policy = policy._replace(verdict=self.end) if policy.verdict == PASS and self.end else policy
         check_jumps(self.chains)
         self.ways = {chain.name: steps_of(chain) for chain in self.chains.values()}
-        self.idle_chains = {chain for chain in reached(self.chains, name) if not decides(self.chains, chain)}
+        self.idle_chains = idle_chains(self.chains)
         sys.setrecursionlimit(max(sys.getrecursionlimit(), FRAMES * MOST_NESTED))
         for family in families:
             self.follow(Frame(name, 0, None), boxes.whole(family), True)
@@ -222,19 +222,30 @@ class Flattener:
 
 
 def reached(chains, name):
-    """The names of the chains that a chain leads to, with its own."""
-    found, waiting = [], [name]
+    """The names of the chains that a chain leads to, after its own."""
+    found, waiting = {}, [name]
     while waiting:
         here = waiting.pop()
         if here not in found and here in chains:
-            found.append(here)
+            found[here] = True
             waiting += [rule.target for rule in reversed(chains[here].rules) if rule.verdict in (JUMP, GO)]
-    return found
+    return list(found)
 
 
-def decides(chains, name):
-    """Whether a chain, or one that it leads to, decides anything; one that only logs, counts and returns doesn't."""
-    return any(rule.verdict in DECIDING for chain in reached(chains, name) for rule in chains[chain].rules)
+def idle_chains(chains):
+    """The names of the chains that decide nothing, nor lead to one that does: they only log, count and return."""
+    callers, waiting = {}, []
+    for chain in chains.values():
+        if any(rule.verdict in DECIDING for rule in chain.rules):
+            waiting.append(chain.name)
+        for rule in chain.rules:
+            callers.setdefault(rule.target, set()).add(chain.name)
+    deciding = set(waiting)
+    while waiting:
+        found = callers.get(waiting.pop(), set()) - deciding
+        deciding |= found
+        waiting += found
+    return set(chains) - deciding
 
 
 def write(flattener, head, what, data="line"):

@@ -148,13 +148,16 @@ def aside_of(line, table, given):
 
 def asides_of_chain(declared, table, name, done, given):
     """What the lines of a chain and of those that it leads to do to packets."""
-    done.add(name)
-    for line in declared[name].lines:
-        aside, target = aside_of(line, table, given)
-        if target in declared:
-            yield from asides_of_chain(declared, table, target, done, given) if target not in done else ()
-        elif aside:
-            yield aside
+    waiting = [name]
+    while waiting:
+        here = waiting.pop()
+        for line in declared[here].lines if here not in done else ():
+            aside, target = aside_of(line, table, given)
+            if target in declared:
+                waiting.append(target)
+            elif aside:
+                yield aside
+        done.add(here)
 
 
 def asides_of(tables, chosen, chain, given):
