@@ -82,6 +82,8 @@ class Comparing:
 
     def equal(self, operator, right, known, what):
         """The values of a comparison for equality, each as it is known."""
+        if isinstance(right, list) and operator != "in":
+            raise CantSay("it compares several values at once, and not for one of them")
         found = []
         for value in elements(right, self.sets):
             for it in value if isinstance(value, list) else [value]:
@@ -106,8 +108,6 @@ class Comparing:
         """A comparison of the state of a connection."""
         if said["key"] != "state":
             raise CantSay(f"it compares {said['key']} of a connection, which no rule of aclc can")
-        if isinstance(right, list) and operator != "in":
-            raise CantSay("it compares several states of a connection at once")
         states = self.equal(operator, right, lambda it: it if it in STATES else None, "state of a connection")
         if not self.assumption.state:
             raise CantSay("it compares state of a connection, which only --assume state=NAME tells")
