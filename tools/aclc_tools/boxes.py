@@ -4,6 +4,7 @@ A box has a family and, for each of source, destination, both ports and protocol
 intervals in order, both ends included. A packet is in it where each of its numbers is allowed.
 """
 from collections import namedtuple
+from functools import lru_cache
 
 BITS = {4: 32, 6: 128}
 PORTS = ((0, 0xFFFF),)
@@ -44,6 +45,11 @@ def both(one, other):
     return tuple(found)
 
 
+def minus(one, other):
+    """What is in a set of intervals and not in another."""
+    return both(one, without(max(one[-1][1], other[-1][1]) if one and other else one[-1][1] if one else 0, other))
+
+
 def without(most, intervals):
     """The numbers up to the greatest that aren't in the intervals."""
     found, at = [], 0
@@ -58,8 +64,12 @@ def meet(one, other):
     """The box of what two boxes have in common, or None."""
     if one.family != other.family:
         return None
-    sides = [both(getattr(one, side), getattr(other, side)) for side in SIDES]
-    return Box(one.family, *sides) if all(sides) else None
+    sides = []
+    for mine, its in zip(one[1:], other[1:]):
+        sides.append(mine if mine == its else both(mine, its))
+        if not sides[-1]:
+            return None
+    return Box(one.family, *sides)
 
 
 def prefixes(low, high, bits):
@@ -84,18 +94,53 @@ def masks(intervals, low=0, free=8):
 
 
 def address_text(family, value):
+    """An address as it is written in a rule."""
     if family == 4:
         return ".".join(str(value >> shift & 255) for shift in (24, 16, 8, 0))
     from aclc_tools.warnings import ip6_text
     return ip6_text(value)
 
 
+@lru_cache(maxsize=65536)
+def prefix_count(intervals, bits):
+    """How many prefixes some intervals are made of."""
+    return sum(1 for low, high in intervals for _ in prefixes(low, high, bits))
+
+
+@lru_cache(maxsize=1024)
+def mask_count(intervals):
+    """How many masks some protocols are made of."""
+    return sum(1 for _ in masks(intervals))
+
+
+def side_count(side, intervals, family):
+    """How many pieces the intervals of a side of a box are made of in rules."""
+    if side in SIDES[:2]:
+        return prefix_count(intervals, BITS[family])
+    return mask_count(intervals) if side == "protocols" else len(intervals)
+
+
 def size(box):
     """How many rules a box takes."""
     count = 1
-    for side in SIDES[:2]:
-        count *= sum(1 for low, high in getattr(box, side) for _ in prefixes(low, high, BITS[box.family]))
-    return count * len(box.source_ports) * len(box.destination_ports) * sum(1 for _ in masks(box.protocols))
+    for side in SIDES:
+        count *= side_count(side, getattr(box, side), box.family)
+    return count
+
+
+def with_holes(met, around, most):
+    """A box between `met` and the box around it that takes at most so many rules, and boxes of what it has too much.
+
+    Sides are widened that take fewer pieces so, and of which little is too much: those of most pieces come first.
+    """
+    counts = {side: side_count(side, getattr(met, side), met.family) for side in SIDES}
+    wider, widened = met, {}
+    for side in sorted(SIDES, key=lambda it: -counts[it]):
+        hole = minus(getattr(around, side), getattr(met, side))
+        pieces = [side_count(side, it, met.family) for it in (hole, getattr(around, side))]
+        if size(wider) > most and hole and max(pieces) < counts[side]:
+            wider, widened[side] = wider._replace(**{side: getattr(around, side)}), hole
+    return wider, [wider._replace(**{side: hole}) for side, hole in widened.items()]
 
 
 def lines(box, tail):

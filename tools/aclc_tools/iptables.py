@@ -1,210 +1,192 @@
-"""Lists of iptables-save and ip6tables-save.
+"""Lists of iptables-save and ip6tables-save: their tables, chains and lines.
 
-Source: the manual pages iptables(8), ip6tables(8) and iptables-extensions(8).
+Source: the manual pages iptables(8), ip6tables(8), iptables-extensions(8) and iptables-save(8).
 """
-import ipaddress
 import re
-import shlex
+from collections import namedtuple
 
-from aclc_tools import boxes, names
-from aclc_tools.lists import ACCEPT, DROP, GO, JUMP, PASS, RETURN, CantSay, Chain, Rule
+from aclc_tools import assume, iptables_options, iptables_rule, iptables_words
+from aclc_tools.lists import ACCEPT, DROP, GO, JUMP, Aside, CantSay, Chain, Malformed, Read, Rule
 
-VERDICTS = {"ACCEPT": ACCEPT, "DROP": DROP, "REJECT": DROP, "RETURN": RETURN}
-# Targets after which the next rule decides.
-PASSING = ("LOG", "NFLOG", "ULOG", "TRACE", "MARK", "CONNMARK", "SECMARK", "CONNSECMARK", "CLASSIFY", "AUDIT", "CHECKSUM", "TCPMSS",
-           "NOTRACK", "CT", "SET", "LED", "RATEEST", "TOS", "DSCP", "TTL", "HL")
-MODULES = ("tcp", "udp", "sctp", "multiport", "comment", "iprange")
-SYNONYMS = {"--source": "-s", "--src": "-s", "--destination": "-d", "--dst": "-d", "--protocol": "-p", "--proto": "-p",
-            "--source-port": "--sport", "--destination-port": "--dport", "--source-ports": "--sports",
-            "--destination-ports": "--dports", "--port": "--ports", "--jump": "-j", "--goto": "-g", "--match": "-m"}
-REASONS = {"-i": "an interface", "-o": "an interface", "--in-interface": "an interface", "--out-interface": "an interface",
-           "-f": "fragments", "--fragment": "fragments", "--tcp-flags": "TCP flags", "--syn": "TCP flags", "--tcp-option": "TCP options",
-           "--icmp-type": "a type of ICMP", "--icmpv6-type": "a type of ICMP", "--chunk-types": "chunks of SCTP"}
-MODULE_REASONS = {"conntrack": "state of a connection", "state": "state of a connection", "set": "a set that is kept elsewhere",
-                  "limit": "a rate", "hashlimit": "a rate", "recent": "packets before", "mark": "a mark", "connmark": "a mark"}
-
-
-class Match:
-    """What the options of a rule match so far, as boxes of one family."""
-
-    def __init__(self, family):
-        self.family, self.boxes, self.ports_read = family, [boxes.whole(family)], False
-
-    def narrow(self, choices):
-        """Keeps what is in one of the choices, each a side and its intervals."""
-        narrowed = []
-        for box in self.boxes:
-            for side, intervals in choices:
-                met = boxes.both(getattr(box, side), intervals)
-                if met:
-                    narrowed.append(box._replace(**{side: met}))
-        self.boxes = narrowed
-
-    def keep(self, side, intervals, negated):
-        most = {"protocols": 0xFF, "source_ports": 0xFFFF, "destination_ports": 0xFFFF}.get(side, (1 << boxes.BITS[self.family]) - 1)
-        self.narrow([(side, boxes.without(most, intervals) if negated else boxes.union(intervals))])
-
-    def check(self):
-        """Only packets with ports have any: a rule that compares ports has to name protocols that have some."""
-        ported = all(boxes.both(box.protocols, boxes.PORTED) == box.protocols for box in self.boxes)
-        if self.ports_read and not ported:
-            raise CantSay("ports of a protocol other than TCP, UDP and SCTP")
+POLICIES = {"ACCEPT": ACCEPT, "DROP": DROP}
+# The chains of each table that packets come to by themselves.
+BASE = {"filter": ("INPUT", "FORWARD", "OUTPUT"), "nat": ("PREROUTING", "INPUT", "OUTPUT", "POSTROUTING"),
+        "mangle": ("PREROUTING", "INPUT", "FORWARD", "OUTPUT", "POSTROUTING"), "raw": ("PREROUTING", "OUTPUT"),
+        "security": ("INPUT", "FORWARD", "OUTPUT")}
+# The chains that are on the way of a packet that comes to a chain.
+WAYS = {"INPUT": ("PREROUTING", "INPUT"), "FORWARD": ("PREROUTING", "FORWARD", "POSTROUTING"),
+        "OUTPUT": ("OUTPUT", "POSTROUTING"),
+        "PREROUTING": ("PREROUTING", "INPUT", "FORWARD", "POSTROUTING"),
+        "POSTROUTING": ("PREROUTING", "FORWARD", "OUTPUT", "POSTROUTING")}
+COUNTERS = r"\[\d+:\d+\]"
+Declared = namedtuple("Declared", "number text policy lines")
+Saved = namedtuple("Saved", "number text words")
 
 
-def network(text, family):
-    """The interval of an address with a prefix length or a mask."""
+class Tables:
+    """The tables of a file, each with its chains, and each chain with its lines."""
+
+    def __init__(self, lines):
+        self.tables, self.open = {}, None
+        for number, line in enumerate(lines, 1):
+            line = line[:-1] if line.endswith("\r") else line
+            if line and not line.startswith("#"):
+                try:
+                    self.take(number, line)
+                except CantSay as said:
+                    raise CantSay(said.reason, number, line) from None
+        if self.open is not None:
+            raise CantSay(f"the table {self.open} has no COMMIT after it, so that its end may be missing", len(lines))
+
+    def take(self, number, line):
+        """A line that isn't a comment."""
+        if self.open is None:
+            self.begin(line)
+        elif line == "COMMIT":
+            self.open = None
+        elif line.startswith(":"):
+            self.declare(number, line)
+        else:
+            self.add(number, line)
+
+    def begin(self, line):
+        """A line outside of tables, which can only begin one."""
+        found = re.fullmatch(r"\*(\S+)[ \t]*", line)
+        if not found:
+            raise CantSay("the line is in no table: a list of iptables-save begins with a line such as *filter")
+        name = found.group(1)
+        if name in self.tables:
+            raise CantSay(f"the table {name} stands twice, and the second empties the first")
+        if name not in BASE:
+            raise CantSay(f"the table {name} isn't known")
+        self.tables[name], self.open = {}, name
+
+    def declare(self, number, line):
+        """A line that declares a chain."""
+        found = re.fullmatch(rf":(\S+) +(\S+)(?: +{COUNTERS})?[ \t]*", line)
+        if not found:
+            raise CantSay("the line declares no chain: it is a colon with a name, then a policy, then counters")
+        name, policy = found.groups()
+        if name in self.tables[self.open]:
+            raise CantSay(f"the chain {name} is declared twice")
+        if name in BASE[self.open]:
+            if policy not in POLICIES:
+                raise CantSay(f"the policy of {name} is {policy}, and neither ACCEPT nor DROP")
+        elif policy != "-":
+            raise CantSay(f"the chain {name} has a policy, which those of the table {self.open} alone have")
+        self.tables[self.open][name] = Declared(number, line, policy, [])
+
+    def add(self, number, line):
+        """A line of a chain."""
+        words = iptables_words.split(re.sub(rf"^{COUNTERS} ", "", line))
+        if words[:1] not in (["-A"], ["--append"]) or len(words) < 2:
+            raise CantSay("the line is none that iptables-save writes: it begins with -A and a chain")
+        if words[1] not in self.tables[self.open]:
+            raise CantSay(f"the chain {words[1]} isn't declared before it")
+        self.tables[self.open][words[1]].lines.append(Saved(number, line, words[2:]))
+
+
+def checked(rule, chains, lenient):
+    """A rule whose target can be reached; where it can't, that is a reason."""
+    if rule.verdict not in (JUMP, GO) or rule.target in chains and chains[rule.target].policy == "-":
+        return rule
+    reason = (f"no rule leads to {rule.target}, which packets come to by themselves" if rule.target in chains
+              else f"the target {rule.target} is none that a rule of aclc has"
+              if rule.target in iptables_options.TARGETS
+              else f"the target {rule.target} isn't known, and no chain has that name")
+    if not lenient:
+        raise Malformed(reason, rule.number, rule.text)
+    return rule._replace(reason=reason)
+
+
+def read_line(line, chain, given, lenient):
+    """The rule of a line; one that isn't lawful is left out where that is asked for."""
     try:
-        found = ipaddress.ip_network(text, strict=False)
-    except ValueError:
-        raise CantSay(f"{text} is no network, or its mask has gaps") from None
-    if found.version != family:
-        raise CantSay(f"{text} is of the other family")
-    return int(found.network_address), int(found.broadcast_address)
+        return iptables_rule.read_rule(line, chain, *given)
+    except Malformed as said:
+        if not lenient:
+            raise
+        return Rule(line.number, line.text, [], DROP, None, said.reason)
 
 
-def address_range(text, family):
-    low, _, high = text.partition("-")
-    return network(low, family)[0], network(high or low, family)[0]
-
-
-def ports(text):
-    """The intervals of a list of ports and ranges, 0 and 65535 where an end is left out."""
-    found = []
-    for part in text.split(","):
-        low, colon, high = part.partition(":")
-        low, high = (low or "0", high or "65535") if colon else (low, low)
-        if not (low.isdigit() and high.isdigit() and int(high) <= 0xFFFF):
-            raise CantSay(f"{part} is no port number")
-        if int(low) <= int(high):
-            found.append((int(low), int(high)))
-    return boxes.union(found)
-
-
-def take_protocol(match, text, negated):
-    number = 0 if text == "all" else names.protocol(text)
-    if number is None:
-        raise CantSay(f"the protocol {text}")
-    if number:
-        match.keep("protocols", [(number, number)], negated)
-    elif negated:
-        match.boxes = []
-
-
-def take_ports(match, option, text, negated):
-    intervals, match.ports_read = ports(text), True
-    if option == "--ports":
-        # Either port; of a negated list neither.
-        sides = ("source_ports", "destination_ports")
-        for side in sides if negated else ():
-            match.keep(side, intervals, True)
-        if not negated:
-            match.narrow([(side, intervals) for side in sides])
-        return
-    match.keep("source_ports" if option in ("--sport", "--sports") else "destination_ports", intervals, negated)
-
-
-def take_module(name):
-    if name not in MODULES and name not in ("icmp", "icmp6", "icmpv6"):
-        raise CantSay(MODULE_REASONS.get(name, f"the match {name}"))
-
-
-def take(match, option, argument, negated):
-    """Takes one option with its argument; whether it took the argument."""
-    if option in ("-s", "-d"):
-        parts = [network(part, match.family) for part in argument.split(",")]
-        match.keep("source" if option == "-s" else "destination", parts, negated)
-    elif option in ("--src-range", "--dst-range"):
-        match.keep("source" if option == "--src-range" else "destination", [address_range(argument, match.family)], negated)
-    elif option == "-p":
-        take_protocol(match, argument, negated)
-    elif option in ("--sport", "--dport", "--sports", "--dports", "--ports"):
-        take_ports(match, option, argument, negated)
-    elif option == "-m":
-        take_module(argument)
-    elif option != "--comment":
-        raise CantSay(REASONS.get(option, f"the option {option}"))
-
-
-def target(words):
-    """The verdict of what follows -j, and the chain that it names."""
-    name = words[0]
-    if name in VERDICTS:
-        return VERDICTS[name], None
-    if name in PASSING:
-        return PASS, None
-    if name.isupper() and len(words) > 1:
-        raise CantSay(f"the target {name}")
-    return JUMP, name
-
-
-def read_rule(number, text, words, family):
-    """The rule of a line that begins with -A and its chain."""
-    match, verdict, goal, negated, at = Match(family), PASS, None, False, 2
-    try:
-        while at < len(words):
-            option = SYNONYMS.get(words[at], words[at])
-            if option in ("-j", "-g"):
-                verdict, goal = target(words[at + 1:]) if option == "-j" else (GO, words[at + 1])
-                break
-            if option == "!":
-                negated, at = True, at + 1
-                continue
-            take(match, option, words[at + 1] if at + 1 < len(words) else "", negated)
-            negated, at = False, at + 2
-        match.check()
-    except CantSay as said:
-        return Rule(number, text, [], verdict, goal, said.reason)
-    return Rule(number, text, match.boxes, verdict, goal, None)
-
-
-def with_known_target(rule, chains):
-    """A rule whose target is no chain of the list can't be said."""
-    unknown = rule.verdict in (JUMP, GO) and rule.target not in chains
-    return rule._replace(reason=rule.reason or f"the target {rule.target}") if unknown else rule
-
-
-def words_of(number, text):
-    try:
-        return shlex.split(re.sub(r"^\[\d+:\d+\] ", "", text))
-    except ValueError:
-        raise CantSay("quotes that don't end", number, text) from None
-
-
-def read(lines, family, table):
-    """The chains of a table, by name."""
-    chains, here = {}, None
-    for number, line in enumerate(lines, 1):
-        text = line.strip()
-        if text.startswith("*"):
-            here = text[1:]
-        elif here == table and text.startswith(":"):
-            name, policy = text[1:].split()[:2]
-            verdict = VERDICTS.get(policy)
-            chains[name] = Chain(name, [], Rule(number, text, [], verdict, None, None) if verdict else None)
-        elif here == table and re.match(r"(\[\d+:\d+\] )?-A ", text):
-            words = words_of(number, text)
-            chains.setdefault(words[1], Chain(words[1], [], None)).rules.append(read_rule(number, text, words, family))
-        elif text and not text.startswith("#") and text != "COMMIT" and here == table:
-            raise CantSay("no line of iptables-save", number, text)
-    for chain in chains.values():
-        chain.rules[:] = [with_known_target(rule, chains) for rule in chain.rules]
-    if not chains:
-        raise CantSay(f"there is no table {table}; a list of iptables-save begins with a line such as *filter")
+def chains_of(declared, given, lenient):
+    """The chains of a table, with their rules: of a family, and as it is assumed."""
+    chains = {}
+    for name, chain in declared.items():
+        verdict = POLICIES.get(chain.policy)
+        policy = Rule(chain.number, chain.text, [], verdict, None, None) if verdict else None
+        rules = [read_line(line, name, given, lenient) for line in chain.lines]
+        chains[name] = Chain(name, [checked(rule, declared, lenient) for rule in rules], policy)
     return chains
 
 
+def drops(target):
+    """Whether a target that isn't a chain may end a packet's way."""
+    return target not in (None, "ACCEPT", "RETURN", *iptables_options.PASSING, *iptables_options.CHANGING)
+
+
+def aside_of(line, table, given):
+    """What a line of another table does to a packet, or None, and the chain that it leads to."""
+    try:
+        read = iptables_words.Line(line.words)
+        reading = iptables_rule.Reading(read, *given)
+    except CantSay as said:
+        return Aside(line.number, line.text, f"it can't be read, in the table {table}: {said.reason}", True), None
+    if not reading.reason and not reading.match.boxes:
+        # It matches nothing, under what is assumed.
+        return None, None
+    untracked = read.target == "NOTRACK" or read.target == "CT" and "--notrack" in line.words
+    if read.target in iptables_options.CHANGING:
+        return Aside(line.number, line.text, f"it changes addresses in the table {table}", False), None
+    if untracked:
+        return Aside(line.number, line.text, f"it takes packets out of the table of connections, in the table {table}",
+                     False), None
+    if drops(read.target):
+        return Aside(line.number, line.text, f"it may drop packets in the table {table}", True), read.target
+    return None, read.target
+
+
+def asides_of_chain(declared, table, name, done, given):
+    """What the lines of a chain and of those that it leads to do to packets."""
+    waiting = [name]
+    while waiting:
+        here = waiting.pop()
+        for line in declared[here].lines if here not in done else ():
+            aside, target = aside_of(line, table, given)
+            if target in declared:
+                waiting.append(target)
+            elif aside:
+                yield aside
+        done.add(here)
+
+
+def asides_of(tables, chosen, chain, given):
+    """What other tables do to packets that come to a chain: of a family, and as it is assumed."""
+    found, way = [], WAYS.get(chain, ())
+    for table, declared in tables.items():
+        done = set()
+        for name in (it for it in declared if it in way and (table, it) != (chosen, chain) and it in BASE[table]):
+            if declared[name].policy == "DROP":
+                found.append(Aside(declared[name].number, declared[name].text,
+                                   f"its policy drops packets in the table {table}", True))
+            found += asides_of_chain(declared, table, name, done, given)
+    return sorted(found)
+
+
 def family_of(lines, given):
-    """The family of a list: as given, or as its first comment or an address says."""
-    if given:
-        return given
+    """The family of a list: as given, or as its first comment, an address or an ICMP says."""
     text = "\n".join(lines)
-    return 6 if re.search(r"(?m)^# Generated by ip6tables-save|^(\[\d+:\d+\] )?-A .*-[sd] [0-9a-f]*:", text) else 4
-
-
-def convert(lines, options):
-    """The chains of the list, the chain that is meant, and its families."""
-    chains = read(lines, family_of(lines, options.family), options.table or "filter")
-    return chains, options.chain or only_chain(chains), [family_of(lines, options.family)]
+    found = {6 if name.startswith("ip6") else 4 for name in re.findall(r"(?m)^# Generated by (ip6?tables)-save", text)}
+    if not found:
+        # Between quotes stand comments.
+        bare = re.sub(r'"[^"\n]*"', "", text)
+        addresses = r"(?m) (?:-[sd]|--(?:src|dst)-range) [0-9a-fA-F]*([.:])"
+        found = {6 if sign == ":" else 4 for sign in re.findall(addresses, bare)}
+        found |= {6 if six else 4 for six in re.findall(r"(?m) --reject-with (?:icmp(6)?-|adm-)", bare)}
+    if given or len(found) == 1:
+        return given or found.pop()
+    raise CantSay("nothing tells whether the list is of IPv4 or IPv6: --family 4 or --family 6 says it" if not found
+                  else "lines of IPv4 and IPv6 stand in one list: --family 4 or --family 6 says which is meant")
 
 
 def only_chain(chains):
@@ -213,4 +195,17 @@ def only_chain(chains):
     if len(filled) == 1:
         return filled[0]
     based = filled or [chain.name for chain in chains.values() if chain.policy]
+    if not based:
+        raise CantSay("the table has no chain that packets come to")
     raise CantSay(f"which chain is meant isn't said: --chain {' or --chain '.join(based)}")
+
+
+def convert(lines, options):
+    """The chains of the table, the chain that is meant and its family, beside what other tables do."""
+    tables, name = Tables(lines).tables, options.table or "filter"
+    if name not in tables:
+        raise CantSay(f"there is no table {name}; a list of iptables-save begins with a line such as *filter")
+    family, given = family_of(lines, options.family), assume.of(options)
+    chains = chains_of(tables[name], (family, given), options.lenient)
+    chain = options.chain or only_chain(chains)
+    return Read(chains, chain, [family]).beside(asides_of(tables, name, chain, (family, given)))

@@ -1,4 +1,4 @@
-"""Packets at the edges of the rules of a file, for tests: addresses and ports in, at and beside the ends of what rules name."""
+"""Packets at the edges of the rules of a file, for tests: addresses and ports at the ends of their ranges."""
 import random
 import struct
 
@@ -10,7 +10,8 @@ PAYLOAD, MARK = 48, 20
 
 def ends(low, high, most, draw):
     """A number in an interval, at its ends or beside them."""
-    return max(0, min(most, draw.choice([low, high, low - 1, high + 1, draw.randint(low, high), draw.randint(low, high)])))
+    return max(0, min(most, draw.choice([low, high, low - 1, high + 1, draw.randint(low, high),
+                                         draw.randint(low, high)])))
 
 
 def address(network, bits, draw):
@@ -31,16 +32,28 @@ def fields(rules, draw):
     return one.family, address(one.source, bits, draw), address(other.destination, bits, draw), ports, protocol
 
 
+def start(ports, protocol, number):
+    """The first bytes of a payload, so that a table of connections takes a packet for the first of its own."""
+    if protocol == 17:
+        return struct.pack(">HHHH", *ports, PAYLOAD, 0)
+    if protocol in (1, 58):
+        return struct.pack(">BBHI", 8 if protocol == 1 else 128, 0, 0, number)
+    if protocol in (6, 132):
+        return struct.pack(">HHIIBB", *ports, number, 0, 0x50, 0x02)
+    return b""
+
+
 def packet(family, source, destination, ports, protocol, number):
     """An IP packet that has a number in its payload."""
-    payload = struct.pack(">HHII", *ports, number, 0) + bytes([0x50]) + bytes(MARK - 13) + b"aclc" + struct.pack(">I", number)
-    payload += bytes(PAYLOAD - len(payload))
+    payload = start(ports, protocol, number).ljust(MARK, b"\0") + b"aclc" + struct.pack(">I", number)
+    payload = payload.ljust(PAYLOAD, b"\0")
     if family == 4:
         header = struct.pack(">BBHHHBBH", 0x45, 0, 20 + len(payload), 0, 0, 64, protocol, 0)
         header += struct.pack(">II", source, destination)
         header = header[:10] + struct.pack(">H", checksum(header)) + header[12:]
     else:
-        header = struct.pack(">IHBB", 6 << 28, len(payload), protocol, 64) + source.to_bytes(16, "big") + destination.to_bytes(16, "big")
+        header = struct.pack(">IHBB", 6 << 28, len(payload), protocol,
+                             64) + source.to_bytes(16, "big") + destination.to_bytes(16, "big")
     return header + payload
 
 

@@ -1,53 +1,21 @@
-"""tools/convert: shipped lists against expected rule files, what it refuses, and chains against a plain walk over them."""
-import argparse
-import random
+"""tools/convert: its words, what it writes and refuses, and what userdata and assumptions become."""
+import os
 import subprocess
 import unittest
-from pathlib import Path
 
-from aclc_tools import boxes, capture, lists, rule_file, traces
-from aclc_tools.forms import rule_file_of
+from aclc_tools import assume, capture, forms, lists, rule_file, traces
 from aclc_tools.program import TOP
+from converting import DATA, convert, rules_of
 
-DATA = Path(__file__).resolve().parent / "data"
 CONVERT = TOP / "tools" / "convert"
-SHIPPED = [("iptables", {"chain": "FORWARD"}, "gateway.iptables-save", "gateway.rules"),
-           ("iptables", {}, "gateway6.ip6tables-save", "gateway6.rules"),
-           ("nft", {"chain": "forward"}, "router.nft-json", "router.rules"),
-           ("cisco", {"list": "OUTSIDE-IN"}, "edge.cisco", "edge-outside.rules"),
-           ("cisco", {"list": "101"}, "edge.cisco", "edge-101.rules"), ("cisco", {"list": "WEB6"}, "edge.cisco", "edge-web6.rules"),
+SHIPPED = [("cisco", {"list": "OUTSIDE-IN"}, "edge.cisco", "edge-outside.rules"),
+           ("cisco", {"list": "101"}, "edge.cisco", "edge-101.rules"),
+           ("cisco", {"list": "WEB6"}, "edge.cisco", "edge-web6.rules"),
            ("cisco", {"list": "WITH-STATE", "lenient": True}, "edge.cisco", "edge-state.rules"),
            ("l3fwd", {}, "sample.l3fwd", "sample-l3fwd.rules")]
-IPTABLES = "*filter\n:INPUT ACCEPT [0:0]\n-A INPUT {} -j ACCEPT\nCOMMIT\n"
 CISCO = "ip access-list extended A\n {}\n"
-NFT = ('{{"nftables": [{{"table": {{"family": "inet", "name": "t", "handle": 1}}}}, {{"chain": {{"family": "inet", "table": "t", '
-       '"name": "c", "handle": 2, "hook": "input", "policy": "drop"}}}}, {{"rule": {{"family": "inet", "table": "t", '
-       '"chain": "c", "handle": 3, "expr": [{}, {{"accept": null}}]}}}}]}}')
-MATCH = '{{"match": {{"op": "{}", "left": {}, "right": {}}}}}'
-TCP_DPORT = '{"payload": {"protocol": "tcp", "field": "dport"}}'
 # What a rule file can't say: the form, the list, and the reason.
 REFUSED = [
-    ("iptables", IPTABLES.format("-i eth0"), "an interface"),
-    ("iptables", IPTABLES.format("-m conntrack --ctstate ESTABLISHED"), "state of a connection"),
-    ("iptables", IPTABLES.format("-p tcp -m tcp --tcp-flags SYN,ACK SYN"), "TCP flags"),
-    ("iptables", IPTABLES.format("-m set --match-set bad src"), "a set that is kept elsewhere"),
-    ("iptables", IPTABLES.format("-p icmp -m icmp --icmp-type 8"), "a type of ICMP"),
-    ("iptables", IPTABLES.format("-f"), "fragments"),
-    ("iptables", IPTABLES.format("-s 10.0.0.1/255.0.0.255"), "its mask has gaps"),
-    ("iptables", IPTABLES.format("-p udplite -m multiport --dports 7"), "ports of a protocol"),
-    ("iptables", IPTABLES.format("-m limit --limit 1/sec"), "a rate"),
-    ("iptables", IPTABLES.replace("-j ACCEPT", "-j NFQUEUE --queue-num 1").format(""), "the target NFQUEUE"),
-    ("iptables", IPTABLES.replace("-j ACCEPT", "-j MASQUERADE").format(""), "the target MASQUERADE"),
-    ("iptables", "@10.0.0.0/8 0.0.0.0/0\n", "there is no table filter"),
-    ("iptables", "*filter\n:INPUT ACCEPT [0:0]\n:FORWARD DROP [0:0]\nCOMMIT\n", "--chain INPUT or --chain FORWARD"),
-    ("nft", NFT.format(MATCH.format("==", '{"ct": {"key": "state"}}', '"new"')), "state of a connection"),
-    ("nft", NFT.format(MATCH.format("==", '{"meta": {"key": "iifname"}}', '"lo"')), "an interface"),
-    ("nft", NFT.format(MATCH.format("==", TCP_DPORT, '"@web"')), "a set that is kept elsewhere"),
-    ("nft", NFT.format(MATCH.format("!=", TCP_DPORT, '{"range": [9, 8]}')), "a range from 9 to 8"),
-    ("nft", NFT.format(MATCH.format("==", '{"payload": {"protocol": "ip6", "field": "nexthdr"}}', '"tcp"')), "meta l4proto"),
-    ("nft", NFT.format(MATCH.format("==", '{"payload": {"protocol": "th", "field": "dport"}}', "9")), "ports of a protocol"),
-    ("nft", NFT.format('{"limit": {"rate": 1, "per": "second"}}'), "a rate"),
-    ("nft", "table inet filter {\n}\n", "nft -j list ruleset"),
     ("cisco", CISCO.format("permit tcp any any established"), "TCP flags"),
     ("cisco", CISCO.format("permit tcp any any syn"), "TCP flags"),
     ("cisco", CISCO.format("permit icmp any any echo"), "a type of ICMP"),
@@ -63,76 +31,6 @@ REFUSED = [
 ]
 
 
-def convert(form, text, file="-", **given):
-    """The rule file of a list as text, and what was left out."""
-    options = argparse.Namespace(**{"form": form, "file": file, "chain": None, "table": None, "list": None, "family": None,
-                                    "lenient": False, **given})
-    lines, left_out = rule_file_of(options, text)
-    return "".join(line + "\n" for line in lines), left_out
-
-
-def applies(box, fields):
-    """Whether a packet is in a box."""
-    family, source, destination, ports, protocol = fields
-    values = source, destination, *ports, protocol
-    return box.family == family and all(any(low <= value <= high for low, high in getattr(box, side))
-                                        for side, value in zip(boxes.SIDES, values))
-
-
-def decided(rules, fields):
-    """The userdata of the first rule of a rule file that matches a packet, or None."""
-    family, source, destination, ports, protocol = fields
-    for rule in rules:
-        near = [(rule.source, source), (rule.destination, destination)]
-        if (rule.family == family
-                and all(value >> rule.bits - length == network >> rule.bits - length for (network, length), value in near)
-                and rule.source_ports[0] <= ports[0] <= rule.source_ports[1]
-                and rule.destination_ports[0] <= ports[1] <= rule.destination_ports[1]
-                and protocol & rule.protocol[1] == rule.protocol[0] & rule.protocol[1]):
-            return rule.userdata
-    return None
-
-
-class Walk:
-    """Chains as a firewall goes through them, one packet at a time."""
-
-    def __init__(self, chains, fields):
-        self.chains, self.fields = chains, fields
-
-    def chain(self, name):
-        """The number that decides, `return`, or None at the chain's end."""
-        for rule in self.chains[name].rules:
-            if not any(applies(box, self.fields) for box in rule.boxes) or rule.verdict == lists.PASS:
-                continue
-            if rule.verdict in (lists.ACCEPT, lists.DROP):
-                return rule.number
-            if rule.verdict == lists.RETURN:
-                return None
-            found = self.chain(rule.target)
-            if found is not None or rule.verdict == lists.GO:
-                return found
-        return None
-
-
-def random_chains(draw):
-    """Chains that jump to later ones, with rules over few addresses and ports."""
-    chains, number = {}, 0
-    for place in range(4):
-        rules = []
-        for _ in range(draw.randrange(1, 5)):
-            number += 1
-            low, first = draw.randrange(8), draw.randrange(4)
-            whole = boxes.whole(4)
-            box = whole._replace(source=((low, low + draw.randrange(4)),) if draw.random() < 0.6 else whole.source,
-                                 source_ports=((first, first + draw.randrange(3)),), protocols=((6, 6),))
-            verdict = draw.choice([lists.ACCEPT, lists.DROP, lists.RETURN, lists.JUMP, lists.JUMP, lists.GO, lists.PASS])
-            target = draw.randrange(place + 1, 4) if place < 3 else None
-            verdict = lists.DROP if target is None and verdict in (lists.JUMP, lists.GO) else verdict
-            rules.append(lists.Rule(number, "", [box], verdict, str(target), None))
-        chains[str(place)] = lists.Chain(str(place), rules, lists.Rule(99, "", [], lists.DROP, None, None) if place == 0 else None)
-    return chains
-
-
 class Convert(unittest.TestCase):
     def test_shipped_lists_become_the_expected_files(self):
         for form, given, file, expected in SHIPPED:
@@ -144,15 +42,8 @@ class Convert(unittest.TestCase):
     def test_what_cannot_be_said_ends_it_with_a_reason(self):
         for form, text, reason in REFUSED:
             with self.subTest(text=text), self.assertRaises(lists.CantSay) as raised:
-                convert(form, text, chain="c" if form == "nft" else None)
+                convert(form, text)
             self.assertIn(reason, raised.exception.reason)
-
-    def test_what_is_left_out_is_listed(self):
-        given = IPTABLES.format("-i lo").replace("COMMIT", "-A INPUT -s 10.0.0.0/8 -j DROP\nCOMMIT")
-        text, left_out = convert("iptables", given, lenient=True)
-        self.assertEqual([(rule.number, rule.reason) for rule in left_out], [(3, "an interface")])
-        self.assertIn("# left out, an interface: line 3: -A INPUT -i lo -j ACCEPT", text)
-        self.assertEqual([rule.userdata for rule in rule_file.read_rules(text.encode())[0]], [4, 2])
 
     def test_the_tool_tells_its_forms(self):
         for words, code in ((["--help"], 0), (["l3fwd", "-h"], 0), ([], 2)):
@@ -166,7 +57,8 @@ class Convert(unittest.TestCase):
                                   (["cisco", "--lenient", "--list", "WITH-STATE", "edge.cisco"], 0,
                                    "edge.cisco:31: left out: a type of ICMP"),
                                   (["classbench-trace", "sample.trace"], 0, ""),
-                                  (["l3fwd", str(TOP / "examples" / "office.rules")], 1, "office.rules:2: pri=20 is an attribute"),
+                                  (["l3fwd", str(TOP / "examples" / "office.rules")], 1,
+                                   "office.rules:2: pri=20 is an attribute"),
                                   (["l3fwd", "--lenient", str(TOP / "examples" / "office.rules")], 0,
                                    "office.rules:3: left out: pri=10 is an attribute"),
                                   (["l3fwd", "none"], 7, "No such file"), (["other", "x"], 2, "")):
@@ -174,6 +66,43 @@ class Convert(unittest.TestCase):
             self.assertEqual(done.returncode, code, done.stderr)
             self.assertIn(said, done.stderr.decode())
             self.assertEqual(code == 0, bool(done.stdout))
+
+    def test_userdata_is_the_line_the_verdict_or_a_number(self):
+        text = "*filter\n:INPUT DROP [0:0]\n-A INPUT -s 10.0.0.1 -j ACCEPT\n-A INPUT -s 10.0.0.2 -j REJECT\nCOMMIT\n"
+        for data, expected in (("line", [3, 4, 2]), ("verdict", [1, 3, 2]), (7, [7, 7, 7])):
+            rules = rules_of(convert("iptables", text, data=data)[0])
+            self.assertEqual([rule.userdata for rule in rules], expected)
+
+    def test_the_unsaid_end_of_a_list_has_a_verdict_and_no_line(self):
+        for data, expected in (("line", [2]), ("verdict", [1, 2])):
+            rules = rules_of(convert("cisco", CISCO.format("permit tcp any any"), data=data)[0])
+            self.assertEqual([rule.userdata for rule in rules], expected)
+
+    def test_what_is_assumed_is_read_or_a_usage_error(self):
+        said = assume.parse("in=eth0,state=new,local=10.0.0.1,local=2001:db8::1")
+        self.assertEqual(said.told(), "in=eth0,state=new,local=10.0.0.1,local=2001:db8::1")
+        self.assertEqual(said.local_addresses(6), ((1, 1), (0x20010DB8 << 96 | 1,) * 2))
+        for text in ("in", "in=", "way=eth0", "state=gone", "local=router", "in=a,in=b", "in=a,", " in=a"):
+            with self.assertRaises(ValueError, msg=text):
+                assume.parse(text)
+        for words in (["--assume", "state=gone"], ["--data", "lines"], ["--data", "4294967296"]):
+            done = subprocess.run([str(CONVERT), "iptables", *words, "-"], stdout=subprocess.PIPE,
+                                  stderr=subprocess.PIPE)
+            self.assertEqual((done.returncode, done.stdout), (2, b""))
+
+    def test_what_is_assumed_is_told_in_the_file(self):
+        done = forms.converted(forms.options_of("iptables", "x", chain="INPUT",
+                                                assume=assume.parse("in=eth0,state=new,local=192.0.2.10")),
+                               (DATA / "server.iptables-save").read_text())
+        self.assertEqual(done.lines[1], "# Assumed: in=eth0,state=new,local=192.0.2.10.")
+
+    def test_a_closed_pipe_is_no_traceback(self):
+        for form, file in (("iptables", "gateway6.ip6tables-save"), ("classbench-trace", "sample.trace")):
+            reading, writing = os.pipe()
+            os.close(reading)
+            done = subprocess.run([str(CONVERT), form, str(DATA / file)], stdout=writing, stderr=subprocess.PIPE)
+            os.close(writing)
+            self.assertEqual((done.returncode, done.stderr), (1, b""))
 
     def test_traces_with_what_a_packet_cannot_say(self):
         for text, reason in (("1 2 3 4 1", "has no ports"), ("1 2 3", "a line has"),
@@ -189,31 +118,6 @@ class Convert(unittest.TestCase):
         self.assertEqual(len(frames), 6)
         packet = frames[0][0][14:].hex()
         self.assertEqual(packet[18:20] + packet[24:48], "06" + "0a010105" + "c000020a" + "9c400050")
-
-    def test_a_list_of_chains_decides_as_the_chains_do(self):
-        draw = random.Random(5)
-        for _ in range(60):
-            chains = random_chains(draw)
-            flattener = lists.Flattener(chains, False)
-            flattener.list_of("0", [4])
-            text = "\n".join(lists.write(flattener, "random", "line")).encode()
-            rules, faults = rule_file.read_rules(text)
-            self.assertEqual(faults, [])
-            for _ in range(30):
-                fields = 4, draw.randrange(12), 0, (draw.randrange(7), 0), draw.choice([6, 6, 17])
-                walked = Walk(chains, fields).chain("0")
-                self.assertEqual(decided(rules, fields), 99 if walked is None else walked)
-
-    def test_boxes_are_covered_exactly(self):
-        draw = random.Random(6)
-        for _ in range(60):
-            low, high = sorted(draw.choices([0, 1, 5, 2**31, 2**32 - 2, 2**32 - 1, draw.getrandbits(32)], k=2))
-            found = sorted((first, first + (1 << 32 - length) - 1) for first, length in boxes.prefixes(low, high, 32))
-            self.assertEqual(boxes.union(found), ((low, high),))
-            protocols = boxes.union([(it, it) for it in draw.sample(range(256), draw.randrange(1, 200))])
-            pairs = list(boxes.masks(protocols))
-            covered = boxes.union([(it, it) for it in range(256) for value, mask in pairs if it & mask == value])
-            self.assertEqual(covered, protocols)
 
 
 if __name__ == "__main__":
