@@ -1,4 +1,4 @@
-"""include/install, packaging/libraries and aclc-dpdk, with a stand-in for the kit and a library whose calls do nothing."""
+"""include/install, packaging/libraries and aclc-dpdk, by a stand-in for the kit and a library that does nothing."""
 import os
 import re
 import shutil
@@ -43,8 +43,10 @@ def compile_c(source, *words):
 
 def make_archive(file, without=()):
     """An archive whose calls answer 0, but for those that are left out."""
-    code = '#include <aclc.h>\n' + "".join(f"#undef {name}\n{kind} {name}({words}) {{ {'' if kind == 'void' else 'return 0;'} }}\n"
-                                           for kind, name, words in calls() if name not in without)
+    code = "#include <aclc.h>\n"
+    for kind, name, words in calls():
+        if name not in without:
+            code += f"#undef {name}\n{kind} {name}({words}) {{ {'' if kind == 'void' else 'return 0;'} }}\n"
     compile_c(code + "int hidden(void) { return 0; }\n", f"-I{TOP / 'include'}", "-c", "-o", file.with_suffix(".o"))
     file.unlink(missing_ok=True)
     done(["ar", "rcs", file, file.with_suffix(".o")])
@@ -96,8 +98,8 @@ class Install(unittest.TestCase):
         self.assertEqual(code, 0, said)
         self.assertIn("librte_acl.so is left out", said)
         listed = (self.prefix / "share/doc/libaclc/installed").read_text().split()
-        self.assertEqual({name for name in listed if not name.endswith("/")} | {"lib/other.a", "share/doc/libaclc/installed"},
-                         self.files())
+        self.assertEqual({name for name in listed if not name.endswith("/")},
+                         self.files() - {"lib/other.a", "share/doc/libaclc/installed"})
         self.assertNotIn("lib/pkgconfig/", listed)
         self.assertTrue((self.prefix / "share/doc/libaclc/proof").read_text().startswith("logic=proved functions=1"))
         self.assertEqual(self.run_script("include/install", self.prefix)[0], 0)
@@ -139,17 +141,18 @@ class Install(unittest.TestCase):
         library.parent.mkdir(parents=True)
         (self.prefix / "bin").mkdir()
         shutil.copy(TOP / "packaging" / "aclc-dpdk", self.prefix / "bin")
-        ours, theirs, other = (self.folder / name for name in ("ours", "theirs", "other"))
+        ours, theirs, other, old = (self.folder / name for name in ("ours", "theirs", "other", "librte_acl.so.22"))
         compile_c("int answer(void) { return 7; }\n", "-shared", "-Wl,-soname,librte_acl.so.23", "-o", library)
         code = "int answer(void);\nint main(void) { return answer(); }\n"
         compile_c(code, "-o", ours, library)
-        compile_c("int answer(void) { return 8; }\n", "-shared", "-Wl,-soname,librte_acl.so.22", "-o", self.folder / "librte_acl.so.22")
-        compile_c(code, "-o", theirs, self.folder / "librte_acl.so.22", f"-Wl,-rpath,{self.folder}")
+        compile_c("int answer(void) { return 8; }\n", "-shared", f"-Wl,-soname,{old.name}", "-o", old)
+        compile_c(code, "-o", theirs, old, f"-Wl,-rpath,{self.folder}")
         compile_c("int main(void) { return 0; }\n", "-o", other)
         start = self.prefix / "bin" / "aclc-dpdk"
         self.assertEqual(done([start]), (0, f"{os.path.realpath(library.parent)}\n"))
         self.assertEqual(done([start, ours])[0], 7)
-        for program, why in ((theirs, "another release"), (other, "doesn't load"), (start, "isn't a program"), ("no", "there is no")):
+        for program, why in ((theirs, "another release"), (other, "doesn't load"), (start, "isn't a program"),
+                             ("no", "there is no")):
             code, said = done([start, program])
             self.assertEqual((code, why in said), (2, True), said)
         ours.chmod(0o4755)

@@ -10,8 +10,8 @@ from pathlib import Path
 
 from aclc_tools.program import TOP
 
-# Tries and builds a program that prints its words and ends with 5, or the example's lines. Of the library's crates it proves
-# those below it alone.
+# Tries and builds a program that prints its words and ends with 5, or the example's lines. Of the library's crates it
+# proves those below it alone.
 RT = """#!/bin/bash
 echo "$PWD: $*" >> "$CALLS"
 [ -z "$SLOW" ] || { printf 'a part of ' >&2; sleep "$SLOW"; printf 'a line\n' >&2; }
@@ -57,7 +57,8 @@ class Script(unittest.TestCase):
             target = self.folder / name
             target.parent.mkdir(parents=True, exist_ok=True)
             (shutil.copytree if (TOP / name).is_dir() else shutil.copy)(TOP / name, target)
-        (self.folder / "crates.txt").write_text("# a band: of two\nlow: std\naclc: low\nother: low\nacl_c staticlib: core low\n")
+        crates = "# a band: of two\nlow: std\naclc: low\nother: low\nacl_c staticlib: core low\n"
+        (self.folder / "crates.txt").write_text(crates)
         for crate in ("low", "aclc", "other", "acl_c"):
             (self.folder / "crates" / crate / "src").mkdir(parents=True)
             (self.folder / "crates" / crate / "src" / "lib.rt").write_text("fn one()\n")
