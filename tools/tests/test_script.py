@@ -10,7 +10,8 @@ from pathlib import Path
 
 from aclc_tools.program import TOP
 
-# Tries and builds a program that prints its words and ends with 5, or the example's lines.
+# Tries and builds a program that prints its words and ends with 5, or the example's lines. Of the library's crates it
+# proves those below it alone.
 RT = """#!/bin/bash
 echo "$PWD: $*" >> "$CALLS"
 [ -z "$SLOW" ] || { printf 'a part of ' >&2; sleep "$SLOW"; printf 'a line\n' >&2; }
@@ -20,12 +21,31 @@ case $1 in
 try) shift; [ -z "$BROKEN" ] || { echo refused >&2; exit 1; }
     while [ "$1" != -- ]; do shift; done
     shift; echo "$@"; printf 'told\\nchecked: ended status=5\\nrun=ended status=5 runners=1 proved=no\\n' >&2; exit 5 ;;
+doc) echo "$KIT/START.md" ;;
 ci) [ -z "$BROKEN" ] || exit 1
-    [ "$(ls crates | tr '\\n' ' ')" = 'aclc low ' ] && [ ! -e crates/low/must-fail ] && [ -e HANDLES ] || exit 1
+    [ ! -e crates/low/must-fail ] && [ -e HANDLES ] || exit 1
+    if [ "$(cat crates.txt)" = 'low: std' ]; then
+        [ "$(ls crates)" = low ] && mkdir -p crates/low/out/rlib/low.rlib
+        exit
+    fi
+    [ "$(ls crates | tr '\\n' ' ')" = 'aclc low ' ] || exit 1
     [ "$(cat crates.txt)" = $'low: std\\naclc: low' ] || exit 1
     echo 'rt: low is kept: an earlier run proved it'; printf '== aclc\\nlogic=proved functions=1\\nrt: aclc proved\\n'
     mkdir -p crates/aclc/out; echo "$program" > crates/aclc/out/aclc; chmod +x crates/aclc/out/aclc ;;
 esac
+"""
+
+# Builds an archive that has its words, where it is told of each crate that acl_c uses.
+RATTLE = """#!/bin/bash
+echo "$PWD: $*" >> "$CALLS"
+[ -z "$REFUSES" ] || { echo 'lib.rt:1:1: error[not-proved]'; exit 1; }
+[[ $1 = build && ! -e must-fail && $(cat src/lib.rt) = 'fn one()' ]] || exit 2
+for name in low=*/crates/low/out/rlib/low.rlib std=$KIT/rlibs/std.rlib core=$KIT/rlibs/core.rlib; do
+    [[ " $* " = *" --extern "$name" "* ]] || exit 2
+done
+while [ "$1" != -o ]; do shift; done
+echo archive > "$2"
+echo 'logic=proved functions=2 target=x86_64'
 """
 
 
@@ -37,19 +57,23 @@ class Script(unittest.TestCase):
             target = self.folder / name
             target.parent.mkdir(parents=True, exist_ok=True)
             (shutil.copytree if (TOP / name).is_dir() else shutil.copy)(TOP / name, target)
-        (self.folder / "crates.txt").write_text("# a band: of two\nlow: std\naclc: low\nother: low\n")
-        for crate in ("low", "aclc", "other"):
+        crates = "# a band: of two\nlow: std\naclc: low\nother: low\nacl_c staticlib: core low\n"
+        (self.folder / "crates.txt").write_text(crates)
+        for crate in ("low", "aclc", "other", "acl_c"):
             (self.folder / "crates" / crate / "src").mkdir(parents=True)
             (self.folder / "crates" / crate / "src" / "lib.rt").write_text("fn one()\n")
-        (self.folder / "crates" / "low" / "must-fail").mkdir()
-        (self.folder / "bin").mkdir()
-        (self.folder / "bin" / "rt").write_text(RT)
-        (self.folder / "bin" / "rt").chmod(0o755)
+        for crate in ("low", "acl_c"):
+            (self.folder / "crates" / crate / "must-fail").mkdir()
+        self.kit = self.folder / "kit"
+        for name, text in ((self.folder / "bin" / "rt", RT), (self.kit / "bin" / "rattle", RATTLE)):
+            name.parent.mkdir(parents=True)
+            name.write_text(text)
+            name.chmod(0o755)
         self.calls = self.folder / "calls"
 
     def run_script(self, *words, rt=True, **more):
         path = f"{self.folder / 'bin'}:/usr/bin:/bin" if rt else "/usr/bin:/bin"
-        env = {"PATH": path, "CALLS": str(self.calls), "HOME": str(self.folder), **more}
+        env = {"PATH": path, "CALLS": str(self.calls), "HOME": str(self.folder), "KIT": str(self.kit), **more}
         done = subprocess.run([str(self.folder / "aclc"), *words], env=env, stdout=subprocess.PIPE, stderr=subprocess.PIPE, text=True,
                               cwd=self.folder)
         return done.returncode, done.stdout, done.stderr
@@ -89,7 +113,7 @@ class Script(unittest.TestCase):
         self.assertEqual(self.run_script("bench", "42", "42", "42")[1], "bench 42 42 42\n")
 
     def test_words_too_many_are_refused(self):
-        for words in (("prove", "x"), ("prove", "x", "y"), ("install", "a", "b")):
+        for words in (("prove", "x"), ("prove", "x", "y"), ("prove-library", "x"), ("install", "a", "b")):
             self.assertEqual(self.run_script(*words)[0], 101)
         self.assertEqual(self.calls_of_rt(), 0)
 
@@ -113,6 +137,34 @@ class Script(unittest.TestCase):
         self.assertIn("unproved", self.run_script("session", "x")[2])
         (self.folder / "crates" / "low" / "src" / "lib.rt").write_text("fn one()\n")
         self.assertEqual(self.run_script("x"), (5, "x\n", "told\n"))
+
+    def test_the_library_is_proved_once_over_what_rt_kept(self):
+        archive = self.folder / "crates" / "acl_c" / "out" / "libacl_c.a"
+        code, _, said = self.run_script("prove-library")
+        self.assertEqual((code, archive.read_text()), (0, "archive\n"), said)
+        noted = (archive.parent / "built_from").read_text().split("\n")
+        self.assertEqual(noted[2], "logic=proved functions=2 target=x86_64")
+        calls = self.calls_of_rt()
+        self.assertIn("proved and built", self.run_script("prove-library")[2])
+        self.assertEqual(self.calls_of_rt(), calls)
+        self.assertIn("unproved", self.run_script("session", "x")[2])
+
+    def test_an_archive_that_changed_is_built_again(self):
+        self.run_script("prove-library")
+        archive = self.folder / "crates" / "acl_c" / "out" / "libacl_c.a"
+        archive.write_text("another\n")
+        self.assertEqual(self.run_script("prove-library")[0], 0)
+        self.assertEqual(archive.read_text(), "archive\n")
+        (self.folder / "crates" / "acl_c" / "src" / "lib.rt").write_text("fn two()\n")
+        self.assertEqual(self.run_script("prove-library")[0], 101)
+        self.assertFalse((archive.parent / "built_from").exists())
+
+    def test_a_library_that_is_refused_is_not_built(self):
+        for more in ({"BROKEN": "1"}, {"REFUSES": "1"}):
+            code, lines, said = self.run_script("prove-library", **more)
+            self.assertEqual((code, lines), (101, ""))
+            self.assertIn("failed", said)
+            self.assertFalse((self.folder / "crates" / "acl_c" / "out" / "libacl_c.a").exists())
 
     def test_an_edit_that_keeps_its_old_time_is_seen(self):
         self.run_script("prove")

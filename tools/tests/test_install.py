@@ -1,0 +1,163 @@
+"""include/install, packaging/libraries and aclc-dpdk, by a stand-in for the kit and a library that does nothing."""
+import os
+import re
+import shutil
+import subprocess
+import tempfile
+import unittest
+from pathlib import Path
+
+from aclc_tools.program import TOP
+
+RT = """#!/bin/sh
+case $1 in
+doc) echo "$KIT/START.md" ;;
+ci) mkdir -p crates/low/out/rlib/low.rlib ;;
+esac
+"""
+RATTLE = """#!/bin/sh
+while [ "$1" != -o ]; do shift; done
+cp "$KIT/made.a" "$2"
+echo 'logic=proved functions=1 target=x86_64'
+"""
+CALL = re.compile(r"^(aclc_code|uint32_t|void) (aclc_\w+)\(([^;]*)\);", re.M)
+
+
+def calls():
+    """The calls of aclc.h: type, name and parameters."""
+    text = re.sub(r"/\*.*?\*/", "", (TOP / "include" / "aclc.h").read_text(), flags=re.S)
+    return CALL.findall(text)
+
+
+def done(words, **more):
+    ran = subprocess.run(list(map(str, words)), stdout=subprocess.PIPE, stderr=subprocess.STDOUT, text=True, **more)
+    return ran.returncode, ran.stdout
+
+
+def compile_c(source, *words):
+    """Compiles C code; it has to be without a fault."""
+    code, said = done(["cc", "-w", "-fPIC", "-x", "c", "-", "-x", "none", *words], input=source)
+    if code:
+        raise AssertionError(said)
+
+
+def make_archive(file, without=()):
+    """An archive whose calls answer 0, but for those that are left out."""
+    code = "#include <aclc.h>\n"
+    for kind, name, words in calls():
+        if name not in without:
+            code += f"#undef {name}\n{kind} {name}({words}) {{ {'' if kind == 'void' else 'return 0;'} }}\n"
+    compile_c(code + "int hidden(void) { return 0; }\n", f"-I{TOP / 'include'}", "-c", "-o", file.with_suffix(".o"))
+    file.unlink(missing_ok=True)
+    done(["ar", "rcs", file, file.with_suffix(".o")])
+
+
+def exported(library):
+    """What a library exports, with its versions."""
+    _, said = done(["nm", "-D", "--defined-only", library])
+    return {line.split()[2] for line in said.splitlines() if line.split()[1] != "A"}
+
+
+@unittest.skipUnless(shutil.which("cc") and shutil.which("nm"), "there is no C compiler")
+class Install(unittest.TestCase):
+    def setUp(self):
+        self.folder = Path(tempfile.mkdtemp())
+        self.addCleanup(shutil.rmtree, self.folder)
+        for name in ("include", "compat", "packaging"):
+            shutil.copytree(TOP / name, self.folder / name)
+        for name in ("aclc", "HANDLES", "VERSION", "LICENSE"):
+            shutil.copy(TOP / name, self.folder / name)
+        (self.folder / "crates.txt").write_text("low: std\nacl_c staticlib: core low\n")
+        for crate in ("low", "acl_c"):
+            (self.folder / "crates" / crate / "src").mkdir(parents=True)
+            (self.folder / "crates" / crate / "src" / "lib.rt").write_text("fn one()\n")
+        self.kit = self.folder / "kit"
+        for name, text in ((self.folder / "bin" / "rt", RT), (self.kit / "bin" / "rattle", RATTLE)):
+            name.parent.mkdir(parents=True)
+            name.write_text(text)
+            name.chmod(0o755)
+        (self.kit / "c").mkdir()
+        compile_c("int kit_call(void) { return 0; }\n", "-c", "-o", self.kit / "c" / "kit.o")
+        done(["ar", "rcs", self.kit / "c" / "liblibc_c.a", self.kit / "c" / "kit.o"])
+        make_archive(self.kit / "made.a")
+        self.prefix = self.folder / "prefix"
+
+    def run_script(self, name, *words, **more):
+        """A script of the copy, without the headers of DPDK."""
+        env = {"PATH": f"{self.folder / 'bin'}:/usr/bin:/bin", "KIT": str(self.kit), "HOME": str(self.folder),
+               "PKG_CONFIG_LIBDIR": str(self.folder), **more}
+        return done([self.folder / name, *words], env=env, cwd=self.folder)
+
+    def files(self):
+        return {str(path.relative_to(self.prefix)) for path in self.prefix.rglob("*") if not path.is_dir()}
+
+    def test_what_is_listed_is_written_and_removed_and_nothing_else(self):
+        (self.prefix / "lib" / "pkgconfig").mkdir(parents=True)
+        (self.prefix / "lib" / "other.a").write_text("other")
+        code, said = self.run_script("include/install", self.prefix)
+        self.assertEqual(code, 0, said)
+        self.assertIn("librte_acl.so is left out", said)
+        listed = (self.prefix / "share/doc/libaclc/installed").read_text().split()
+        self.assertEqual({name for name in listed if not name.endswith("/")},
+                         self.files() - {"lib/other.a", "share/doc/libaclc/installed"})
+        self.assertNotIn("lib/pkgconfig/", listed)
+        self.assertTrue((self.prefix / "share/doc/libaclc/proof").read_text().startswith("logic=proved functions=1"))
+        self.assertEqual(self.run_script("include/install", self.prefix)[0], 0)
+        self.assertEqual(self.run_script("include/install", "--uninstall", self.prefix)[0], 0)
+        self.assertEqual(self.files(), {"lib/other.a"})
+        self.assertEqual({path.name for path in self.prefix.rglob("*") if path.is_dir()}, {"lib", "pkgconfig"})
+        self.assertEqual(self.run_script("include/install", "--uninstall", self.prefix)[0], 1)
+
+    def test_the_shared_library_exports_the_calls_of_its_header_alone(self):
+        self.run_script("include/install", self.prefix)
+        names = {f"{name}@@ACLC_1" for _, name, _ in calls()}
+        self.assertEqual(exported(self.prefix / "lib" / "libaclc.so.1"), names)
+
+    def test_an_archive_that_lacks_a_call_is_refused(self):
+        make_archive(self.kit / "made.a", without=["aclc_save"])
+        code, said = self.run_script("include/install", self.prefix)
+        self.assertNotEqual(code, 0)
+        self.assertIn("aren't those of aclc.h", said)
+        self.assertEqual(self.files(), set())
+
+    def test_a_wrong_use_is_refused(self):
+        for words in ((), ("",), ("--help",), ("a", "b"), ("--uninstall",), ("--uninstall", "a", "b")):
+            code, said = self.run_script("include/install", *words)
+            self.assertEqual((code, said.count("\n")), (2, 1), said)
+        for name, words, more in (("libraries", ("a",), {}), ("libraries", ("a", "b"), {}), ("build_files", ("a",), {}),
+                                  ("make", (), {}), ("make", ("-v",), {}), ("try", (), {})):
+            code, said = self.run_script(f"packaging/{name}", *words, **more)
+            self.assertEqual((code, said.count("\n")), (2, 1), said)
+
+    def test_a_release_of_dpdk_that_is_not_there_is_refused(self):
+        self.run_script("include/install", self.prefix)
+        for abi in ("23", "24", "26", "x"):
+            code, said = self.run_script("packaging/libraries", self.prefix, self.folder / "out", ABI=abi)
+            self.assertEqual((code, said.count("\n")), (2, 1), said)
+            self.assertIn(f"ABI={abi} needs" if abi in ("23", "24") else "ABI is 23, 24 or 25", said)
+
+    def test_a_built_program_runs_over_the_library_or_is_refused(self):
+        library = self.prefix / "lib" / "aclc" / "dpdk-23" / "librte_acl.so.23"
+        library.parent.mkdir(parents=True)
+        (self.prefix / "bin").mkdir()
+        shutil.copy(TOP / "packaging" / "aclc-dpdk", self.prefix / "bin")
+        ours, theirs, other, old = (self.folder / name for name in ("ours", "theirs", "other", "librte_acl.so.22"))
+        compile_c("int answer(void) { return 7; }\n", "-shared", "-Wl,-soname,librte_acl.so.23", "-o", library)
+        code = "int answer(void);\nint main(void) { return answer(); }\n"
+        compile_c(code, "-o", ours, library)
+        compile_c("int answer(void) { return 8; }\n", "-shared", f"-Wl,-soname,{old.name}", "-o", old)
+        compile_c(code, "-o", theirs, old, f"-Wl,-rpath,{self.folder}")
+        compile_c("int main(void) { return 0; }\n", "-o", other)
+        start = self.prefix / "bin" / "aclc-dpdk"
+        self.assertEqual(done([start]), (0, f"{os.path.realpath(library.parent)}\n"))
+        self.assertEqual(done([start, ours])[0], 7)
+        for program, why in ((theirs, "another release"), (other, "doesn't load"), (start, "isn't a program"),
+                             ("no", "there is no")):
+            code, said = done([start, program])
+            self.assertEqual((code, why in said), (2, True), said)
+        ours.chmod(0o4755)
+        self.assertEqual(done([start, ours])[0], 2)
+
+
+if __name__ == "__main__":
+    unittest.main()
