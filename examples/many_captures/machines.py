@@ -3,7 +3,6 @@ import os
 import socket
 import subprocess
 import time
-from pathlib import Path
 
 SSHD = """Port {port}
 ListenAddress 127.0.0.1
@@ -14,7 +13,7 @@ StrictModes no
 UsePAM no
 PasswordAuthentication no
 PermitRootLogin prohibit-password
-SetEnv PATH={folder}/{name}/bin:/usr/bin:/bin TMPDIR={folder}/{name}/tmp
+SetEnv PATH={folder}/{name}/bin:/usr/bin:/bin TMPDIR={folder}/{name}/tmp HOME={folder}/{name}
 """
 SSH = """Host {name}
   HostName 127.0.0.1
@@ -26,6 +25,7 @@ SSH_ALL = """Host *
   IdentitiesOnly yes
   UserKnownHostsFile {folder}/known_hosts
   StrictHostKeyChecking accept-new
+  KexAlgorithms curve25519-sha256
   LogLevel ERROR
 """
 SLURM = """ClusterName=trial
@@ -117,14 +117,14 @@ def start_sshd(daemons, folder, program, hidden):
     make_keys(folder)
     hosts = "".join(SSH.format(name=name, port=port) for name, port in ports.items())
     (folder / "ssh_config").write_text(hosts + SSH_ALL.format(folder=folder))
-    Path("/run/sshd").mkdir(exist_ok=True)
     for name in ("one", "two"):
         for part in ("bin", "tmp"):
             (folder / name / part).mkdir(parents=True)
         (folder / name / "bin" / "aclc").symlink_to(program)
         (folder / f"sshd_{name}").write_text(SSHD.format(folder=folder, name=name, port=ports[name]))
+        # sshd wants the folder /run/sshd, which this one has for itself.
         hide = 'mount -t tmpfs none "$0" && ' if name == "one" else ""
-        run = f'{hide}exec /usr/sbin/sshd -D -f "$1" -E "$2"'
+        run = f'{hide}mount -t tmpfs none /run && mkdir -m 755 /run/sshd && exec /usr/sbin/sshd -D -f "$1" -E "$2"'
         daemons.start("unshare", "--mount", "sh", "-c", run, hidden, folder / f"sshd_{name}", folder / f"{name}.log")
         wait_until(lambda: answers(ports[name]), f"sshd {name}")
 
