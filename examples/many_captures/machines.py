@@ -1,4 +1,4 @@
-"""Machines of a trial, all on this one: sshd and the daemons of Slurm on 127.0.0.1, with files of their own in a folder."""
+"""Machines of a trial, all on this one: sshd and the daemons of Slurm on 127.0.0.1, with their files in one folder."""
 import os
 import socket
 import subprocess
@@ -144,6 +144,7 @@ def start_slurm(daemons, folder):
     daemons.start("slurmctld", "-D", "-i", env=env)
     for node in ("n1", "n2"):
         daemons.start("slurmd", "-D", "-N", node, env=env)
+    ask = {"env": env, "stdout": subprocess.PIPE, "stderr": subprocess.DEVNULL}
     idle = ["sinfo", "--noheader", "--states=idle", "--format=%D"]
-    wait_until(lambda: subprocess.run(idle, env=env, stdout=subprocess.PIPE, stderr=subprocess.PIPE).stdout.split() == [b"2"], "Slurm")
+    wait_until(lambda: subprocess.run(idle, **ask).stdout.split() == [b"2"], "Slurm")
     return env

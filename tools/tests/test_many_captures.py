@@ -1,4 +1,4 @@
-"""The scripts of examples/many_captures: odd names, answers that aren't whole, what wasn't answered, pieces and machines."""
+"""The scripts of examples/many_captures: odd names, parts, what wasn't answered, pieces and machines."""
 import os
 import shutil
 import signal
@@ -115,7 +115,8 @@ class Unanswered(Folder):
         (self.folder / "it's.pcap.lines").write_bytes(self.expected[:-20])
         os.utime(self.folder / "$HOME.pcap.lines", (1, 1))
         listed = ["a b.pcap: no answer", "it's.pcap: not whole", "$HOME.pcap: an answer of an earlier run",
-                  "cut.pcap: code 5: aclc: capture: record 3: cut", "none.pcap: no answer", "captures 6 answered 1 unanswered 5"]
+                  "cut.pcap: code 5: aclc: capture: record 3: cut", "none.pcap: no answer",
+                  "captures 6 answered 1 unanswered 5"]
         self.assertEqual(self.script("unanswered", *names), (1, "".join(line + "\n" for line in listed), ""))
         left = "".join(name + "\0" for name in names if name != "*.pcap")
         self.assertEqual(self.script("unanswered", "an image", *names, image="--null"), (1, left, ""))
@@ -147,7 +148,8 @@ class Pieces(Folder):
 
     def test_numbers_are_exact_where_they_are_great(self):
         for name, count in (("1", 4000000000), ("2", 3000000001)):
-            (self.folder / f"{name}.lines").write_text(f"{count} ip4 7\npackets {count} ip4 {count} ip6 0 other 0 short 0\n")
+            lines = f"{count} ip4 7\npackets {count} ip4 {count} ip6 0 other 0 short 0\n"
+            (self.folder / f"{name}.lines").write_text(lines)
         lines = "4000000000 ip4 7\n7000000001 ip4 7\npackets 7000000001 ip4 7000000001 ip6 0 other 0 short 0\n"
         self.assertEqual(self.script("joined", "1", "2", image=None), (0, lines, ""))
 
@@ -220,7 +222,8 @@ class SlurmTask(Folder):
             shutil.copy(EXAMPLES / "office.pcap", self.folder / name)
         (self.folder / "names").write_text("".join(name + "\n" for name in names))
         for task, count in (("2", 2), ("1", 10)):
-            self.assertEqual(self.script("slurm_task", "names", SLURM_ARRAY_TASK_ID=task)[:2], (0, SUMS % (count, 3 * count, 3 * count)))
+            done = self.script("slurm_task", "names", SLURM_ARRAY_TASK_ID=task)
+            self.assertEqual(done[:2], (0, SUMS % (count, 3 * count, 3 * count)))
             self.assertEqual(len(list(self.folder.glob("*of 12.pcap.lines"))), 2 if task == "2" else 12)
         self.assertEqual(self.script("slurm_task", "names", SLURM_ARRAY_TASK_ID="")[0], 1)
         self.assertEqual(self.script("slurm_task", "names", SLURM_ARRAY_TASK_ID="3")[0], 1)
