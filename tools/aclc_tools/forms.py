@@ -1,11 +1,12 @@
 """The forms of lists that rule files are made of."""
 from pathlib import Path
 
-from aclc_tools import asa, cisco, iosxr, iptables, l3fwd, lists, nftables, nxos
+from aclc_tools import asa, aws, azure, cisco, iosxr, iptables, juniper, l3fwd, lists, nftables, nxos
 
 # Each form's reader, and what numbers its rules.
-FORMS = {"iptables": (iptables, "line"), "nft": (nftables, "handle"), "cisco": (cisco, "line"), "l3fwd": (l3fwd, "line"),
-         "asa": (asa, "line"), "nxos": (nxos, "line"), "iosxr": (iosxr, "line")}
+FORMS = {"iptables": (iptables, "line"), "nft": (nftables, "handle"), "cisco": (cisco, "line"),
+         "l3fwd": (l3fwd, "line"), "asa": (asa, "line"), "nxos": (nxos, "line"), "iosxr": (iosxr, "line"),
+         "juniper": (juniper, "line"), "aws": (aws, "rule"), "azure": (azure, "priority")}
 
 
 def rule_file_of(options, text):

@@ -15,7 +15,7 @@ WORDS = {"nxos": ("ip access-list", "object-group ip address", "object-group ip 
                   "log"),
          "iosxr": ("ipv4 access-list", "object-group network ipv4", "object-group port", "net-group", "port-group",
                    "ipv4", "log|log-input|counter \\S+")}
-COMMANDS = ("hostname", "interface", "feature", "router", "ip route")
+COMMANDS = ("hostname", "interface", "feature", "router", "ip ")
 
 
 @lru_cache(None)
