@@ -1,196 +1,241 @@
-"""Extended access lists of Cisco's IOS, numbered and named, and IPv6 lists.
+"""Access lists of Cisco's IOS and IOS XE: standard and extended ones, numbered and named, and IPv6 lists.
 
-Source: Cisco IOS Security Command Reference, "access-list (IP extended)", "permit (IP)", "ipv6 access-list". Masks are
-wildcard masks: a set bit is one that doesn't count.
+Source: Cisco IOS Security Command Reference, "access-list (IP extended)", "access-list (IP standard)", "permit (IP)",
+"ipv6 access-list", "object-group network", "object-group service". Masks of entries are wildcard masks, in which a set
+bit is one that doesn't count, and those of groups are masks of networks.
 """
-import ipaddress
-import re
+from aclc_tools import boxes, cisco_groups, cisco_lists, ios_words
+from aclc_tools.cisco_entries import VERDICTS, Dialect, Service, boxes_of, once, read, skip_options
+from aclc_tools.cisco_words import (ICMP, ICMP6, PORTS, PROTOCOLS, Words, address_range, any_of, compares, host,
+                                    is_number, netmask, ports, prefix, protocol, union, wildcard)
+from aclc_tools.lists import ACCEPT, CantSay, Rule
 
-from aclc_tools import boxes, names
-from aclc_tools.lists import ACCEPT, DROP, PASS, CantSay, Chain, Rule
-
-# A wildcard mask with gaps is said by as many prefixes as its gaps have numbers.
-MOST_GAPS = 8
-PASSING = ("log", "log-input")
-REASONS = {"established": "TCP flags", "fragments": "fragments", "dscp": "a mark of the header", "precedence": "a mark of the header",
-           "tos": "a mark of the header", "time-range": "a time", "option": "options of the header", "ttl": "a lifetime",
-           "reflect": "state of a connection", "evaluate": "state of a connection", "match-all": "TCP flags", "match-any": "TCP flags"}
-FLAGS = ("ack", "fin", "psh", "rst", "syn", "urg")
-
-
-class Words:
-    """The words of a line, taken from the left."""
-
-    def __init__(self, words):
-        self.words = words
-
-    def next(self, what="a word"):
-        if not self.words:
-            raise CantSay(f"the line ends where {what} should stand")
-        return self.words.pop(0)
-
-    def peek(self):
-        return self.words[0] if self.words else ""
+IP4 = {**PROTOCOLS, "ip": None}
+IP6 = {"ahp": 51, "esp": 50, "icmp": 58, "ipv6": None, "pcp": 108, "sctp": 132, "tcp": 6, "udp": 17}
+DIALECT = Dialect({4: IP4, 6: IP6}, PORTS, "object-group", "object-group", None, False, True,
+                  {"log": None, "log-input": None, "sequence": 1})
+STANDARD, EXTENDED = "a standard list", "an extended list"
+# Commands of lists that decide nothing about their entries.
+SETTINGS = ("log-update", "logging", "persistent", "helper", "match-local-traffic")
+UNREAD_LISTS = ("role-based", "fqdn")
+# Kinds of groups; an entry that names one of the last three is refused.
+GROUPS = ("network", "service", "v6-network", "v6-service", "security")
+COMMUNITIES = (["ip", "community-list"], ["ip", "extcommunity-list"])
+NUMBERS = {STANDARD: ((1, 99), (1300, 1999)), EXTENDED: ((100, 199), (2000, 2699))}
+KINDS = {"standard": STANDARD, "extended": EXTENDED}
 
 
-def wildcard(address, mask):
-    """The intervals of an address under a wildcard mask."""
-    free = (mask + 1).bit_length() - 1 if mask & (mask + 1) == 0 else (~mask & mask + 1).bit_length() - 1
-    low_free = (1 << free) - 1
-    gaps = [bit for bit in range(free, 32) if mask >> bit & 1]
-    if len(gaps) > MOST_GAPS:
-        raise CantSay("a wildcard mask with more than 8 gaps")
-    found = []
-    for choice in range(1 << len(gaps)):
-        base = address & ~mask & 0xFFFFFFFF
-        for place, bit in enumerate(gaps):
-            base |= (choice >> place & 1) << bit
-        found.append((base, base | low_free))
-    return boxes.union(found)
+def kind_of(name):
+    """The kind of a numbered list, or None."""
+    return next((kind for kind, ranges in NUMBERS.items() for low, high in ranges if low <= int(name) <= high), None)
 
 
-def network(words, family):
-    """The intervals of `any`, `host ADDRESS`, an address with its wildcard mask, or in IPv6 a prefix."""
-    word = words.next("an address")
+def member(groups, kind, words, path):
+    """What one line of a group holds."""
+    words = Words(words)
+    word = words.next()
+    if word == "group-object":
+        value = groups.value(words.next("a group"), (kind,), path)
+    else:
+        value = network_member(word, words) if kind == "network" else service_member(word, words)
+    words.end()
+    return value
+
+
+def network_member(word, words):
+    """The addresses of a member: a host, a range, or a network with the length of its prefix or its mask."""
     if word == "any":
-        return boxes.whole(family).source
-    if word in ("object-group", "addrgroup"):
-        raise CantSay("a group that is kept elsewhere")
-    try:
-        if word == "host":
-            value = int(ipaddress.ip_address(words.next("an address")))
-            return ((value, value),)
+        return any_of(4)
+    if word == "host":
+        return of_4(host(words.next("an address")))
+    if word == "range":
+        return of_4(address_range(words.next("an address"), words.next("an address")))
+    if word.startswith("/") or "/" in word:
+        return of_4(prefix(word))
+    if words.peek().startswith("/"):
+        return of_4(prefix(word + words.next()))
+    mask = words.next("a mask") if words.peek() else "255.255.255.255"
+    if mask == "0.0.0.0":
+        raise CantSay("the mask 0.0.0.0 is that of all addresses, or a wildcard mask of one: write any or host")
+    return netmask(word, mask)
+
+
+def of_4(found):
+    """Addresses that have to be of IPv4."""
+    if 4 not in found:
+        raise CantSay("the address is of IPv6")
+    return found
+
+
+def service_member(word, words):
+    """The services of a member: a protocol with its ports, of the source after `source`."""
+    protocols = boxes.union(((6, 6), (17, 17))) if word == "tcp-udp" else protocol(word, IP4)
+    if protocols in (ICMP, ICMP6) and words.peek():
+        raise CantSay(compares("a type of ICMP"))
+    source = None
+    if words.peek() == "source":
+        words.next()
+        source = member_ports(words)
+    return [Service(protocols, source, member_ports(words) if words.peek() else None)]
+
+
+def member_ports(words):
+    """Ports with or without a comparison; a port alone is that one."""
+    alone = is_number(words.peek()) or words.peek() in PORTS
+    return ports(Words(["eq", words.next()]) if alone else words, PORTS)
+
+
+def join(kind, parts):
+    """The members of a group together."""
+    return union(parts) if kind == "network" else once(parts)
+
+
+class Groups(cisco_groups.Groups):
+    """The groups, as entries ask for them."""
+
+    def addresses(self, name, family):
+        """The addresses of a group of networks."""
         if family == 6:
-            found = ipaddress.IPv6Network(word, strict=False)
-            return ((int(found.network_address), int(found.broadcast_address)),)
-        return wildcard(int(ipaddress.IPv4Address(word)), int(ipaddress.IPv4Address(words.next("a wildcard mask"))))
-    except ValueError:
-        raise CantSay(f"{word} is no address, or its mask is none") from None
+            raise CantSay("a group of IPv6 addresses isn't read")
+        return self.value(name, ("network",))
+
+    def services(self, name):
+        """The services of a group of services."""
+        return self.value(name, ("service",))
 
 
-def port(text):
-    number = int(text) if text.isdigit() else names.PORTS.get(text)
-    if number is None or number > 0xFFFF:
-        raise CantSay(f"the port {text}")
-    return number
+class Configuration(cisco_lists.Configuration):
+    """A configuration of IOS."""
 
-
-def ports(words):
-    """The intervals of an operator and its ports, or None where no operator stands there."""
-    if words.peek() not in ("eq", "neq", "gt", "lt", "range"):
-        return None
-    operator, first = words.next(), port(words.next("a port"))
-    listed = [(first, first)]
-    if operator == "range":
-        last = port(words.next("a port"))
-        return ((min(first, last), max(first, last)),)
-    while operator in ("eq", "neq") and (words.peek().isdigit() or words.peek() in names.PORTS):
-        number = port(words.next())
-        listed.append((number, number))
-    if operator == "gt":
-        return ((first + 1, 0xFFFF),) if first < 0xFFFF else ()
-    if operator == "lt":
-        return ((0, first - 1),) if first else ()
-    return boxes.union(listed) if operator == "eq" else boxes.without(0xFFFF, listed)
-
-
-def protocol(text, family):
-    """The intervals of a protocol."""
-    if text in ("ip", "ipv6"):
-        return boxes.PROTOCOLS
-    number = 58 if family == 6 and text == "icmp" else names.protocol(text)
-    if number is None:
-        raise CantSay("a group that is kept elsewhere" if text == "object-group" else f"the protocol {text}")
-    return ((number, number),)
-
-
-def read_entry(number, text, words, family):
-    """The rule of an entry that begins with permit or deny."""
-    verdict, words = (ACCEPT if words[0] == "permit" else DROP), Words(words[1:])
-    try:
-        protocols = protocol(words.next("a protocol"), family)
-        source, source_ports = network(words, family), ports(words)
-        destination, destination_ports = network(words, family), ports(words)
-        if (source_ports, destination_ports) != (None, None) and boxes.both(protocols, boxes.PORTED) != protocols:
-            raise CantSay("ports of a protocol other than TCP, UDP and SCTP")
-        while words.peek() in PASSING:
-            words.next()
-        left = words.peek()
-        if left:
-            flag = left.lstrip("+-") in FLAGS
-            raise CantSay("TCP flags" if flag else REASONS.get(left, "a type of ICMP" if protocols in (((1, 1),), ((58, 58),)) else left))
-    except CantSay as said:
-        return Rule(number, text, [], verdict, None, said.reason)
-    sides = (source, destination, boxes.PORTS if source_ports is None else source_ports,
-             boxes.PORTS if destination_ports is None else destination_ports, protocols)
-    return Rule(number, text, [boxes.Box(family, *sides)] if all(sides) else [], verdict, None, None)
-
-
-class Lists:
-    """The lists of a configuration, by name, each with its family and its number of the line that begins it."""
+    known = ios_words.KNOWN
 
     def __init__(self):
-        self.chains, self.families, self.open = {}, {}, None
+        super().__init__()
+        self.groups = Groups(member, join)
 
-    def begin(self, name, family, number, text):
-        """The list of a name. At its end, which isn't written, it refuses all: no rule says so, and the answer is 0."""
-        if name not in self.chains:
-            self.chains[name] = Chain(name, [], Rule(number, text, [], PASS, None, None))
-            self.families[name] = family
-        self.open = name
-
-    def add(self, number, text, words):
-        """An entry of the list that is open; remarks and sequence numbers say nothing."""
-        if words and words[0] == "sequence":
-            words = words[2:]
-        elif words and words[0].isdigit():
-            words = words[1:]
-        if words and words[0] in ("permit", "deny"):
-            self.chains[self.open].rules.append(read_entry(number, text, words, self.families[self.open]))
-        elif words and words[0] == "evaluate":
-            self.chains[self.open].rules.append(Rule(number, text, [], ACCEPT, None, REASONS["evaluate"]))
-        elif words and words[0] != "remark":
-            self.open = None
-
-    def take(self, number, text):
-        """One line of a configuration."""
-        words = text.split()
-        if not words or words[0].startswith("!"):
-            return
-        if words[:3] == ["ip", "access-list", "extended"] and len(words) > 3:
-            self.begin(words[3], 4, number, text)
-        elif words[:2] == ["ipv6", "access-list"] and len(words) > 2:
-            self.begin(words[2], 6, number, text)
-        elif words[0] == "access-list" and len(words) > 2 and words[2] == "extended":
-            raise CantSay("a list of Cisco's ASA, whose masks aren't wildcard masks", number, text)
-        elif words[0] == "access-list" and len(words) > 2 and re.fullmatch(r"1\d\d|2[0-6]\d\d", words[1]):
-            self.begin(words[1], 4, number, text)
-            self.add(number, text, words[2:])
-            self.open = None
-        elif self.open and text[:1] in " \t":
-            self.add(number, text, words)
+    def begin(self, number, text, words):
+        """Whether a line is a command of a list, or begins one, a group, or a part with entries that aren't read."""
+        removed = words[0] == "no"
+        words = words[1:] if removed else words
+        if words[:1] == ["access-list"]:
+            self.numbered(number, text, words[1:], removed)
+        elif words[:2] == ["ip", "access-list"] or words[:2] == ["ipv6", "access-list"]:
+            self.named(number, text, words, removed)
+        elif words[:1] == ["object-group"]:
+            self.group(number, text, words[1:], removed)
+        elif words[:2] in COMMUNITIES and not {"permit", "deny"} & set(words):
+            self.open = cisco_lists.UNREAD
         else:
-            self.open = None
+            return self.begin_other(words, removed)
+        return True
+
+    def numbered(self, number, text, words, removed):
+        """A command `access-list`: an entry of a numbered list, or the end of one."""
+        self.open = cisco_lists.AFTER
+        if words[:1] in (["rate-limit"], ["compiled"], ["dynamic-extended"]):
+            return
+        if words[1:2] in (["extended"], ["standard"], ["line"]):
+            raise CantSay("the list is one of Cisco's ASA, whose masks aren't wildcard masks: the form asa reads it",
+                          number, text)
+        if not words or not cisco_lists.is_plain(words[0]):
+            raise CantSay("the line has no number of a list after access-list", number, text)
+        kind = kind_of(words[0])
+        if removed and len(words) > 1:
+            raise CantSay("the line takes an entry out of a list, and on some devices the whole list", number, text)
+        if removed:
+            self.lists.pop(words[0], None)
+        elif kind is not None:
+            self.add_numbered(number, text, words, kind)
+        elif not 200 <= int(words[0]) <= 1299:
+            raise CantSay(f"{words[0]} is no number of a list", number, text)
+
+    def add_numbered(self, number, text, words, kind):
+        """An entry of a numbered list."""
+        if words[1:2] not in (["permit"], ["deny"], ["remark"], ["dynamic"]):
+            raise CantSay("the line has none of permit, deny and remark after the number of its list", number, text)
+        entry = cisco_lists.Entry(number, text, None, words[1:])
+        reason = kind == STANDARD and words[1] in VERDICTS and standard(entry).reason
+        if reason:
+            raise CantSay(f"the line is no entry of a standard list, as its number says: {reason}", number, text)
+        self.begin_list(words[0], kind, 4, number, text).entries.append(entry)
+
+    def named(self, number, text, words, removed):
+        """A command `ip access-list` or `ipv6 access-list`: it begins a list, or removes one."""
+        family, kind = (6, "an IPv6 list") if words[0] == "ipv6" else (4, KINDS.get("".join(words[2:3])))
+        name = words[2:] if family == 6 else words[3:]
+        self.open = cisco_lists.UNREAD if words[2:3] and words[2] in UNREAD_LISTS else cisco_lists.OUTSIDE
+        if words[2:3] and words[2] in (*SETTINGS, *UNREAD_LISTS):
+            return
+        if kind is None or len(name) != 1:
+            raise CantSay("the line begins no list: ip access-list extended NAME, ip access-list standard NAME or "
+                          "ipv6 access-list NAME does", number, text)
+        if family == 4 and is_number(name[0]) and (kind_of(name[0]) != kind or not cisco_lists.is_plain(name[0])):
+            raise CantSay(f"{name[0]} isn't the number of {kind}", number, text)
+        if removed:
+            self.lists.pop(name[0], None)
+        else:
+            self.open = self.begin_list(name[0], kind, family, number, text)
+
+    def group(self, number, text, words, removed):
+        """A command `object-group`."""
+        if len(words) > 2:
+            raise CantSay("the line begins no group of IOS: object-group network NAME or object-group service NAME "
+                          "does", number, text)
+        if len(words) < 2 or words[0] not in GROUPS:
+            raise CantSay("the line has no kind that is known here and a name of a group", number, text)
+        self.open = cisco_lists.OUTSIDE
+        if removed:
+            self.groups.remove(words[1])
+        else:
+            self.open = self.groups.begin(words[1], words[0], number, text)
 
 
-def ends_whole(rules, family):
-    """Whether the last rule matches all packets."""
-    return bool(rules) and boxes.whole(family) in rules[-1].boxes
+def standard(entry):
+    """The rule of an entry of a standard list, which compares the source alone."""
+    words = Words(entry.words)
+    verdict = VERDICTS[words.next()]
+    try:
+        word = words.next("an address")
+        if word == "any":
+            source = any_of(4)
+        elif word == "host":
+            source = of_4(host(words.next("an address")))
+        else:
+            source = wildcard(word, words.next() if words.peek()[:1].isdigit() else "0.0.0.0")
+        found = [Service(boxes.PROTOCOLS, None, None)]
+        skip_options(words, DIALECT, found)
+        return Rule(entry.number, entry.text, boxes_of(source, any_of(4), found), verdict, None, None)
+    except CantSay as said:
+        return Rule(entry.number, entry.text, [], verdict, None, said.reason)
+
+
+def rule_of(entry, found, groups):
+    """The rule of an entry."""
+    if entry.words[0] == "evaluate":
+        return Rule(entry.number, entry.text, [], ACCEPT, None, compares("the state of a connection"))
+    if entry.words[0] == "dynamic":
+        return Rule(entry.number, entry.text, [], ACCEPT, None,
+                    "it is opened by a user who logs in, and a rule can't be")
+    if found.kind == STANDARD:
+        return standard(entry)
+    return read(entry.number, entry.text, Words(entry.words), found.family, DIALECT, groups)
 
 
 def convert(lines, options):
-    """The lists, the one that is meant, and its family."""
-    lists = Lists()
-    for number, line in enumerate(lines, 1):
-        lists.take(number, line)
-    chosen = options.list or options.chain
-    if not chosen and len(lists.chains) != 1:
-        raise CantSay(f"which list is meant isn't said: --list {' or --list '.join(lists.chains)}" if lists.chains
-                      else "there is no extended access list in it")
-    name = chosen or next(iter(lists.chains))
-    if name in lists.chains:
-        chain, family = lists.chains[name], lists.families[name]
-        if family == 6 and not ends_whole(chain.rules, 6):
-            reason = "its unsaid end permits two types of ICMP: let it end with deny ipv6 any any, or with permit"
-            chain.rules.append(Rule(chain.policy.number, chain.policy.text, [], ACCEPT, None, reason))
-    return lists.chains, name, [lists.families.get(name, 4)]
+    """The chain of the list that is meant, its name, and its family."""
+    configuration = cisco_lists.read(Configuration(), lines)
+    found = configuration.chosen(options)
+    if found.kind == "an IPv6 list":
+        for entry in found.entries:
+            take_sequence(entry)
+    rules = [rule_of(entry, found, configuration.groups) for entry in found.in_order(False)]
+    return cisco_lists.chain_of(found, rules, [found.family], "two types of ICMP, which find neighbors")
+
+
+def take_sequence(entry):
+    """The number in the sequence, which an entry of an IPv6 list may have at its end."""
+    words = entry.words
+    if not entry.remark and words[-2:-1] == ["sequence"] and is_number(words[-1]):
+        if entry.sequence is not None:
+            raise CantSay("the entry has two sequence numbers", entry.number, entry.text)
+        entry.sequence, entry.words = int(words[-1]), words[:-2]

@@ -3,7 +3,8 @@ import argparse
 from collections import namedtuple
 from pathlib import Path
 
-from aclc_tools import assume, cisco, flatten, iptables, l3fwd, lists, nftables
+from aclc_tools import (asa, assume, aws, azure, cisco, flatten, iosxr, iptables, juniper, l3fwd, lists, nftables,
+                        nxos)
 
 # Each form's reader, what numbers its rules, what its lists are called, and the verdict of a list's unsaid end.
 Form = namedtuple("Form", "reader what kind end", defaults=("line", "list", lists.DROP))
@@ -11,6 +12,12 @@ FORMS = {
     "iptables": Form(iptables, kind="chain", end=None),
     "nft": Form(nftables, "handle", "chain", None),
     "cisco": Form(cisco),
+    "asa": Form(asa),
+    "nxos": Form(nxos),
+    "iosxr": Form(iosxr),
+    "juniper": Form(juniper, kind="filter"),
+    "aws": Form(aws, "rule"),
+    "azure": Form(azure, "priority"),
     "l3fwd": Form(l3fwd, end=None),
 }
 MOST_DATA = 0xFFFFFFFF

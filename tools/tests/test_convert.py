@@ -8,22 +8,10 @@ from aclc_tools.program import TOP
 from converting import DATA, convert, rules_of
 
 CONVERT = TOP / "tools" / "convert"
-SHIPPED = [("cisco", {"list": "OUTSIDE-IN"}, "edge.cisco", "edge-outside.rules"),
-           ("cisco", {"list": "101"}, "edge.cisco", "edge-101.rules"),
-           ("cisco", {"list": "WEB6"}, "edge.cisco", "edge-web6.rules"),
-           ("cisco", {"list": "WITH-STATE", "lenient": True}, "edge.cisco", "edge-state.rules"),
-           ("l3fwd", {}, "sample.l3fwd", "sample-l3fwd.rules")]
 CISCO = "ip access-list extended A\n {}\n"
+SHIPPED = [("l3fwd", {}, "sample.l3fwd", "sample-l3fwd.rules")]
 # What a rule file can't say: the form, the list, and the reason.
 REFUSED = [
-    ("cisco", CISCO.format("permit tcp any any established"), "TCP flags"),
-    ("cisco", CISCO.format("permit tcp any any syn"), "TCP flags"),
-    ("cisco", CISCO.format("permit icmp any any echo"), "a type of ICMP"),
-    ("cisco", CISCO.format("permit ip object-group A any"), "a group that is kept elsewhere"),
-    ("cisco", CISCO.format("permit ip any any fragments"), "fragments"),
-    ("cisco", CISCO.format("permit ip 10.0.0.0 0.255.3.0 any"), "a wildcard mask with more than 8 gaps"),
-    ("cisco", "access-list OUT extended permit ip any any\n", "ASA"),
-    ("cisco", "ipv6 access-list A\n permit tcp any any eq 80\n", "two types of ICMP"),
     ("l3fwd", "@10.0.0.0/8 0.0.0.0/0 0:65535 0:65535 6/0xff\n", "9 words"),
     ("l3fwd", "@10.0.0.0/8 0.0.0.0/0 0 : 65535 0 : 65536 6/0xff\n", "65536 is above 65535"),
     ("l3fwd", "@10.0.0.0/8 0.0.0.0/0 0 : 65535 0 : 65535 6/0xff pri=20 data=101\n", "pri=20 is an attribute of aclc's"),
@@ -53,9 +41,6 @@ class Convert(unittest.TestCase):
 
     def test_the_command_writes_and_refuses(self):
         for words, code, said in ((["iptables", "--chain", "FORWARD", "gateway.iptables-save"], 0, ""),
-                                  (["cisco", "--list", "WITH-STATE", "edge.cisco"], 1, "edge.cisco:30: TCP flags"),
-                                  (["cisco", "--lenient", "--list", "WITH-STATE", "edge.cisco"], 0,
-                                   "edge.cisco:31: left out: a type of ICMP"),
                                   (["classbench-trace", "sample.trace"], 0, ""),
                                   (["l3fwd", str(TOP / "examples" / "office.rules")], 1,
                                    "office.rules:2: pri=20 is an attribute"),

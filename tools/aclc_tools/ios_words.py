@@ -1,0 +1,44 @@
+"""What surrounds access lists in a configuration of IOS: the words that begin its other parts, and banners.
+
+Source: Cisco IOS Master Command List, commands of the global configuration mode.
+"""
+import re
+
+from aclc_tools.lists import CantSay
+
+KNOWN = frozenset("""
+aaa access-session alias archive arp authentication banner bba-group bfd boot boot-end-marker boot-start-marker bridge
+buffers call call-home card cdp class-map clns clock config-register control-plane controller crypto cts
+device-tracking diagnostic dial-peer dialer dialer-list dot11 dot1x dspfarm enable epm errdisable ethernet event
+exception facility-alarm flow frame-relay ftp-server hostname hw-module identity interface ip ipc ipv6 ipx isdn
+kerberos key kron l2 l2tp-class l2vpn lacp ldap license line lldp logging login mab mac mac-address-table macro
+map-class map-list memory memory-size mls modemcap monitor mpls multilink netconf netconf-yang network-clock
+network-policy ntp onep parameter-map parser pcep platform policy-map port-channel power privilege process prompt
+pseudowire-class ptp qos queue-list radius radius-server redundancy restconf rmon route-map router rtr sampler
+scheduler sdm security service service-template shell sip-ua snmp snmp-server software spanning-tree stackwise standby
+subscriber switch system tacacs tacacs-server telemetry template tftp-server time-range track transceiver tunnel udld
+upgrade username version virtual-service virtual-template vlan voice voice-port vpdn vpdn-group vrf vtp wireless wlan
+wsma x25 zone zone-pair
+""".split())
+# A line of a banner that looks like one of a list.
+OF_A_LIST = re.compile(r"\s*((sequence )?[0-9]+ )?(permit|deny|(no |ip |ipv6 )*access-list|object-group)\b")
+
+
+class Banner:
+    """A banner that has begun: it goes on to the mark that it begins with."""
+
+    def __init__(self, mark, number, text):
+        self.mark, self.number, self.text = mark, number, text
+
+    def after(self, number, text):
+        """The banner that goes on after a line, or None where it ends."""
+        if OF_A_LIST.match(text):
+            raise CantSay(f"the line stands in the banner of line {self.number}, and looks like one of a list",
+                          number, text)
+        return None if self.mark in text else self
+
+
+def banner_of(number, text):
+    """The banner that a line begins and doesn't end, or None."""
+    found = re.match(r"\s*banner [a-z-]+\s+(\^C|\S)(.*)", text)
+    return Banner(found.group(1), number, text) if found and found.group(1) not in found.group(2) else None
