@@ -53,6 +53,18 @@ class Rule:
     def bits(self):
         return 32 if self.family == 4 else 128
 
+    def intervals(self):
+        """The numbers of each column but the protocol that match: addresses and ports, the least and the greatest."""
+        free = [self.bits - length for _, length in (self.source, self.destination)]
+        lows = [value >> it << it for (value, _), it in zip((self.source, self.destination), free)]
+        return [(low, low + (1 << it) - 1) for low, it in zip(lows, free)] + [self.source_ports, self.destination_ports]
+
+    def matches(self, key):
+        """Whether packets of a key match."""
+        value, mask = self.protocol
+        return (self.family == key.family and not (value ^ key.protocol) & mask
+                and all(low <= number <= high for (low, high), number in zip(self.intervals(), key.numbers)))
+
 
 def number(text, at, most):
     """The number of at most so much that stands at a place, and the place after it, or None."""

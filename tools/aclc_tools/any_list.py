@@ -1,0 +1,173 @@
+"""Lists of any form as rules that the program reads, each with the line of the list that it was made of.
+
+The form is told, or found by what stands in the file. A list of another program is turned into rules by `forms`.
+"""
+import argparse
+import re
+from collections import namedtuple
+
+from aclc_tools import lists, rule_file
+from aclc_tools.advice import no_list
+from aclc_tools.forms import FORMS, rule_file_of
+from aclc_tools.printing import shown
+from aclc_tools.program import leave, note, read_file
+
+RULES = "rules"
+# What a line of each form looks like. A comment of a rule file looks like none of them.
+MARKS = (("nft", r'\A\s*\{(?s:.)*"nftables"'), ("iptables", r"(?m)^\*[a-z]+\s*$"),
+         ("cisco", r"(?m)^\s*(ip access-list|ipv6 access-list|access-list)\s"), ("l3fwd", r"(?m)^R[0-9]"), (RULES, r"(?m)^[ \t]*@"))
+# Forms whose lists drop what no line of them matches, without a line that says so.
+DROPPING = ("cisco", "asa", "nxos", "iosxr", "juniper", "aws", "azure")
+SAID = re.compile(r"# (?:line|handle) (\d+)(?: \((\w+)\))?: (.*)")
+EVERYWHERE = {4: b"@0.0.0.0/0 0.0.0.0/0 0:65535 0:65535 0/0", 6: b"@::/0 ::/0 0:65535 0:65535 0/0"}
+Made = namedtuple("Made", "number text verdict boxes is_in_chain")
+
+
+class Entry:
+    """A line of a list as it was written, and the rules that say it. Boxes have what it matches by itself, if that is known."""
+
+    def __init__(self, what, number, text, verdict=None, boxes=None):
+        self.what, self.number, self.text, self.verdict, self.boxes = what, number, text, verdict, boxes
+        self.rules = []
+
+    def place(self):
+        return f"{self.what} {self.number}" if self.number else "the end"
+
+    def told(self):
+        """Where it stands, what it does and what it says."""
+        verdict = f" ({self.verdict})" if self.verdict else ""
+        return f"{self.place()}{verdict}: {self.text}"
+
+
+class AnyList:
+    """A list: its rules in the order of their places, and its entries in the order of its lines."""
+
+    def __init__(self, name, form, rules, entries):
+        self.name, self.form, self.rules, self.entries = name, form, rules, entries
+        self.entry_of = {rule.ordinal: entry for entry in entries for rule in entry.rules}
+        self.has_categories = any("cat" in rule.given for rule in rules)
+
+    def entry(self, rule):
+        return self.entry_of[rule.ordinal]
+
+
+def add_options(parser):
+    """The options of all tools that ask the program about a list: its form, which part of it is meant, and how to print."""
+    parser.add_argument("--csv", action="store_true")
+    parser.add_argument("--json", action="store_true")
+    parser.add_argument("--form", choices=[RULES, *FORMS])
+    for name in ("--chain", "--table", "--list"):
+        parser.add_argument(name)
+    parser.add_argument("--family", type=int, choices=(4, 6))
+    parser.add_argument("--lenient", action="store_true")
+    parser.add_argument("--max-words", metavar="W")
+
+
+def form_of(name, text, told):
+    """The form of a list: as it is told, or as its lines say."""
+    if told:
+        return told
+    found = [form for form, mark in MARKS if re.search(mark, text)]
+    if found == ["l3fwd", RULES]:
+        return "l3fwd"
+    if len(found) > 1:
+        leave(f"{name}: it has lines of more than one form: --form {' or --form '.join(found)} says which", 2)
+    if not found and any(line.strip() and not line.lstrip().startswith("#") for line in text.split("\n")):
+        leave(f"{name}: no form of a list is seen in it: --form says which it has, of {', '.join([RULES, *FORMS])}", 2)
+    return found[0] if found else RULES
+
+
+def read_list(name, given):
+    """The list of a file. What isn't read ends the tool with the reason."""
+    content = read_file(name, 2)
+    foreign = no_list(content)
+    if foreign and not given.form:
+        leave(f"{name}: {foreign[0].lower()}{foreign[1:]}", 2)
+    text = content.decode("utf-8-sig", "surrogateescape")
+    form = form_of(name, text, given.form)
+    return of_rule_file(name, content) if form == RULES else of_other(name, form, text, given)
+
+
+def of_rule_file(name, content):
+    rules, faults = rule_file.read_rules(content)
+    if faults:
+        raise Faulty(name, content, faults[0])
+    entries = []
+    for rule in rules:
+        entries.append(Entry("line", rule.line, " ".join(shown(rule.text).split())))
+        entries[-1].rules.append(rule)
+    return AnyList(name, RULES, rules, entries)
+
+
+class Faulty(Exception):
+    """A rule file that isn't read: its name, its bytes and its first fault."""
+
+    def __init__(self, name, content, fault):
+        super().__init__(name)
+        self.name, self.content, self.fault = name, content, fault
+
+
+def of_other(name, form, text, given):
+    """A list of another program, with what it does at its end where no line of it says that."""
+    options = argparse.Namespace(**{**vars(given), "form": form, "file": name})
+    what = FORMS[form][1]
+    try:
+        text.encode()
+        lines, left_out = rule_file_of(options, text)
+        made = reachable(options, text)
+    except lists.CantSay as said:
+        place = f"{name}: {what} {said.number}" if said.number else name
+        leave(f"{place}: {said.reason}" + (f"\n    {shown(said.text)}" if said.text else ""), 2)
+    except UnicodeEncodeError as error:
+        leave(f"{name}: character {error.start} of it isn't UTF-8", 2)
+    for rule in left_out:
+        note(f"{name}: {what} {rule.number}: left out: {rule.reason}\n    {shown(rule.text)}")
+    return with_entries(name, form, lines, made, text.split("\n") if what == "line" else None)
+
+
+def reachable(options, text):
+    """The rules that decide, of the chain that is meant and of all that it leads to."""
+    chains, chain, _ = FORMS[options.form][0].convert(text.split("\n"), options)
+    met, waiting, made = {chain}, [chain], []
+    while waiting:
+        here = chains[waiting.pop(0)]
+        for rule in here.rules:
+            if rule.target in chains and rule.target not in met:
+                met.add(rule.target)
+                waiting.append(rule.target)
+            if rule.verdict in (lists.ACCEPT, lists.DROP) and not rule.reason:
+                made.append(Made(rule.number, rule.text, rule.verdict, rule.boxes, here.name == chain))
+    return made
+
+
+def with_entries(name, form, lines, made, written):
+    """A list of the lines of its rule file, in which a comment before its rules says what each entry is."""
+    what, entries, here, rules = FORMS[form][1], {}, None, []
+    for rule in made:
+        boxes = rule.boxes if rule.is_in_chain else None
+        entries.setdefault((rule.number, rule.verdict), Entry(what, rule.number, rule.text, rule.verdict, boxes))
+    for place, line in enumerate(lines, 1):
+        said = SAID.fullmatch(line)
+        if said:
+            key = int(said.group(1)), said.group(2)
+            here = entries.setdefault(key, Entry(what, key[0], said.group(3), key[1]))
+        elif not line.startswith("#"):
+            rules.append(rule_file.read_rule(line.encode(), place, len(rules) + 1))
+            here.rules.append(rules[-1])
+    if form in DROPPING:
+        add_end(what, entries, rules, len(lines))
+    for entry in entries.values():
+        text = written[entry.number - 1] if written and entry.number else entry.text
+        entry.text = " ".join(shown(text).split())
+    listed = list(entries.values())
+    return AnyList(name, form, rules, sorted(listed, key=lambda it: it.number or len(lines)) if written else listed)
+
+
+def add_end(what, entries, rules, place):
+    """Adds what a list does with packets that no line of it matches."""
+    end = Entry(what, None, "what no line matches is dropped", lists.DROP)
+    for family in sorted({rule.family for rule in rules}):
+        place += 1
+        rules.append(rule_file.read_rule(EVERYWHERE[family] + b" data=0", place, len(rules) + 1))
+        end.rules.append(rules[-1])
+    entries[None] = end
