@@ -18,6 +18,8 @@ def no_list(content):
         return "This is a capture: the rule file is named first, and the capture second."
     if content[:2] == b"\x1f\x8b":
         return "This is a compressed file: unpack it by gunzip first."
+    if content[:4] == b"ACLT":
+        return "This is an image: replay answers by it, and all other commands read rule files."
     if b"\0" in content[:8]:
         return "The text is UTF-16 or no text: save the file as UTF-8."
     return None

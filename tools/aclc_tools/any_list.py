@@ -20,15 +20,18 @@ MARKS = (("nft", r'\A\s*\{(?s:.)*"nftables"'), ("iptables", r"(?m)^\*[a-z]+\s*$"
 DROPPING = ("cisco", "asa", "nxos", "iosxr", "juniper", "aws", "azure")
 SAID = re.compile(r"# (?:line|handle) (\d+)(?: \((\w+)\))?: (.*)")
 EVERYWHERE = {4: b"@0.0.0.0/0 0.0.0.0/0 0:65535 0:65535 0/0", 6: b"@::/0 ::/0 0:65535 0:65535 0/0"}
-Made = namedtuple("Made", "number text verdict boxes is_in_chain")
+Chains = namedtuple("Chains", "chains start families")
 
 
 class Entry:
-    """A line of a list as it was written, and the rules that say it. Boxes have what it matches by itself, if that is known."""
+    """A line of a list as it was written, and the rules that say it.
+
+    Boxes have what it matches by itself, if that is known. An end is a policy, or what a list does where no line says it.
+    """
 
     def __init__(self, what, number, text, verdict=None, boxes=None):
         self.what, self.number, self.text, self.verdict, self.boxes = what, number, text, verdict, boxes
-        self.rules = []
+        self.rules, self.is_end = [], False
 
     def place(self):
         return f"{self.what} {self.number}" if self.number else "the end"
@@ -40,12 +43,18 @@ class Entry:
 
 
 class AnyList:
-    """A list: its rules in the order of their places, and its entries in the order of its lines."""
+    """A list: its rules in the order of their places, and its entries in the order of its lines.
 
-    def __init__(self, name, form, rules, entries):
-        self.name, self.form, self.rules, self.entries = name, form, rules, entries
+    A list of another program has the entries also in the order in which packets come to them, and its chains, where a rule's
+    key of an entry is its number and its verdict.
+    """
+
+    def __init__(self, name, form, rules, entries, chains=None, by_key=None):
+        self.name, self.form, self.rules, self.entries, self.chains, self.by_key = name, form, rules, entries, chains, by_key
         self.entry_of = {rule.ordinal: entry for entry in entries for rule in entry.rules}
         self.has_categories = any("cat" in rule.given for rule in rules)
+        order = list(by_key.values()) if by_key else entries
+        self.order = {entry: place for place, entry in enumerate(order)}
 
     def entry(self, rule):
         return self.entry_of[rule.ordinal]
@@ -107,45 +116,55 @@ class Faulty(Exception):
         self.name, self.content, self.fault = name, content, fault
 
 
+def converted(options, text):
+    """The lines of a list's rule file, the rules that are left out of it, and its chains with the one that is meant."""
+    lines, left_out = rule_file_of(options, text)
+    return lines, left_out, Chains(*FORMS[options.form][0].convert(text.split("\n"), options))
+
+
 def of_other(name, form, text, given):
     """A list of another program, with what it does at its end where no line of it says that."""
     options = argparse.Namespace(**{**vars(given), "form": form, "file": name})
     what = FORMS[form][1]
     try:
         text.encode()
-        lines, left_out = rule_file_of(options, text)
-        made = reachable(options, text)
+        lines, left_out, chains = converted(options, text)
     except lists.CantSay as said:
         place = f"{name}: {what} {said.number}" if said.number else name
-        leave(f"{place}: {said.reason}" + (f"\n    {shown(said.text)}" if said.text else ""), 2)
+        leave(f"{place}: {said.reason}" + (f"\n    {said.text}" if said.text else ""), 2)
     except UnicodeEncodeError as error:
         leave(f"{name}: character {error.start} of it isn't UTF-8", 2)
     for rule in left_out:
-        note(f"{name}: {what} {rule.number}: left out: {rule.reason}\n    {shown(rule.text)}")
-    return with_entries(name, form, lines, made, text.split("\n") if what == "line" else None)
+        note(f"{name}: {what} {rule.number}: left out: {rule.reason}\n    {rule.text}")
+    return with_entries(name, form, lines, chains, text.split("\n") if what == "line" else None)
 
 
-def reachable(options, text):
-    """The rules that decide, of the chain that is meant and of all that it leads to."""
-    chains, chain, _ = FORMS[options.form][0].convert(text.split("\n"), options)
-    met, waiting, made = {chain}, [chain], []
+def deciding(chains):
+    """The rules that decide, of the chain that is meant and of all that it leads to, in the order in which packets come to them,
+    each with whether it stands in the chain that is meant."""
+    met, waiting = set(), [iter([(None, chains.start)])]
     while waiting:
-        here = chains[waiting.pop(0)]
-        for rule in here.rules:
-            if rule.target in chains and rule.target not in met:
-                met.add(rule.target)
-                waiting.append(rule.target)
-            if rule.verdict in (lists.ACCEPT, lists.DROP) and not rule.reason:
-                made.append(Made(rule.number, rule.text, rule.verdict, rule.boxes, here.name == chain))
-    return made
+        rule, target = next(waiting[-1], (None, None))
+        if rule and rule.verdict in (lists.ACCEPT, lists.DROP) and not rule.reason:
+            yield rule, len(waiting) == 2
+        if not rule and not target:
+            waiting.pop()
+        elif target in chains.chains and target not in met:
+            met.add(target)
+            waiting.append(iter([(it, it.target) for it in chains.chains[target].rules]))
 
 
-def with_entries(name, form, lines, made, written):
+def with_entries(name, form, lines, chains, written):
     """A list of the lines of its rule file, in which a comment before its rules says what each entry is."""
     what, entries, here, rules = FORMS[form][1], {}, None, []
-    for rule in made:
-        boxes = rule.boxes if rule.is_in_chain else None
-        entries.setdefault((rule.number, rule.verdict), Entry(what, rule.number, rule.text, rule.verdict, boxes))
+    for rule, is_in_chain in deciding(chains):
+        entry = Entry(what, rule.number, rule.text, rule.verdict, rule.boxes if is_in_chain else None)
+        entries.setdefault((rule.number, rule.verdict), entry)
+    policy = chains.chains[chains.start].policy
+    if policy and policy.verdict in (lists.ACCEPT, lists.DROP):
+        ends = [entries.setdefault((policy.number, policy.verdict), Entry(what, policy.number, policy.text, policy.verdict))]
+    else:
+        ends = []
     for place, line in enumerate(lines, 1):
         said = SAID.fullmatch(line)
         if said:
@@ -154,20 +173,24 @@ def with_entries(name, form, lines, made, written):
         elif not line.startswith("#"):
             rules.append(rule_file.read_rule(line.encode(), place, len(rules) + 1))
             here.rules.append(rules[-1])
-    if form in DROPPING:
-        add_end(what, entries, rules, len(lines))
+    if form in DROPPING and not ends:
+        ends.append(end_of(what, rules, len(lines)))
+        entries[None] = ends[0]
+    for entry in ends:
+        entry.is_end = True
     for entry in entries.values():
         text = written[entry.number - 1] if written and entry.number else entry.text
         entry.text = " ".join(shown(text).split())
     listed = list(entries.values())
-    return AnyList(name, form, rules, sorted(listed, key=lambda it: it.number or len(lines)) if written else listed)
+    listed = sorted(listed, key=lambda it: it.number or len(lines) + 1) if written else listed
+    return AnyList(name, form, rules, listed, chains, entries)
 
 
-def add_end(what, entries, rules, place):
-    """Adds what a list does with packets that no line of it matches."""
+def end_of(what, rules, place):
+    """What a list does with packets that no line of it matches; its rules are added to the others."""
     end = Entry(what, None, "what no line matches is dropped", lists.DROP)
     for family in sorted({rule.family for rule in rules}):
         place += 1
         rules.append(rule_file.read_rule(EVERYWHERE[family] + b" data=0", place, len(rules) + 1))
         end.rules.append(rules[-1])
-    entries[None] = end
+    return end

@@ -21,15 +21,21 @@ def foreign(content):
         return "It is a snoop file: editcap -F pcap FILE NEW makes a capture of it."
     if content.lstrip(b" \t\r\n")[:1] in (b"@", b"#"):
         return "It is a rule file: the rule file is named first, and the capture second."
+    if content[:4] == b"ACLT":
+        return "It is an image: replay reads it, before the capture."
+    if all(byte in b"\t\n\r" or 32 <= byte < 127 for byte in content):
+        return "It is a text: tcpdump -w FILE writes a capture, and without -w it prints lines."
     return "It is no capture: tcpdump -w FILE writes one."
 
 
 def begin(content):
     """The byte order of a savefile, its link type, and the unit of its times in nanoseconds."""
+    orders = [order for order in "<>" if len(content) >= 4 and struct.unpack(order + "I", content[:4])[0] in MAGICS]
+    if not len(content):
+        raise Fault(0, "header cut", "The file is empty: tcpdump writes what it holds back when it ends.")
     if len(content) < 24:
-        sentence = "The file is empty: tcpdump writes what it holds back when it ends." if not len(content) else foreign(content)
+        sentence = "The file ends within its header, which has 24 bytes: it was cut." if orders else foreign(content)
         raise Fault(0, "header cut", sentence)
-    orders = [order for order in "<>" if struct.unpack(order + "I", content[:4])[0] in MAGICS]
     if not orders:
         raise Fault(0, "magic", foreign(content))
     magic, major, minor, _, _, _, network = struct.unpack(orders[0] + "IHHIIII", content[:24])

@@ -1,7 +1,7 @@
 """Which rules of a list match a packet, and why those that match and don't decide lose."""
 import collections
 
-from aclc_tools import answers, capture, keys, packet_words
+from aclc_tools import answers, capture, keys, packet_words, walks
 from aclc_tools.program import leave
 
 NOTHING = "no rule matches"
@@ -56,31 +56,24 @@ def printed(packets, listed, categories, given, room):
     return [found[place] for place in range(len(packets))]
 
 
-def matching(listed, key):
-    """The rules that match a key, the one that wins first."""
-    matched = [rule for rule in listed.rules if rule.matches(key)] if key else []
-    return sorted(matched, key=lambda rule: (-rule.priority, rule.ordinal))
+def matching(listed, key, category):
+    """The entries that match a key in a category, each with a rule that says it or None, the one that decides first."""
+    if listed.chains:
+        rules = {listed.entry(rule): rule for rule in reversed(listed.rules) if rule.matches(key)}
+        return [(entry, rules.get(entry)) for entry in walks.way(listed, key)]
+    matched = [rule for rule in listed.rules if rule.matches(key) and rule.categories >> category & 1]
+    return [(listed.entry(rule), rule) for rule in sorted(matched, key=lambda rule: (-rule.priority, rule.ordinal))]
 
 
-def is_within(boxes, key):
-    """Whether a packet of this key is in one of the boxes."""
-    return any(box.family == key.family and all(any(low <= number <= high for low, high in side)
-                                                for side, number in zip(box[1:], key.numbers)) for box in boxes)
-
-
-def outcome(listed, packet, matched, category, number):
-    """The entries that match in a category, each with a rule that says it, the one that decides first; it has to be the program's."""
-    found = {}
-    for rule in matched:
-        if rule.categories >> category & 1:
-            found.setdefault(listed.entry(rule), rule)
-    first = next(iter(found.values()), None)
-    if number != (first.ordinal if first else None):
-        own, programs = (listed.entry(rule).place() if rule else NOTHING
-                         for rule in (first, listed.rules[number - 1] if number else None))
-        leave(f"{packet.name}: the program answers by another rule than this tool finds: by {programs}, and here it is {own}", 2)
-    late = [entry for entry in listed.entries if entry not in found and packet.key and is_within(entry.boxes or (), packet.key)]
-    return (*found.items(), *((entry, None) for entry in late))
+def outcome(listed, packet, category, number):
+    """The entries that match in a category, the one that decides first: it has to be that of the rule which the program names."""
+    found = matching(listed, packet.key, category) if packet.key else []
+    programs = listed.entry(listed.rules[number - 1]) if number else None
+    own = found[0][0] if found else None
+    if programs is not own:
+        told = [it.place() if it else NOTHING for it in (programs, own)]
+        leave(f"{packet.name}: the program answers by {told[0]}, and this tool finds {told[1]}", 2)
+    return tuple(found)
 
 
 def why(loser, winner):
@@ -99,10 +92,10 @@ def of_packet(listed, packet, printed_of, categories):
     kind, numbers = printed_of
     if kind != packet.kind:
         leave(f"{packet.name}: the program prints {kind} of it, and this tool reads it as {packet.kind}", 2)
-    matched, groups = matching(listed, packet.key), {}
+    groups = {}
     for category in categories:
         number = numbers[category] if packet.key else None
-        groups.setdefault(outcome(listed, packet, matched, category, number), []).append(category)
+        groups.setdefault(outcome(listed, packet, category, number), []).append(category)
     return [(group, found) for found, group in groups.items()]
 
 
