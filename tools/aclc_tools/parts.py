@@ -95,7 +95,7 @@ def cut(clipped, part, family):
     counted = []
     for pieces in filter(None, choices):
         counts = [sum(meet(it.part, piece, BITS[family]) is not None for it in clipped) for piece in pieces]
-        if max(counts) < len(clipped):
+        if min(counts) < len(clipped):
             counted.append((max(counts), sum(counts), pieces))
     return min(counted, key=lambda it: it[:2])[2] if counted else []
 

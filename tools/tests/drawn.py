@@ -10,36 +10,36 @@ from aclc_tools.program import TOP
 sys.path.insert(0, str(TOP / "examples" / "compare"))
 import reading
 
-NETWORKS = {4: ["0.0.0.0/0", "10.0.0.0/8", "10.0.0.0/31", "10.0.0.1/32", "10.128.0.0/9", "192.168.0.0/16"],
+NETWORKS = {4: ["0.0.0.0/0", "10.0.0.0/8", "10.0.0.1/32", "10.0.0.0/31", "10.128.0.0/9", "192.168.0.0/16"],
             6: ["::/0", "2001:db8::/32", "2001:db8::/127", "2001:db8::1/128"]}
-RANGES = ["0:65535", "0:65535", "80:80", "1024:65535", "0:1023", "81:1024", "0:0"]
-PROTOCOLS = ["0/0", "0/0", "6/0xFF", "17/0xFF", "1/0xFF", "6/0x0F", "58/0xFF", "132/0xFF"]
+RANGES = ["0:65535", "0:65535", "80:80", "0:1023", "1024:65535", "81:1024", "0:0"]
+PROTOCOLS = ["0/0", "0/0", "6/0xFF", "6/0x0F", "17/0xFF", "1/0xFF", "58/0xFF", "132/0xFF"]
 # Packets have these protocols, of which the rules tell some apart.
 SENT = (0, 1, 6, 17, 22, 58, 132)
 
 
-def rule_line(draw, with_categories):
-    """A line of a rule file, with attributes or without."""
+def rule_line(draw, with_categories, most=9):
+    """A line of a rule file, with attributes or without, of so many choices for each column at most."""
     family = draw.choice([4, 4, 4, 6])
-    words = [draw.choice(NETWORKS[family]), draw.choice(NETWORKS[family]), draw.choice(RANGES), draw.choice(RANGES), draw.choice(PROTOCOLS)]
+    words = [draw.choice(choices[:most]) for choices in (NETWORKS[family], NETWORKS[family], RANGES, RANGES, PROTOCOLS)]
     words += [f"pri={draw.randrange(4)}"] if draw.random() < 0.3 else []
     words += [f"cat={draw.randrange(1, 8)}"] if with_categories and draw.random() < 0.5 else []
     words += [f"data={draw.randrange(4)}"] if draw.random() < 0.5 else []
     return "@" + " ".join(words)
 
 
-def rule_lines(draw, most=8, with_categories=False):
+def rule_lines(draw, most=8, with_categories=False, choices=9):
     """The lines of a rule file, with comments and empty lines between the rules."""
     lines = []
     for _ in range(draw.randrange(1, most)):
-        lines += draw.choice([[], [], ["# a comment"], [""]]) + [rule_line(draw, with_categories)]
+        lines += draw.choice([[], [], ["# a comment"], [""]]) + [rule_line(draw, with_categories, choices)]
     return lines
 
 
-def edited(draw, lines):
+def edited(draw, lines, choices=9):
     """The lines with one of them left out, doubled, moved or drawn anew."""
     lines, at = list(lines), draw.randrange(len(lines))
-    lines[at:at + 1] = draw.choice([[], [lines[at]] * 2, [rule_line(draw, False)], ["# new", lines[at]]])
+    lines[at:at + 1] = draw.choice([[], [lines[at]] * 2, [rule_line(draw, False, choices)], ["# new", lines[at]]])
     if draw.random() < 0.3:
         draw.shuffle(lines)
     return lines
@@ -68,16 +68,23 @@ def plain(key):
     return key.family, key.protocol, key.source, key.destination, key.ports
 
 
-def matching(rules, key, category=0):
-    """The lines of the rules that match, the one that decides first."""
-    matched = [(rule, line) for rule, line in rules if rule[4][1] >> category & 1 and reading.matches(rule, plain(key))]
-    return [line for rule, line in sorted(matched, key=lambda it: -it[0][4][0])]
+def matching(rules, key):
+    """The rules that match, each with its line, the one that decides first; their categories have to be looked at."""
+    return sorted((it for it in rules if reading.matches(it[0], plain(key))), key=lambda it: -it[0][4][0])
 
 
-def answer(rules, key, category=0):
-    """The userdata of the rule that decides, or 0."""
-    decides = matching(rules, key, category)[:1]
-    return next((rule[4][2] for rule, line in rules if [line] == decides), 0)
+def lines_of(matched, category):
+    """The lines of those rules that are in a category."""
+    return [line for rule, line in matched if rule[4][1] >> category & 1]
+
+
+def answer(matched, category):
+    """The userdata of the rule that decides in a category, or 0."""
+    return next((rule[4][2] for rule, _ in matched if rule[4][1] >> category & 1), 0)
+
+
+def categories_of(*lists):
+    return range(16) if any("cat=" in line for lines in lists for line in lines) else [0]
 
 
 def corners(*lists):

@@ -105,8 +105,8 @@ class Explain(unittest.TestCase):
             asked = [explained.Asked("", 1, keys.frame(key), key, f"ip{key.family}") for key in near]
             categories, rules = answers.categories_of(given(), listed), drawn.read(lines)
             for key, groups in zip(near, self.explained(listed, asked, categories, given())):
-                told = {category: found for group, found in groups for category in group}
-                self.assertEqual(told, {it: drawn.matching(rules, key, it) for it in categories}, lines)
+                told, matched = {category: found for group, found in groups for category in group}, drawn.matching(rules, key)
+                self.assertEqual(told, {it: drawn.lines_of(matched, it) for it in categories}, lines)
 
     def test_drawn_lists_of_firewalls(self):
         draw = drawn.chances(2)
@@ -168,11 +168,11 @@ class Changes(unittest.TestCase):
             told = [(change.number, change.category, row["old_line"], row["new_line"], row["packet"]) for change, key
                     in CHANGES.all_changes(comparison) for row in [comparison.row(change, key)]]
             rules = [drawn.read(lines) for lines in lists]
-            categories = range(16) if "cat=" in drawn.text_of(lists[0] + lists[1]) else [0]
             expected = []
             for number, key in enumerate(near, 1):
-                odd = [it for it in categories if drawn.answer(rules[0], key, it) != drawn.answer(rules[1], key, it)]
-                lines = [(drawn.matching(its, key, odd[0]) or [None])[0] for its in rules] if odd else []
+                old, new = (drawn.matching(its, key) for its in rules)
+                odd = [it for it in drawn.categories_of(*lists) if drawn.answer(old, it) != drawn.answer(new, it)]
+                lines = [(drawn.lines_of(its, odd[0]) or [None])[0] for its in (old, new)] if odd else []
                 expected += [(number, odd[0], *lines, packet_words.words_of(key))] if odd else []
             self.assertEqual(told, expected, lists)
             self.assertEqual((comparison.packets, comparison.changed, sum(comparison.pairs.values())), (20, len(told), len(told)))
