@@ -60,7 +60,7 @@ class Dead(Alone):
 
     def test_drawn_lists_in_one_table_and_in_parts(self):
         draw, in_parts, found = drawn.chances(11), 0, 0
-        for turn in range(40):
+        for turn in range(24):
             lines = drawn.rule_lines(draw, 10, turn % 4 == 0, CHOICES)
             rules = drawn.read(lines)
             live = {line for key in drawn.corners(lines) for matched in [drawn.matching(rules, key)]
@@ -71,11 +71,13 @@ class Dead(Alone):
             self.assertEqual(set(told), {line for _, line in rules} - live, lines)
             for line, covering in told.items():
                 self.is_covered(lines, line, covering)
-            again, unknown, count = self.dead(listed, max_words=FEW_WORDS)
-            self.assertEqual(again, {line: told[line] for line in told if line not in unknown})
-            in_parts, found = in_parts + (count > 1 and len(again) > 0), found + len(told)
-        self.assertGreater(in_parts, 5)
-        self.assertGreater(found, 20)
+            found += len(told)
+            if turn % 3 == 1:
+                again, unknown, count = self.dead(listed, max_words=FEW_WORDS)
+                self.assertEqual(again, {line: told[line] for line in told if line not in unknown})
+                in_parts += count > 1 and len(again) > 0
+        self.assertGreater(in_parts, 1)
+        self.assertGreater(found, 12)
 
     def is_covered(self, lines, line, covering):
         """Whether the lines that are told match all packets of a dead line, and none of them can be left out."""
@@ -120,17 +122,19 @@ class Same(Alone):
 
     def test_drawn_edits_in_one_table_and_in_parts(self):
         draw, in_parts, differing = drawn.chances(12), 0, 0
-        for turn in range(30):
+        for turn in range(24):
             old = drawn.rule_lines(draw, 8, turn % 4 == 0, CHOICES)
             new = drawn.edited(draw, old, CHOICES)
             lists = [self.read(drawn.text_of(lines)) for lines in (old, new)]
             told = self.least(lists, "data")[0]
             self.assertEqual(told, self.expected(old, new), (old, new))
-            again, count = self.least(lists, "data", max_words=FEW_WORDS)
-            self.assertIn(again, (told, None))
-            in_parts, differing = in_parts + (count > 1), differing + bool(told)
-        self.assertGreater(in_parts, 5)
-        self.assertGreater(differing, 10)
+            differing += bool(told)
+            if turn % 3 == 1:
+                again, count = self.least(lists, "data", max_words=FEW_WORDS)
+                self.assertIn(again, (told, None))
+                in_parts += count > 1
+        self.assertGreater(in_parts, 1)
+        self.assertGreater(differing, 8)
 
     def test_codes_and_lines(self):
         code, lines, said = tool("same", OFFICE, EDITED)
