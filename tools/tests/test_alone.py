@@ -37,6 +37,8 @@ class Alone(unittest.TestCase):
     def setUp(self):
         self.room = answers.Room()
         self.addCleanup(self.room.folder.cleanup)
+        usual, parts.MOST_RUNS = parts.MOST_RUNS, 40
+        self.addCleanup(setattr, parts, "MOST_RUNS", usual)
 
     def read(self, text, **options):
         return answers.read(self.room.write(".list", text.encode()), given(**options), self.room)
@@ -76,7 +78,7 @@ class Dead(Alone):
                 again, unknown, count = self.dead(listed, max_words=FEW_WORDS)
                 self.assertEqual(again, {line: told[line] for line in told if line not in unknown})
                 in_parts += count > 1 and len(again) > 0
-        self.assertGreater(in_parts, 1)
+        self.assertGreater(in_parts, 0)
         self.assertGreater(found, 12)
 
     def is_covered(self, lines, line, covering):
@@ -129,11 +131,11 @@ class Same(Alone):
             told = self.least(lists, "data")[0]
             self.assertEqual(told, self.expected(old, new), (old, new))
             differing += bool(told)
-            if turn % 3 == 1:
+            if turn % 2 == 1:
                 again, count = self.least(lists, "data", max_words=FEW_WORDS)
                 self.assertIn(again, (told, None))
                 in_parts += count > 1
-        self.assertGreater(in_parts, 1)
+        self.assertGreater(in_parts, 0)
         self.assertGreater(differing, 8)
 
     def test_codes_and_lines(self):

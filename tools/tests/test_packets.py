@@ -98,7 +98,7 @@ class Explain(unittest.TestCase):
 
     def test_drawn_rule_files(self):
         draw = drawn.chances(1)
-        for turn in range(150):
+        for turn in range(80):
             lines = drawn.rule_lines(draw, with_categories=turn % 3 == 0)
             listed = answers.read(self.room.write(".rules", drawn.text_of(lines).encode()), given(), self.room)
             near = [drawn.key_of(packets.fields(listed.rules, draw)) for _ in range(12)]
@@ -110,7 +110,7 @@ class Explain(unittest.TestCase):
 
     def test_drawn_lists_of_firewalls(self):
         draw = drawn.chances(2)
-        for turn in range(60):
+        for turn in range(30):
             lines = drawn.firewall(draw, draw.randrange(1, 12))
             text, first, end = [(drawn.as_cisco(lines), 1, None), (drawn.as_iptables(lines), 3, 3)][turn % 2]
             listed = answers.read(self.room.write(".list", text.encode()), given(), self.room)
@@ -157,7 +157,7 @@ class Changes(unittest.TestCase):
 
     def test_drawn_edits(self):
         draw, changed = drawn.chances(4), 0
-        for turn in range(80):
+        for turn in range(50):
             old = drawn.rule_lines(draw, with_categories=turn % 4 == 0)
             lists = old, drawn.edited(draw, old)
             names = [self.room.write(".rules", drawn.text_of(lines).encode()) for lines in lists]
@@ -177,7 +177,7 @@ class Changes(unittest.TestCase):
             self.assertEqual(told, expected, lists)
             self.assertEqual((comparison.packets, comparison.changed, sum(comparison.pairs.values())), (20, len(told), len(told)))
             changed += len(told)
-        self.assertGreater(changed, 60)
+        self.assertGreater(changed, 40)
 
     def test_codes_and_lines(self):
         new = self.room.write(".rules", b"".join(line for line in OFFICE.read_bytes().splitlines(True) if b"data=102" not in line))
