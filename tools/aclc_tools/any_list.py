@@ -18,8 +18,11 @@ MARKS = (("nft", r'\A\s*\{(?s:.)*"nftables"'), ("iptables", r"(?m)^\*[a-z]+\s*$"
          ("cisco", r"(?m)^\s*(ip access-list|ipv6 access-list|access-list)\s"), ("l3fwd", r"(?m)^R[0-9]"), (RULES, r"(?m)^[ \t]*@"))
 # Forms whose lists drop what no line of them matches, without a line that says so.
 DROPPING = ("cisco", "asa", "nxos", "iosxr", "juniper", "aws", "azure")
-SAID = re.compile(r"# (?:line|handle) (\d+)(?: \((\w+)\))?: (.*)")
+SAID = re.compile(r"# [a-z]+ (\d+)(?: \((\w+)\))?: (.*)")
 EVERYWHERE = {4: b"@0.0.0.0/0 0.0.0.0/0 0:65535 0:65535 0/0", 6: b"@::/0 ::/0 0:65535 0:65535 0/0"}
+STANDARD_INPUT = "-", "/dev/stdin", "/proc/self/fd/0", "/dev/fd/0"
+# Options that mean nothing for a rule file.
+OF_OTHERS = "chain", "table", "list", "family", "lenient", "assume"
 Chains = namedtuple("Chains", "chains start families")
 
 
@@ -62,14 +65,25 @@ class AnyList:
 
 def add_options(parser):
     """The options of all tools that ask the program about a list: its form, which part of it is meant, and how to print."""
-    parser.add_argument("--csv", action="store_true")
-    parser.add_argument("--json", action="store_true")
+    printed = parser.add_mutually_exclusive_group()
+    for name in ("--csv", "--json"):
+        printed.add_argument(name, action="store_true")
     parser.add_argument("--form", choices=[RULES, *FORMS])
     for name in ("--chain", "--table", "--list"):
         parser.add_argument(name)
     parser.add_argument("--family", type=int, choices=(4, 6))
     parser.add_argument("--lenient", action="store_true")
     parser.add_argument("--max-words", metavar="W")
+
+
+def check_words(given, names, lists):
+    """Refuses what would be ignored: standard input named twice, and options of other lists beside rule files alone."""
+    if sum(name in STANDARD_INPUT for name in names) > 1:
+        leave("standard input is named twice, and can be read once", 2)
+    if all(listed.form == RULES for listed in lists):
+        for option in OF_OTHERS:
+            if getattr(given, option, None):
+                leave(f"--{option} is for lists of other programs, and {lists[0].name} is a rule file", 2)
 
 
 def form_of(name, text, told):
@@ -82,7 +96,8 @@ def form_of(name, text, told):
     if len(found) > 1:
         leave(f"{name}: it has lines of more than one form: --form {' or --form '.join(found)} says which", 2)
     if not found and any(line.strip() and not line.lstrip().startswith("#") for line in text.split("\n")):
-        leave(f"{name}: no form of a list is seen in it: --form says which it has, of {', '.join([RULES, *FORMS])}", 2)
+        leave(f"{name}: no form of a list is seen in it: --form says which it has, of {', '.join([RULES, *FORMS])}."
+              " A list of nftables is written by nft -j list ruleset", 2)
     return found[0] if found else RULES
 
 
@@ -101,9 +116,11 @@ def of_rule_file(name, content):
     rules, faults = rule_file.read_rules(content)
     if faults:
         raise Faulty(name, content, faults[0])
+    if not rules:
+        note(f"{name}: there is no rule in it")
     entries = []
     for rule in rules:
-        entries.append(Entry("line", rule.line, " ".join(shown(rule.text).split())))
+        entries.append(Entry("line", rule.line, shown(b" ".join(rule.text.split()))))
         entries[-1].rules.append(rule)
     return AnyList(name, RULES, rules, entries)
 
@@ -180,9 +197,9 @@ def with_entries(name, form, lines, chains, written):
         entry.is_end = True
     for entry in entries.values():
         text = written[entry.number - 1] if written and entry.number else entry.text
-        entry.text = " ".join(shown(text).split())
+        entry.text = shown(" ".join(text.split()))
     listed = list(entries.values())
-    listed = sorted(listed, key=lambda it: it.number or len(lines) + 1) if written else listed
+    listed = sorted(listed, key=lambda it: (it.number is None, it.number)) if written else listed
     return AnyList(name, form, rules, listed, chains, entries)
 
 

@@ -1,7 +1,7 @@
 """Two lists beside each other: which rules of them decide a packet, and whether that is a change."""
 from collections import namedtuple
 
-from aclc_tools import answers, labels, packet_words
+from aclc_tools import answers, any_list, labels, packet_words
 from aclc_tools.printing import shown
 
 COLUMNS = ["category", "old", "old_line", "old_rule", "new", "new_line", "new_rule"]
@@ -14,6 +14,7 @@ class TwoLists:
 
     def __init__(self, given, room):
         self.lists = [answers.read(name, given, room) for name in (given.old, given.new)]
+        any_list.check_words(given, [given.old, given.new, *getattr(given, "captures", ())], self.lists)
         self.data = labels.chosen(given, *self.lists)
         self.labels = [labels.of_list(listed, self.data) for listed in self.lists]
         self.copies = [room.write(".rules", answers.numbered(listed.rules)) for listed in self.lists]
