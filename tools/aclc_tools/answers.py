@@ -1,6 +1,7 @@
 """What the program answers: which rules of a list decide the packets of a capture, and what it says of lists alone.
 
-The program gets a copy of the list whose userdata is the number of the rule, so that rules of equal userdata are told apart.
+The program gets a copy of the list whose userdata is the number of the rule, so that rules of equal userdata are told
+apart.
 """
 import mmap
 import os
@@ -113,8 +114,8 @@ def words_more(given):
 
 
 def classified(listed, copy, packets, categories, given):
-    """What the program answers to each record by the copy of a list: its kind, and in each category the number of a rule or
-    None; then `packets` and the program's last line."""
+    """What the program answers to each record by the copy of a list: its kind, and in each category the number of a
+    rule or None; then `packets` and the program's last line."""
     last = None
     try:
         for parts in lines_of("classify", copy, packets, f"categories={categories}", "marks=on", *words_more(given)):
@@ -123,7 +124,8 @@ def classified(listed, copy, packets, categories, given):
             else:
                 yield parts[1], [None if it == "-" else int(it) for it in parts[2:]]
     except Refusal as refusal:
-        raise Refusal(refusal.code, f"{listed.name}: {refusal.message}" if refusal.is_of_list() else refusal.message) from None
+        raise Refusal(refusal.code,
+                      f"{listed.name}: {refusal.message}" if refusal.is_of_list() else refusal.message) from None
     if last is None:
         raise Refusal(0, f"{listed.name}: the program's last line is missing")
     yield "packets", last

@@ -15,7 +15,8 @@ from aclc_tools.program import leave, note, read_file
 RULES = "rules"
 # What a line of each form looks like. A comment of a rule file looks like none of them.
 MARKS = (("nft", r'\A\s*\{(?s:.)*"nftables"'), ("iptables", r"(?m)^\*[a-z]+\s*$"),
-         ("cisco", r"(?m)^\s*(ip access-list|ipv6 access-list|access-list)\s"), ("l3fwd", r"(?m)^R[0-9]"), (RULES, r"(?m)^[ \t]*@"))
+         ("cisco", r"(?m)^\s*(ip access-list|ipv6 access-list|access-list)\s"), ("l3fwd", r"(?m)^R[0-9]"),
+         (RULES, r"(?m)^[ \t]*@"))
 # Forms whose lists drop what no line of them matches, without a line that says so.
 DROPPING = ("cisco", "asa", "nxos", "iosxr", "juniper", "aws", "azure")
 SAID = re.compile(r"# [a-z]+ (\d+)(?: \((\w+)\))?: (.*)")
@@ -29,7 +30,7 @@ Chains = namedtuple("Chains", "chains start families")
 class Entry:
     """A line of a list as it was written, and the rules that say it.
 
-    Boxes have what it matches by itself, if that is known. An end is a policy, or what a list does where no line says it.
+    Boxes have what it matches by itself, if that is known. An end is a policy, or what a list does if no line matches.
     """
 
     def __init__(self, what, number, text, verdict=None, boxes=None):
@@ -48,12 +49,13 @@ class Entry:
 class AnyList:
     """A list: its rules in the order of their places, and its entries in the order of its lines.
 
-    A list of another program has the entries also in the order in which packets come to them, and its chains, where a rule's
-    key of an entry is its number and its verdict.
+    A list of another program has its chains, and the entries also in the order in which packets come to them, each
+    under the number and the verdict of its rules.
     """
 
     def __init__(self, name, form, rules, entries, chains=None, by_key=None):
-        self.name, self.form, self.rules, self.entries, self.chains, self.by_key = name, form, rules, entries, chains, by_key
+        self.name, self.form, self.rules, self.entries = name, form, rules, entries
+        self.chains, self.by_key = chains, by_key
         self.entry_of = {rule.ordinal: entry for entry in entries for rule in entry.rules}
         self.has_categories = any("cat" in rule.given for rule in rules)
         order = list(by_key.values()) if by_key else entries
@@ -64,7 +66,7 @@ class AnyList:
 
 
 def add_options(parser):
-    """The options of all tools that ask the program about a list: its form, which part of it is meant, and how to print."""
+    """The options of all tools that ask the program about a list: its form, what of it is meant, and how to print."""
     printed = parser.add_mutually_exclusive_group()
     for name in ("--csv", "--json"):
         printed.add_argument(name, action="store_true")
@@ -157,8 +159,8 @@ def of_other(name, form, text, given):
 
 
 def deciding(chains):
-    """The rules that decide, of the chain that is meant and of all that it leads to, in the order in which packets come to them,
-    each with whether it stands in the chain that is meant."""
+    """The rules that decide, of the chain that is meant and of all that it leads to, in the order in which packets come
+    to them, each with whether it stands in the chain that is meant."""
     met, waiting = set(), [iter([(None, chains.start)])]
     while waiting:
         rule, target = next(waiting[-1], (None, None))
@@ -179,7 +181,8 @@ def with_entries(name, form, lines, chains, written):
         entries.setdefault((rule.number, rule.verdict), entry)
     policy = chains.chains[chains.start].policy
     if policy and policy.verdict in (lists.ACCEPT, lists.DROP):
-        ends = [entries.setdefault((policy.number, policy.verdict), Entry(what, policy.number, policy.text, policy.verdict))]
+        ends = [entries.setdefault((policy.number, policy.verdict),
+                                   Entry(what, policy.number, policy.text, policy.verdict))]
     else:
         ends = []
     for place, line in enumerate(lines, 1):

@@ -41,7 +41,8 @@ def record_of(order, content, at, total, interfaces, number):
     """The record of an enhanced packet."""
     place, high, low, captured, length = struct.unpack(order + "IIIII", content[at + 8:at + 28])
     if place >= len(interfaces):
-        raise Fault(number, "no interface", f"The packet is of interface {place}, and {len(interfaces)} stand before it in its section.")
+        raise Fault(number, "no interface",
+                    f"The packet is of interface {place}, and {len(interfaces)} stand before it in its section.")
     link, units, offset = interfaces[place]
     if link not in LINKS:
         raise Fault(number, "interface link type", link_sentence("The interface's", link))
@@ -75,7 +76,8 @@ def records(content):
     while at < len(content):
         number, left = count + 1, len(content) - at
         if count == MOST_RECORDS or read == MOST_BLOCKS:
-            raise Fault(number, "too many", f"A capture has at most {MOST_RECORDS} packets and {MOST_BLOCKS} blocks: divide it.")
+            raise Fault(number, "too many",
+                        f"A capture has at most {MOST_RECORDS} packets and {MOST_BLOCKS} blocks: divide it.")
         if left < 12:
             raise Fault(number, "block cut", ENDS)
         kind, = struct.unpack(order + "I", content[at:at + 4])
@@ -108,5 +110,7 @@ def block(kind, body):
 
 def write(frames, link=1):
     """A pcapng capture of these frames: a section, an interface and a packet for each frame."""
-    start = block(SECTION_TYPE, struct.pack("<IHHq", 0x1A2B3C4D, 1, 0, -1)) + block(INTERFACE, struct.pack("<HHI", link, 0, MOST_CAPTURED))
-    return start + b"".join(block(PACKET, struct.pack("<IIIII", 0, 0, 0, len(frame), len(frame)) + frame) for frame in frames)
+    start = block(SECTION_TYPE, struct.pack("<IHHq", 0x1A2B3C4D, 1, 0,
+                                            -1)) + block(INTERFACE, struct.pack("<HHI", link, 0, MOST_CAPTURED))
+    return start + b"".join(block(PACKET, struct.pack("<IIIII", 0, 0, 0, len(frame), len(frame)) + frame)
+                            for frame in frames)

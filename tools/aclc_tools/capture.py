@@ -61,7 +61,8 @@ def records_with_times(content):
             raise Fault(count, "cut", "The file ends within this record: it is still being written, or was cut.")
         seconds, part, captured, length = struct.unpack(order + "IIII", header)
         if captured > MOST_CAPTURED:
-            raise Fault(count, "too long", f"The record claims {captured} bytes: the file is damaged here, or one before it is.")
+            raise Fault(count, "too long",
+                        f"The record claims {captured} bytes: the file is damaged here, or one before it is.")
         at += 16 + captured
         if at > len(content):
             raise Fault(count, "cut", "The file ends within this record: it is still being written, or was cut.")

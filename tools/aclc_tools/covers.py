@@ -1,7 +1,7 @@
 """Which earlier rules cover one that decides nothing: the fewest of them that are found.
 
-What is left of a rule is a list of pieces: a bit for each protocol, and intervals of addresses and ports. Keys that no packet
-has are left out from the first.
+What is left of a rule is a list of pieces: a bit for each protocol, and intervals of addresses and ports. Keys that no
+packet has are left out from the first.
 """
 from collections import namedtuple
 from functools import lru_cache
@@ -46,7 +46,8 @@ def of_packets(piece):
 
 def meets(one, other):
     """Whether two pieces have a key in common."""
-    return one.protocols & other.protocols and all(max(a[0], b[0]) <= min(a[1], b[1]) for a, b in zip(one[1:], other[1:]))
+    return one.protocols & other.protocols and all(max(a[0], b[0]) <= min(a[1], b[1])
+                                                   for a, b in zip(one[1:], other[1:]))
 
 
 def without(piece, other):

@@ -44,7 +44,7 @@ def of_record(name, record):
 
 
 def printed(packets, listed, categories, given, room):
-    """What the program prints of each packet: its kind, and in each category the number of the rule that decides, or None."""
+    """What the program prints of each packet: its kind, and in each category the deciding rule's number, or None."""
     copy, found = room.write(".rules", answers.numbered(listed.rules)), {}
     for link in sorted({it.link for it in packets}):
         mine = [place for place, it in enumerate(packets) if it.link == link]
@@ -66,7 +66,7 @@ def matching(listed, key, category):
 
 
 def outcome(listed, packet, category, number):
-    """The entries that match in a category, the one that decides first: it has to be that of the rule which the program names."""
+    """The entries that match in a category, the one that decides first: it has to be the one of the program's rule."""
     found = matching(listed, packet.key, category) if packet.key else []
     programs = listed.entry(listed.rules[number - 1]) if number else None
     own = found[0][0] if found else None
@@ -105,7 +105,8 @@ def rows_of(packet, group, found):
     base = dict.fromkeys(("outcome", "place", "line", "verdict", "userdata", "rule", "why"))
     base.update(packet=packet.name, words=words, categories=group)
     if not found:
-        yield {**base, "outcome": "unmatched", "why": NOTHING if packet.key else f"a packet that is {packet.kind} has no rule"}
+        yield {**base, "outcome": "unmatched",
+               "why": NOTHING if packet.key else f"a packet that is {packet.kind} has no rule"}
     for place, (entry, rule) in enumerate(found):
         yield {**base, "outcome": "loses" if place else "decides", "place": entry.place(), "line": entry.number,
                "verdict": entry.verdict, "userdata": rule.userdata if rule else None, "rule": entry.text,

@@ -53,7 +53,8 @@ def of_bytes(content):
     if len(content) not in SIZES:
         return None
     size = SIZES[len(content)]
-    return Key(content[0], content[1:1 + size], content[1 + size:1 + 2 * size], struct.unpack(">HH", content[1 + 2 * size:]))
+    return Key(content[0], content[1:1 + size], content[1 + size:1 + 2 * size],
+               struct.unpack(">HH", content[1 + 2 * size:]))
 
 
 def of_digits(text):
@@ -68,7 +69,8 @@ def payload(key):
     """What follows the headers of the packet: the head of a TCP, UDP or SCTP packet, and else nothing."""
     if key.protocol not in WITH_PORTS:
         return b""
-    rest = {6: struct.pack(">IIBBHHH", 0, 0, 0x50, 0, 0, 0, 0), 17: struct.pack(">HH", 8, 0), 132: bytes(8)}[key.protocol]
+    rest = {6: struct.pack(">IIBBHHH", 0, 0, 0x50, 0, 0, 0, 0), 17: struct.pack(">HH", 8, 0),
+            132: bytes(8)}[key.protocol]
     return struct.pack(">HH", *key.ports) + rest
 
 

@@ -21,7 +21,7 @@ def chosen(given, old, new):
     if given.data == "verdict" and any(own):
         leave(f"{(old if own[0] else new).name}: a rule file has no verdicts: --data data compares its userdata", 2)
     if not given.data and own[0] != own[1]:
-        leave("one list is a rule file, and the other is of another program: --data data compares the numbers that aclc prints", 2)
+        leave("one list is a rule file, and the other isn't: --data data compares the numbers that aclc prints", 2)
     return given.data or ("data" if own[0] else "verdict")
 
 
@@ -30,7 +30,8 @@ def text_label(rule, entry):
     if entry.verdict:
         return f"{entry.verdict} {COUNTS.sub('', entry.text)}"
     value, mask = rule.protocol
-    columns = rule.family, *rule.intervals(), (value & mask, mask), rule.given.get("pri"), rule.categories, rule.given.get("data")
+    columns = rule.family, *rule.intervals(), (value & mask,
+                                               mask), rule.given.get("pri"), rule.categories, rule.given.get("data")
     return " ".join(map(str, columns))
 
 

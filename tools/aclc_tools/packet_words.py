@@ -1,4 +1,4 @@
-"""Packets in words, as `tcp 10.0.0.5:4000 -> 10.1.0.1:443`: read from what a user types, and written for what is printed."""
+"""Packets in words, as `tcp 10.0.0.5:4000 -> 10.1.0.1:443`: read as a user types them, and written to be printed."""
 import ipaddress
 import re
 
@@ -64,7 +64,7 @@ def typed(text):
         return of_key(digits)
     words = text.replace("->", " -> ").split()
     if len(words) != 4 or words[2] != "->":
-        raise NoPacket(f"it is no packet: write it in quotes, as '{EXAMPLE}', a key of 26 or 74 digits, or CAPTURE#NUMBER")
+        raise NoPacket(f"it is no packet: write it in quotes, as '{EXAMPLE}', or a key of 26 or 74 digits, or FILE#N")
     (source, source_port), (destination, destination_port) = end_of(words[1]), end_of(words[3])
     if source.version != destination.version:
         raise NoPacket("source and destination are of different families")

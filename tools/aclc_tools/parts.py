@@ -1,7 +1,8 @@
 """Parts of all keys, so that a list whose table is too large is looked at part by part.
 
-A part has a family, and like a rule a protocol with its mask, two networks and two ranges of ports. A rule is clipped to it:
-what is left matches the keys of the part that the rule matches. Parts are cut until the program takes their tables.
+A part has a family, and like a rule a protocol with its mask, two networks and two ranges of ports. A rule is clipped
+to it: what is left matches the keys of the part that the rule matches. Parts are cut until the program takes their
+tables.
 """
 from collections import namedtuple
 
@@ -45,7 +46,8 @@ def both_ranges(one, other):
 def meet(one, other, bits):
     """The part that two parts have in common, or None."""
     found = Part(both_protocols(one.protocol, other.protocol), both_networks(one.source, other.source, bits),
-                 both_networks(one.destination, other.destination, bits), both_ranges(one.source_ports, other.source_ports),
+                 both_networks(one.destination, other.destination, bits),
+                 both_ranges(one.source_ports, other.source_ports),
                  both_ranges(one.destination_ports, other.destination_ports))
     return None if None in found else found
 
@@ -63,7 +65,7 @@ def by_bit(part, bit):
 
 
 def by_network(clipped, part, family, side):
-    """A part cut by the bits of a network down to the first one that separates rules: both halves, and all that was cut off."""
+    """A part cut by the bits of a network down to the first that separates rules: both halves, and what was cut off."""
     (address, length), values, cut_off = getattr(part, side), [getattr(it.part, side) for it in clipped], []
     address = address >> BITS[family] - length << BITS[family] - length
     while length < BITS[family]:
@@ -82,7 +84,8 @@ def by_network(clipped, part, family, side):
 def by_ports(clipped, part, side):
     """A part cut in two where ranges of rules begin or end: at that of these ports that stands in the middle."""
     low, high = getattr(part, side)
-    ends = {end for it in clipped for end in (getattr(it.part, side)[0], getattr(it.part, side)[1] + 1) if low < end <= high}
+    ends = {end for it in clipped for end in (getattr(it.part, side)[0], getattr(it.part, side)[1] + 1)
+            if low < end <= high}
     middle = sorted(ends)[len(ends) // 2] if ends else None
     return [part._replace(**{side: it}) for it in ((low, middle - 1), (middle, high))] if ends else []
 
@@ -110,8 +113,8 @@ def line(family, part, data, priority, categories):
 
 
 def rule_file(family, part, clipped, of_packets, data=None):
-    """The bytes of a rule file of what is left of rules in a part: with their numbers as userdata, or with what stands under
-    these. Keys that no packet has are decided before all rules, where only those of packets are looked at."""
+    """The bytes of a rule file of what is left of rules in a part: with their numbers as userdata, or with what stands
+    under these. Keys that no packet has are decided before all rules, if only those of packets are looked at."""
     lines = [it.encode() for it in of_no_packet(family, part)] if of_packets else []
     for it in clipped:
         number = data[it.rule.ordinal] if data else it.rule.ordinal
@@ -125,7 +128,8 @@ def of_no_packet(family, part):
     every, rest = 0xFFFF, (1, 0xFFFF)
     for value, mask in boxes.masks(boxes.without(0xFF, [(it, it) for it in WITH_PORTS])):
         for ports in ((rest, (0, every)), ((0, 0), rest)):
-            met = meet(WHOLE._replace(protocol=(value, mask), source_ports=ports[0], destination_ports=ports[1]), part, BITS[family])
+            met = meet(WHOLE._replace(protocol=(value, mask), source_ports=ports[0], destination_ports=ports[1]), part,
+                       BITS[family])
             if met:
                 yield line(family, met, 0, 536870911, 0xFFFF)
 
@@ -134,19 +138,21 @@ def words(family, part):
     """A part in words."""
     value, mask = part.protocol
     text = line(family, part, 0, 0, 1).split()
-    return f"IPv{family}, protocol {value & mask:#04x}/{mask:#04x}, {text[0][1:]} to {text[1]}, ports {text[2]} to {text[3]}"
+    ends = f"{text[0][1:]} to {text[1]}, ports {text[2]} to {text[3]}"
+    return f"IPv{family}, protocol {value & mask:#04x}/{mask:#04x}, {ends}"
 
 
 class Search:
     """Looks at all keys of a family, in parts where the program refuses the whole.
 
-    `look` gets the part, the rules of all lists that are left in it, and whether the keys that no packet has are left out. It
-    asks the program, and says whether the part has to be looked at once more without these keys.
+    `look` gets the part, the rules of all lists that are left in it, and whether keys that no packet has are left
+    out. It asks the program, and says whether the part has to be looked at once more without these keys.
     """
 
     def __init__(self, family, lists, look):
         self.family, self.look = family, look
-        self.rules = [Clipped(rule, owner, of_rule(rule)) for owner, rules in enumerate(lists) for rule in rules if rule.family == family]
+        self.rules = [Clipped(rule, owner, of_rule(rule)) for owner, rules in enumerate(lists) for rule in rules
+                      if rule.family == family]
         self.left, self.runs, self.parts, self.message = [], 0, 0, ""
 
     def run(self):

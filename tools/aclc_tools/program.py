@@ -19,7 +19,7 @@ class Ran:
 
 
 def program():
-    """What starts the program: what ACLC names, what a build left, aclc on the path, or the script of the repository."""
+    """What starts the program: what ACLC names, what a build left, aclc on the path, or this repository's script."""
     named = os.environ.get("ACLC") or built_program() or shutil.which("aclc")
     return str(named or TOP / "aclc")
 

@@ -10,7 +10,7 @@ Change = namedtuple("Change", "capture number category old new")
 
 
 class TwoLists:
-    """An old and a new list, what counts as their answers, and copies of them whose userdata are the numbers of the rules."""
+    """An old and a new list, what counts as their answers, and copies of them whose userdata are the rules' numbers."""
 
     def __init__(self, given, room):
         self.lists = [answers.read(name, given, room) for name in (given.old, given.new)]
@@ -25,11 +25,13 @@ class TwoLists:
 
     def rules(self, change):
         """The rules that decide, each of its list or None."""
-        return [listed.rules[number - 1] if number else None for listed, number in zip(self.lists, (change.old, change.new))]
+        return [listed.rules[number - 1] if number else None
+                for listed, number in zip(self.lists, (change.old, change.new))]
 
     def row(self, change, key=None):
         """What is told of a change, or of a pair of rules where no packet is named."""
-        row = {"capture": change.capture, "number": change.number, "packet": packet_words.words_of(key) if key else None,
+        row = {"capture": change.capture, "number": change.number,
+               "packet": packet_words.words_of(key) if key else None,
                "category": change.category}
         for side, listed, rule, own in zip(("old", "new"), self.lists, self.rules(change), self.labels):
             entry = listed.entry(rule) if rule else None

@@ -9,8 +9,8 @@ def is_within(boxes, key):
 
 
 def way(listed, key):
-    """The entries that match a packet in the order in which it comes to them: the first one decides, and the others would
-    without those before them."""
+    """The entries that match a packet, in the order in which it comes to them: the first one decides, and the others
+    would without those before them."""
     found = []
     if key.family not in listed.chains.families:
         return found

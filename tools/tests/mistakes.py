@@ -1,7 +1,8 @@
 """Mistakes that people make, each with what the program says of it.
 
 The first text of a row stands in docs/MISTAKES.md under the message. RULES are lines of a rule file after a lawful one,
-CAPTURES the bytes of a capture, WORDS the words of a command, IMAGES a change of an image, and REPLIES the lines of a script.
+CAPTURES the bytes of a capture, WORDS the words of a command, IMAGES a change of an image, and REPLIES lines
+of a script.
 """
 import struct
 
@@ -28,26 +29,31 @@ RULES = [
     ("bad address", "the name of a host", b"@server/32 0.0.0.0/0 0:65535 80:80 6/0xFF", "names aren't looked up"),
     ("bad address", "a negation", b"@!10.0.0.0/8 0.0.0.0/0 0:65535 80:80 6/0xFF", "no negation"),
     ("bad address", "a second @", b"@10.0.0.0/8 @0.0.0.0/0 0:65535 80:80 6/0xFF", "Only the source"),
-    ("bad address", "brackets around an IPv6 address", b"@[2001:db8::1]/128 ::/0 0:65535 80:80 6/0xFF", "without brackets"),
+    ("bad address", "brackets around an IPv6 address", b"@[2001:db8::1]/128 ::/0 0:65535 80:80 6/0xFF",
+     "without brackets"),
     ("bad address", "a zone", b"@fe80::1%eth0/64 ::/0 0:65535 80:80 6/0xFF", "no zone"),
     ("bad address", "a range of addresses", b"@10.0.0.1-10.0.0.9 0.0.0.0/0 0:65535 80:80 6/0xFF", "one rule for each"),
     ("bad address", "the destination is missing", b"@10.0.0.0/8", "The line ends"),
     ("bad prefix", "a host without its prefix length", b"@10.0.0.1 0.0.0.0/0 0:65535 80:80 6/0xFF", "10.0.0.1/32"),
-    ("bad prefix", "a mask in place of the prefix length", b"@10.0.0.0/255.0.0.0 0.0.0.0/0 0:65535 80:80 6/0xFF", "10.0.0.0/8"),
+    ("bad prefix", "a mask in place of the prefix length", b"@10.0.0.0/255.0.0.0 0.0.0.0/0 0:65535 80:80 6/0xFF",
+     "10.0.0.0/8"),
     ("bad prefix", "a wildcard mask", b"@10.0.0.0/0.255.255.255 0.0.0.0/0 0:65535 80:80 6/0xFF", "10.0.0.0/8"),
     ("bad prefix", "more bits than the address has", b"@10.0.0.0/33 0.0.0.0/0 0:65535 80:80 6/0xFF", "at most 32"),
     ("bad prefix", "two networks, or the columns of CSV, with a comma between them",
      b"@10.0.0.0/8,192.168.0.0/16 0.0.0.0/0 0:65535 80:80 6/0xFF", "a rule for each network"),
-    ("bad prefix", "two networks, or the columns of CSV, with a comma between them", b"@" + LINE[1:].replace(b" ", b","),
+    ("bad prefix", "two networks, or the columns of CSV, with a comma between them",
+     b"@" + LINE[1:].replace(b" ", b","),
      "blanks between columns"),
     ("bad prefix", "a no-break space or another character that only looks like a blank",
      NETWORKS.replace(b"8 ", b"8\xc2\xa0"), "no-break"),
-    ("mixed families", "anywhere of the other family", b"@10.0.0.0/8 ::/0 0:65535 80:80 6/0xFF", "both IPv4 or both IPv6"),
+    ("mixed families", "anywhere of the other family", b"@10.0.0.0/8 ::/0 0:65535 80:80 6/0xFF",
+     "both IPv4 or both IPv6"),
     ("bad ports", "a dash in place of the colon", NETWORKS + b"0:65535 80-90 6/0xFF", "80 : 90"),
     ("bad ports", "the name of a service", NETWORKS + b"0:65535 http 6/0xFF", "80 : 80"),
     ("bad ports", "`any` in place of ports", NETWORKS + b"any 80:80 6/0xFF", "0 : 65535"),
     ("bad ports", "a list of ports", NETWORKS + b"0:65535 80,443 6/0xFF", "a rule for each"),
-    ("bad ports", "one port written once", NETWORKS + b"0:65535 80 6/0xFF", "Two ranges of ports|written twice|come before the protocol"),
+    ("bad ports", "one port written once", NETWORKS + b"0:65535 80 6/0xFF",
+     "Two ranges of ports|written twice|come before the protocol"),
     ("bad ports", "no ports at all", NETWORKS + b"6/0xFF", "come before the protocol"),
     ("bad ports", "a port above 65535", NETWORKS + b"0:65536 80:80 6/0xFF", "at most 65535"),
     ("bad ports", "a range without its upper end", NETWORKS + b"1024: tcp 6/0xFF", "two ranges|Two ranges|upper end"),
@@ -56,7 +62,8 @@ RULES = [
     ("bad protocol", "a number without its mask", NETWORKS + b"0:65535 80:80 6", "6/0xFF"),
     ("bad protocol", "a number or mask above 255", NETWORKS + b"0:65535 80:80 6/0x1FF", "at most 255"),
     ("bad protocol", "the line ends after the ports", NETWORKS + b"0:65535 80:80", "The line ends"),
-    ("bad protocol", "lines that end with CR alone", LINE + b"\r@11.0.0.0/8 0.0.0.0/0 0:65535 80:80 6/0xFF\r", "CR alone"),
+    ("bad protocol", "lines that end with CR alone", LINE + b"\r@11.0.0.0/8 0.0.0.0/0 0:65535 80:80 6/0xFF\r",
+     "CR alone"),
     ("bad flags", "a flag by its name, or a number above 65535", LINE + b" SYN/SYN", "at most 65535"),
     ("bad attribute", "a name or another attribute that rules don't have", LINE + b" name=web", "pri=, cat= and data="),
     ("bad attribute", "a priority from 2147483648 on", LINE + b" pri=2147483648", "at most 536870911"),
@@ -80,7 +87,8 @@ BLOCKS = blocks.write([bytes(60)])
 CAPTURES = [
     ("record 0: header cut", "nothing was captured yet", b"", "is empty"),
     ("record 0: header cut", "a file of fewer than 24 bytes", FRAME[:20], "ends within its header"),
-    ("record 0: magic", "a text, such as the lines that tcpdump prints", b"12:00:00.000000 IP 10.0.0.5.4000 > 10.1.0.1.443: tcp 0\n", "It is a text"),
+    ("record 0: magic", "a text, such as the lines that tcpdump prints",
+     b"12:00:00.000000 IP 10.0.0.5.4000 > 10.1.0.1.443: tcp 0\n", "It is a text"),
     ("record 0: magic", "a file of snoop", b"snoop\0\0\0" + bytes(60), "snoop file"),
     ("record 0: magic", "the capture is compressed", b"\x1f\x8b\x08\x08" + bytes(40), "gunzip"),
     ("record 0: magic", "a rule file in place of the capture", GUIDE, "rule file"),
@@ -92,8 +100,10 @@ CAPTURES = [
     ("record 1: byte order", "the file is damaged", BLOCKS[:8] + bytes(4) + BLOCKS[12:], "damaged"),
     ("record 1: section version", "another version", BLOCKS[:12] + b"\2" + BLOCKS[13:], "only 1"),
     ("record 1: no interface", "packets before their interface", BLOCKS[:28] + BLOCKS[48:], "interface 0"),
-    ("record 1: interface link type", "wireless frames, or a loopback of BSD", blocks.write([bytes(60)], 105), "802.11"),
-    ("record 1: too many interfaces", "more than 1,024 interfaces in a section", BLOCKS[:28] + BLOCKS[28:48] * 1025, "1024"),
+    ("record 1: interface link type", "wireless frames, or a loopback of BSD", blocks.write([bytes(60)], 105),
+     "802.11"),
+    ("record 1: too many interfaces", "more than 1,024 interfaces in a section", BLOCKS[:28] + BLOCKS[28:48] * 1025,
+     "1024"),
     ("record 1: too long", "the file is damaged", FRAME[:32] + b"\xff\xff\xff\xff" + FRAME[36:], "damaged"),
 ]
 
@@ -143,16 +153,21 @@ LARGE = [("file too long", "more than 16,777,216 bytes", b"#" * 1023 + b"\n", 16
 
 # Images that are changed: the place of a byte and its new value, or what stands after or misses at the end.
 CHANGED, WHOLE = "`family`, `too many`, `unsound`, `row form`, `kept groups`", "office.rules"
-IMAGES = [("byte 0: magic", "`magic`", (0, 0)), ("byte 4: version", "`version`", (4, 255)), ("length", "`length`", -1), ("trailing", "`trailing`", 1),
-          ("byte 8: family", CHANGED, (8, 255)), ("byte 12: too many", CHANGED, (12, 255)), ("unsound", CHANGED, (7, 1)),
+IMAGES = [("byte 0: magic", "`magic`", (0, 0)), ("byte 4: version", "`version`", (4, 255)), ("length", "`length`", -1),
+          ("trailing", "`trailing`", 1),
+          ("byte 8: family", CHANGED, (8, 255)), ("byte 12: too many", CHANGED, (12, 255)),
+          ("unsound", CHANGED, (7, 1)),
           ("row form", CHANGED, (15, 0)), ("byte 24: kept groups", CHANGED, (24, 255))]
 
 # Lines of a script, and the reply to the last one.
 FIELDS = ["field bits 1 0 0", "field range 2 1 1", "field range 2 1 3"]
 READY = FIELDS + ["context 5", "rule 1 1 7 0&0 0:9 0:9"]
-REPLIES = [("`bad line`: a blank within a value, as in `0 : 65535`", FIELDS + ["context 5", "rule 1 1 7 0&0 0 : 65535 0:9"], "bad line"),
-           ("`bad line`: an odd number of digits in `classify`, or `0x` before them", READY + ["build 1000", "classify 1 00000"], "bad line"),
-           ("`bad line`: an odd number of digits in `classify`, or `0x` before them", READY + ["build 1000", "classify 1 0x0000000000"], "bad line"),
+REPLIES = [("`bad line`: a blank within a value, as in `0 : 65535`",
+            FIELDS + ["context 5", "rule 1 1 7 0&0 0 : 65535 0:9"], "bad line"),
+           ("`bad line`: an odd number of digits in `classify`, or `0x` before them",
+            READY + ["build 1000", "classify 1 00000"], "bad line"),
+           ("`bad line`: an odd number of digits in `classify`, or `0x` before them",
+            READY + ["build 1000", "classify 1 0x0000000000"], "bad line"),
            ("`bad line`: a comment after a call", READY + ["build 1000 # now"], "bad line"),
            ("`refused layout 4`", ["field bits 2 0 0", "context 5"], "refused layout 4"),
            ("`refused layout 5 F`", ["field bits 1 0 0", "field bits 4 2 1", "context 5"], "refused layout 5 1"),
@@ -173,7 +188,8 @@ WARNED = [
     ("a protocol whose mask is 0", NETWORKS + b"0:65535 80:80 6/0", "any protocol matches"),
     ("ports of a protocol that has none", NETWORKS + b"0:65535 80:80 1/0xFF", "can't match"),
     ("userdata 0", LINE + b" data=0", "marks=on"),
-    ("a number with a 0 before it, as in `010.0.0.0/8`", b"@010.0.0.0/8 0.0.0.0/0 0:65535 80:80 6/0xFF", "this is 10.0.0.0/8"),
+    ("a number with a 0 before it, as in `010.0.0.0/8`", b"@010.0.0.0/8 0.0.0.0/0 0:65535 80:80 6/0xFF",
+     "this is 10.0.0.0/8"),
     ("a list without rules", b"# nothing yet", "no rule"),
     ("a comment whose line ends with CR alone", b"# web\r" + LINE, "what follows it is a comment"),
     ("a rule after one that matches as much", NETWORKS + b"0:65535 0:65535 0/0\n" + LINE, "never decides"),
@@ -182,14 +198,17 @@ WARNED = [
      "from the last one to the first"),
 ]
 # Runs that end with other messages: what the program says, its exit code, the row, and the words.
-OTHERS = [(r"ip4 table too large: words \d+ budget 16", 4, None, ["classify", "office.rules", "office.pcap", "max-words=16"]),
+OTHERS = [(r"ip4 table too large: words \d+ budget 16", 4, None,
+           ["classify", "office.rules", "office.pcap", "max-words=16"]),
           ("ip4 table too large: words 21 budget 20", 4, None, ["audit", "office.rules", "max-words=20"]),
-          ("ip4 table too large: words 21 budget 20", 4, None, ["compare", "office.rules", "office.rules", "max-words=20"]),
-          ("second rules: line 1: bad start", 12, "`aclc: second rules: line N: KIND`, exit code 12", ["compare", R, C]),
+          ("ip4 table too large: words 21 budget 20", 4, None,
+           ["compare", "office.rules", "office.rules", "max-words=20"]),
+          ("second rules: line 1: bad start", 12, "`aclc: second rules: line N: KIND`, exit code 12",
+           ["compare", R, C]),
           ("write fault", 8, "`aclc: write fault`, exit code 8", ["build", R, "."]),
           ("write fault", 8, "`aclc: write fault`, exit code 8", ["build", R, "none/r.image"])]
 # Rows that tests of their own try: those below, and the script ./aclc.
-FULL, LONG, MANY = OTHERS[-1][2], "`aclc: script: too long`, exit code 10", "`aclc: compare: too many rules`, exit code 11"
+LONG, MANY = "`aclc: script: too long`, exit code 10", "`aclc: compare: too many rules`, exit code 11"
 MEMORY, NAME, STACK = "`aclc: out of memory`, exit code 9", "exit code 1 and no message", "a crash without a message"
 SCRIPT = "exit code 101 from `./aclc`"
 BUILT_OVER = "a rule file is full of odd bytes after `build`"
@@ -207,11 +226,14 @@ def fragment():
 
 
 SURPRISES = [("`audit` says `never` of a rule that is needed", LINE + b" cat=2", None, [], b"ip4 rule 1 data 1 never"),
-             ("`audit` says `never` of a rule that is needed", LINE + b" cat=2", None, ["categories=16"], b"ip4 rule 1 data 1 wins 1"),
+             ("`audit` says `never` of a rule that is needed", LINE + b" cat=2", None, ["categories=16"],
+              b"ip4 rule 1 data 1 wins 1"),
              ("all answers are 0", LINE, [keys.frame(IP6)], [], b"1 ip6 0"),
              ("all answers are 0", LINE.replace(b"80:80", b"81:81"), [keys.frame(TCP)], [], b"1 ip4 0"),
              ("many `short`", LINE, [keys.frame(TCP)[:30]], [], b"1 short -"),
              ("many `other`", LINE, [bytes(12) + b"\x08\x06" + bytes(28)], [], b"1 other -"),
-             ("later fragments match rules of port 0 alone", LINE + b"\n" + NETWORKS + b"0:0 0:0 6/0xFF", [fragment()], [], b"1 ip4 2")]
-ORDER, NO_PACKET, SIMPLE = ("`compare` says `differ` of the same rules in another order", "`packet_of_key` says that no packet has the key",
+             ("later fragments match rules of port 0 alone", LINE + b"\n" + NETWORKS + b"0:0 0:0 6/0xFF", [fragment()],
+              [], b"1 ip4 2")]
+ORDER, NO_PACKET, SIMPLE = ("`compare` says `differ` of the same rules in another order",
+                            "`packet_of_key` says that no packet has the key",
                             "`packets 0` of a pcapng file that has packets")

@@ -20,7 +20,8 @@ damaged = script(HERE / "damaged")
 def judged(content):
     """The faults of a rule file, with what is said of each."""
     lines = rule_file.lines_of(content)
-    return [(fault.line, fault.kind, advice.sentence(fault, lines[fault.line - 1])) for fault in rule_file.read_rules(content)[1]]
+    return [(fault.line, fault.kind, advice.sentence(fault, lines[fault.line - 1]))
+            for fault in rule_file.read_rules(content)[1]]
 
 
 class Check(unittest.TestCase):
@@ -72,7 +73,8 @@ class Check(unittest.TestCase):
                 fault = raised.exception
                 self.assertEqual(f"record {fault.record}: {fault.kind}", kind)
                 self.assertIn(advised, fault.sentence)
-                self.program_says(f"aclc: capture: {kind}\n", 5, "classify", EXAMPLES / "guide.rules", self.write("list.pcap", content))
+                self.program_says(f"aclc: capture: {kind}\n", 5, "classify", EXAMPLES / "guide.rules",
+                                  self.write("list.pcap", content))
 
     def test_likely_mistakes_are_warned_of(self):
         for title, content, said in mistakes.WARNED:
@@ -84,10 +86,12 @@ class Check(unittest.TestCase):
         self.assertEqual(list(warnings.of_file(rules)), [])
 
     def test_control_characters_and_other_bytes_are_escaped(self):
-        rules = self.write("\x1b.rules", b"@10.0.0.0/8 \x1b[31m0.0.0.0/0 \xff\n@1.1.1.1/32 \x7f\n" + LINE + b" flags\xe2\x80\xae\n")
+        rules = self.write("\x1b.rules",
+                           b"@10.0.0.0/8 \x1b[31m0.0.0.0/0 \xff\n@1.1.1.1/32 \x7f\n" + LINE + b" flags\xe2\x80\xae\n")
         done = subprocess.run([str(CHECK), str(rules)], stdout=subprocess.PIPE)
         self.assertFalse([byte for byte in done.stdout if byte < 32 and byte != 10 or byte > 126])
-        for part in (b"\\x1b.rules:1: bad address\n", b"@10.0.0.0/8 \\x1b[31m0.0.0.0/0 \\xff\n", b"\\x7f\n", b"flags\\u202e\n"):
+        for part in (b"\\x1b.rules:1: bad address\n", b"@10.0.0.0/8 \\x1b[31m0.0.0.0/0 \\xff\n", b"\\x7f\n",
+                     b"flags\\u202e\n"):
             self.assertIn(part, done.stdout)
 
     def test_a_mark_stands_under_the_word(self):
@@ -119,7 +123,8 @@ class Check(unittest.TestCase):
             self.assertEqual(done.stdout if code else done.stderr, "")
 
     def test_codes(self):
-        for words, code in (([EXAMPLES / "office.rules"], 0), ([EXAMPLES / "guide.rules", EXAMPLES / "office.rules"], 5),
+        for words, code in (([EXAMPLES / "office.rules"], 0),
+                            ([EXAMPLES / "guide.rules", EXAMPLES / "office.rules"], 5),
                             ([EXAMPLES / "guide.pcap"], 3), (["none"], 7), ([], 2)):
             done = subprocess.run([str(CHECK), *map(str, words)], stdout=subprocess.PIPE, stderr=subprocess.PIPE)
             self.assertEqual(done.returncode, code, done.stderr)

@@ -27,11 +27,14 @@ def rows(text):
 
 def tried():
     """The headings and the beginnings of all rows that are tried."""
-    kinds = [(it[0].split(": ")[-1], it[1]) for it in mistakes.RULES + mistakes.CAPTURES + mistakes.WORDS + mistakes.LARGE]
+    kinds = [(it[0].split(": ")[-1], it[1])
+             for it in mistakes.RULES + mistakes.CAPTURES + mistakes.WORDS + mistakes.LARGE]
     kinds += [(kind, title) for kind, title, _ in mistakes.FILES] + [("read fault", mistakes.CLOSED)]
-    alone = [it[1] for it in mistakes.IMAGES] + [it[0] for it in mistakes.REPLIES + mistakes.WARNED + mistakes.SURPRISES]
+    alone = [it[1] for it in mistakes.IMAGES] + [it[0] for it in mistakes.REPLIES + mistakes.WARNED
+                                                 + mistakes.SURPRISES]
     alone += [it[2] for it in mistakes.OTHERS if it[2]]
-    alone += [mistakes.ALL_BAD, mistakes.LONG, mistakes.MANY, mistakes.MEMORY, mistakes.NAME, mistakes.STACK, mistakes.SCRIPT,
+    alone += [mistakes.ALL_BAD, mistakes.LONG, mistakes.MANY, mistakes.MEMORY, mistakes.NAME, mistakes.STACK,
+              mistakes.SCRIPT,
               mistakes.BUILT_OVER, mistakes.ORDER, mistakes.NO_PACKET, mistakes.SIMPLE]
     return kinds, alone
 
@@ -49,7 +52,8 @@ class Page(unittest.TestCase):
             titles = [title for kind, title in kinds if kind == heading] if heading in headings else alone
             self.assertTrue([title for title in titles if text.startswith(f"{title}: ")], f"{heading}: {text}")
         for kind, title in kinds:
-            self.assertTrue([text for heading, text in listed if heading == kind and text.startswith(f"{title}: ")], (kind, title))
+            self.assertTrue([text for heading, text in listed if heading == kind and text.startswith(f"{title}: ")],
+                            (kind, title))
         for title in alone:
             self.assertTrue([text for _, text in listed if text.startswith(f"{title}: ")], title)
 
@@ -88,7 +92,8 @@ class Tried(unittest.TestCase):
             self.says(f"rules: line {place}: {kind}", 3, "audit", self.write("large", line * count))
         self.says("script: too long", 10, "session", self.write("script", b"#" * 16777217))
         line = mistakes.LARGE[1][2]
-        self.says("compare: too many rules", 11, "compare", self.write("one", line * 131073), self.write("two", line * 131072))
+        self.says("compare: too many rules", 11, "compare", self.write("one", line * 131073),
+                  self.write("two", line * 131072))
 
     def test_images(self):
         image = Path(self.folder.name) / "image"
@@ -108,10 +113,12 @@ class Tried(unittest.TestCase):
 
     def test_replies(self):
         for _, lines, reply in mistakes.REPLIES:
-            done = run("session", self.write("script", "".join(f"{line}\n" for line in lines).encode()), path=built_program())
+            done = run("session", self.write("script", "".join(f"{line}\n" for line in lines).encode()),
+                       path=built_program())
             self.assertEqual(done.code, 0)
             self.assertRegex(done.lines.decode().split("\n")[-2], f"\\A{reply}\\Z")
-        self.assertEqual(set(run("session", "office.rules", path=built_program()).lines.split(b"\n")), {b"bad line", b""})
+        self.assertEqual(set(run("session", "office.rules", path=built_program()).lines.split(b"\n")),
+                         {b"bad line", b""})
 
     def test_other_ends(self):
         words = [str(built_program()), "classify", "office.rules", "office.pcap"]
@@ -121,7 +128,8 @@ class Tried(unittest.TestCase):
         limit = lambda kind, size: lambda: resource.setrlimit(kind, (size, size))
         done = subprocess.run([*words[:-1], os.fsencode("office.pcap") + b"\xff"], stderr=subprocess.PIPE)
         self.assertEqual((done.returncode, done.stderr), (1, b""))
-        done = subprocess.run(words, stderr=subprocess.PIPE, stdout=subprocess.PIPE, preexec_fn=limit(resource.RLIMIT_STACK, 64 << 10))
+        done = subprocess.run(words, stderr=subprocess.PIPE, stdout=subprocess.PIPE,
+                              preexec_fn=limit(resource.RLIMIT_STACK, 64 << 10))
         self.assertLess(done.returncode, 0)
         large = self.write("large", mistakes.LARGE[1][2] * 262144)
         done = subprocess.run([words[0], "audit", str(large)], stderr=subprocess.PIPE, stdout=subprocess.PIPE,
@@ -135,20 +143,24 @@ class Tried(unittest.TestCase):
             self.assertIn(printed, run(*command, *words, path=built_program()).lines.split(b"\n")[0], title)
         names = [self.write(str(place), b"".join(ORDER[::step])) for place, step in enumerate((1, -1))]
         self.assertIn(b"ip4 differ", run("compare", *names, path=built_program()).lines)
-        done = subprocess.run([str(EXAMPLES / "packet_of_key"), "0100000000c0a8010000000050"], stdout=subprocess.PIPE, stderr=subprocess.PIPE)
+        done = subprocess.run([str(EXAMPLES / "packet_of_key"), "0100000000c0a8010000000050"], stdout=subprocess.PIPE,
+                              stderr=subprocess.PIPE)
         self.assertEqual(done.returncode, 1)
         frame = keys.frame(mistakes.TCP)
         simple = blocks.write([]) + blocks.block(3, len(frame).to_bytes(4, "little") + frame)
-        self.assertTrue(run("classify", names[0], self.write("pcapng", simple), path=built_program()).lines.startswith(b"packets 0 "))
+        self.assertTrue(run("classify", names[0], self.write("pcapng", simple),
+                            path=built_program()).lines.startswith(b"packets 0 "))
         self.assertEqual(run("build", names[0], names[0], path=built_program()).code, 0)
         self.assertEqual(names[0].read_bytes()[:4], b"ACLT")
 
     def test_a_part_of_a_list_answers_its_packets_as_the_whole(self):
-        lines = [b"@10.0.0.0/8 0.0.0.0/0 0:65535 80:80 6/0xFF data=1", b"@10.0.0.0/8 0.0.0.0/0 0:65535 80:80 17/0xFF data=2",
+        lines = [b"@10.0.0.0/8 0.0.0.0/0 0:65535 80:80 6/0xFF data=1",
+                 b"@10.0.0.0/8 0.0.0.0/0 0:65535 80:80 17/0xFF data=2",
                  b"@0.0.0.0/0 0.0.0.0/0 0:65535 0:65535 0/0 data=3"]
         sent = self.write("pcap", frames(keys.frame(mistakes.TCP), keys.frame(keys.Key(6, bytes(4), bytes(4), (1, 2)))))
         whole, part = (self.write(name, b"\n".join(some)) for name, some in (("whole", lines), ("part", lines[::2])))
-        self.assertEqual(run("classify", whole, sent, path=built_program()).lines, run("classify", part, sent, path=built_program()).lines)
+        self.assertEqual(run("classify", whole, sent, path=built_program()).lines,
+                         run("classify", part, sent, path=built_program()).lines)
 
 
 if __name__ == "__main__":

@@ -23,7 +23,8 @@ def script(path):
 def tool(name, *words, **more):
     """What a tool ends with, what it prints, and its messages."""
     env = {**os.environ, "ACLC": str(built_program() or "/nosuch"), **more.pop("env", {})}
-    done = subprocess.run([str(TOP / "tools" / name), *map(str, words)], stdout=subprocess.PIPE, stderr=subprocess.PIPE, env=env, **more)
+    done = subprocess.run([str(TOP / "tools" / name), *map(str, words)], stdout=subprocess.PIPE, stderr=subprocess.PIPE,
+                          env=env, **more)
     return done.returncode, done.stdout.decode(), done.stderr.decode()
 
 
