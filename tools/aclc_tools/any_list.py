@@ -14,9 +14,14 @@ from aclc_tools.program import leave, note, read_file
 
 RULES = "rules"
 # What a line of each form looks like. A comment of a rule file looks like none of them.
-MARKS = (("nft", r'\A\s*\{(?s:.)*"nftables"'), ("iptables", r"(?m)^\*[a-z]+\s*$"),
-         ("cisco", r"(?m)^\s*(ip access-list|ipv6 access-list|access-list)\s"), ("l3fwd", r"(?m)^R[0-9]"),
-         (RULES, r"(?m)^[ \t]*@"))
+MARKS = {"nft": r'\A\s*\{(?s:.)*"nftables"', "iptables": r"(?m)^\*[a-z]+\s*$", "l3fwd": r"(?m)^R[0-9]",
+         "cisco": r"(?m)^\s*(ip access-list (extended|standard) |access-list \d+ (permit|deny|dynamic) )",
+         "asa": r"(?m)^access-list \S+ (line \d+ )?extended ", "iosxr": r"(?m)^\s*ipv4 access-list \S",
+         "nxos": r"(?m)^\s*ip access-list (?!(extended|standard|resequence|logging|role-based) )\S+\s*$",
+         "juniper": r"(?m)^set (.* )?firewall ", "aws": r'\A\s*[\[{](?s:.)*"(SecurityGroups|SecurityGroupRules|NetworkAcls)"',
+         "azure": r'\A\s*[\[{](?s:.)*"(securityRules|destinationPortRange)"', RULES: r"(?m)^[ \t]*@"}
+# What several forms have in common, where nothing else tells which of them it is.
+COMMON = ((r"(?m)^\s*ipv6 access-list \S", ("cisco", "nxos", "iosxr")),)
 # Forms whose lists drop what no line of them matches, without a line that says so.
 DROPPING = ("cisco", "asa", "nxos", "iosxr", "juniper", "aws", "azure")
 SAID = re.compile(r"# [a-z]+ (\d+)(?: \((\w+)\))?: (.*)")
@@ -88,15 +93,23 @@ def check_words(given, names, lists):
                 leave(f"--{option} is for lists of other programs, and {lists[0].name} is a rule file", 2)
 
 
+def forms_seen(text):
+    """The forms that lines of a text look like."""
+    known = [RULES, *FORMS]
+    found = [form for form in MARKS if form in known and re.search(MARKS[form], text)]
+    if found == ["l3fwd", RULES]:
+        return ["l3fwd"]
+    for mark, forms in COMMON:
+        if not found and re.search(mark, text):
+            return [form for form in forms if form in known]
+    return found
+
+
 def form_of(name, text, told):
     """The form of a list: as it is told, or as its lines say."""
-    if told:
-        return told
-    found = [form for form, mark in MARKS if re.search(mark, text)]
-    if found == ["l3fwd", RULES]:
-        return "l3fwd"
+    found = [told] if told else forms_seen(text)
     if len(found) > 1:
-        leave(f"{name}: it has lines of more than one form: --form {' or --form '.join(found)} says which", 2)
+        leave(f"{name}: its lines fit more than one form: --form {' or --form '.join(found)} says which", 2)
     if not found and any(line.strip() and not line.lstrip().startswith("#") for line in text.split("\n")):
         leave(f"{name}: no form of a list is seen in it: --form says which it has, of {', '.join([RULES, *FORMS])}."
               " A list of nftables is written by nft -j list ruleset", 2)
