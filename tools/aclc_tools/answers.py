@@ -10,7 +10,7 @@ import subprocess
 import tempfile
 from pathlib import Path
 
-from aclc_tools import any_list, capture
+from aclc_tools import any_list, capture, keys
 from aclc_tools.program import leave, note, program
 
 MOST_CATEGORIES = 16
@@ -109,25 +109,51 @@ def lines_of(*words):
             note(message.rstrip("\n"))
 
 
+def audited(copy, categories, given):
+    """What the program says of each rule: the userdata, a category, and the least key at which it decides there, or None."""
+    told, count = set(), None
+    for parts in lines_of("audit", copy, f"categories={categories}", *words_more(given)):
+        if parts[0] == "rules":
+            count = int(parts[1])
+        else:
+            told.add((parts[0], parts[2]))
+            yield int(parts[4]), keys.of_digits(parts[8]) if parts[5] == "wins" else None
+    if count != len(told):
+        raise Refusal(0, f"the program audits {count} rules, and tells of {len(told)}")
+
+
+def compared(one, other, given):
+    """What the program says of each family in which two lists differ: a category, and a key."""
+    families = []
+    for parts in lines_of("compare", one, other, *words_more(given)):
+        families.append(parts[0])
+        if parts[1] == "differ":
+            yield int(parts[3]), keys.of_digits(parts[5])
+    if families != ["ip4", "ip6"]:
+        raise Refusal(0, f"the program compares {' and '.join(families) or 'no family'}, and should both")
+
+
 def words_more(given):
+    """The words of the program that options of the tools stand for."""
     return [f"max-words={given.max_words}"] if given.max_words else []
 
 
 def classified(listed, copy, packets, categories, given):
     """What the program answers to each record by the copy of a list: its kind, and in each category the number of a
     rule or None; then `packets` and the program's last line."""
-    last = None
+    last, count = None, 0
     try:
         for parts in lines_of("classify", copy, packets, f"categories={categories}", "marks=on", *words_more(given)):
             if parts[0] == "packets":
                 last = " ".join(parts)
             else:
+                count += 1
                 yield parts[1], [None if it == "-" else int(it) for it in parts[2:]]
     except Refusal as refusal:
         raise Refusal(refusal.code,
                       f"{listed.name}: {refusal.message}" if refusal.is_of_list() else refusal.message) from None
-    if last is None:
-        raise Refusal(0, f"{listed.name}: the program's last line is missing")
+    if not last or last.split()[1] != str(count):
+        raise Refusal(0, f"{listed.name}: the program printed {count} lines, and last {last or 'no count of them'}")
     yield "packets", last
 
 

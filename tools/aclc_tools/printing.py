@@ -46,16 +46,18 @@ def print_csv(names, rows):
 
 
 def end_of(main, code):
-    """Runs a tool to its end. If nobody reads its lines any more, or they can't be written, it ends with this code."""
-    for stream in (sys.stdout, sys.stderr):
-        if stream:
-            stream.reconfigure(errors="backslashreplace")
+    """Runs a tool to its end. Whatever keeps it from telling all that it should tell ends it with this code, so that no
+    other one is taken for an answer."""
+    name = shown(sys.argv[0].rpartition("/")[2])
+    for stream in filter(None, (sys.stdout, sys.stderr)):
+        stream.reconfigure(errors="backslashreplace")
     try:
+        if not sys.stdout:
+            raise OSError("standard output is closed")
         try:
             main()
         finally:
-            if sys.stdout:
-                sys.stdout.flush()
+            sys.stdout.flush()
     except BrokenPipeError:
         # What reads the lines has enough of them.
         sys.stdout = None
@@ -63,3 +65,8 @@ def end_of(main, code):
     except KeyboardInterrupt:
         sys.stdout = None
         sys.exit(130)
+    except Exception as error:
+        sys.stdout = None
+        what = "" if isinstance(error, OSError) else f"a fault of this tool: {type(error).__name__}: "
+        print(f"{name}: {what}{shown(str(getattr(error, 'strerror', None) or error))}", file=sys.stderr)
+        sys.exit(code)

@@ -2,6 +2,7 @@
 import csv
 import json
 import os
+import shutil
 import subprocess
 import tempfile
 import unittest
@@ -349,6 +350,21 @@ class Refusals(unittest.TestCase):
 
 
 class WithoutTheProgram(unittest.TestCase):
+    def test_a_program_that_says_nothing_or_something_else_is_no_answer(self):
+        for name, words in (("explain", [OFFICE, "00" * 13]), ("changes", [OFFICE, EDITED, CAPTURE]),
+                            ("hits", [OFFICE, CAPTURE]), ("same", [OFFICE, EDITED]), ("dead", [OFFICE])):
+            for program_name in ("true", "echo", "false"):
+                code, lines, said = tool(name, *words, env={"ACLC": shutil.which(program_name)})
+                self.assertEqual((code, "Traceback" in said), (2, False), (name, program_name, lines, said))
+
+    def test_lines_that_cannot_be_written_are_no_answer(self):
+        for name, words in (("changes", ["--help"]), ("explain", ["--help"]), ("check", [OFFICE])):
+            with open("/dev/full", "wb") as full:
+                done = subprocess.run([str(TOP / "tools" / name), *map(str, words)], stdout=full,
+                                      stderr=subprocess.PIPE)
+            self.assertNotIn(done.returncode, (0, 1) if name != "check" else (0,))
+            self.assertEqual(done.stderr.decode(), f"{name}: No space left on device\n")
+
     def test_a_program_that_is_not_there_is_told(self):
         for name, words in (("explain", [OFFICE, "00" * 13]), ("changes", [OFFICE, EDITED, CAPTURE]),
                             ("hits", [OFFICE, CAPTURE]),
