@@ -39,10 +39,12 @@ class Room:
         self.count = 0
 
     def name(self, suffix):
+        """A name for a file that isn't there yet."""
         self.count += 1
         return Path(self.folder.name) / f"{self.count}{suffix}"
 
     def write(self, suffix, content):
+        """Writes a file, and gives its name."""
         path = self.name(suffix)
         path.write_bytes(content)
         return path
@@ -110,7 +112,7 @@ def lines_of(*words):
 
 
 def audited(copy, categories, given):
-    """What the program says of each rule: the userdata, a category, and the least key at which it decides there, or None."""
+    """What the program says of each rule: its userdata, and its least key in a category in which it decides, or None."""
     told, count = set(), None
     for parts in lines_of("audit", copy, f"categories={categories}", *words_more(given)):
         if parts[0] == "rules":

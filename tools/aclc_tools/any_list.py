@@ -43,6 +43,7 @@ class Entry:
         self.rules, self.is_end = [], False
 
     def place(self):
+        """Where it stands, in words."""
         return f"{self.what} {self.number}" if self.number else "the end"
 
     def told(self):
@@ -67,6 +68,7 @@ class AnyList:
         self.order = {entry: place for place, entry in enumerate(order)}
 
     def entry(self, rule):
+        """The entry that a rule says."""
         return self.entry_of[rule.ordinal]
 
 
@@ -128,6 +130,7 @@ def read_list(name, given):
 
 
 def of_rule_file(name, content):
+    """A rule file as a list; Faulty where it isn't read."""
     rules, faults = rule_file.read_rules(content)
     if faults:
         raise Faulty(name, content, faults[0])

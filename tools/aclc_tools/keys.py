@@ -31,9 +31,11 @@ class Key:
 
     @property
     def family(self):
+        """4 or 6."""
         return 4 if len(self.source) == 4 else 6
 
     def content(self):
+        """The bytes of the key."""
         return bytes([self.protocol]) + self.source + self.destination + struct.pack(">HH", *self.ports)
 
     def is_of_a_packet(self):
@@ -75,6 +77,7 @@ def payload(key):
 
 
 def ip4_packet(key):
+    """The packet of a key of IPv4."""
     body = payload(key)
     header = struct.pack(">BBHHHBBH", 0x45, 0, 20 + len(body), 0, 0, 64, key.protocol, 0) + key.source + key.destination
     return header[:10] + struct.pack(">H", checksum(header)) + header[12:] + body
@@ -103,6 +106,7 @@ def need(content, length):
 
 
 def of_packet_4(packet):
+    """The key of an IPv4 packet."""
     if need(packet, 20)[0] >> 4 != 4 or packet[0] & 15 < 5:
         raise NoKey("other")
     length = 4 * (packet[0] & 15)
@@ -112,6 +116,7 @@ def of_packet_4(packet):
 
 
 def of_packet_6(packet):
+    """The key of an IPv6 packet, after the headers that are passed over."""
     if need(packet, 40)[0] >> 4 != 6:
         raise NoKey("other")
     protocol, at = packet[6], 40

@@ -12,6 +12,7 @@ COUNTS = re.compile(r"^\[\d+:\d+\] | \[\d+:\d+\]$")
 
 
 def add_option(parser):
+    """The option that says what counts as the answer."""
     parser.add_argument("--data", choices=CHOICES)
 
 

@@ -23,6 +23,7 @@ def words_of(key):
 
 
 def end_words(address, port):
+    """An address with its port, if it has one."""
     if port is None:
         return str(address)
     return f"{address}:{port}" if address.version == 4 else f"[{address}]:{port}"
@@ -42,6 +43,7 @@ def end_of(text):
 
 
 def port_of(text):
+    """The number of a port, or None."""
     if text is None:
         return None
     if len(text) > 9 or int(text) > 0xFFFF:

@@ -21,10 +21,12 @@ TOO_LARGE = (4, 11)
 
 
 def of_rule(rule):
+    """The part of all keys that a rule matches."""
     return Part(rule.protocol, rule.source, rule.destination, rule.source_ports, rule.destination_ports)
 
 
 def both_protocols(one, other):
+    """The protocol and mask of what two of them match, or None."""
     (value, mask), (other_value, other_mask) = one, other
     if (value ^ other_value) & mask & other_mask:
         return None
@@ -39,6 +41,7 @@ def both_networks(one, other, bits):
 
 
 def both_ranges(one, other):
+    """What two ranges have in common, or None."""
     low, high = max(one[0], other[0]), min(one[1], other[1])
     return (low, high) if low <= high else None
 

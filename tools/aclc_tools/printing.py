@@ -34,6 +34,7 @@ def numbers_text(categories):
 
 
 def print_json(told):
+    """Prints what a program is to read."""
     json.dump(told, sys.stdout, indent=1)
     print()
 

@@ -39,18 +39,22 @@ class Rule:
 
     @property
     def priority(self):
+        """The greatest one decides."""
         return self.given.get("pri", MOST_PRIORITY - self.ordinal)
 
     @property
     def categories(self):
+        """A bit for each category."""
         return self.given.get("cat", ALL_CATEGORIES) & ALL_CATEGORIES
 
     @property
     def userdata(self):
+        """What is printed of packets that the rule decides."""
         return self.given.get("data", self.ordinal)
 
     @property
     def bits(self):
+        """How many bits an address has."""
         return 32 if self.family == 4 else 128
 
     def intervals(self):
@@ -241,6 +245,7 @@ def lines_of(content):
 
 
 def is_skipped(line):
+    """Whether a line is empty or a comment."""
     return line.lstrip(b" \t")[:1] in (b"", b"#")
 
 

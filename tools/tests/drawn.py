@@ -46,6 +46,7 @@ def edited(draw, lines, choices=9):
 
 
 def text_of(lines):
+    """The text of some lines."""
     return "".join(line + "\n" for line in lines)
 
 
@@ -84,6 +85,7 @@ def answer(matched, category):
 
 
 def categories_of(*lists):
+    """The categories that have to be looked at."""
     return range(16) if any("cat=" in line for lines in lists for line in lines) else [0]
 
 
@@ -111,6 +113,7 @@ def firewall(draw, count):
 
 
 def cisco_address(address, length):
+    """An address as IOS writes it."""
     if length is None:
         return "any"
     wild = ".".join(str(255 if 8 * it >= length else 0) for it in range(4))
@@ -165,6 +168,7 @@ def firewall_key(draw):
 
 
 def chances(seed):
+    """Chances that are the same in each run."""
     return random.Random(seed)
 
 

@@ -52,6 +52,7 @@ class Alone(unittest.TestCase):
         self.addCleanup(setattr, parts, "MOST_RUNS", usual)
 
     def read(self, text, **options):
+        """The list of a text."""
         return answers.read(self.room.write(".list", text.encode()), given(**options), self.room)
 
 

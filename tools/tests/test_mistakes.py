@@ -68,6 +68,7 @@ class Tried(unittest.TestCase):
         self.addCleanup(os.chdir, here)
 
     def write(self, name, content):
+        """A file of these bytes."""
         path = Path(self.folder.name) / name
         path.write_bytes(content)
         return path

@@ -10,7 +10,7 @@ from pathlib import Path
 
 import drawn
 import packets
-from aclc_tools import answers, blocks, capture, explained, keys, packet_words, program, rule_file
+from aclc_tools import answers, any_list, blocks, capture, explained, keys, packet_words, program, rule_file
 from aclc_tools.program import TOP
 from tool import BUILT, DATA, EXAMPLES, given, script, tool
 
@@ -67,6 +67,25 @@ REFUSED = [("explain", [OFFICE, "tcp"], "explain: tcp: it is no packet"),
            ("hits", ["{image}", CAPTURE], "this is an image"),
            ("hits", [OFFICE, CAPTURE, "--form", "nft"], "no JSON of nft")]
 ESCAPE = b"@10.0.0.0/8 0.0.0.0/0 0:65535 0:65535 0/0 \x1b[31m\n"
+
+
+class Forms(unittest.TestCase):
+    def test_the_form_of_each_shipped_list_is_seen(self):
+        kinds = {".rules": "rules", ".cisco": "cisco", ".iptables-save": "iptables", ".ip6tables-save": "iptables",
+                 ".nft-json": "nft", ".l3fwd": "l3fwd", ".asa": "asa", ".nxos": "nxos", ".iosxr": "iosxr",
+                 ".juniper": "juniper"}
+        shipped = [path for path in DATA.iterdir() if path.suffix in kinds
+                   and kinds[path.suffix] in (*any_list.FORMS, "rules")]
+        self.assertGreater(len(shipped), 8)
+        for path in shipped:
+            self.assertEqual(any_list.forms_seen(path.read_text()), [kinds[path.suffix]], path)
+        for path in EXAMPLES.glob("*.rules"):
+            self.assertEqual(any_list.forms_seen(path.read_text()), ["rules"], path)
+
+    def test_what_could_be_several_forms_is_none_of_them(self):
+        both = drawn.as_cisco([]) + "*filter\n"
+        self.assertEqual(any_list.forms_seen(both), ["iptables", "cisco"])
+        self.assertEqual(any_list.forms_seen("10.0.0.0/8 any\n"), [])
 
 
 class Typed(unittest.TestCase):
