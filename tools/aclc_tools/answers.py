@@ -112,7 +112,7 @@ def lines_of(*words):
 
 
 def audited(copy, categories, given):
-    """What the program says of each rule: its userdata, and its least key in a category in which it decides, or None."""
+    """What the program says of each rule: its userdata, and its least key in a category where it decides, or None."""
     told, count = set(), None
     for parts in lines_of("audit", copy, f"categories={categories}", *words_more(given)):
         if parts[0] == "rules":

@@ -193,8 +193,9 @@ def with_entries(name, form, lines, chains, written):
     """A list of the lines of its rule file, in which a comment before its rules says what each entry is."""
     what, entries, here, rules = FORMS[form][1], {}, None, []
     for rule, is_in_chain in deciding(chains):
-        entry = Entry(what, rule.number, rule.text, rule.verdict, rule.boxes if is_in_chain else None)
-        entries.setdefault((rule.number, rule.verdict), entry)
+        entry = entries.setdefault((rule.number, rule.verdict), Entry(what, rule.number, rule.text, rule.verdict))
+        if is_in_chain:
+            entry.boxes = [*(entry.boxes or ()), *rule.boxes]
     policy = chains.chains[chains.start].policy
     if policy and policy.verdict in (lists.ACCEPT, lists.DROP):
         ends = [entries.setdefault((policy.number, policy.verdict),
