@@ -126,6 +126,11 @@ class Tried(unittest.TestCase):
         with open("/dev/full", "wb") as full:
             done = subprocess.run(words, stdout=full, stderr=subprocess.PIPE)
         self.assertEqual((done.returncode, done.stderr), (8, b"aclc: write fault\n"))
+        many = self.write("many", capture.write([frame for frame, _ in capture.records(
+            Path("office.pcap").read_bytes())] * 5000))
+        ended = subprocess.run(["bash", "-c", f"{words[0]} classify office.rules {many} | true; exit ${{PIPESTATUS[0]}}"],
+                               stderr=subprocess.PIPE)
+        self.assertEqual((ended.returncode, ended.stderr), (8, b"aclc: write fault\n"))
         limit = lambda kind, size: lambda: resource.setrlimit(kind, (size, size))
         done = subprocess.run([*words[:-1], os.fsencode("office.pcap") + b"\xff"], stderr=subprocess.PIPE)
         self.assertEqual((done.returncode, done.stderr), (1, b""))
