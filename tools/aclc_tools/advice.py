@@ -1,6 +1,8 @@
 """Sentences for who made a mistake: what is wrong with a line, and what it should say."""
 import re
 
+from aclc_tools.printing import shown
+
 PROTOCOLS = {b"ip": "0/0", b"any": "0/0", b"all": "0/0", b"tcp": "6/0xFF", b"udp": "17/0xFF", b"icmp": "1/0xFF", b"sctp": "132/0xFF",
              b"icmpv6": "58/0xFF", b"gre": "47/0xFF", b"esp": "50/0xFF", b"ospf": "89/0xFF"}
 PORTS = {b"http": 80, b"https": 443, b"www": 80, b"ssh": 22, b"dns": 53, b"domain": 53,
@@ -16,6 +18,8 @@ def no_list(content):
         return "This is a capture: the rule file is named first, and the capture second."
     if content[:2] == b"\x1f\x8b":
         return "This is a compressed file: unpack it by gunzip first."
+    if content[:4] == b"ACLT":
+        return "This is an image: replay answers by it, and all other commands read rule files."
     if b"\0" in content[:8]:
         return "The text is UTF-16 or no text: save the file as UTF-8."
     return None
@@ -195,11 +199,6 @@ def too_many(word, line):
 SENTENCES = {"bad start": start, "bad address": address, "bad prefix": prefix, "mixed families": families, "bad ports": ports,
              "empty range": empty, "bad protocol": protocol, "bad flags": flags, "bad attribute": attribute, "tail left": tail,
              "no category": no_category, "priority range": priority, "file too long": too_long, "too many rules": too_many}
-
-
-def shown(text):
-    """Bytes as they can be printed."""
-    return text.decode("utf-8", "backslashreplace")
 
 
 def sentence(fault, line):

@@ -2,13 +2,15 @@
 import struct
 
 from . import blocks
-from .refusal import LINKS, MOST_CAPTURED, Fault, link_sentence
+from .refusal import LINKS, MOST_CAPTURED, Fault, Record, link_sentence
 
-MAGICS = (0xA1B2C3D4, 0xA1B23C4D)
+# The first number of a savefile, and how many nanoseconds one of the smaller numbers of its times has.
+MAGICS = {0xA1B2C3D4: 1000, 0xA1B23C4D: 1}
 
 
 def foreign(content):
     """What a file is that isn't a capture."""
+    content = content[:4096]
     if content[:2] == b"\x1f\x8b":
         return "It is compressed by gzip: gunzip it first, or give <(zcat FILE) as the capture."
     if content[:4] == b"\x28\xb5\x2f\xfd" or content[:3] == b"BZh" or content[:6] == b"\xfd7zXZ\0":
@@ -19,45 +21,58 @@ def foreign(content):
         return "It is a snoop file: editcap -F pcap FILE NEW makes a capture of it."
     if content.lstrip(b" \t\r\n")[:1] in (b"@", b"#"):
         return "It is a rule file: the rule file is named first, and the capture second."
+    if content[:4] == b"ACLT":
+        return "It is an image: replay reads it, before the capture."
+    if all(byte in b"\t\n\r" or 32 <= byte < 127 for byte in content):
+        return "It is a text: tcpdump -w FILE writes a capture, and without -w it prints lines."
     return "It is no capture: tcpdump -w FILE writes one."
 
 
 def begin(content):
-    """The byte order, the link type and the snap length of a savefile."""
+    """The byte order of a savefile, its link type, and the unit of its times in nanoseconds."""
+    orders = [order for order in "<>" if len(content) >= 4 and struct.unpack(order + "I", content[:4])[0] in MAGICS]
+    if not len(content):
+        raise Fault(0, "header cut", "The file is empty: tcpdump writes what it holds back when it ends.")
     if len(content) < 24:
-        sentence = "The file is empty: tcpdump writes what it holds back when it ends." if not content else foreign(content)
+        sentence = "The file ends within its header, which has 24 bytes: it was cut." if orders else foreign(content)
         raise Fault(0, "header cut", sentence)
-    orders = [order for order in "<>" if struct.unpack(order + "I", content[:4])[0] in MAGICS]
     if not orders:
         raise Fault(0, "magic", foreign(content))
-    major, minor, _, _, snap, network = struct.unpack(orders[0] + "HHIIII", content[4:24])
+    magic, major, minor, _, _, _, network = struct.unpack(orders[0] + "IHHIIII", content[:24])
     if (major, minor) != (2, 4):
         raise Fault(0, "version", f"Its version is {major}.{minor}, and only 2.4 is read.")
     link = network & 0xFFFF
     if link not in LINKS:
         raise Fault(0, "link type", link_sentence("Its", link))
-    return orders[0], link, snap
+    return orders[0], link, MAGICS[magic]
 
 
-def records(content):
-    """Each record's captured bytes and its length on the wire; a Fault at the first one that isn't whole."""
+def records_with_times(content):
+    """Each record with its link type and its time; a Fault at the first one that isn't whole."""
     if content[:4] == blocks.SECTION:
         yield from blocks.records(content)
         return
-    order, _, _ = begin(content)
+    order, link, unit = begin(content)
     at, count = 24, 0
     while at < len(content):
         count += 1
         header = content[at:at + 16]
         if len(header) < 16:
             raise Fault(count, "cut", "The file ends within this record: it is still being written, or was cut.")
-        captured, length = struct.unpack(order + "II", header[8:])
+        seconds, part, captured, length = struct.unpack(order + "IIII", header)
         if captured > MOST_CAPTURED:
-            raise Fault(count, "too long", f"The record claims {captured} bytes: the file is damaged here, or one before it is.")
+            raise Fault(count, "too long",
+                        f"The record claims {captured} bytes: the file is damaged here, or one before it is.")
         at += 16 + captured
         if at > len(content):
             raise Fault(count, "cut", "The file ends within this record: it is still being written, or was cut.")
-        yield content[at - captured:at], length
+        yield Record(content[at - captured:at], length, link, seconds * 1_000_000_000 + part * unit)
+
+
+def records(content):
+    """Each record's captured bytes and its length on the wire; a Fault at the first one that isn't whole."""
+    for record in records_with_times(content):
+        yield record.frame, record.length
 
 
 def write(frames, link=1):

@@ -1,8 +1,11 @@
 """Where the program is, and how it is run."""
 import os
+import shutil
 import subprocess
 import sys
 from pathlib import Path
+
+from aclc_tools.printing import shown
 
 TOP = Path(__file__).resolve().parents[2]
 BUILT = TOP / "crates" / "aclc" / "out" / "aclc"
@@ -16,8 +19,9 @@ class Ran:
 
 
 def program():
-    """The words that start the program: what ACLC names, or the script at the top of the repository."""
-    return os.environ.get("ACLC") or str(TOP / "aclc")
+    """What starts the program: what ACLC names, what a build left, aclc on the path, or this repository's script."""
+    named = os.environ.get("ACLC") or built_program() or shutil.which("aclc")
+    return str(named or TOP / "aclc")
 
 
 def built_program():
@@ -50,13 +54,19 @@ def tell_help(text):
 
 def leave(message, code=1):
     """Ends the tool with a line on standard error."""
-    print(f"{Path(sys.argv[0]).name}: {message}", file=sys.stderr)
+    note(message)
     sys.exit(code)
 
 
-def read_file(name):
-    """The bytes of a file; `-` is standard input."""
+def note(message):
+    """A line on standard error."""
+    lines = f"{Path(sys.argv[0]).name}: {message}".split("\n")
+    print("\n".join(map(shown, lines)), file=sys.stderr)
+
+
+def read_file(name, code=7):
+    """The bytes of a file; `-` is standard input. Where it can't be read the tool ends with the code."""
     try:
         return sys.stdin.buffer.read() if name == "-" else Path(name).read_bytes()
-    except OSError as error:
-        return leave(f"{name}: {error.strerror}", 7)
+    except (OSError, ValueError) as error:
+        return leave(f"{name}: {getattr(error, 'strerror', None) or error}", code)

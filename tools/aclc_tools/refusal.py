@@ -1,9 +1,14 @@
-"""Why a capture of either format is refused."""
+"""What both formats of captures share: a record, and why a capture is refused."""
+from collections import namedtuple
 
 LINKS = (1, 101, 113, 228, 229, 276)
 MOST_CAPTURED = 262144
-OTHER_LINKS = {0: "BSD loopback", 9: "PPP", 12: "raw IP of some systems", 105: "802.11", 108: "OpenBSD loopback", 127: "802.11 radiotap",
-               147: "a private link type", 189: "USB", 195: "802.15.4", 239: "netfilter log", 280: "VPP", 253: "netlink"}
+OTHER_LINKS = {0: "BSD loopback", 9: "PPP", 12: "raw IP of some systems", 105: "802.11", 108: "OpenBSD loopback",
+               127: "802.11 radiotap",
+               147: "a private link type", 189: "USB", 195: "802.15.4", 239: "netfilter log", 280: "VPP",
+               253: "netlink"}
+# The captured bytes, the length on the wire, the link type, and the nanoseconds since 1970.
+Record = namedtuple("Record", "frame length link time")
 
 
 class Fault(Exception):

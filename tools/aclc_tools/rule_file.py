@@ -39,19 +39,35 @@ class Rule:
 
     @property
     def priority(self):
+        """The greatest one decides."""
         return self.given.get("pri", MOST_PRIORITY - self.ordinal)
 
     @property
     def categories(self):
+        """A bit for each category."""
         return self.given.get("cat", ALL_CATEGORIES) & ALL_CATEGORIES
 
     @property
     def userdata(self):
+        """What is printed of packets that the rule decides."""
         return self.given.get("data", self.ordinal)
 
     @property
     def bits(self):
+        """How many bits an address has."""
         return 32 if self.family == 4 else 128
+
+    def intervals(self):
+        """The numbers of each column but the protocol that match: addresses and ports, the least and the greatest."""
+        free = [self.bits - length for _, length in (self.source, self.destination)]
+        lows = [value >> it << it for (value, _), it in zip((self.source, self.destination), free)]
+        return [(low, low + (1 << it) - 1) for low, it in zip(lows, free)] + [self.source_ports, self.destination_ports]
+
+    def matches(self, key):
+        """Whether packets of a key match."""
+        value, mask = self.protocol
+        return (self.family == key.family and not (value ^ key.protocol) & mask
+                and all(low <= number <= high for (low, high), number in zip(self.intervals(), key.numbers)))
 
 
 def number(text, at, most):
@@ -229,6 +245,7 @@ def lines_of(content):
 
 
 def is_skipped(line):
+    """Whether a line is empty or a comment."""
     return line.lstrip(b" \t")[:1] in (b"", b"#")
 
 

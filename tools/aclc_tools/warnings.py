@@ -1,7 +1,7 @@
 """What is lawful in a rule file and likely not what was meant."""
 import re
 
-from aclc_tools.advice import shown
+from aclc_tools.printing import shown
 
 PORTED = (6, 17, 132)
 

@@ -1,8 +1,5 @@
 """tools/check: its judgement against the program's, and the page of mistakes against both."""
-import importlib.machinery
-import importlib.util
 import os
-import re
 import subprocess
 import tempfile
 import unittest
@@ -11,28 +8,20 @@ from pathlib import Path
 import mistakes
 from aclc_tools import advice, capture, rule_file, warnings
 from aclc_tools.program import TOP, built_program, run
+from mistakes import LINE
+from tool import script
 
 HERE = Path(__file__).resolve().parent
 CHECK = TOP / "tools" / "check"
 EXAMPLES = TOP / "examples"
-PAGE = TOP / "docs" / "MISTAKES.md"
-
-
-def script(path):
-    """A script without a suffix, as a module."""
-    loader = importlib.machinery.SourceFileLoader(path.name, str(path))
-    module = importlib.util.module_from_spec(importlib.util.spec_from_loader(path.name, loader))
-    loader.exec_module(module)
-    return module
-
-
 damaged = script(HERE / "damaged")
 
 
 def judged(content):
     """The faults of a rule file, with what is said of each."""
     lines = rule_file.lines_of(content)
-    return [(fault.line, fault.kind, advice.sentence(fault, lines[fault.line - 1])) for fault in rule_file.read_rules(content)[1]]
+    return [(fault.line, fault.kind, advice.sentence(fault, lines[fault.line - 1]))
+            for fault in rule_file.read_rules(content)[1]]
 
 
 class Check(unittest.TestCase):
@@ -84,28 +73,8 @@ class Check(unittest.TestCase):
                 fault = raised.exception
                 self.assertEqual(f"record {fault.record}: {fault.kind}", kind)
                 self.assertIn(advised, fault.sentence)
-                self.program_says(f"aclc: capture: {kind}\n", 5, "classify", EXAMPLES / "guide.rules", self.write("list.pcap", content))
-
-    @unittest.skipUnless(built_program(), "the program isn't built")
-    def test_mistakes_in_words_and_names(self):
-        here = os.getcwd()
-        os.chdir(EXAMPLES)
-        self.addCleanup(os.chdir, here)
-        for said, _, words in mistakes.WORDS:
-            self.program_says(f"aclc: usage: {said}\n", 2, *words)
-        for said, _, words in mistakes.FILES:
-            self.program_says(f"aclc: {said}\n", 7, *words)
-        for words in mistakes.IMAGES:
-            self.program_says("aclc: write fault\n", 8, *words)
-
-    @unittest.skipIf(os.geteuid() == 0, "the administrator may read every file")
-    def test_a_file_that_may_not_be_read(self):
-        rules = self.write("closed.rules", mistakes.GUIDE)
-        rules.chmod(0)
-        self.program_says("aclc: read fault\n", 7, "classify", rules, EXAMPLES / "guide.pcap")
-        self.program_says("aclc: write fault\n", 8, "build", EXAMPLES / "guide.rules", rules)
-        done = subprocess.run([str(CHECK), str(rules)], stdout=subprocess.PIPE, stderr=subprocess.PIPE, text=True)
-        self.assertEqual((done.returncode, done.stderr), (7, f"check: {rules}: Permission denied\n"))
+                self.program_says(f"aclc: capture: {kind}\n", 5, "classify", EXAMPLES / "guide.rules",
+                                  self.write("list.pcap", content))
 
     def test_likely_mistakes_are_warned_of(self):
         for title, content, said in mistakes.WARNED:
@@ -116,15 +85,14 @@ class Check(unittest.TestCase):
         rules, _ = rule_file.read_rules((EXAMPLES / "mixed.rules").read_bytes())
         self.assertEqual(list(warnings.of_file(rules)), [])
 
-    def test_the_page_has_each_mistake_under_its_message(self):
-        page = PAGE.read_text(encoding="utf-8")
-        rows = re.findall(r"(?m)^\| ([^|]+) \| ", page)
-        titles = [it[1] for it in mistakes.RULES + mistakes.CAPTURES + mistakes.WORDS + mistakes.FILES]
-        titles += [it[0] for it in mistakes.WARNED] + [mistakes.CLOSED]
-        for title in titles:
-            self.assertIn(title, rows)
-        for kind in {it[0] for it in mistakes.RULES} | {it[0].split(": ")[-1] for it in mistakes.CAPTURES + mistakes.WORDS}:
-            self.assertIn(f"### {kind}\n", page)
+    def test_control_characters_and_other_bytes_are_escaped(self):
+        rules = self.write("\x1b.rules",
+                           b"@10.0.0.0/8 \x1b[31m0.0.0.0/0 \xff\n@1.1.1.1/32 \x7f\n" + LINE + b" flags\xe2\x80\xae\n")
+        done = subprocess.run([str(CHECK), str(rules)], stdout=subprocess.PIPE)
+        self.assertFalse([byte for byte in done.stdout if byte < 32 and byte != 10 or byte > 126])
+        for part in (b"\\x1b.rules:1: bad address\n", b"@10.0.0.0/8 \\x1b[31m0.0.0.0/0 \\xff\n", b"\\x7f\n",
+                     b"flags\\u202e\n"):
+            self.assertIn(part, done.stdout)
 
     def test_a_mark_stands_under_the_word(self):
         rules = self.write("list.rules", b"@10.0.0.0/8\t0.0.0.0/0 0:65535 80-90 6/0xFF\n@1.1.1.1/32 any\n")
@@ -155,7 +123,8 @@ class Check(unittest.TestCase):
             self.assertEqual(done.stdout if code else done.stderr, "")
 
     def test_codes(self):
-        for words, code in (([EXAMPLES / "office.rules"], 0), ([EXAMPLES / "guide.rules", EXAMPLES / "office.rules"], 5),
+        for words, code in (([EXAMPLES / "office.rules"], 0),
+                            ([EXAMPLES / "guide.rules", EXAMPLES / "office.rules"], 5),
                             ([EXAMPLES / "guide.pcap"], 3), (["none"], 7), ([], 2)):
             done = subprocess.run([str(CHECK), *map(str, words)], stdout=subprocess.PIPE, stderr=subprocess.PIPE)
             self.assertEqual(done.returncode, code, done.stderr)

@@ -1,0 +1,198 @@
+"""What the program answers: which rules of a list decide the packets of a capture, and what it says of lists alone.
+
+The program gets a copy of the list whose userdata is the number of the rule, so that rules of equal userdata are told
+apart.
+"""
+import mmap
+import os
+import shutil
+import subprocess
+import tempfile
+from pathlib import Path
+
+from aclc_tools import any_list, capture, keys
+from aclc_tools.program import leave, note, program
+
+MOST_CATEGORIES = 16
+# The exit codes of a capture that is faulty, or that can't be read.
+OF_CAPTURE = (5, 7)
+
+
+class Refusal(Exception):
+    """What the program said as it refused something, and its exit code."""
+
+    def __init__(self, code, message):
+        self.code = code
+        self.message = message.strip() or f"{program()} ended with exit code {code} and no message"
+        super().__init__(self.message)
+
+    def is_of_list(self):
+        """Whether it isn't the capture that is refused, so that no other capture will do."""
+        return self.code not in OF_CAPTURE
+
+
+class Room:
+    """A folder for what the program gets, which goes with the tool."""
+
+    def __init__(self):
+        self.folder = tempfile.TemporaryDirectory(prefix="aclc-")
+        self.count = 0
+
+    def name(self, suffix):
+        """A name for a file that isn't there yet."""
+        self.count += 1
+        return Path(self.folder.name) / f"{self.count}{suffix}"
+
+    def write(self, suffix, content):
+        """Writes a file, and gives its name."""
+        path = self.name(suffix)
+        path.write_bytes(content)
+        return path
+
+    def of_capture(self, name):
+        """A name for a capture that may be read more than once."""
+        path = self.name(".pcap")
+        source = "/dev/stdin" if name == "-" else name
+        try:
+            if os.path.isfile(source):
+                path.symlink_to(os.path.abspath(source))
+            else:
+                with open(source, "rb") as pipe, open(path, "wb") as copy:
+                    shutil.copyfileobj(pipe, copy)
+        except (OSError, ValueError) as error:
+            raise Refusal(7, f"{getattr(error, 'strerror', None) or error}") from None
+        return path
+
+
+def line_of(rule, number):
+    """A rule's line with this userdata, and with its priority, which its place gives it else."""
+    places = sorted((rule.places[name] for name in ("pri", "data") if name in rule.places), reverse=True)
+    text = rule.text
+    for start, end in places:
+        text = text[:start] + text[end:]
+    return b"%s pri=%d data=%d\n" % (text, rule.priority, number)
+
+
+def copy_of(rules, data):
+    """The bytes of a rule file of some rules, each with the userdata that stands under its number."""
+    return b"".join(line_of(rule, data[rule.ordinal]) for rule in rules)
+
+
+def numbered(rules):
+    """The bytes of a rule file of some rules whose userdata is their number."""
+    return b"".join(line_of(rule, rule.ordinal) for rule in rules)
+
+
+def started(*words):
+    """The program, begun with these words, and the file that it tells its messages to."""
+    said = tempfile.TemporaryFile()
+    try:
+        return subprocess.Popen([program(), *map(str, words)], stdout=subprocess.PIPE, stderr=said), said
+    except OSError as error:
+        return leave(f"{program()}: {error.strerror}: ACLC names no program", 2)
+
+
+def lines_of(*words):
+    """The lines that the program prints; a Refusal where it doesn't end with code 0."""
+    process, said = started(*words)
+    with process, said:
+        try:
+            for line in process.stdout:
+                yield line.decode().split()
+        except GeneratorExit:
+            process.kill()
+            raise
+        code = process.wait()
+        said.seek(0)
+        message = said.read().decode(errors="replace")
+        if code:
+            raise Refusal(code, message)
+        if message:
+            note(message.rstrip("\n"))
+
+
+def audited(copy, categories, given):
+    """What the program says of each rule: its userdata, and its least key in a category where it decides, or None."""
+    told, count = set(), None
+    for parts in lines_of("audit", copy, f"categories={categories}", *words_more(given)):
+        if parts[0] == "rules":
+            count = int(parts[1])
+        else:
+            told.add((parts[0], parts[2]))
+            yield int(parts[4]), keys.of_digits(parts[8]) if parts[5] == "wins" else None
+    if count != len(told):
+        raise Refusal(0, f"the program audits {count} rules, and tells of {len(told)}")
+
+
+def compared(one, other, given):
+    """What the program says of each family in which two lists differ: a category, and a key."""
+    families = []
+    for parts in lines_of("compare", one, other, *words_more(given)):
+        families.append(parts[0])
+        if parts[1] == "differ":
+            yield int(parts[3]), keys.of_digits(parts[5])
+    if families != ["ip4", "ip6"]:
+        raise Refusal(0, f"the program compares {' and '.join(families) or 'no family'}, and should both")
+
+
+def words_more(given):
+    """The words of the program that options of the tools stand for."""
+    return [f"max-words={given.max_words}"] if given.max_words else []
+
+
+def classified(listed, copy, packets, categories, given):
+    """What the program answers to each record by the copy of a list: its kind, and in each category the number of a
+    rule or None; then `packets` and the program's last line."""
+    last, count = None, 0
+    try:
+        for parts in lines_of("classify", copy, packets, f"categories={categories}", "marks=on", *words_more(given)):
+            if parts[0] == "packets":
+                last = " ".join(parts)
+            else:
+                count += 1
+                yield parts[1], [None if it == "-" else int(it) for it in parts[2:]]
+    except Refusal as refusal:
+        raise Refusal(refusal.code,
+                      f"{listed.name}: {refusal.message}" if refusal.is_of_list() else refusal.message) from None
+    if not last or last.split()[1] != str(count):
+        raise Refusal(0, f"{listed.name}: the program printed {count} lines, and last {last or 'no count of them'}")
+    yield "packets", last
+
+
+def categories_of(given, *listed):
+    """The categories that are looked at: the one that is asked for, or all where rules name any."""
+    if given.category is not None:
+        return [given.category]
+    return list(range(MOST_CATEGORIES)) if any(it.has_categories for it in listed) else [0]
+
+
+def count_of(categories):
+    """How many categories the program has to answer in."""
+    return next(it for it in (1, 4, 8, 12, 16) if it > max(categories))
+
+
+def read(name, given, room):
+    """The list of a file; where it is faulty the tool ends with what the program says."""
+    try:
+        return any_list.read_list(name, given)
+    except any_list.Faulty as faulty:
+        original, packets = room.write(".rules", faulty.content), room.write(".pcap", capture.write([]))
+        try:
+            list(lines_of("classify", original, packets))
+        except Refusal as refusal:
+            return leave(f"{name}: {refusal.message}; tools/check {name} tells more", 2)
+        fault = faulty.fault
+        return leave(f"{name}: the program reads it, and this tool doesn't: line {fault.line}: {fault.kind}", 2)
+
+
+def content_of(path):
+    """The bytes of a capture, which aren't taken into memory at once."""
+    with open(path, "rb") as file:
+        if not os.fstat(file.fileno()).st_size:
+            return b""
+        return mmap.mmap(file.fileno(), 0, access=mmap.ACCESS_READ)
+
+
+def told(refusal, name):
+    """What is told of a refusal at a capture of this name."""
+    return refusal.message if refusal.is_of_list() else f"{name}: {refusal.message}"

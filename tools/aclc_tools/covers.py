@@ -1,0 +1,106 @@
+"""Which earlier rules cover one that decides nothing: the fewest of them that are found.
+
+What is left of a rule is a list of pieces: a bit for each protocol, and intervals of addresses and ports. Keys that no
+packet has are left out from the first.
+"""
+from collections import namedtuple
+from functools import lru_cache
+from itertools import combinations, product
+
+from aclc_tools.keys import WITH_PORTS
+
+Piece = namedtuple("Piece", "protocols source destination source_ports destination_ports")
+PORTED = sum(1 << it for it in WITH_PORTS)
+MOST_PIECES = 20_000
+MOST_PAIRS = 60
+
+
+class TooMany(Exception):
+    """What is left of a rule has too many pieces."""
+
+
+@lru_cache(maxsize=None)
+def protocols_of(value, mask):
+    """A bit for each protocol that agrees with a value in the bits of a mask."""
+    return sum(1 << it for it in range(256) if not (it ^ value) & mask)
+
+
+def piece_of(rule):
+    """All keys that a rule matches."""
+    return Piece(protocols_of(*rule.protocol), *rule.intervals())
+
+
+def of_box(box):
+    """The pieces of a box of `boxes`."""
+    protocols = sum(1 << it for low, high in box.protocols for it in range(low, high + 1))
+    return [Piece(protocols, *sides) for sides in product(*box[1:5])]
+
+
+def of_packets(piece):
+    """The pieces of the keys that packets have: protocols without ports have ports 0."""
+    found = [piece._replace(protocols=piece.protocols & PORTED)]
+    if piece.source_ports[0] == piece.destination_ports[0] == 0:
+        found.append(piece._replace(protocols=piece.protocols & ~PORTED, source_ports=(0, 0), destination_ports=(0, 0)))
+    return [it for it in found if it.protocols]
+
+
+def meets(one, other):
+    """Whether two pieces have a key in common."""
+    return one.protocols & other.protocols and all(max(a[0], b[0]) <= min(a[1], b[1])
+                                                   for a, b in zip(one[1:], other[1:]))
+
+
+def without(piece, other):
+    """What is left of a piece without another one."""
+    if not meets(piece, other):
+        yield piece
+        return
+    for place, side in enumerate(Piece._fields[1:], 1):
+        (low, high), (first, last) = piece[place], other[place]
+        if low < first:
+            yield piece._replace(**{side: (low, first - 1)})
+        if last < high:
+            yield piece._replace(**{side: (last + 1, high)})
+        piece = piece._replace(**{side: (max(low, first), min(high, last))})
+    if piece.protocols & ~other.protocols:
+        yield piece._replace(protocols=piece.protocols & ~other.protocols)
+
+
+def left_by(pieces, others):
+    """What others leave of some pieces."""
+    for other in others:
+        pieces = [left for piece in pieces for left in without(piece, other)]
+        if len(pieces) > MOST_PIECES:
+            raise TooMany
+    return pieces
+
+
+def cover(pieces, candidates):
+    """The fewest candidates that are found to match all of some pieces together, or None where all of them don't.
+
+    A candidate is an entry with the pieces of its rules; they are tried in their order.
+    """
+    if not pieces:
+        return []
+    near = [(entry, [it for it in its if any(meets(piece, it) for piece in pieces)]) for entry, its in candidates]
+    near = [it for it in near if it[1]]
+    for count in (1, 2) if len(near) <= MOST_PAIRS else (1,):
+        for some in combinations(near, count):
+            if not left_by(pieces, [piece for _, its in some for piece in its]):
+                return [entry for entry, _ in some]
+    needed, left = [], pieces
+    for entry, its in near:
+        fewer = left_by(left, its)
+        if fewer != left:
+            needed.append((entry, its))
+            left = fewer
+    return None if left else thinned(pieces, needed)
+
+
+def thinned(pieces, needed):
+    """The entries that can't be left out of some that match all of the pieces; the last ones are tried first."""
+    for it in reversed(needed):
+        fewer = [other for other in needed if other is not it]
+        if not left_by(pieces, [piece for _, its in fewer for piece in its]):
+            needed = fewer
+    return [entry for entry, _ in needed]

@@ -1,0 +1,73 @@
+"""What the tools print: texts of files without what a terminal would act on, and an end that is never a traceback."""
+import csv
+import json
+import re
+import sys
+
+# Control characters but TAB, what turns the direction of a text or can't be seen, and bytes that aren't UTF-8.
+UNSEEN = re.compile("[\x00-\x08\x0a-\x1f\x7f-\x9f\xad\u061c\u200b-\u200f\u2028-\u202e\u2060-\u206f\ufeff\ud800-\udfff]")
+
+
+def escaped(found):
+    """A character as its number."""
+    number = ord(found.group())
+    if 0xDC80 <= number <= 0xDCFF:
+        number -= 0xDC00
+    return f"\\x{number:02x}" if number < 256 else f"\\u{number:04x}"
+
+
+def shown(text):
+    """A text or the bytes of one as they can be printed on a line."""
+    return UNSEEN.sub(escaped, text.decode("utf-8", "surrogateescape") if isinstance(text, bytes) else text)
+
+
+def numbers_text(categories):
+    """The numbers of categories in words."""
+    runs = []
+    for it in categories:
+        if runs and runs[-1][1] == it - 1:
+            runs[-1][1] = it
+        else:
+            runs.append([it, it])
+    parts = [str(first) if first == last else f"{first}-{last}" for first, last in runs]
+    return f"categor{'y' if len(categories) == 1 else 'ies'} {', '.join(parts)}"
+
+
+def print_json(told):
+    """Prints what a program is to read."""
+    json.dump(told, sys.stdout, indent=1)
+    print()
+
+
+def print_csv(names, rows):
+    """Rows, each a dictionary, with a line of their names before them."""
+    writer = csv.DictWriter(sys.stdout, names, lineterminator="\n", extrasaction="ignore")
+    writer.writeheader()
+    writer.writerows(rows)
+
+
+def end_of(main, code):
+    """Runs a tool to its end. Whatever keeps it from telling all that it should tell ends it with this code, so that no
+    other one is taken for an answer."""
+    name = shown(sys.argv[0].rpartition("/")[2])
+    for stream in filter(None, (sys.stdout, sys.stderr)):
+        stream.reconfigure(errors="backslashreplace")
+    try:
+        if not sys.stdout:
+            raise OSError("standard output is closed")
+        try:
+            main()
+        finally:
+            sys.stdout.flush()
+    except BrokenPipeError:
+        # What reads the lines has enough of them.
+        sys.stdout = None
+        sys.exit(code)
+    except KeyboardInterrupt:
+        sys.stdout = None
+        sys.exit(130)
+    except Exception as error:
+        sys.stdout = None
+        what = "" if isinstance(error, OSError) else f"a fault of this tool: {type(error).__name__}: "
+        print(f"{name}: {what}{shown(str(getattr(error, 'strerror', None) or error))}", file=sys.stderr)
+        sys.exit(code)

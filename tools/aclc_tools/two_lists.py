@@ -1,0 +1,49 @@
+"""Two lists beside each other: which rules of them decide a packet, and whether that is a change."""
+from collections import namedtuple
+
+from aclc_tools import answers, any_list, labels, packet_words
+from aclc_tools.printing import shown
+
+COLUMNS = ["category", "old", "old_line", "old_rule", "new", "new_line", "new_rule"]
+# A packet that changed: its capture and number, a category, and the numbers of the rules that decide, or None.
+Change = namedtuple("Change", "capture number category old new")
+
+
+class TwoLists:
+    """An old and a new list, what counts as their answers, and copies of them whose userdata are the rules' numbers."""
+
+    def __init__(self, given, room):
+        self.lists = [answers.read(name, given, room) for name in (given.old, given.new)]
+        any_list.check_words(given, [given.old, given.new, *getattr(given, "captures", ())], self.lists)
+        self.data = labels.chosen(given, *self.lists)
+        self.labels = [labels.of_list(listed, self.data) for listed in self.lists]
+        self.copies = [room.write(".rules", answers.numbered(listed.rules)) for listed in self.lists]
+
+    def differ(self, old, new):
+        """Whether the answers of two rules differ, each given by its number or None."""
+        return self.labels[0][old or 0] != self.labels[1][new or 0]
+
+    def rules(self, change):
+        """The rules that decide, each of its list or None."""
+        return [listed.rules[number - 1] if number else None
+                for listed, number in zip(self.lists, (change.old, change.new))]
+
+    def row(self, change, key=None):
+        """What is told of a change, or of a pair of rules where no packet is named."""
+        row = {"capture": change.capture, "number": change.number,
+               "packet": packet_words.words_of(key) if key else None,
+               "category": change.category}
+        for side, listed, rule, own in zip(("old", "new"), self.lists, self.rules(change), self.labels):
+            entry = listed.entry(rule) if rule else None
+            row[side] = own[rule.ordinal if rule else 0]
+            row[f"{side}_place"] = entry.place() if entry else None
+            row[f"{side}_line"] = entry.number if entry else None
+            row[f"{side}_rule"] = entry.text if entry else None
+        return row
+
+    def print_sides(self, row):
+        """Both answers with the lines that give them."""
+        width = max(len(labels.told(row[side], self.data)) for side in ("old", "new"))
+        for side in ("old", "new"):
+            rule = f"{row[side + '_place']}: {row[side + '_rule']}" if row[side + "_place"] else "no rule matches"
+            print("  " + "  ".join(filter(None, [side, labels.told(row[side], self.data).ljust(width), shown(rule)])))

@@ -1,0 +1,35 @@
+"""The way of a packet through the chains of a list, rule by rule, as the other program goes it."""
+from aclc_tools import lists
+
+
+def is_within(boxes, key):
+    """Whether a packet of this key is in one of the boxes."""
+    return any(box.family == key.family and all(any(low <= number <= high for low, high in side)
+                                                for side, number in zip(box[1:], key.numbers)) for box in boxes)
+
+
+def way(listed, key):
+    """The entries that match a packet, in the order in which it comes to them: the first one decides, and the others
+    would without those before them."""
+    found = []
+    if key.family not in listed.chains.families:
+        return found
+    follow(listed, listed.chains.start, key, found)
+    return found + [entry for entry in listed.entries if entry.is_end]
+
+
+def follow(listed, name, key, found):
+    """Goes through a chain to its end, or to where the packet leaves it."""
+    for rule in listed.chains.chains[name].rules:
+        if rule.reason or not is_within(rule.boxes, key):
+            continue
+        if rule.verdict in (lists.ACCEPT, lists.DROP):
+            entry = listed.by_key[rule.number, rule.verdict]
+            if entry not in found:
+                found.append(entry)
+        elif rule.verdict == lists.RETURN:
+            return
+        elif rule.verdict in (lists.JUMP, lists.GO):
+            follow(listed, rule.target, key, found)
+            if rule.verdict == lists.GO:
+                return

@@ -1,0 +1,34 @@
+"""The scripts of tools, run as a user runs them or as modules, with the built program."""
+import argparse
+import importlib.machinery
+import importlib.util
+import os
+import subprocess
+import unittest
+
+from aclc_tools.program import TOP, built_program
+
+BUILT = unittest.skipUnless(built_program(), "the program isn't built")
+EXAMPLES, DATA = TOP / "examples", TOP / "tools" / "tests" / "data"
+
+
+def script(path):
+    """A script without a suffix, as a module."""
+    loader = importlib.machinery.SourceFileLoader(path.name, str(path))
+    module = importlib.util.module_from_spec(importlib.util.spec_from_loader(path.name, loader))
+    loader.exec_module(module)
+    return module
+
+
+def tool(name, *words, **more):
+    """What a tool ends with, what it prints, and its messages."""
+    env = {**os.environ, "ACLC": str(built_program() or "/nosuch"), **more.pop("env", {})}
+    done = subprocess.run([str(TOP / "tools" / name), *map(str, words)], stdout=subprocess.PIPE, stderr=subprocess.PIPE,
+                          env=env, **more)
+    return done.returncode, done.stdout.decode(), done.stderr.decode()
+
+
+def given(**more):
+    """The options of a tool with their defaults, and those that are given."""
+    usual = dict.fromkeys(("form", "chain", "table", "list", "family", "max_words", "category", "data", "csv", "json"))
+    return argparse.Namespace(**{**usual, "lenient": False, "all": True, **more})
