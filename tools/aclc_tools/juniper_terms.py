@@ -6,7 +6,7 @@ import difflib
 
 from aclc_tools import boxes
 from aclc_tools.cisco_words import compares, is_number, of_family, prefix
-from aclc_tools.lists import ACCEPT, DROP, PASS, CantSay, Rule
+from aclc_tools.lists import ACCEPT, DROP, PASS, REJECT, CantSay, Rule
 
 PROTOCOLS = {"ah": 51, "egp": 8, "esp": 50, "gre": 47, "icmp": 1, "icmp6": 58, "icmpv6": 58, "igmp": 2, "ipip": 4,
              "ipv6": 41, "ospf": 89, "pim": 103, "rsvp": 46, "sctp": 132, "tcp": 6, "udp": 17, "vrrp": 112}
@@ -41,7 +41,7 @@ COMPARED = {"next-header": "the first header after that of IPv6 (payload-protoco
 DOING = ("policer", "three-color-policer", "hierarchical-policer", "routing-instance", "logical-system", "next-ip",
          "next-ip6", "next-interface", "topology", "decapsulate", "encapsulate", "prefix-action", "ipsec-sa",
          "load-balance", "service-filter-hit")
-VERDICTS = {"accept": ACCEPT, "discard": DROP, "reject": DROP, "next": PASS}
+VERDICTS = {"accept": ACCEPT, "discard": DROP, "reject": REJECT, "next": PASS}
 # Actions that decide nothing, each with whether a word follows.
 PASSING = {"count": 1, "log": 0, "syslog": 0, "sample": 0, "port-mirror": 0, "loss-priority": 1, "forwarding-class": 1,
            "packet-mode": 0, "traffic-class": 1, "dscp": 1}
