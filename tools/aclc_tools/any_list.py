@@ -19,7 +19,8 @@ MARKS = {"nft": r'\A\s*\{(?s:.)*"nftables"', "iptables": r"(?m)^\*[a-z]+\s*$", "
          "cisco": r"(?m)^\s*(ip access-list (extended|standard) |access-list \d+ (permit|deny|dynamic) )",
          "asa": r"(?m)^access-list \S+ (line \d+ )?extended ", "iosxr": r"(?m)^\s*ipv4 access-list \S",
          "nxos": r"(?m)^\s*ip access-list (?!(extended|standard|resequence|logging|role-based) )\S+\s*$",
-         "juniper": r"(?m)^set (.* )?firewall ", "aws": r'\A\s*[\[{](?s:.)*"(SecurityGroups|SecurityGroupRules|NetworkAcls)"',
+         "juniper": r"(?m)^set (.* )?firewall ",
+         "aws": r'\A\s*[\[{](?s:.)*"(SecurityGroups|SecurityGroupRules|NetworkAcls)"',
          "azure": r'\A\s*[\[{](?s:.)*"(securityRules|destinationPortRange)"', RULES: r"(?m)^[ \t]*@"}
 # What several forms have in common, where nothing else tells which of them it is.
 COMMON = ((r"(?m)^\s*ipv6 access-list \S", ("cisco", "nxos", "iosxr")),)
