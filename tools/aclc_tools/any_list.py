@@ -4,11 +4,12 @@ The form is told, or found by what stands in the file. A list of another program
 """
 import argparse
 import re
+import sys
 from collections import namedtuple
 
 from aclc_tools import lists, rule_file
 from aclc_tools.advice import no_list
-from aclc_tools.forms import FORMS, rule_file_of
+from aclc_tools.forms import FORMS, assumed, converted
 from aclc_tools.printing import shown
 from aclc_tools.program import leave, note, read_file
 
@@ -18,12 +19,11 @@ MARKS = {"nft": r'\A\s*\{(?s:.)*"nftables"', "iptables": r"(?m)^\*[a-z]+\s*$", "
          "cisco": r"(?m)^\s*(ip access-list (extended|standard) |access-list \d+ (permit|deny|dynamic) )",
          "asa": r"(?m)^access-list \S+ (line \d+ )?extended ", "iosxr": r"(?m)^\s*ipv4 access-list \S",
          "nxos": r"(?m)^\s*ip access-list (?!(extended|standard|resequence|logging|role-based) )\S+\s*$",
-         "juniper": r"(?m)^set (.* )?firewall ", "aws": r'\A\s*[\[{](?s:.)*"(SecurityGroups|SecurityGroupRules|NetworkAcls)"',
+         "juniper": r"(?m)^set (.* )?firewall ",
+         "aws": r'\A\s*[\[{](?s:.)*"(SecurityGroups|SecurityGroupRules|NetworkAcls)"',
          "azure": r'\A\s*[\[{](?s:.)*"(securityRules|destinationPortRange)"', RULES: r"(?m)^[ \t]*@"}
 # What several forms have in common, where nothing else tells which of them it is.
 COMMON = ((r"(?m)^\s*ipv6 access-list \S", ("cisco", "nxos", "iosxr")),)
-# Forms whose lists drop what no line of them matches, without a line that says so.
-DROPPING = ("cisco", "asa", "nxos", "iosxr", "juniper", "aws", "azure")
 SAID = re.compile(r"# [a-z]+ (\d+)(?: \((\w+)\))?: (.*)")
 EVERYWHERE = {4: b"@0.0.0.0/0 0.0.0.0/0 0:65535 0:65535 0/0", 6: b"@::/0 ::/0 0:65535 0:65535 0/0"}
 STANDARD_INPUT = "-", "/dev/stdin", "/proc/self/fd/0", "/dev/fd/0"
@@ -82,6 +82,7 @@ def add_options(parser):
         parser.add_argument(name)
     parser.add_argument("--family", type=int, choices=(4, 6))
     parser.add_argument("--lenient", action="store_true")
+    parser.add_argument("--assume", type=assumed)
     parser.add_argument("--max-words", metavar="W")
 
 
@@ -151,27 +152,30 @@ class Faulty(Exception):
         self.name, self.content, self.fault = name, content, fault
 
 
-def converted(options, text):
-    """The lines of a list's rule file, the rules that are left out of it, and its chains with the one that is meant."""
-    lines, left_out = rule_file_of(options, text)
-    return lines, left_out, Chains(*FORMS[options.form][0].convert(text.split("\n"), options))
-
-
 def of_other(name, form, text, given):
     """A list of another program, with what it does at its end where no line of it says that."""
-    options = argparse.Namespace(**{**vars(given), "form": form, "file": name})
-    what = FORMS[form][1]
+    options = {key: value for key, value in vars(given).items() if value is not None and key != "data"}
+    what = FORMS[form].what
     try:
         text.encode()
-        lines, left_out, chains = converted(options, text)
+        found = converted(argparse.Namespace(**{**options, "form": form, "file": str(name)}), text)
     except lists.CantSay as said:
-        place = f"{name}: {what} {said.number}" if said.number else name
-        leave(f"{place}: {said.reason}" + (f"\n    {said.text}" if said.text else ""), 2)
+        for it in said.notes:
+            tell(name, what, *it)
+        tell(name, what, said.number, said.text, said.reason)
+        sys.exit(2)
     except UnicodeEncodeError as error:
         leave(f"{name}: character {error.start} of it isn't UTF-8", 2)
-    for rule in left_out:
-        note(f"{name}: {what} {rule.number}: left out: {rule.reason}\n    {rule.text}")
-    return with_entries(name, form, lines, chains, text.split("\n") if what == "line" else None)
+    for it in found.notes:
+        tell(name, what, *it)
+    families = {box.family for _, box in found.flattener.found}
+    chains = Chains(found.flattener.chains, found.flattener.start, families)
+    return with_entries(name, form, found.lines, chains, text.split("\n") if what == "line" else None)
+
+
+def tell(name, what, number, text, reason):
+    """A line on standard error for what can't be said, or what is told beside it."""
+    note((f"{name}: {what} {number}" if number else str(name)) + f": {reason}" + (f"\n    {text}" if text else ""))
 
 
 def deciding(chains):
@@ -180,7 +184,7 @@ def deciding(chains):
     met, waiting = set(), [iter([(None, chains.start)])]
     while waiting:
         rule, target = next(waiting[-1], (None, None))
-        if rule and rule.verdict in (lists.ACCEPT, lists.DROP) and not rule.reason:
+        if rule and rule.verdict in lists.DECIDING and not rule.reason:
             yield rule, len(waiting) == 2
         if not rule and not target:
             waiting.pop()
@@ -191,13 +195,13 @@ def deciding(chains):
 
 def with_entries(name, form, lines, chains, written):
     """A list of the lines of its rule file, in which a comment before its rules says what each entry is."""
-    what, entries, here, rules = FORMS[form][1], {}, None, []
+    what, entries, here, rules = FORMS[form].what, {}, None, []
     for rule, is_in_chain in deciding(chains):
         entry = entries.setdefault((rule.number, rule.verdict), Entry(what, rule.number, rule.text, rule.verdict))
         if is_in_chain:
             entry.boxes = [*(entry.boxes or ()), *rule.boxes]
     policy = chains.chains[chains.start].policy
-    if policy and policy.verdict in (lists.ACCEPT, lists.DROP):
+    if policy and policy.verdict in lists.DECIDING:
         ends = [entries.setdefault((policy.number, policy.verdict),
                                    Entry(what, policy.number, policy.text, policy.verdict))]
     else:
@@ -210,8 +214,8 @@ def with_entries(name, form, lines, chains, written):
         elif not line.startswith("#"):
             rules.append(rule_file.read_rule(line.encode(), place, len(rules) + 1))
             here.rules.append(rules[-1])
-    if form in DROPPING and not ends:
-        ends.append(end_of(what, rules, len(lines)))
+    if FORMS[form].end and not ends:
+        ends.append(end_of(what, FORMS[form].end, rules, len(lines)))
         entries[None] = ends[0]
     for entry in ends:
         entry.is_end = True
@@ -223,9 +227,9 @@ def with_entries(name, form, lines, chains, written):
     return AnyList(name, form, rules, listed, chains, entries)
 
 
-def end_of(what, rules, place):
+def end_of(what, verdict, rules, place):
     """What a list does with packets that no line of it matches; its rules are added to the others."""
-    end = Entry(what, None, "what no line matches is dropped", lists.DROP)
+    end = Entry(what, None, "what no line matches", verdict)
     for family in sorted({rule.family for rule in rules}):
         place += 1
         rules.append(rule_file.read_rule(EVERYWHERE[family] + b" data=0", place, len(rules) + 1))

@@ -23,7 +23,7 @@ def follow(listed, name, key, found):
     for rule in listed.chains.chains[name].rules:
         if rule.reason or not is_within(rule.boxes, key):
             continue
-        if rule.verdict in (lists.ACCEPT, lists.DROP):
+        if rule.verdict in lists.DECIDING:
             entry = listed.by_key[rule.number, rule.verdict]
             if entry not in found:
                 found.append(entry)

@@ -128,7 +128,7 @@ class Tried(unittest.TestCase):
         self.assertEqual((done.returncode, done.stderr), (8, b"aclc: write fault\n"))
         many = self.write("many", capture.write([frame for frame, _ in capture.records(
             Path("office.pcap").read_bytes())] * 5000))
-        ended = subprocess.run(["bash", "-c", f"{words[0]} classify office.rules {many} | true; exit ${{PIPESTATUS[0]}}"],
+        ended = subprocess.run(["bash", "-c", f"{words[0]} classify {words[2]} {many} | true; exit ${{PIPESTATUS[0]}}"],
                                stderr=subprocess.PIPE)
         self.assertEqual((ended.returncode, ended.stderr), (8, b"aclc: write fault\n"))
         limit = lambda kind, size: lambda: resource.setrlimit(kind, (size, size))

@@ -4,6 +4,7 @@ import importlib.machinery
 import importlib.util
 import os
 import subprocess
+import sys
 import unittest
 
 from aclc_tools.program import TOP, built_program
@@ -23,8 +24,8 @@ def script(path):
 def tool(name, *words, **more):
     """What a tool ends with, what it prints, and its messages."""
     env = {**os.environ, "ACLC": str(built_program() or "/nosuch"), **more.pop("env", {})}
-    done = subprocess.run([str(TOP / "tools" / name), *map(str, words)], stdout=subprocess.PIPE, stderr=subprocess.PIPE,
-                          env=env, **more)
+    done = subprocess.run([sys.executable, str(TOP / "tools" / name), *map(str, words)], stdout=subprocess.PIPE,
+                          stderr=subprocess.PIPE, env=env, **more)
     return done.returncode, done.stdout.decode(), done.stderr.decode()
 
 
