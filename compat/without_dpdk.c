@@ -1,3 +1,4 @@
+/* SPDX-License-Identifier: BSD-3-Clause */
 /*
  * The few things of DPDK that a program over rte_acl.h uses, for one that isn't linked with DPDK.
  */

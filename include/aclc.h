@@ -1,3 +1,4 @@
+/* SPDX-License-Identifier: BSD-3-Clause */
 /*
  * aclc.h: a packet classifier in the shape of DPDK's librte_acl.
  *

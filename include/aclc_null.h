@@ -1,3 +1,4 @@
+/* SPDX-License-Identifier: BSD-3-Clause */
 /*
  * aclc_null.h: the calls of aclc.h for pointers that may be null. It is a part of that header.
  *

@@ -1,3 +1,4 @@
+/* SPDX-License-Identifier: BSD-3-Clause */
 /*
  * layout.c: prints the sizes, places and numbers of rte_acl.h that a built program has in it.
  *

@@ -1,3 +1,4 @@
+/* SPDX-License-Identifier: BSD-3-Clause */
 /*
  * rte_acl_scalar.c: the one call that DPDK's library exports beside those of rte_acl.h.
  */

@@ -1,3 +1,4 @@
+/* SPDX-License-Identifier: BSD-3-Clause */
 // Classifies keys by DPDK's librte_acl: classify RULES KEYS ALGORITHM ROUNDS
 //
 // RULES has for each rule eleven numbers of 4 bytes, low byte first: protocol and mask, source and prefix length, destination

@@ -1,3 +1,4 @@
+/* SPDX-License-Identifier: BSD-3-Clause */
 // Walks keys by the C library of this repository: aclc RULES KEYS BUDGET, and then questions as rte.c
 //
 // RULES is as for rte.c. KEYS has 13 bytes for each key: protocol, source, destination and ports in network order. BUDGET is

@@ -1,3 +1,4 @@
+/* SPDX-License-Identifier: BSD-3-Clause */
 // Walks keys by DPDK's librte_acl: rte RULES KEYS, and then a question on each line of standard input
 //
 // RULES has for each rule eleven numbers of 4 bytes, low byte first: protocol and mask, source and prefix length, destination

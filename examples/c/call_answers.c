@@ -1,3 +1,4 @@
+/* SPDX-License-Identifier: BSD-3-Clause */
 /*
  * Prints what each call of rte_acl.h answers, to unlawful arguments too: call_answers [open]
  *

@@ -1,3 +1,4 @@
+/* SPDX-License-Identifier: BSD-3-Clause */
 /* A firewall of twenty rules over IPv4 packets, and what it says of ten of them. */
 #include <inttypes.h>
 #include <stdio.h>

@@ -1,3 +1,4 @@
+/* SPDX-License-Identifier: BSD-3-Clause */
 /*
  * Whether the library gives back what it takes: the blocks that are held before a handle is filled
  * and after it is freed, each kind of handle a thousand times, with calls that are refused.

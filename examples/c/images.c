@@ -1,3 +1,4 @@
+/* SPDX-License-Identifier: BSD-3-Clause */
 /*
  * Tables that are saved and loaded in random orders of calls, lawful and not, each answer compared
  * with what it has to be. A table that was loaded has to give the verdicts and marks of the table

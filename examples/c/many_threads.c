@@ -1,3 +1,4 @@
+/* SPDX-License-Identifier: BSD-3-Clause */
 /*
  * Classifies by one context from many threads at once: many_threads [SECONDS [THREADS]]
  *

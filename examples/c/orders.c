@@ -1,3 +1,4 @@
+/* SPDX-License-Identifier: BSD-3-Clause */
 /*
  * Calls of aclc.h in random orders, lawful and not, each answer compared with what it has to be.
  *

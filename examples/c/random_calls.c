@@ -1,3 +1,4 @@
+/* SPDX-License-Identifier: BSD-3-Clause */
 /*
  * Makes calls of rte_acl.h in random orders, lawful or not: random_calls [ORDERS [SEED]]
  *

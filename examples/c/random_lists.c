@@ -1,3 +1,4 @@
+/* SPDX-License-Identifier: BSD-3-Clause */
 /*
  * Classifies random packets by random lists of rules: random_lists VERDICTS [LISTS [SEED]]
  *

@@ -1,3 +1,4 @@
+# SPDX-License-Identifier: BSD-3-Clause
 """Images of pairs of tables, read and walked by an independent program after the description of their format.
 
 It shares nothing with the crates, and is slow and plain on purpose: what aclc answers is compared with it.

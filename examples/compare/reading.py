@@ -1,3 +1,4 @@
+# SPDX-License-Identifier: BSD-3-Clause
 """Rule files, captures and verdicts, read by an independent program after the README alone.
 
 It is slow and plain on purpose: what aclc prints is compared with it on random files.

@@ -1,3 +1,4 @@
+# SPDX-License-Identifier: BSD-3-Clause
 """Sizes of tables and lengths of walks, worked out by an independent program over one rule after the other.
 
 No word of a table is made here: a state is what the rules of a group still allow, and its size and the number of steps

@@ -1,3 +1,4 @@
+# SPDX-License-Identifier: BSD-3-Clause
 """Each call of the system that a command makes on files and streams, made to fail in turn by strace."""
 import collections
 import re

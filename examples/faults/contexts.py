@@ -1,3 +1,4 @@
+# SPDX-License-Identifier: BSD-3-Clause
 """Each allocation refused in turn of a program that adds rules to a context and builds its table, three times each."""
 import re
 import shutil

@@ -1,3 +1,4 @@
+# SPDX-License-Identifier: BSD-3-Clause
 """Each allocation of a command refused in turn, and memory limits from too little to enough."""
 import os
 import shutil

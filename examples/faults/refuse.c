@@ -1,3 +1,4 @@
+/* SPDX-License-Identifier: BSD-3-Clause */
 /* Refuses allocations of a program: the one of the number REFUSE_FROM, counted from 1, and where REFUSE_MORE is 1 all after
    it too. For each it writes a byte to the file descriptor REFUSE_TELL. It is loaded by LD_PRELOAD, and stands on glibc. */
 #include <stddef.h>

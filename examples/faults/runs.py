@@ -1,3 +1,4 @@
+# SPDX-License-Identifier: BSD-3-Clause
 """Commands over small files, runs of them with a fault, and what is right of a run."""
 import collections
 import os

@@ -1,3 +1,4 @@
+# SPDX-License-Identifier: BSD-3-Clause
 """A full disk, files that may not grow, and a reader that goes away."""
 import resource
 import shutil

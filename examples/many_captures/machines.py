@@ -1,3 +1,4 @@
+# SPDX-License-Identifier: BSD-3-Clause
 """Machines of a trial, all on this one: sshd and the daemons of Slurm on 127.0.0.1, with their files in one folder."""
 import os
 import socket

@@ -1,3 +1,4 @@
+/* SPDX-License-Identifier: BSD-3-Clause */
 // Random parts of tables, some sound and some damaged, and whether the answers to them are those of the definitions.
 //
 //     cases make COUNT SEED > CASES          so many cases, as numbers of eight bytes, low byte first

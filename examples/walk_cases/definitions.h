@@ -1,3 +1,4 @@
+/* SPDX-License-Identifier: BSD-3-Clause */
 // What the definitions say of parts of tables: which are sound, what is wrong with the others first, where walks end,
 // and which word wins. It shares no code with the crates.
 #pragma once

@@ -1,3 +1,4 @@
+/* SPDX-License-Identifier: BSD-3-Clause */
 // A plain walk of one key at a time over the words of a table, and its verdicts: what the proved walks are compared with.
 // walk TABLE KEYS CATEGORIES ROUNDS
 #include <stdint.h>

@@ -1,3 +1,4 @@
+/* SPDX-License-Identifier: BSD-3-Clause */
 /*
  * rte_acl.h: the calls of DPDK's librte_acl 22.11 over the classifier of aclc.h.
  *

@@ -1,3 +1,4 @@
+/* SPDX-License-Identifier: BSD-3-Clause */
 /*
  * table_acl.c: rules and packets by the table of librte_table that stands on librte_acl.
  *

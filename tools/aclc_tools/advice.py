@@ -1,3 +1,4 @@
+# SPDX-License-Identifier: BSD-3-Clause
 """Sentences for who made a mistake: what is wrong with a line, and what it should say."""
 import re
 

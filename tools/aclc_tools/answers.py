@@ -1,3 +1,4 @@
+# SPDX-License-Identifier: BSD-3-Clause
 """What the program answers: which rules of a list decide the packets of a capture, and what it says of lists alone.
 
 The program gets a copy of the list whose userdata is the number of the rule, so that rules of equal userdata are told

@@ -1,3 +1,4 @@
+# SPDX-License-Identifier: BSD-3-Clause
 """Lists of any form as rules that the program reads, each with the line of the list that it was made of.
 
 The form is told, or found by what stands in the file. A list of another program is turned into rules by `forms`.

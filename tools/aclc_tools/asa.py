@@ -1,3 +1,4 @@
+# SPDX-License-Identifier: BSD-3-Clause
 """Extended access lists of Cisco's ASA, with its objects and object groups.
 
 Source: Cisco ASA Series Command Reference, "access-list extended", "object network", "object service", "object-group";

@@ -1,3 +1,4 @@
+# SPDX-License-Identifier: BSD-3-Clause
 """Objects and object groups of Cisco's ASA: addresses, services, protocols and ports."""
 from aclc_tools import boxes, cisco_groups
 from aclc_tools.asa_words import PORTED_BY, PORTS, PROTOCOLS, ANY

@@ -1,3 +1,4 @@
+# SPDX-License-Identifier: BSD-3-Clause
 """The words of Cisco's ASA: its names of protocols and ports, and what begins the parts of its configuration.
 
 Source: Cisco ASA Series General Operations CLI Guide, "Addresses, Protocols, and Ports". Its page and its devices

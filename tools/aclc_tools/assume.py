@@ -1,3 +1,4 @@
+# SPDX-License-Identifier: BSD-3-Clause
 """What is assumed of packets beside their bytes, so that matches on it are true or false.
 
 The text is `in=eth0,out=eth1,state=new,local=10.0.0.1`, with any of these; `local` may come several times, and is told

@@ -1,3 +1,4 @@
+# SPDX-License-Identifier: BSD-3-Clause
 """Security groups and network ACLs of AWS, as `aws ec2 describe-security-groups` and `describe-network-acls` print
 them.
 

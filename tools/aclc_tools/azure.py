@@ -1,3 +1,4 @@
+# SPDX-License-Identifier: BSD-3-Clause
 """Network security groups of Azure, as `az network nsg show` and `az network nsg rule list` print them.
 
 Source: Azure CLI reference, "az network nsg"; Azure Virtual Network documentation, "Network security groups". The

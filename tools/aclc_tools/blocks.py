@@ -1,3 +1,4 @@
+# SPDX-License-Identifier: BSD-3-Clause
 """pcapng captures: their packets, or the fault that ends them, and what to do about it."""
 import struct
 from collections import namedtuple

@@ -1,3 +1,4 @@
+# SPDX-License-Identifier: BSD-3-Clause
 """Sets of packets that a firewall rule matches, and the rules of aclc that say them.
 
 A box has a family and, for each of source, destination, both ports and protocol, the numbers that it allows: disjoint

@@ -1,3 +1,4 @@
+# SPDX-License-Identifier: BSD-3-Clause
 """Captures of either format: their records, or the fault that ends them, and what to do about it."""
 import struct
 

@@ -1,3 +1,4 @@
+# SPDX-License-Identifier: BSD-3-Clause
 """Access lists of Cisco's IOS and IOS XE: standard and extended ones, numbered and named, and IPv6 lists.
 
 Source: Cisco IOS Security Command Reference, "access-list (IP extended)", "access-list (IP standard)", "permit (IP)",

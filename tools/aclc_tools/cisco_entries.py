@@ -1,3 +1,4 @@
+# SPDX-License-Identifier: BSD-3-Clause
 """Entries of Cisco's access lists as rules: what they say of protocols, addresses and ports, as boxes.
 
 A service is a protocol with what it compares of source ports and of destination ports, None where it compares none.

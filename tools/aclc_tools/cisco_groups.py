@@ -1,3 +1,4 @@
+# SPDX-License-Identifier: BSD-3-Clause
 """Object groups of Cisco's devices: named addresses, ports, protocols and services, which may name other groups.
 
 A group's value is made when an entry asks for it, since it may stand after the entry, and may be added to in many

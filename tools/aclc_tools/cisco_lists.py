@@ -1,3 +1,4 @@
+# SPDX-License-Identifier: BSD-3-Clause
 """Configurations of Cisco's devices line by line: which list or group each line belongs to, and the order of entries.
 
 A line that isn't of a list is passed over only where it can't be one: an entry that stands outside of a list is

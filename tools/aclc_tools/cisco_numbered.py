@@ -1,3 +1,4 @@
+# SPDX-License-Identifier: BSD-3-Clause
 """What NX-OS and IOS XR have in common: lists by name, each remark and entry with a number in the sequence, and groups
 of addresses of one family or of ports.
 """

@@ -1,3 +1,4 @@
+# SPDX-License-Identifier: BSD-3-Clause
 """The words that Cisco's devices share: names of protocols and ports, addresses with their masks, comparisons of ports.
 
 Source: Cisco IOS Security Command Reference, "permit (IP)"; Cisco ASA General Operations CLI Guide, "Addresses,

@@ -1,3 +1,4 @@
+# SPDX-License-Identifier: BSD-3-Clause
 """Which earlier rules cover one that decides nothing: the fewest of them that are found.
 
 What is left of a rule is a list of pieces: a bit for each protocol, and intervals of addresses and ports. Keys that no

@@ -1,3 +1,4 @@
+# SPDX-License-Identifier: BSD-3-Clause
 """Which rules of a list match a packet, and why those that match and don't decide lose."""
 import collections
 

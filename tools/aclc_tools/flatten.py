@@ -1,3 +1,4 @@
+# SPDX-License-Identifier: BSD-3-Clause
 """Chains of rules, brought into one list of boxes whose first match decides, and written as rules of aclc.
 
 A box may be dear: two addresses that are excluded take 128 rules of IPv6 each, and 16,384 together. Where a box of

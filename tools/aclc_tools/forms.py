@@ -1,3 +1,4 @@
+# SPDX-License-Identifier: BSD-3-Clause
 """The forms of lists that rule files are made of; `lists` says how one plugs in."""
 import argparse
 from collections import namedtuple

@@ -1,3 +1,4 @@
+# SPDX-License-Identifier: BSD-3-Clause
 """What surrounds access lists in a configuration of IOS: the words that begin its other parts, and banners.
 
 Source: Cisco IOS Master Command List, commands of the global configuration mode.

@@ -1,3 +1,4 @@
+# SPDX-License-Identifier: BSD-3-Clause
 """Access lists of Cisco's IOS XR: `ipv4 access-list` and `ipv6 access-list`, with their object groups.
 
 Source: Cisco IOS XR IP Addresses and Services Command Reference, "permit (IPv4)", "permit (IPv6)", "object-group

@@ -1,3 +1,4 @@
+# SPDX-License-Identifier: BSD-3-Clause
 """Lists of iptables-save and ip6tables-save: their tables, chains and lines.
 
 Source: the manual pages iptables(8), ip6tables(8), iptables-extensions(8) and iptables-save(8).

@@ -1,3 +1,4 @@
+# SPDX-License-Identifier: BSD-3-Clause
 """The options of iptables' matches and targets, each with how many words follow it.
 
 Source: the manual pages iptables(8) and iptables-extensions(8).

@@ -1,3 +1,4 @@
+# SPDX-License-Identifier: BSD-3-Clause
 """One rule of iptables-save: its words, and which packets it matches."""
 import re
 

@@ -1,3 +1,4 @@
+# SPDX-License-Identifier: BSD-3-Clause
 """The words of a line of iptables-save, taken as iptables-restore takes them: options of matches and targets.
 
 An option is known once its match or target is named; of two that have one of the same name the later is meant.

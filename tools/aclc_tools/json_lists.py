@@ -1,3 +1,4 @@
+# SPDX-License-Identifier: BSD-3-Clause
 """Lists that the command lines of clouds print as JSON: read so that nothing in them is passed over.
 
 A name that stands twice, one that isn't known, and a value of another kind end the conversion.

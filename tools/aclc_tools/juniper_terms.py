@@ -1,3 +1,4 @@
+# SPDX-License-Identifier: BSD-3-Clause
 """Terms of Juniper's firewall filters: what they compare and what they do, as rules.
 
 Of several values of one condition any may match, and all conditions have to. A term without a verdict accepts.

@@ -1,3 +1,4 @@
+# SPDX-License-Identifier: BSD-3-Clause
 """Keys of packets: what rules look at, read from hexadecimal digits or from a frame, and a frame that has a key.
 
 A key has the bytes of protocol, source, destination, source port and destination port, in network order.

@@ -1,3 +1,4 @@
+# SPDX-License-Identifier: BSD-3-Clause
 """Lists of DPDK's sample application l3fwd-acl: rules after `@`, which drop, and routes after `R`, which have a port.
 
 Source: DPDK Sample Applications User Guide, "L3 Forwarding with Access Control Sample Application", and its main.c: the

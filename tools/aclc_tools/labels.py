@@ -1,3 +1,4 @@
+# SPDX-License-Identifier: BSD-3-Clause
 """What counts as the answer of a list, so that the answers of two lists can be compared."""
 import re
 

@@ -1,3 +1,4 @@
+# SPDX-License-Identifier: BSD-3-Clause
 """What a reader makes of a list of another program: chains of rules whose first match decides.
 
 A form plugs in as one module with a function `convert(lines, options)`, and as a line in FORMS of `forms`. The function

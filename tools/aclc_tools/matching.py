@@ -1,3 +1,4 @@
+# SPDX-License-Identifier: BSD-3-Clause
 """What a rule of a firewall matches so far, as boxes: each condition narrows them."""
 from aclc_tools import boxes
 from aclc_tools.lists import CantSay

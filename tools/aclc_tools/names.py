@@ -1,3 +1,4 @@
+# SPDX-License-Identifier: BSD-3-Clause
 """Names of protocols and ports, as the lists of other programs write them.
 
 SYSTEM has the names of the protocols database, which a test compares with the system's own file.

@@ -1,3 +1,4 @@
+# SPDX-License-Identifier: BSD-3-Clause
 """What other base chains of nft do to the packets that come to one chain."""
 from aclc_tools.lists import PASS, Aside, CantSay
 from aclc_tools.nft_match import Comparing

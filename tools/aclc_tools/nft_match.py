@@ -1,3 +1,4 @@
+# SPDX-License-Identifier: BSD-3-Clause
 """Comparisons of nft: which packets they match."""
 from aclc_tools import boxes
 from aclc_tools.lists import CantSay

@@ -1,3 +1,4 @@
+# SPDX-License-Identifier: BSD-3-Clause
 """Rules of nft as texts, nearly as nft writes them, and what any JSON is made of."""
 import json
 

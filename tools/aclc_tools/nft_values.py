@@ -1,3 +1,4 @@
+# SPDX-License-Identifier: BSD-3-Clause
 """Values of nft's JSON: numbers, addresses, prefixes, ranges, and sets of these, as intervals of a side of a box."""
 import re
 

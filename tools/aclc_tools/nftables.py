@@ -1,3 +1,4 @@
+# SPDX-License-Identifier: BSD-3-Clause
 """Rulesets of nftables, as `nft -j list ruleset` writes them.
 
 Source: the manual pages nft(8) and libnftables-json(5). A rule is named by its handle, a policy by its chain's.

@@ -1,3 +1,4 @@
+# SPDX-License-Identifier: BSD-3-Clause
 """Access lists of Cisco's NX-OS: `ip access-list` and `ipv6 access-list`, with their object groups.
 
 Source: Cisco Nexus 9000 Series NX-OS Security Configuration Guide, "Configuring IP ACLs"; its Command Reference,

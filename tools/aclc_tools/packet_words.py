@@ -1,3 +1,4 @@
+# SPDX-License-Identifier: BSD-3-Clause
 """Packets in words, as `tcp 10.0.0.5:4000 -> 10.1.0.1:443`: read as a user types them, and written to be printed."""
 import ipaddress
 import re

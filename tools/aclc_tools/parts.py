@@ -1,3 +1,4 @@
+# SPDX-License-Identifier: BSD-3-Clause
 """Parts of all keys, so that a list whose table is too large is looked at part by part.
 
 A part has a family, and like a rule a protocol with its mask, two networks and two ranges of ports. A rule is clipped

@@ -1,3 +1,4 @@
+# SPDX-License-Identifier: BSD-3-Clause
 """What the tools print: texts of files without what a terminal would act on, and an end that is never a traceback."""
 import csv
 import json

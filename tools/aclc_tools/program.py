@@ -1,3 +1,4 @@
+# SPDX-License-Identifier: BSD-3-Clause
 """Where the program is, and how it is run."""
 import os
 import shutil

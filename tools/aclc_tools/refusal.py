@@ -1,3 +1,4 @@
+# SPDX-License-Identifier: BSD-3-Clause
 """What both formats of captures share: a record, and why a capture is refused."""
 from collections import namedtuple
 

@@ -1,3 +1,4 @@
+# SPDX-License-Identifier: BSD-3-Clause
 """Rule files as aclc reads them, with the place of each part in its line.
 
 A fault has the number of its line, its kind as the program names it, and the bytes of the line that it is about.

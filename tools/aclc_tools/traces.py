@@ -1,3 +1,4 @@
+# SPDX-License-Identifier: BSD-3-Clause
 """Header traces of ClassBench and of DPDK's test-acl, made into captures.
 
 A line has source, destination, both ports and the protocol, and may have more that is ignored: a mask, flags, the number

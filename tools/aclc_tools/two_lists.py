@@ -1,3 +1,4 @@
+# SPDX-License-Identifier: BSD-3-Clause
 """Two lists beside each other: which rules of them decide a packet, and whether that is a change."""
 from collections import namedtuple
 

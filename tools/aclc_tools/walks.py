@@ -1,3 +1,4 @@
+# SPDX-License-Identifier: BSD-3-Clause
 """The way of a packet through the chains of a list, rule by rule, as the other program goes it."""
 from aclc_tools import lists
 

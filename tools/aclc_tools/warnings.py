@@ -1,3 +1,4 @@
+# SPDX-License-Identifier: BSD-3-Clause
 """What is lawful in a rule file and likely not what was meant."""
 import re
 

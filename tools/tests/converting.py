@@ -1,3 +1,4 @@
+# SPDX-License-Identifier: BSD-3-Clause
 """Converts lists for tests, and decides packets by rule files, a rule at a time."""
 from collections import namedtuple
 from pathlib import Path

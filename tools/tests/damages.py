@@ -1,3 +1,4 @@
+# SPDX-License-Identifier: BSD-3-Clause
 """Lists with one line damaged, each converted without loss or refused.
 
 FORMS is the registry: each form has a module `draws_NAME` with a function `draw(draw)`, which gives a Drawn. Its

@@ -1,3 +1,4 @@
+# SPDX-License-Identifier: BSD-3-Clause
 """Lists and packets that are drawn, and what a plain reading of the lists as they are written answers."""
 import itertools
 import random

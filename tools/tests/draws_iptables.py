@@ -1,3 +1,4 @@
+# SPDX-License-Identifier: BSD-3-Clause
 """Lists of iptables-save and ip6tables-save for the damage test: those that are shipped, and drawn ones."""
 import walk_iptables
 from aclc_tools import assume

@@ -1,3 +1,4 @@
+# SPDX-License-Identifier: BSD-3-Clause
 """Rulesets of nft for the damage test: those that are shipped, and drawn ones, with an object on each line."""
 import json
 

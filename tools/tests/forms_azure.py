@@ -1,3 +1,4 @@
+# SPDX-License-Identifier: BSD-3-Clause
 """A drawer of network security groups of Azure, and a walker over them that shares no code with the converter."""
 import ipaddress
 import json

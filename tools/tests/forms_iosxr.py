@@ -1,3 +1,4 @@
+# SPDX-License-Identifier: BSD-3-Clause
 """A drawer of lists of Cisco's IOS XR, and a walker over their text: those of NX-OS with other words."""
 from functools import partial
 

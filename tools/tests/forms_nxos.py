@@ -1,3 +1,4 @@
+# SPDX-License-Identifier: BSD-3-Clause
 """A drawer of lists of Cisco's NX-OS and IOS XR, and a walker over their text that shares no code with the
 converter."""
 import re

@@ -1,3 +1,4 @@
+# SPDX-License-Identifier: BSD-3-Clause
 """Mistakes that people make, each with what the program says of it.
 
 The first text of a row stands in docs/MISTAKES.md under the message. RULES are lines of a rule file after a lawful one,

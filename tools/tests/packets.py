@@ -1,3 +1,4 @@
+# SPDX-License-Identifier: BSD-3-Clause
 """Packets at the edges of the rules of a file, for tests: addresses and ports at the ends of their ranges."""
 import random
 import struct

@@ -1,3 +1,4 @@
+# SPDX-License-Identifier: BSD-3-Clause
 """Lists of routers for tests: packets and words of a small world, damage to a list, and what the converted list
 decides.
 

@@ -1,3 +1,4 @@
+# SPDX-License-Identifier: BSD-3-Clause
 """Runs the tests of this folder, or those of the files that are named, and tells which were skipped, and why."""
 import os
 import sys

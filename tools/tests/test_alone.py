@@ -1,3 +1,4 @@
+# SPDX-License-Identifier: BSD-3-Clause
 """tools/same and tools/dead: lists alone, against a plain reading of every part of the keys, and what they refuse."""
 import json
 import unittest

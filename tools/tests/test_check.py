@@ -1,3 +1,4 @@
+# SPDX-License-Identifier: BSD-3-Clause
 """tools/check: its judgement against the program's, and the page of mistakes against both."""
 import os
 import subprocess

@@ -1,3 +1,4 @@
+# SPDX-License-Identifier: BSD-3-Clause
 """Lists of Cisco's devices: shipped lists against expected rule files, what is refused, and damaged lists beside a
 walker."""
 import unittest

@@ -1,3 +1,4 @@
+# SPDX-License-Identifier: BSD-3-Clause
 """Filters of Junos, and lists of AWS and Azure: shipped ones, what is refused, and damaged ones beside a walker."""
 import json
 import unittest

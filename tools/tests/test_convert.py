@@ -1,3 +1,4 @@
+# SPDX-License-Identifier: BSD-3-Clause
 """tools/convert: its words, what it writes and refuses, and what userdata and assumptions become."""
 import os
 import subprocess

@@ -1,3 +1,4 @@
+# SPDX-License-Identifier: BSD-3-Clause
 """How many instructions and calls of the system runs of the built program take, beside what is stored.
 
 Tables that are made twice, another walk than was asked for, or a call for each byte print the same lines, and show

@@ -1,3 +1,4 @@
+# SPDX-License-Identifier: BSD-3-Clause
 """Lists with one line damaged, of each form: converted without loss, or refused. `damage` does it for more of them."""
 import unittest
 

@@ -1,3 +1,4 @@
+# SPDX-License-Identifier: BSD-3-Clause
 """The built program where it meets the system: what it opens, what it writes and keeps, how much memory it asks for.
 
 No contract says this, and no desk over memory shows it. Each test says which fault it would see. The commands, their

@@ -1,3 +1,4 @@
+# SPDX-License-Identifier: BSD-3-Clause
 """The scripts of examples: against_tcpdump, many and many_captures/run, and what they say where something lacks."""
 import os
 import shutil

@@ -1,3 +1,4 @@
+# SPDX-License-Identifier: BSD-3-Clause
 """Chains turned into rules: against a plain walk over the chains, with boxes that are dear, and at its limits."""
 import random
 import unittest

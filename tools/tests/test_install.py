@@ -1,3 +1,4 @@
+# SPDX-License-Identifier: BSD-3-Clause
 """include/install, packaging/libraries and aclc-dpdk, by a stand-in for the kit and a library that does nothing."""
 import os
 import re

@@ -1,3 +1,4 @@
+# SPDX-License-Identifier: BSD-3-Clause
 """tools/convert iptables: what is taken, what is refused with its line, and what other tables do."""
 import unittest
 

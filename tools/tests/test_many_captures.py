@@ -1,3 +1,4 @@
+# SPDX-License-Identifier: BSD-3-Clause
 """The scripts of examples/many_captures: odd names, parts, what wasn't answered, pieces and machines."""
 import os
 import shutil

@@ -1,3 +1,4 @@
+# SPDX-License-Identifier: BSD-3-Clause
 """The page of mistakes: each row is one that is tried, and what the program says of it."""
 import os
 import re

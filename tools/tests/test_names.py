@@ -1,3 +1,4 @@
+# SPDX-License-Identifier: BSD-3-Clause
 """Names of protocols and ports against the system's own files."""
 import unittest
 from pathlib import Path

@@ -1,3 +1,4 @@
+# SPDX-License-Identifier: BSD-3-Clause
 """examples/packet_of_key: what it tells of keys, and that the program reads the same key from the capture that it writes."""
 import subprocess
 import tempfile

@@ -1,3 +1,4 @@
+# SPDX-License-Identifier: BSD-3-Clause
 """tools/explain, tools/changes, tools/hits: their answers against a plain reading of lists, and what they refuse."""
 import csv
 import json

@@ -1,3 +1,4 @@
+# SPDX-License-Identifier: BSD-3-Clause
 """The script aclc at the top, with a stand-in for `rt` that proves nothing: what it answers, proves and installs, and when."""
 import os
 import shutil

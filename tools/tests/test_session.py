@@ -1,3 +1,4 @@
+# SPDX-License-Identifier: BSD-3-Clause
 """The example of `session`: its script and replies stand once more in a crate that the gate runs, and in LISTS_ALONE."""
 import re
 import subprocess

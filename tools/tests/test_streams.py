@@ -1,3 +1,4 @@
+# SPDX-License-Identifier: BSD-3-Clause
 """The built program where standard streams are closed when it begins: any of the three, of `classify` and `build`."""
 import itertools
 import re

@@ -1,3 +1,4 @@
+# SPDX-License-Identifier: BSD-3-Clause
 """The scripts of tools, run as a user runs them or as modules, with the built program."""
 import argparse
 import importlib.machinery

@@ -1,3 +1,4 @@
+# SPDX-License-Identifier: BSD-3-Clause
 """What a list of iptables-save does with a packet: read plainly from iptables(8), with none of the converter's code.
 
 A line that isn't understood is unlawful, and no packet is judged by such a list. Rules are gone through one by one,

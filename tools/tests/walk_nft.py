@@ -1,3 +1,4 @@
+# SPDX-License-Identifier: BSD-3-Clause
 """What a ruleset of nft does with a packet: JSON read plainly from libnftables-json(5), with no code of the converter.
 
 Statements are gone through one by one, as nft does: a comparison asks for a number of the packet, and compares it.

@@ -1,3 +1,4 @@
+/* SPDX-License-Identifier: BSD-3-Clause */
 /*
  * rte_acl_osdep.h: what programs find included by rte_acl.h, where DPDK isn't there.
  */

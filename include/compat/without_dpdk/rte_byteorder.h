@@ -1,3 +1,4 @@
+/* SPDX-License-Identifier: BSD-3-Clause */
 /*
  * rte_byteorder.h: numbers of an x86-64 machine to and from network order, where DPDK isn't there.
  */

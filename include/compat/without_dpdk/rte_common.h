@@ -1,3 +1,4 @@
+/* SPDX-License-Identifier: BSD-3-Clause */
 /*
  * rte_common.h: a few macros that programs over rte_acl.h use, where DPDK isn't there.
  */

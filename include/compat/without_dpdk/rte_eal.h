@@ -1,3 +1,4 @@
+/* SPDX-License-Identifier: BSD-3-Clause */
 /*
  * rte_eal.h: the begin and the end of a program, where DPDK isn't there.
  */

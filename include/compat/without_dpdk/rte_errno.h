@@ -1,3 +1,4 @@
+/* SPDX-License-Identifier: BSD-3-Clause */
 /*
  * rte_errno.h: why a call that answers NULL was refused, where DPDK isn't there.
  */

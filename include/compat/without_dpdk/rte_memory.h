@@ -1,3 +1,4 @@
+/* SPDX-License-Identifier: BSD-3-Clause */
 /*
  * rte_memory.h: the one name of it that a context's parameters need, where DPDK isn't there.
  */
