@@ -66,7 +66,7 @@ REFUSED = [("explain", [OFFICE, "tcp"], "explain: tcp: it is no packet"),
            ("hits", [OFFICE, CAPTURE, "--over", "60"], "60 is no time"),
            ("hits", [OFFICE, "{cut}"], "aclc: capture: record 3: cut"),
            ("hits", ["{image}", CAPTURE], "this is an image"),
-           ("hits", [OFFICE, CAPTURE, "--form", "nft"], "no JSON of nft")]
+           ("hits", [OFFICE, CAPTURE, "--form", "nft"], "the file isn't JSON")]
 ESCAPE = b"@10.0.0.0/8 0.0.0.0/0 0:65535 0:65535 0/0 \x1b[31m\n"
 
 
