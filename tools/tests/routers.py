@@ -10,13 +10,12 @@ import random
 import subprocess
 import unittest
 from functools import lru_cache
-from pathlib import Path
 
+import converting
 from aclc_tools import lists, rule_file
-from aclc_tools.forms import rule_file_of
 from aclc_tools.program import TOP
+from converting import DATA
 
-DATA = Path(__file__).resolve().parent / "data"
 CONVERT = TOP / "tools" / "convert"
 ADDRESSES = {4: [0x0A000000 + it for it in range(12)] + [0x0A000100, 0x0A010000, 0xC0000201, 0],
              6: [(0x20010DB8 << 96) + it for it in range(8)] + [(0x20010DB8 << 96) + (1 << 64), 1]}
@@ -26,16 +25,6 @@ PROTOCOLS = {4: (6, 6, 6, 17, 17, 1, 47, 50, 132), 6: (6, 6, 6, 17, 17, 58, 50, 
 
 class Unknown(Exception):
     """The walker can't tell what a device does with this list."""
-
-
-class Given:
-    """Options of tools/convert; those that aren't given are None."""
-
-    def __init__(self, form, **given):
-        self.__dict__.update({"form": form, "file": "-", "lenient": False, **given})
-
-    def __getattr__(self, name):
-        return None
 
 
 def decider(read):
@@ -54,15 +43,12 @@ def packet(draw, families=(4,)):
 
 def convert(form, text, **given):
     """The rule file of a list as text."""
-    return "".join(line + "\n" for line in rule_file_of(Given(form, **given), text)[0])
+    return converting.convert(form, text, **given)[0]
 
 
 def converted(form, text, **given):
     """The rules that a list is converted to, in order."""
-    rules, faults = rule_file.read_rules(convert(form, text, **given).encode())
-    if faults:
-        raise AssertionError(f"line {faults[0].line} of the rule file: {faults[0].kind}")
-    return rules
+    return converting.rules_of(convert(form, text, **given))
 
 
 def deciding(form, text, **given):
@@ -70,22 +56,9 @@ def deciding(form, text, **given):
     return list(dict.fromkeys(rule.userdata for rule in converted(form, text, **given)))
 
 
-def in_network(rule, side, value):
-    """Whether an address is in the network of a rule's side."""
-    network, length = getattr(rule, side)
-    return (network ^ value) >> rule.bits - length == 0
-
-
 def decided(rules, fields):
     """The number of the first rule that matches a packet, or 0."""
-    family, source, destination, ports, protocol = fields
-    for rule in rules:
-        value, mask = rule.protocol
-        near = all(low <= port <= high for (low, high), port in zip((rule.source_ports, rule.destination_ports), ports))
-        if (rule.family == family and not (protocol ^ value) & mask and near
-                and in_network(rule, "source", source) and in_network(rule, "destination", destination)):
-            return rule.userdata
-    return 0
+    return converting.decided(rules, fields) or 0
 
 
 def misspell(draw, word):
