@@ -36,10 +36,10 @@ def require(condition, what):
 
 
 def words_of(line):
-    """The words of a line; quotes hold words together."""
-    found = re.findall(r'"((?:\\.|[^"\\])*)"(?=\s|$)|([^\s"]+)(?=\s|$)', line)
-    require(re.fullmatch(r'\s*(?:(?:"(?:\\.|[^"\\])*"|[^\s"]+)(?:\s+|$))*', line), line)
-    return [re.sub(r"\\(.)", r"\1", quoted) if quoted else bare for quoted, bare in found]
+    """The words of a line; quotes hold words together, and what stands before them belongs to their word."""
+    word = r'([^\s"]*)"((?:\\.|[^"\\])*)"(?=\s|$)|([^\s"]+)(?=\s|$)'
+    require(re.fullmatch(rf"\s*(?:(?:{word})(?:\s+|$))*", line), line)
+    return [bare or before + re.sub(r"\\(.)", r"\1", quoted) for before, quoted, bare in re.findall(word, line)]
 
 
 def address_matches(text, value, family):
