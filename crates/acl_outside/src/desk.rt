@@ -34,6 +34,14 @@ pub trait Desk {
 
         ensures { ReadsInto into.old into.new (view self.old) (view self.new) result };
 
+    /// The next bytes of the opened file that are at hand, where reading more may have to wait, as
+    /// it has to for a pipe into which no more was written yet. `None` where no read is known to
+    /// wait.
+    ///
+    /// No clause says anything of the answer: it may settle when work is done, and never what the
+    /// work comes to.
+    fn at_hand(&self) -> Option<&[u8]>;
+
     /// Creates the named file, which is empty then, also where it was there before. The file that
     /// was opened or created before is given up.
     ///

@@ -301,6 +301,12 @@ impl Desk for MemDesk {
         Ok(count)
     }
 
+    /// No read of memory waits.
+    #[inline]
+    fn at_hand(&self) -> Option<&[u8]> {
+        None
+    }
+
     fn create_file(&mut self, name: &str) -> Result<(), Failed>
         ensures creates { CreatesFile name.now (shown_desk self.old) (shown_desk self.new) result }
         // Exactly where it succeeds, and what is made then.

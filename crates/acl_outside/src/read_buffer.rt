@@ -1,6 +1,6 @@
 //! The buffer through which files of the system are read.
 
-ghost use Rattle.std.specs.Prelude.{◌≡◌, ◌↔◌, ◌≤◌, [], length, take, drop, min, IsTrue, IfOk, OnOk, OnErr};
+ghost use Rattle.std.specs.Prelude.{◌≡◌, ◌↔◌, ◌≤◌, [], length, take, drop, min, IsTrue, IfOk, IfSome, OnOk, OnErr};
 ghost use Rattle.std.specs.Io.KnownBytes.{Consumes, IsAtEnd, Keeps, ReadConsumes};
 
 use crate::desk::Failed;
@@ -17,6 +17,8 @@ pub(crate) struct ReadBuffer {
     bytes: [u8; BUFFER_SIZE],
     start: usize,
     end: usize,
+    /// Whether each read of the file gave as many bytes as were asked for.
+    full: bool,
 }
 
 impl Model for ReadBuffer {
@@ -38,6 +40,7 @@ impl ReadBuffer {
             bytes: [0; BUFFER_SIZE],
             start: 0,
             end: 0,
+            full: true,
         }
     }
 
@@ -48,11 +51,40 @@ impl ReadBuffer {
         self.start == self.end
     }
 
+    /// Drops what was held, for a file of which nothing was read.
     pub(crate) fn clear(&mut self)
         ensures { self.new ≡ [] }
     {
         self.start = 0;
         self.end = 0;
+        self.full = true;
+    }
+
+    /// The bytes that are held, where a read of the file gave fewer than were asked for.
+    #[inline]
+    pub(crate) fn at_hand(&self) -> Option<&[u8]>
+        ensures { IfSome result (λ bytes. bytes.now ≡ self.now) }
+    {
+        if self.full {
+            None
+        } else {
+            Some(&self.bytes[self.start..self.end])
+        }
+    }
+
+    /// Reads once of the file into a slice that is as large as the buffer, which is empty.
+    pub(crate) fn read_past<F: Read>(
+        &mut self,
+        file: &mut F,
+        into: &mut [u8],
+    ) -> Result<usize, Failed>
+        ensures within { IfOk result (λ count. count ≤ length into.old) }
+        ensures bytes { ReadConsumes (F.remaining file.old) (F.remaining file.new) result into.new }
+        ensures held { self.new ≡ self.old }
+    {
+        let count = read_once(file, into)?;
+        self.full = self.full && count == into.len();
+        Ok(count)
     }
 
     /// Reads once of the file, in place of what was held.
@@ -67,6 +99,7 @@ impl ReadBuffer {
         self.start = 0;
         self.end = 0;
         self.end = read_once(file, &mut self.bytes)?;
+        self.full = self.full && self.end == BUFFER_SIZE;
         Ok(())
     }
 

@@ -4,7 +4,7 @@ ghost use Rattle.std.specs.Prelude.{◌≡◌, ◌≤◌, ◌⊎◌, [], Ok, len
 ghost use Rattle.std.specs.Io.KnownBytes.{Consumes, IsAtEnd, Keeps, prepend_known};
 
 use crate::desk::{Desk, Failed};
-use crate::read_buffer::{BUFFER_SIZE, ReadBuffer, read_once};
+use crate::read_buffer::{BUFFER_SIZE, ReadBuffer};
 use crate::std_sink::write_once;
 use crate::transcript::Transcript;
 use std::fs;
@@ -91,7 +91,7 @@ impl<'a, R: Files> StdDesk<'a, R> {
 }
 
 impl<'a, R: Files> Desk for StdDesk<'a, R> {
-    ghost use Rattle.std.specs.Prelude.{◌≡◌, ◌⊎◌, [], Ok, is_ok, take, IsTrue, IfOk, OnErr, if◌then◌else◌};
+    ghost use Rattle.std.specs.Prelude.{◌≡◌, ◌⊎◌, [], Ok, is_ok, take, IsTrue, IfOk, IfSome, OnErr, if◌then◌else◌};
     ghost use Rattle.std.specs.Io.KnownBytes.{Consumes, IsAtEnd, Keeps, WriteAppends};
     ghost use Rattle.acl_outside.specs.Fault.{next_count};
     ghost use Rattle.acl_outside.specs.Desk.{OpensFile, ReadsInto, CreatesFile, WritesPiece, FinishesFile};
@@ -152,6 +152,16 @@ impl<'a, R: Files> Desk for StdDesk<'a, R> {
                 Err(Failed)
             }
         }
+    }
+
+    /// What is held of the opened file, once a read of it gave fewer bytes than were asked for: it is
+    /// a pipe, a terminal or such, or was read to its end.
+    #[inline]
+    fn at_hand(&self) -> Option<&[u8]>
+        // They are the next bytes that are given.
+        ensures held { IfSome result (λ bytes. bytes.now ≡ self.now.held) }
+    {
+        self.buffer.at_hand()
     }
 
     fn create_file(&mut self, name: &str) -> Result<(), Failed>
@@ -249,7 +259,7 @@ fn read_buffered<F: Read>(
     }
     if buffer.is_empty() {
         if into.len() >= BUFFER_SIZE {
-            return read_once(file, into);
+            return buffer.read_past(file, into);
         }
         buffer.refill(file)?;
     }
