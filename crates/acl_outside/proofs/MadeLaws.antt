@@ -50,6 +50,7 @@ Writes-none content = record {
     named = held ∙ ap (λ bytes. Some bytes) (sym (append-nil had));
     others = λ other apart. refl;
   };
+  others = λ other apart. refl;
   opened = refl;
   left = refl;
   created = refl;
@@ -66,6 +67,7 @@ Writes-append first second old mid new a b = record {
         named = twice.named ∙ ap (λ bytes. Some bytes) (append_assoc had first second);
         others = λ other apart. twice.others other apart ∙ once.others other apart;
       };
+  others = λ other apart. b.others other (λ same. apart (sym a.created ∙ same)) ∙ a.others other apart;
   opened = b.opened ∙ a.opened;
   left = b.left ∙ a.left;
   created = b.created ∙ a.created;

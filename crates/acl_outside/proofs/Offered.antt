@@ -63,3 +63,18 @@ pub use Rattle.acl_outside.proofs.WritingLaws.{GainsPrefix-more}
 pub use Rattle.acl_outside.proofs.WritingLaws.{Gains-more}
 -- the first n bytes of a piece, and then nothing more
 pub use Rattle.acl_outside.proofs.WritingLaws.{GainsPrefix-failed}
+-- what was heard of the opened file, and what is left of it, are together the file
+-- so it is after an opening, whatever comes of it
+pub use Rattle.acl_outside.proofs.TogetherLaws.{HoldsTogether-opening}
+-- and after a file was read on
+pub use Rattle.acl_outside.proofs.TogetherLaws.{HoldsTogether-reads_on}
+-- and after a file was read up to a cap
+pub use Rattle.acl_outside.proofs.TogetherLaws.{readings as HoldsTogether-reading}
+-- and after a creation
+pub use Rattle.acl_outside.proofs.TogetherLaws.{HoldsTogether-creation}
+-- and after bytes were written while no file was read
+pub use Rattle.acl_outside.proofs.TogetherLaws.{HoldsTogether-writing}
+-- and after a finish
+pub use Rattle.acl_outside.proofs.TogetherLaws.{HoldsTogether-finish}
+-- where a file is told to be opened, the newest that was heard of is that file, and is whole
+pub use Rattle.acl_outside.proofs.TogetherLaws.{whole_where_opened}

@@ -1,16 +1,18 @@
 -- What was heard of the opened file and what is left of it are together the file, call by call.
-use Rattle.std.proofs.Common.{◌≡◌, ℕ, ◌==◌, List, [], ◌∷◌, ◌++◌, length, take, false, Option, Some, None, Ok, Err, inl, inr, sym, ◌∙◌, ap, refl, append_assoc, append-nil, IsTrue}
+use Rattle.std.proofs.Common.{◌≡◌, ℕ, ◌==◌, List, [], ◌∷◌, ◌++◌, length, take, false, Option, Some, None, Result, Ok, Err, inl, inr, sym, ◌∙◌, ap, refl, append_assoc, append-nil, IsTrue}
 use Rattle.std.proofs.lemmas.Bool.{cases_Bool}
 use Rattle.acl_outside.specs.Told.{Changes}
-use Rattle.acl_outside.specs.Desk.{Content, DeskView, Opens, GivesUp, Gives, Creates, Writes}
+use Rattle.acl_outside.specs.Desk.{Content, DeskView, Opens, GivesUp, Gives, Creates, Writes, OpensFile}
+use Rattle.acl_outside.specs.Desk.{CreatesFile, FinishesFile}
 use Rattle.acl_outside.specs.Heard.{Heard, BrokenOff, Ended, heard, change_newest, with_bytes, with_ending, after_read}
 use Rattle.acl_outside.specs.DeskReading.{ReadsOn, and_goes_on, after_fault}
 use Rattle.acl_outside.specs.declared.reading.ReadAll.{ReadAll}
 use Rattle.acl_outside.specs.declared.reading.ReadAll.TheVariants.{ReadFault, OutOfMemory}
 use Rattle.acl_outside.specs.Memory.{desk_over, shown_desk, content_of}
-use Rattle.acl_outside.specs.Together.{NewestIsWhole, HoldsTogether, DesksBeginTogether, OpeningsHoldTogether}
-use Rattle.acl_outside.specs.Together.{ReadsHoldTogether, CreationsHoldTogether, WritesHoldTogether}
-use Rattle.acl_outside.specs.Together.{FinishesHoldTogether, ReadingsHoldTogether}
+use Rattle.acl_outside.specs.Together.{NewestIsWhole, HoldsTogether}
+use Rattle.acl_outside.specs.Laws.{DesksBeginTogether, OpeningsHoldTogether, ReadsHoldTogether}
+use Rattle.acl_outside.specs.Laws.{CreationsHoldTogether, WritesHoldTogether, FinishesHoldTogether}
+use Rattle.acl_outside.specs.Laws.{ReadingsHoldTogether}
 use Rattle.acl_outside.proofs.HeardLaws.{unlost}
 
 -- what is told after a step was told before it
@@ -97,10 +99,10 @@ after_read-bytes room [] file = elim (cases_Bool (room == 0)) [
 after_read-bytes room (b ∷ bs) file = refl
 
 -- the file was read on, and how its reading stands says nothing of its name and bytes
-reads_on : (change : Heard → Heard) (bytes : List ℕ) (old new : DeskView) → HoldsTogether old →
+pub HoldsTogether-reads_on : (change : Heard → Heard) (bytes : List ℕ) (old new : DeskView) → HoldsTogether old →
     ((file : Heard) → (change file).name ≡ file.name) → ((file : Heard) → (change file).bytes ≡ file.bytes) →
     new.reading ≡ old.reading → new.writing ≡ old.writing → ReadsOn change bytes old new → HoldsTogether new
-reads_on change bytes old new together names same reading writing on =
+HoldsTogether-reads_on change bytes old new together names same reading writing on =
     hears_more (λ file. change (with_bytes bytes file)) bytes old new together
     record {
       heard_is = on.heard;
@@ -120,8 +122,9 @@ desks_begin files piece room failing_reads failing_writes =
     ap (λ (c : Content). c.opened) same)
 
 -- a desk holds together after an opening
-pub openings : OpeningsHoldTogether
-openings name old new (Ok value) opens = record {
+pub HoldsTogether-opening : {T E : Type 0} (name : List ℕ) (old new : DeskView) (result : Result T E) →
+    OpensFile name old new result → HoldsTogether new
+HoldsTogether-opening name old new (Ok value) opens = record {
   whole = λ content told reads.
       let before = told_before (Opens name) old.content new.content content opens.opened told in
       rw opens.answer
@@ -129,8 +132,12 @@ openings name old new (Ok value) opens = record {
   none = λ content told idle. absurd (let reads = opens.reading in cc);
   apart = λ reads. opens.writing;
 }
-openings name old new (Err fault) opens = nothing_read new opens.reading
+HoldsTogether-opening name old new (Err fault) opens = nothing_read new opens.reading
     (λ content told. (told_before GivesUp old.content new.content content opens.given_up told).2.opened)
+
+-- and so of each opening
+pub openings : OpeningsHoldTogether
+openings name old new result opens = HoldsTogether-opening name old new result opens
 
 -- a desk that holds together does so after a read
 pub reads : ReadsHoldTogether
@@ -156,11 +163,16 @@ reads into_old into_new old new (Err fault) together read =
     }
 
 -- a desk holds together after a creation
-pub creations : CreationsHoldTogether
-creations name old new (Ok value) creates = nothing_read new creates.reading
+pub HoldsTogether-creation : {T E : Type 0} (name : List ℕ) (old new : DeskView) (result : Result T E) →
+    CreatesFile name old new result → HoldsTogether new
+HoldsTogether-creation name old new (Ok value) creates = nothing_read new creates.reading
     (λ content told. (told_before (Creates name) old.content new.content content creates.created told).2.opened)
-creations name old new (Err fault) creates = nothing_read new creates.reading
+HoldsTogether-creation name old new (Err fault) creates = nothing_read new creates.reading
     (λ content told. (told_before GivesUp old.content new.content content creates.given_up told).2.opened)
+
+-- and so of each creation
+pub creations : CreationsHoldTogether
+creations name old new result creates = HoldsTogether-creation name old new result creates
 
 -- no file is read while one is written
 idle_while_writing : (desk : DeskView) → HoldsTogether desk → IsTrue desk.writing → desk.reading ≡ false
@@ -169,22 +181,33 @@ idle_while_writing desk together writing = elim (cases_Bool desk.reading) [
   | inr idle ↦ idle
 ]
 
+-- bytes were written while no file was read
+pub HoldsTogether-writing : (bytes : List ℕ) (old new : DeskView) → HoldsTogether old → old.reading ≡ false →
+    new.reading ≡ old.reading → Changes (Writes bytes) old.content new.content → HoldsTogether new
+HoldsTogether-writing bytes old new together idle reading written =
+    nothing_read new (reading ∙ idle) (λ content told.
+    let before = told_before (Writes bytes) old.content new.content content written told in
+    before.2.opened ∙ together.none before.0 before.1 idle)
+
 -- a desk that holds together does so after a write
 pub writes : WritesHoldTogether
 writes piece old new (Ok count) together writing write =
-    let idle = idle_while_writing old together writing in
-    nothing_read new (write.reading ∙ idle) (λ content told.
-    let before = told_before (Writes (take count piece)) old.content new.content content write.taken told in
-    before.2.opened ∙ together.none before.0 before.1 idle)
+    HoldsTogether-writing (take count piece) old new together (idle_while_writing old together writing) write.reading
+    write.taken
 writes piece old new (Err fault) together writing write =
     let idle = idle_while_writing old together writing in
     nothing_read new (write.reading ∙ idle)
     (λ content told. together.none content (sym write.took_nothing ∙ told) idle)
 
 -- a desk holds together after a finish
-pub finishes : FinishesHoldTogether
-finishes old new result finish = nothing_read new finish.reading
+pub HoldsTogether-finish : {T E : Type 0} (old new : DeskView) (result : Result T E) → FinishesFile old new result →
+    HoldsTogether new
+HoldsTogether-finish old new result finish = nothing_read new finish.reading
     (λ content told. (told_before GivesUp old.content new.content content finish.ended told).2.opened)
+
+-- and so of each finish
+pub finishes : FinishesHoldTogether
+finishes old new result finish = HoldsTogether-finish old new result finish
 
 -- a fault leaves the name of a file
 after_fault-name : (fault : ReadAll) (file : Heard) → (after_fault fault file).name ≡ file.name
@@ -199,11 +222,19 @@ after_fault-bytes OutOfMemory file = refl
 -- a desk that holds together does so after a file was read up to a cap
 pub readings : ReadingsHoldTogether
 readings cap old new (Ok bytes) together read = elim read.heard [
-  | inl (ended, below) ↦ reads_on (with_ending Ended) bytes.items old new together (λ file. refl) (λ file. refl)
+  | inl (ended, below) ↦ HoldsTogether-reads_on (with_ending Ended) bytes.items old new together (λ file. refl) (λ file. refl)
       read.reading read.writing ended
-  | inr (on, full) ↦ reads_on and_goes_on bytes.items old new together (λ file. refl) (λ file. refl)
+  | inr (on, full) ↦ HoldsTogether-reads_on and_goes_on bytes.items old new together (λ file. refl) (λ file. refl)
       read.reading read.writing on
 ]
 readings cap old new (Err fault) together read =
-    reads_on (after_fault fault) read.lost.0 old new together (after_fault-name fault) (after_fault-bytes fault)
+    HoldsTogether-reads_on (after_fault fault) read.lost.0 old new together (after_fault-name fault) (after_fault-bytes fault)
     read.reading read.writing read.lost.1
+
+-- where a file is told to be opened, the newest that was heard of is that file, and is whole
+pub whole_where_opened : (desk : DeskView) (content : Content) (name : List ℕ) → HoldsTogether desk →
+    desk.content ≡ Some content → content.opened ≡ Some name → NewestIsWhole content (heard desk.answers)
+whole_where_opened desk content name together told opened = elim (cases_Bool desk.reading) [
+  | inl reads ↦ together.whole content told reads
+  | inr idle ↦ absurd (let none = together.none content told idle in cc)
+]

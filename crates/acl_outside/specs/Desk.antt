@@ -58,10 +58,13 @@ pub record Creates (name : List ℕ) (old new : Content) : Type 0 where
   pub left : new.left ≡ []
   pub created : new.created ≡ Some name
 
--- These bytes were written at the end of the created file.
+-- These bytes were written at the end of the created file. All other files stay, also where the
+-- created one isn't among them.
 pub record Writes (bytes : List ℕ) (old new : Content) : Type 0 where
   pub files : (name had : List ℕ) → old.created ≡ Some name → bytes_of old.files name ≡ Some had →
       Holds name (had ++ bytes) old.files new.files
+  pub others : (other : List ℕ) → old.created ≢ Some other →
+      bytes_of new.files other ≡ bytes_of old.files other
   pub opened : new.opened ≡ old.opened
   pub left : new.left ≡ old.left
   pub created : new.created ≡ old.created

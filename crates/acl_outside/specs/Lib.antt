@@ -15,4 +15,5 @@ pub mod System
 pub mod MemFile
 pub mod Memory
 pub mod Together
+pub mod Laws
 pub mod MemoryExamples

@@ -1,9 +1,9 @@
 //! Laws of desks that tell their files, over the definitions alone. They run no code.
 
-ghost use Rattle.acl_outside.specs.Together.{DesksBeginTogether, OpeningsHoldTogether};
-ghost use Rattle.acl_outside.specs.Together.{ReadsHoldTogether, CreationsHoldTogether};
-ghost use Rattle.acl_outside.specs.Together.{WritesHoldTogether, FinishesHoldTogether};
-ghost use Rattle.acl_outside.specs.Together.{ReadingsHoldTogether};
+ghost use Rattle.acl_outside.specs.Laws.{DesksBeginTogether, OpeningsHoldTogether};
+ghost use Rattle.acl_outside.specs.Laws.{ReadsHoldTogether, CreationsHoldTogether};
+ghost use Rattle.acl_outside.specs.Laws.{WritesHoldTogether, FinishesHoldTogether};
+ghost use Rattle.acl_outside.specs.Laws.{ReadingsHoldTogether};
 
 /// What was heard of the opened file, and what is left to read of it, are together the file, and
 /// the name that is told is that of the file that was opened last. A desk over memory begins so,
