@@ -224,7 +224,8 @@ fn a_path_of_the_system_is_taken_as_it_is(rt: HostRuntime) -> Result<(), Fail> {
     Ok(())
 }
 
-/// A file that is interrupted three times, then moves two bytes, then none, and then fails.
+/// A file that is interrupted three times, then moves two bytes, none and two again, and then fails.
+/// A call that moved none and was made again would move two.
 #[derive(Drop)]
 struct Stubborn<'a> {
     taken: &'a mut [u8; 2],
@@ -237,7 +238,7 @@ impl Stubborn<'_> {
         self.calls = self.calls.saturating_add(1);
         match self.calls {
             1..=3 => Err(io::Error::from(ErrorKind::Interrupted)),
-            4 => Ok(2),
+            4 | 6 => Ok(2),
             5 => Ok(0),
             _ => Err(io::Error::from(ErrorKind::StorageFull)),
         }
@@ -272,7 +273,7 @@ impl Read for Stubborn<'_> {
     }
 }
 
-/// A put that takes nothing has failed, and so has one of another error.
+/// A put that takes nothing has failed and isn't made again, and so has one of another error.
 fn takes_once<O: Sink>(rt: &impl Abort, sink: &mut O) {
     assert!(rt; sink.put(b"packets") == Ok(2));
     assert!(rt; sink.put(b"ckets") == Err(Failed));
@@ -284,8 +285,9 @@ fn takes_once<O: Sink>(rt: &impl Abort, sink: &mut O) {
 fn gives_once(rt: &impl Abort, file: &mut Stubborn<'_>) {
     let mut into = [0; 4];
     assert!(rt; read_once(file, &mut into) == Ok(2));
-    assert!(rt; into == *b"pa\0\0");
+    assert!(rt; into == *b"ck\0\0");
     assert!(rt; read_once(file, &mut into) == Ok(0));
+    assert!(rt; read_once(file, &mut into) == Ok(2));
     assert!(rt; read_once(file, &mut into) == Err(Failed));
 }
 
@@ -298,7 +300,7 @@ fn a_call_is_made_again_where_it_was_interrupted(rt: HostRuntime) {
     });
     takes_once(&rt, &mut sink);
     drop(sink);
-    assert!(rt; taken == *b"pa");
+    assert!(rt; taken == *b"ck");
 
     let mut file = Stubborn {
         taken: &mut taken,
