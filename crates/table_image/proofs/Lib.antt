@@ -16,3 +16,5 @@ pub mod Portions
 pub mod TableSteps
 pub mod ImageSteps
 pub mod Written
+pub mod Extents
+pub mod FirstBytes

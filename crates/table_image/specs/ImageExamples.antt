@@ -4,12 +4,13 @@ use Rattle.std.specs.Result.{result_err}
 use Rattle.std.specs.List.{range_with_len}
 use Rattle.std.specs.Prelude.{Option, Some, None}
 use Rattle.flat_table.specs.Table.{TableView}
-use Rattle.flat_table.specs.HandmadeTables.{match_of, single_at, table_of, wild_table, empty_table}
+use Rattle.flat_table.specs.HandmadeTables.{match_of, single_at, table_of, wild_table, empty_table, two_tries}
 use Rattle.table_image.specs.declared.load_fault.ImageFault.{ImageFault}
 use Rattle.table_image.specs.declared.load_fault.ImageKind.TheVariants.{Magic, Family, Length, TooMany, Unsound, RowForm, Trailing, KeptGroups}
 use Rattle.table_image.specs.declared.load_fault.ImageKind.TheVariants as kind
 use Rattle.table_image.specs.declared.version.Version.TheVariants.{One, Two}
 use Rattle.table_image.specs.Spelling.{PairView, spelled, spelled_table, spelled_pair}
+use Rattle.table_image.specs.Laws.{longest_image}
 use Rattle.table_image.specs.ImageReading.{image_of, table_read, numbers_after, tries_after, words_of_levels, words_of_tries, rows_after, no_rule, fault_at}
 
 -- no IPv6 rules
@@ -89,6 +90,34 @@ unfolding image_of table_read numbers_after tries_after words_of_levels words_of
     no_rule
 faults_of_two = refl
 
+-- too many rules, too many rows, and a level of too many words
+too_many_of_two : (changed 13 0x10 ∷ changed 21 0x80 ∷ changed 28 0x10 ∷ [])
+    ≡ Some (fault_at TooMany 12) ∷ Some (fault_at TooMany 20) ∷ Some (fault_at TooMany 28) ∷ []
+unfolding image_of table_read numbers_after tries_after words_of_levels words_of_tries rows_after
+    no_rule
+too_many_of_two = refl
+
+-- the image with a level of 67,108,8xx words, by the low byte of their number: with the two rows a
+-- table may have 67,108,864 words, of which the second is none, and no word more
+abbrev level_of : ℕ → Option ImageFault
+level_of low = result_err (image_of (with_byte 28 3 (with_byte 29 0xFF (with_byte 30 0xFF
+    (with_byte 31 low wild_image)))))
+
+most_words : (level_of 0xE0 ∷ level_of 0xE1 ∷ [])
+    ≡ Some (fault_at Unsound 48) ∷ Some (fault_at TooMany 28) ∷ []
+unfolding image_of table_read numbers_after tries_after words_of_levels words_of_tries rows_after
+    no_rule
+most_words = refl
+
+-- a table of two tries, with a row for each of two rules
+abbrev several_rows : PairView
+several_rows = record { ip4 = two_tries; ip6 = empty_ip6 }
+
+several_rows_are_read : image_of (spelled_pair Two several_rows) ≡ Ok several_rows
+unfolding image_of table_read numbers_after tries_after words_of_levels words_of_tries rows_after
+    no_rule spelled_pair spelled_table spelled
+several_rows_are_read = refl
+
 -- userdata 0 is lawful
 userdata_0 : changed 55 0 ≡ None
 unfolding image_of table_read numbers_after tries_after words_of_levels words_of_tries rows_after
@@ -105,6 +134,11 @@ faults_of_one : (changed_one 11 6 ∷ changed_one 17 0xFF ∷ changed_one 80 0x6
 unfolding image_of table_read numbers_after tries_after words_of_levels words_of_tries rows_after
     no_rule spelled_pair spelled_table spelled
 faults_of_one = refl
+
+-- the longest image: of both families tables of eight tries that keep all groups, and of as many
+-- words as a table may have
+how_long : longest_image ≡ 1073743400
+how_long = refl
 
 -- no bytes, one byte less, one byte more
 ends : (result_err (image_of []) ∷ result_err (image_of (take 191 wild_image)) ∷ result_err

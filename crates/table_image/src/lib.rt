@@ -8,7 +8,8 @@
 //! - `load_fault`: why an image is refused
 //! - `table`, `counts`, `tries`, `words`, `rows`: one table of an image, and its parts in order
 //! - `field`, `list`: the fields of an image, and lists that grow while one is read or written
-//! - `laws`: a pair has one image in each version, and bytes without a failing check are an image
+//! - `laws`: a pair has one image in each version, bytes without a failing check are an image, and
+//!   none is longer than the longest
 #![tactic(auto)]
 
 mod counts;
