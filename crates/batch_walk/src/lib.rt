@@ -6,4 +6,4 @@
 
 mod classify;
 
-pub use classify::classify_by;
+pub use classify::{classify_by, classify_marked};

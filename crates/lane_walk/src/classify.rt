@@ -1,11 +1,15 @@
 //! The verdicts of a batch, by turns of all lanes.
 
-ghost use Rattle.std.specs.Prelude.{◌≡◌, ◌+◌, ◌≤◌, length, take, drop};
+ghost use Rattle.std.specs.Prelude.{◌≡◌, ◌+◌, ◌*◌, ◌≤◌, ◌==◌, length, map, take, drop, not, slice_index};
+ghost use Rattle.std.specs.List.{range_with_len};
+ghost use Rattle.table_sizes.specs.Sizes.{row_len};
 ghost use Rattle.flat_table.specs.Batch.{LengthsFit, keys_in, batch_verdicts};
 ghost use Rattle.flat_table.specs.Batch.{batch_transitions, most_of_batch};
 ghost use Rattle.flow_core.specs.Machine.{flow_from_first, turns, IsRounds};
 ghost use Rattle.flow_core.specs.Standing.{BatchFits};
 ghost use Rattle.flow_core.specs.Laws.{AreJoined};
+ghost use Rattle.scalar_walk.specs.Lanes.{pieces_below};
+ghost use Rattle.scalar_walk.specs.Rows.{row_winners, batch_winners};
 ghost use Rattle.lane_walk.specs.Turn.{IsLanes};
 
 use crate::lanes::LaneFlows;
@@ -15,6 +19,7 @@ use flow_core::laws::{every_schedule, stay_in};
 use flow_core::{Scratch, write_verdicts};
 use rule_set::Categories;
 use std::sync::ledger::Ledger;
+use table_sizes::ROW_LEN;
 
 /// What the walks of a batch by lanes took.
 #[derive(Clone, Copy, Debug, PartialEq, Eq)]
@@ -98,9 +103,68 @@ pub fn classify_lanes<const W: usize, L: Ledger>(
         ≡ (flow_from_first table.now keys.now W (turns W result.turns)).rows }
     ensures others { drop (keys_in table.now keys.now) scratch.new
         ≡ drop (keys_in table.now keys.now) scratch.old }
+    ensures joined { AreJoined table.now keys.now (take (keys_in table.now keys.now) scratch.new) }
     ensures len { length scratch.new ≡ length scratch.old }
 {
     let flown = fly::<W, L>(table, keys, scratch, steps);
     write_verdicts(scratch, keys.len() / table.key_len(), cats.count(), out);
+    flown
+}
+
+/// Marks for so many categories from 0 on whether the row's word isn't 0.
+fn mark_row(row: &[u64; ROW_LEN], won: &mut [bool])
+    requires { length won.old ≤ row_len }
+    ensures { won.new ≡ map (λ category. not (slice_index row.now category == 0))
+        (range_with_len 0 (length won.old)) }
+{
+    for (category, won) in won.iter_mut().enumerate() {
+        *won = row[category] != 0;
+    }
+}
+
+/// Marks of the rows of the first keys which words aren't 0, so many of each: the categories from 0
+/// on of the first key, then those of the second.
+fn mark_rows(scratch: &Scratch, keys: usize, count: usize, won: &mut [bool])
+    requires keys { keys ≤ length scratch.now }
+    requires few { count ≤ row_len }
+    requires room { length won.old ≡ keys * count }
+    ensures { won.new ≡ pieces_below (λ k. row_winners scratch.now count k) keys }
+{
+    for k in 0..keys {
+        mark_row(scratch.row(k), &mut won[k * count..(k + 1) * count]);
+    }
+}
+
+/// Writes the verdicts of the keys of a batch as [`classify_lanes`] does, and marks beside each
+/// whether some rule wins.
+///
+/// `won` has as many entries as `out`, in the same order. An entry is true if a rule wins the key
+/// in that category, also where its userdata is 0. The marks are read off the rows of the keys,
+/// which are left in the scratch. It refuses nothing and takes no memory.
+pub fn classify_lanes_marked<const W: usize, L: Ledger>(
+    table: &Table,
+    keys: &[u8],
+    cats: Categories,
+    scratch: &mut Scratch,
+    out: &mut [u32],
+    won: &mut [bool],
+    steps: &mut Steps<L>,
+) -> Flown
+    requires lanes { IsLanes W }
+    requires fits { LengthsFit table.now keys.now cats.count (length out.old) }
+    requires room { keys_in table.now keys.now ≤ length scratch.old }
+    requires marks { length won.old ≡ length out.old }
+    ensures verdicts { out.new ≡ batch_verdicts table.now cats.count keys.now }
+    ensures won { won.new ≡ batch_winners table.now cats.count keys.now }
+    ensures taken { result.taken ≡ batch_transitions table.now keys.now }
+    ensures bound { result.taken ≤ most_of_batch table.now keys.now }
+    ensures steps { steps.new ≡ steps.old + batch_transitions table.now keys.now }
+    ensures turns { IsRounds table.now keys.now W result.turns }
+    ensures others { drop (keys_in table.now keys.now) scratch.new
+        ≡ drop (keys_in table.now keys.now) scratch.old }
+    ensures len { length scratch.new ≡ length scratch.old }
+{
+    let flown = classify_lanes::<W, L>(table, keys, cats, scratch, out, steps);
+    mark_rows(scratch, keys.len() / table.key_len(), cats.count(), won);
     flown
 }

@@ -16,5 +16,5 @@ mod classify;
 mod flights;
 mod lanes;
 
-pub use classify::{Flown, classify_lanes};
+pub use classify::{Flown, classify_lanes, classify_lanes_marked};
 pub use lanes::LaneFlows;

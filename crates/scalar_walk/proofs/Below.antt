@@ -1,13 +1,13 @@
 -- Sums of a function over the numbers below one, and what it gives for them, piece by piece.
 use Rattle.std.proofs.Common.{◌≡◌, ℕ, zero, suc, ◌+◌, ◌-◌, ◌*◌, ◌<◌, ◌≤◌, List, [], ◌∷◌, ◌++◌, refl, sym, ap, ◌∙◌, arith}
-use Rattle.std.proofs.Common.{add-one, append-nil, drop, fold, length, length-append}
+use Rattle.std.proofs.Common.{add-one, append_assoc, append-nil, drop, fold, length, length-append, take}
 use Rattle.std.specs.Prelude.{flat_map}
 use Rattle.std.specs.List.{range_with_len}
 use Rattle.std.proofs.lemmas.Grind.{flat_map-append}
-use Rattle.std.proofs.lemmas.List.{drop_all}
+use Rattle.std.proofs.lemmas.List.{drop-drop, drop_all, drop_at, take_at}
 use Rattle.std.proofs.lemmas.List.Sums.{fold-append}
 use borrow.Rule.Slice.PartMut.{put_mid}
-use Rattle.list_lemmas.proofs.Positions.{range-push, WrittenTo, piece_written}
+use Rattle.list_lemmas.proofs.Positions.{range-push}
 use Rattle.scalar_walk.specs.Lanes.{sum_below, pieces_below}
 
 -- the sum below 0 is 0
@@ -67,20 +67,39 @@ four_fours f = omega (arith, sum_split f 12 4, sum_split f 8 4, sum_split f 4 4,
 
 -- ---- pieces that are written one after the other
 
+-- what is written over an old list, up to a place
+pub record WrittenTo {A : Type 0} (old : List A) (at : ℕ) (front out : List A) : Type 0 where
+  pub is : out ≡ front ++ drop at old
+  pub len : length front ≡ at
+
+-- a piece that is written next
+pub piece_put : {A : Type 0} {old front out : List A} {at : ℕ} → WrittenTo old at front out → (piece : List A)
+    (end : ℕ) → end ≡ at + length piece → put_mid at (end - at) out piece ≡ (front ++ piece) ++ drop end old
+piece_put {old = old} {front = front} {out = out} {at = at} w piece end e =
+    let n : ℕ = end - at in
+    let before : take at out ≡ front = ap (λ (xs : List _). take at xs) w.is ∙ take_at front (drop at old) at w.len in
+    let after : drop at out ≡ drop at old = ap (λ (xs : List _). drop at xs) w.is
+    ∙ drop_at front (drop at old) at w.len in
+    let last : at + n ≡ end = omega (arith, e) in
+    (λ i. before i ++ (piece ++ drop n (after i)))
+    ∙ sym (append_assoc front piece (drop n (drop at old)))
+    ∙ ap (λ (xs : List _). (front ++ piece) ++ xs) (drop-drop n at old ∙ ap (λ (k : ℕ). drop k old) last)
+
 -- one more number adds its piece at the end
-pieces_more : (f : ℕ → List ℕ) (n : ℕ) → pieces_below f (n + 1) ≡ pieces_below f n ++ f n
+pieces_more : {A : Type 0} (f : ℕ → List A) (n : ℕ) → pieces_below f (n + 1) ≡ pieces_below f n ++ f n
 unfolding pieces_below
 pieces_more f n =
     ap (flat_map f) (range-push 0 n) ∙ flat_map-append f (range_with_len 0 n) ((0 + n) ∷ [])
-    ∙ ap (λ (xs : List ℕ). flat_map f (range_with_len 0 n) ++ xs) (append-nil (f (0 + n)) ∙ ap f (omega arith))
+    ∙ ap (λ (xs : List _). flat_map f (range_with_len 0 n) ++ xs) (append-nil (f (0 + n)) ∙ ap f (omega arith))
 
 -- the pieces below a number are those of the range, one after the other
-pub pieces_are : (f : ℕ → List ℕ) (n : ℕ) → pieces_below f n ≡ flat_map f (range_with_len 0 n)
+pub pieces_are : {A : Type 0} (f : ℕ → List A) (n : ℕ) → pieces_below f n ≡ flat_map f (range_with_len 0 n)
 unfolding pieces_below
 pieces_are f n = refl
 
 -- two functions that agree below a number have the same pieces there
-pub pieces_agree : (f g : ℕ → List ℕ) (n : ℕ) → ((k : ℕ) → k < n → f k ≡ g k) → pieces_below f n ≡ pieces_below g n
+pub pieces_agree : {A : Type 0} (f g : ℕ → List A) (n : ℕ) → ((k : ℕ) → k < n → f k ≡ g k) →
+    pieces_below f n ≡ pieces_below g n
 unfolding pieces_below
 pieces_agree f g zero same = refl
 pieces_agree f g (suc n) same =
@@ -89,43 +108,33 @@ pieces_agree f g (suc n) same =
     left ∙ (λ i. pieces_agree f g n (λ k h. same k (omega (arith, h))) i ++ same n (omega arith) i) ∙ sym right
 
 -- the first n pieces of a length are written
-pub record PiecesTo (f : ℕ → List ℕ) (count n : ℕ) (old out : List ℕ) : Type 0 where
-  pub written : WrittenTo old (n * count) (pieces_below f n) out
+pub record PiecesTo {A : Type 0} (f : ℕ → List A) (count n : ℕ) (old out : List A) : Type 0 where
+  pub is : out ≡ pieces_below f n ++ drop (n * count) old
+  pub len : length (pieces_below f n) ≡ n * count
 
 -- before the first piece is written all is as it was
-pub pieces_none : (f : ℕ → List ℕ) (count : ℕ) (old : List ℕ) → PiecesTo f count 0 old old
+pub pieces_none : {A : Type 0} (f : ℕ → List A) (count : ℕ) (old : List A) → PiecesTo f count 0 old old
 unfolding pieces_below
 pieces_none f count old = record {
-  written = record {
-    is = let none : 0 ≡ 0 * count = omega arith in ap (λ (n : ℕ). drop n old) none;
-    len = omega arith;
-  };
+  is = let none : 0 ≡ 0 * count = omega arith in ap (λ (n : ℕ). drop n old) none;
+  len = omega arith;
 }
 
 -- one piece more
-pub one_piece : {f : ℕ → List ℕ} {count n : ℕ} {old out piece : List ℕ} → PiecesTo f count n old out → piece ≡ f n →
-    length (f n) ≡ count → PiecesTo f count (n + 1) old (put_mid (n * count) ((n + 1) * count - n * count) out piece)
-one_piece {f = f} {count = count} {n = n} {old = old} {piece = piece} w piece_is len =
-    let now = piece_written w.written piece ((n + 1) * count) (omega (arith, ap length piece_is, len)) in
-    record {
-      written = record {
-        is = now.is
-            ∙ ap (λ (xs : List ℕ). xs ++ drop ((n + 1) * count) old)
-            (ap (λ (xs : List ℕ). pieces_below f n ++ xs) piece_is ∙ sym (pieces_more f n));
-        len = omega (
-          arith,
-          ap length (pieces_more f n),
-          length-append (pieces_below f n) (f n),
-          w.written.len,
-          len,
-        );
-      };
-    }
+pub one_piece : {A : Type 0} {f : ℕ → List A} {count n : ℕ} {old out piece : List A} → PiecesTo f count n old out →
+    piece ≡ f n → length (f n) ≡ count →
+    PiecesTo f count (n + 1) old (put_mid (n * count) ((n + 1) * count - n * count) out piece)
+one_piece {f = f} {count = count} {n = n} {old = old} {piece = piece} w piece_is len = record {
+  is = piece_put record { is = w.is; len = w.len } piece ((n + 1) * count) (omega (arith, ap length piece_is, len))
+      ∙ ap (λ (xs : List _). xs ++ drop ((n + 1) * count) old)
+      (ap (λ (xs : List _). pieces_below f n ++ xs) piece_is ∙ sym (pieces_more f n));
+  len = omega (arith, ap length (pieces_more f n), length-append (pieces_below f n) (f n), w.len, len);
+}
 
 -- all of them
-pub all_pieces : {f : ℕ → List ℕ} {count n m : ℕ} {old out : List ℕ} → PiecesTo f count n old out → n ≡ m →
-    length old ≡ m * count → out ≡ pieces_below f m
-all_pieces {f = f} {count = count} {n = n} {old = old} w all room =
+pub all_pieces : {A : Type 0} {f : ℕ → List A} {count n m : ℕ} {old out : List A} → PiecesTo f count n old out →
+    n ≡ m → length old ≡ m * count → out ≡ pieces_below f m
+all_pieces {f = f} {count = count} {n = n} {m = m} {old = old} w all room =
     let past : length old ≤ n * count = omega (arith, room, ap (λ (k : ℕ). k * count) all) in
-    w.written.is ∙ ap (λ (xs : List ℕ). pieces_below f n ++ xs) (drop_all (n * count) old past)
+    w.is ∙ ap (λ (xs : List _). pieces_below f n ++ xs) (drop_all (n * count) old past)
     ∙ append-nil (pieces_below f n) ∙ ap (pieces_below f) all

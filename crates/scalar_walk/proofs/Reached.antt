@@ -15,7 +15,7 @@ use Rattle.flat_table.specs.Walk.{walk_row, walk_transitions, tries_of, joined, 
 use Rattle.flat_table.specs.Batch.{key_verdicts}
 use Rattle.list_lemmas.proofs.Maps.{map_agree}
 use Rattle.list_lemmas.proofs.Positions.{range-push}
-use Rattle.scalar_walk.specs.Rows.{EndsAt, Reaches, joined_rows, row_verdicts, winners_of}
+use Rattle.scalar_walk.specs.Rows.{EndsAt, Reaches, joined_rows, row_verdicts, row_winners, key_winners, winners_of}
 
 -- no trie is walked yet
 pub reaches_none : {table : TableView} {key rows : List ℕ} → length rows ≡ max_tries → Reaches table key 0 rows
@@ -62,6 +62,14 @@ one_verdicts table key count one e =
     ∙ map_agree _ _ (range_with_len 0 count)
     (λ category. ap (λ (word : ℕ). word % userdatas) (one_joined table key category one))
 
+-- and the marks of a key
+pub one_winners : (table : TableView) (key : List ℕ) {row : ℕ} (count : ℕ) → length table.roots ≡ 1 →
+    row ≡ walk_row table 0 key → row_winners table.rows count row ≡ key_winners table count key
+one_winners table key count one e =
+    ap (λ (number : ℕ). row_winners table.rows count number) e
+    ∙ map_agree _ _ (range_with_len 0 count)
+    (λ category. ap (λ (word : ℕ). not (word == 0)) (one_joined table key category one))
+
 -- a key takes the words of one walk if there is one trie
 pub one_transitions : (table : TableView) (key : List ℕ) → length table.roots ≡ 1 →
     key_transitions table key ≡ walk_transitions table 0 key
@@ -102,6 +110,13 @@ module _ {table : TableView} {key rows : List ℕ} (r : Reaches table key (lengt
       (range_with_len 0 count) ≡ key_verdicts table count key
   verdicts_are count = map_agree _ _ (range_with_len 0 count)
       (λ category. ap (λ (word : ℕ). word % userdatas) (joined_is category))
+
+  -- and the words that aren't 0 say in which some rule wins
+  pub winners_are : (count : ℕ) →
+      map (λ category. not (joined_rows table.rows (take (length table.roots) rows) category == 0))
+      (range_with_len 0 count) ≡ key_winners table count key
+  winners_are count = map_agree _ _ (range_with_len 0 count)
+      (λ category. ap (λ (word : ℕ). not (word == 0)) (joined_is category))
 
   -- a category has a winner exactly if its word isn't 0
   pub won_are : (won : List Bool) → length won ≡ row_len →

@@ -16,5 +16,5 @@ sum_below f zero = 0
 sum_below f (suc n) = sum_below f n + f n
 
 -- what a function gives for each number below n, one after the other
-unfoldable pub pieces_below : (ℕ → List ℕ) → ℕ → List ℕ
+unfoldable pub pieces_below : {A : Type 0} → (ℕ → List A) → ℕ → List A
 pieces_below f n = flat_map f (range_with_len 0 n)

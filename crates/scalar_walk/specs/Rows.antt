@@ -1,5 +1,5 @@
 -- What rows that were reached say of a category.
-use Rattle.std.specs.Prelude.{◌≡◌, ℕ, ◌+◌, ◌<◌, ◌%◌, List, [], map, length, slice_index}
+use Rattle.std.specs.Prelude.{◌≡◌, ℕ, ◌+◌, ◌<◌, ◌%◌, List, [], map, length, slice_index, flat_map}
 use Rattle.std.specs.Prelude.{slice_index_or, Bool, false, true, not, ◌==◌, if◌then◌else◌}
 use Rattle.std.specs.List.{range_with_len}
 use Rattle.flat_table.specs.Table.{TableView}
@@ -8,7 +8,7 @@ use Rattle.table_sizes.specs.Groups.{max_key_len}
 use Rattle.flat_table.specs.Word.{is_match, is_node, next_place}
 use Rattle.flat_table.specs.Walk.{greatest, joined, userdatas, walk_row, moved, walk_transitions}
 use Rattle.flat_table.specs.Walk.{key_transitions}
-use Rattle.flat_table.specs.Batch.{key_at, key_verdicts}
+use Rattle.flat_table.specs.Batch.{key_at, key_verdicts, keys_in}
 use Rattle.scalar_walk.specs.Lanes.{sum_below, pieces_below}
 
 -- the greatest word of the category over the rows of these numbers
@@ -21,6 +21,11 @@ abbrev pub row_verdicts : List (List ℕ) → ℕ → ℕ → List ℕ
 row_verdicts rows count row = map (λ category. slice_index (slice_index_or rows row []) category %
     userdatas) (range_with_len 0 count)
 
+-- whether that row's word is one of a rule, in the categories from 0 on
+abbrev pub row_winners : List (List ℕ) → ℕ → ℕ → List Bool
+row_winners rows count row = map (λ category.
+    not (slice_index (slice_index_or rows row []) category == 0)) (range_with_len 0 count)
+
 -- the first numbers of the list are the rows that the walks through the first tries reach, and
 -- these rows are there
 pub record Reaches (table : TableView) (key : List ℕ) (n : ℕ) (rows : List ℕ) : Type 0 where
@@ -32,6 +37,20 @@ pub record Reaches (table : TableView) (key : List ℕ) (n : ℕ) (rows : List �
 unfoldable pub winners_of : TableView → List ℕ → List Bool
 winners_of table key = map (λ category. not (joined table key category == 0))
     (range_with_len 0 row_len)
+
+-- whether some rule wins the key, in the categories from 0 on
+abbrev pub key_winners : TableView → ℕ → List ℕ → List Bool
+key_winners table count key = map (λ category. not (joined table key category == 0))
+    (range_with_len 0 count)
+
+-- those of the first n keys
+abbrev pub first_winners : TableView → ℕ → List ℕ → ℕ → List Bool
+first_winners table count keys n = flat_map (λ k. key_winners table count (key_at table keys k))
+    (range_with_len 0 n)
+
+-- those of all keys
+abbrev pub batch_winners : TableView → ℕ → List ℕ → List Bool
+batch_winners table count keys = first_winners table count keys (keys_in table keys)
 
 -- the walk of the key through the trie ends at the row, which is there
 pub record EndsAt (table : TableView) (trie : ℕ) (key : List ℕ) (row : ℕ) : Type 0 where
@@ -66,3 +85,8 @@ transitions_below table keys n = sum_below (λ k. key_transitions table (key_at 
 abbrev pub verdicts_below : TableView → ℕ → List ℕ → ℕ → List ℕ
 verdicts_below table count keys n =
     pieces_below (λ k. key_verdicts table count (key_at table keys k)) n
+
+-- in which of so many categories some rule wins each
+abbrev pub winners_below : TableView → ℕ → List ℕ → ℕ → List Bool
+winners_below table count keys n =
+    pieces_below (λ k. key_winners table count (key_at table keys k)) n

@@ -6,12 +6,12 @@ ghost use Rattle.std.specs.List.{range_with_len};
 ghost use Rattle.table_sizes.specs.Groups.{max_key_len};
 ghost use Rattle.table_sizes.specs.Sizes.{max_tries, row_len};
 ghost use Rattle.flat_table.specs.Walk.{joined, key_transitions, userdatas};
-ghost use Rattle.flat_table.specs.Batch.{LengthsFit, key_at, key_verdicts, batch_verdicts};
-ghost use Rattle.flat_table.specs.Batch.{batch_transitions};
-ghost use Rattle.flat_table.specs.Batch.{most_of_batch};
+ghost use Rattle.flat_table.specs.Batch.{LengthsFit, key_at, keys_in, key_verdicts, batch_verdicts};
+ghost use Rattle.flat_table.specs.Batch.{batch_transitions, most_of_batch};
 ghost use Rattle.scalar_walk.specs.Lanes.{pieces_below};
-ghost use Rattle.scalar_walk.specs.Rows.{Reaches, joined_rows, row_verdicts, winners_of};
-ghost use Rattle.scalar_walk.specs.Rows.{transitions_below, verdicts_below};
+ghost use Rattle.scalar_walk.specs.Rows.{Reaches, joined_rows, row_verdicts, row_winners};
+ghost use Rattle.scalar_walk.specs.Rows.{transitions_below, verdicts_below, winners_below};
+ghost use Rattle.scalar_walk.specs.Rows.{winners_of, key_winners, batch_winners};
 
 use crate::in_step::{IN_STEP, walk_sixteen};
 use crate::walk::walk_one;
@@ -34,62 +34,106 @@ fn greatest_word(rows: &[[u64; ROW_LEN]], reached: &[u32], category: usize) -> u
     greatest
 }
 
-/// Writes for so many categories from 0 on the userdata of the row's word.
-fn write_row(row: &[u64; ROW_LEN], count: usize, verdicts: &mut [u32])
+/// How many verdicts are written of each key, and how many marks: as many, or none.
+#[derive(Clone, Copy)]
+struct Asked {
+    count: usize,
+    marks: usize,
+}
+
+/// Marks the category exactly if its word isn't 0, where there is room for the mark.
+#[inline]
+fn put_mark(word: u64, category: usize, won: &mut [bool])
+    ensures { won.new ≡ slice_set won.old category (not (word == 0)) }
+{
+    if category < won.len() {
+        won[category] = word != 0;
+    }
+}
+
+/// Writes for so many categories from 0 on the userdata of the row's word, and marks those whose
+/// word isn't 0 as far as there is room for marks.
+fn write_row(row: &[u64; ROW_LEN], count: usize, verdicts: &mut [u32], won: &mut [bool])
     requires few { count ≤ row_len }
     requires room { length verdicts.old ≡ count }
-    ensures { verdicts.new ≡ map (λ category. slice_index row.now category % userdatas)
+    requires marks { length won.old ≤ count }
+    ensures verdicts { verdicts.new ≡ map (λ category. slice_index row.now category % userdatas)
         (range_with_len 0 count) }
+    ensures won { won.new ≡ map (λ category. not (slice_index row.now category == 0))
+        (range_with_len 0 (length won.old)) }
 {
     // One category is the common case, and a loop costs more than its one turn.
     if count == 1 {
         verdicts[0] = userdata_of(row[0]);
+        put_mark(row[0], 0, won);
     } else {
         for (category, verdict) in verdicts.iter_mut().enumerate() {
             *verdict = userdata_of(row[category]);
+            put_mark(row[category], category, won);
         }
     }
 }
 
-/// Writes for so many categories from 0 on the userdata of the rows that sixteen walks reached.
-fn write_rows(rows: &[[u64; ROW_LEN]], reached: &[u32; IN_STEP], count: usize, verdicts: &mut [u32])
+/// Writes for so many categories from 0 on the userdata of the rows that sixteen walks reached, and
+/// the marks that are asked for.
+fn write_rows(
+    rows: &[[u64; ROW_LEN]],
+    reached: &[u32; IN_STEP],
+    asked: Asked,
+    verdicts: &mut [u32],
+    won: &mut [bool],
+)
     requires there { (k : ℕ) → k < IN_STEP → slice_index reached.now k < length rows.now }
-    requires few { count ≤ row_len }
-    requires room { length verdicts.old ≡ IN_STEP * count }
-    ensures { verdicts.new ≡ pieces_below
-        (λ k. row_verdicts rows.now count (slice_index reached.now k)) IN_STEP }
+    requires few { asked.count ≤ row_len }
+    requires marks { asked.marks ≤ asked.count }
+    requires room { length verdicts.old ≡ IN_STEP * asked.count }
+    requires marks_room { length won.old ≡ IN_STEP * asked.marks }
+    ensures verdicts { verdicts.new ≡ pieces_below
+        (λ k. row_verdicts rows.now asked.count (slice_index reached.now k)) IN_STEP }
+    ensures won { won.new ≡ pieces_below
+        (λ k. row_winners rows.now asked.marks (slice_index reached.now k)) IN_STEP }
 {
     for (lane, row) in reached.iter().enumerate() {
-        let piece = &mut verdicts[lane * count..(lane + 1) * count];
-        write_row(&rows[*row as usize], count, piece);
+        let piece = &mut verdicts[lane * asked.count..(lane + 1) * asked.count];
+        let marks = &mut won[lane * asked.marks..(lane + 1) * asked.marks];
+        write_row(&rows[*row as usize], asked.count, piece, marks);
     }
 }
 
 /// Writes for so many categories from 0 on the userdata of the greatest word over the rows of these
-/// numbers.
-fn write_joined(rows: &[[u64; ROW_LEN]], reached: &[u32], count: usize, verdicts: &mut [u32])
+/// numbers, and marks those whose greatest word isn't 0 as far as there is room for marks.
+fn write_joined(rows: &[[u64; ROW_LEN]], reached: &[u32], verdicts: &mut [u32], won: &mut [bool])
     requires rows { All (λ row. row < length rows.now) reached.now }
-    requires few { count ≤ row_len }
-    requires room { length verdicts.old ≡ count }
-    ensures { verdicts.new ≡ map (λ category. joined_rows rows.now reached.now category % userdatas)
-        (range_with_len 0 count) }
+    requires few { length verdicts.old ≤ row_len }
+    requires marks { length won.old ≤ length verdicts.old }
+    ensures verdicts { verdicts.new ≡ map
+        (λ category. joined_rows rows.now reached.now category % userdatas)
+        (range_with_len 0 (length verdicts.old)) }
+    ensures won { won.new ≡ map (λ category. not (joined_rows rows.now reached.now category == 0))
+        (range_with_len 0 (length won.old)) }
 {
     for (category, verdict) in verdicts.iter_mut().enumerate() {
-        *verdict = userdata_of(greatest_word(rows, reached, category));
+        let word = greatest_word(rows, reached, category);
+        *verdict = userdata_of(word);
+        put_mark(word, category, won);
     }
 }
 
 /// Writes the verdicts, for so many categories from 0 on, of a key whose walks reach the first of
-/// these rows, one for each trie.
-fn write_verdicts(table: &Table, reached: &[u32; MAX_TRIES], count: usize, verdicts: &mut [u32])
+/// these rows, one for each trie, and its marks as far as there is room.
+fn write_answers(table: &Table, reached: &[u32; MAX_TRIES], verdicts: &mut [u32], won: &mut [bool])
     requires rows { All (λ row. row < length table.now.rows)
         (take (length table.now.roots) reached.now) }
-    requires few { count ≤ row_len }
-    requires room { length verdicts.old ≡ count }
-    ensures { verdicts.new ≡ map (λ category. joined_rows table.now.rows
-        (take (length table.now.roots) reached.now) category % userdatas) (range_with_len 0 count) }
+    requires few { length verdicts.old ≤ row_len }
+    requires marks { length won.old ≤ length verdicts.old }
+    ensures verdicts { verdicts.new ≡ map (λ category. joined_rows table.now.rows
+        (take (length table.now.roots) reached.now) category % userdatas)
+        (range_with_len 0 (length verdicts.old)) }
+    ensures won { won.new ≡ map (λ category. not (joined_rows table.now.rows
+        (take (length table.now.roots) reached.now) category == 0))
+        (range_with_len 0 (length won.old)) }
 {
-    write_joined(table.rows(), &reached[..table.tries()], count, verdicts);
+    write_joined(table.rows(), &reached[..table.tries()], verdicts, won);
 }
 
 /// The rows that the walks of a key reach, one for each trie, and how many transitions they took.
@@ -118,22 +162,25 @@ fn reach<L: Ledger>(table: &Table, key: &[u8], steps: &mut Steps<L>) -> Reached
     Reached { rows, taken }
 }
 
-/// Writes the verdicts of one key, and says how many transitions its walks took.
+/// Writes the verdicts and the marks of one key, and says how many transitions its walks took.
 fn classify_one<L: Ledger>(
     table: &Table,
     key: &[u8],
     verdicts: &mut [u32],
+    won: &mut [bool],
     steps: &mut Steps<L>,
 ) -> u64
     requires key { length key.now ≡ table.now.key_len }
     requires few { length verdicts.old ≤ row_len }
+    requires marks { length won.old ≤ length verdicts.old }
     ensures verdicts { verdicts.new ≡ key_verdicts table.now (length verdicts.old) key.now }
+    ensures won { won.new ≡ key_winners table.now (length won.old) key.now }
     ensures taken { result ≡ key_transitions table.now key.now }
     ensures bound { result ≤ max_tries * max_key_len }
     ensures steps { steps.new ≡ steps.old + key_transitions table.now key.now }
 {
     let reached = reach(table, key, steps);
-    write_verdicts(table, &reached.rows, verdicts.len(), verdicts);
+    write_answers(table, &reached.rows, verdicts, won);
     reached.taken
 }
 
@@ -182,19 +229,23 @@ fn reach_sixteen<L: Ledger>(
     taken
 }
 
-/// Writes the verdicts of sixteen keys, so many of each, by the greatest words over the rows of all
+/// Writes the verdicts and the marks of sixteen keys, by the greatest words over the rows of all
 /// tries, and says how many transitions their walks took.
 fn join_sixteen<L: Ledger>(
     table: &Table,
     keys: &[u8],
-    count: usize,
+    asked: Asked,
     verdicts: &mut [u32],
+    won: &mut [bool],
     steps: &mut Steps<L>,
 ) -> u64
     requires keys { length keys.now ≡ IN_STEP * table.now.key_len }
-    requires few { count ≤ row_len }
-    requires room { length verdicts.old ≡ IN_STEP * count }
-    ensures verdicts { verdicts.new ≡ verdicts_below table.now count keys.now IN_STEP }
+    requires few { asked.count ≤ row_len }
+    requires marks { asked.marks ≤ asked.count }
+    requires room { length verdicts.old ≡ IN_STEP * asked.count }
+    requires marks_room { length won.old ≡ IN_STEP * asked.marks }
+    ensures verdicts { verdicts.new ≡ verdicts_below table.now asked.count keys.now IN_STEP }
+    ensures won { won.new ≡ winners_below table.now asked.marks keys.now IN_STEP }
     ensures taken { result ≡ transitions_below table.now keys.now IN_STEP }
     ensures bound { result ≤ IN_STEP * (max_tries * max_key_len) }
     ensures steps { steps.new ≡ steps.old + result }
@@ -202,25 +253,30 @@ fn join_sixteen<L: Ledger>(
     let mut reached = [[0; MAX_TRIES]; IN_STEP];
     let taken = reach_sixteen(table, keys, &mut reached, steps);
     for lane in 0..IN_STEP {
-        let piece = &mut verdicts[lane * count..(lane + 1) * count];
-        write_verdicts(table, &reached[lane], count, piece);
+        let piece = &mut verdicts[lane * asked.count..(lane + 1) * asked.count];
+        let marks = &mut won[lane * asked.marks..(lane + 1) * asked.marks];
+        write_answers(table, &reached[lane], piece, marks);
     }
     taken
 }
 
-/// Writes the verdicts of sixteen keys, so many of each, and says how many transitions their walks
+/// Writes the verdicts and the marks of sixteen keys, and says how many transitions their walks
 /// took.
 fn classify_sixteen<L: Ledger>(
     table: &Table,
     keys: &[u8],
-    count: usize,
+    asked: Asked,
     verdicts: &mut [u32],
+    won: &mut [bool],
     steps: &mut Steps<L>,
 ) -> u64
     requires keys { length keys.now ≡ IN_STEP * table.now.key_len }
-    requires few { count ≤ row_len }
-    requires room { length verdicts.old ≡ IN_STEP * count }
-    ensures verdicts { verdicts.new ≡ verdicts_below table.now count keys.now IN_STEP }
+    requires few { asked.count ≤ row_len }
+    requires marks { asked.marks ≤ asked.count }
+    requires room { length verdicts.old ≡ IN_STEP * asked.count }
+    requires marks_room { length won.old ≡ IN_STEP * asked.marks }
+    ensures verdicts { verdicts.new ≡ verdicts_below table.now asked.count keys.now IN_STEP }
+    ensures won { won.new ≡ winners_below table.now asked.marks keys.now IN_STEP }
     ensures taken { result ≡ transitions_below table.now keys.now IN_STEP }
     ensures bound { result ≤ IN_STEP * (max_tries * max_key_len) }
     ensures steps { steps.new ≡ steps.old + result }
@@ -229,11 +285,50 @@ fn classify_sixteen<L: Ledger>(
     if table.tries() == 1 {
         let mut rows = [0; IN_STEP];
         let taken = walk_sixteen(table, 0, keys, &mut rows, steps);
-        write_rows(table.rows(), &rows, count, verdicts);
+        write_rows(table.rows(), &rows, asked, verdicts, won);
         taken
     } else {
-        join_sixteen(table, keys, count, verdicts, steps)
+        join_sixteen(table, keys, asked, verdicts, won, steps)
     }
+}
+
+/// Writes the verdicts and the marks of the keys of a batch, and says how many transitions their
+/// walks took.
+fn classify_keys<L: Ledger>(
+    table: &Table,
+    keys: &[u8],
+    asked: Asked,
+    out: &mut [u32],
+    won: &mut [bool],
+    steps: &mut Steps<L>,
+) -> u64
+    requires fits { LengthsFit table.now keys.now asked.count (length out.old) }
+    requires few { asked.count ≤ row_len }
+    requires marks { asked.marks ≤ asked.count }
+    requires marks_room { length won.old ≡ keys_in table.now keys.now * asked.marks }
+    ensures verdicts { out.new ≡ batch_verdicts table.now asked.count keys.now }
+    ensures won { won.new ≡ batch_winners table.now asked.marks keys.now }
+    ensures taken { result ≡ batch_transitions table.now keys.now }
+    ensures steps { steps.new ≡ steps.old + batch_transitions table.now keys.now }
+{
+    let key_len = table.key_len();
+    let (count, marks) = (asked.count, asked.marks);
+    let n = keys.len() / key_len;
+    let mut taken = 0;
+    for block in 0..n / IN_STEP {
+        let k = block * IN_STEP;
+        let part = &keys[k * key_len..(k + IN_STEP) * key_len];
+        let verdicts = &mut out[k * count..(k + IN_STEP) * count];
+        let marked = &mut won[k * marks..(k + IN_STEP) * marks];
+        taken += classify_sixteen(table, part, asked, verdicts, marked, steps);
+    }
+    for k in n / IN_STEP * IN_STEP..n {
+        let key = &keys[k * key_len..(k + 1) * key_len];
+        let verdicts = &mut out[k * count..(k + 1) * count];
+        let marked = &mut won[k * marks..(k + 1) * marks];
+        taken += classify_one(table, key, verdicts, marked, steps);
+    }
+    taken
 }
 
 /// Writes the verdicts of the keys of a batch, and says how many transitions their walks took.
@@ -256,27 +351,50 @@ pub fn classify_scalar<L: Ledger>(
     ensures bound { result ≤ most_of_batch table.now keys.now }
     ensures steps { steps.new ≡ steps.old + batch_transitions table.now keys.now }
 {
-    let key_len = table.key_len();
-    let count = cats.count();
-    let n = keys.len() / key_len;
-    let mut taken = 0;
-    for block in 0..n / IN_STEP {
-        let k = block * IN_STEP;
-        let part = &keys[k * key_len..(k + IN_STEP) * key_len];
-        let verdicts = &mut out[k * count..(k + IN_STEP) * count];
-        taken += classify_sixteen(table, part, count, verdicts, steps);
-    }
-    for k in n / IN_STEP * IN_STEP..n {
-        let key = &keys[k * key_len..(k + 1) * key_len];
-        taken += classify_one(table, key, &mut out[k * count..(k + 1) * count], steps);
-    }
-    taken
+    let asked = Asked {
+        count: cats.count(),
+        marks: 0,
+    };
+    classify_keys(table, keys, asked, out, &mut [], steps)
+}
+
+/// Writes the verdicts of the keys of a batch as [`classify_scalar`] does, and marks beside each
+/// whether some rule wins.
+///
+/// `won` has as many entries as `out`, in the same order. An entry is true if a rule wins the key
+/// in that category, also where its userdata is 0. Verdicts and marks are of the same walks, and
+/// the counts are of these. It refuses nothing and takes no memory.
+#[tactic(auto, using(crate::proofs::Batches::taken_bound))]
+pub fn classify_scalar_marked<L: Ledger>(
+    table: &Table,
+    keys: &[u8],
+    cats: Categories,
+    out: &mut [u32],
+    won: &mut [bool],
+    steps: &mut Steps<L>,
+) -> u64
+    requires fits { LengthsFit table.now keys.now cats.count (length out.old) }
+    requires marks { length won.old ≡ length out.old }
+    ensures verdicts { out.new ≡ batch_verdicts table.now cats.count keys.now }
+    ensures won { won.new ≡ batch_winners table.now cats.count keys.now }
+    ensures taken { result ≡ batch_transitions table.now keys.now }
+    ensures bound { result ≤ most_of_batch table.now keys.now }
+    ensures steps { steps.new ≡ steps.old + batch_transitions table.now keys.now }
+{
+    let asked = Asked {
+        count: cats.count(),
+        marks: cats.count(),
+    };
+    classify_keys(table, keys, asked, out, won, steps)
 }
 
 /// Marks the categories in which some rule wins the key.
 ///
 /// `key` has the bytes of a key of the table. Entry c of `won` says whether a rule wins in category
-/// c, also where its userdata is 0. It refuses nothing, takes no memory and counts no transitions.
+/// c, also where its userdata is 0. It refuses nothing and takes no memory.
+///
+/// It walks the key for itself and counts nothing: it is for callers that ask for marks alone, as
+/// the C library does. [`classify_scalar_marked`] gives verdicts and marks by the same walks.
 pub fn winners(table: &Table, key: &[u8], won: &mut [bool; ROW_LEN])
     requires { length key.now ≡ table.now.key_len }
     ensures { won.new ≡ winners_of table.now key.now }

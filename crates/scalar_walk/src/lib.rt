@@ -27,6 +27,6 @@ mod kinds;
 mod vectors;
 mod walk;
 
-pub use classify::{classify_scalar, winners};
+pub use classify::{classify_scalar, classify_scalar_marked, winners};
 pub use vectors::four_places;
 pub use walk::{Walked, walk_one};

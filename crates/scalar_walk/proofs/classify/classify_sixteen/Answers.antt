@@ -3,9 +3,9 @@ use Rattle.std.specs.Prelude.{slice_index}
 use Rattle.flat_table.specs.Batch.{key_at, key_verdicts}
 use Rattle.flat_table.specs.Walk.{key_transitions, walk_transitions}
 use Rattle.scalar_walk.specs.Lanes.{pieces_below}
-use Rattle.scalar_walk.specs.Rows.{row_verdicts}
+use Rattle.scalar_walk.specs.Rows.{row_verdicts, row_winners, key_winners}
 use Rattle.scalar_walk.proofs.Below.{pieces_agree, sum_agree}
-use Rattle.scalar_walk.proofs.Reached.{one_verdicts, one_transitions}
+use Rattle.scalar_walk.proofs.Reached.{one_verdicts, one_winners, one_transitions}
 use Rattle.scalar_walk.proofs.classify.classify_sixteen.Goals as goal
 
 pub write_rows-requires-clause-there : goal.write_rows-requires-clause-there
@@ -22,10 +22,23 @@ returns-then-tries-eq1-clause-verdicts g c =
     let one : length table.roots ≡ 1 = omega arith in
     let key = λ (k : ℕ). key_at table c.args.keys.now k in
     let row = λ (k : ℕ). slice_index c.walk_sixteen-taken.new.rows k in
-    c.write_rows.ensures
-    ∙ ap (λ (rows : List (List ℕ)). pieces_below (λ k. row_verdicts rows c.args.count (row k)) 16) c.rows.ensures
-    ∙ pieces_agree (λ k. row_verdicts table.rows c.args.count (row k)) (λ k. key_verdicts table c.args.count (key k)) 16
-    (λ k h. one_verdicts table (key k) c.args.count one (c.walk_sixteen-taken.ensures.rows k h).is)
+    let count : ℕ = c.args.asked.count in
+    c.write_rows.ensures.verdicts
+    ∙ ap (λ (rows : List (List ℕ)). pieces_below (λ k. row_verdicts rows count (row k)) 16) c.rows.ensures
+    ∙ pieces_agree (λ k. row_verdicts table.rows count (row k)) (λ k. key_verdicts table count (key k)) 16
+    (λ k h. one_verdicts table (key k) count one (c.walk_sixteen-taken.ensures.rows k h).is)
+
+pub returns-then-tries-eq1-clause-won : goal.returns-then-tries-eq1-clause-won
+returns-then-tries-eq1-clause-won g c =
+    let table = c.args.table.now in
+    let one : length table.roots ≡ 1 = omega arith in
+    let key = λ (k : ℕ). key_at table c.args.keys.now k in
+    let row = λ (k : ℕ). slice_index c.walk_sixteen-taken.new.rows k in
+    let marks : ℕ = c.args.asked.marks in
+    c.write_rows.ensures.won
+    ∙ ap (λ (rows : List (List ℕ)). pieces_below (λ k. row_winners rows marks (row k)) 16) c.rows.ensures
+    ∙ pieces_agree (λ k. row_winners table.rows marks (row k)) (λ k. key_winners table marks (key k)) 16
+    (λ k h. one_winners table (key k) marks one (c.walk_sixteen-taken.ensures.rows k h).is)
 
 pub returns-then-tries-eq1-clause-taken : goal.returns-then-tries-eq1-clause-taken
 returns-then-tries-eq1-clause-taken g c =

@@ -2,9 +2,10 @@ use Rattle.std.proofs.Common.{ℕ, List, arith, ap, ◌∙◌, [], length}
 use Rattle.std.specs.Prelude.{replicate}
 use Rattle.std.proofs.lemmas.List.{get_or-replicate}
 use Rattle.flat_table.specs.Batch.{key_at, key_verdicts}
-use Rattle.scalar_walk.proofs.Batches.{verdicts_len}
+use Rattle.scalar_walk.specs.Rows.{key_winners}
+use Rattle.scalar_walk.proofs.Batches.{room_of_part, verdicts_len, winners_len}
 use Rattle.scalar_walk.proofs.Below.{pieces_none, one_piece, all_pieces}
-use Rattle.scalar_walk.proofs.Reached.{rows_there, verdicts_are}
+use Rattle.scalar_walk.proofs.Reached.{rows_there, verdicts_are, winners_are}
 use Rattle.scalar_walk.proofs.classify.join_sixteen.Goals as goal
 
 pub reach_sixteen-taken-requires-clause-len : goal.reach_sixteen-taken-requires-clause-len
@@ -13,11 +14,15 @@ reach_sixteen-taken-requires-clause-len g c k h =
 
 pub loop-lane-init : goal.loop-lane-init
 loop-lane-init g c =
-    pieces_none (λ (k : ℕ). key_verdicts c.args.table.now c.args.count (key_at c.args.table.now c.args.keys.now k))
-    c.args.count c.args.verdicts.now
+    let key = λ (k : ℕ). key_at c.args.table.now c.args.keys.now k in (
+      pieces_none (λ (k : ℕ). key_verdicts c.args.table.now c.args.asked.count (key k)) c.args.asked.count
+          c.args.verdicts.now,
+      pieces_none (λ (k : ℕ). key_winners c.args.table.now c.args.asked.marks (key k)) c.args.asked.marks
+          c.args.won.now,
+    )
 
-pub write_verdicts-requires-clause-rows : goal.write_verdicts-requires-clause-rows
-write_verdicts-requires-clause-rows g c =
+pub write_answers-requires-clause-rows : goal.write_answers-requires-clause-rows
+write_answers-requires-clause-rows g c =
     let r = c.reach_sixteen-taken.ensures in
     rows_there (r.rows c.loop-lane.lane c.loop-lane-test.true) r.few
 
@@ -25,9 +30,20 @@ pub loop-lane-preserved : goal.loop-lane-preserved
 loop-lane-preserved g c =
     let r = c.reach_sixteen-taken.ensures in
     let lane = c.loop-lane.lane in
-    one_piece c.loop-lane.invariant
-    (c.write_verdicts.ensures ∙ verdicts_are (r.rows lane c.loop-lane-test.true) r.few c.args.count)
-    (verdicts_len c.args.table.now c.args.count c.args.keys.now lane)
+    let table = c.args.table.now in
+    let key = key_at table c.args.keys.now lane in (
+      one_piece c.loop-lane.invariant.0
+          (c.write_answers.ensures.verdicts ∙ verdicts_are (r.rows lane c.loop-lane-test.true) r.few _
+          ∙ ap (λ (n : ℕ). key_verdicts table n key) (omega arith))
+          (verdicts_len table c.args.asked.count key),
+      one_piece c.loop-lane.invariant.1
+          (c.write_answers.ensures.won ∙ winners_are (r.rows lane c.loop-lane-test.true) r.few _
+          ∙ ap (λ (n : ℕ). key_winners table n key) (omega arith))
+          (winners_len table c.args.asked.marks key),
+    )
 
 pub returns-clause-verdicts : goal.returns-clause-verdicts
-returns-clause-verdicts g c = all_pieces c.loop-lane.invariant (omega arith) c.requires.room
+returns-clause-verdicts g c = all_pieces c.loop-lane.invariant.0 (omega arith) c.requires.room
+
+pub returns-clause-won : goal.returns-clause-won
+returns-clause-won g c = all_pieces c.loop-lane.invariant.1 (omega arith) c.requires.marks_room
