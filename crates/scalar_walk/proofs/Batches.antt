@@ -7,7 +7,7 @@ use Rattle.std.proofs.Common.{length-take, length-drop}
 use Rattle.std.specs.Prelude.{flat_map}
 use Rattle.std.specs.List.{range_with_len}
 use Rattle.std.proofs.lemmas.Grind.{flat_map-append}
-use Rattle.std.proofs.lemmas.List.{length-map, drop-drop, drop-take, drop_all, take-take, take_all}
+use Rattle.std.proofs.lemmas.List.{length-map, drop-drop, drop-take, drop_all, take-take}
 use Rattle.std.proofs.lemmas.List.Sums.{fold-append}
 use Rattle.std.proofs.lemmas.List.FromFn.{length-range_with_len}
 use Rattle.std.proofs.Math.Nat.{mul-le-mul_right, div-mul-le_self}
@@ -186,15 +186,6 @@ classified_none table keys count marks k out won steps none = record {
   counted = omega arith;
 }
 
--- keys that are classified up to a number are so up to an equal one
-pub classified_up_to : {table : TableView} {keys old out : List ℕ} {old_won won : List Bool}
-    {count marks k n taken begun steps : ℕ} → k ≡ n →
-    Classified table keys count marks k old out old_won won taken begun steps →
-    Classified table keys count marks n old out old_won won taken begun steps
-classified_up_to {table = table} {keys = keys} {old = old} {out = out} {old_won = old_won} {won = won} {count = count}
-    {marks = marks} {taken = taken} {begun = begun} {steps = steps} e =
-    subst (λ (j : ℕ). Classified table keys count marks j old out old_won won taken begun steps) e
-
 -- the verdicts and the marks of m keys, and the transitions of their walks
 pub record PartClassified (table : TableView) (part : List ℕ) (count marks m : ℕ) (verdicts : List ℕ)
     (won : List Bool) (taken steps new_steps : ℕ) : Type 0 where
@@ -225,16 +216,13 @@ pub room_of_part : {A : Type 0} (out : List A) (k m n count : ℕ) → length ou
     length (part_of out count k m) ≡ m * count
 room_of_part out k m n count room within =
     let fits : (k + m) * count ≤ n * count = mul-le-mul_right count within in
-    omega (arith, fits, room, length-take ((k + m) * count - k * count) (drop (k * count) out),
-    length-drop (k * count) out)
-
--- sixteen keys more
-pub next_block : (block n : ℕ) → block < n / 16 → block * 16 + 16 ≤ n
-next_block block n below = omega (arith, below)
-
--- the number after a lower one is at most the number
-pub next_key : (k n : ℕ) → k < n → k + 1 ≤ n
-next_key k n below = omega (arith, below)
+    omega (
+      arith,
+      fits,
+      room,
+      length-take ((k + m) * count - k * count) (drop (k * count) out),
+      length-drop (k * count) out,
+    )
 
 -- the bytes of m keys more are there
 pub keys_fit : (bytes len k m : ℕ) → k + m ≤ bytes / len → (k + m) * len ≤ bytes
@@ -247,32 +235,6 @@ pub room_fits : (bytes len count out k m : ℕ) {of old : ℕ} → len ≡ of �
 room_fits bytes len count out k m is same room within =
     let whole : out ≡ bytes / len * count = same ∙ room ∙ (λ i. bytes / sym is i * count) in
     omega (arith, mul-le-mul_right count within, whole)
-
--- one key, as the code cuts it and the room for its verdicts and marks
-pub one_key : {table : TableView} {verdicts : List ℕ} {marked : List Bool}
-    {count marks len n taken steps new_steps : ℕ} → (keys out : List ℕ) (won : List Bool) (k : ℕ) →
-    len ≡ table.key_len → length out ≡ n * count → length won ≡ n * marks → k + 1 ≤ n →
-    verdicts ≡ key_verdicts table (length (part_of out count k 1)) (part_of keys len k 1) →
-    marked ≡ key_winners table (length (part_of won marks k 1)) (part_of keys len k 1) →
-    taken ≡ key_transitions table (part_of keys len k 1) → taken ≤ max_tries * max_key_len →
-    new_steps ≡ steps + key_transitions table (part_of keys len k 1) →
-    PartClassified table (part_of keys len k 1) count marks 1 verdicts marked taken steps new_steps
-one_key {table = table} {count = count} {marks = marks} {len = len} {n = n} keys out won k e room marks_room within
-    verdicts winners taken most steps =
-    let key : List ℕ = part_of keys len k 1 in
-    let few : length (part_of out count k 1) ≡ count = room_of_part out k 1 n count room within ∙ omega arith in
-    let few_marks : length (part_of won marks k 1) ≡ marks =
-    room_of_part won k 1 n marks marks_room within ∙ omega arith in
-    let none : 0 * table.key_len ≡ 0 = omega arith in
-    let whole : key_at table key 0 ≡ key = ap (λ (at : ℕ). take table.key_len (drop at key)) none
-    ∙ take_all table.key_len key (omega (arith, e, length-take ((k + 1) * len - k * len) (drop (k * len) keys))) in
-    record {
-      verdicts_are = verdicts ∙ (λ i. key_verdicts table (few i) (sym whole i)) ∙ sym (append-nil _);
-      winners_are = winners ∙ (λ i. key_winners table (few_marks i) (sym whole i)) ∙ sym (append-nil _);
-      taken_is = taken ∙ ap (λ (it : List ℕ). key_transitions table it) (sym whole) ∙ omega arith;
-      most = omega (arith, most);
-      counted = omega (arith, steps, taken);
-    }
 
 -- what all keys take is within their bound
 pub taken_bound : (table : TableView) (keys : List ℕ) {taken : ℕ} → taken ≡ batch_transitions table keys →

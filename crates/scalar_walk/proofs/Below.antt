@@ -28,7 +28,7 @@ sum_agree f g (suc n) same =
     omega (arith, sum_agree f g n (λ i h. same i (omega (arith, h))), same n (omega arith))
 
 -- a sum is that of the first numbers and that of those after them
-sum_split : (f : ℕ → ℕ) (m n : ℕ) → sum_below f (m + n) ≡ sum_below f m + sum_below (λ i. f (m + i)) n
+pub sum_split : (f : ℕ → ℕ) (m n : ℕ) → sum_below f (m + n) ≡ sum_below f m + sum_below (λ i. f (m + i)) n
 unfolding sum_below
 sum_split f m zero = let none : m + 0 ≡ m = omega arith in omega (arith, ap (λ (k : ℕ). sum_below f k) none)
 sum_split f m (suc n) =
@@ -58,12 +58,6 @@ fold_is_sum f (suc n) =
     ∙ fold-append (λ total k. total + f k) 0 (range_with_len 0 n) ((0 + n) ∷ [])
     ∙ ap (λ (j : ℕ). fold (λ total k. total + f k) 0 (range_with_len 0 n) + f j) (omega arith) in
     rw (add-one n) at more ∙ omega (arith, fold_is_sum f n)
-
--- sixteen in fours
-pub four_fours : (f : ℕ → ℕ) → sum_below f 16
-    ≡ sum_below (λ i. f (0 + i)) 4 + sum_below (λ i. f (4 + i)) 4 + sum_below (λ i. f (8 + i)) 4
-    + sum_below (λ i. f (12 + i)) 4
-four_fours f = omega (arith, sum_split f 12 4, sum_split f 8 4, sum_split f 4 4, sum_split f 0 4, sum_none f)
 
 -- ---- pieces that are written one after the other
 

@@ -3,6 +3,7 @@ pub mod Below
 pub mod Ended
 pub mod Halves
 pub mod InStep
+pub mod LaneKeys
 pub mod Marks
 pub mod OneLane
 pub mod Reached

@@ -1,5 +1,5 @@
 -- Four walks at once, a lane for each: lane i of each vector is that of walk i.
-use Rattle.std.specs.Prelude.{◌≡◌, ◌⊎◌, ℕ, zero, suc, ◌+◌, ◌*◌, ◌^◌, List, slice_index, flat_map}
+use Rattle.std.specs.Prelude.{◌≡◌, ◌⊎◌, ℕ, zero, suc, ◌+◌, ◌-◌, ◌*◌, ◌^◌, ◌<◌, ◌≤◌, min, List, slice_index, flat_map}
 use Rattle.std.specs.List.{range_with_len}
 
 -- the word whose low and high halves lane i of two vectors has
@@ -9,6 +9,20 @@ word_in lows highs i = slice_index lows i + 2 ^ 32 * slice_index highs i
 -- how many bytes are read at once: one, or a group of four
 abbrev pub IsGroupLen : ℕ → Type 0
 IsGroupLen count = (count ≡ 1) ⊎ (count ≡ 4)
+
+-- the key that a lane walks of so many: its own, or the last where there are no more
+abbrev pub lane_key : ℕ → ℕ → ℕ
+lane_key count lane = min lane (count - 1)
+
+-- how many of four lanes, from one on, have a key of their own
+abbrev pub own_lanes : ℕ → ℕ → ℕ
+own_lanes count first = min (count - first) 4
+
+-- so many fours of lanes, at most four, have a lane for each of so many keys
+pub record HasLanes (fours count : ℕ) : Type 0 where
+  pub some : 0 < count
+  pub few : fours ≤ 4
+  pub enough : count ≤ 4 * fours
 
 -- the sum of a function over the numbers below n
 unfoldable pub sum_below : (ℕ → ℕ) → ℕ → ℕ

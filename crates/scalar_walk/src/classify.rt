@@ -11,9 +11,9 @@ ghost use Rattle.flat_table.specs.Batch.{batch_transitions, most_of_batch};
 ghost use Rattle.scalar_walk.specs.Lanes.{pieces_below};
 ghost use Rattle.scalar_walk.specs.Rows.{Reaches, joined_rows, row_verdicts, row_winners};
 ghost use Rattle.scalar_walk.specs.Rows.{transitions_below, verdicts_below, winners_below};
-ghost use Rattle.scalar_walk.specs.Rows.{winners_of, key_winners, batch_winners};
+ghost use Rattle.scalar_walk.specs.Rows.{winners_of, batch_winners};
 
-use crate::in_step::{IN_STEP, walk_sixteen};
+use crate::in_step::{IN_STEP, walk_some};
 use crate::walk::walk_one;
 use flat_table::{Steps, Table, userdata_of};
 use rule_set::Categories;
@@ -39,6 +39,20 @@ fn greatest_word(rows: &[[u64; ROW_LEN]], reached: &[u32], category: usize) -> u
 struct Asked {
     count: usize,
     marks: usize,
+}
+
+/// How many keys after so many of a batch are walked next: sixteen, or what is left.
+fn next_keys(done: usize, all: usize) -> usize
+    requires { done < all }
+    ensures some { 0 < result }
+    ensures few { result ≤ IN_STEP }
+    ensures within { done + result ≤ all }
+{
+    if all - done < IN_STEP {
+        all - done
+    } else {
+        IN_STEP
+    }
 }
 
 /// Marks the category exactly if its word isn't 0, where there is room for the mark.
@@ -74,29 +88,31 @@ fn write_row(row: &[u64; ROW_LEN], count: usize, verdicts: &mut [u32], won: &mut
     }
 }
 
-/// Writes for so many categories from 0 on the userdata of the rows that sixteen walks reached, and
-/// the marks that are asked for.
+/// Writes for so many categories from 0 on the userdata of the rows that the walks of so many keys
+/// reached, and the marks that are asked for.
 fn write_rows(
     rows: &[[u64; ROW_LEN]],
     reached: &[u32; IN_STEP],
+    keys: usize,
     asked: Asked,
     verdicts: &mut [u32],
     won: &mut [bool],
 )
-    requires there { (k : ℕ) → k < IN_STEP → slice_index reached.now k < length rows.now }
+    requires there { (k : ℕ) → k < keys → slice_index reached.now k < length rows.now }
+    requires keys { keys ≤ IN_STEP }
     requires few { asked.count ≤ row_len }
     requires marks { asked.marks ≤ asked.count }
-    requires room { length verdicts.old ≡ IN_STEP * asked.count }
-    requires marks_room { length won.old ≡ IN_STEP * asked.marks }
+    requires room { length verdicts.old ≡ keys * asked.count }
+    requires marks_room { length won.old ≡ keys * asked.marks }
     ensures verdicts { verdicts.new ≡ pieces_below
-        (λ k. row_verdicts rows.now asked.count (slice_index reached.now k)) IN_STEP }
+        (λ k. row_verdicts rows.now asked.count (slice_index reached.now k)) keys }
     ensures won { won.new ≡ pieces_below
-        (λ k. row_winners rows.now asked.marks (slice_index reached.now k)) IN_STEP }
+        (λ k. row_winners rows.now asked.marks (slice_index reached.now k)) keys }
 {
-    for (lane, row) in reached.iter().enumerate() {
+    for lane in 0..keys {
         let piece = &mut verdicts[lane * asked.count..(lane + 1) * asked.count];
         let marks = &mut won[lane * asked.marks..(lane + 1) * asked.marks];
-        write_row(&rows[*row as usize], asked.count, piece, marks);
+        write_row(&rows[reached[lane] as usize], asked.count, piece, marks);
     }
 }
 
@@ -162,29 +178,7 @@ fn reach<L: Ledger>(table: &Table, key: &[u8], steps: &mut Steps<L>) -> Reached
     Reached { rows, taken }
 }
 
-/// Writes the verdicts and the marks of one key, and says how many transitions its walks took.
-fn classify_one<L: Ledger>(
-    table: &Table,
-    key: &[u8],
-    verdicts: &mut [u32],
-    won: &mut [bool],
-    steps: &mut Steps<L>,
-) -> u64
-    requires key { length key.now ≡ table.now.key_len }
-    requires few { length verdicts.old ≤ row_len }
-    requires marks { length won.old ≤ length verdicts.old }
-    ensures verdicts { verdicts.new ≡ key_verdicts table.now (length verdicts.old) key.now }
-    ensures won { won.new ≡ key_winners table.now (length won.old) key.now }
-    ensures taken { result ≡ key_transitions table.now key.now }
-    ensures bound { result ≤ max_tries * max_key_len }
-    ensures steps { steps.new ≡ steps.old + key_transitions table.now key.now }
-{
-    let reached = reach(table, key, steps);
-    write_answers(table, &reached.rows, verdicts, won);
-    reached.taken
-}
-
-/// The rows that the walks of sixteen keys reach, for each key one for each trie.
+/// The rows that the walks of up to sixteen keys reach, for each key one for each trie.
 type Sixteen = [[u32; MAX_TRIES]; IN_STEP];
 
 /// Writes the row that the walk of each key through the trie reached.
@@ -200,59 +194,65 @@ fn put_rows(reached: &mut Sixteen, trie: usize, rows: &[u32; IN_STEP])
     }
 }
 
-/// The walks of sixteen keys, which stand one after the other, through all tries: writes the rows
-/// that they reach, and says how many transitions they took together.
+/// The walks of so many keys, 1 to 16, which stand one after the other, through all tries: writes
+/// the rows that they reach, and says how many transitions they took together.
 ///
 /// The rows are written in place, since a copy of so much would wait for what was just written.
-fn reach_sixteen<L: Ledger>(
+fn reach_some<L: Ledger>(
     table: &Table,
     keys: &[u8],
+    count: usize,
     reached: &mut Sixteen,
     steps: &mut Steps<L>,
 ) -> u64
-    requires keys { length keys.now ≡ IN_STEP * table.now.key_len }
+    requires keys { length keys.now ≡ count * table.now.key_len }
+    requires some { 0 < count }
+    requires few { count ≤ IN_STEP }
     requires len { (k : ℕ) → k < IN_STEP →
         length (slice_index_or reached.old k []) ≡ max_tries }
     ensures few { length table.now.roots ≤ max_tries }
-    ensures rows { (k : ℕ) → k < IN_STEP → Reaches table.now (key_at table.now keys.now k)
+    ensures rows { (k : ℕ) → k < count → Reaches table.now (key_at table.now keys.now k)
         (length table.now.roots) (slice_index_or reached.new k []) }
-    ensures taken { result ≡ transitions_below table.now keys.now IN_STEP }
-    ensures bound { result ≤ IN_STEP * (max_tries * max_key_len) }
+    ensures taken { result ≡ transitions_below table.now keys.now count }
+    ensures bound { result ≤ count * (max_tries * max_key_len) }
     ensures steps { steps.new ≡ steps.old + result }
 {
     let mut taken = 0;
     let mut rows = [0u32; IN_STEP];
     for trie in 0..table.tries() {
-        taken += walk_sixteen(table, trie, keys, &mut rows, steps);
+        taken += walk_some(table, trie, keys, count, &mut rows, steps);
         put_rows(reached, trie, &rows);
     }
     taken
 }
 
-/// Writes the verdicts and the marks of sixteen keys, by the greatest words over the rows of all
-/// tries, and says how many transitions their walks took.
-fn join_sixteen<L: Ledger>(
+/// Writes the verdicts and the marks of so many keys, 1 to 16, by the greatest words over the rows
+/// of all tries, and says how many transitions their walks took.
+fn join_some<L: Ledger>(
     table: &Table,
     keys: &[u8],
+    count: usize,
     asked: Asked,
     verdicts: &mut [u32],
     won: &mut [bool],
     steps: &mut Steps<L>,
 ) -> u64
-    requires keys { length keys.now ≡ IN_STEP * table.now.key_len }
+    requires keys { length keys.now ≡ count * table.now.key_len }
+    requires some { 0 < count }
+    requires at_most { count ≤ IN_STEP }
     requires few { asked.count ≤ row_len }
     requires marks { asked.marks ≤ asked.count }
-    requires room { length verdicts.old ≡ IN_STEP * asked.count }
-    requires marks_room { length won.old ≡ IN_STEP * asked.marks }
-    ensures verdicts { verdicts.new ≡ verdicts_below table.now asked.count keys.now IN_STEP }
-    ensures won { won.new ≡ winners_below table.now asked.marks keys.now IN_STEP }
-    ensures taken { result ≡ transitions_below table.now keys.now IN_STEP }
-    ensures bound { result ≤ IN_STEP * (max_tries * max_key_len) }
+    requires room { length verdicts.old ≡ count * asked.count }
+    requires marks_room { length won.old ≡ count * asked.marks }
+    ensures verdicts { verdicts.new ≡ verdicts_below table.now asked.count keys.now count }
+    ensures won { won.new ≡ winners_below table.now asked.marks keys.now count }
+    ensures taken { result ≡ transitions_below table.now keys.now count }
+    ensures bound { result ≤ count * (max_tries * max_key_len) }
     ensures steps { steps.new ≡ steps.old + result }
 {
     let mut reached = [[0; MAX_TRIES]; IN_STEP];
-    let taken = reach_sixteen(table, keys, &mut reached, steps);
-    for lane in 0..IN_STEP {
+    let taken = reach_some(table, keys, count, &mut reached, steps);
+    for lane in 0..count {
         let piece = &mut verdicts[lane * asked.count..(lane + 1) * asked.count];
         let marks = &mut won[lane * asked.marks..(lane + 1) * asked.marks];
         write_answers(table, &reached[lane], piece, marks);
@@ -260,35 +260,38 @@ fn join_sixteen<L: Ledger>(
     taken
 }
 
-/// Writes the verdicts and the marks of sixteen keys, and says how many transitions their walks
-/// took.
-fn classify_sixteen<L: Ledger>(
+/// Writes the verdicts and the marks of so many keys, 1 to 16, and says how many transitions their
+/// walks took.
+fn classify_some<L: Ledger>(
     table: &Table,
     keys: &[u8],
+    count: usize,
     asked: Asked,
     verdicts: &mut [u32],
     won: &mut [bool],
     steps: &mut Steps<L>,
 ) -> u64
-    requires keys { length keys.now ≡ IN_STEP * table.now.key_len }
+    requires keys { length keys.now ≡ count * table.now.key_len }
+    requires some { 0 < count }
+    requires at_most { count ≤ IN_STEP }
     requires few { asked.count ≤ row_len }
     requires marks { asked.marks ≤ asked.count }
-    requires room { length verdicts.old ≡ IN_STEP * asked.count }
-    requires marks_room { length won.old ≡ IN_STEP * asked.marks }
-    ensures verdicts { verdicts.new ≡ verdicts_below table.now asked.count keys.now IN_STEP }
-    ensures won { won.new ≡ winners_below table.now asked.marks keys.now IN_STEP }
-    ensures taken { result ≡ transitions_below table.now keys.now IN_STEP }
-    ensures bound { result ≤ IN_STEP * (max_tries * max_key_len) }
+    requires room { length verdicts.old ≡ count * asked.count }
+    requires marks_room { length won.old ≡ count * asked.marks }
+    ensures verdicts { verdicts.new ≡ verdicts_below table.now asked.count keys.now count }
+    ensures won { won.new ≡ winners_below table.now asked.marks keys.now count }
+    ensures taken { result ≡ transitions_below table.now keys.now count }
+    ensures bound { result ≤ count * (max_tries * max_key_len) }
     ensures steps { steps.new ≡ steps.old + result }
 {
     // One trie is the common case, and its rows need no joining.
     if table.tries() == 1 {
         let mut rows = [0; IN_STEP];
-        let taken = walk_sixteen(table, 0, keys, &mut rows, steps);
-        write_rows(table.rows(), &rows, asked, verdicts, won);
+        let taken = walk_some(table, 0, keys, count, &mut rows, steps);
+        write_rows(table.rows(), &rows, count, asked, verdicts, won);
         taken
     } else {
-        join_sixteen(table, keys, asked, verdicts, won, steps)
+        join_some(table, keys, count, asked, verdicts, won, steps)
     }
 }
 
@@ -314,19 +317,14 @@ fn classify_keys<L: Ledger>(
     let key_len = table.key_len();
     let (count, marks) = (asked.count, asked.marks);
     let n = keys.len() / key_len;
-    let mut taken = 0;
-    for block in 0..n / IN_STEP {
-        let k = block * IN_STEP;
-        let part = &keys[k * key_len..(k + IN_STEP) * key_len];
-        let verdicts = &mut out[k * count..(k + IN_STEP) * count];
-        let marked = &mut won[k * marks..(k + IN_STEP) * marks];
-        taken += classify_sixteen(table, part, asked, verdicts, marked, steps);
-    }
-    for k in n / IN_STEP * IN_STEP..n {
-        let key = &keys[k * key_len..(k + 1) * key_len];
-        let verdicts = &mut out[k * count..(k + 1) * count];
-        let marked = &mut won[k * marks..(k + 1) * marks];
-        taken += classify_one(table, key, verdicts, marked, steps);
+    let (mut k, mut taken) = (0, 0);
+    while k < n {
+        let m = next_keys(k, n);
+        let part = &keys[k * key_len..(k + m) * key_len];
+        let verdicts = &mut out[k * count..(k + m) * count];
+        let marked = &mut won[k * marks..(k + m) * marks];
+        taken += classify_some(table, part, m, asked, verdicts, marked, steps);
+        k += m;
     }
     taken
 }

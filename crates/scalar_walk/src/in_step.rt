@@ -1,17 +1,22 @@
-//! Sixteen walks through one trie, in step: their loads of words don't wait for each other.
+//! Up to sixteen walks through one trie, in step: their loads of words don't wait for each other.
 
-ghost use Rattle.std.specs.Prelude.{◌≡◌, ℕ, ◌+◌, ◌*◌, ◌<◌, ◌≤◌, ◌==◌, ◌&&◌, length, slice_index};
+ghost use Rattle.std.specs.Prelude.{◌≡◌, ℕ, ◌+◌, ◌*◌, ◌%◌, ◌<◌, ◌≤◌, ◌==◌, ◌&&◌, true};
+ghost use Rattle.std.specs.Prelude.{length, slice_index};
 ghost use Rattle.table_sizes.specs.Groups.{max_key_len};
 ghost use Rattle.flat_table.specs.Batch.{key_at};
-ghost use Rattle.scalar_walk.specs.Lanes.{IsGroupLen};
-ghost use Rattle.scalar_walk.specs.Rows.{EndsAt, walks_below};
+ghost use Rattle.flat_table.specs.Word.{indexes};
+ghost use Rattle.scalar_walk.specs.Lanes.{IsGroupLen, HasLanes, lane_key, own_lanes};
+ghost use Rattle.scalar_walk.specs.Lanes.{sum_below, word_in};
+ghost use Rattle.scalar_walk.specs.Rows.{CanGoOn, EndsAt, GoesOn, walks_below};
 
-use crate::vectors::{begin, end, groups_at, step};
+use crate::vectors::{Four, begin, groups_at, step, words_taken, write_ends};
+use crate::walk::walk_one;
 use flat_table::laws::walks_stay;
 use flat_table::{Steps, Table};
+use std::simd::u8x16;
 use std::sync::ledger::Ledger;
 
-/// How many keys are walked in step.
+/// How many keys are walked in step at most.
 pub(crate) const IN_STEP: usize = 16;
 
 /// Whether four places stand one after the other.
@@ -27,7 +32,7 @@ fn follow(first: u16, second: u16, third: u16, fourth: u16) -> bool
 
 /// Counts so many transitions. It does nothing when it is run.
 #[inline]
-fn count<L: Ledger>(taken: u64, steps: &mut Steps<L>)
+fn raise_by<L: Ledger>(taken: u64, steps: &mut Steps<L>)
     ensures { steps.new ≡ steps.old + taken }
 {
     for _ in 0..taken {
@@ -53,29 +58,150 @@ fn group_len(places: &[u16], n: usize) -> usize
     }
 }
 
-/// The walks of sixteen keys, which stand one after the other, through the trie: writes the rows at
-/// which they ended, and says how many transitions they took together.
+/// Where the bytes of the key begin that a lane walks: its own, or the last of so many keys where
+/// there are no more. All lanes may be known to have their own.
+#[inline]
+fn begin_of<const ALL: bool>(keys: &[u8], lane: usize, count: usize, len: usize) -> usize
+    requires some { 0 < count }
+    requires all { ALL ≡ true → lane < count }
+    requires keys { length keys.now ≡ count * len }
+    ensures { result ≡ lane_key count lane * len }
+{
+    let key = if ALL { lane } else { lane.min(count - 1) };
+    key * len
+}
+
+/// Where the bytes of the keys begin that four lanes walk, from one on.
+#[inline]
+fn begins<const ALL: bool>(keys: &[u8], first: usize, count: usize, len: usize) -> [usize; 4]
+    requires some { 0 < count }
+    requires lanes { first + 4 ≤ IN_STEP }
+    requires all { ALL ≡ true → count ≡ IN_STEP }
+    requires keys { length keys.now ≡ count * len }
+    ensures { (i : ℕ) → i < 4 → slice_index result i ≡ lane_key count (first + i) * len }
+{
+    [
+        begin_of::<ALL>(keys, first, count, len),
+        begin_of::<ALL>(keys, first + 1, count, len),
+        begin_of::<ALL>(keys, first + 2, count, len),
+        begin_of::<ALL>(keys, first + 3, count, len),
+    ]
+}
+
+/// The bytes that the lanes of a four read, if it is one of so many fours.
+#[inline]
+fn read_in<const FOURS: usize>(
+    four: usize,
+    keys: &[u8],
+    begins: &[usize; 4],
+    from: usize,
+    count: usize,
+) -> u8x16
+    requires count { IsGroupLen count }
+    requires keys { four < FOURS → (i : ℕ) → i < 4 →
+        slice_index begins.now i + from + count ≤ length keys.now }
+    ensures { four < FOURS → (i k : ℕ) → i < 4 → k < count →
+        slice_index result (4 * i + k) ≡ slice_index keys.now (slice_index begins.now i + from + k) }
+{
+    if four < FOURS {
+        groups_at(keys, begins, from, count)
+    } else {
+        u8x16::splat(0)
+    }
+}
+
+/// The walks of a four after the bytes at a place of their groups, if it is one of so many fours.
+#[inline]
+fn step_in<const FOURS: usize>(
+    four: usize,
+    words: &[u64],
+    walks: Four,
+    groups: u8x16,
+    place: usize,
+) -> Four
+    requires place { place < 4 }
+    requires ready { four < FOURS → (i : ℕ) → i < 4 → CanGoOn words.now
+        (word_in walks.lows walks.highs i) (slice_index groups (4 * i + place))
+        (slice_index walks.taken i) }
+    ensures { four < FOURS → (i : ℕ) → i < 4 → GoesOn words.now
+        (word_in walks.lows walks.highs i) (slice_index groups (4 * i + place))
+        (word_in result.lows result.highs i) (slice_index walks.taken i)
+        (slice_index result.taken i) }
+{
+    if four < FOURS {
+        step(words, walks, groups, place)
+    } else {
+        walks
+    }
+}
+
+/// How many of four lanes, from one on, have a key of so many.
+#[inline]
+fn lanes_of(first: usize, count: usize) -> usize
+    ensures value { result ≡ own_lanes count first }
+    ensures within { result ≤ 4 }
+{
+    count.saturating_sub(first).min(4)
+}
+
+/// Writes the rows at which the walks of a four ended, if it is one of so many fours, and says how
+/// many words those of its lanes took that have a key of their own.
+#[inline]
+fn end_in<const FOURS: usize>(
+    four: usize,
+    walks: Four,
+    rows: &mut [u32; IN_STEP],
+    count: usize,
+) -> u64
+    requires four { four < 4 }
+    requires lanes { count ≤ 4 * FOURS }
+    requires few { four < FOURS → (i : ℕ) → i < 4 → slice_index walks.taken i ≤ max_key_len }
+    ensures rows { four < FOURS → (i : ℕ) → i < 4 →
+        slice_index rows.new (4 * four + i) ≡ slice_index walks.lows i % indexes }
+    ensures others { (k : ℕ) → k < 4 * four → slice_index rows.new k ≡ slice_index rows.old k }
+    ensures taken { result ≡ sum_below (λ i. slice_index walks.taken i) (own_lanes count (4 * four)) }
+    ensures limit { result ≤ own_lanes count (4 * four) * max_key_len }
+    ensures bound { result ≤ 4 * max_key_len }
+{
+    if four < FOURS {
+        write_ends(walks, rows, 4 * four);
+        words_taken(walks, lanes_of(4 * four, count))
+    } else {
+        0
+    }
+}
+
+/// The walks of so many keys, which stand one after the other, through the trie, by so many fours
+/// of lanes: writes the rows at which they ended, and says how many transitions they took together.
 ///
-/// It is not inlined, so that its loop has all registers, whatever stands around the call.
+/// A lane without a key of its own walks the last key again, which isn't counted. It is not
+/// inlined, so that its loop has all registers, whatever stands around the call.
 #[inline(never)]
-pub(crate) fn walk_sixteen<L: Ledger>(
+pub(crate) fn walk_in_step<const FOURS: usize, const ALL: bool, L: Ledger>(
     table: &Table,
     trie: usize,
     keys: &[u8],
+    count: usize,
     rows: &mut [u32; IN_STEP],
     steps: &mut Steps<L>,
 ) -> u64
     requires trie { trie < length table.now.roots }
-    requires keys { length keys.now ≡ IN_STEP * table.now.key_len }
-    ensures rows { (k : ℕ) → k < IN_STEP →
+    requires keys { length keys.now ≡ count * table.now.key_len }
+    requires lanes { HasLanes FOURS count }
+    requires all { ALL ≡ true → count ≡ IN_STEP }
+    ensures rows { (k : ℕ) → k < count →
         EndsAt table.now trie (key_at table.now keys.now k) (slice_index rows.new k) }
-    ensures taken { result ≡ walks_below table.now trie keys.now IN_STEP }
-    ensures limit { result ≤ IN_STEP * max_key_len }
+    ensures taken { result ≡ walks_below table.now trie keys.now count }
+    ensures limit { result ≤ count * max_key_len }
     ensures steps { steps.new ≡ steps.old + result }
 {
     walks_stay();
     let words = table.words();
     let len = table.key_len();
+    let at_first = begins::<ALL>(keys, 0, count, len);
+    let at_second = begins::<ALL>(keys, 4, count, len);
+    let at_third = begins::<ALL>(keys, 8, count, len);
+    let at_fourth = begins::<ALL>(keys, 12, count, len);
     let root = table.root(trie);
     let walks = begin(root);
     let (mut first, mut second, mut third, mut fourth) = (walks, walks, walks, walks);
@@ -83,23 +209,81 @@ pub(crate) fn walk_sixteen<L: Ledger>(
     let mut n = 0;
     while n < places.len() {
         let from = usize::from(places[n]);
-        let count = group_len(places, n);
-        let of_first = groups_at(keys, from, len, count);
-        let of_second = groups_at(keys, 4 * len + from, len, count);
-        let of_third = groups_at(keys, 8 * len + from, len, count);
-        let of_fourth = groups_at(keys, 12 * len + from, len, count);
-        for place in 0..count {
-            first = step(words, first, of_first, place);
-            second = step(words, second, of_second, place);
-            third = step(words, third, of_third, place);
-            fourth = step(words, fourth, of_fourth, place);
+        let read = group_len(places, n);
+        let of_first = read_in::<FOURS>(0, keys, &at_first, from, read);
+        let of_second = read_in::<FOURS>(1, keys, &at_second, from, read);
+        let of_third = read_in::<FOURS>(2, keys, &at_third, from, read);
+        let of_fourth = read_in::<FOURS>(3, keys, &at_fourth, from, read);
+        for place in 0..read {
+            first = step_in::<FOURS>(0, words, first, of_first, place);
+            second = step_in::<FOURS>(1, words, second, of_second, place);
+            third = step_in::<FOURS>(2, words, third, of_third, place);
+            fourth = step_in::<FOURS>(3, words, fourth, of_fourth, place);
         }
-        n += count;
+        n += read;
     }
-    let mut taken = end(first, rows, 0);
-    taken += end(second, rows, 4);
-    taken += end(third, rows, 8);
-    taken += end(fourth, rows, 12);
-    count(taken, steps);
+    let mut taken = end_in::<FOURS>(0, first, rows, count);
+    taken += end_in::<FOURS>(1, second, rows, count);
+    taken += end_in::<FOURS>(2, third, rows, count);
+    taken += end_in::<FOURS>(3, fourth, rows, count);
+    raise_by(taken, steps);
     taken
+}
+
+/// The walk of a key alone through the trie: writes the row at which it ended, and says how many
+/// transitions it took.
+fn walk_alone<L: Ledger>(
+    table: &Table,
+    trie: usize,
+    keys: &[u8],
+    rows: &mut [u32; IN_STEP],
+    steps: &mut Steps<L>,
+) -> u64
+    requires trie { trie < length table.now.roots }
+    requires keys { length keys.now ≡ 1 * table.now.key_len }
+    ensures rows { (k : ℕ) → k < 1 →
+        EndsAt table.now trie (key_at table.now keys.now k) (slice_index rows.new k) }
+    ensures taken { result ≡ walks_below table.now trie keys.now 1 }
+    ensures limit { result ≤ 1 * max_key_len }
+    ensures steps { steps.new ≡ steps.old + result }
+{
+    let walked = walk_one(table, trie, keys, steps);
+    rows[0] = walked.row;
+    u64::from(walked.taken)
+}
+
+/// The walks of so many keys, 1 to 16, which stand one after the other, through the trie, by as
+/// many fours of lanes as they need: writes the rows at which they ended, and says how many
+/// transitions they took together.
+pub(crate) fn walk_some<L: Ledger>(
+    table: &Table,
+    trie: usize,
+    keys: &[u8],
+    count: usize,
+    rows: &mut [u32; IN_STEP],
+    steps: &mut Steps<L>,
+) -> u64
+    requires trie { trie < length table.now.roots }
+    requires keys { length keys.now ≡ count * table.now.key_len }
+    requires some { 0 < count }
+    requires few { count ≤ IN_STEP }
+    ensures rows { (k : ℕ) → k < count →
+        EndsAt table.now trie (key_at table.now keys.now k) (slice_index rows.new k) }
+    ensures taken { result ≡ walks_below table.now trie keys.now count }
+    ensures limit { result ≤ count * max_key_len }
+    ensures steps { steps.new ≡ steps.old + result }
+{
+    if count == IN_STEP {
+        walk_in_step::<4, true, L>(table, trie, keys, count, rows, steps)
+    } else if count > 12 {
+        walk_in_step::<4, false, L>(table, trie, keys, count, rows, steps)
+    } else if count > 8 {
+        walk_in_step::<3, false, L>(table, trie, keys, count, rows, steps)
+    } else if count > 4 {
+        walk_in_step::<2, false, L>(table, trie, keys, count, rows, steps)
+    } else if count > 1 {
+        walk_in_step::<1, false, L>(table, trie, keys, count, rows, steps)
+    } else {
+        walk_alone(table, trie, keys, rows, steps)
+    }
 }

@@ -199,50 +199,50 @@ fn four_bytes(keys: &[u8], at: usize) -> u32
     u32::from_le_bytes([keys[at], keys[at + 1], keys[at + 2], keys[at + 3]])
 }
 
-/// Four bytes from a place on of four keys of a length, which stand one after the other.
+/// Four bytes of each of four keys, from a place of the key on. The keys begin at these places.
 #[inline]
-fn whole_groups(keys: &[u8], from: usize, len: usize) -> u8x16
-    requires { from + 3 * len + 4 ≤ length keys.now }
+fn whole_groups(keys: &[u8], begins: &[usize; 4], from: usize) -> u8x16
+    requires { (i : ℕ) → i < 4 → slice_index begins.now i + from + 4 ≤ length keys.now }
     ensures { (i k : ℕ) → i < 4 → k < 4 →
-        slice_index result (4 * i + k) ≡ slice_index keys.now (from + i * len + k) }
+        slice_index result (4 * i + k) ≡ slice_index keys.now (slice_index begins.now i + from + k) }
 {
     bytes_of(u32x4::from_array([
-        four_bytes(keys, from),
-        four_bytes(keys, from + len),
-        four_bytes(keys, from + 2 * len),
-        four_bytes(keys, from + 3 * len),
+        four_bytes(keys, begins[0] + from),
+        four_bytes(keys, begins[1] + from),
+        four_bytes(keys, begins[2] + from),
+        four_bytes(keys, begins[3] + from),
     ]))
 }
 
-/// The byte at a place of four keys of a length, which stand one after the other, as the first of a
-/// group.
+/// The byte at a place of each of four keys, as the first of a group. The keys begin at these
+/// places.
 #[inline]
-fn single_bytes(keys: &[u8], from: usize, len: usize) -> u8x16
-    requires { from + 3 * len < length keys.now }
+fn single_bytes(keys: &[u8], begins: &[usize; 4], from: usize) -> u8x16
+    requires { (i : ℕ) → i < 4 → slice_index begins.now i + from < length keys.now }
     ensures { (i k : ℕ) → i < 4 → k < 1 →
-        slice_index result (4 * i + k) ≡ slice_index keys.now (from + i * len + k) }
+        slice_index result (4 * i + k) ≡ slice_index keys.now (slice_index begins.now i + from + k) }
 {
     bytes_of(u32x4::from_array([
-        u32::from(keys[from]),
-        u32::from(keys[from + len]),
-        u32::from(keys[from + 2 * len]),
-        u32::from(keys[from + 3 * len]),
+        u32::from(keys[begins[0] + from]),
+        u32::from(keys[begins[1] + from]),
+        u32::from(keys[begins[2] + from]),
+        u32::from(keys[begins[3] + from]),
     ]))
 }
 
-/// So many bytes, one or four, from a place on of four keys of a length, which stand one after the
-/// other.
+/// So many bytes, one or four, of each of four keys, from a place of the key on. The keys begin at
+/// these places.
 #[inline]
-pub(crate) fn groups_at(keys: &[u8], from: usize, len: usize, count: usize) -> u8x16
+pub(crate) fn groups_at(keys: &[u8], begins: &[usize; 4], from: usize, count: usize) -> u8x16
     requires count { IsGroupLen count }
-    requires keys { from + 3 * len + count ≤ length keys.now }
+    requires keys { (i : ℕ) → i < 4 → slice_index begins.now i + from + count ≤ length keys.now }
     ensures { (i k : ℕ) → i < 4 → k < count →
-        slice_index result (4 * i + k) ≡ slice_index keys.now (from + i * len + k) }
+        slice_index result (4 * i + k) ≡ slice_index keys.now (slice_index begins.now i + from + k) }
 {
     if count == 4 {
-        whole_groups(keys, from, len)
+        whole_groups(keys, begins, from)
     } else {
-        single_bytes(keys, from, len)
+        single_bytes(keys, begins, from)
     }
 }
 
@@ -283,23 +283,31 @@ pub(crate) fn step(words: &[u64], walks: Four, groups: u8x16, place: usize) -> F
     go_on(words, walks.lows, walks.highs, walks.taken, bytes)
 }
 
-/// Writes the rows that four walks name, from a place on, and says how many words they took
-/// together.
+/// Writes the rows that four walks name, from a place on.
 #[inline]
-pub(crate) fn end(walks: Four, rows: &mut [u32; 16], at: usize) -> u64
+pub(crate) fn write_ends(walks: Four, rows: &mut [u32; 16], at: usize)
     requires room { at + 4 ≤ 16 }
-    requires few { (i : ℕ) → i < 4 → slice_index walks.taken i ≤ max_key_len }
     ensures rows { (i : ℕ) → i < 4 →
         slice_index rows.new (at + i) ≡ slice_index walks.lows i % indexes }
     ensures others { (k : ℕ) → k < at → slice_index rows.new k ≡ slice_index rows.old k }
-    ensures taken { result ≡ sum_below (λ i. slice_index walks.taken i) 4 }
-    ensures limit { result ≤ 4 * max_key_len }
 {
     let lows = walks.lows.to_array();
-    let counts = walks.taken.to_array();
-    let mut taken = 0;
     for i in 0..4 {
         rows[at + i] = lows[i] & INDEX_MASK;
+    }
+}
+
+/// How many words the first of four walks took together.
+#[inline]
+pub(crate) fn words_taken(walks: Four, count: usize) -> u64
+    requires within { count ≤ 4 }
+    requires few { (i : ℕ) → i < count → slice_index walks.taken i ≤ max_key_len }
+    ensures taken { result ≡ sum_below (λ i. slice_index walks.taken i) count }
+    ensures limit { result ≤ count * max_key_len }
+{
+    let counts = walks.taken.to_array();
+    let mut taken = 0;
+    for i in 0..count {
         taken += u64::from(counts[i]);
     }
     taken

@@ -24,7 +24,7 @@ loop-lane-preserved c = (
 )
 
 pub returns-clause-verdicts : goal.returns-clause-verdicts
-returns-clause-verdicts c = all_pieces c.loop-lane.invariant.0 (omega arith) c.requires.room
+returns-clause-verdicts c = all_pieces c.loop-lane.invariant.0 (omega (arith, c.loop-lane-test.false)) c.requires.room
 
 pub returns-clause-won : goal.returns-clause-won
-returns-clause-won c = all_pieces c.loop-lane.invariant.1 (omega arith) c.requires.marks_room
+returns-clause-won c = all_pieces c.loop-lane.invariant.1 (omega (arith, c.loop-lane-test.false)) c.requires.marks_room

@@ -3,13 +3,13 @@ use Rattle.std.specs.Prelude.{replicate}
 use Rattle.std.proofs.lemmas.List.{get_or-replicate}
 use Rattle.flat_table.specs.Batch.{key_at, key_verdicts}
 use Rattle.scalar_walk.specs.Rows.{key_winners}
-use Rattle.scalar_walk.proofs.Batches.{room_of_part, verdicts_len, winners_len}
+use Rattle.scalar_walk.proofs.Batches.{verdicts_len, winners_len}
 use Rattle.scalar_walk.proofs.Below.{pieces_none, one_piece, all_pieces}
 use Rattle.scalar_walk.proofs.Reached.{rows_there, verdicts_are, winners_are}
-use Rattle.scalar_walk.proofs.classify.join_sixteen.Goals as goal
+use Rattle.scalar_walk.proofs.classify.join_some.Goals as goal
 
-pub reach_sixteen-taken-requires-clause-len : goal.reach_sixteen-taken-requires-clause-len
-reach_sixteen-taken-requires-clause-len g c k h =
+pub reach_some-taken-requires-clause-len : goal.reach_some-taken-requires-clause-len
+reach_some-taken-requires-clause-len g c k h =
     ap (λ (xs : List ℕ). length xs) (get_or-replicate 16 k (replicate 8 0) [] h)
 
 pub loop-lane-init : goal.loop-lane-init
@@ -23,12 +23,12 @@ loop-lane-init g c =
 
 pub write_answers-requires-clause-rows : goal.write_answers-requires-clause-rows
 write_answers-requires-clause-rows g c =
-    let r = c.reach_sixteen-taken.ensures in
+    let r = c.reach_some-taken.ensures in
     rows_there (r.rows c.loop-lane.lane c.loop-lane-test.true) r.few
 
 pub loop-lane-preserved : goal.loop-lane-preserved
 loop-lane-preserved g c =
-    let r = c.reach_sixteen-taken.ensures in
+    let r = c.reach_some-taken.ensures in
     let lane = c.loop-lane.lane in
     let table = c.args.table.now in
     let key = key_at table c.args.keys.now lane in (
@@ -43,7 +43,7 @@ loop-lane-preserved g c =
     )
 
 pub returns-clause-verdicts : goal.returns-clause-verdicts
-returns-clause-verdicts g c = all_pieces c.loop-lane.invariant.0 (omega arith) c.requires.room
+returns-clause-verdicts g c = all_pieces c.loop-lane.invariant.0 (omega (arith, c.loop-lane-test.false)) c.requires.room
 
 pub returns-clause-won : goal.returns-clause-won
-returns-clause-won g c = all_pieces c.loop-lane.invariant.1 (omega arith) c.requires.marks_room
+returns-clause-won g c = all_pieces c.loop-lane.invariant.1 (omega (arith, c.loop-lane-test.false)) c.requires.marks_room

@@ -3,7 +3,7 @@ use Rattle.std.proofs.Common.{ℕ}
 use Rattle.flat_table.specs.Batch.{key_at, key_verdicts}
 use Rattle.scalar_walk.specs.Rows.{key_winners}
 use Rattle.scalar_walk.proofs.Below.{PiecesTo}
-use Rattle.scalar_walk.proofs.classify.join_sixteen.Given as goal
+use Rattle.scalar_walk.proofs.classify.join_some.Given as goal
 
 abbrev pub invariant-loop-lane : goal.invariant-loop-lane
 invariant-loop-lane g l =
