@@ -1,8 +1,12 @@
 # SPDX-License-Identifier: BSD-3-Clause
-"""The built program where standard streams are closed when it begins: any of the three, of `classify` and `build`."""
+"""The built program where standard streams are closed when it begins: any of the three, of `classify` and `build`. And
+where a capture is a pipe into which packets come one by one."""
 import itertools
+import os
 import re
+import select
 import shutil
+import struct
 import subprocess
 import sys
 import tempfile
@@ -65,6 +69,81 @@ class Streams(unittest.TestCase):
             named = [number for name, number in opened if name in words]
             self.assertEqual(len(named), 2, (words, streams))
             self.assertGreater(min(named), LAST_STREAM, (words, streams))
+
+
+# How long a line may take to come, in seconds, and how many bytes of the next packet stand in the pipe meanwhile.
+LINE_TIME, BYTES_AHEAD = 20, 9
+PCAPNG_SECTION, PCAPNG_PACKET = b"\x0a\x0d\x0d\x0a", 6
+
+
+def pcap_ends(capture):
+    """Where each record of a little-endian savefile ends."""
+    at, ends = 24, []
+    while at < len(capture):
+        at += 16 + struct.unpack_from("<I", capture, at + 8)[0]
+        ends.append(at)
+    return ends
+
+
+def pcapng_ends(capture):
+    """Where each packet of a pcapng file ends, whose sections have either order."""
+    at, ends, order = 0, [], "<"
+    while at < len(capture):
+        if capture[at:at + 4] == PCAPNG_SECTION:
+            order = "<" if capture[at + 8] == 0x4D else ">"
+        kind, length = struct.unpack_from(order + "II", capture, at)
+        at += length
+        if kind == PCAPNG_PACKET:
+            ends.append(at)
+    return ends
+
+
+ENDS = {"mixed.pcap": pcap_ends, "mixed.pcapng": pcapng_ends}
+
+
+@unittest.skipUnless(built_program(), "the program isn't built")
+class Pipes(unittest.TestCase):
+    def classify(self, capture):
+        """A run over the capture of the examples, or of its standard input."""
+        words = [str(built_program().resolve()), "classify", "mixed.rules", capture]
+        return subprocess.Popen(words, cwd=TOP / "examples", bufsize=0, stdin=subprocess.PIPE, stdout=subprocess.PIPE)
+
+    def line_of(self, lines):
+        """The next line of a pipe, which has to come while nothing is written."""
+        line = b""
+        while not line.endswith(b"\n"):
+            self.assertTrue(select.select([lines], [], [], LINE_TIME)[0], f"no line came, but {line}")
+            byte = os.read(lines.fileno(), 1)
+            self.assertTrue(byte, f"the lines ended in {line}")
+            line += byte
+        return line
+
+    def test_the_line_of_a_packet_comes_before_the_next_packet(self):
+        """Fails where a read of the capture waits while a line is outstanding: each packet is written once the line of
+        the one before came, and of the next one its first bytes."""
+        for name, ends_of in ENDS.items():
+            capture = (TOP / "examples" / name).read_bytes()
+            whole, _ = self.classify(name).communicate()
+            ends, lines = ends_of(capture), whole.splitlines(keepends=True)
+            self.assertEqual(len(lines), len(ends) + 1, name)
+            with self.classify("/dev/stdin") as run:
+                written = 0
+                for end, line in zip(ends, lines):
+                    run.stdin.write(capture[written:end + BYTES_AHEAD])
+                    written = end + BYTES_AHEAD
+                    self.assertEqual(self.line_of(run.stdout), line, name)
+                rest, _ = run.communicate(capture[written:])
+            self.assertEqual((rest, run.returncode), (lines[-1], 0), name)
+
+    def test_how_a_capture_is_cut_changes_no_line(self):
+        for name in ENDS:
+            capture = (TOP / "examples" / name).read_bytes()
+            whole, _ = self.classify(name).communicate()
+            for size in (1, 7, 100):
+                with self.classify("/dev/stdin") as run:
+                    for at in range(0, len(capture), size):
+                        run.stdin.write(capture[at:at + size])
+                    self.assertEqual(run.communicate(b"")[0], whole, (name, size))
 
 
 if __name__ == "__main__":

@@ -8,7 +8,7 @@ use Rattle.header_extract.specs.Class.{FrameClass}
 use Rattle.pcap_reader.specs.State.{CaptureRecord}
 use Rattle.pcapng_reader.specs.Capture.{AnyState}
 use Rattle.capture_report.specs.declared.batch.BatchEnd.{BatchEnd}
-use Rattle.capture_report.specs.declared.batch.BatchEnd.TheVariants.{Full}
+use Rattle.capture_report.specs.declared.batch.BatchEnd.TheVariants.{More}
 use Rattle.capture_report.specs.Packet.{IsPacket}
 use Rattle.capture_report.specs.Shown.{packet_of}
 use Rattle.capture_report.specs.Taken.{Took, TakesBatch, TakesRecord, max_batch}
@@ -26,7 +26,7 @@ pub record IsTaking (before after : AnyState) (packets : List FrameClass) (old n
 
 -- before the first record no packet is taken
 pub IsTaking-none : (state : AnyState) (packets : List FrameClass) (view : DeskView) → packets ≡ [] →
-    IsTaking state state packets view view Full
+    IsTaking state state packets view view More
 IsTaking-none state packets view none = record {
   records = [];
   given = [];
@@ -37,7 +37,7 @@ IsTaking-none state packets view none = record {
 
 -- one answer more
 IsTaking-more : (before mid after : AnyState) (packets packets_new : List FrameClass) (old between new : DeskView)
-    (stop : BatchEnd) → IsTaking before mid packets old between Full →
+    (stop : BatchEnd) → IsTaking before mid packets old between More →
     TookRecord mid after packets packets_new between new stop →
     IsTaking before after packets_new old new stop × (length packets_new ≡ length packets + records_by stop)
 IsTaking-more before mid after packets packets_new old between new stop h one = (
@@ -62,16 +62,30 @@ IsTaking-more before mid after packets packets_new old between new stop h one = 
 
 -- a record more
 pub IsTaking-record : (before mid after : AnyState) (packets packets_new : List FrameClass)
-    (old between new : DeskView) → IsTaking before mid packets old between Full →
+    (old between new : DeskView) → IsTaking before mid packets old between More →
     TakesRecord mid after packets packets_new between new None →
-    IsTaking before after packets_new old new Full × (length packets_new ≡ length packets + 1)
+    IsTaking before after packets_new old new More × (length packets_new ≡ length packets + 1)
 IsTaking-record before mid after packets packets_new old between new h takes =
-    IsTaking-more before mid after packets packets_new old between new Full h
+    IsTaking-more before mid after packets packets_new old between new More h
     (TookRecord-from mid after packets packets_new between new None takes)
+
+-- as many records as were taken, of which there are some
+pub TakesBatch-some : (before after : AnyState) (packets : List FrameClass) (old new : DeskView) →
+    IsTaking before after packets old new More → length packets ≤ max_batch → 1 ≤ length packets →
+    TakesBatch before after packets old new More
+TakesBatch-some before after packets old new h few some = record {
+  records = h.records;
+  given = h.given;
+  packets_are = h.packets_are;
+  keys = h.keys;
+  took = h.took;
+  few = few;
+  some = λ e. some;
+}
 
 -- no record more
 pub TakesBatch-stopped : (before mid after : AnyState) (packets packets_new : List FrameClass)
-    (old between new : DeskView) (stop : BatchEnd) → IsTaking before mid packets old between Full →
+    (old between new : DeskView) (stop : BatchEnd) → IsTaking before mid packets old between More →
     TakesRecord mid after packets packets_new between new (Some stop) → length packets ≤ max_batch →
     TakesBatch before after packets_new old new stop
 TakesBatch-stopped before mid after packets packets_new old between new stop h takes few =
@@ -85,5 +99,5 @@ TakesBatch-stopped before mid after packets packets_new old between new stop h t
       keys = all.0.keys;
       took = all.0.took;
       few = omega (arith, all.1, few, records_by-stop stop stopped);
-      full = λ e. absurd (subst IsStop e stopped);
+      some = λ e. absurd (subst IsStop e stopped);
     }

@@ -24,7 +24,7 @@ use Rattle.pcapng_reader.proofs.Offered.{records-record, records-end, records-fa
 use Rattle.pcapng_reader.proofs.Offered.{unanswered, start-append, start-begun, start-first, len_cases}
 use Rattle.pcapng_reader.proofs.Offered.{capture-read, capture-start, start-fault, whole-none}
 use Rattle.capture_report.specs.declared.batch.BatchEnd.{BatchEnd}
-use Rattle.capture_report.specs.declared.batch.BatchEnd.TheVariants.{Full, End, Fault}
+use Rattle.capture_report.specs.declared.batch.BatchEnd.TheVariants.{More, End, Fault}
 use Rattle.capture_report.specs.NextRecord.{IsBegun, MayGoOn, record_in}
 use Rattle.capture_report.specs.Packet.{IsPacket}
 use Rattle.capture_report.specs.Shown.{packet_of}
@@ -52,7 +52,7 @@ past_record before now given captured next may =
 -- one record was taken
 Took-record : (before now : AnyState) (captured : CaptureRecord) (old new : DeskView) →
     (reads : ReadsNext before now old new (Ok (Some captured))) →
-    Took before now (captured ∷ []) reads.given old new Full
+    Took before now (captured ∷ []) reads.given old new More
 Took-record before now captured old new reads =
     let counts = subst (CountsNext before) reads.next (next-counts before reads.given) in
     record {
@@ -174,7 +174,7 @@ Took-fault fault before now old new reads = record {
 -- how a batch of the records of one answer ends
 abbrev stop_of : Answer → BatchEnd
 stop_of (Ok None) = End
-stop_of (Ok (Some captured)) = Full
+stop_of (Ok (Some captured)) = More
 stop_of (Err fault) = Fault fault
 
 -- what an answer says was taken
@@ -186,19 +186,19 @@ Took-answer (Ok (Some captured)) before now old new reads = Took-record before n
 Took-answer (Err fault) before now old new reads = Took-fault fault before now old new reads
 
 -- the same of the end of a batch, if there is one
-abbrev pub stop_or_full : Option BatchEnd → BatchEnd
-stop_or_full None = Full
-stop_or_full (Some stop) = stop
+abbrev pub stop_or_more : Option BatchEnd → BatchEnd
+stop_or_more None = More
+stop_or_more (Some stop) = stop
 
 -- the end of a batch of one answer is how the answer ends it
-stop-is : (answer : Answer) → stop_or_full (end_of answer) ≡ stop_of answer
+stop-is : (answer : Answer) → stop_or_more (end_of answer) ≡ stop_of answer
 stop-is (Ok None) = refl
 stop-is (Ok (Some captured)) = refl
 stop-is (Err fault) = refl
 
 -- no record more comes
 abbrev pub IsStop : BatchEnd → Type 0
-IsStop Full = ⊥
+IsStop More = ⊥
 IsStop End = ⊤
 IsStop (Fault fault) = ⊤
 
@@ -210,13 +210,13 @@ end-is_stop (Err fault) stop is = subst IsStop (let e : Fault fault ≡ stop = c
 
 -- how many records an answer gives where a batch of it ends so
 abbrev pub records_by : BatchEnd → ℕ
-records_by Full = 1
+records_by More = 1
 records_by End = 0
 records_by (Fault fault) = 0
 
 -- a batch that comes to its end gives no record
 pub records_by-stop : (stop : BatchEnd) → IsStop stop → records_by stop ≡ 0
-records_by-stop Full is = absurd is
+records_by-stop More is = absurd is
 records_by-stop End is = refl
 records_by-stop (Fault fault) is = refl
 
@@ -239,9 +239,9 @@ pub record TookRecord (before after : AnyState) (packets packets_new : List Fram
 -- what one call of the reader comes to
 pub TookRecord-from : (before after : AnyState) (packets packets_new : List FrameClass) (old new : DeskView)
     (result : Option BatchEnd) → TakesRecord before after packets packets_new old new result →
-    TookRecord before after packets packets_new old new (stop_or_full result)
+    TookRecord before after packets packets_new old new (stop_or_more result)
 TookRecord-from before after packets packets_new old new result t =
-    let stop : stop_or_full result ≡ stop_of t.answer = ap stop_or_full t.stop ∙ stop-is t.answer in
+    let stop : stop_or_more result ≡ stop_of t.answer = ap stop_or_more t.stop ∙ stop-is t.answer in
     subst (TookRecord before after packets packets_new old new) (sym stop)
     record {
       records = record_in t.answer;

@@ -14,7 +14,7 @@ use Rattle.pcapng_reader.specs.Capture.{AnyState, max_records}
 use Rattle.pcapng_reader.specs.BlockReading.{FaultStands}
 use Rattle.acl_report.specs.declared.counts.Counts.{Counts}
 use Rattle.capture_report.specs.declared.batch.BatchEnd.{BatchEnd}
-use Rattle.capture_report.specs.declared.batch.BatchEnd.TheVariants.{Full, End, Fault}
+use Rattle.capture_report.specs.declared.batch.BatchEnd.TheVariants.{More, End, Fault}
 use Rattle.command_ending.specs.declared.status.Status.{Status}
 use Rattle.command_ending.specs.declared.status.Status.TheVariants.{CaptureRefused, WriteFault}
 use Rattle.capture_report.specs.NextRecord.{IsBegun}
@@ -62,7 +62,7 @@ pub record HasPrinted (form : ReportForm) (state : AnyState) (old : Outside) (no
 pub HasPrinted-none : (form : ReportForm) (state : AnyState) (counts : Counts) (view : Outside) →
     counts ≡ counts_of_records [] →
     HasPrinted form state view
-    (standing state counts 0 view) Full
+    (standing state counts 0 view) More
 HasPrinted-none form state counts view none = record {
   records = [];
   given = [];
@@ -85,7 +85,7 @@ pub record PutsBatch {T E : Type 0} (form : ReportForm) (packets : List FrameCla
 
 -- Some records were printed, and a batch more is there.
 module _ (form : ReportForm) (state : AnyState) (old : Outside) (now : Standing) (next : AnyState)
-    (packets : List FrameClass) (new : Outside) (stop : BatchEnd) (h : HasPrinted form state old now Full)
+    (packets : List FrameClass) (new : Outside) (stop : BatchEnd) (h : HasPrinted form state old now More)
     (batch : TakesBatch now.state next packets now.outside.desk new.desk stop) where
   -- there is room to count it
   pub packets_few : IsBegun state → now.counts.packets + length packets ≤ max_records
@@ -135,7 +135,7 @@ module _ (form : ReportForm) (state : AnyState) (old : Outside) (now : Standing)
 -- a batch more was taken and printed
 pub HasPrinted-batch : {T E : Type 0} (form : ReportForm) (state : AnyState) (old : Outside) (now new : Standing)
     (packets : List FrameClass) (stop : BatchEnd) (x : T) →
-    HasPrinted form state old now Full →
+    HasPrinted form state old now More →
     TakesBatch now.state new.state packets now.outside.desk new.outside.desk stop →
     PutsBatch {E = E} form packets now new (Ok x) → HasPrinted form state old new stop
 HasPrinted-batch form state old now new packets stop x h batch put =
@@ -187,14 +187,14 @@ fault_opened fault ending stood =
 
 -- a file of which a batch was read was opened
 batch_opened : (stop : BatchEnd) (ending : Ending) → BatchStands stop ending → IsOpened ending
-batch_opened Full ending stood = subst IsOpened (sym stood) tt
+batch_opened More ending stood = subst IsOpened (sym stood) tt
 batch_opened End ending stood = subst IsOpened (sym stood) tt
 batch_opened (Fault fault) ending stood = fault_opened fault ending stood
 
 -- where the lines of a batch couldn't be put
 pub Streams-failed : {T E : Type 0} (form : ReportForm) (state : AnyState) (old : Outside) (now new : Standing)
     (packets : List FrameClass) (stop : BatchEnd) (e : E) → IsBegun state →
-    HasPrinted form state old now Full →
+    HasPrinted form state old now More →
     TakesBatch now.state new.state packets now.outside.desk new.outside.desk stop →
     PutsBatch {T = T} form packets now new (Err e) → Streams form state old new.outside WriteFault
 Streams-failed form state old now new packets stop e begun h batch put =

@@ -12,14 +12,14 @@ use Rattle.pcapng_reader.specs.Capture.{AnyState, followed_by, records_from}
 use Rattle.pcapng_reader.specs.BlockReading.{stands}
 use Rattle.pcap_reader.proofs.Offered.{followed_by-then, KeepsReading-same, KeepsReading-join}
 use Rattle.capture_report.specs.declared.batch.BatchEnd.{BatchEnd}
-use Rattle.capture_report.specs.declared.batch.BatchEnd.TheVariants.{Full, End, Fault}
+use Rattle.capture_report.specs.declared.batch.BatchEnd.TheVariants.{More, End, Fault}
 use Rattle.capture_report.specs.NextRecord.{MayGoOn}
 use Rattle.capture_report.specs.Taken.{AreRecords, AreAll, AreWhole}
 use Rattle.capture_report.specs.Taken.{AreOfBatch, Took}
 use Rattle.capture_report.proofs.Reader.{records-of_none}
 
 -- nothing was taken yet
-pub Took-none : (state : AnyState) (view : DeskView) → Took state state [] [] view view Full
+pub Took-none : (state : AnyState) (view : DeskView) → Took state state [] [] view view More
 Took-none state view = record {
   ending = GoesOn;
   stood = refl;
@@ -49,7 +49,7 @@ module _ (before mid : AnyState) (first : List CaptureRecord) (given : List ℕ)
   AreOfBatch-then : (stop : BatchEnd) (after : AnyState) (second : List CaptureRecord) (more : List ℕ)
       (ending : Ending) → AreOfBatch mid after more ending second stop →
       AreOfBatch before after (given ++ more) ending (first ++ second) stop
-  AreOfBatch-then Full after second more ending b =
+  AreOfBatch-then More after second more ending b =
       λ later. records_later more later ∙ ap (followed_by first) (b later)
       ∙ followed_by-then first second (records_from after later)
   AreOfBatch-then End after second more ending b = AreAll-then second more ending None b
@@ -60,7 +60,7 @@ module _ (before mid : AnyState) (first : List CaptureRecord) (given : List ℕ)
 -- records, and then more of them
 pub Took-then : {before mid after : AnyState} {first second : List CaptureRecord} {given more : List ℕ}
     {old between new : DeskView} {stop : BatchEnd} →
-    Took before mid first given old between Full → Took mid after second more between new stop →
+    Took before mid first given old between More → Took mid after second more between new stop →
     Took before after (first ++ second) (given ++ more) old new stop
 Took-then {before} {mid} {after} {first} {second} {given} {more} {old} {between} {new} {stop} a b = record {
   ending = b.ending;
@@ -85,9 +85,9 @@ AreAll-part state given ending records fault all =
 
 -- the records are the whole ones of the bytes
 pub AreOfBatch-part : (stop : BatchEnd) (before after : AnyState) (given : List ℕ) (ending : Ending)
-    (records : List CaptureRecord) → (stop ≡ Full → MayGoOn after) →
+    (records : List CaptureRecord) → (stop ≡ More → MayGoOn after) →
     AreOfBatch before after given ending records stop → AreWhole before given records
-AreOfBatch-part Full before after given ending records may are =
+AreOfBatch-part More before after given ending records may are =
     ap (λ l. (records_from before l).records) (sym (append-nil given)) ∙ ap (λ r. r.records) (are [])
     ∙ ap (λ l. records ++ l) (records-of_none after (may refl)) ∙ append-nil records
 AreOfBatch-part End before after given ending records may are = AreAll-part before given ending records None are

@@ -14,7 +14,7 @@ use Rattle.pcapng_reader.specs.Capture.{AnyState, followed_by, max_records, reco
 use Rattle.pcapng_reader.specs.Reader.{ReadsNext, count_of}
 use Rattle.pcapng_reader.specs.BlockReading.{FaultStands, stands}
 use Rattle.capture_report.specs.declared.batch.BatchEnd.{BatchEnd}
-use Rattle.capture_report.specs.declared.batch.BatchEnd.TheVariants.{Full, End, Fault}
+use Rattle.capture_report.specs.declared.batch.BatchEnd.TheVariants.{More, End, Fault}
 use Rattle.capture_report.specs.NextRecord.{MayGoOn, record_in}
 use Rattle.capture_report.specs.Packet.{IsPacket}
 use Rattle.capture_report.specs.Shown.{packet_of}
@@ -26,7 +26,7 @@ max_batch = 64
 -- The reading of the file stands so after a batch: its end was met after the last record, and after
 -- a fault as the fault says.
 abbrev pub BatchStands : BatchEnd → Ending → Type 0
-BatchStands Full ending = ending ≡ GoesOn
+BatchStands More ending = ending ≡ GoesOn
 BatchStands End ending = ending ≡ Ended
 BatchStands (Fault fault) ending = FaultStands fault ending
 
@@ -51,7 +51,7 @@ AreWhole before given records = (records_from before given).records ≡ records
 -- What the bytes of a batch are, by how it ended and how the reading stands.
 abbrev pub AreOfBatch : AnyState → AnyState → List ℕ → Ending → List CaptureRecord →
     BatchEnd → Type 0
-AreOfBatch before after given ending records Full = AreRecords before after given records
+AreOfBatch before after given ending records More = AreRecords before after given records
 AreOfBatch before after given ending records End = AreAll before given ending records None
 AreOfBatch before after given ending records (Fault ReadFault) = AreWhole before given records
 AreOfBatch before after given ending records (Fault fault) =
@@ -67,7 +67,7 @@ pub record Took (before after : AnyState) (records : List CaptureRecord) (given 
   pub at_end : ending ≡ Ended → IsAtEnd new
   pub read_fault : stop ≡ Fault ReadFault → Rose old.read_faults new.read_faults
   pub keeps : KeepsReading old new
-  pub goes_on : stop ≡ Full → MayGoOn before → MayGoOn after
+  pub goes_on : stop ≡ More → MayGoOn before → MayGoOn after
   pub count : count_of after ≡ count_of before + length records
   pub few : count_of before ≤ max_records → count_of after ≤ max_records
 
@@ -80,7 +80,7 @@ pub record TakesBatch (before after : AnyState) (packets : List FrameClass)
   pub keys : All IsPacket packets
   pub took : Took before after records given old new stop
   pub few : length packets ≤ max_batch
-  pub full : stop ≡ Full → length packets ≡ max_batch
+  pub some : stop ≡ More → 1 ≤ length packets
 
 -- the end of a batch that an answer is, if it isn't a record
 abbrev pub end_of : Answer → Option BatchEnd

@@ -15,8 +15,9 @@ pub const MAX_BATCH: usize = 64;
 /// Why no more records are taken into a batch.
 #[derive(Clone, Copy)]
 pub enum BatchEnd {
-    /// It has as many records as a batch may have.
-    Full,
+    /// The capture may have more: there are as many as a batch may have, or the next one may have to
+    /// be waited for.
+    More,
     /// The capture has no more records.
     End,
     /// The capture has a fault after its records, or can't be read.
@@ -25,7 +26,8 @@ pub enum BatchEnd {
 
 /// Takes the next records of a capture, and says why there aren't more. It takes no memory.
 ///
-/// The packets that were there before are dropped.
+/// The packets that were there before are dropped. After the first record none is read that may
+/// have to be waited for, so that the lines of those before it can be put first.
 pub fn take_batch<D: Desk>(
     capture: &mut AnyCapture,
     desk: &mut D,
@@ -42,8 +44,21 @@ pub fn take_batch<D: Desk>(
             Some(end) => return end,
             None => {}
         }
+        if may_wait(capture, desk) {
+            return BatchEnd::More;
+        }
     }
-    BatchEnd::Full
+    BatchEnd::More
+}
+
+/// Whether the next record may have to be waited for: reading more may, and the record isn't whole
+/// in what is at hand.
+#[inline]
+fn may_wait<D: Desk>(capture: &AnyCapture, desk: &D) -> bool {
+    match desk.at_hand() {
+        Some(bytes) => !capture.has_next_in(bytes),
+        None => false,
+    }
 }
 
 /// Takes the next record after the others, or says why there is none.

@@ -49,7 +49,7 @@ pub fn print_records<D: Desk, O: Sink, L: Ledger>(
             Err(Failed) => return Status::WriteFault,
         }
         match end {
-            BatchEnd::Full => {}
+            BatchEnd::More => {}
             BatchEnd::End => return print_last(form, &counts, transitions, room, out),
             BatchEnd::Fault(fault) => return refused(fault),
         }

@@ -9,6 +9,7 @@ ghost use Rattle.pcap_reader.specs.ReaderStates.{has_failed};
 use crate::capture_fault::{BeginFault, CaptureFault};
 use crate::link::Link;
 use crate::record::{MAX_CAPTURED, read_file_header, read_record};
+use crate::start::RECORD_HEADER;
 use crate::state::{CaptureState, Progress};
 use acl_outside::Desk;
 use std::alloc::Global;
@@ -132,6 +133,18 @@ impl Capture {
                 self.state.progress = Progress::Failed;
                 Err(fault)
             }
+        }
+    }
+
+    /// Whether the next record is whole in these bytes, which come next in the file. It reads
+    /// nothing, and no clause says anything of the answer.
+    pub fn has_next_in(&self, bytes: &[u8]) -> bool {
+        match bytes.first_chunk() {
+            Some(header) => {
+                let captured = self.state.start.order.record_header(header).captured;
+                captured as usize <= bytes.len() - RECORD_HEADER
+            }
+            None => false,
         }
     }
 

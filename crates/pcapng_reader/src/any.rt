@@ -88,6 +88,15 @@ impl AnyCapture {
         }
     }
 
+    /// Whether the next record is whole in these bytes, which come next in the file. Of a pcapng file
+    /// it has to be the next block. It reads nothing, and no clause says anything of the answer.
+    pub fn has_next_in(&self, bytes: &[u8]) -> bool {
+        match &self.format {
+            Format::Savefile(capture) => capture.has_next_in(bytes),
+            Format::Blocks(capture) => capture.has_next_in(bytes),
+        }
+    }
+
     /// How many records were given.
     pub fn count(&self) -> u64
         ensures { result ≡ count_of self.now }

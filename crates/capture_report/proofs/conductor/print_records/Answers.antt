@@ -64,11 +64,11 @@ batches-smaller g c =
     (outside (desk c.batches.desk) (out c.batches.out) c.batches.steps))
     c.take_batch-end.new.capture packets
     (outside (desk c.take_batch-end.new.desk) (out c.put_lines.new.out) c.put_lines.new.steps) _
-    c.batches.invariant.printed c.in-Full.ensures.batch c.requires.begun in
+    c.batches.invariant.printed c.in-More.ensures.batch c.requires.begun in
     omega (
       arith,
       few,
-      c.in-Full.ensures.batch.full refl,
+      c.in-More.ensures.batch.some refl,
       ap (λ counts. counts.packets) c.in-Ok.ensures.counts,
       counted_all-packets packets c.batches.counts,
     )
@@ -84,7 +84,7 @@ batches-preserved g c =
           (outside (desk c.batches.desk) (out c.batches.out) c.batches.steps))
           (standing c.take_batch-end.new.capture c.put_lines.new.counts c.put_lines.new.transitions
           (outside (desk c.take_batch-end.new.desk) (out c.put_lines.new.out) c.put_lines.new.steps))
-          c.take_batch-end.new.packets _ c.in-Ok.field-0 c.batches.invariant.printed c.in-Full.ensures.batch
+          c.take_batch-end.new.packets _ c.in-Ok.field-0 c.batches.invariant.printed c.in-More.ensures.batch
           record {
             puts = c.in-Ok.ensures.puts;
             counted = c.in-Ok.ensures.counts;
@@ -92,8 +92,8 @@ batches-preserved g c =
             steps = c.in-Ok.ensures.steps;
           };
       bound = c.in-Ok.ensures.bound;
-      reading = rw c.in-Full.ensures.batch.took.keeps.reading c.batches.invariant.reading;
-      state = c.in-Full.ensures.batch.took.goes_on refl c.batches.invariant.state;
+      reading = rw c.in-More.ensures.batch.took.keeps.reading c.batches.invariant.reading;
+      state = c.in-More.ensures.batch.took.goes_on refl c.batches.invariant.state;
     }
 
 pub returns-in-End : goal.returns-in-End
