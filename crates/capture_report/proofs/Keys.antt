@@ -32,7 +32,7 @@ zero-add : (n : ℕ) → 0 + n ≡ n
 zero-add n = omega arith
 
 -- a function of the places from one more on, and one of the places
-shifted : (f g : ℕ → List ℕ) → ((k : ℕ) → f (k + 1) ≡ g k) → (a n : ℕ) →
+pub shifted : {A : Type 0} (f g : ℕ → List A) → ((k : ℕ) → f (k + 1) ≡ g k) → (a n : ℕ) →
     flat_map f (range_with_len (a + 1) n) ≡ flat_map g (range_with_len a n)
 shifted f g same a zero = refl
 shifted f g same a (suc n) =
@@ -53,14 +53,14 @@ sum_shifted f g same a (suc n) =
     )
 
 -- a range is its first number and those after it
-range_first : (a n : ℕ) → range_with_len a (n + 1) ≡ a ∷ range_with_len (a + 1) n
+pub range_first : (a n : ℕ) → range_with_len a (n + 1) ≡ a ∷ range_with_len (a + 1) n
 range_first a n =
     let at : range_with_len a (suc n) ≡ a ∷ range_with_len (a + 1) n = refl in
     ap (range_with_len a) (add-one n) ∙ at
 
 module _ (table : TableView) (key rest : List ℕ) (len : length key ≡ table.key_len) where
   -- the first key of a batch, and those after it
-  first_key : key_at table (key ++ rest) 0 ≡ key
+  pub first_key : key_at table (key ++ rest) 0 ≡ key
   first_key =
       ap (λ (m : ℕ). take table.key_len (drop m (key ++ rest))) (let none : 0 * table.key_len ≡ 0 = omega arith in
       none)
@@ -68,7 +68,7 @@ module _ (table : TableView) (key rest : List ℕ) (len : length key ≡ table.k
       ∙ take-append_seam key rest
 
   -- a key of the batch after the first is one of the rest
-  later_key : (k : ℕ) → key_at table (key ++ rest) (k + 1) ≡ key_at table rest k
+  pub later_key : (k : ℕ) → key_at table (key ++ rest) (k + 1) ≡ key_at table rest k
   later_key k =
       let later : (k + 1) * table.key_len ≡ length key + k * table.key_len = omega (arith, len) in
       ap (λ (m : ℕ). take table.key_len (drop m (key ++ rest))) later
@@ -115,7 +115,7 @@ class_len family.Ip6 Short is = absurd (cc)
 
 module _ (family : Family) (table : TableView) (len : table.key_len ≡ key_len_of_family family) where
   -- a packet of the family has a key as long as the table's
-  own_len : (packet : FrameClass) → IsPacket packet → is_of family packet.class ≡ true →
+  pub own_len : (packet : FrameClass) → IsPacket packet → is_of family packet.class ≡ true →
       length packet.key ≡ table.key_len
   own_len packet is own = is.len ∙ class_len family packet.class own ∙ sym len
 
@@ -307,5 +307,5 @@ verdicts_len family table count (p ∷ ps) = go (is_of family p.class) refl (ver
     go false own later = rw own later
 
 -- the front of a list
-pub front-is : (n : ℕ) (front rest : List ℕ) → length front ≡ n → take n (front ++ rest) ≡ front
+pub front-is : {A : Type 0} (n : ℕ) (front rest : List A) → length front ≡ n → take n (front ++ rest) ≡ front
 front-is n front rest len = ap (λ (m : ℕ). take m (front ++ rest)) (sym len) ∙ take-append_seam front rest

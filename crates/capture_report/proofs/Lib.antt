@@ -3,6 +3,7 @@ mod Bounds
 mod Growing
 mod Keys
 mod LineLaws
+mod Marks
 pub mod Offered
 mod Reader
 mod Reporting

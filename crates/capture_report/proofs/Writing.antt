@@ -1,7 +1,8 @@
 -- Lines are written packet by packet: what was written, and what is to come.
-use Rattle.std.proofs.Common.{◌≡◌, ℕ, ◌+◌, ◌*◌, ◌≤◌, List, ◌∷◌, ◌++◌, length, take, drop, sym, ap, ◌∙◌}
+use Rattle.std.proofs.Common.{◌≡◌, ℕ, ◌+◌, ◌*◌, ◌≤◌, List, ◌∷◌, ◌++◌, length, take, drop, sym, ap, ◌∙◌, Bool, true, false, replicate, refl}
 use Rattle.std.proofs.Common.{◌⊎◌, inl, inr, append_assoc, arith}
-use Rattle.std.proofs.lemmas.List.{drop_at}
+use Rattle.std.proofs.lemmas.List.{drop_at, length-append}
+use Rattle.std.proofs.Math.Seq.{take-append_seam}
 use Rattle.std.proofs.lemmas.List.Elements.{All-tail}
 use Rattle.std.proofs.lemmas.List.FromFn.{length-map-range_with_len}
 use Rattle.field_defs.specs.declared.field.Family.TheVariants as family
@@ -17,14 +18,18 @@ use Rattle.acl_report.specs.Counting.{counted}
 use Rattle.capture_report.specs.Packet.{IsPacket}
 use Rattle.capture_report.specs.ReportForm.{ReportForm}
 use Rattle.capture_report.specs.Report.{counted_all, line_of_packet, lines_of_packets}
-use Rattle.capture_report.specs.Batch.{AreAnswered, AreNext, verdicts_of}
+use Rattle.capture_report.specs.Batch.{AreAnswered, AreMarked, AreNext, verdicts_of, verdicts_on}
+use Rattle.capture_report.specs.Batch.{dashes_of, dashes_of_family, dashes_on}
 use Rattle.capture_report.proofs.LineLaws.{counted-packets}
+use Rattle.capture_report.proofs.Marks.{dashes_count}
 
--- The lines of the packets up to the rest stand in front, and the verdicts on the rest are left.
+-- The lines of the packets up to the rest stand in front, and the verdicts on the rest are left, and
+-- their dashes.
 pub record Written (form : ReportForm) (was now : Counts) (all rest : List FrameClass) (ip4 ip6 : List ℕ)
-    (number at size : ℕ) (lines : List ℕ) : Type 0 where
+    (dashes4 dashes6 : List Bool) (number at size : ℕ) (lines : List ℕ) : Type 0 where
   pub next : AreNext now rest
   pub answered : AreAnswered form rest ip4 ip6
+  pub marked : form.marks ≡ true → AreMarked form rest dashes4 dashes6
   pub room : at + length rest * LINE_ROOM ≤ length lines
   pub written : take at lines ++ lines_of_packets form (now.packets + 1) rest
       ≡ lines_of_packets form (was.packets + 1) all
@@ -52,13 +57,15 @@ next_more now p rest next = record {
 
 -- the line of a packet was written after the others
 pub Written-next : {form : ReportForm} {was now later : Counts} {all rest : List FrameClass} {p : FrameClass}
-    {ip4 ip6 left4 left6 lines new after : List ℕ} {number next at end next_at size : ℕ} →
-    Written form was now all (p ∷ rest) ip4 ip6 number at size lines → later ≡ counted p.class now →
+    {ip4 ip6 left4 left6 lines new after : List ℕ} {dashes4 dashes6 more4 more6 : List Bool}
+    {number next at end next_at size : ℕ} →
+    Written form was now all (p ∷ rest) ip4 ip6 dashes4 dashes6 number at size lines → later ≡ counted p.class now →
     next ≡ number + 1 → next_at ≡ end → after ≡ new → end ≤ at + LINE_ROOM →
     take end new ≡ take at lines ++ line_of_packet form number p → length new ≡ length lines →
-    AreAnswered form rest left4 left6 → Written form was later all rest left4 left6 next next_at size after
+    AreAnswered form rest left4 left6 → (form.marks ≡ true → AreMarked form rest more4 more6) →
+    Written form was later all rest left4 left6 more4 more6 next next_at size after
 Written-next {form = form} {was = was} {now = now} {all = all} {rest = rest} {p = p} {lines = lines} {new = new}
-    {number = number} {at = at} {end = end} w is_later is_next is_at is_after ends line len answered =
+    {number = number} {at = at} {end = end} w is_later is_next is_at is_after ends line len answered marked =
     let more = counted-packets p.class now in
     let first = take at lines in
     let one = line_of_packet form (now.packets + 1) p in
@@ -67,6 +74,7 @@ Written-next {form = form} {was = was} {now = now} {all = all} {rest = rest} {p 
     record {
       next = next_more now p rest w.next;
       answered = answered;
+      marked = marked;
       room = omega (arith, w.room, ends, len);
       written =
           ap (λ n. take end new ++ lines_of_packets form (n + 1) rest) more
@@ -124,3 +132,94 @@ answered_none {p = p} answered shown (inl is) is_left4 is_left6 =
 answered_none {p = p} answered shown (inr is) is_left4 is_left6 =
     let short : p.class ≡ Short = sym shown ∙ is in
     rw (is_left4, is_left6) record { on_ip4 = rw short at answered.on_ip4; on_ip6 = rw short at answered.on_ip6 }
+
+-- there is a dash or none for each verdict
+pub same_count : (form : ReportForm) (class : Class) (key : List ℕ) →
+    length (dashes_on class form key) ≡ length (verdicts_on class form key)
+same_count form Ip4 key =
+    dashes_count form form.tables.ip4 key ∙ sym (verdicts_count form.tables.ip4 key form.categories)
+same_count form Ip6 key =
+    dashes_count form form.tables.ip6 key ∙ sym (verdicts_count form.tables.ip6 key form.categories)
+same_count form Other key = refl
+same_count form Short key = refl
+
+-- where marks aren't asked for, none is shown of any packet
+pub unmarked : (form : ReportForm) (class : Class) (key : List ℕ) → form.marks ≡ false →
+    replicate (length (verdicts_on class form key)) false ≡ dashes_on class form key
+unmarked form Ip4 key is =
+    rw is (ap (λ n. replicate n false) (verdicts_count form.tables.ip4 key form.categories))
+unmarked form Ip6 key is =
+    rw is (ap (λ n. replicate n false) (verdicts_count form.tables.ip6 key form.categories))
+unmarked form Other key is = refl
+unmarked form Short key is = refl
+
+-- in front of the dashes that are left stand those of a key
+front_dashes : (form : ReportForm) (table : TableView) (key : List ℕ) (others left : List Bool) (count : ℕ) →
+    left ≡ dashes_of form table key ++ others → count ≡ form.categories →
+    (count ≤ length left) × (take count left ≡ dashes_of form table key)
+front_dashes form table key others left count is is_count =
+    let first = dashes_of form table key in (
+      omega (arith, ap length is, length-append first others, dashes_count form table key, is_count),
+      ap (take count) is
+          ∙ ap (λ n. take n (first ++ others)) (is_count ∙ sym (dashes_count form table key))
+          ∙ take-append_seam first others,
+    )
+
+-- so it is of the first IPv4 packet
+pub front_ip4 : {form : ReportForm} {p : FrameClass} {rest : List FrameClass} {ip4 ip6 : List Bool} {count : ℕ} →
+    AreMarked form (p ∷ rest) ip4 ip6 → p.class ≡ Ip4 → count ≡ form.categories →
+    (count ≤ length ip4) × (take count ip4 ≡ dashes_on p.class form p.key)
+front_ip4 {form = form} {p = p} {rest = rest} {ip4 = ip4} {count = count} marked is is_count =
+    rw is
+    (front_dashes form form.tables.ip4 p.key (dashes_of_family family.Ip4 form.tables.ip4 form rest) ip4 count
+    (rw is at marked.on_ip4) is_count)
+
+-- and of the first IPv6 packet
+pub front_ip6 : {form : ReportForm} {p : FrameClass} {rest : List FrameClass} {ip4 ip6 : List Bool} {count : ℕ} →
+    AreMarked form (p ∷ rest) ip4 ip6 → p.class ≡ Ip6 → count ≡ form.categories →
+    (count ≤ length ip6) × (take count ip6 ≡ dashes_on p.class form p.key)
+front_ip6 {form = form} {p = p} {rest = rest} {ip6 = ip6} {count = count} marked is is_count =
+    rw is
+    (front_dashes form form.tables.ip6 p.key (dashes_of_family family.Ip6 form.tables.ip6 form rest) ip6 count
+    (rw is at marked.on_ip6) is_count)
+
+-- the dashes of an IPv4 packet are taken off the front
+pub marked_ip4 : {form : ReportForm} {p : FrameClass} {rest : List FrameClass} {ip4 ip6 left4 left6 : List Bool}
+    {count : ℕ} → AreMarked form (p ∷ rest) ip4 ip6 → p.class ≡ Ip4 → count ≡ form.categories →
+    left4 ≡ drop count ip4 → left6 ≡ ip6 → AreMarked form rest left4 left6
+marked_ip4 {form = form} {p = p} {rest = rest} {ip4 = ip4} marked is is_count is_left4 is_left6 =
+    let table = form.tables.ip4 in
+    let first = dashes_of form table p.key in
+    let others = dashes_of_family family.Ip4 table form rest in
+    let all : ip4 ≡ first ++ others = rw is at marked.on_ip4 in
+    rw (is_left4, is_left6, is_count)
+    record {
+      on_ip4 = ap (drop form.categories) all ∙ drop_at first others form.categories (dashes_count form table p.key);
+      on_ip6 = rw is at marked.on_ip6;
+    }
+
+-- the same of an IPv6 packet
+pub marked_ip6 : {form : ReportForm} {p : FrameClass} {rest : List FrameClass} {ip4 ip6 left4 left6 : List Bool}
+    {count : ℕ} → AreMarked form (p ∷ rest) ip4 ip6 → p.class ≡ Ip6 → count ≡ form.categories →
+    left4 ≡ ip4 → left6 ≡ drop count ip6 → AreMarked form rest left4 left6
+marked_ip6 {form = form} {p = p} {rest = rest} {ip6 = ip6} marked is is_count is_left4 is_left6 =
+    let table = form.tables.ip6 in
+    let first = dashes_of form table p.key in
+    let others = dashes_of_family family.Ip6 table form rest in
+    let all : ip6 ≡ first ++ others = rw is at marked.on_ip6 in
+    rw (is_left4, is_left6, is_count)
+    record {
+      on_ip4 = rw is at marked.on_ip4;
+      on_ip6 = ap (drop form.categories) all ∙ drop_at first others form.categories (dashes_count form table p.key);
+    }
+
+-- a frame without a packet has no dashes
+pub marked_none : {form : ReportForm} {p : FrameClass} {rest : List FrameClass} {ip4 ip6 left4 left6 : List Bool}
+    {class : Class} → AreMarked form (p ∷ rest) ip4 ip6 → class ≡ p.class → (class ≡ Other) ⊎ (class ≡ Short) →
+    left4 ≡ ip4 → left6 ≡ ip6 → AreMarked form rest left4 left6
+marked_none {p = p} marked shown (inl is) is_left4 is_left6 =
+    let other : p.class ≡ Other = sym shown ∙ is in
+    rw (is_left4, is_left6) record { on_ip4 = rw other at marked.on_ip4; on_ip6 = rw other at marked.on_ip6 }
+marked_none {p = p} marked shown (inr is) is_left4 is_left6 =
+    let short : p.class ≡ Short = sym shown ∙ is in
+    rw (is_left4, is_left6) record { on_ip4 = rw short at marked.on_ip4; on_ip6 = rw short at marked.on_ip6 }

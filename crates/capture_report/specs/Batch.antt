@@ -1,12 +1,12 @@
 -- What the code makes of the packets of a batch: their keys, verdicts and dashes, by family.
 use Rattle.std.specs.Prelude.{◌≡◌, ℕ, ◌+◌, ◌*◌, ◌≤◌, List, [], ◌∷◌, ◌++◌, length, map, replicate}
-use Rattle.std.specs.Prelude.{All, Bool, false, not, if◌then◌else◌}
+use Rattle.std.specs.Prelude.{All, Bool, true, false, not, if◌then◌else◌}
 use Rattle.field_defs.specs.declared.field.Family.{Family}
 use Rattle.field_defs.specs.declared.field.Family.TheVariants as family
 use Rattle.flat_table.specs.Table.{TableView}
 use Rattle.flat_table.specs.Walk.{key_transitions}
 use Rattle.flat_table.specs.Batch.{key_verdicts}
-use Rattle.scalar_walk.specs.Rows.{winners_of}
+use Rattle.scalar_walk.specs.Rows.{key_winners}
 use Rattle.header_extract.specs.declared.class.Class.{Class}
 use Rattle.header_extract.specs.declared.class.Class.TheVariants.{Ip4, Ip6, Other, Short}
 use Rattle.header_extract.specs.Class.{FrameClass}
@@ -95,11 +95,34 @@ verdicts_on Short form key = []
 -- for each category whether a dash is shown of the key: where marks are asked for and no rule wins
 abbrev pub dashes_of : ReportForm → TableView → List ℕ → List Bool
 dashes_of form table key =
-    if form.marks then map not (winners_of table key) else replicate MAX_VERDICTS false
+    if form.marks then map not (key_winners table form.categories key)
+    else replicate form.categories false
 
 -- the same of the key of a class
 abbrev pub dashes_on : Class → ReportForm → List ℕ → List Bool
 dashes_on Ip4 form key = dashes_of form form.tables.ip4 key
 dashes_on Ip6 form key = dashes_of form form.tables.ip6 key
-dashes_on Other form key = replicate MAX_VERDICTS false
-dashes_on Short form key = replicate MAX_VERDICTS false
+dashes_on Other form key = []
+dashes_on Short form key = []
+
+-- the same of the packets of a family, one after the other
+abbrev pub dashes_of_family : Family → TableView → ReportForm → List FrameClass → List Bool
+dashes_of_family family table form [] = []
+dashes_of_family family table form (packet ∷ packets) =
+    if is_of family packet.class
+    then dashes_of form table packet.key ++ dashes_of_family family table form packets
+    else dashes_of_family family table form packets
+
+-- These are the dashes of the IPv4 packets, and those of the IPv6 packets.
+pub record AreMarked (form : ReportForm) (packets : List FrameClass) (ip4 ip6 : List Bool)
+    : Type 0 where
+  pub on_ip4 : ip4 ≡ dashes_of_family family.Ip4 form.tables.ip4 form packets
+  pub on_ip6 : ip6 ≡ dashes_of_family family.Ip6 form.tables.ip6 form packets
+
+-- There is a mark for each verdict on the packets of a family, and where marks are asked for they
+-- are the dashes.
+pub record HasMarks (family : Family) (form : ReportForm) (packets : List FrameClass)
+    (marks : List Bool) : Type 0 where
+  pub len : length marks ≡ number_of family packets * form.categories
+  pub are : form.marks ≡ true →
+      marks ≡ dashes_of_family family (table_of family form.tables) form packets

@@ -81,14 +81,36 @@ fn put_lines<O: Sink, L: Ledger>(
 {
     let packets = room.packets.as_slice();
     let (keys, rows) = (&mut room.keys, &mut room.scratch);
-    let ip4 = walk_keys(form, Family::Ip4, packets, keys, rows, &mut room.ip4, steps);
-    let ip6 = walk_keys(form, Family::Ip6, packets, keys, rows, &mut room.ip6, steps);
+    let (verdicts, dashes) = (&mut room.ip4.verdicts, &mut room.ip4.dashes);
+    let ip4 = walk_keys(
+        form,
+        Family::Ip4,
+        packets,
+        keys,
+        rows,
+        verdicts,
+        dashes,
+        steps,
+    );
+    let (verdicts, dashes) = (&mut room.ip6.verdicts, &mut room.ip6.dashes);
+    let ip6 = walk_keys(
+        form,
+        Family::Ip6,
+        packets,
+        keys,
+        rows,
+        verdicts,
+        dashes,
+        steps,
+    );
     *transitions += ip4.transitions + ip6.transitions;
     let len = write_lines(
         form,
         packets,
-        &room.ip4[..ip4.verdicts],
-        &room.ip6[..ip6.verdicts],
+        &room.ip4.verdicts[..ip4.verdicts],
+        &room.ip6.verdicts[..ip6.verdicts],
+        &room.ip4.dashes[..ip4.verdicts],
+        &room.ip6.dashes[..ip6.verdicts],
         counts,
         &mut room.lines,
     );

@@ -1,23 +1,16 @@
 //! What is printed of a capture, and the tables that answer for its packets.
 
-ghost use Rattle.std.specs.Prelude.{◌≡◌, ℕ, ◌≤◌, List, IfSome, length, map, not};
+ghost use Rattle.std.specs.Prelude.{◌≡◌, ◌≤◌, length};
 ghost use Rattle.table_sizes.specs.Groups.{ip4_key_len, ip6_key_len};
-ghost use Rattle.header_extract.specs.declared.class.Class.{Class};
-ghost use Rattle.scalar_walk.specs.Rows.{winners_of};
-ghost use Rattle.acl_report.specs.declared.packet.TheConstants.{MAX_VERDICTS};
 ghost use Rattle.capture_report.specs.Classifier.{ByTables, key_len_of_family};
 ghost use Rattle.capture_report.specs.ReportForm.{form_by};
-ghost use Rattle.capture_report.specs.Packet.{IsPacket};
-ghost use Rattle.capture_report.specs.Batch.{dashes_on, table_of};
+ghost use Rattle.capture_report.specs.Batch.{table_of};
 ghost use Rattle.table_sizes.specs.Sizes.{max_tries};
 
-use crate::packet::Packet;
 use acl_report::MAX_VERDICTS;
 use field_defs::Family;
 use flat_table::{Table, Walk};
-use header_extract::Class;
 use rule_set::Categories;
-use scalar_walk::winners;
 use std::marker::Model;
 use table_sizes::MAX_TRIES;
 
@@ -59,9 +52,6 @@ impl<'a> Model for FormByTables<'a> {
         p.options.cats.count };
 }
 
-/// No dash is shown.
-const NO_DASHES: [bool; MAX_VERDICTS] = [false; MAX_VERDICTS];
-
 impl<'a> FormByTables<'a> {
     /// What prints by these tables, whose keys have 13 and 37 bytes. It takes no memory.
     pub fn new(ip4: &'a Table, ip6: &'a Table, options: PrintOptions) -> FormByTables<'a>
@@ -90,7 +80,8 @@ impl<'a> FormByTables<'a> {
 
     /// How many categories are shown of each packet.
     pub fn categories(&self) -> Categories
-        ensures { result.count ≡ self.now.categories }
+        ensures count { result.count ≡ self.now.categories }
+        ensures by_tables { self.now.classifier ≡ ByTables self.now.tables }
     {
         self.options.cats
     }
@@ -107,49 +98,11 @@ impl<'a> FormByTables<'a> {
         self.options.stats
     }
 
-    /// No dashes, whatever the packet, where marks aren't asked for. It takes no memory.
+    /// Whether a dash marks where no rule matches.
     #[inline]
-    pub fn no_dashes(&self) -> Option<&'static [bool; MAX_VERDICTS]>
-        ensures dashes { IfSome result (λ dashes. (class : Class) (key : List ℕ)
-            → dashes.now ≡ dashes_on class self.now key) }
-        ensures by_tables { self.now.classifier ≡ ByTables self.now.tables }
-        ensures few { self.now.categories ≤ MAX_VERDICTS }
+    pub fn has_marks(&self) -> bool
+        ensures { result ≡ self.now.marks }
     {
-        if self.options.marks {
-            None
-        } else {
-            Some(&NO_DASHES)
-        }
+        self.options.marks
     }
-
-    /// For each category whether a dash is shown of the packet. It takes no memory.
-    pub fn dashes(&self, packet: &Packet) -> [bool; MAX_VERDICTS]
-        requires { IsPacket packet.now }
-        ensures dashes { result ≡ dashes_on packet.now.class self.now packet.now.key }
-        ensures by_tables { self.now.classifier ≡ ByTables self.now.tables }
-        ensures few { self.now.categories ≤ MAX_VERDICTS }
-    {
-        if !self.options.marks {
-            return NO_DASHES;
-        }
-        match packet.class() {
-            Class::Ip4 => unmatched(self.ip4, packet.key()),
-            Class::Ip6 => unmatched(self.ip6, packet.key()),
-            Class::Other | Class::Short => NO_DASHES,
-        }
-    }
-}
-
-/// For each category whether no rule matches the key.
-fn unmatched(table: &Table, key: &[u8]) -> [bool; MAX_VERDICTS]
-    requires { length key.now ≡ table.now.key_len }
-    ensures { result ≡ map not (winners_of table.now key.now) }
-{
-    let mut won = NO_DASHES;
-    winners(table, key, &mut won);
-    let mut dashes = NO_DASHES;
-    for category in 0..MAX_VERDICTS {
-        dashes[category] = !won[category];
-    }
-    dashes
 }

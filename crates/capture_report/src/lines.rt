@@ -1,20 +1,22 @@
 //! The lines of packets, one after the other, and those after them.
 
-ghost use Rattle.std.specs.Prelude.{◌≡◌, ◌+◌, ◌*◌, ◌≤◌, ◌++◌, [], drop, length, take};
+ghost use Rattle.std.specs.Prelude.{◌≡◌, ◌+◌, ◌*◌, ◌≤◌, ◌++◌, [], drop, length, take, true};
 ghost use Rattle.acl_report.specs.declared.line.TheConstants.{LINE_ROOM};
 ghost use Rattle.acl_report.specs.declared.packet.TheConstants.{MAX_VERDICTS};
 ghost use Rattle.acl_report.specs.Packet.{packet_text};
 ghost use Rattle.acl_report.specs.Verdicts.{answers};
-ghost use Rattle.capture_report.specs.Packet.{IsPacket};
+ghost use Rattle.capture_report.specs.Classifier.{ByTables};
 ghost use Rattle.capture_report.specs.Report.{counted_all, line_of_packet, line_of_table};
 ghost use Rattle.capture_report.specs.Report.{lines_of_packets};
 ghost use Rattle.capture_report.specs.CaptureOutcome.{last_text};
-ghost use Rattle.capture_report.specs.Batch.{AreAnswered, AreNext, verdicts_on};
+ghost use Rattle.capture_report.specs.Batch.{AreAnswered, AreMarked, AreNext};
+ghost use Rattle.capture_report.specs.Batch.{dashes_on, verdicts_on};
 
 use crate::form::FormByTables;
 use crate::packet::Packet;
 use acl_report::{
-    Counts, LINE_ROOM, LineNumber, numbered_line, packets_line, table_line, transitions_line,
+    Counts, LINE_ROOM, LineNumber, MAX_VERDICTS, numbered_line, packets_line, table_line,
+    transitions_line,
 };
 use field_defs::Family;
 use flat_table::Table;
@@ -24,18 +26,23 @@ use header_extract::Class;
 /// the lines have.
 ///
 /// The first has the number after those that were counted. `ip4` and `ip6` have the verdicts on
-/// the packets of each family, in order. `lines` has [`LINE_ROOM`] bytes for each packet. It takes
-/// no memory.
+/// the packets of each family, in order. Where the form asks for marks, `ip4_dashes` and
+/// `ip6_dashes` say for each whether a dash is shown.
+/// `lines` has [`LINE_ROOM`] bytes for each packet. It takes no memory.
 pub fn write_lines(
     form: &FormByTables<'_>,
     packets: &[Packet],
     mut ip4: &[u32],
     mut ip6: &[u32],
+    mut ip4_dashes: &[bool],
+    mut ip6_dashes: &[bool],
     counts: &mut Counts,
     lines: &mut [u8],
 ) -> usize
     requires next { AreNext counts.old packets.now }
     requires answered { AreAnswered form.now packets.now ip4.now ip6.now }
+    requires marked { form.now.marks ≡ true
+        → AreMarked form.now packets.now ip4_dashes.now ip6_dashes.now }
     requires room { length packets.now * LINE_ROOM ≤ length lines.old }
     ensures within { result ≤ length lines.old }
     ensures lines { take result lines.new
@@ -53,22 +60,26 @@ pub fn write_lines(
         at = match class {
             Class::Ip4 => {
                 let verdicts = take_front(&mut ip4, count);
-                write_line(form, packet, class, verdicts, &number, lines, at)
+                let dashes = take_dashes(form, &mut ip4_dashes, count);
+                write_line(form, packet, class, verdicts, dashes, &number, lines, at)
             }
             Class::Ip6 => {
                 let verdicts = take_front(&mut ip6, count);
-                write_line(form, packet, class, verdicts, &number, lines, at)
+                let dashes = take_dashes(form, &mut ip6_dashes, count);
+                write_line(form, packet, class, verdicts, dashes, &number, lines, at)
             }
-            Class::Other | Class::Short => write_line(form, packet, class, &[], &number, lines, at),
+            Class::Other | Class::Short => {
+                write_line(form, packet, class, &[], &[], &number, lines, at)
+            }
         };
         number.advance();
     }
     at
 }
 
-/// Takes the verdicts on a packet off the front of those that are left.
+/// Takes what belongs to a packet off the front of what is left.
 #[inline(always)]
-fn take_front<'a>(left: &mut &'a [u32], count: usize) -> &'a [u32]
+fn take_front<'a, T>(left: &mut &'a [T], count: usize) -> &'a [T]
     requires { count ≤ length left.old.now }
     ensures front { result.now ≡ take count left.old.now }
     ensures rest { left.new.now ≡ drop count left.old.now }
@@ -78,6 +89,23 @@ fn take_front<'a>(left: &mut &'a [u32], count: usize) -> &'a [u32]
     front
 }
 
+/// Takes the dashes of a packet off the front of those that are left, where marks are asked for.
+#[inline(always)]
+fn take_dashes<'a>(form: &FormByTables<'_>, left: &mut &'a [bool], count: usize) -> &'a [bool]
+    requires { form.now.marks ≡ true → count ≤ length left.old.now }
+    ensures front { form.now.marks ≡ true → result.now ≡ take count left.old.now }
+    ensures rest { form.now.marks ≡ true → left.new.now ≡ drop count left.old.now }
+{
+    if form.has_marks() {
+        take_front(left, count)
+    } else {
+        &[]
+    }
+}
+
+/// No dash is shown.
+const NO_DASHES: [bool; MAX_VERDICTS] = [false; MAX_VERDICTS];
+
 /// Writes the line of a packet of the class and this number at the place `at`, and gives the place
 /// after the line.
 #[inline(always)]
@@ -86,13 +114,16 @@ fn write_line(
     packet: &Packet,
     class: Class,
     verdicts: &[u32],
+    dashes: &[bool],
     number: &LineNumber,
     lines: &mut [u8],
     at: usize,
 ) -> usize
-    requires packet { IsPacket packet.now }
+    requires by_tables { form.now.classifier ≡ ByTables form.now.tables }
     requires class { class ≡ packet.now.class }
     requires verdicts { verdicts.now ≡ verdicts_on packet.now.class form.now packet.now.key }
+    requires dashes { form.now.marks ≡ true
+        → dashes.now ≡ dashes_on packet.now.class form.now packet.now.key }
     requires few { length verdicts.now ≤ MAX_VERDICTS }
     requires room { at + LINE_ROOM ≤ length lines.old }
     ensures end { result ≤ at + LINE_ROOM }
@@ -100,30 +131,30 @@ fn write_line(
         ≡ take at lines.old ++ line_of_packet form.now number.now packet.now }
     ensures len { length lines.new ≡ length lines.old }
 {
-    match form.no_dashes() {
-        Some(dashes) => {
-            let dashes = &dashes[..verdicts.len()];
-            at + write_front(number, class, verdicts, dashes, &mut lines[at..])
-        }
-        None => write_marked(form, packet, class, verdicts, number, lines, at),
+    if form.has_marks() {
+        return write_marked(form, packet, class, verdicts, dashes, number, lines, at);
     }
+    // No verdict is asked for a dash then.
+    let dashes = &NO_DASHES[..verdicts.len()];
+    at + write_front(number, class, verdicts, dashes, &mut lines[at..])
 }
 
-/// Writes the line of a packet of the class and this number at the place `at`, with a dash where no
-/// rule matches, if marks are asked for, and gives the place after the line.
+/// The same with the dashes.
 #[inline(never)]
 fn write_marked(
     form: &FormByTables<'_>,
     packet: &Packet,
     class: Class,
     verdicts: &[u32],
+    dashes: &[bool],
     number: &LineNumber,
     lines: &mut [u8],
     at: usize,
 ) -> usize
-    requires packet { IsPacket packet.now }
+    requires by_tables { form.now.classifier ≡ ByTables form.now.tables }
     requires class { class ≡ packet.now.class }
     requires verdicts { verdicts.now ≡ verdicts_on packet.now.class form.now packet.now.key }
+    requires dashes { dashes.now ≡ dashes_on packet.now.class form.now packet.now.key }
     requires few { length verdicts.now ≤ MAX_VERDICTS }
     requires room { at + LINE_ROOM ≤ length lines.old }
     ensures end { result ≤ at + LINE_ROOM }
@@ -131,8 +162,6 @@ fn write_marked(
         ≡ take at lines.old ++ line_of_packet form.now number.now packet.now }
     ensures len { length lines.new ≡ length lines.old }
 {
-    let dashes = form.dashes(packet);
-    let dashes = &dashes[..verdicts.len()];
     at + write_front(number, class, verdicts, dashes, &mut lines[at..])
 }
 

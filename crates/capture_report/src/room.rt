@@ -1,4 +1,7 @@
-//! The memory of a batch: its packets, their keys, rows, verdicts and lines.
+//! The memory of a batch: its packets, their keys, rows, answers and lines.
+
+ghost use Rattle.std.specs.Prelude.{IfOk};
+ghost use Rattle.capture_report.specs.Rooms.{HasAnswers};
 
 use crate::batch::MAX_BATCH;
 use crate::packets::Packets;
@@ -11,6 +14,27 @@ use std::marker::Model;
 /// How many bytes the lines of a batch have at most.
 const BATCH_LINES: usize = MAX_BATCH * LINE_ROOM;
 
+/// Room for what is answered for the packets of a family, one packet after the other.
+#[derive(Drop)]
+pub struct Answers {
+    /// The verdicts, so many of each packet as there are categories.
+    pub verdicts: Vec<u32>,
+    /// Beside each whether a dash is shown for it, where marks are asked for.
+    pub dashes: Vec<bool>,
+}
+
+impl Answers {
+    /// Room for the answers for a batch, whose memory it takes.
+    fn new(alloc: Global) -> Result<Self, AllocError>
+        ensures { IfOk result HasAnswers }
+    {
+        Ok(Answers {
+            verdicts: vec![in alloc; 0; BATCH_VERDICTS]?,
+            dashes: vec![in alloc; false; BATCH_VERDICTS]?,
+        })
+    }
+}
+
 /// Room for a batch. Contracts see its packets.
 pub struct Room {
     /// The packets of the batch.
@@ -19,10 +43,10 @@ pub struct Room {
     pub keys: Vec<u8>,
     /// A row for each of these keys.
     pub scratch: Scratch,
-    /// The verdicts on the IPv4 packets.
-    pub ip4: Vec<u32>,
-    /// The verdicts on the IPv6 packets.
-    pub ip6: Vec<u32>,
+    /// What is answered for the IPv4 packets.
+    pub ip4: Answers,
+    /// What is answered for the IPv6 packets.
+    pub ip6: Answers,
     /// The lines of the batch.
     pub lines: Vec<u8>,
 }
@@ -63,8 +87,8 @@ impl Room {
             packets: Packets::new(alloc)?,
             keys: vec![in alloc; 0; BATCH_KEYS]?,
             scratch: Scratch::new(alloc, MAX_BATCH)?,
-            ip4: vec![in alloc; 0; BATCH_VERDICTS]?,
-            ip6: vec![in alloc; 0; BATCH_VERDICTS]?,
+            ip4: Answers::new(alloc)?,
+            ip6: Answers::new(alloc)?,
             lines: vec![in alloc; 0; BATCH_LINES]?,
         })
     }

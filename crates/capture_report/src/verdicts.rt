@@ -1,10 +1,14 @@
 //! The walks of the keys of a batch, one family after the other.
 
-ghost use Rattle.std.specs.Prelude.{◌≡◌, ◌+◌, ◌*◌, ◌≤◌, ◌++◌, [], All, length, take};
+ghost use Rattle.std.specs.Prelude.{◌≡◌, ◌+◌, ◌*◌, ◌≤◌, ◌++◌, [], All, length, map, take};
+ghost use Rattle.std.specs.Prelude.{not, true};
+ghost use Rattle.flat_table.specs.Batch.{LengthsFit, keys_in, batch_transitions, batch_verdicts};
+ghost use Rattle.scalar_walk.specs.Rows.{batch_winners};
 ghost use Rattle.capture_report.specs.Taken.{max_batch};
 ghost use Rattle.capture_report.specs.Packet.{IsPacket};
 ghost use Rattle.capture_report.specs.Batch.{is_of, keys_of, number_of, verdicts_of};
 ghost use Rattle.capture_report.specs.Batch.{transitions_of_family, max_transitions, table_of};
+ghost use Rattle.capture_report.specs.Batch.{HasMarks};
 ghost use Rattle.capture_report.specs.declared.verdicts.TheConstants.{BATCH_KEYS, BATCH_VERDICTS};
 
 use crate::batch::MAX_BATCH;
@@ -12,9 +16,9 @@ use crate::form::FormByTables;
 use crate::lines::put_at;
 use crate::packet::Packet;
 use acl_report::MAX_VERDICTS;
-use batch_walk::classify_by;
+use batch_walk::{classify_by, classify_marked};
 use field_defs::Family;
-use flat_table::Steps;
+use flat_table::{Steps, Table};
 use flow_core::Scratch;
 use header_extract::Class;
 use std::sync::ledger::Ledger;
@@ -36,12 +40,13 @@ pub struct FamilyVerdicts {
 }
 
 /// Walks the keys of the packets of a family through its table, and writes their verdicts to the
-/// front of `verdicts`, those of one packet after those of another.
+/// front of `verdicts`, those of one packet after those of another. Where the form asks for marks,
+/// the same walk says which dashes are shown, in the same places of `dashes`.
 ///
 /// There are at most 64 packets. `keys` has room for their keys, [`BATCH_KEYS`] bytes, and
-/// `scratch` has a row for each, which are overwritten; `verdicts` has [`BATCH_VERDICTS`] elements.
-/// Whichever walk the form asks for, the verdicts and the transitions are the same. It takes no
-/// memory.
+/// `scratch` has a row for each, which are overwritten; `verdicts` and `dashes` have
+/// [`BATCH_VERDICTS`] elements. Whichever walk the form asks for, the verdicts, the dashes and the
+/// transitions are the same. It takes no memory.
 pub fn walk_keys<L: Ledger>(
     form: &FormByTables<'_>,
     family: Family,
@@ -49,6 +54,7 @@ pub fn walk_keys<L: Ledger>(
     keys: &mut [u8],
     scratch: &mut Scratch,
     verdicts: &mut [u32],
+    dashes: &mut [bool],
     steps: &mut Steps<L>,
 ) -> FamilyVerdicts
     requires few { length packets.now ≤ max_batch }
@@ -56,14 +62,17 @@ pub fn walk_keys<L: Ledger>(
     requires keys { BATCH_KEYS ≤ length keys.old }
     requires rows { max_batch ≤ length scratch.old }
     requires verdicts { length verdicts.old ≡ BATCH_VERDICTS }
+    requires dashes { length dashes.old ≡ BATCH_VERDICTS }
     ensures within { result.verdicts ≤ BATCH_VERDICTS }
     ensures verdicts { take result.verdicts verdicts.new ≡ verdicts_of family
         (table_of family form.now.tables) form.now.categories packets.now }
+    ensures dashes { HasMarks family form.now packets.now (take result.verdicts dashes.new) }
     ensures transitions { result.transitions
         ≡ transitions_of_family family (table_of family form.now.tables) packets.now }
     ensures bound { result.transitions ≤ length packets.now * max_transitions }
     ensures steps { steps.new ≡ steps.old + result.transitions }
     ensures len { length verdicts.new ≡ BATCH_VERDICTS }
+    ensures marks_len { length dashes.new ≡ BATCH_VERDICTS }
     ensures keys { length keys.new ≡ length keys.old }
     ensures rows { length scratch.new ≡ length scratch.old }
 {
@@ -71,11 +80,51 @@ pub fn walk_keys<L: Ledger>(
     let gathered = gather_keys(family, packets, keys);
     let count = gathered.packets * categories.count();
     let keys = &keys[..gathered.bytes];
-    let (walk, out) = (form.walk(), &mut verdicts[..count]);
-    let transitions = classify_by(walk, table, keys, categories, scratch, out, steps);
+    let (out, marks) = (&mut verdicts[..count], &mut dashes[..count]);
+    let transitions = classify(form, table, keys, scratch, out, marks, steps);
     FamilyVerdicts {
         verdicts: count,
         transitions,
+    }
+}
+
+/// Walks the keys of a batch once, writes their verdicts, and where the form asks for marks beside
+/// each whether no rule wins. It says how many transitions the walks took.
+fn classify<L: Ledger>(
+    form: &FormByTables<'_>,
+    table: &Table,
+    keys: &[u8],
+    scratch: &mut Scratch,
+    out: &mut [u32],
+    marks: &mut [bool],
+    steps: &mut Steps<L>,
+) -> u64
+    requires fits { LengthsFit table.now keys.now form.now.categories (length out.old) }
+    requires rows { keys_in table.now keys.now ≤ length scratch.old }
+    requires marks { length marks.old ≡ length out.old }
+    ensures verdicts { out.new ≡ batch_verdicts table.now form.now.categories keys.now }
+    ensures marks { form.now.marks ≡ true
+        → marks.new ≡ map not (batch_winners table.now form.now.categories keys.now) }
+    ensures len { length marks.new ≡ length marks.old }
+    ensures taken { result ≡ batch_transitions table.now keys.now }
+    ensures steps { steps.new ≡ steps.old + batch_transitions table.now keys.now }
+    ensures rows { length scratch.new ≡ length scratch.old }
+{
+    let (walk, categories) = (form.walk(), form.categories());
+    if !form.has_marks() {
+        return classify_by(walk, table, keys, categories, scratch, out, steps);
+    }
+    let taken = classify_marked(walk, table, keys, categories, scratch, out, marks, steps);
+    turn_over(marks);
+    taken
+}
+
+/// Makes each mark its contrary.
+fn turn_over(marks: &mut [bool])
+    ensures { marks.new ≡ map not marks.old }
+{
+    for place in 0..marks.len() {
+        marks[place] = !marks[place];
     }
 }
 

@@ -2,8 +2,11 @@
 use Rattle.std.proofs.Common.{◌≡◌, ◌+◌, List, ◌∷◌, length, drop, sym, ap, subst, ◌∙◌, arith}
 use Rattle.std.proofs.lemmas.List.{drop_more}
 use Rattle.header_extract.specs.Class.{FrameClass}
+use Rattle.list_lemmas.proofs.Loops.{left_is}
 use Rattle.acl_report.specs.Counting.{counted}
+use Rattle.capture_report.specs.Batch.{AreMarked}
 use Rattle.capture_report.proofs.Writing.{Written, Written-next, answered_ip4, answered_ip6, answered_none}
+use Rattle.capture_report.proofs.Writing.{marked_ip4, marked_ip6, marked_none, front_ip4, front_ip6}
 use Rattle.capture_report.proofs.lines.write_lines.Goals as goal
 use Rattle.capture_report.proofs.lines.write_lines.Goals.{in-Ip4, in-Ip6, in-Other}
 
@@ -20,25 +23,76 @@ loop-packet-preserved c =
     drop_more packets l.packet-index p (omega (arith, c.loop-packet-test.true))
     ∙ ap (λ x. x ∷ rest) (sym c.packet-item.is) in
     let so_far = subst (λ (left : List FrameClass). Written form was l.counts packets left l.ip4.now l.ip6.now
-    l.number l.at size l.lines) first l.invariant in
+    l.ip4_dashes.now l.ip6_dashes.now l.number l.at size l.lines) first l.invariant in
     let is_class = c.class-class.ensures in
     let is_now : c.add.new.self ≡ counted p.class l.counts = c.add.ensures
     ∙ ap (λ class. counted class l.counts) is_class in
-    let is_count : c.count-count.result ≡ form.categories = c.count-count.ensures.value ∙ c.categories.ensures in
+    let is_count : c.count-count.result ≡ form.categories = c.count-count.ensures.value
+    ∙ c.categories.ensures.count in
     elim c.match-class.branch [
       | in-Ip4 w ↦
           let line = w.write_line-at.ensures in
           Written-next so_far is_now c.advance.ensures w.at-is w.lines-is line.end line.lines line.len
           (answered_ip4 so_far.answered (sym is_class ∙ w.in-Ip4.is) is_count
           (ap (λ ip4. ip4.now) w.ip4-is ∙ w.take_front-verdicts.ensures.rest) (ap (λ ip6. ip6.now) w.ip6-is))
+          (λ asked.
+          marked_ip4 (so_far.marked asked) (sym is_class ∙ w.in-Ip4.is) is_count
+          (ap (λ ip4. ip4.now) w.ip4_dashes-is ∙ w.take_dashes-dashes.ensures.rest asked)
+          (ap (λ ip6. ip6.now) w.ip6_dashes-is))
       | in-Ip6 w ↦
           let line = w.write_line-at-in-Ip6.ensures in
           Written-next so_far is_now c.advance.ensures w.at-is w.lines-is line.end line.lines line.len
           (answered_ip6 so_far.answered (sym is_class ∙ w.in-Ip6.is) is_count (ap (λ ip4. ip4.now) w.ip4-is)
           (ap (λ ip6. ip6.now) w.ip6-is ∙ w.take_front-verdicts-in-Ip6.ensures.rest))
+          (λ asked.
+          marked_ip6 (so_far.marked asked) (sym is_class ∙ w.in-Ip6.is) is_count (ap (λ ip4. ip4.now) w.ip4_dashes-is)
+          (ap (λ ip6. ip6.now) w.ip6_dashes-is ∙ w.take_dashes-dashes-in-Ip6.ensures.rest asked))
       | in-Other w ↦
           let line = w.write_line-at-in-Other.ensures in
           Written-next so_far is_now c.advance.ensures w.at-is w.lines-is line.end line.lines line.len
           (answered_none so_far.answered is_class w.in-Other.is (ap (λ ip4. ip4.now) w.ip4-is)
           (ap (λ ip6. ip6.now) w.ip6-is))
+          (λ asked.
+          marked_none (so_far.marked asked) is_class w.in-Other.is (ap (λ ip4. ip4.now) w.ip4_dashes-is)
+          (ap (λ ip6. ip6.now) w.ip6_dashes-is))
     ]
+
+pub take_dashes-dashes-requires : goal.take_dashes-dashes-requires
+take_dashes-dashes-requires c asked =
+    let left = left_is c.args.packets.now c.loop-packet.packet-index c.packet-item.result
+    (omega (arith, c.loop-packet-test.true)) c.packet-item.is in
+    let marked = subst (λ (left : List FrameClass). AreMarked c.args.form.now left c.loop-packet.ip4_dashes.now
+    c.loop-packet.ip6_dashes.now) left (c.loop-packet.invariant.marked asked) in
+    let front = front_ip4 marked (sym c.class-class.ensures ∙ c.in-Ip4.is)
+    (c.count-count.ensures.value ∙ c.categories.ensures.count) in
+    front.0
+
+pub take_dashes-dashes-requires-in-Ip6 : goal.take_dashes-dashes-requires-in-Ip6
+take_dashes-dashes-requires-in-Ip6 c asked =
+    let left = left_is c.args.packets.now c.loop-packet.packet-index c.packet-item.result
+    (omega (arith, c.loop-packet-test.true)) c.packet-item.is in
+    let marked = subst (λ (left : List FrameClass). AreMarked c.args.form.now left c.loop-packet.ip4_dashes.now
+    c.loop-packet.ip6_dashes.now) left (c.loop-packet.invariant.marked asked) in
+    let front = front_ip6 marked (sym c.class-class.ensures ∙ c.in-Ip6.is)
+    (c.count-count.ensures.value ∙ c.categories.ensures.count) in
+    front.0
+
+pub write_line-at-requires-clause-dashes : goal.write_line-at-requires-clause-dashes
+write_line-at-requires-clause-dashes c asked =
+    let left = left_is c.args.packets.now c.loop-packet.packet-index c.packet-item.result
+    (omega (arith, c.loop-packet-test.true)) c.packet-item.is in
+    let marked = subst (λ (left : List FrameClass). AreMarked c.args.form.now left c.loop-packet.ip4_dashes.now
+    c.loop-packet.ip6_dashes.now) left (c.loop-packet.invariant.marked asked) in
+    let front = front_ip4 marked (sym c.class-class.ensures ∙ c.in-Ip4.is)
+    (c.count-count.ensures.value ∙ c.categories.ensures.count) in
+    c.take_dashes-dashes.ensures.front asked ∙ front.1
+
+pub write_line-at-requires-in-Ip6-clause-dashes : goal.write_line-at-requires-in-Ip6-clause-dashes
+write_line-at-requires-in-Ip6-clause-dashes c asked =
+    let left = left_is c.args.packets.now c.loop-packet.packet-index c.packet-item.result
+    (omega (arith, c.loop-packet-test.true)) c.packet-item.is in
+    let marked = subst (λ (left : List FrameClass). AreMarked c.args.form.now left c.loop-packet.ip4_dashes.now
+    c.loop-packet.ip6_dashes.now) left (c.loop-packet.invariant.marked asked) in
+    let front = front_ip6 marked (sym c.class-class.ensures ∙ c.in-Ip6.is)
+    (c.count-count.ensures.value ∙ c.categories.ensures.count) in
+    c.take_dashes-dashes-in-Ip6.ensures.front asked ∙ front.1
