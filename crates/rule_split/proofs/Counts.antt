@@ -1,7 +1,7 @@
 -- What is known of groups that were counted.
 use Rattle.std.proofs.Common.{◌≡◌, ℕ, ◌+◌, ◌==◌, ◌<◌, ◌≤◌, ◌-◌, ◌&&◌, ◌++◌, List, [], ◌∷◌, length, map, take, drop}
 use Rattle.std.proofs.Common.{filter, All, Option, Some, None, not, cond, refl, sym, ap, ◌∙◌, inl, inr, arith}
-use Rattle.std.specs.Prelude.{fold, max, nat_lt}
+use Rattle.std.specs.Prelude.{fold, max, nat_le, nat_lt}
 use Rattle.std.specs.List.{sum_by, position, position_or_len, filter_map, insert}
 use Rattle.std.specs.Option.{option_to_list, option_map_or}
 use Rattle.std.proofs.lemmas.Bool.{cases_Bool, cond-true, cond-false, le-leb, lt-leb}
@@ -13,18 +13,20 @@ use Rattle.rule_set.specs.Rule.{RuleSetView}
 use Rattle.table_sizes.specs.Sizes.{row_len}
 use Rattle.group_states.specs.Levels.{LevelsView}
 use Rattle.rule_split.specs.declared.counted.Counted.{Counted}
-use Rattle.rule_split.specs.declared.counted.Counted.TheVariants.{Fits, TooLarge}
+use Rattle.rule_split.specs.declared.counted.Counted.TheVariants.{Fits, TooLarge, Uncounted}
 use Rattle.rule_split.specs.Counted.{group_in, levels_in, words_counted, words_to_split, most_counted, is_most}
 use Rattle.rule_split.specs.Counted.{IsCounted}
-use Rattle.rule_split.specs.Split.{can_split, capped, total, most_words, split_place, split_at, turn, words_of_group}
+use Rattle.rule_split.specs.Split.{can_split, capped, total, most_words, split_place, split_at, to_split, turn}
+use Rattle.rule_split.specs.Split.{words_of_group}
 
 -- a group that was counted rightly has the words of its group, or one more than the budget
-counted_is : (set : RuleSetView) (budget : ℕ) (group : Counted) → IsCounted set budget group →
+pub counted_is : (set : RuleSetView) (budget : ℕ) (group : Counted) → IsCounted set budget group →
     words_counted budget group ≡ capped (words_of_group set) budget (group_in group)
 counted_is set budget (Fits levels) is =
     let same = ap (λ (l : LevelsView). l.words) is.0 in
     omega (arith, same, is.1)
 counted_is set budget (TooLarge group) is = omega (arith, is)
+counted_is set budget (Uncounted group) is = absurd is
 
 module _ (set : RuleSetView) (budget : ℕ) where
   -- the group was counted rightly
@@ -36,7 +38,7 @@ module _ (set : RuleSetView) (budget : ℕ) where
   cost = capped (words_of_group set) budget
 
   -- the sum of their words
-  sum_is : (groups : List Counted) → All Right groups →
+  pub sum_is : (groups : List Counted) → All Right groups →
       sum_by (words_counted budget) groups ≡ sum_by cost (map group_in groups)
   sum_is [] right = refl
   sum_is (group ∷ groups) right =
@@ -94,33 +96,42 @@ module _ (set : RuleSetView) (budget : ℕ) where
       row_len + sum_by (words_counted budget) groups ≡ total (words_of_group set) budget (map group_in groups)
   total_is groups right = ap (λ words. row_len + words) (sum_is groups right)
 
-  -- a turn where the total is within the budget
-  pub turn_fits : (groups : List Counted) (words : ℕ) → All Right groups →
+  -- where the total is within the budget no group is to be split
+  pub fits_is : (groups : List Counted) (words : ℕ) → All Right groups →
       words ≡ row_len + sum_by (words_counted budget) groups → words ≤ budget →
-      map group_in groups ≡ turn (words_of_group set) set budget (map group_in groups)
-  unfolding turn
-  turn_fits groups words right is within =
+      None ≡ to_split (words_of_group set) budget (map group_in groups)
+  unfolding to_split
+  fits_is groups words right is within =
       sym (cond-true _ _ _ (le-leb (total (words_of_group set) budget (map group_in groups)) budget
       (omega (arith, is, within, total_is groups right))))
 
-  -- a turn where it is above
-  pub turn_over : (groups : List Counted) (words : ℕ) (found : Option ℕ) → All Right groups →
+  -- where it is above, that of most words is
+  pub most_is_found : (groups : List Counted) (words : ℕ) (found : Option ℕ) → All Right groups →
       words ≡ row_len + sum_by (words_counted budget) groups → budget < words →
       found ≡ position (is_most budget (most_counted budget groups)) groups →
-      turn (words_of_group set) set budget (map group_in groups)
-      ≡ option_map_or (split_at set (map group_in groups)) found (map group_in groups)
-  unfolding turn
-  turn_over groups words found right is above at =
-      cond-false _ _ _ (lt-leb (total (words_of_group set) budget (map group_in groups)) budget
-      (omega (arith, is, above, total_is groups right)))
-      ∙ ap (λ place. option_map_or (split_at set (map group_in groups)) place (map group_in groups))
-      (sym (at ∙ place_is groups right))
+      found ≡ to_split (words_of_group set) budget (map group_in groups)
+  unfolding to_split
+  most_is_found groups words found right is above at =
+      at ∙ place_is groups right
+      ∙ sym (cond-false _ _ _ (lt-leb (total (words_of_group set) budget (map group_in groups)) budget
+      (omega (arith, is, above, total_is groups right))))
+
+-- a turn makes the group two that is to be split
+pub turn_is_split : (set : RuleSetView) (budget : ℕ) (groups : List (List ℕ)) →
+    turn (words_of_group set) set budget groups
+    ≡ option_map_or (split_at set groups) (to_split (words_of_group set) budget groups) groups
+unfolding turn to_split
+turn_is_split set budget groups = elim (cases_Bool (nat_le (total (words_of_group set) budget groups) budget)) [
+  | inl fits ↦ rw fits refl
+  | inr over ↦ rw over refl
+]
 
 -- merged states after those that are kept
 pub levels_more : (groups : List Counted) (group : Counted) →
     filter_map levels_in (groups ++ group ∷ []) ≡ filter_map levels_in groups ++ option_to_list (levels_in group)
 levels_more groups (Fits levels) = filter_map-append levels_in groups (Fits levels ∷ [])
 levels_more groups (TooLarge group) = filter_map-append levels_in groups (TooLarge group ∷ [])
+levels_more groups (Uncounted group) = filter_map-append levels_in groups (Uncounted group ∷ [])
 
 -- two elements in the place of one
 pub two_in : {X : Type 0} (xs : List X) (place : ℕ) (one other : X) → place ≤ length xs →

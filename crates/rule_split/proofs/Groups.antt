@@ -4,7 +4,8 @@ use Rattle.std.proofs.Common.{drop, get_or, All, Option, Some, None, refl, sym, 
 use Rattle.std.specs.Prelude.{nat_le}
 use Rattle.std.specs.List.{Contains, range_with_len}
 use Rattle.std.specs.List.Sorted.{IsStrictlyIncreasing}
-use Rattle.std.proofs.lemmas.Bool.{cases_Bool, and_parts, leb-true, eqb-true, eqb-false}
+use Rattle.std.proofs.lemmas.Bool.{cases_Bool, cond-true, cond-false, and_parts, leb-true, eqb-true, eqb-false}
+use Rattle.std.proofs.lemmas.Option.{none-some}
 use Rattle.std.proofs.lemmas.List.{take-append-drop, append-nil, append_assoc, length-append, length-take}
 use Rattle.std.proofs.lemmas.List.{length-drop}
 use Rattle.std.proofs.lemmas.List.Concat.{flat_map-cons}
@@ -21,7 +22,8 @@ use Rattle.rule_set.specs.Groups.{IsPartition}
 use Rattle.rule_set.proofs.Offered.{places_in, place_of_set}
 use Rattle.list_lemmas.proofs.Counts.{increasing_range}
 use Rattle.group_states.specs.Levels.{IsGroup}
-use Rattle.rule_split.specs.Split.{can_split, capped, total, most_words, split_place, split_at, turn, turns}
+use Rattle.rule_split.specs.Split.{can_split, capped, total, most_words, split_place, split_at, to_split}
+use Rattle.rule_split.specs.Split.{turn, turns}
 use Rattle.rule_split.specs.Split.{first_groups, groups_by, groups_of, words_of_group}
 use Rattle.std.specs.Option.{option_map_or}
 use Rattle.rule_split.specs.Laws.{GroupsHoldEachRuleOnce}
@@ -123,6 +125,17 @@ found_is words budget groups place found =
     groups place [] found in
     let group : List ℕ = get_or groups place [] in
     (at.0, leb-true 2 (length group) (and_parts (can_split group) _ at.1).0)
+
+-- a group that a turn makes two is one of them
+pub to_split_within : (words : List ℕ → ℕ) (budget : ℕ) (groups : List (List ℕ)) (place : ℕ) →
+    to_split words budget groups ≡ Some place → place < length groups
+unfolding to_split
+to_split_within words budget groups place found = elim (cases_Bool (nat_le (total words budget groups) budget)) [
+  | inl fits ↦ absurd (none-some place (sym (cond-true _ None (split_place words budget groups) fits) ∙ found))
+  | inr over ↦
+      (found_is words budget groups place
+      (sym (cond-false _ None (split_place words budget groups) over) ∙ found)).0
+]
 
 -- one turn, by whether a group is found
 turn_is_by : (words : List ℕ → ℕ) (set : RuleSetView) (budget n : ℕ) (groups : List (List ℕ)) (found : Option ℕ) →

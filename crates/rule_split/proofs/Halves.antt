@@ -102,23 +102,8 @@ divided_is set group rises two = elim (cases_Bool (greatest (smaller_sides set g
 ]
 
 -- what holds of all of two joined lists holds of all of each
-parts_hold : (P : ℕ → Type 0) (xs ys : List ℕ) → All P (xs ++ ys) → All P xs × All P ys
+pub parts_hold : {X : Type 0} (P : X → Type 0) (xs ys : List X) → All P (xs ++ ys) → All P xs × All P ys
 parts_hold P xs ys all = (
   rw (← take-append_seam xs ys) (All-take P (length xs) (xs ++ ys) all),
   rw (← drop-append_seam xs ys) (All-drop P (length xs) (xs ++ ys) all),
 )
-
--- both groups that a group of a set becomes are of the set
-pub groups_of_two : (set : RuleSetView) (group one other : List ℕ) → IsGroup set group → 2 ≤ length group →
-    one ∷ other ∷ [] ≡ divided set group → IsGroup set one × IsGroup set other
-groups_of_two set group one other is some same =
-    let becomes = divided_is set group is.ascending some in
-    let equal = same ∙ becomes.2 in
-    let first : one ≡ becomes.0 = ap (λ groups. get_or groups 0 []) equal in
-    let second : other ≡ becomes.1 = ap (λ groups. get_or groups 1 []) equal in
-    let two = becomes.3 in
-    let within = parts_hold (λ number. number < length set.rules) becomes.0 becomes.1
-    (All-permutation (λ number. number < length set.rules) group (becomes.0 ++ becomes.1) two.once is.within) in (
-      rw first record { some = two.one_some; ascending = two.one_rises; within = within.0 },
-      rw second record { some = two.other_some; ascending = two.other_rises; within = within.1 },
-    )

@@ -4,8 +4,10 @@ pub mod Groups
 pub mod Halves
 pub mod Offered
 pub mod Plans
+pub mod Searching
 pub mod Sides
 pub mod Splitting
 pub mod Totals
+pub mod Turns
 pub mod Values
 pub mod Winners

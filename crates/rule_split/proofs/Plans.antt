@@ -9,7 +9,7 @@ use Rattle.rule_set.specs.Groups.{IsPartition}
 use Rattle.table_sizes.specs.Sizes.{max_tries, row_len}
 use Rattle.group_states.specs.Levels.{levels_of}
 use Rattle.rule_split.specs.declared.counted.Counted.{Counted}
-use Rattle.rule_split.specs.declared.counted.Counted.TheVariants.{Fits, TooLarge}
+use Rattle.rule_split.specs.declared.counted.Counted.TheVariants.{Fits, TooLarge, Uncounted}
 use Rattle.rule_split.specs.Counted.{group_in, levels_in, words_counted, IsCounted}
 use Rattle.rule_split.specs.Split.{turn, turns, first_groups, groups_by, groups_of, total, total_of, words_of_group}
 use Rattle.rule_split.proofs.Counts.{total_is}
@@ -80,3 +80,5 @@ module _ (set : RuleSetView) (budget : ℕ) where
       λ i. here.0 i ∷ rest i
   all_kept (TooLarge group ∷ groups) right within =
       absurd (omega (arith, sum_by-cons (words_counted budget) (TooLarge group) groups, within))
+  all_kept (Uncounted group ∷ groups) right within =
+      absurd (All-head (IsCounted set budget) (Uncounted group) groups right)

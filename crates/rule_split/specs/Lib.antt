@@ -1,4 +1,5 @@
 pub mod Counted
+pub mod CountedExamples
 pub mod Divide
 pub mod DivideExamples
 pub mod Ended

@@ -2,7 +2,7 @@
 -- keep within a budget (after DPDK's `lib/acl`, `acl_bld.c`, which makes further tries where one
 -- would have too many nodes; the rule is ours). All groups are counted anew at each turn.
 use Rattle.std.specs.Prelude.{ℕ, ◌+◌, ◌-◌, ◌==◌, List, [], ◌∷◌, ◌++◌, length, map, filter, take}
-use Rattle.std.specs.Prelude.{drop, min, slice_index_or, nat_le, Bool, ◌&&◌, Option, if◌then◌else◌}
+use Rattle.std.specs.Prelude.{drop, min, slice_index_or, nat_le, Bool, ◌&&◌, Option, None, if◌then◌else◌}
 use Rattle.std.specs.List.{position, range_with_len, sum_by}
 use Rattle.std.specs.Option.{option_map_or}
 use Rattle.std.proofs.Common.{zero, suc}
@@ -34,6 +34,11 @@ unfoldable pub split_place : (List ℕ → ℕ) → ℕ → List (List ℕ) → 
 split_place words budget groups =
     position (λ group. can_split group
     && capped words budget group == most_words words budget groups) groups
+
+-- the place of the group that one turn makes two: none where the total is within the budget
+unfoldable pub to_split : (List ℕ → ℕ) → ℕ → List (List ℕ) → Option ℕ
+to_split words budget groups =
+    if nat_le (total words budget groups) budget then None else split_place words budget groups
 
 -- the groups where the one at the place has become two
 unfoldable pub split_at : RuleSetView → List (List ℕ) → ℕ → List (List ℕ)

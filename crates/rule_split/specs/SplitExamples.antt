@@ -7,7 +7,7 @@ use Rattle.field_defs.specs.declared.field.FieldValue.{FieldValue}
 use Rattle.field_defs.specs.declared.field.FieldValue.TheVariants.{Mask}
 use Rattle.rule_set.specs.Rule.{RuleSetView}
 use Rattle.rule_split.specs.Divide.{wild_rules, bound_rules, smaller_sides, divided}
-use Rattle.rule_split.specs.Split.{total, split_place, split_at, turn, turns, groups_by}
+use Rattle.rule_split.specs.Split.{total, split_place, to_split, split_at, turn, turns, groups_by}
 use Rattle.rule_split.specs.ExampleRules.{all_wild, addressed, of_packets}
 
 -- a hundred words a rule, and a thousand a group
@@ -47,6 +47,15 @@ most_words_later = refl
 tie_over_the_budget : split_place hundreds 150 ((0 ∷ 1 ∷ []) ∷ (2 ∷ 3 ∷ 4 ∷ []) ∷ []) ≡ Some 0
 unfolding split_place
 tie_over_the_budget = refl
+
+-- a turn makes none two where the total is within the budget
+none_within : to_split hundreds 516 ((0 ∷ 1 ∷ []) ∷ (2 ∷ 3 ∷ 4 ∷ []) ∷ []) ≡ None
+unfolding to_split split_place
+none_within = refl
+
+most_above : to_split hundreds 515 ((0 ∷ 1 ∷ []) ∷ (2 ∷ 3 ∷ 4 ∷ []) ∷ []) ≡ Some 1
+unfolding to_split split_place
+most_above = refl
 
 no_group_to_split : split_place hundreds 50 ((0 ∷ []) ∷ (1 ∷ []) ∷ []) ≡ None
 unfolding split_place

@@ -6,7 +6,8 @@
 //! budget. After DPDK's `lib/acl`, `acl_bld.c`, which makes at most `RTE_ACL_MAX_TRIES` tries.
 //!
 //! - `divide`: how one group becomes two
-//! - `counted`: a group whose words were counted
+//! - `counted`: a group, and what is known of its words
+//! - `turn`: which group a turn makes two, with no group counted further than that needs
 //! - `split`: [`plan`], turn by turn, and [`Split`], which says whether the words fit before it is
 //!   a plan
 //! - `answer`: a plan, or why there is none
@@ -18,6 +19,7 @@ mod counted;
 mod divide;
 pub mod laws;
 mod split;
+mod turn;
 
 pub use answer::{Plan, PlanFault};
 pub use split::{Split, plan};

@@ -1,14 +1,13 @@
 //! The split of a rule set under a budget of words, turn by turn.
 
-ghost use Rattle.std.specs.Prelude.{◌≡◌, ℕ, ◌+◌, ◌<◌, ◌≤◌, ◌∷◌, ◌++◌, length, map, take, drop};
-ghost use Rattle.std.specs.Prelude.{All, [], slice_index_or, Err, IfErr, IfOk, OnErr, OnOk};
+ghost use Rattle.std.specs.Prelude.{◌≡◌, ℕ, ◌<◌, ◌≤◌, ◌∷◌, ◌++◌, length, map, take, drop};
+ghost use Rattle.std.specs.Prelude.{All, [], Err, IfErr, IfOk, OnErr, OnOk};
 ghost use Rattle.std.specs.Option.{option_to_list};
-ghost use Rattle.std.specs.List.{filter_map, position, range_with_len, sum_by};
+ghost use Rattle.std.specs.List.{filter_map, range_with_len};
 ghost use Rattle.rule_set.specs.Groups.{IsPartition};
-ghost use Rattle.table_sizes.specs.Sizes.{max_tries, max_words, row_len};
+ghost use Rattle.table_sizes.specs.Sizes.{max_tries, max_words};
 ghost use Rattle.rule_split.specs.declared.answer.PlanFault.TheVariants.{OutOfMemory, TooLarge};
-ghost use Rattle.rule_split.specs.Counted.{group_in, levels_in, words_counted, most_counted};
-ghost use Rattle.rule_split.specs.Counted.{is_most, IsCounted, IsWithin};
+ghost use Rattle.rule_split.specs.Counted.{group_in, levels_in, IsCounted, IsRight};
 ghost use Rattle.rule_split.specs.Ended.{IsSplit, plan_in};
 ghost use Rattle.rule_split.specs.Split.{plan_of, total_of, split_at, turn, groups_of};
 ghost use Rattle.rule_split.specs.Split.{words_of_group, first_groups};
@@ -16,47 +15,12 @@ ghost use Rattle.rule_split.specs.Split.{words_of_group, first_groups};
 use crate::answer::{Plan, PlanFault};
 use crate::counted::Counted;
 use crate::divide::divide;
+use crate::turn::{count_whole, find_over, total};
 use rule_set::RuleSet;
 use std::alloc::{AllocError, Global};
 use std::marker::Model;
-use table_sizes::{MAX_TRIES, ROW_LEN};
+use table_sizes::MAX_TRIES;
 use trie_merge::Levels;
-
-/// The words of a table of the groups: those of each, and one row for keys that no rule matches.
-fn total(groups: &[Counted], budget: u64) -> u64
-    requires few { length groups.now ≤ max_tries }
-    requires budget { budget ≤ max_words }
-    requires within { All (IsWithin budget) groups.now }
-    ensures { result ≡ row_len + sum_by (words_counted budget) groups.now }
-{
-    let mut words = ROW_LEN as u64;
-    for group in groups {
-        words += group.words(budget);
-    }
-    words
-}
-
-/// The most words of a group that can be split, and 0 where none can.
-fn most_words(groups: &[Counted], budget: u64) -> u64
-    requires { budget ≤ max_words }
-    ensures { result ≡ most_counted budget groups.now }
-{
-    let mut most = 0;
-    for group in groups {
-        most = most.max(group.words_to_split(budget));
-    }
-    most
-}
-
-/// The place of the group that is split, or none where no group can be.
-fn split_place(groups: &[Counted], budget: u64) -> Option<usize>
-    requires { budget ≤ max_words }
-    ensures { result
-        ≡ position (λ group. is_most budget (most_counted budget groups.now) group) groups.now }
-{
-    let most = most_words(groups, budget);
-    groups.iter().position(|group| group.is_most(budget, most))
-}
 
 /// Puts two groups before the group at the place, or after the last one.
 fn put_two(
@@ -82,32 +46,25 @@ fn put_last(groups: &mut Vec<Counted>, group: Counted) -> Result<(), AllocError>
     Ok(())
 }
 
-/// Splits the group at the place in two, and counts both.
+/// Splits the group at the place in two, neither of which is counted yet.
 fn split_at(
     alloc: Global,
     rules: &RuleSet,
-    budget: u64,
     groups: &mut Vec<Counted>,
     place: usize,
-) -> Result<(), PlanFault>
-    requires budget { budget ≤ max_words }
+) -> Result<(), AllocError>
     requires place { place < length groups.old.items }
-    requires two { 2 ≤ length (slice_index_or (map group_in groups.old.items) place []) }
     requires partition { IsPartition (length rules.now.rules) (map group_in groups.old.items) }
-    requires counted { All (IsCounted rules.now budget) groups.old.items }
     ensures groups { OnOk result (map group_in groups.new.items
         ≡ split_at rules.now (map group_in groups.old.items) place) }
-    ensures counted { OnOk result (All (IsCounted rules.now budget) groups.new.items) }
-    ensures memory { IfErr result (λ fault. fault ≡ OutOfMemory) }
+    ensures right { (budget : ℕ) → All (IsRight rules.now budget) groups.old.items →
+        OnOk result (All (IsRight rules.now budget) groups.new.items) }
 {
     let group = groups.remove(place);
     let two = divide(alloc, rules, group.group())?;
-    // What was built for the whole group isn't needed any more.
-    drop(group);
-    let first = Counted::new(alloc, rules, two.first, budget)?;
-    let second = Counted::new(alloc, rules, two.second, budget)?;
-    put_two(groups, place, first, second)?;
-    Ok(())
+    let first = Counted::Uncounted(two.first);
+    let second = Counted::Uncounted(two.second);
+    put_two(groups, place, first, second)
 }
 
 /// Takes one turn: where the total is above the budget, the group of most words becomes two.
@@ -120,18 +77,18 @@ fn take_turn(
     requires budget { budget ≤ max_words }
     requires few { length groups.old.items ≤ max_tries }
     requires partition { IsPartition (length rules.now.rules) (map group_in groups.old.items) }
-    requires counted { All (IsCounted rules.now budget) groups.old.items }
+    requires right { All (IsRight rules.now budget) groups.old.items }
     ensures groups { OnOk result (map group_in groups.new.items
         ≡ turn (words_of_group rules.now) rules.now budget (map group_in groups.old.items)) }
-    ensures counted { OnOk result (All (IsCounted rules.now budget) groups.new.items) }
+    ensures right { OnOk result (All (IsRight rules.now budget) groups.new.items) }
     ensures memory { IfErr result (λ fault. fault ≡ OutOfMemory) }
 {
-    if total(groups.as_slice(), budget) <= budget {
-        return Ok(());
-    }
-    match split_place(groups.as_slice(), budget) {
+    match find_over(alloc, rules, budget, groups)? {
         None => Ok(()),
-        Some(place) => split_at(alloc, rules, budget, groups, place),
+        Some(place) => {
+            split_at(alloc, rules, groups, place)?;
+            Ok(())
+        }
     }
 }
 
@@ -148,19 +105,37 @@ fn all_rules(alloc: Global, rules: &RuleSet) -> Result<Vec<u32>, AllocError>
 }
 
 /// The groups before the first turn: one of all rules, or none where there is no rule.
-fn first_groups(alloc: Global, rules: &RuleSet, budget: u64) -> Result<Vec<Counted>, PlanFault>
-    requires { budget ≤ max_words }
+fn first_groups(alloc: Global, rules: &RuleSet) -> Result<Vec<Counted>, AllocError>
     ensures groups { IfOk result (λ groups. map group_in groups.items ≡ first_groups rules.now) }
-    ensures counted { IfOk result (λ groups. All (IsCounted rules.now budget) groups.items) }
-    ensures memory { IfErr result (λ fault. fault ≡ OutOfMemory) }
+    ensures right { (budget : ℕ) →
+        IfOk result (λ groups. All (IsRight rules.now budget) groups.items) }
 {
     let mut groups = Vec::with_capacity(alloc, MAX_TRIES)?;
     if !rules.is_empty() {
         let all = all_rules(alloc, rules)?;
-        let group = Counted::new(alloc, rules, all, budget)?;
-        put_last(&mut groups, group)?;
+        put_last(&mut groups, Counted::Uncounted(all))?;
     }
     Ok(groups)
+}
+
+/// Counts what no turn needed to count, so that the total is exact.
+fn count_all(
+    alloc: Global,
+    rules: &RuleSet,
+    budget: u64,
+    groups: &mut Vec<Counted>,
+) -> Result<(), PlanFault>
+    requires budget { budget ≤ max_words }
+    requires partition { IsPartition (length rules.now.rules) (map group_in groups.old.items) }
+    requires right { All (IsRight rules.now budget) groups.old.items }
+    ensures groups { OnOk result (map group_in groups.new.items ≡ map group_in groups.old.items) }
+    ensures counted { OnOk result (All (IsCounted rules.now budget) groups.new.items) }
+    ensures memory { IfErr result (λ fault. fault ≡ OutOfMemory) }
+{
+    for place in 0..groups.len() {
+        count_whole(alloc, rules, budget, groups, place)?;
+    }
+    Ok(())
 }
 
 /// The groups after the last turn. Each turn adds at most one.
@@ -171,10 +146,11 @@ fn last_groups(alloc: Global, rules: &RuleSet, budget: u64) -> Result<Vec<Counte
     ensures counted { IfOk result (λ groups. All (IsCounted rules.now budget) groups.items) }
     ensures memory { IfErr result (λ fault. fault ≡ OutOfMemory) }
 {
-    let mut groups = first_groups(alloc, rules, budget)?;
+    let mut groups = first_groups(alloc, rules)?;
     for _ in 0..MAX_TRIES - 1 {
         take_turn(alloc, rules, budget, &mut groups)?;
     }
+    count_all(alloc, rules, budget, &mut groups)?;
     Ok(groups)
 }
 
@@ -188,6 +164,7 @@ fn put_levels(kept: &mut Vec<Levels>, group: Counted) -> Result<(), AllocError>
             Ok(())
         }
         Counted::TooLarge(_) => Ok(()),
+        Counted::Uncounted(_) => Ok(()),
     }
 }
 
@@ -233,8 +210,8 @@ impl Split {
     /// no group can be split or there are eight.
     ///
     /// The budget is from 1 to [`table_sizes::MAX_WORDS`] words. It takes memory for the merged
-    /// states of each group, and the only fault is want of it. Each group is counted once, when it
-    /// is made, so at most fifteen are.
+    /// states of each group, and the only fault is want of it. A group is counted at most once, and
+    /// only as far as the split needs it.
     pub fn new(alloc: Global, rules: &RuleSet, budget: u64) -> Result<Self, PlanFault>
         requires some { 0 < budget }
         requires budget { budget ≤ max_words }

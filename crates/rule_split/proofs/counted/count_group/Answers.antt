@@ -1,7 +1,7 @@
-use Rattle.std.proofs.Common.{ap, sym, ◌∙◌}
+use Rattle.std.proofs.Common.{ap, sym, ◌∙◌, arith}
 use Rattle.group_states.specs.Levels.{LevelsView, levels_of}
 use Rattle.rule_split.proofs.Totals.{group_of_levels}
-use Rattle.rule_split.proofs.counted.Counted.new.Goals as goal
+use Rattle.rule_split.proofs.counted.count_group.Goals as goal
 
 pub returns-in-Ok-clause-group : goal.returns-in-Ok-clause-group
 returns-in-Ok-clause-group c =
@@ -15,5 +15,5 @@ returns-in-Ok-clause-counted c = (
       ∙ ap (levels_of c.args.rules.now)
       (sym (ap (λ (levels : LevelsView). levels.group) c.in-Ok.ensures.levels
       ∙ group_of_levels c.args.rules.now c.as_slice.result.now)),
-  c.in-Ok.ensures.within,
+  omega (arith, c.in-Ok.ensures.within, c.requires.cap),
 )

@@ -2,7 +2,7 @@ use Rattle.std.proofs.Common.{◌≡◌, ◌+◌, ◌*◌, ◌≤◌, take}
 use Rattle.std.specs.List.{sum_by}
 use Rattle.table_sizes.specs.Sizes.{max_words, row_len}
 use Rattle.rule_split.specs.Counted.{words_counted}
-use Rattle.rule_split.proofs.split.total.Given as goal
+use Rattle.rule_split.proofs.turn.total.Given as goal
 
 -- the words of the groups so far, which are few
 abbrev pub invariant-loop-group : goal.invariant-loop-group
