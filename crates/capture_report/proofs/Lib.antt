@@ -6,6 +6,7 @@ mod LineLaws
 mod Marks
 pub mod Offered
 mod Reader
+mod Hearing
 mod Reporting
 mod Shown
 mod Streaming

@@ -4,9 +4,8 @@ use Rattle.std.proofs.Common.{None, Result, Ok, Err, inl, inr, refl, sym, subst,
 use Rattle.std.proofs.lemmas.Bool.{false≢true}
 use Rattle.std.specs.Option.{option_map_or}
 use Rattle.acl_outside.specs.Fault.{Rose}
-use Rattle.acl_outside.specs.Desk.{File, DeskView, OpensFile}
-use Rattle.acl_outside.specs.Heard.{Heard, Ending, NotOpened, GoesOn, Ended, BrokenOff, heard, opening_of}
-use Rattle.acl_outside.specs.DeskReading.{ReadsOn}
+use Rattle.acl_outside.specs.Desk.{DeskView, OpensFile}
+use Rattle.acl_outside.specs.Heard.{Ending, NotOpened, GoesOn, Ended, BrokenOff, heard, opening_of}
 use Rattle.acl_outside.specs.Sink.{SinkView, Gains, GainsPrefix}
 use Rattle.acl_outside.proofs.Offered.{ReadsOn-none, ReadsOn-then}
 use Rattle.pcap_reader.specs.declared.capture_fault.CaptureFault.{CaptureFault}
@@ -15,72 +14,26 @@ use Rattle.pcap_reader.specs.State.{CaptureRecord}
 use Rattle.pcapng_reader.specs.Capture.{AnyState, Recorded, capture_of, records_from, whole_records, records_in}
 use Rattle.pcapng_reader.specs.Reader.{ReadsStart}
 use Rattle.pcapng_reader.specs.BlockReading.{stands}
-use Rattle.pcap_reader.specs.Fill.{KeepsReading, IsAtEnd}
 use Rattle.pcap_reader.proofs.Offered.{KeepsReading-same, KeepsReading-join}
 use Rattle.command_ending.specs.declared.status.Status.{Status}
 use Rattle.command_ending.specs.declared.status.Status.TheVariants.{CaptureRefused, ReadFault, WriteFault, OutOfMemory}
 use Rattle.capture_report.specs.ReportForm.{ReportForm}
 use Rattle.capture_report.specs.Report.{lines_of_records, transitions_of_records}
 use Rattle.command_ending.specs.Plan.{Outcome, Plan, Give, silent, found, settled}
-use Rattle.command_ending.specs.Follow.{Given, Within, IsEnough, IsOpened, IsOneOf, said_in, status_within}
+use Rattle.command_ending.specs.Follow.{Given, Within, IsEnough, IsOpened, status_within}
 use Rattle.command_ending.specs.Endings.{is_decided, is_usage}
 use Rattle.capture_report.specs.CaptureOutcome.{refusal, report, report_of_capture, reported, lines_so_far}
 use Rattle.capture_report.specs.CaptureOutcome.{text_of_records}
 use Rattle.capture_report.specs.Shown.{status_of_fault}
-use Rattle.command_ending.specs.StepEffects.{Outside, outside, files_of, opened_of, heard_of, earlier_of, KeepsFiles, Ends}
+use Rattle.command_ending.specs.StepEffects.{Outside, outside, earlier_of, Ends}
 use Rattle.capture_report.specs.PrintsCapture.{KeepsUp, Reports}
 use Rattle.capture_report.specs.Streams.{Reading, Whole, Part, records_read, text_of, IsUnbroken, AreRead, IsStatus}
 use Rattle.capture_report.specs.Streams.{BreaksOffSoon, Streams}
 use Rattle.command_ending.proofs.Offered.{Gains-none}
-use Rattle.command_ending.proofs.Offered.{heard_file, part_told, opened_told, opened_absent, kept_files, cannot_open}
-use Rattle.command_ending.proofs.Offered.{unopened_kept, undecided_within, CannotRead-because}
+use Rattle.command_ending.proofs.Offered.{cannot_open}
+use Rattle.command_ending.proofs.Offered.{unopened_kept, unopened_told, undecided_within, CannotRead-because}
+use Rattle.capture_report.proofs.Hearing.{file_of, HearsFile, HearsFile-read, open_still, said-opened}
 use Rattle.capture_report.proofs.Reader.{ReadHeader, RefusedHeader, RefusedHeader-from, BrokenHeader, BrokenHeader-from}
-
--- an opened file, of which these bytes were heard
-abbrev file_of : List ℕ → List ℕ → Ending → Heard
-file_of name given ending = record { name = name; bytes = given; ending = ending }
-
--- The named file was opened, these bytes of it were read, and nothing else was asked for.
-record HearsFile (name given : List ℕ) (ending : Ending) (old new : DeskView) : Type 0 where
-  heard : heard_of new ≡ file_of name given ending ∷ heard_of old
-  told : IsOneOf (files_of old) (file_of name given ending)
-  opened : (files : List File) → files_of old ≡ Some files → opened_of new ≡ Some (Some name)
-  absent : (files : List File) → files_of old ≡ Some files → new.absent ≡ old.absent
-  kept : KeepsFiles old new
-
--- an opened file whose reading stands so has this ending
-stood : (ending : Ending) (name given : List ℕ) → stands ending (file_of name given GoesOn)
-    ≡ file_of name given ending
-stood NotOpened name given = refl
-stood GoesOn name given = refl
-stood Ended name given = refl
-stood BrokenOff name given = refl
-
--- a file that was opened and read was heard so
-HearsFile-read : {T E : Type 0} (name given : List ℕ) (ending : Ending) (old mid new : DeskView) (x : T) →
-    OpensFile {E = E} name old mid (Ok x) →
-    ReadsOn (stands ending) given mid new → (ending ≡ Ended → IsAtEnd new) → KeepsReading mid new →
-    HearsFile name given ending old new
-HearsFile-read name given ending old mid new x opens reads at_end keeps = record {
-  heard =
-      heard_file (stands ending) name given old mid new x opens reads
-      ∙ ap (λ (file : Heard). file ∷ heard_of old) (stood ending name given);
-  told = λ files told opened.
-      part_told name given ending old.content mid.content new.content opens.opened reads.told at_end files told;
-  opened = λ files told. opened_told name given old.content mid.content new.content opens.opened reads.told files
-      told;
-  absent = λ files told.
-      keeps.absent ∙ opened_absent name old mid old.content mid.content
-      (λ content at some. (opens.there content at some).0) opens.opened files told;
-  kept = kept_files name given old mid new x opens reads.told keeps.made keeps.counts;
-}
-
--- within an opened file all of the text is said
-said-opened : (ending : Ending) (text : List ℕ) → IsOpened ending → text ≡ said_in ending text
-said-opened NotOpened text opened = absurd opened
-said-opened GoesOn text opened = refl
-said-opened Ended text opened = refl
-said-opened BrokenOff text opened = refl
 
 -- Only a part was read.
 record PutsPart (lines : List ℕ) (ending : Ending) (old new : Outside) (status : Status) : Type 0 where
@@ -128,6 +81,7 @@ Ends-part form name given ending old new status h opened p = record {
   read_fault = λ e. inl (p.read_fault e);
   write_fault = p.write_fault;
   absent = λ files told isnt. h.absent files told;
+  opened = λ files told. open_still ending name new.desk opened (h.opened files told);
   kept = h.kept;
   count = p.count;
 }
@@ -210,6 +164,7 @@ Ends-whole form name given ending old new status h unbroken long p steps =
         | inr failed ↦ failed.2
       ];
       absent = λ files told isnt. h.absent files told;
+      opened = λ files told. tt;
       kept = h.kept;
       count = p.count;
     }
@@ -245,6 +200,7 @@ Reports-unopened form name old new out steps e opens = record {
         (cannot_open name old new opens.cause opens.there);
     write_fault = λ w. absurd (cc);
     absent = λ files told isnt. absurd (isnt refl);
+    opened = λ files told. unopened_told old.content new.content opens.given_up files told;
     kept = unopened_kept name old new e opens;
     count = omega arith;
   };

@@ -1,5 +1,5 @@
 -- A file that is opened and read.
-use Rattle.std.proofs.Common.{◌≡◌, ◌⊎◌, ℕ, ◌<◌, ◌≤◌, List, [], ◌∷◌, length, true, false, Option, Some, None, Ok, Err}
+use Rattle.std.proofs.Common.{◌≡◌, ◌⊎◌, ℕ, ◌<◌, ◌≤◌, List, [], ◌∷◌, length, true, false, Option, Some, None, Result, Ok, Err}
 use Rattle.std.proofs.Common.{IsSome, inl, inr, ap, ◌∙◌, refl, arith, length-take}
 use Rattle.std.proofs.lemmas.List.{drop_all}
 use Rattle.std.specs.Option.{option_map}
@@ -11,8 +11,11 @@ use Rattle.acl_outside.specs.Desk.{File, Content, DeskView, bytes_of, Opens, Giv
 use Rattle.acl_outside.specs.Heard.{Heard, Ending, GoesOn, Ended, BrokenOff, heard, opening_of, change_newest}
 use Rattle.acl_outside.specs.Heard.{with_bytes, with_ending}
 use Rattle.acl_outside.specs.Made.{KeepsMade}
-use Rattle.acl_outside.proofs.Offered.{KeepsMade-opening, KeepsMade-join, KeepsCounts-join}
+use Rattle.acl_outside.specs.Together.{HoldsTogether}
+use Rattle.acl_outside.proofs.Offered.{KeepsMade-opening, KeepsMade-join, KeepsCounts-join, HoldsTogether-opening}
+use Rattle.acl_outside.proofs.Offered.{HoldsTogether-reading}
 use Rattle.acl_outside.specs.DeskReading.{GivesUpTo, ReadsOn, ReadsUpTo, and_goes_on}
+use Rattle.acl_outside.specs.declared.reading.ReadAll.{ReadAll}
 use Rattle.acl_outside.specs.declared.reading.ReadAll.TheVariants as reading
 use Rattle.command_ending.specs.declared.status.Status.TheVariants.{ReadFault, OutOfMemory}
 use Rattle.command_ending.specs.Follow.{IsPartOf}
@@ -69,7 +72,15 @@ unopened_kept name old new e opens = record {
   files = told_files GivesUp (λ a b step. step.files) old.content new.content opens.given_up;
   made = KeepsMade-opening name (Err e) old new opens;
   counts = opens.counts;
+  together = λ before. HoldsTogether-opening name old new (Err e) opens;
 }
+
+-- no file is told to be opened where none could be
+pub unopened_told : (old new : Option Content) → Changes GivesUp old new → (files : List File) →
+    option_map (λ c. c.files) old ≡ Some files → option_map (λ c. c.opened) new ≡ Some None
+unopened_told None new gives_up files told = absurd (cc)
+unopened_told (Some old) None gives_up files told = absurd gives_up
+unopened_told (Some old) (Some new) gives_up files told = ap Some gives_up.opened
 
 -- The file can't be opened.
 pub ReadsFile-unopened : {T E : Type 0} (name : List ℕ) (cap : ℕ) (old new : DeskView) (e : E) →
@@ -85,7 +96,7 @@ ReadsFile-unopened name cap old new e opens = record {
   ending = tt;
   fault = inr (refl, refl);
   read_fault = λ same. cannot_open name old new opens.cause opens.there;
-  opened = λ files told. tt;
+  opened = λ files told. unopened_told old.content new.content opens.given_up files told;
   absent = λ files told isnt. absurd (isnt refl);
   kept = unopened_kept name old new e opens;
 }
@@ -157,14 +168,23 @@ opened_absent name old new (Some content) (Some after) there opens files told =
 -- opening a file and reading it keeps all files
 pub kept_files : {T E : Type 0} (name bytes : List ℕ) (old mid new : DeskView) (x : T) →
     OpensFile {E = E} name old mid (Ok x) →
-    Changes (Gives bytes) mid.content new.content → KeepsMade mid new → KeepsCounts mid new → KeepsFiles old new
-kept_files name bytes old mid new x opens gives made counts = record {
+    Changes (Gives bytes) mid.content new.content → KeepsMade mid new → KeepsCounts mid new → HoldsTogether new →
+    KeepsFiles old new
+kept_files name bytes old mid new x opens gives made counts together = record {
   files =
       told_files (Gives bytes) (λ a b step. step.files) mid.content new.content gives
       ∙ told_files (Opens name) (λ a b step. step.files) old.content mid.content opens.opened;
   made = KeepsMade-join old mid new (KeepsMade-opening name (Ok x) old mid opens) made;
   counts = KeepsCounts-join old mid new opens.counts counts;
+  together = λ before. together;
 }
+
+-- what was heard and what is left are together the file, once it was opened and read up to a cap
+read_together : {T E : Type 0} (name : List ℕ) (cap : ℕ) (old mid new : DeskView) (x : T)
+    (result : Result (Vec ℕ Global) ReadAll) →
+    OpensFile {E = E} name old mid (Ok x) → ReadsUpTo cap mid new result → HoldsTogether new
+read_together name cap old mid new x result opens reads =
+    HoldsTogether-reading cap mid new result (HoldsTogether-opening name old mid (Ok x) opens) reads
 
 -- The file is opened, and read to its end or the cap.
 pub ReadsFile-read : {T E : Type 0} (name : List ℕ) (cap : ℕ) (old mid new : DeskView) (x : T)
@@ -196,7 +216,8 @@ ReadsFile-read name cap old mid new x bytes opens reads = go reads.heard
           files
           told;
       absent = λ files told isnt. absent_kept files told;
-      kept = kept_files name bytes.items old mid new x opens on.told reads.made reads.counts;
+      kept = kept_files name bytes.items old mid new x opens on.told reads.made reads.counts
+          (read_together name cap old mid new x (Ok bytes) opens reads);
     }
     go (inr (on, full)) = record {
       file = record { name = name; bytes = bytes.items; ending = GoesOn };
@@ -214,7 +235,8 @@ ReadsFile-read name cap old mid new x bytes opens reads = go reads.heard
           files
           told;
       absent = λ files told isnt. absent_kept files told;
-      kept = kept_files name bytes.items old mid new x opens on.told reads.made reads.counts;
+      kept = kept_files name bytes.items old mid new x opens on.told reads.made reads.counts
+          (read_together name cap old mid new x (Ok bytes) opens reads);
     }
 
 -- The file is opened, and a read fails.
@@ -235,9 +257,11 @@ ReadsFile-broken name cap old mid new x opens reads =
       ending = tt;
       fault = inr (refl, refl);
       read_fault = λ e. inl (omega (arith, opens.counts.read_faults, reads.read_fault refl));
-      opened = λ files told. tt;
+      opened = λ files told.
+          opened_told name bytes old.content mid.content new.content opens.opened on.told files told;
       absent = λ files told isnt. absurd (isnt refl);
-      kept = kept_files name bytes old mid new x opens on.told reads.made reads.counts;
+      kept = kept_files name bytes old mid new x opens on.told reads.made reads.counts
+          (read_together name cap old mid new x (Err reading.ReadFault) opens reads);
     }
 
 -- The file is opened, and there is no memory for it.
@@ -258,9 +282,11 @@ ReadsFile-full name cap old mid new x opens reads =
       ending = tt;
       fault = inl refl;
       read_fault = λ e. absurd (cc);
-      opened = λ files told. tt;
+      opened = λ files told.
+          opened_told name bytes old.content mid.content new.content opens.opened on.told files told;
       absent = λ files told isnt.
           reads.absent ∙ opened_absent name old mid old.content mid.content
           (λ content at some. (opens.there content at some).0) opens.opened files told;
-      kept = kept_files name bytes old mid new x opens on.told reads.made reads.counts;
+      kept = kept_files name bytes old mid new x opens on.told reads.made reads.counts
+          (read_together name cap old mid new x (Err reading.OutOfMemory) opens reads);
     }

@@ -2,7 +2,6 @@
 use Rattle.std.proofs.Common.{◌≡◌, ◌≢◌, ◌⊎◌, ℕ, List, [], ◌∷◌, ◌++◌, false, Option, Some, None, Result, Ok, Err}
 use Rattle.std.proofs.Common.{IfOk}
 use Rattle.std.proofs.Common.{IfErr, inl, inr, length, sym, ap, subst, ◌∙◌, refl, arith}
-use Rattle.std.proofs.lemmas.Bool.{false≢true}
 use Rattle.std.specs.Option.{option_map_or}
 use Rattle.std.specs.declared.vec.Vec.{Vec}
 use Rattle.std.specs.declared.alloc.Global.{Global}
@@ -18,7 +17,7 @@ use Rattle.command_ending.specs.Follow.{Reached, Given, Stopped, Before, Within,
 use Rattle.command_ending.specs.Follow.{said_in, outcome_of}
 use Rattle.command_ending.specs.Endings.{is_reported, is_usage}
 use Rattle.command_ending.specs.StepEffects.{Outside, files_of, heard_of, KeepsFiles, Keeps, Makes, MakesPart, CannotRead}
-use Rattle.command_ending.specs.StepEffects.{CannotWrite, ReadsFile, Parses, Takes, EndsMaking}
+use Rattle.command_ending.specs.StepEffects.{CannotWrite, IsOpenIn, ReadsFile, Parses, Takes, EndsMaking}
 use Rattle.command_ending.proofs.Gained.{Gains-none, GainsPrefix-none}
 use Rattle.command_ending.proofs.Stops.{unwritten, Keeps-any}
 use Rattle.command_ending.proofs.Plans.{carried, then_found, Follows-found, Follows-then, Follows-cut, found-then}
@@ -29,6 +28,7 @@ KeepsFiles-then old mid new first second = record {
   files = second.files ∙ first.files;
   made = KeepsMade-join old mid new first.made second.made;
   counts = KeepsCounts-join old mid new first.counts second.counts;
+  together = λ before. second.together (first.together before);
 }
 
 -- all files were kept, and then all that the command doesn't make
@@ -38,6 +38,7 @@ Keeps-then None old mid new first second = KeepsFiles-then old mid new first sec
 Keeps-then (Some name) old mid new first second = record {
   files = λ before told. second.files before (first.files ∙ told);
   counts = KeepsCounts-join old mid new first.counts second.counts;
+  together = λ before. second.together (first.together before);
 }
 
 -- a write failed after a step that wrote nothing
@@ -160,6 +161,7 @@ Takes-read {X = X} {Y = Y} name cap parse seen old new bytes result read long pa
       unreported = tt;
       lawful = tt;
       absent = λ files told isnt. read.absent files told (λ e. absurd (cc));
+      opened = λ files told. tt;
       kept = read.kept;
     }
     go (Err status) value (inl refused) unread unreported lawful = record {
@@ -179,6 +181,7 @@ Takes-read {X = X} {Y = Y} name cap parse seen old new bytes result read long pa
       unreported = unreported;
       lawful = lawful;
       absent = λ files told isnt. read.absent files told (λ e. absurd (cc));
+      opened = λ files told. tt;
       kept = read.kept;
     }
     go (Err status) value (inr full) unread unreported lawful = record {
@@ -195,6 +198,7 @@ Takes-read {X = X} {Y = Y} name cap parse seen old new bytes result read long pa
       unreported = unreported;
       lawful = lawful;
       absent = λ files told isnt. read.absent files told (λ e. absurd (cc));
+      opened = read.opened;
       kept = read.kept;
     }
 
@@ -231,6 +235,7 @@ Takes-unread name cap f seen old new status read = record {
   unreported = (unread_reported status _ read.fault).0;
   lawful = (unread_reported status _ read.fault).1;
   absent = λ files told isnt. read.absent files told (λ e. isnt (ap Err (let is : status ≡ ReadFault = cc in is)));
+  opened = read.opened;
   kept = read.kept;
 }
 
@@ -267,6 +272,14 @@ cut_unmade (Stopped refusal) status cut = refl
 cut_unmade (Before name) status cut = refl
 cut_unmade (Within file text) status cut = refl
 
+-- what is cut off within a file has it opened
+cut_open : {A : Type 0} (reached : Reached A) (desk : DeskView) → IsOpenIn reached desk →
+    IsOpenIn {A = Outcome} (carried reached) desk
+cut_open (Given value) desk opened = tt
+cut_open (Stopped refusal) desk opened = tt
+cut_open (Before name) desk opened = tt
+cut_open (Within file text) desk opened = opened
+
 -- A step ended the command.
 pub Ends-cut : {X Y : Type 0} (makes : Option (List ℕ)) (plan : Plan Y) (seen : X → Y) (f : Y → Plan Outcome)
     (old : Outside) (desk : DeskView) (status : Status) →
@@ -290,6 +303,7 @@ Ends-cut makes plan seen f old desk status step = record {
       (step.read_fault (ap Err e));
   write_fault = λ e. absurd (unwritten status step.unreported e);
   absent = λ files told isnt. step.absent files told (λ e. isnt (let is : status ≡ ReadFault = cc in is));
+  opened = λ files told. cut_open step.reached desk (step.opened files told);
   kept = Keeps-any makes old.desk desk step.kept;
   count = omega arith;
 }
@@ -331,6 +345,7 @@ Ends-then makes plan seen f old new mid x status step rest =
       write_fault = λ e. CannotWrite-later makes old new mid step.kept.made (rest.write_fault e);
       absent = λ files told isnt. rest.absent files (step.kept.files ∙ told) isnt
           ∙ step.absent files told (λ e. absurd (cc));
+      opened = λ files told. rest.opened files (step.kept.files ∙ told);
       kept = Keeps-then makes old.desk mid new.desk step.kept rest.kept;
       count = rest.count;
     }

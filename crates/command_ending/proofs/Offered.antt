@@ -16,6 +16,8 @@ pub use Rattle.command_ending.proofs.Told.{undecided_within}
 pub use Rattle.command_ending.proofs.Told.{Ends-complete}
 -- a desk that was left alone
 pub use Rattle.command_ending.proofs.Stops.{KeepsFiles-same}
+-- what was heard of the opened file and what is left of it stay the file
+pub use Rattle.command_ending.proofs.Stops.{Keeps-together}
 -- a status that comes with no report is no write fault
 pub use Rattle.command_ending.proofs.Stops.{unwritten}
 -- a plan that stops asks for nothing
@@ -44,5 +46,7 @@ pub use Rattle.command_ending.proofs.Inputs.{opened_told, opened_absent}
 -- kept_files: the files are kept where one was opened and read
 -- unopened_kept: and where one couldn't be opened
 pub use Rattle.command_ending.proofs.Inputs.{kept_files, unopened_kept}
+-- no file is told to be opened where none could be
+pub use Rattle.command_ending.proofs.Inputs.{unopened_told}
 -- a file that can't be opened is a fault of the desk, or it is absent
 pub use Rattle.command_ending.proofs.Inputs.{cannot_open}

@@ -1,17 +1,18 @@
 -- A file that is created, written and finished.
-use Rattle.std.proofs.Common.{◌≡◌, ◌≢◌, ℕ, List, [], ◌∷◌, ◌++◌, Option, Some, None, Result, Ok, Err, true, false, inl, inr}
+use Rattle.std.proofs.Common.{◌≡◌, ◌≢◌, ℕ, List, [], ◌∷◌, Option, Some, None, Result, Ok, Err, true, false, inl, inr}
 use Rattle.std.proofs.Common.{arith, sym, ap, subst, ◌∙◌, refl, append-nil}
 use Rattle.std.specs.Option.{option_map}
 use Rattle.acl_outside.specs.Told.{Changes}
 use Rattle.acl_outside.specs.Desk.{File, Content, DeskView, bytes_of, is_finished, Holds, Creates, Writes, GivesUp}
 use Rattle.acl_outside.specs.Desk.{CreatesFile, FinishesFile}
 use Rattle.acl_outside.specs.Heard.{change_newest}
-use Rattle.acl_outside.specs.Made.{Made, Unfinished, NotCreated, Finished, Broken, with_written, with_standing, creation_of}
+use Rattle.acl_outside.specs.Made.{Made, Unfinished, NotCreated, Broken, with_written, with_standing, creation_of}
 use Rattle.acl_outside.specs.Made.{after_finish, and_stands}
 use Rattle.acl_outside.specs.Writing.{WritesAll, WritesOn}
 use Rattle.acl_outside.proofs.Offered.{Changes-join, KeepsCounts-join, KeepsHeard-join, KeepsHeard-creation}
-use Rattle.acl_outside.proofs.Offered.{KeepsHeard-finish, made-creation, made-finish}
-use Rattle.command_ending.specs.StepEffects.{files_of, made_of, KeepsOthers, MakesAll}
+use Rattle.acl_outside.proofs.Offered.{KeepsHeard-finish, made-creation, made-finish, HoldsTogether-creation}
+use Rattle.acl_outside.proofs.Offered.{HoldsTogether-writing, HoldsTogether-finish}
+use Rattle.command_ending.specs.StepEffects.{made_of, MakesAll}
 use Rattle.command_ending.proofs.Inputs.{told_files}
 
 -- The named file has these bytes now, and all others are as before.
@@ -98,6 +99,7 @@ MakesAll-uncreated name bytes old new e f creates =
       others = record {
         files = λ before told. (before, files ∙ told, λ other apart. refl);
         counts = creates.counts;
+        together = λ before. HoldsTogether-creation name old new (Err e) creates;
       };
     }
 
@@ -125,6 +127,9 @@ MakesAll-unwritten name bytes old mid new x e f creates writes =
       others = record {
         files = others_told name part.prefix old.content new.content holds;
         counts = KeepsCounts-join old mid new creates.counts writes.counts;
+        together = λ before.
+            HoldsTogether-writing part.prefix mid new (HoldsTogether-creation name old mid (Ok x) creates)
+            creates.reading writes.reading part.writes.told;
       };
     }
 
@@ -165,6 +170,7 @@ MakesAll-unfinished name bytes old mid late new x y e creates writes finishes =
         files = others_told name bytes old.content new.content holds;
         counts = KeepsCounts-join old late new (KeepsCounts-join old mid late creates.counts writes.counts)
             finishes.counts;
+        together = λ before. HoldsTogether-finish late new (Err e) finishes;
       };
     }
 
@@ -192,6 +198,7 @@ MakesAll-whole name bytes old mid late new x y z creates writes finishes =
         files = others_told name bytes old.content new.content holds;
         counts = KeepsCounts-join old late new (KeepsCounts-join old mid late creates.counts writes.counts)
             finishes.counts;
+        together = λ before. HoldsTogether-finish late new (Ok z) finishes;
       };
     }
 

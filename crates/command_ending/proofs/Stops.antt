@@ -5,6 +5,7 @@ use Rattle.std.proofs.Common.{◌∙◌, arith}
 use Rattle.std.proofs.lemmas.Bool.{false≢true}
 use Rattle.acl_outside.specs.Desk.{DeskView}
 use Rattle.acl_outside.specs.Sink.{SinkView}
+use Rattle.acl_outside.specs.Together.{HoldsTogether}
 use Rattle.acl_outside.proofs.Offered.{KeepsMade-same, KeepsCounts-same}
 use Rattle.command_ending.specs.declared.status.Status.{Status}
 use Rattle.command_ending.specs.declared.status.Status.TheVariants.{Done, WriteFault, OutOfMemory}
@@ -12,12 +13,17 @@ use Rattle.command_ending.specs.Plan.{Outcome, Plan, Give, Stop, Read, making}
 use Rattle.command_ending.specs.Follow.{Reached, Given, Stopped, Before, Follows}
 use Rattle.command_ending.specs.Endings.{is_decided, is_reported}
 use Rattle.command_ending.specs.StepEffects.{Outside, outside, files_of, heard_of, KeepsFiles, Keeps, PutsLast}
-use Rattle.command_ending.specs.StepEffects.{EndsMaking, Ends, MakesAll}
+use Rattle.command_ending.specs.StepEffects.{EndsMaking, Ends, IsOpenIn, MakesAll}
 use Rattle.command_ending.proofs.Gained.{Gains-none, GainsPrefix-none}
 
 -- a desk that was left alone
 pub KeepsFiles-same : (desk : DeskView) → KeepsFiles desk desk
-KeepsFiles-same desk = record { files = refl; made = KeepsMade-same desk; counts = KeepsCounts-same desk }
+KeepsFiles-same desk = record {
+  files = refl;
+  made = KeepsMade-same desk;
+  counts = KeepsCounts-same desk;
+  together = λ before. before;
+}
 
 -- where all files were kept, so were all that a command doesn't make
 pub Keeps-any : (makes : Option (List ℕ)) (old new : DeskView) → KeepsFiles old new → Keeps makes old new
@@ -25,7 +31,14 @@ Keeps-any None old new kept = kept
 Keeps-any (Some name) old new kept = record {
   files = λ before told. (before, kept.files ∙ told, λ other apart. refl);
   counts = kept.counts;
+  together = kept.together;
 }
+
+-- what was heard of the opened file and what is left of it stay the file
+pub Keeps-together : (makes : Option (List ℕ)) (old new : DeskView) → Keeps makes old new → HoldsTogether old →
+    HoldsTogether new
+Keeps-together None old new kept = kept.together
+Keeps-together (Some name) old new kept = kept.together
 
 -- a status that comes with no report is no write fault
 pub unwritten : (status : Status) → is_reported status ≡ false → status ≡ WriteFault → ⊥
@@ -48,15 +61,16 @@ Ends-stopped makes refusal view unreported decided = record {
   read_fault = λ e. absurd (false≢true (sym (ap is_decided e) ∙ decided));
   write_fault = λ w. absurd (unwritten refusal unreported w);
   absent = λ files told isnt. refl;
+  opened = λ files told. tt;
   kept = Keeps-any makes view.desk view.desk (KeepsFiles-same view.desk);
   count = omega arith;
 }
 
 -- a command that has heard nothing may end for want of memory
 full_at : (makes : Option (List ℕ)) (plan : Plan Outcome) (view : Outside) (reached : Reached Outcome) →
-    Follows (files_of view.desk) plan (heard_of view.desk) (heard_of view.desk) reached →
+    Follows (files_of view.desk) plan (heard_of view.desk) (heard_of view.desk) reached → IsOpenIn reached view.desk →
     EndsMaking makes plan view view OutOfMemory
-full_at makes plan view reached follows = record {
+full_at makes plan view reached follows opened = record {
   reached = reached;
   follows = follows;
   ended = inr (inr refl);
@@ -70,6 +84,7 @@ full_at makes plan view reached follows = record {
   read_fault = λ e. absurd (cc);
   write_fault = λ w. absurd (cc);
   absent = λ files told isnt. refl;
+  opened = λ files told. opened;
   kept = Keeps-any makes view.desk view.desk (KeepsFiles-same view.desk);
   count = omega arith;
 }
@@ -77,10 +92,10 @@ full_at makes plan view reached follows = record {
 -- Memory ran out before anything was asked for, whatever the plan is.
 pub Ends-full : (makes : Option (List ℕ)) (plan : Plan Outcome) (view : Outside) →
     EndsMaking makes plan view view OutOfMemory
-Ends-full makes (Give outcome) view = full_at makes (Give outcome) view (Given outcome) (refl, refl)
-Ends-full makes (Stop status) view = full_at makes (Stop status) view (Stopped status) (refl, refl)
+Ends-full makes (Give outcome) view = full_at makes (Give outcome) view (Given outcome) (refl, refl) tt
+Ends-full makes (Stop status) view = full_at makes (Stop status) view (Stopped status) (refl, refl) tt
 Ends-full makes (Read name shown next) view =
-    full_at makes (Read name shown next) view (Before name) (inl (refl, refl))
+    full_at makes (Read name shown next) view (Before name) (inl (refl, refl)) tt
 
 -- The lines of an outcome were put, and the transitions counted.
 pub Ends-put : (outcome : Outcome) (desk : DeskView) (out_old out_new : SinkView) (steps : ℕ) (status : Status) →
@@ -106,6 +121,7 @@ Ends-put outcome desk out_old out_new steps status done unmade puts = record {
   ];
   write_fault = λ e. elim puts.puts [ inl all ↦ absurd (let both = sym e ∙ all.0 in cc) | inr part ↦ part.2 ];
   absent = λ files told isnt. refl;
+  opened = λ files told. tt;
   kept = KeepsFiles-same desk;
   count = puts.count;
 }
@@ -128,6 +144,7 @@ Ends-made name bytes old new out steps x makes = record {
   read_fault = λ e. absurd (cc);
   write_fault = λ w. absurd (cc);
   absent = λ files told isnt. makes.heard.absent;
+  opened = λ files told. tt;
   kept = makes.others;
   count = omega arith;
 }
@@ -150,6 +167,7 @@ Ends-broken name bytes old new out steps e makes = record {
   read_fault = λ read. absurd (cc);
   write_fault = λ w. makes.cause;
   absent = λ files told isnt. makes.heard.absent;
+  opened = λ files told. tt;
   kept = makes.others;
   count = omega arith;
 }

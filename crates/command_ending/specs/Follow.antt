@@ -1,5 +1,5 @@
 -- How far a plan was followed, by what was heard of the files that it asks for.
-use Rattle.std.specs.Prelude.{◌≡◌, ℕ, ◌⊎◌, List, [], ◌∷◌, ◌++◌, Option, Some, ⊤}
+use Rattle.std.specs.Prelude.{◌≡◌, ℕ, ◌⊎◌, List, [], ◌∷◌, ◌++◌, Option, Some, None, ⊤}
 use Rattle.acl_outside.specs.Desk.{File, bytes_of}
 use Rattle.acl_outside.specs.Heard.{Heard, Ending, NotOpened, GoesOn, Ended, BrokenOff}
 use Rattle.command_ending.specs.declared.status.Status.{Status}
@@ -26,6 +26,13 @@ IsOpened NotOpened = ⊥
 IsOpened GoesOn = ⊤
 IsOpened Ended = ⊤
 IsOpened BrokenOff = ⊤
+
+-- the name of the file that is opened then, or none where it couldn't be
+abbrev pub opened_by : Ending → List ℕ → Option (List ℕ)
+opened_by NotOpened name = None
+opened_by GoesOn name = Some name
+opened_by Ended name = Some name
+opened_by BrokenOff name = Some name
 
 -- The bytes that were heard are the first of the file of that name, and all of them where its end
 -- was met.

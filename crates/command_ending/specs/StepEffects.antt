@@ -1,7 +1,7 @@
 -- What a part of a command says of the outside, before and after it.
 use Rattle.std.specs.Prelude.{◌≡◌, ◌≢◌, ℕ, ◌+◌, ◌≤◌, ◌⊎◌, List, [], ◌∷◌, length, false, true}
 use Rattle.std.specs.Prelude.{Option, Some, None, Result, Ok, Err, IfOk, IfErr, OnOk, OnErr}
-use Rattle.std.specs.Prelude.{◌++◌}
+use Rattle.std.specs.Prelude.{◌++◌, ⊤}
 use Rattle.std.specs.Option.{option_map}
 use Rattle.std.specs.declared.vec.Vec.{Vec}
 use Rattle.std.specs.declared.alloc.Global.{Global}
@@ -10,12 +10,13 @@ use Rattle.acl_outside.specs.Desk.{File, DeskView, KeepsCounts, bytes_of, finish
 use Rattle.acl_outside.specs.Heard.{Heard, GoesOn, Ended, KeepsHeard, heard}
 use Rattle.acl_outside.specs.Made.{Made, NotCreated, Finished, Broken, KeepsMade, made}
 use Rattle.acl_outside.specs.Sink.{SinkView, Gains, GainsPrefix}
+use Rattle.acl_outside.specs.Together.{HoldsTogether}
 use Rattle.command_ending.specs.declared.status.Status.{Status}
 use Rattle.command_ending.specs.declared.status.Status.TheVariants.{ReadFault, WriteFault}
 use Rattle.command_ending.specs.declared.status.Status.TheVariants.{OutOfMemory, Done}
 use Rattle.command_ending.specs.Plan.{Outcome, Plan, found, settled}
-use Rattle.command_ending.specs.Follow.{Reached, Given, Follows, IsOneOf, IsCutOff, outcome_of}
-use Rattle.command_ending.specs.Follow.{status_within}
+use Rattle.command_ending.specs.Follow.{Reached, Given, Stopped, Before, Within, Follows, IsOneOf}
+use Rattle.command_ending.specs.Follow.{IsCutOff, opened_by, outcome_of, status_within}
 use Rattle.command_ending.specs.Endings.{is_decided, is_reported, is_usage}
 
 -- the files of a desk that tells them
@@ -50,18 +51,21 @@ outside desk out steps = record { desk = desk; out = out; steps = steps }
 abbrev pub made_of : DeskView → List Made
 made_of desk = made desk.answers
 
--- The files are as before, none was made, and no count fell.
+-- The files are as before, none was made, and no count fell. If what was heard of the opened file
+-- and what is left of it were the file, they still are.
 pub record KeepsFiles (old new : DeskView) : Type 0 where
   pub files : files_of new ≡ files_of old
   pub made : KeepsMade old new
   pub counts : KeepsCounts old new
+  pub together : HoldsTogether old → HoldsTogether new
 
--- Where the files are told, all but the named one are as before, and no count fell.
+-- Where the files are told, all but the named one are as before, and the rest is kept likewise.
 pub record KeepsOthers (name : List ℕ) (old new : DeskView) : Type 0 where
   pub files : (before : List File) → files_of old ≡ Some before → (after : List File)
       × (files_of new ≡ Some after)
       × ((other : List ℕ) → other ≢ name → bytes_of after other ≡ bytes_of before other)
   pub counts : KeepsCounts old new
+  pub together : HoldsTogether old → HoldsTogether new
 
 -- what a command leaves as it was: all files but the one that it makes, and all where it makes none
 abbrev pub Keeps : Option (List ℕ) → DeskView → DeskView → Type 0
@@ -129,6 +133,13 @@ abbrev pub AsksForNothingAbsent : DeskView → DeskView → Type 0 → Type 0
 AsksForNothingAbsent old new IsFault = (files : List File) → files_of old ≡ Some files → ¬ IsFault →
     new.absent ≡ old.absent
 
+-- A plan that was followed into a file has it opened, unless it couldn't be.
+abbrev pub IsOpenIn : {A : Type 0} → Reached A → DeskView → Type 0
+IsOpenIn (Given value) desk = ⊤
+IsOpenIn (Stopped status) desk = ⊤
+IsOpenIn (Before name) desk = ⊤
+IsOpenIn (Within file text) desk = opened_of desk ≡ Some (opened_by file.ending file.name)
+
 -- The named file was read to its end or to the cap, and nothing else was asked for.
 pub record ReadsFile (name : List ℕ) (cap : ℕ) (old new : DeskView)
     (result : Result (Vec ℕ Global) Status) : Type 0 where
@@ -145,7 +156,7 @@ pub record ReadsFile (name : List ℕ) (cap : ℕ) (old new : DeskView)
       ⊎ ((status ≡ ReadFault) × (status ≡ status_within file.ending)))
   pub read_fault : result ≡ Err ReadFault → CannotRead old new (λ files. bytes_of files name ≡ None)
   pub opened : (files : List File) → files_of old ≡ Some files →
-      IfOk result (λ _. opened_of new ≡ Some (Some name))
+      opened_of new ≡ Some (opened_by file.ending file.name)
   pub absent : AsksForNothingAbsent old new (result ≡ Err ReadFault)
   pub kept : KeepsFiles old new
 
@@ -175,6 +186,7 @@ pub record Takes {X Y : Type 0} (plan : Plan Y) (seen : X → Y) (old new : Desk
   pub unreported : IfErr result (λ status. is_reported status ≡ false)
   pub lawful : IfErr result (λ status. is_usage status ≡ false)
   pub absent : AsksForNothingAbsent old new (result ≡ Err ReadFault)
+  pub opened : (files : List File) → files_of old ≡ Some files → IsOpenIn reached new
   pub kept : KeepsFiles old new
 
 -- A command that makes the named file, or none, ended by its plan. So it is for every desk and
@@ -202,6 +214,7 @@ pub record EndsMaking (makes : Option (List ℕ)) (plan : Plan Outcome) (old new
   pub write_fault : status ≡ WriteFault → CannotWrite makes old new
   -- in every case
   pub absent : AsksForNothingAbsent old.desk new.desk (status ≡ ReadFault)
+  pub opened : (files : List File) → files_of old.desk ≡ Some files → IsOpenIn reached new.desk
   pub kept : Keeps makes old.desk new.desk
   pub count : old.out.faults ≤ new.out.faults
 
