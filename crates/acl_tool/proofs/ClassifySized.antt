@@ -1,6 +1,6 @@
 -- How large the tables were of which `classify` tells, and when rules were too large.
-use Rattle.std.proofs.Common.{◌≡◌, ℕ, ◌+◌, ◌<◌, List, [], ◌∷◌, ◌++◌, length, map, Bool, true, false, Option, Some, None}
-use Rattle.std.proofs.Common.{Result, Ok, Err, refl, sym, ap, subst, ◌∙◌, append-nil, append_assoc}
+use Rattle.std.proofs.Common.{◌≡◌, ℕ, ◌+◌, ◌<◌, List, ◌∷◌, ◌++◌, length, map, Bool, true, false, Option, Some, None}
+use Rattle.std.proofs.Common.{Result, Ok, Err, refl, sym, ap, subst, ◌∙◌, append-nil}
 use Rattle.std.proofs.lemmas.List.{length-map}
 use Rattle.std.specs.Prelude.{codes, nat_le, if◌then◌else◌}
 use Rattle.std.proofs.lemmas.Bool.{false≢true, leb-false}
@@ -17,7 +17,6 @@ use Rattle.acl_outside.specs.Heard.{Heard, Ended}
 use Rattle.classbench_reader.specs.RuleFile.{RuleLists, rule_file_of}
 use Rattle.pcap_reader.specs.declared.capture_fault.CaptureFault.{CaptureFault}
 use Rattle.pcapng_reader.specs.Capture.{capture_of, whole_records}
-use Rattle.acl_report.specs.Counts.{packets_text}
 use Rattle.acl_report.specs.Tables.{table_text, transitions_text}
 use Rattle.command_words.specs.Options.{Options}
 use Rattle.command_words.specs.Command.{command}
@@ -28,7 +27,7 @@ use Rattle.command_ending.specs.Follow.{Reached, Stopped, Follows, outcome_of}
 use Rattle.command_ending.specs.StepEffects.{Outside, files_of, heard_of}
 use Rattle.capture_report.specs.Classifier.{ByRules, Tables}
 use Rattle.capture_report.specs.ReportForm.{ReportForm}
-use Rattle.capture_report.specs.Shown.{counts_of_records, fault_of_capture, status_of_fault}
+use Rattle.capture_report.specs.Shown.{fault_of_capture, status_of_fault}
 use Rattle.capture_report.specs.Report.{line_of_table, stats_of, stats_text, transitions_of_records}
 use Rattle.capture_report.specs.CaptureOutcome.{lines_so_far, report, reported}
 use Rattle.acl_tool.specs.Built.{WordsAreTotals}
@@ -36,7 +35,7 @@ use Rattle.acl_tool.specs.FamilySet.{set_of}
 use Rattle.acl_tool.specs.RuleTables.{rules_of_bytes, table_within}
 use Rattle.acl_tool.specs.ClassifyPlan.{classify_plan, form_of}
 use Rattle.acl_tool.specs.CommandEffects.{Answers}
-use Rattle.acl_tool.specs.Headline.{lines_to}
+use Rattle.acl_tool.specs.Headline.{last_lines_to, lines_to}
 use Rattle.acl_tool.specs.ClassifySizes.{ClassifySizes, NeedsMore, TellsSizes, size_line}
 use Rattle.acl_tool.specs.GivenBudget.{budget_given}
 use Rattle.table_fill.proofs.Offered.{length-roots}
@@ -44,7 +43,7 @@ use Rattle.acl_tool.proofs.ClassifyAsked.{Asked, asked_words}
 use Rattle.acl_tool.proofs.ReadOn.{accepted_rules, read_on, unless_on}
 use Rattle.acl_tool.proofs.ClassifyHeard.{after_bytes, after_rules}
 use Rattle.acl_tool.proofs.ClassifyTold.{ReportedBy, asked_of, heard_by, reported_by, text_same}
-use Rattle.acl_tool.proofs.Reported.{report_status}
+use Rattle.acl_tool.proofs.Reported.{report_status, report_transitions}
 use Rattle.acl_tool.proofs.WholeRules.{whole_by}
 use Rattle.acl_tool.proofs.TooLarge.{large_test, large_status, family_in, same_family, budget_in, is_large, words_in}
 use Rattle.acl_tool.proofs.TooLarge.{small_rules}
@@ -183,10 +182,10 @@ asked_stats : (form : ReportForm) (transitions : ℕ) → form.stats ≡ true �
     stats_of form transitions ≡ stats_text form.tables transitions
 asked_stats form transitions on = rw on refl
 
--- The lines of the tables are the last that were taken, but for that of the transitions.
+-- The lines of the tables are the last that were taken, and that of the transitions tells what was counted.
 tells_sizes : (words : List (List ℕ)) (old new : Outside) (asked : Asked words old new (status_of_fault None)) →
     ReportedBy asked.rules asked.capture asked.read old new None →
-    TellsSizes words (heard_of old.desk) (heard_of new.desk) old.out.taken new.out.taken
+    TellsSizes words (heard_of old.desk) (heard_of new.desk) old.out.taken new.out.taken old.steps new.steps
 tells_sizes words old new asked by =
     let c = by.heard in
     let form : ReportForm = form_of (ByRules c.lists) c.tables asked.read in
@@ -194,7 +193,6 @@ tells_sizes words old new asked by =
     let transitions = transitions_of_records c.tables records in
     let budget = budget_given asked.options in
     let lines = lines_to c.lists asked.options records in
-    let counts = packets_text (counts_of_records records) in
     let totals : WordsAreTotals c.lists budget =
     subst (λ (n : ℕ). WordsAreTotals c.lists n) asked.said.max_words
     (asked.totals refl c.rule_file c.file c.lists c.newest c.accepted) in
@@ -204,14 +202,13 @@ tells_sizes words old new asked by =
     (c.ip6_is ∙ ap (λ (n : ℕ). built_of (set_of Ip6 c.lists) n) asked.said.max_words) totals in
     record {
       heard = heard_by words old new None asked by;
-      front = lines ++ counts;
       transitions = transitions;
+      counted = by.steps ∙ ap (λ (n : ℕ). old.steps + n) (report_transitions form (capture_of c.file.bytes));
       taken = λ on.
           by.taken
           ∙ ap (λ (l : List ℕ). old.out.taken ++ l)
           (text_same c.lists c.tables asked.read asked.options c.file.bytes None asked.said by.ended
-          ∙ sym (append_assoc lines counts (stats_of form transitions))
-          ∙ ap (λ (l : List ℕ). lines ++ counts ++ l)
+          ∙ ap (λ (l : List ℕ). lines ++ last_lines_to None records l)
           (asked_stats form transitions (asked.said.stats ∙ on)
           ∙ ap (λ (l : List ℕ). l ++ line_of_table Ip6 c.tables.ip6 ++ transitions_text transitions) ip4
           ∙ ap (λ (l : List ℕ). size_line Ip4 c.lists budget ++ l ++ transitions_text transitions) ip6));
@@ -258,7 +255,7 @@ needs_more words old new family size budget asked =
 -- a `classify` tells how large its tables are, or that its rules are too large
 pub classify_sizes : (words : List (List ℕ)) (old new : Outside) (status : Status) →
     Answers (command words) old new status →
-    ClassifySizes words status (heard_of old.desk) (heard_of new.desk) old.out.taken new.out.taken
+    ClassifySizes words status (heard_of old.desk) (heard_of new.desk) old.out.taken new.out.taken old.steps new.steps
 classify_sizes words old new status answers = record {
   tells = λ after is done.
       let asked = asked_of words old new status answers after None is done in

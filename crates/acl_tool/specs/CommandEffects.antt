@@ -68,7 +68,7 @@ pub record Runs (words : List (List ℕ)) (old new : Outside) (err_old err_new :
   pub bench_walks : BenchWalks words status old.steps new.steps
   -- how large the tables are that are told, and when rules are too large
   pub sizes : ClassifySizes words status (heard_of old.desk) (heard_of new.desk) old.out.taken
-      new.out.taken
+      new.out.taken old.steps new.steps
   -- the image that is made, and what is printed by an image
   pub builds : BuildMakes words status old new
   pub replays : ReplayPrints words status old new
