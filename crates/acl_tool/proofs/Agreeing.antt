@@ -26,12 +26,11 @@ use Rattle.acl_tool.specs.BuildPlan.{pair_of}
 use Rattle.acl_tool.specs.ClassifyPlan.{classify_plan, form_of}
 use Rattle.acl_tool.specs.ReplayPlan.{refused_image, replay_plan, tables_of_bytes}
 use Rattle.acl_tool.specs.Laws.{ReplayAgrees}
-use Rattle.acl_tool.proofs.Longest.{image_within}
 use Rattle.acl_tool.proofs.Making.{serving_tables, within_both}
 use Rattle.acl_tool.proofs.PacketBytes.{packets_of_bytes}
 use Rattle.acl_tool.proofs.ClassifyHeard.{after_bytes, after_rules}
 use Rattle.acl_tool.proofs.Served.{tables_serve}
-use Rattle.acl_tool.proofs.ReplayEnds.{report_by, tables_of_whole}
+use Rattle.acl_tool.proofs.ReplayEnds.{report_by}
 
 -- the report of a capture that is there
 report_found : (form : ReportForm) (files : List File) (c capture : List ℕ) → bytes_of files c ≡ Some capture →
@@ -77,8 +76,7 @@ agrees decide lawful rules image capture budget cats stats marks within walk sav
     let printed : PrintOptions = record { cats = cats; walk = walk; stats = stats; marks = marks } in
     let tables : Tables = tables_built saved.lists budget in
     let loaded : tables_of_bytes image ≡ Ok tables =
-    tables_of_whole image (image_within saved.version image (pair_of tables) saved.image)
-    ∙ ap refused_image (image_spelled saved.version image (pair_of tables) saved.image) in
+    ap refused_image (image_spelled saved.version image (pair_of tables) saved.image) in
     let same = report_alike (ByRules saved.lists) tables printed (serving_tables saved.lists budget serve)
     (categories_few cats.count cats.lawful) capture (packets_of_bytes capture bytes) in
     ap settled (replay_found files i c image capture options tables at_i at_c loaded)

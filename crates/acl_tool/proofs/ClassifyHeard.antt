@@ -26,7 +26,7 @@ use Rattle.acl_tool.proofs.ReadOn.{accepted_rules, both_on, is_told, read_on, to
 use Rattle.acl_tool.proofs.ReadOn.{longer}
 
 -- a plan asks for a file
-abbrev asks : Plan Outcome → Bool
+abbrev pub asks : Plan Outcome → Bool
 asks (Give value) = false
 asks (Stop status) = false
 asks (Read name shown next) = true

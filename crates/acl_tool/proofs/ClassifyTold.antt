@@ -124,7 +124,7 @@ text_same lists tables options words bytes fault is ended =
     (ap (last_lines form records) ended ∙ last_same form records fault)
 
 -- where no more bytes come, or none of them changes the report, the capture ends as it was reported
-ends_so : (form : ReportForm) (file : Heard) (fault : Option CaptureFault) →
+pub ends_so : (form : ReportForm) (file : Heard) (fault : Option CaptureFault) →
     IsEnough (λ bytes. Give (report form bytes)) file → fault_of_capture (capture_of file.bytes) ≡ fault →
     (more : List ℕ) → (file.ending ≡ Ended → more ≡ []) →
     fault_of_capture (capture_of (file.bytes ++ more)) ≡ fault
@@ -140,7 +140,7 @@ ends_so form file fault (inr on) is more none =
     ∙ ap status_of_fault is)
 
 -- a whole capture was heard to its end, since one byte more is a fault
-whole_capture : (form : ReportForm) (file : Heard) → IsEnough (λ bytes. Give (report form bytes)) file →
+pub whole_capture : (form : ReportForm) (file : Heard) → IsEnough (λ bytes. Give (report form bytes)) file →
     fault_of_capture (capture_of file.bytes) ≡ None → file.ending ≡ Ended
 whole_capture form file (inl ended) is = ended
 whole_capture form file (inr on) is =

@@ -4,7 +4,6 @@ mod Making
 mod ClassifyEnds
 mod BuildEnds
 mod ReplayEnds
-mod Longest
 mod PacketBytes
 mod Served
 mod Agreeing

@@ -1,11 +1,10 @@
 -- How `replay` ends, link by link.
-use Rattle.std.proofs.Common.{◌≡◌, ◌≤◌, ◌⊎◌, ℕ, List, ◌++◌, length, take, false, None, Ok, Err, inl, inr, refl, sym, ap}
-use Rattle.std.proofs.Common.{◌∙◌, arith}
+use Rattle.std.proofs.Common.{◌≡◌, ◌⊎◌, ℕ, List, ◌++◌, length, false, None, Ok, Err, inl, inr, sym, ap, ◌∙◌}
+use Rattle.std.proofs.Common.{arith}
 use Rattle.std.proofs.lemmas.Bool.{false≢true}
-use Rattle.std.proofs.lemmas.List.{take-append-le, take_all}
 use Rattle.table_image.specs.declared.version.Version.TheVariants.{One, Two}
 use Rattle.table_image.specs.Spelling.{IsImage, PairView}
-use Rattle.table_image.specs.ImageReading.{image_of}
+use Rattle.table_image.proofs.Offered.{image_same}
 use Rattle.acl_outside.specs.Desk.{File, DeskView}
 use Rattle.command_words.specs.Options.{Options}
 use Rattle.command_words.specs.Command.{Replay}
@@ -15,12 +14,12 @@ use Rattle.capture_report.specs.PrintsCapture.{Reports}
 use Rattle.capture_report.proofs.Offered.{report-begins}
 use Rattle.command_ending.specs.declared.status.Status.{Status}
 use Rattle.command_ending.specs.Plan.{Outcome, Plan}
-use Rattle.command_ending.specs.Endings.{is_reported}
 use Rattle.command_ending.specs.StepEffects.{Outside, Takes}
 use Rattle.command_ending.proofs.Offered.{BeginsWith-nothing, IsFaithful, faithful_unless, unwritten}
 use Rattle.command_ending.proofs.Offered.{Ends-cut, Ends-then}
 use Rattle.acl_tool.specs.ClassifyPlan.{form_of}
-use Rattle.acl_tool.specs.ReplayPlan.{image_cap, refused_image, replay_plan, tables_in, tables_of_bytes}
+use Rattle.acl_tool.specs.declared.replay.TheConstants.{IMAGE_CAP}
+use Rattle.acl_tool.specs.ReplayPlan.{refused_image, replay_plan, tables_in, tables_of_bytes}
 use Rattle.acl_tool.specs.CommandEffects.{Answers}
 use Rattle.acl_tool.proofs.Answering.{Answers-request}
 use Rattle.acl_tool.proofs.Answering.{keeps_up_later}
@@ -39,15 +38,9 @@ replay_faithful image capture options files = (
 )
 
 -- so many bytes tell all that is read of an image
-pub tables_of_bytes-more : (front more : List ℕ) → length front ≡ image_cap →
+pub tables_of_bytes-more : (front more : List ℕ) → length front ≡ IMAGE_CAP →
     tables_of_bytes (front ++ more) ≡ tables_of_bytes front
-tables_of_bytes-more front more long =
-    ap (λ (bytes : List ℕ). refused_image (image_of bytes)) (take-append-le image_cap front more (omega (arith, long)))
-
--- all is read of an image that isn't longer
-pub tables_of_whole : (bytes : List ℕ) → length bytes ≤ image_cap →
-    tables_of_bytes bytes ≡ refused_image (image_of bytes)
-tables_of_whole bytes within = ap (λ (b : List ℕ). refused_image (image_of b)) (take_all image_cap bytes within)
+tables_of_bytes-more front more long = ap refused_image (image_same front more (omega (arith, long)))
 
 -- the keys of the tables of an image
 pub image_keys : (bytes : List ℕ) (pair : PairView) → IsImage One bytes pair ⊎ IsImage Two bytes pair →

@@ -1,19 +1,22 @@
 -- What `replay` printed, by what was heard.
-use Rattle.std.proofs.Common.{◌≡◌, ℕ, ◌+◌, List, [], ◌∷◌, ◌++◌, true, false, Option, None, Result, Ok, Err, refl, sym}
-use Rattle.std.proofs.Common.{ap, subst, ◌∙◌, arith}
-use Rattle.std.specs.Prelude.{codes, take}
+use Rattle.std.proofs.Common.{◌≡◌, ℕ, ◌+◌, ◌<◌, List, [], ◌∷◌, ◌++◌, length, length-append, true, false, Option, None}
+use Rattle.std.proofs.Common.{Result, Ok, Err, inl, inr, refl, sym, ap, subst, ◌∙◌, arith, Bool}
+use Rattle.std.specs.Prelude.{codes}
+use Rattle.std.proofs.lemmas.Bool.{false≢true}
 use Rattle.table_image.specs.declared.load_fault.ImageFault.{ImageFault}
 use Rattle.table_image.specs.Spelling.{PairView}
 use Rattle.table_image.specs.ImageReading.{image_of}
+use Rattle.table_image.specs.Laws.{longest_image}
+use Rattle.table_image.proofs.Offered.{image_within}
 use Rattle.acl_outside.specs.Desk.{File}
-use Rattle.acl_outside.specs.Heard.{Heard}
+use Rattle.acl_outside.specs.Heard.{Heard, Ended}
 use Rattle.command_words.specs.declared.usage_fault.UsageFault.{UsageFault}
 use Rattle.command_words.specs.Options.{Options, for_replay, none_given}
 use Rattle.command_words.specs.Command.{asked_by, command, named_of, named_with, options_from, replay_request}
 use Rattle.command_ending.specs.declared.status.Status.{Status}
 use Rattle.command_ending.specs.declared.status.Status.TheVariants.{ImageRefused}
 use Rattle.command_ending.specs.Plan.{◌>>=◌, Outcome, Give, nothing, unless_refused}
-use Rattle.command_ending.specs.Follow.{Reached, Given, Follows, outcome_of}
+use Rattle.command_ending.specs.Follow.{Reached, Given, Follows, IsEnough, outcome_of}
 use Rattle.command_ending.specs.StepEffects.{EndsMaking, Outside, files_of, heard_of}
 use Rattle.pcap_reader.specs.declared.capture_fault.CaptureFault.{CaptureFault}
 use Rattle.pcapng_reader.specs.Capture.{capture_of, whole_records}
@@ -25,10 +28,12 @@ use Rattle.capture_report.proofs.Offered.{report_bound}
 use Rattle.acl_tool.specs.BuildPlan.{pair_of}
 use Rattle.acl_tool.specs.CommandEffects.{Answers}
 use Rattle.acl_tool.specs.ClassifyPlan.{form_of}
-use Rattle.acl_tool.specs.ReplayPlan.{image_cap, refused_image, replay_plan, tables_of_bytes}
+use Rattle.acl_tool.specs.ReplayPlan.{refused_image, replay_plan, tables_of_bytes}
 use Rattle.acl_tool.specs.ReplayPrints.{PrintsByImage, ReplayPrints}
 use Rattle.acl_tool.proofs.Answering.{no_usage}
-use Rattle.acl_tool.proofs.ReadOn.{is_told, read_on, told_test, unless_on}
+use Rattle.acl_tool.proofs.ClassifyHeard.{asks}
+use Rattle.acl_tool.proofs.ClassifyTold.{ends_so, whole_capture}
+use Rattle.acl_tool.proofs.ReadOn.{is_told, longer, read_on, told_test, unless_on}
 use Rattle.acl_tool.proofs.Reported.{decided_fault, lawful_fault, report_status, report_text, report_transitions}
 use Rattle.acl_tool.proofs.Reported.{reported_status, same_fault, told_fault, unfull_fault, unwritten_fault}
 use Rattle.acl_tool.proofs.ReplayEnds.{report_by}
@@ -42,7 +47,9 @@ record Replayed (image capture : List ℕ) (options : Options) (old new : List H
   image_named : image_file.name ≡ image
   named : file.name ≡ capture
   newest : new ≡ file ∷ image_file ∷ old
-  loaded : image_of (take image_cap image_file.bytes) ≡ Ok (pair_of tables)
+  whole : image_file.ending ≡ Ended
+  loaded : image_of image_file.bytes ≡ Ok (pair_of tables)
+  enough : IsEnough (λ bytes. Give (report (form_of (ByTables tables) tables options) bytes)) file
   is : reached ≡ Given (report (form_of (ByTables tables) tables options) file.bytes)
 
 -- an image that isn't refused has these tables
@@ -59,6 +66,31 @@ untold_image : (result : Result PairView ImageFault) (status : Status) → refus
 untold_image (Ok pair) status is = absurd (cc)
 untold_image (Err fault) status is = let same : ImageRefused fault ≡ status = cc in rw (← same) refl
 
+-- an image that is read isn't all of it where more bytes may come: with enough of them it is refused
+never_loaded : (options : Options) (capture bytes long : List ℕ) (tables : Tables) → longest_image < length long →
+    tables_of_bytes bytes ≡ Ok tables →
+    (unless_refused (tables_of_bytes (bytes ++ long)) >>= report_by options capture)
+    ≡ (unless_refused (tables_of_bytes bytes) >>= report_by options capture) → ⊥
+never_loaded options capture bytes long tables is_long accepted same = go (image_of (bytes ++ long)) refl
+  where
+    goes_on : Result Tables Status → Bool
+    goes_on result = asks (unless_refused result >>= report_by options capture)
+
+    go : (result : Result PairView ImageFault) → image_of (bytes ++ long) ≡ result → ⊥
+    go (Ok pair) at = absurd (omega (arith, image_within (bytes ++ long) pair at, length-append bytes long, is_long))
+    go (Err fault) at =
+        false≢true (sym (ap (λ r. goes_on (refused_image r)) at) ∙ ap asks same ∙ ap goes_on accepted)
+
+-- an image that was read was read to its end
+whole_image : (options : Options) (capture : List ℕ) (file : Heard) (tables : Tables) →
+    tables_of_bytes file.bytes ≡ Ok tables →
+    IsEnough (λ bytes. unless_refused (tables_of_bytes bytes) >>= report_by options capture) file →
+    file.ending ≡ Ended
+whole_image options capture file tables accepted (inl ended) = ended
+whole_image options capture file tables accepted (inr on) =
+    let (long, is_long) = longer longest_image in
+    absurd (never_loaded options capture file.bytes long tables is_long accepted ((on.1) long))
+
 -- a `replay` that ended with a report heard both files and reached the report
 replay_heard : (image capture : List ℕ) (options : Options) (told : Option (List File)) (old new : List Heard)
     (reached : Reached Outcome) → Follows told (replay_plan image capture options) old new reached →
@@ -69,7 +101,7 @@ replay_heard image capture options told old new reached follows is =
     let (tables, accepted, rest) =
     unless_on is_told told (tables_of_bytes first.file.bytes) (report_by options capture)
     (first.file ∷ old) new reached first.rest is
-    (λ status e. untold_image (image_of (take image_cap first.file.bytes)) status e) in
+    (λ status e. untold_image (image_of first.file.bytes) status e) in
     let form : ReportForm = form_of (ByTables tables) tables options in
     let second = read_on is_told told_test told capture (lines_so_far form) (λ bytes. Give (report form bytes))
     (first.file ∷ old) new reached rest is in
@@ -80,7 +112,9 @@ replay_heard image capture options told old new reached follows is =
       image_named = first.named;
       named = second.named;
       newest = second.rest.0;
-      loaded = loaded_tables (image_of (take image_cap first.file.bytes)) tables accepted;
+      whole = whole_image options capture first.file tables accepted first.enough;
+      loaded = loaded_tables (image_of first.file.bytes) tables accepted;
+      enough = second.enough;
       is = second.rest.1;
     }
 
@@ -112,8 +146,10 @@ image_printed image capture options read fault old new asked ends =
           ∙ ap (λ (name : List ℕ). codes "replay" ∷ h.image_file.name ∷ name ∷ options) (sym h.named);
       asked = asked;
       once = h.newest;
+      whole = h.whole;
       loaded = h.loaded;
-      ended = ended;
+      is_last = λ none. whole_capture form h.file h.enough (ended ∙ none);
+      refused = ends_so form h.file fault h.enough ended;
       taken =
           gains.taken
           ∙ ap (λ (o : Outcome). old.out.taken ++ o.text) outcome

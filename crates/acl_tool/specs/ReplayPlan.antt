@@ -1,5 +1,5 @@
 -- What `replay` does.
-use Rattle.std.specs.Prelude.{ℕ, List, take, Result, Ok, Err}
+use Rattle.std.specs.Prelude.{ℕ, List, Result, Ok, Err}
 use Rattle.table_image.specs.declared.load_fault.ImageFault.{ImageFault}
 use Rattle.table_image.specs.Spelling.{PairView}
 use Rattle.table_image.specs.ImageReading.{image_of}
@@ -11,18 +11,14 @@ use Rattle.command_ending.specs.declared.status.Status.TheVariants.{ImageRefused
 use Rattle.command_ending.specs.Plan.{◌>>=◌, Outcome, Plan, reading, unless_refused}
 use Rattle.acl_tool.specs.ClassifyPlan.{form_of}
 
--- how many bytes of an image are read: one more than the longest image has
-abbrev pub image_cap : ℕ
-image_cap = 1073743401
-
 -- the tables of an image, or the status that stands for its first failing check
 abbrev pub refused_image : Result PairView ImageFault → Result Tables Status
 refused_image (Ok pair) = Ok (record { ip4 = pair.ip4; ip6 = pair.ip6 })
 refused_image (Err fault) = Err (ImageRefused fault)
 
--- the tables of the bytes of an image, as far as they are read
+-- the tables of the bytes of an image
 abbrev pub tables_of_bytes : List ℕ → Result Tables Status
-tables_of_bytes bytes = refused_image (image_of (take image_cap bytes))
+tables_of_bytes bytes = refused_image (image_of bytes)
 
 -- the tables of the named image
 abbrev pub tables_in : List ℕ → Plan Tables

@@ -1,8 +1,8 @@
 -- What `replay` prints, said by itself: of the image and the capture that the desk gave, and of
 -- what the output took, whatever they are.
-use Rattle.std.specs.Prelude.{◌≡◌, ℕ, ◌+◌, ◌≤◌, List, ◌∷◌, ◌++◌, codes, take, Option, Ok}
+use Rattle.std.specs.Prelude.{◌≡◌, ℕ, ◌+◌, ◌≤◌, List, [], ◌∷◌, ◌++◌, codes, Option, None, Ok}
 use Rattle.table_image.specs.ImageReading.{image_of}
-use Rattle.acl_outside.specs.Heard.{Heard}
+use Rattle.acl_outside.specs.Heard.{Heard, Ended}
 use Rattle.pcap_reader.specs.declared.capture_fault.CaptureFault.{CaptureFault}
 use Rattle.pcapng_reader.specs.Capture.{capture_of, whole_records}
 use Rattle.command_words.specs.Options.{Options, for_replay, none_given}
@@ -16,13 +16,12 @@ use Rattle.capture_report.specs.Report.{transitions_of_records}
 use Rattle.capture_report.specs.Shown.{fault_of_capture, status_of_fault}
 use Rattle.acl_tool.specs.BuildPlan.{pair_of}
 use Rattle.acl_tool.specs.ClassifyPlan.{form_of}
-use Rattle.acl_tool.specs.ReplayPlan.{image_cap}
 
--- The words of a `replay` name two files, and options may follow. The image was read, which is that
--- of a table for each family, and then the capture, which is refused with the fault, or whole where
--- that is none. The output took a line for each whole record, by what the tables answer for its
--- packet, and after a whole capture the last lines. No walk takes more than one transition for each
--- trie and byte of its key.
+-- The words of a `replay` name two files, and options may follow. The image was read to its end, and
+-- is that of a table for each family. Then the capture was read: to its end, or it is refused with
+-- the fault, whatever more of it may come. The output took a line for each whole record, by what the
+-- tables answer for its packet, and after a whole capture the last lines. No walk takes more than
+-- one transition for each trie and byte of its key.
 pub record PrintsByImage (words : List (List ℕ)) (fault : Option CaptureFault) (old new : Outside)
     : Type 0 where
   pub image : Heard
@@ -33,8 +32,11 @@ pub record PrintsByImage (words : List (List ℕ)) (fault : Option CaptureFault)
   pub named : words ≡ codes "replay" ∷ image.name ∷ capture.name ∷ options
   pub asked : options_from for_replay 4 none_given options ≡ Ok read
   pub once : heard_of new.desk ≡ capture ∷ image ∷ heard_of old.desk
-  pub loaded : image_of (take image_cap image.bytes) ≡ Ok (pair_of tables)
-  pub ended : fault_of_capture (capture_of capture.bytes) ≡ fault
+  pub whole : image.ending ≡ Ended
+  pub loaded : image_of image.bytes ≡ Ok (pair_of tables)
+  pub is_last : fault ≡ None → capture.ending ≡ Ended
+  pub refused : (more : List ℕ) → (capture.ending ≡ Ended → more ≡ []) →
+      fault_of_capture (capture_of (capture.bytes ++ more)) ≡ fault
   pub taken : new.out.taken ≡ old.out.taken
       ++ text_of_records (form_of (ByTables tables) tables read) (whole_records capture.bytes) fault
   pub steps : new.steps

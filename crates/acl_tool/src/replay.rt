@@ -1,12 +1,12 @@
 //! `replay`: the report of a capture, by the tables of an image.
 
-ghost use Rattle.std.specs.Prelude.{◌≡◌, ◌≢◌, ◌≤◌, ◌⊎◌, false, length, Ok, Err, IfOk, IfErr};
+ghost use Rattle.std.specs.Prelude.{◌≡◌, ◌≢◌, ◌⊎◌, false, Ok, Err, IfOk, IfErr};
 ghost use Rattle.table_sizes.specs.Groups.{ip4_key_len, ip6_key_len};
 ghost use Rattle.command_words.specs.Command.{Replay};
 ghost use Rattle.command_words.specs.CommandLine.{options_of};
 ghost use Rattle.command_ending.specs.Endings.{is_reported, is_usage};
 ghost use Rattle.command_ending.specs.StepEffects.{Takes, outside};
-ghost use Rattle.acl_tool.specs.ReplayPlan.{image_cap, tables_in, tables_of_bytes};
+ghost use Rattle.acl_tool.specs.ReplayPlan.{tables_in, tables_of_bytes};
 ghost use Rattle.acl_tool.specs.ReplayLoaded.{tables_of};
 ghost use Rattle.acl_tool.specs.CommandEffects.{Answers};
 
@@ -19,7 +19,8 @@ use std::alloc::Global;
 use std::sync::ledger::Ledger;
 use table_image::{LoadFault, TablePair, load};
 
-/// How many bytes of an image are read: one more than the longest image has.
+/// How many bytes of an image are read: one more than the longest image has. What comes after so
+/// many changes no answer.
 const IMAGE_CAP: usize = 1_073_743_401;
 
 /// Prints the report of a capture by the tables of an image.
@@ -69,7 +70,6 @@ fn read_image<D: Desk>(alloc: Global, name: &str, desk: &mut D) -> Result<TableP
 
 /// The tables of an image, or the status of its fault.
 fn load_image(alloc: Global, bytes: &[u8]) -> Result<TablePair, Status>
-    requires { length bytes.now ≤ image_cap }
     ensures tables { IfOk result (λ pair. tables_of_bytes bytes.now ≡ Ok (tables_of pair)) }
     ensures fault { IfErr result
         (λ status. (tables_of_bytes bytes.now ≡ Err status) ⊎ (status ≡ Status.OutOfMemory)) }

@@ -1,14 +1,10 @@
-use Rattle.std.proofs.Common.{List, ℕ, ◌≤◌, length, subst, sym}
+use Rattle.std.proofs.Common.{List, ℕ, subst}
 use Rattle.command_ending.specs.StepEffects.{Parses}
 use Rattle.command_ending.proofs.Offered.{Takes-read, Takes-unread}
-use Rattle.acl_tool.specs.ReplayPlan.{image_cap, tables_of_bytes}
+use Rattle.acl_tool.specs.ReplayPlan.{tables_of_bytes}
 use Rattle.acl_tool.specs.ReplayLoaded.{tables_of}
 use Rattle.acl_tool.proofs.ReplayEnds.{tables_of_bytes-more}
 use Rattle.acl_tool.proofs.replay.read_image.Goals as goal
-
-pub load_image-requires : goal.load_image-requires
-load_image-requires g c =
-    subst (λ (bytes : List ℕ). length bytes ≤ image_cap) (sym c.deref.ensures.value) c.in-Ok.ensures.within
 
 pub returns-in-Ok-clause-taken : goal.returns-in-Ok-clause-taken
 returns-in-Ok-clause-taken g c =
