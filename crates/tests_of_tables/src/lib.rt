@@ -7,6 +7,7 @@
 //! | module | what it tests |
 //! |---|---|
 //! | `audits` | least keys, against all keys of few distinct bytes |
+//! | `chains` | chains of a firewall, against packets worked out by hand |
 //! | `comparisons` | where two lists differ, against all keys of few distinct bytes |
 //! | `edges` | what bytes leave of a value, worked out by hand |
 //! | `filled` | tables whose words were worked out by hand |
@@ -21,6 +22,8 @@
 
 #[cfg(test)]
 mod audits;
+#[cfg(test)]
+mod chains;
 #[cfg(test)]
 mod comparisons;
 #[cfg(test)]

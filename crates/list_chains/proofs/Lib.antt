@@ -1,0 +1,16 @@
+pub mod Blocks
+pub mod BoxMeets
+pub mod BoxRows
+pub mod Depths
+pub mod Fitting
+pub mod Flattened
+pub mod Halves
+pub mod LawfulRows
+pub mod MadeRules
+pub mod Meets
+pub mod RowSteps
+pub mod SameSteps
+pub mod Turnings
+pub mod Ways
+pub mod WholeBoxes
+pub mod Winners

@@ -1,0 +1,31 @@
+-- The set has the rules that are made, and they answer as the chains do.
+use Rattle.std.proofs.Common.{◌≡◌, length, true, false, sym, ap, ◌∙◌}
+use Rattle.list_chains.specs.declared.turning.TheConstants.{MAX_STEPS}
+use Rattle.list_chains.specs.Spans.{whole_box}
+use Rattle.list_chains.specs.Chains.{at_or}
+use Rattle.list_chains.specs.Jumps.{ending}
+use Rattle.list_chains.specs.Made.{first_tasks}
+use Rattle.list_chains.specs.Turned.{or_limit}
+use Rattle.list_chains.proofs.MadeRules.{rules_answer_as_the_chains}
+use Rattle.list_chains.proofs.Turnings.{start_made, every_bit}
+use Rattle.list_chains.proofs.turning.rules_of_chains.Goals as goal
+
+pub returns-in-Ok-clause-rules : goal.returns-in-Ok-clause-rules
+returns-in-Ok-clause-rules c =
+    let layout = c.args.layout in
+    let chains = c.args.chains.now in
+    let began = c.in_ok-turning.ensures in
+    let said = rw c.in-Ok.is at c.in_ok-set.ensures in
+    let first = first_tasks (length chains) c.args.start (whole_box layout) in
+    let made_so = sym (start_made layout chains c.args.policy MAX_STEPS c.in_ok-turning.turning first began.1 began.2
+    began.3 began.4) ∙ said.1 in
+    let marked : at_or (ending chains) c.args.start false ≡ true =
+    ap (λ marks. at_or marks c.args.start false) (sym (c.deref.ensures.value ∙ c.in_ok-marks.ensures))
+    ∙ sym c.is_marked.ensures ∙ c.if-not-is_marked.false in
+    record {
+      layout = said.0 ∙ began.1;
+      rules = rw marked (ap or_limit made_so);
+      verdicts = λ key category bytes small.
+          rules_answer_as_the_chains layout chains (length chains) c.args.start c.args.policy MAX_STEPS c.in-Ok.set.rules
+          key category bytes (every_bit category small) made_so;
+    }

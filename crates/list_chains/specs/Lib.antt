@@ -1,0 +1,14 @@
+pub mod Chains
+pub mod DepthLaws
+pub mod Flat
+pub mod FlatLaws
+pub mod Jumps
+pub mod Laws
+pub mod Made
+pub mod Ranked
+pub mod Spans
+pub mod StepLaws
+pub mod Tasks
+pub mod Turned
+pub mod TurnedExamples
+pub mod Values
