@@ -113,14 +113,14 @@ def lines_of(*words):
 
 
 def audited(copy, categories, given):
-    """What the program says of each rule: its userdata, and its least key in a category where it decides, or None."""
+    """What the program says of each rule: its userdata, and a category where it decides with its least key, or None."""
     told, count = set(), None
     for parts in lines_of("audit", copy, f"categories={categories}", *words_more(given)):
         if parts[0] == "rules":
             count = int(parts[1])
         else:
             told.add((parts[0], parts[2]))
-            yield int(parts[4]), keys.of_digits(parts[8]) if parts[5] == "wins" else None
+            yield int(parts[4]), (int(parts[6]), keys.of_digits(parts[8])) if parts[5] == "wins" else None
     if count != len(told):
         raise Refusal(0, f"the program audits {count} rules, and tells of {len(told)}")
 

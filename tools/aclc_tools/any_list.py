@@ -120,9 +120,9 @@ def form_of(name, text, told):
     return found[0] if found else RULES
 
 
-def read_list(name, given):
-    """The list of a file. What isn't read ends the tool with the reason."""
-    content = read_file(name, 2)
+def read_list(name, given, content=None):
+    """The list of a file, or of the bytes of one. What isn't read ends the tool with the reason."""
+    content = read_file(name, 2) if content is None else content
     foreign = no_list(content)
     if foreign and not given.form:
         leave(f"{name}: {foreign[0].lower()}{foreign[1:]}", 2)

@@ -10,6 +10,8 @@ from aclc_tools.printing import shown
 
 TOP = Path(__file__).resolve().parents[2]
 BUILT = TOP / "crates" / "aclc" / "out" / "aclc"
+# All that this run told on standard error.
+NOTES = []
 
 
 class Ran:
@@ -61,6 +63,7 @@ def leave(message, code=1):
 
 def note(message):
     """A line on standard error."""
+    NOTES.append(message)
     lines = f"{Path(sys.argv[0]).name}: {message}".split("\n")
     print("\n".join(map(shown, lines)), file=sys.stderr)
 

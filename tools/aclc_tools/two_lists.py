@@ -13,8 +13,9 @@ Change = namedtuple("Change", "capture number category old new")
 class TwoLists:
     """An old and a new list, what counts as their answers, and copies of them whose userdata are the rules' numbers."""
 
-    def __init__(self, given, room):
-        self.lists = [answers.read(name, given, room) for name in (given.old, given.new)]
+    def __init__(self, given, room, lists=None):
+        """With lists that were read before, or reads them."""
+        self.lists = lists or [answers.read(name, given, room) for name in (given.old, given.new)]
         any_list.check_words(given, [given.old, given.new, *getattr(given, "captures", ())], self.lists)
         self.data = labels.chosen(given, *self.lists)
         self.labels = [labels.of_list(listed, self.data) for listed in self.lists]

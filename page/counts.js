@@ -1,0 +1,53 @@
+// SPDX-License-Identifier: BSD-3-Clause
+// Counts over the outcomes of all packets.
+import { isKeyed } from './data.js';
+
+// How many packets each entry of a list decides in a category, and when; under -1 those that no rule matches.
+export function hitsOf(packets, list, category) {
+  const found = new Map();
+  packets?.outcomes.forEach((outcome, place) => {
+    if (!isKeyed(outcome.kind)) return;
+    const entry = packets.decider(place, list, category);
+    const hits = found.get(entry);
+    if (!hits) found.set(entry, { total: outcome.total, first: outcome.first, last: outcome.last });
+    else {
+      hits.total += outcome.total;
+      hits.first = Math.min(hits.first, outcome.first);
+      hits.last = Math.max(hits.last, outcome.last);
+    }
+  });
+  return found;
+}
+
+// How many packets there are of each kind.
+export function kindsOf(packets) {
+  const found = { 4: 0, 6: 0, 0: 0, 1: 0 };
+  for (const { kind, total } of packets.outcomes) found[kind] += total;
+  return found;
+}
+
+// The first category in which two lists answer an outcome's packets differently, or -1.
+export function changedIn(report, outcome) {
+  const { packets } = report;
+  if (!report.old || !isKeyed(packets.outcomes[outcome].kind)) return -1;
+  return report.categories.findIndex((_, category) => {
+    const [one, other] = [packets.decider(outcome, 0, category), packets.decider(outcome, 1, category)];
+    return report.answer(report.old, one) !== report.answer(report.list, other);
+  });
+}
+
+// The packets that get another answer, by the pair of entries that decide them in the first category that differs.
+export function pairsOf(report) {
+  const found = new Map();
+  report.packets?.outcomes.forEach((outcome, place) => {
+    const category = changedIn(report, place);
+    if (category < 0) return;
+    const [old, now] = [0, 1].map((list) => report.packets.decider(place, list, category));
+    const name = `${category} ${old} ${now}`;
+    const pair = found.get(name) ?? { category, old, now, total: 0, outcomes: new Set() };
+    pair.total += outcome.total;
+    pair.outcomes.add(place);
+    found.set(name, pair);
+  });
+  return [...found.values()].sort((one, other) => other.total - one.total);
+}

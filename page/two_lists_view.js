@@ -1,0 +1,78 @@
+// SPDX-License-Identifier: BSD-3-Clause
+// Two lists: whether they decide all packets alike, which packets of the captures get another answer, and which lines
+// only one of them has.
+import { count, isOfPacket, keyText, make, many } from './text.js';
+import { pairsOf } from './counts.js';
+import { Table } from './table.js';
+
+function sideOf(report, list, place, what) {
+  const entry = place < 0 ? null : list.entries[place];
+  return make('div', { class: 'decision' }, make('span', { class: 'what' }, what), make('span', { class: 'answer' }, report.answerText(list, place)),
+    make('span', { class: 'code' }, entry ? `${entry.place}: ${entry.text}` : 'no rule matches'));
+}
+
+function familyOf(report, told) {
+  const name = `IPv${told.family}`;
+  if (told.same === null) return make('section', { class: 'card' }, make('h3', {}, `${name}: a part couldn’t be compared`));
+  if (told.same) {
+    return make('section', { class: 'card same' }, make('h3', {}, `${name}: the same`),
+      make('p', { class: 'note' }, told.odd ? 'Every packet gets the same answer. They differ at keys alone that no packet has.' : 'Every packet gets the same answer.'));
+  }
+  const category = report.categories.length > 1 ? `, category ${told.category}` : '';
+  return make('section', { class: 'card differ' }, make('h3', {}, `${name}: some packets get another answer`),
+    make('p', {}, 'The least one is ', make('span', { class: 'code' }, keyText(told.key)), category, '.',
+      isOfPacket(told.key) ? null : make('span', { class: 'mark' }, 'no packet has this key')),
+    sideOf(report, report.old, told.decides[0], 'old'), sideOf(report, report.list, told.decides[1], 'new'));
+}
+
+function pairsTable(page, pairs) {
+  const { report } = page;
+  const text = (list, place) => (place < 0 ? 'no rule matches' : `${list.entries[place].place}: ${list.entries[place].text}`);
+  const code = (title, width, kind = 'code') => ({ title, width, kind, wide: true });
+  const table = new Table({
+    label: 'Packets that get another answer, by the lines that decide', fit: 10,
+    columns: [{ title: 'Packets', width: '6rem', end: true, kind: 'number' }, ...(report.categories.length > 1 ? [code('Category', '5rem', 'number')] : []),
+      code('Old answer', '6.5rem', 'number'), code('Old line', 'minmax(12rem, 1fr)'), code('New answer', '6.5rem', 'number'), code('New line', 'minmax(12rem, 1fr)')],
+    cells: (at) => {
+      const { total, category, old, now } = pairs[at];
+      return [count(total), ...(report.categories.length > 1 ? [String(report.categories[category])] : []), report.answerText(report.old, old),
+        text(report.old, old), report.answerText(report.list, now), text(report.list, now)];
+    },
+    open: (at) => page.showPair(pairs[at]),
+  });
+  table.show(pairs.length);
+  table.element.classList.add('short');
+  return table.element;
+}
+
+function changes(page) {
+  const { packets } = page.report;
+  if (!packets?.total) return [];
+  const pairs = pairsOf(page.report);
+  const total = pairs.reduce((sum, it) => sum + it.total, 0);
+  return [make('h2', {}, `${count(total)} of ${many(packets.total, 'packet')} get${total === 1 ? 's' : ''} another answer`),
+    pairs.length ? make('p', { class: 'note' }, 'A row shows its packets.') : null, pairs.length ? pairsTable(page, pairs) : null];
+}
+
+function onlyIn(list, places, which) {
+  if (!places.length) return [make('p', { class: 'note' }, `Each line of the ${which} list is in the other one too.`)];
+  const table = new Table({
+    label: `Lines of the ${which} list alone`, fit: 10,
+    columns: [{ title: list.what, width: '5rem', end: true, kind: 'number' }, { title: `Only in the ${which} list, ${list.name}`, width: '1fr', kind: 'code', wide: true }],
+    cells: (at) => [list.entries[places[at]].number === null ? 'end' : String(list.entries[places[at]].number), list.entries[places[at]].text],
+  });
+  table.show(places.length);
+  table.element.classList.add('short');
+  return [table.element];
+}
+
+export function twoListsView(page) {
+  const { report } = page;
+  const { compare } = report;
+  if (!compare) return [make('p', { class: 'lead' }, 'The two lists couldn’t be compared over all packets.'), ...changes(page)];
+  return [make('p', { class: 'lead' }, `${report.list.name} beside the old list ${report.old.name}, over all packets that there are.`),
+    make('div', { class: 'cards' }, compare.families.map((it) => familyOf(report, it))),
+    compare.remark ? make('p', { class: 'told' }, `${compare.remark[0].toUpperCase()}${compare.remark.slice(1)}.`) : null,
+    compare.notCompared.map((it) => make('p', { class: 'told' }, `Not compared: ${it}`)), ...changes(page),
+    make('h2', {}, 'Lines that only one list has'), ...onlyIn(report.old, compare.onlyOld, 'old'), ...onlyIn(report.list, compare.onlyNew, 'new')];
+}
