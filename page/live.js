@@ -1,3 +1,112 @@
 // SPDX-License-Identifier: BSD-3-Clause
-export function filesView() { return []; }
-export function startLive() {}
+// Files that are chosen in the page: nothing of them leaves it. A worker asks the module, and can be stopped.
+import { make, sizeText } from './text.js';
+import { contentOf, Packets, Report } from './data.js';
+
+// What the module can hold beside its tables.
+const MOST_BYTES = 1_300_000_000;
+const $ = (id) => document.getElementById(id);
+
+// The module's bytes, the text of the worker where it stands in the page, and the note of what was proved.
+async function parts() {
+  const note = (text) => {
+    const [version, proof] = text.split('\n');
+    return { version: version.replace(/^aclc /, '') || null, proof: proof || null };
+  };
+  if ($('module')) {
+    const [module, worker] = await Promise.all([contentOf($('module')), contentOf($('worker'))]);
+    return { module, worker: new Blob([worker], { type: 'text/javascript' }), note: note($('note')?.textContent ?? '') };
+  }
+  const [module, told] = await Promise.all(['aclc_page.wasm', 'aclc_page.note'].map((name) => fetch(name)));
+  if (!module.ok || !told.ok) throw new Error('The module of the program isn’t beside this page: packaging/page makes it');
+  return { module: new Uint8Array(await module.arrayBuffer()), worker: null, note: note(await told.text()) };
+}
+
+async function checksum(bytes) {
+  if (!globalThis.crypto?.subtle) return null;
+  return Array.from(new Uint8Array(await crypto.subtle.digest('SHA-256', bytes)), (it) => it.toString(16).padStart(2, '0')).join('');
+}
+
+class Live {
+  constructor(page) {
+    this.page = page;
+    this.chosen = { list: null, old: null, captures: [] };
+    this.worker = null;
+    this.told = '';
+  }
+
+  tell(text) {
+    this.told = text;
+    if ($('told')) $('told').textContent = text;
+    if ($('stop')) $('stop').disabled = !this.worker;
+    if ($('go')) $('go').disabled = !!this.worker;
+  }
+
+  async contents() {
+    const all = [this.chosen.list, this.chosen.old, ...this.chosen.captures].filter(Boolean);
+    const large = all.find((it) => it.size > MOST_BYTES);
+    if (large) throw new Error(`${large.name} has ${sizeText(large.size)}, and a page has room for some ${sizeText(MOST_BYTES)}: tools/report takes captures of any length`);
+    const read = async (file) => file && { name: file.name, bytes: new Uint8Array(await file.arrayBuffer()) };
+    return { list: await read(this.chosen.list), old: await read(this.chosen.old), captures: await Promise.all(this.chosen.captures.map(read)),
+      maxWords: Number($('words')?.value || 0) };
+  }
+
+  // Begins the work; what was begun before is stopped.
+  async begin() {
+    this.stop('');
+    try {
+      if (!this.chosen.list) throw new Error('Choose a list of rules first');
+      const [{ module, worker, note }, files] = [await parts(), await this.contents()];
+      const made = { when: new Date().toISOString().slice(0, 19).replace('T', ' '), program: 'the module in this page', checksum: await checksum(module),
+        version: note.version, proof: note.proof, unproved: 'no note of a proof stands beside the module' };
+      this.worker = worker ? new Worker(URL.createObjectURL(worker)) : new Worker('worker.js', { type: 'module' });
+      this.worker.addEventListener('message', ({ data }) => this.take(data));
+      this.worker.addEventListener('error', (event) => this.stop(`The worker ended: ${event.message ?? 'its script can’t be read'}`));
+      this.tell('Starting');
+      this.worker.postMessage({ module, files, made });
+    } catch (fault) {
+      this.stop(`${fault.message}.`);
+    }
+  }
+
+  take({ progress, memory, fault, told, columns }) {
+    if (progress) this.tell(`${progress} (the module has ${sizeText(memory)})`);
+    else if (fault) this.stop(fault);
+    else {
+      this.stop(`Done; the module had ${sizeText(memory)}`);
+      this.page.take(new Report(told, told.packets && new Packets(told.packets, columns, told)));
+    }
+  }
+
+  stop(text) {
+    this.worker?.terminate();
+    this.worker = null;
+    this.tell(text);
+  }
+}
+
+function picker(live, name, text, note, isMany) {
+  const chosen = live.chosen[name];
+  const names = [chosen].flat().filter(Boolean).map((it) => it.name).join(', ');
+  const input = make('input', { type: 'file', id: `file-${name}`, multiple: isMany, onchange: (event) => {
+    live.chosen[name] = isMany ? [...event.target.files] : event.target.files[0] ?? null;
+  } });
+  return make('div', { class: 'card' }, make('label', { for: `file-${name}` }, make('strong', {}, text)), make('p', { class: 'note' }, note), input,
+    names ? make('p', { class: 'note' }, `Chosen: ${names}`) : null);
+}
+
+export function filesView(page) {
+  const { live } = page;
+  const words = make('input', { id: 'words', type: 'number', min: 1, max: 67108864, placeholder: '2097152', size: 10 });
+  return [make('p', { class: 'lead' }, 'Choose files of this machine. Nothing of them leaves this page: it asks for its own files alone.'),
+    make('div', { class: 'cards' }, picker(live, 'list', 'List of rules', 'A rule file. tools/convert makes one of lists of other programs.', false),
+      picker(live, 'captures', 'Captures', 'pcap or pcapng; several may be chosen.', true), picker(live, 'old', 'Old list', 'To see what the list does otherwise.', false)),
+    make('div', { class: 'tools' }, make('button', { type: 'button', id: 'go', disabled: !!live.worker, onclick: () => live.begin() }, 'Show what it does'),
+      make('button', { type: 'button', id: 'stop', disabled: !live.worker, onclick: () => live.stop('Stopped') }, 'Stop'),
+      make('div', { class: 'field' }, make('label', { for: 'words' }, 'max-words'), words), make('span', { id: 'told', class: 'note', role: 'status' }, live.told))];
+}
+
+export function startLive(page) {
+  page.live = new Live(page);
+  page.go('files');
+}

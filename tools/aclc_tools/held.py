@@ -138,6 +138,8 @@ class Held:
 
     def outcome_of(self, kind, found):
         """The outcome of a packet by the numbers of the rules that decide it."""
+        if any(number and number > len(listed.rules) for listed, numbers in zip(self.lists, found) for number in numbers):
+            leave(f"the program answers by a rule that the list hasn't: {found}", 2)
         if kind not in ("ip4", "ip6"):
             decides = (-1,) * (len(self.lists) * len(self.categories))
         else:

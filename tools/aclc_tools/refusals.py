@@ -13,7 +13,7 @@ def refused(role, name, message, code=2):
     """A refusal as the page gets it; the kind is the heading of docs/MISTAKES.md that it stands under."""
     found = MESSAGE.search(message)
     kind = found.group(2) if found else message.partition("aclc: ")[2]
-    kind = "table too large" if " table too large" in kind else kind
+    kind = "read fault" if code == 7 else "table too large" if " table too large" in kind else kind
     return {"role": role, "file": str(name), "message": shown_lines(message), "code": code, "kind": kind,
             "faults": [], "sentence": None}
 
