@@ -67,7 +67,7 @@ class Columns {
       const [kind] = this.outcomes[outcome];
       const from = (outcome * this.lists.length + at) * this.categories;
       const name = Object.keys(KINDS).find((it) => KINDS[it] === kind);
-      if (kind < 4) return name;
+      if (kind < 4) return `${name} -`;
       return [name, ...this.decides.slice(from, from + this.categories).map((it) => (it < 0 ? '-' : String(list.rules[it].match.userdata)))].join(' ');
     });
   }

@@ -14,8 +14,8 @@ async function parts() {
     return { version: version.replace(/^aclc /, '') || null, proof: proof || null };
   };
   if ($('module')) {
-    const [module, worker] = await Promise.all([contentOf($('module')), contentOf($('worker'))]);
-    return { module, worker: new Blob([worker], { type: 'text/javascript' }), note: note($('note')?.textContent ?? '') };
+    const [module, worker, told] = await Promise.all(['module', 'worker', 'note'].map((name) => contentOf($(name))));
+    return { module, worker: new Blob([worker], { type: 'text/javascript' }), note: note(new TextDecoder().decode(told)) };
   }
   const [module, told] = await Promise.all(['aclc_page.wasm', 'aclc_page.note'].map((name) => fetch(name)));
   if (!module.ok || !told.ok) throw new Error('The module of the program isn’t beside this page: packaging/page makes it');

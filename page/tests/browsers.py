@@ -83,13 +83,13 @@ class Browser:
         """Waits until an expression is true."""
         end = time.monotonic() + WAIT
         while not self.evaluate(expression):
-            if time.monotonic() > end:
-                raise Failed(f"{what}: waited {WAIT} s for {expression}; the page says: {self.messages}")
+            if time.monotonic() > end or self.messages:
+                raise Failed(f"{what}: waited for {expression}; the page says: {self.messages}")
             time.sleep(0.1)
 
     def others(self, url):
         """The requests but that for the page."""
-        return [it for it in self.requests if it != url and not it.startswith(("data:", "about:"))]
+        return [it for it in self.requests if it != url and not it.startswith(("data:", "about:", "blob:"))]
 
 
 class Chromium(Browser):

@@ -1,8 +1,9 @@
 #!/usr/bin/env python3
 # SPDX-License-Identifier: BSD-3-Clause
-"""Makes one file of the page, which needs nothing else: page_file MODULE PAGE
+"""Makes one file of the page, which needs nothing else: page_file MODULE NOTE PAGE
 
 PAGE becomes the page with the module of the proved code inside, which packaging/page made. It is opened from a disk.
+NOTE is a file of two lines: `aclc` with the version, and what proved the code.
 tools/report makes a page with a report's data inside in the same way.
 """
 import base64
@@ -51,16 +52,16 @@ def joined(start):
         done[waiting.pop()] = text
 
     visit(start)
-    return "'use strict';\nconst parts = {};\n" + "".join(part_of(*it) for it in done.items())
+    return "'use strict';\nconst pageParts = {};\n" + "".join(part_of(*it) for it in done.items())
 
 
 def part_of(name, text):
     """A module as a function's body, whose exports become the fields of an object."""
     names = EXPORT.findall(text)
-    body = EXPORT.sub("", IMPORT.sub(lambda it: f"const {it[1].replace(' as ', ': ')} = parts.{it[2]};\n", text))
+    body = EXPORT.sub("", IMPORT.sub(lambda it: f"const {it[1].replace(' as ', ': ')} = pageParts.{it[2]};\n", text))
     if re.search(r"^(import|export)\b", body, re.M) or "import(" in body:
         raise Broken(f"{name}.js: an import or export isn't of the form that is joined")
-    return f"parts.{name} = (() => {{\n{body}return {{ {', '.join(names)} }};\n}})();\n"
+    return f"pageParts.{name} = (() => {{\n{body}return {{ {', '.join(names)} }};\n}})();\n"
 
 
 def sum_of(text):
@@ -103,20 +104,22 @@ def report_page(told, columns):
     return page_of(held("report", packed(told, columns)))
 
 
-def live_page(module):
-    """The page with the module inside, which runs in a worker whose text stands inside too."""
+def live_page(module, note):
+    """The page with the module and its note inside; the module runs in a worker whose text stands inside too."""
     worker = joined("worker")
-    inside = held("module", zlib.compress(module, 9)) + held("worker", zlib.compress(worker.encode(), 9))
+    parts = ("module", module), ("worker", worker.encode()), ("note", note)
+    inside = "".join(held(name, zlib.compress(content, 9)) for name, content in parts)
     return page_of(inside, " 'wasm-unsafe-eval' blob:; worker-src blob:")
 
 
 def main():
     """Writes the page."""
-    if len(sys.argv) != 3 or {"--help", "-h"} & set(sys.argv):
+    if len(sys.argv) != 4 or {"--help", "-h"} & set(sys.argv):
         print(__doc__.strip())
         sys.exit(0 if {"--help", "-h"} & set(sys.argv) else 2)
     try:
-        Path(sys.argv[2]).write_text(live_page(Path(sys.argv[1]).read_bytes()), encoding="utf-8")
+        module, note = (Path(name).read_bytes() for name in sys.argv[1:3])
+        Path(sys.argv[3]).write_text(live_page(module, note), encoding="utf-8")
     except (OSError, Broken) as error:
         print(f"page_file: {error}", file=sys.stderr)
         sys.exit(1)

@@ -1,0 +1,323 @@
+# SPDX-License-Identifier: BSD-3-Clause
+"""The page in real browsers: what each view shows, what a user can do, and that nothing is asked of anybody.
+
+Each test opens a page that tools/report made, as a user opens it: from a disk. At its end the console has no message, and
+no request was made.
+"""
+import http.server
+import os
+import tempfile
+import threading
+import unittest
+from pathlib import Path
+
+import browsers
+import made
+from aclc_tools.program import TOP
+from tool import DATA, EXAMPLES, tool
+
+PICTURES = TOP / "page" / "tests" / "out"
+OFFICE, EDITED = EXAMPLES / "office.rules", EXAMPLES / "edited.rules"
+TEXTS = "[...document.querySelectorAll('.table .row:not(.head)')].map(it => it.innerText.replace(/\\s+/g, ' ').trim())"
+VIEW = "document.getElementById('view').innerText"
+SIDE = "document.getElementById('side').innerText"
+LIVE = os.environ.get("ACLC_PAGE")
+
+
+class Files:
+    """The files of the tests, and the pages that are made of them."""
+
+    def __init__(self):
+        self.room = tempfile.TemporaryDirectory()
+        self.folder, self.pages = Path(self.room.name), {}
+
+    def write(self, name, content):
+        """A file of these bytes, or of this text."""
+        path = self.folder / name
+        path.write_bytes(content.encode() if isinstance(content, str) else content)
+        return path
+
+    def page(self, name, code, *words):
+        """The address of a page of a report, which is made once."""
+        if name not in self.pages:
+            page = self.folder / f"{name}.html"
+            done = tool("report", *words, "-o", page)
+            if done[0] != code:
+                raise AssertionError(f"report ends with {done[0]}: {done[2]}")
+            self.pages[name] = page.as_uri()
+        return self.pages[name]
+
+
+FILES = Files()
+
+
+def tearDownModule():
+    FILES.room.cleanup()
+
+
+class Views:
+    """The tests of each browser."""
+
+    browser_class = None
+
+    @classmethod
+    def setUpClass(cls):
+        PICTURES.mkdir(exist_ok=True)
+        cls.browser = cls.browser_class()
+        cls.browser.start()
+        cls.addClassCleanup(cls.browser.__exit__)
+
+    def open(self, url):
+        """Opens a page; at the end of the test it has said nothing, and asked nobody."""
+        self.browser.open(url)
+        self.addCleanup(self.check, url)
+
+    def check(self, url):
+        """The console has no message, and there was no request."""
+        self.assertEqual(self.browser.messages, [])
+        self.assertEqual(self.browser.others(url), [])
+
+    def tab(self, name):
+        """Goes to a view, and gives its text."""
+        self.browser.evaluate(f"document.getElementById('tab-{name}').click()")
+        self.picture(name)
+        return self.browser.evaluate(VIEW)
+
+    def picture(self, name):
+        """Keeps a picture of what is seen."""
+        self.browser.picture(PICTURES / f"{self.browser.name}-{self.id().rpartition('.')[2]}-{name}.png")
+
+    def rows(self):
+        """The texts of the rows that are drawn."""
+        return self.browser.evaluate(TEXTS)
+
+    def click(self, row):
+        """Clicks a row of the table, which are counted from 1."""
+        self.browser.evaluate(f"document.querySelector('.row[aria-rowindex=\"{row + 1}\"]').click()")
+
+    def type(self, identifier, text):
+        """Types into a field."""
+        self.browser.evaluate(f"(() => {{ const it = document.getElementById('{identifier}'); it.value = {text!r}; "
+                              "it.dispatchEvent(new Event(it.tagName === 'SELECT' ? 'change' : 'input')); })()")
+
+    def test_the_views_of_the_examples(self):
+        self.open(FILES.page("office", 1, OFFICE, "--old", EDITED, EXAMPLES / "office.pcap"))
+        rows = self.rows()
+        self.assertTrue(rows[0].startswith("2 @192.168.1.0/24 192.168.2.31/32"), rows)
+        self.assertIn("least key: udp 192.168.1.0:0 → 192.168.2.31:1234 1 33 %", rows[0])
+        self.picture("rules")
+        self.tab("packets")
+        self.assertEqual([it[:46] for it in self.rows()][0], "1 IPv4 udp 192.168.1.5:5000 192.168.2.31:1234 ")
+        self.assertIn("The least one is udp 192.168.1.0:0 → 192.168.2.31:1234.", self.tab("lists"))
+        self.assertIn("1 of 3 packets gets another answer", self.browser.evaluate(VIEW))
+        self.assertIn("nothing to draw", self.tab("time"))
+        self.assertIn("Not known" if "proved" not in self.browser.evaluate(VIEW) else "proved", self.tab("about"))
+
+    def test_a_capture_of_pcapng_and_both_families(self):
+        self.open(FILES.page("mixed", 0, EXAMPLES / "mixed.rules", EXAMPLES / "mixed.pcapng"))
+        self.tab("packets")
+        rows = self.rows()
+        self.assertEqual(len(rows), 8)
+        self.assertTrue(any("[2001:db8::3]:53" in it or "2001:db8" in it for it in rows), rows)
+        self.assertTrue(rows[6].startswith("7 ") and "other" in rows[6] and "short" in rows[7], rows)
+        self.click(8)
+        self.assertIn("cut before the end of its key", self.browser.evaluate(SIDE))
+
+    def test_who_knows_only_iptables_finds_the_line_that_dropped_a_packet(self):
+        self.open(FILES.page("gateway", 0, "--chain", "FORWARD", DATA / "gateway.iptables-save", EXAMPLES / "office.pcap"))
+        self.tab("packets")
+        self.assertIn("drop line 4: :FORWARD DROP [0:0]", self.rows()[0])
+        self.click(3)
+        side = self.browser.evaluate(SIDE)
+        self.picture("why")
+        self.assertLess(side.index("line 13 decides"), side.index("line 4 loses: "))
+        self.assertIn("packets come to it after line 13", side)
+        self.assertNotIn("A fault of this page", side)
+
+    def test_the_page_agrees_with_the_program_on_each_packet(self):
+        self.open(self.hour())
+        self.tab("packets")
+        for row in range(1, 13):
+            self.click(row)
+            side = self.browser.evaluate(SIDE)
+            self.assertNotIn("A fault of this page", side)
+            self.assertTrue("both agree here" in side or "No line matches" in side, side)
+
+    def hour(self):
+        """An hour's traffic by two lists."""
+        return FILES.page("hour", 1, FILES.write("hour.rules", made.RULES), "--old", FILES.write("old.rules", made.OLD_RULES),
+                          FILES.write("hour.pcap", made.capture(2000)))
+
+    def test_a_range_of_the_time_filters_the_packets(self):
+        self.open(self.hour())
+        self.tab("time")
+        self.type("from", "40")
+        self.type("to", "60")
+        picked = self.browser.evaluate("document.querySelector('.tools [role=status]').textContent").split(": ")[1]
+        self.picture("picked")
+        self.browser.evaluate("[...document.querySelectorAll('button')].find(it => it.textContent === 'Show these packets').click()")
+        told = self.browser.evaluate("document.querySelector('.tools [role=status]').textContent")
+        self.assertEqual(told.split(" of ")[0], picked.split(" ")[0])
+
+    def test_filters_keep_the_packets_that_they_name(self):
+        self.open(self.hour())
+        self.tab("packets")
+        self.type("by-port", "22")
+        self.type("by-address", "10.1.0.0/16")
+        rows = self.rows()
+        self.assertTrue(rows and all(":22 " in it and " 10.1.0." in it for it in rows), rows)
+        self.type("by-address", "10.1.0.0/33")
+        self.assertIn("write an address", self.browser.evaluate(VIEW))
+
+    def test_dead_lines_are_struck_out_and_name_what_covers_them(self):
+        self.open(FILES.page("dead", 0, EXAMPLES / "shadowed.rules"))
+        dead = self.browser.evaluate("[...document.querySelectorAll('.row.dead')].map(it => it.innerText)")
+        self.assertEqual(len(dead), 1)
+        self.assertIn("can never decide: line 2 matches all that it matches", dead[0])
+        self.assertEqual(self.browser.evaluate("getComputedStyle(document.querySelector('.row.dead .words')).textDecorationLine"),
+                         "line-through")
+
+    def test_100000_packets_are_scrolled_and_few_rows_drawn(self):
+        self.open(FILES.page("many", 0, FILES.write("hour.rules", made.RULES), FILES.write("many.pcap", made.capture(100_000, hosts=9))))
+        self.tab("packets")
+        self.browser.evaluate("document.querySelector('.table').focus()")
+        self.browser.press("End")
+        self.assertTrue(self.rows()[-1].startswith("100000 "), self.rows()[-1])
+        self.assertLess(len(self.rows()), 100)
+        self.picture("end")
+
+    def test_refusals_have_their_line_and_the_advice(self):
+        bad = FILES.write("bad.rules", OFFICE.read_text().replace("1234 : 1234", "1234"))
+        cut = FILES.write("cut.pcap", (EXAMPLES / "office.pcap").read_bytes()[:-1])
+        self.open(FILES.page("bad", 2, bad, EXAMPLES / "office.pcap"))
+        text = self.browser.evaluate(VIEW)
+        self.picture("list")
+        for part in ("aclc: rules: line 2: bad ports", "1234 0x11/0xFF", "one port written once"):
+            self.assertIn(part, text)
+        self.open(FILES.page("cut", 2, OFFICE, cut))
+        self.assertEqual(self.rows()[0].split(" ")[0], "2")
+        text = self.tab("refusals")
+        for part in ("aclc: capture: record 3: cut", "still being written"):
+            self.assertIn(part, text)
+
+    def test_texts_and_names_are_never_markup(self):
+        list_ = (DATA / "gateway.iptables-save").read_text().replace("a network that sends", made.HOSTILE)
+        sent = FILES.write(made.HOSTILE.replace("/", ""), (EXAMPLES / "office.pcap").read_bytes())
+        self.open(FILES.page("hostile", 0, "--chain", "FORWARD", FILES.write("hostile.iptables", list_), sent))
+        for name in ("rules", "packets", "about"):
+            self.tab(name)
+            self.assertEqual(self.browser.evaluate("document.querySelectorAll('img, iframe, script[src]').length"), 0)
+        self.assertIn("onerror", self.browser.evaluate("document.getElementById('head').innerText"))
+        self.assertNotEqual(self.browser.evaluate("document.title"), "pwned")
+
+    def test_the_keyboard_alone_suffices(self):
+        self.open(FILES.page("office", 1, OFFICE, "--old", EDITED, EXAMPLES / "office.pcap"))
+        self.browser.evaluate("document.getElementById('tab-rules').focus()")
+        self.browser.press("ArrowRight", "Tab")
+        self.assertEqual(self.browser.evaluate("document.querySelector('[role=tab][aria-selected=true]').id"), "tab-packets")
+        self.browser.evaluate("document.querySelector('.table').focus()")
+        self.browser.press("ArrowDown", "Enter")
+        self.assertIn("Packet 2", self.browser.evaluate(SIDE))
+        self.browser.press("Escape")
+        self.assertTrue(self.browser.evaluate("document.getElementById('side').hidden"))
+        self.assertEqual(self.browser.evaluate("document.activeElement.className"), "table")
+
+    def test_each_field_and_table_has_a_name(self):
+        self.open(self.hour())
+        for name in ("rules", "packets", "time", "lists", "about"):
+            self.tab(name)
+            nameless = self.browser.evaluate("[...document.querySelectorAll('input, select, [role=grid], [role=img], button')].filter(it => "
+                                             "!it.labels?.length && !it.ariaLabel && !it.textContent.trim()).map(it => it.outerHTML)")
+            self.assertEqual(nameless, [])
+
+    def test_above_the_limit_the_page_says_so(self):
+        self.open(FILES.page("few", 0, FILES.write("hour.rules", made.RULES), FILES.write("hour.pcap", made.capture(2000)), "--packets", "300"))
+        text = self.tab("packets")
+        self.assertIn("There are 2,000 packets, and all are counted.", text)
+        self.assertIn("2,000 packets in", self.tab("time"))
+
+    def test_a_million_rows(self):
+        server = http.server.ThreadingHTTPServer(("127.0.0.1", 0), Quiet)
+        threading.Thread(target=server.serve_forever, daemon=True).start()
+        self.addCleanup(server.server_close)
+        self.addCleanup(server.shutdown)
+        self.browser.open(f"http://127.0.0.1:{server.server_port}/index.html")
+        rows = self.browser.evaluate("""(async () => {
+            const { Table } = await import('./table.js');
+            const table = new Table({ label: 'a', columns: [{ title: 'a', width: '1fr' }], cells: (at) => [`row ${at}`] });
+            document.getElementById('view').replaceChildren(table.element);
+            table.show(1000000);
+            const seen = () => [...table.element.querySelectorAll('.row:not(.head)')].map((it) => it.innerText.trim());
+            table.choose(999999);
+            await new Promise((it) => setTimeout(it, 200));
+            const last = seen();
+            table.choose(500000);
+            await new Promise((it) => setTimeout(it, 200));
+            const box = table.rows.get(500000).getBoundingClientRect(), all = table.body.getBoundingClientRect();
+            return [last.at(-1), last.length, box.top >= all.top && box.bottom <= all.bottom + 1];
+        })()""")
+        self.assertEqual((rows[0], rows[1] < 100, rows[2]), ("row 999999", True, True))
+        self.assertEqual(self.browser.messages, [])
+        own = [it for it in self.browser.requests if not it.startswith(f"http://127.0.0.1:{server.server_port}/")]
+        self.assertEqual([it for it in own if not it.startswith(("data:", "about:"))], [])
+
+    @unittest.skipUnless(LIVE, "ACLC_PAGE names no page with the module inside")
+    def test_files_that_are_chosen_give_what_the_report_gives(self):
+        self.open(self.hour())
+        expected = self.rows()
+        expected_lists = self.tab("lists")
+        self.browser.open(Path(LIVE).resolve().as_uri())
+        for name, file in (("list", "hour.rules"), ("old", "old.rules"), ("captures", "hour.pcap")):
+            self.browser.choose_files(f"#file-{name}", FILES.folder / file)
+        self.picture("files")
+        self.browser.evaluate("document.getElementById('go').click()")
+        self.browser.until("document.getElementById('tab-rules') !== null", "the module")
+        self.assertEqual(self.rows(), expected)
+        self.assertEqual(self.tab("lists").replace("old.rules", ""), expected_lists.replace(str(FILES.folder / "old.rules"), "").replace(
+            str(FILES.folder) + "/", ""))
+
+    @unittest.skipUnless(LIVE, "ACLC_PAGE names no page with the module inside")
+    def test_a_list_that_is_refused_is_told_by_the_module_too(self):
+        url = Path(LIVE).resolve().as_uri()
+        self.browser.open(url)
+        self.browser.choose_files("#file-list", FILES.write("bad.rules", OFFICE.read_text().replace("1234 : 1234", "1234")))
+        self.browser.evaluate("document.getElementById('go').click()")
+        self.browser.until("document.getElementById('tab-refusals') !== null", "the module")
+        text = self.browser.evaluate(VIEW)
+        for part in ("aclc: rules: line 2: bad ports", "1234 0x11/0xFF", "one port written once"):
+            self.assertIn(part, text)
+
+
+class Quiet(http.server.SimpleHTTPRequestHandler):
+    """Serves the page's folder, and says nothing."""
+
+    def __init__(self, *words):
+        super().__init__(*words, directory=str(TOP / "page"))
+
+    def log_message(self, *_):
+        pass
+
+
+@unittest.skipUnless(browsers.Chromium.path, "chromium isn't installed")
+class InChromium(Views, unittest.TestCase):
+    browser_class = browsers.Chromium
+
+
+@unittest.skipUnless(browsers.Firefox.path, "firefox-esr isn't installed")
+class InFirefox(Views, unittest.TestCase):
+    browser_class = browsers.Firefox
+
+
+@unittest.skipUnless(browsers.Chromium.path, "chromium isn't installed")
+class InTheDark(Views, unittest.TestCase):
+    """Likewise where a user has chosen dark colours, on a small screen."""
+
+    @staticmethod
+    def browser_class():
+        browser = browsers.Chromium(size=(820, 1000), dark=True)
+        browser.name = "dark"
+        return browser
+
+
+if __name__ == "__main__":
+    unittest.main()
