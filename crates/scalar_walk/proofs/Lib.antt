@@ -1,5 +1,6 @@
 pub mod Batches
 pub mod Below
+pub mod Counted
 pub mod Ended
 pub mod Halves
 pub mod InStep

@@ -1,6 +1,7 @@
 -- A lane before and after a step.
 use Rattle.std.proofs.Common.{◌≡◌, ℕ, ◌+◌, ◌*◌, ◌%◌, ◌<◌, ◌≤◌, ◌^◌, ltb, cond, true, false, List, ap, ◌∙◌, arith}
-use Rattle.std.proofs.Common.{inl, inr, length}
+use Rattle.std.proofs.Common.{inl, inr, length, Bool}
+use Rattle.table_sizes.specs.Groups.{max_key_len}
 use Rattle.std.specs.Prelude.{slice_index}
 use Rattle.std.proofs.lemmas.Bool.{cases_Bool}
 use Rattle.std.proofs.lemmas.Bool.Decides.{nat_tests}
@@ -20,6 +21,12 @@ node_is_small low high small node =
     let kind : kind_of (low + 2 ^ 32 * high) < 4 = grind (arith, nat_tests, node) in
     let few : low < 2147483648 = omega (arith, kind, small) in
     grind (arith, nat_tests, few)
+
+-- a count of words that is small rises by one or none
+pub no_wrap : (taken : ℕ) (goes : Bool) {new : ℕ} → taken < max_key_len → new ≡ (taken + cond goes 1 0) % 2 ^ 32 →
+    new ≡ taken + cond goes 1 0
+no_wrap taken true few is = omega (arith, few, is)
+no_wrap taken false few is = omega (arith, few, is)
 
 module _ {words : List ℕ} (low high : ℕ) {byte taken : ℕ} (small : low < 2 ^ 32)
     (ready : CanGoOn words (low + 2 ^ 32 * high) byte taken) where

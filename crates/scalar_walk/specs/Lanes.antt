@@ -1,5 +1,6 @@
 -- Four walks at once, a lane for each: lane i of each vector is that of walk i.
-use Rattle.std.specs.Prelude.{◌≡◌, ◌⊎◌, ℕ, zero, suc, ◌+◌, ◌-◌, ◌*◌, ◌^◌, ◌<◌, ◌≤◌, min, List, slice_index, flat_map}
+use Rattle.std.specs.Prelude.{◌≡◌, ◌⊎◌, ℕ, zero, suc, ◌+◌, ◌-◌, ◌*◌, ◌^◌, ◌<◌, ◌≤◌, min, List, slice_index}
+use Rattle.std.specs.Prelude.{flat_map, nat_lt, ◌&&◌, if◌then◌else◌}
 use Rattle.std.specs.List.{range_with_len}
 
 -- the word whose low and high halves lane i of two vectors has
@@ -28,6 +29,18 @@ pub record HasLanes (fours count : ℕ) : Type 0 where
 unfoldable pub sum_below : (ℕ → ℕ) → ℕ → ℕ
 sum_below f zero = 0
 sum_below f (suc n) = sum_below f n + f n
+
+-- the low half of the least word that ends a walk
+abbrev pub ended : ℕ
+ended = 2 ^ 31
+
+-- 1 if the lane is one of the first of so many, and its low half is that of a word on the way
+abbrev pub counts : List ℕ → ℕ → ℕ → ℕ
+counts lows own lane = if nat_lt lane own && nat_lt (slice_index lows lane) ended then 1 else 0
+
+-- what the first of four lanes, so many, took together
+unfoldable pub counted : List ℕ → ℕ → ℕ
+counted taken own = sum_below (λ lane. if nat_lt lane own then slice_index taken lane else 0) 4
 
 -- what a function gives for each number below n, one after the other
 unfoldable pub pieces_below : {A : Type 0} → (ℕ → List A) → ℕ → List A

@@ -6,7 +6,7 @@ ghost use Rattle.table_sizes.specs.Groups.{max_key_len};
 ghost use Rattle.flat_table.specs.Batch.{key_at};
 ghost use Rattle.flat_table.specs.Word.{indexes};
 ghost use Rattle.scalar_walk.specs.Lanes.{IsGroupLen, HasLanes, lane_key, own_lanes};
-ghost use Rattle.scalar_walk.specs.Lanes.{sum_below, word_in};
+ghost use Rattle.scalar_walk.specs.Lanes.{counted, sum_below, word_in};
 ghost use Rattle.scalar_walk.specs.Rows.{CanGoOn, EndsAt, GoesOn, walks_below};
 
 use crate::vectors::{Four, begin, groups_at, step, words_taken, write_ends};
@@ -28,16 +28,6 @@ fn follow(first: u16, second: u16, third: u16, fourth: u16) -> bool
     u32::from(second) == first + 1
         && u32::from(third) == first + 2
         && u32::from(fourth) == first + 3
-}
-
-/// Counts so many transitions. It does nothing when it is run.
-#[inline]
-fn raise_by<L: Ledger>(taken: u64, steps: &mut Steps<L>)
-    ensures { steps.new ≡ steps.old + taken }
-{
-    for _ in 0..taken {
-        steps.raise();
-    }
 }
 
 /// How many places from one on are read at once: four that stand one after the other, or one.
@@ -111,25 +101,29 @@ fn read_in<const FOURS: usize>(
 }
 
 /// The walks of a four after the bytes at a place of their groups, if it is one of so many fours.
+/// So many of the walks are counted.
 #[inline]
-fn step_in<const FOURS: usize>(
+fn step_in<const FOURS: usize, L: Ledger>(
     four: usize,
     words: &[u64],
     walks: Four,
     groups: u8x16,
     place: usize,
+    own: usize,
+    steps: &mut Steps<L>,
 ) -> Four
     requires place { place < 4 }
     requires ready { four < FOURS → (i : ℕ) → i < 4 → CanGoOn words.now
         (word_in walks.lows walks.highs i) (slice_index groups (4 * i + place))
         (slice_index walks.taken i) }
-    ensures { four < FOURS → (i : ℕ) → i < 4 → GoesOn words.now
+    ensures walks { four < FOURS → (i : ℕ) → i < 4 → GoesOn words.now
         (word_in walks.lows walks.highs i) (slice_index groups (4 * i + place))
         (word_in result.lows result.highs i) (slice_index walks.taken i)
         (slice_index result.taken i) }
+    ensures steps { steps.new + counted walks.taken own ≡ steps.old + counted result.taken own }
 {
     if four < FOURS {
-        step(words, walks, groups, place)
+        step(words, walks, groups, place, own, steps)
     } else {
         walks
     }
@@ -204,6 +198,8 @@ pub(crate) fn walk_in_step<const FOURS: usize, const ALL: bool, L: Ledger>(
     let at_fourth = begins::<ALL>(keys, 12, count, len);
     let root = table.root(trie);
     let walks = begin(root);
+    let (own_first, own_second) = (lanes_of(0, count), lanes_of(4, count));
+    let (own_third, own_fourth) = (lanes_of(8, count), lanes_of(12, count));
     let (mut first, mut second, mut third, mut fourth) = (walks, walks, walks, walks);
     let places = table.places(trie);
     let mut n = 0;
@@ -215,10 +211,10 @@ pub(crate) fn walk_in_step<const FOURS: usize, const ALL: bool, L: Ledger>(
         let of_third = read_in::<FOURS>(2, keys, &at_third, from, read);
         let of_fourth = read_in::<FOURS>(3, keys, &at_fourth, from, read);
         for place in 0..read {
-            first = step_in::<FOURS>(0, words, first, of_first, place);
-            second = step_in::<FOURS>(1, words, second, of_second, place);
-            third = step_in::<FOURS>(2, words, third, of_third, place);
-            fourth = step_in::<FOURS>(3, words, fourth, of_fourth, place);
+            first = step_in::<FOURS, L>(0, words, first, of_first, place, own_first, steps);
+            second = step_in::<FOURS, L>(1, words, second, of_second, place, own_second, steps);
+            third = step_in::<FOURS, L>(2, words, third, of_third, place, own_third, steps);
+            fourth = step_in::<FOURS, L>(3, words, fourth, of_fourth, place, own_fourth, steps);
         }
         n += read;
     }
@@ -226,7 +222,6 @@ pub(crate) fn walk_in_step<const FOURS: usize, const ALL: bool, L: Ledger>(
     taken += end_in::<FOURS>(1, second, rows, count);
     taken += end_in::<FOURS>(2, third, rows, count);
     taken += end_in::<FOURS>(3, fourth, rows, count);
-    raise_by(taken, steps);
     taken
 }
 

@@ -9,9 +9,10 @@
 //! ```
 //!
 //! - `walk`: one key through one trie.
-//! - `in_step`: up to sixteen keys through one trie, in step.
+//! - `in_step`: sixteen keys through one trie, in step.
 //! - `vectors`: one step of four of them, by vectors of four lanes.
 //! - `kinds`: the kinds of words, as `walk` tests them.
+//! - `words`: how walks take words of a table.
 //! - `classify`: the rows, the verdicts of a batch and the winners.
 //!
 //! *Scalar* is said of the promise, each key's walk for itself and no machine in between, and not
@@ -26,6 +27,7 @@ mod in_step;
 mod kinds;
 mod vectors;
 mod walk;
+mod words;
 
 pub use classify::{classify_scalar, classify_scalar_marked, winners};
 pub use vectors::four_places;

@@ -14,15 +14,17 @@
 //! After DPDK's `lib/acl/acl_run_sse.h`, whose vectors have four lanes too.
 
 ghost use Rattle.std.specs.Prelude.{◌≡◌, ℕ, ◌+◌, ◌-◌, ◌*◌, ◌/◌, ◌%◌, ◌<◌, ◌≤◌, ◌^◌, ◌==◌, true, length};
-ghost use Rattle.std.specs.Prelude.{slice_index, All, min, if◌then◌else◌};
+ghost use Rattle.std.specs.Prelude.{slice_index, All, min, if◌then◌else◌, nat_lt, ◌&&◌};
 ghost use Rattle.table_sizes.specs.Groups.{max_key_len};
 ghost use Rattle.flat_table.specs.Word.{full, indexes, quad, is_node, next_place};
-ghost use Rattle.scalar_walk.specs.Lanes.{IsGroupLen, word_in, sum_below};
+ghost use Rattle.scalar_walk.specs.Lanes.{IsGroupLen, counted, counts, ended, word_in, sum_below};
 ghost use Rattle.scalar_walk.specs.Rows.{CanGoOn, GoesOn};
 
 use crate::kinds::FULL;
-use flat_table::{INDEX_BITS, LOW_HALF};
+use crate::words::take_word;
+use flat_table::{INDEX_BITS, LOW_HALF, Steps};
 use std::simd::{u8x16, u32x4, u64x2};
+use std::sync::ledger::Ledger;
 
 /// The bits of the index.
 const INDEX_MASK: u32 = flat_table::INDEX_MASK as u32;
@@ -109,19 +111,59 @@ fn next_places(lows: u32x4, highs: u32x4, bytes: u8x16) -> u32x4
     (lows & u32x4::splat(INDEX_MASK)) + sums(above)
 }
 
-/// The low and the high halves of the words at four places.
+/// Whether the word that a lane takes is counted: the lane has a key of its own, and the low half
+/// of its word is none of a match.
 #[inline]
-fn fetch(words: &[u64], places: &[u32; 4]) -> (u32x4, u32x4)
+fn is_counted(low: u32, lane: usize, own: usize) -> bool
+    ensures { result ≡ (nat_lt lane own && nat_lt low ended) }
+{
+    lane < own && low < ENDED
+}
+
+/// The low and the high halves of the words at four places, which four lanes take from words with
+/// these low halves. So many lanes have keys of their own.
+#[inline]
+fn fetch<L: Ledger>(
+    words: &[u64],
+    places: &[u32; 4],
+    from: &[u32; 4],
+    own: usize,
+    steps: &mut Steps<L>,
+) -> (u32x4, u32x4)
     requires { All (λ place. place < length words.now) places.now }
     ensures lows { length result.0 ≡ 4 }
     ensures highs { length result.1 ≡ 4 }
     ensures words { (i : ℕ) → i < 4 → word_in result.0 result.1 i
         ≡ slice_index words.now (slice_index places.now i) }
+    ensures steps { steps.new ≡ steps.old + (counts from.now own 0 + counts from.now own 1
+        + counts from.now own 2 + counts from.now own 3) }
 {
-    let first = u64x2::from_array([words[places[0] as usize], words[places[1] as usize]]);
-    let second = u64x2::from_array([words[places[2] as usize], words[places[3] as usize]]);
-    let first = u32x4::from_le_bytes(first.to_le_bytes());
-    let second = u32x4::from_le_bytes(second.to_le_bytes());
+    let one = take_word(
+        words,
+        places[0] as usize,
+        is_counted(from[0], 0, own),
+        steps,
+    );
+    let two = take_word(
+        words,
+        places[1] as usize,
+        is_counted(from[1], 1, own),
+        steps,
+    );
+    let three = take_word(
+        words,
+        places[2] as usize,
+        is_counted(from[2], 2, own),
+        steps,
+    );
+    let four = take_word(
+        words,
+        places[3] as usize,
+        is_counted(from[3], 3, own),
+        steps,
+    );
+    let first = u32x4::from_le_bytes(u64x2::from_array([one, two]).to_le_bytes());
+    let second = u32x4::from_le_bytes(u64x2::from_array([three, four]).to_le_bytes());
     first.deinterleave(second)
 }
 
@@ -246,22 +288,34 @@ pub(crate) fn groups_at(keys: &[u8], begins: &[usize; 4], from: usize, count: us
     }
 }
 
-/// Four walks, given by their vectors, after one more byte each: a walk that has ended stays.
+/// Four walks, given by their vectors, after one more byte each: a walk that has ended stays. So
+/// many of the walks are counted.
 #[inline]
-fn go_on(words: &[u64], lows: u32x4, highs: u32x4, taken: u32x4, bytes: u8x16) -> Four
+fn go_on<L: Ledger>(
+    words: &[u64],
+    lows: u32x4,
+    highs: u32x4,
+    taken: u32x4,
+    bytes: u8x16,
+    own: usize,
+    steps: &mut Steps<L>,
+) -> Four
     requires bytes { (i k : ℕ) → i < 4 → k < 4 →
         slice_index bytes (4 * i + k) ≡ slice_index bytes (4 * i) }
     requires ready { (i : ℕ) → i < 4 → CanGoOn words.now (word_in lows highs i)
         (slice_index bytes (4 * i)) (slice_index taken i) }
-    ensures { (i : ℕ) → i < 4 → GoesOn words.now (word_in lows highs i)
+    ensures walks { (i : ℕ) → i < 4 → GoesOn words.now (word_in lows highs i)
         (slice_index bytes (4 * i)) (word_in result.lows result.highs i) (slice_index taken i)
         (slice_index result.taken i) }
+    ensures steps { steps.new + counted taken own ≡ steps.old + counted result.taken own }
 {
     let none = u32x4::splat(0);
     let on_way = lows.simd_lt(u32x4::splat(ENDED));
-    let places = next_places(lows, highs, bytes);
+    let places = on_way
+        .select(next_places(lows, highs, bytes), none)
+        .to_array();
     // A walk that has ended reads word 0, which is then left out.
-    let (next_lows, next_highs) = fetch(words, &on_way.select(places, none).to_array());
+    let (next_lows, next_highs) = fetch(words, &places, &lows.to_array(), own, steps);
     Four {
         lows: on_way.select(next_lows, lows),
         highs: on_way.select(next_highs, highs),
@@ -269,18 +323,34 @@ fn go_on(words: &[u64], lows: u32x4, highs: u32x4, taken: u32x4, bytes: u8x16) -
     }
 }
 
-/// Four walks after the bytes at a place of their groups.
+/// Four walks after the bytes at a place of their groups. So many of them are counted.
 #[inline]
-pub(crate) fn step(words: &[u64], walks: Four, groups: u8x16, place: usize) -> Four
+pub(crate) fn step<L: Ledger>(
+    words: &[u64],
+    walks: Four,
+    groups: u8x16,
+    place: usize,
+    own: usize,
+    steps: &mut Steps<L>,
+) -> Four
     requires place { place < 4 }
     requires ready { (i : ℕ) → i < 4 → CanGoOn words.now (word_in walks.lows walks.highs i)
         (slice_index groups (4 * i + place)) (slice_index walks.taken i) }
-    ensures { (i : ℕ) → i < 4 → GoesOn words.now (word_in walks.lows walks.highs i)
+    ensures walks { (i : ℕ) → i < 4 → GoesOn words.now (word_in walks.lows walks.highs i)
         (slice_index groups (4 * i + place)) (word_in result.lows result.highs i)
         (slice_index walks.taken i) (slice_index result.taken i) }
+    ensures steps { steps.new + counted walks.taken own ≡ steps.old + counted result.taken own }
 {
     let bytes = bytes_in(groups, place);
-    go_on(words, walks.lows, walks.highs, walks.taken, bytes)
+    go_on(
+        words,
+        walks.lows,
+        walks.highs,
+        walks.taken,
+        bytes,
+        own,
+        steps,
+    )
 }
 
 /// Writes the rows that four walks name, from a place on.

@@ -7,6 +7,7 @@ ghost use Rattle.flat_table.specs.Word.{is_node, next_place};
 ghost use Rattle.flat_table.specs.Walk.{walk_row, walk_transitions};
 
 use crate::kinds::{FULL, SINGLE, kind_of};
+use crate::words::take_word;
 use flat_table::{Steps, Table, boundaries_below, index_of, is_end};
 use std::sync::ledger::Ledger;
 
@@ -55,9 +56,9 @@ pub fn walk_one<L: Ledger>(table: &Table, trie: usize, key: &[u8], steps: &mut S
     let mut taken = 0usize;
     // A walk comes to a match before the places end, so no test asks for their end.
     while !is_end(word) {
-        word = words[place_after(word, key[usize::from(places[taken])])];
+        let place = place_after(word, key[usize::from(places[taken])]);
+        word = take_word(words, place, true, steps);
         taken += 1;
-        steps.raise();
     }
     Walked {
         row: index_of(word) as u32,

@@ -1,14 +1,15 @@
-use Rattle.std.proofs.Common.{◌≡◌, ℕ, ◌+◌, ◌*◌, ◌<◌, List, arith, ap, sym, ◌∙◌, length}
+use Rattle.std.proofs.Common.{◌≡◌, ℕ, ◌+◌, ◌*◌, ◌<◌, ◌≤◌, List, arith, ap, sym, ◌∙◌, length}
 use Rattle.std.specs.Prelude.{slice_index}
 use Rattle.flat_table.specs.Walk.{walk_transitions}
 use Rattle.flat_table.specs.Batch.{key_at}
-use Rattle.scalar_walk.specs.Lanes.{own_lanes}
+use Rattle.scalar_walk.specs.Lanes.{own_lanes, sum_below}
 use Rattle.scalar_walk.specs.Rows.{EndsAt}
 use Rattle.scalar_walk.proofs.Ways.{IsWay}
 use Rattle.scalar_walk.proofs.InStep.{SomeKeys, way_of, begins_are, four_begin, lane_ends, lane_took}
 use Rattle.scalar_walk.proofs.InStep.{bytes_in_keys, group_begins, group_ready, group_went, group_ends}
 use Rattle.scalar_walk.proofs.InStep.{lane_took_few, each_of_fours}
 use Rattle.scalar_walk.proofs.Below.{sum_agree}
+use Rattle.scalar_walk.proofs.Counted.{counted_is, counted_none}
 use Rattle.scalar_walk.proofs.LaneKeys.{own_below, own_few, own_of_fours, sum_of_fours}
 use Rattle.scalar_walk.proofs.in_step.walk_in_step.Goals as goal
 
@@ -60,7 +61,20 @@ loop-n-init g c =
     } in
     let begun = λ (first : ℕ). four_begin is_way keys_are first c.root-root.ensures.value c.begin-walks.ensures.words
     c.begin-walks.ensures.taken in
-    (λ h. begun 0, λ h. begun 4, λ h. begun 8, λ h. begun 12, omega arith)
+    let none = λ (own : ℕ). counted_none c.begin-walks.result.taken own c.begin-walks.ensures.taken in (
+      λ h. begun 0,
+      λ h. begun 4,
+      λ h. begun 8,
+      λ h. begun 12,
+      omega arith,
+      omega (
+        arith,
+        none c.lanes_of-own_first.result,
+        none c.lanes_of-own_second.result,
+        none c.lanes_of-own_third.result,
+        none c.lanes_of-own_fourth.result,
+      ),
+    )
 
 pub read_in-of_first-requires-clause-keys : goal.read_in-of_first-requires-clause-keys
 read_in-of_first-requires-clause-keys g c =
@@ -105,6 +119,7 @@ loop-place-init g c =
           (begins_are way c.args.count 8 c.begins-at_third.result len c.begins-at_third.ensures) (c.read_in-of_third.ensures h),
       λ h. group_begins (w.3 h) next.within next.follow is
           (begins_are way c.args.count 12 c.begins-at_fourth.result len c.begins-at_fourth.ensures) (c.read_in-of_fourth.ensures h),
+      w.5,
     )
 
 pub step_in-first-requires-clause-ready : goal.step_in-first-requires-clause-ready
@@ -131,10 +146,18 @@ pub loop-place-preserved : goal.loop-place-preserved
 loop-place-preserved g c =
     let more = c.loop-place-test.true in
     let r = c.loop-place.invariant in (
-      λ h. group_went (r.0 h) more (c.step_in-first.ensures h),
-      λ h. group_went (r.1 h) more (c.step_in-second.ensures h),
-      λ h. group_went (r.2 h) more (c.step_in-third.ensures h),
-      λ h. group_went (r.3 h) more (c.step_in-fourth.ensures h),
+      λ h. group_went (r.0 h) more (c.step_in-first.ensures.walks h),
+      λ h. group_went (r.1 h) more (c.step_in-second.ensures.walks h),
+      λ h. group_went (r.2 h) more (c.step_in-third.ensures.walks h),
+      λ h. group_went (r.3 h) more (c.step_in-fourth.ensures.walks h),
+      omega (
+        arith,
+        r.4,
+        c.step_in-first.ensures.steps,
+        c.step_in-second.ensures.steps,
+        c.step_in-third.ensures.steps,
+        c.step_in-fourth.ensures.steps,
+      ),
     )
 
 pub loop-n-preserved : goal.loop-n-preserved
@@ -146,6 +169,7 @@ loop-n-preserved g c =
       λ h. group_ends (r.2 h) all,
       λ h. group_ends (r.3 h) all,
       omega (arith, all, c.group_len-read.ensures.within),
+      r.4,
     )
 
 pub loop-n-smaller : goal.loop-n-smaller
@@ -261,4 +285,23 @@ returns-clause-limit g c =
       c.end_in-taken-3.ensures.limit,
       c.end_in-taken-4.ensures.limit,
       own_of_fours c.args.count (omega (arith, lanes.enough, lanes.few)),
+    )
+
+pub returns-clause-steps : goal.returns-clause-steps
+returns-clause-steps g c =
+    omega (
+      arith,
+      c.loop-n.invariant.5,
+      counted_is c.loop-n.first.taken c.lanes_of-own_first.result c.lanes_of-own_first.ensures.within,
+      ap (λ (own : ℕ). sum_below (λ (i : ℕ). slice_index c.loop-n.first.taken i) own) c.lanes_of-own_first.ensures.value,
+      c.end_in-taken.ensures.taken,
+      counted_is c.loop-n.second.taken c.lanes_of-own_second.result c.lanes_of-own_second.ensures.within,
+      ap (λ (own : ℕ). sum_below (λ (i : ℕ). slice_index c.loop-n.second.taken i) own) c.lanes_of-own_second.ensures.value,
+      c.end_in-taken-2.ensures.taken,
+      counted_is c.loop-n.third.taken c.lanes_of-own_third.result c.lanes_of-own_third.ensures.within,
+      ap (λ (own : ℕ). sum_below (λ (i : ℕ). slice_index c.loop-n.third.taken i) own) c.lanes_of-own_third.ensures.value,
+      c.end_in-taken-3.ensures.taken,
+      counted_is c.loop-n.fourth.taken c.lanes_of-own_fourth.result c.lanes_of-own_fourth.ensures.within,
+      ap (λ (own : ℕ). sum_below (λ (i : ℕ). slice_index c.loop-n.fourth.taken i) own) c.lanes_of-own_fourth.ensures.value,
+      c.end_in-taken-4.ensures.taken,
     )

@@ -1,6 +1,7 @@
 -- the walks of the fours that there are have read the bytes at the places so far
-use Rattle.std.proofs.Common.{◌-◌, ◌<◌, ◌≤◌, length}
+use Rattle.std.proofs.Common.{◌≡◌, ◌+◌, ◌-◌, ◌<◌, ◌≤◌, length}
 use Rattle.flat_table.specs.Table.{places_of}
+use Rattle.scalar_walk.specs.Lanes.{counted}
 use Rattle.scalar_walk.proofs.InStep.{FourRead, FourWalks, way_of}
 use Rattle.scalar_walk.proofs.in_step.walk_in_step.Given as goal
 
@@ -11,6 +12,8 @@ invariant-loop-n g l =
     × (2 < g.row.FOURS → FourWalks (way_of l.table l.trie l.places l.words) l.keys l.count 8 l.n l.third)
     × (3 < g.row.FOURS → FourWalks (way_of l.table l.trie l.places l.words) l.keys l.count 12 l.n l.fourth)
     × (l.n ≤ length l.places)
+    × (l.steps ≡ l.fn.steps + counted l.first.taken l.own_first + counted l.second.taken l.own_second
+    + counted l.third.taken l.own_third + counted l.fourth.taken l.own_fourth)
 
 abbrev pub decreases-loop-n : goal.decreases-loop-n
 decreases-loop-n g l = length (places_of l.table l.trie) - l.n
@@ -25,3 +28,5 @@ invariant-loop-place g l =
     l.place l.third)
     × (3 < g.row.FOURS → FourRead (way_of l.table l.trie l.places l.words) l.keys l.count 12 l.n l.read l.of_fourth
     l.place l.fourth)
+    × (l.steps ≡ l.fn.steps + counted l.first.taken l.own_first + counted l.second.taken l.own_second
+    + counted l.third.taken l.own_third + counted l.fourth.taken l.own_fourth)

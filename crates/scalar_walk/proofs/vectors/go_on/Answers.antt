@@ -2,31 +2,42 @@ use Rattle.std.proofs.Common.{◌<◌, w32, ltb, lit<, arith, ◌∙◌}
 use Rattle.std.specs.Prelude.{slice_index}
 use Rattle.std.proofs.lemmas.List.{get_or_default}
 use Rattle.scalar_walk.proofs.OneLane.{lane_of, lane_fits, splat, zipped, chosen}
-use Rattle.scalar_walk.proofs.Stepping.{place_there, goes_on}
+use Rattle.scalar_walk.proofs.Counted.{counted_goes}
+use Rattle.scalar_walk.proofs.Stepping.{place_there, goes_on, no_wrap}
 use Rattle.scalar_walk.proofs.vectors.go_on.Goals as goal
 
 pub fetch-requires : goal.fetch-requires
-fetch-requires c i d h =
+fetch-requires g c i d h =
     let first : 0 < 4 = lit< tt in
     let places = chosen first w32 ltb (lane_of c.fits-lows.0 0) (splat first 2147483648)
-    (lane_of c.next_places-places.ensures.len 0) (splat first 0) in
+    (lane_of c.next_places.ensures.len 0) (splat first 0) in
     let within : i < 4 = omega (arith, h, places.len) in
     let low = lane_of c.fits-lows.0 i in
-    let read = chosen within w32 ltb low (splat within 2147483648) (lane_of c.next_places-places.ensures.len i)
+    let read = chosen within w32 ltb low (splat within 2147483648) (lane_of c.next_places.ensures.len i)
     (splat within 0) in
     place_there (slice_index c.args.lows i) (slice_index c.args.highs i) (lane_fits w32 c.args.lows c.fits-lows within)
-    (c.requires.ready i within) (c.next_places-places.ensures.places i within)
+    (c.requires.ready i within) (c.next_places.ensures.places i within)
     (get_or_default _ i d 0 h ∙ read.at)
 
-pub returns : goal.returns
-returns c i within =
+pub returns-clause-walks : goal.returns-clause-walks
+returns-clause-walks g c i within =
     let low = lane_of c.fits-lows.0 i in
     let great = splat within 2147483648 in
-    let read = chosen within w32 ltb low great (lane_of c.next_places-places.ensures.len i) (splat within 0) in
+    let read = chosen within w32 ltb low great (lane_of c.next_places.ensures.len i) (splat within 0) in
     let next_low = chosen within w32 ltb low great (lane_of c.fetch.ensures.lows i) low in
     let next_high = chosen within w32 ltb low great (lane_of c.fetch.ensures.highs i) (lane_of c.fits-highs.0 i) in
     let more = chosen within w32 ltb low great (splat within 1) (splat within 0) in
     goes_on (slice_index c.args.lows i) (slice_index c.args.highs i) (lane_fits w32 c.args.lows c.fits-lows within)
     (c.requires.ready i within) (slice_index c.fetch.result.0 i) (slice_index c.fetch.result.1 i)
-    (c.next_places-places.ensures.places i within) read.at (c.fetch.ensures.words i within) next_low.at next_high.at
+    (c.next_places.ensures.places i within) read.at (c.fetch.ensures.words i within) next_low.at next_high.at
     (zipped within _ (lane_of c.fits-taken.0 i) more).at
+
+pub returns-clause-steps : goal.returns-clause-steps
+returns-clause-steps g c =
+    counted_goes c.args.lows c.args.taken _ c.args.own c.args.steps.now _
+    (λ i within.
+    let low = lane_of c.fits-lows.0 i in
+    let more = chosen within w32 ltb low (splat within 2147483648) (splat within 1) (splat within 0) in
+    no_wrap (slice_index c.args.taken i) (ltb (slice_index c.args.lows i) 2147483648) (c.requires.ready i within).few
+    (zipped within _ (lane_of c.fits-taken.0 i) more).at)
+    c.fetch.ensures.steps

@@ -1,7 +1,8 @@
-use Rattle.std.proofs.Common.{◌<◌, ℕ, List, length, arith, sym, ap, ◌∙◌}
+use Rattle.std.proofs.Common.{◌<◌, ◌+◌, ℕ, List, length, arith, sym, ap, subst, ◌∙◌}
 use Rattle.flat_table.proofs.Offered.{places_bound}
 use Rattle.scalar_walk.proofs.Walks.{root_walks, at_node, one_more, byte_there, word_there, walks_on, row_of_match}
-use Rattle.scalar_walk.proofs.Walks.{transitions_of_match}
+use Rattle.scalar_walk.proofs.Walks.{Walks, transitions_of_match}
+use Rattle.scalar_walk.proofs.Ways.{Way}
 use Rattle.scalar_walk.proofs.walk.walk_one.Goals as goal
 
 pub loop-words-init : goal.loop-words-init
@@ -31,13 +32,13 @@ pub bounds-key-from : goal.bounds-key-from
 bounds-key-from g c =
     byte_there c.loop-words.invariant.walks (sym c.is_end.ensures ∙ c.loop-words-test.true) c.from.ensures
 
-pub place_after-requires : goal.place_after-requires
-place_after-requires g c = at_node c.loop-words.invariant.walks (sym c.is_end.ensures ∙ c.loop-words-test.true)
+pub place_after-place-requires : goal.place_after-place-requires
+place_after-place-requires g c = at_node c.loop-words.invariant.walks (sym c.is_end.ensures ∙ c.loop-words-test.true)
 
-pub bounds-words-place_after : goal.bounds-words-place_after
-bounds-words-place_after g c =
+pub take_word-word-requires : goal.take_word-word-requires
+take_word-word-requires g c =
     word_there c.loop-words.invariant.walks (sym c.is_end.ensures ∙ c.loop-words-test.true) c.from.ensures
-    c.place_after.ensures
+    c.place_after-place.ensures
 
 pub overflow_add-taken : goal.overflow_add-taken
 overflow_add-taken g c =
@@ -50,11 +51,20 @@ loop-words-smaller g c =
     omega (arith, on, ap (λ (xs : List ℕ). length xs) c.places-places.ensures.places)
 
 pub loop-words-preserved : goal.loop-words-preserved
-loop-words-preserved g c = record {
-  walks = walks_on c.loop-words.invariant.walks (sym c.is_end.ensures ∙ c.loop-words-test.true) c.from.ensures
-      c.place_after.ensures;
-  counted = omega arith;
-}
+loop-words-preserved g c =
+    let way : Way = record {
+      table = c.args.table.now;
+      trie = c.args.trie;
+      places = c.places-places.result.now;
+      words = c.words-words.result.now;
+    } in
+    record {
+      walks = subst (λ (word : ℕ). Walks way c.args.key.now (c.loop-words.taken + 1) word)
+          (sym c.take_word-word.ensures.word)
+          (walks_on c.loop-words.invariant.walks (sym c.is_end.ensures ∙ c.loop-words-test.true) c.from.ensures
+          c.place_after-place.ensures);
+      counted = omega (arith, c.loop-words.invariant.counted, c.take_word-word.ensures.steps);
+    }
 
 pub overflow_cast-result-2 : goal.overflow_cast-result-2
 overflow_cast-result-2 g c = omega (arith, ap (λ (xs : List ℕ). length xs) c.places-places.ensures.places)
