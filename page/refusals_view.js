@@ -8,7 +8,7 @@ const ROLES = { list: 'the list', 'old list': 'the old list', capture: 'the capt
 function faultOf(fault) {
   const [before, part, after] = fault.parts;
   return make('div', { class: 'fault' }, make('p', {}, fault.line ? `Line ${fault.line}: ` : '', make('strong', {}, fault.kind)),
-    fault.line ? make('pre', {}, before, make('mark', {}, part || ' '), after) : null, make('p', { class: 'advice' }, fault.sentence));
+    fault.line ? make('pre', {}, before, part ? make('mark', {}, part) : null, after) : null, fault.sentence ? make('p', { class: 'advice' }, fault.sentence) : null);
 }
 
 // The rows of docs/MISTAKES.md that stand under a kind.

@@ -4,6 +4,8 @@ import { make } from './text.js';
 
 // Browsers limit how high an element may be; a higher table scrolls by more than a row for each pixel.
 const MOST_HEIGHT = 12_000_000;
+// No screen is higher.
+const MOST_SEEN = 6000;
 const SPARE = 6;
 let tables = 0;
 
@@ -55,7 +57,7 @@ export class Table {
 
   // How many pixels are seen, and how many rows lie before them.
   seen() {
-    const pixels = Math.max(0, this.body.clientHeight - this.head.offsetHeight);
+    const pixels = Math.max(0, Math.min(MOST_SEEN, this.body.clientHeight - this.head.offsetHeight));
     const scrolled = Math.max(1, this.height - pixels);
     const rows = Math.max(0, this.count * this.rowHeight - pixels) / this.rowHeight;
     return { pixels, before: Math.min(rows, (this.body.scrollTop / scrolled) * rows) };

@@ -9,6 +9,7 @@ import base64
 import json
 import os
 import re
+import select
 import shutil
 import subprocess
 import tempfile
@@ -19,7 +20,7 @@ from sockets import Socket
 
 CHROMIUM = ("chromium", "chromium-browser", "google-chrome")
 FIREFOX = ("firefox-esr", "firefox")
-WAIT = 120
+WAIT = 60
 
 
 def found(names):
@@ -131,6 +132,8 @@ class Chromium(Browser):
     def receive(self):
         """The next message."""
         while b"\0" not in self.rest:
+            if not select.select([self.back], [], [], WAIT)[0]:
+                raise Failed(f"chromium says nothing for {WAIT} s")
             part = os.read(self.back, 1 << 20)
             if not part:
                 raise Failed("chromium ended")

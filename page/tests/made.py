@@ -24,7 +24,7 @@ def capture(count, seed=1, hosts=40):
     for second in sorted(draw.triangular(0, 3600) for _ in range(count)):
         protocol, port = draw.choice(services)
         source = bytes([10, draw.randrange(4), 0, draw.randrange(1, hosts)])
-        destination = draw.choice([bytes([192, 0, 2, draw.randrange(1, 9)]), bytes([203, 0, 113, draw.randrange(1, 255)])])
+        destination = draw.choice([bytes([192, 0, 2, draw.randrange(1, 9)]), bytes([203, 0, 113, draw.randrange(1, hosts)])])
         frame = packet(protocol, source, destination, (draw.randrange(1024, 1024 + hosts), port))
         whole = int(second)
         parts.append(struct.pack("<IIII", START + whole, int((second - whole) * 1e6), len(frame), len(frame)) + frame)

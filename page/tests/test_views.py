@@ -178,7 +178,7 @@ class Views:
                          "line-through")
 
     def test_100000_packets_are_scrolled_and_few_rows_drawn(self):
-        self.open(FILES.page("many", 0, FILES.write("hour.rules", made.RULES), FILES.write("many.pcap", made.capture(100_000, hosts=9))))
+        self.open(FILES.page("many", 0, FILES.write("hour.rules", made.RULES), FILES.write("many.pcap", made.capture(100_000, hosts=4))))
         self.tab("packets")
         self.browser.evaluate("document.querySelector('.table').focus()")
         self.browser.press("End")
@@ -245,6 +245,7 @@ class Views:
         rows = self.browser.evaluate("""(async () => {
             const { Table } = await import('./table.js');
             const table = new Table({ label: 'a', columns: [{ title: 'a', width: '1fr' }], cells: (at) => [`row ${at}`] });
+            document.getElementById('view').className = 'packets';
             document.getElementById('view').replaceChildren(table.element);
             table.show(1000000);
             const seen = () => [...table.element.querySelectorAll('.row:not(.head)')].map((it) => it.innerText.trim());
@@ -284,7 +285,7 @@ class Views:
         self.browser.evaluate("document.getElementById('go').click()")
         self.browser.until("document.getElementById('tab-refusals') !== null", "the module")
         text = self.browser.evaluate(VIEW)
-        for part in ("aclc: rules: line 2: bad ports", "1234 0x11/0xFF", "one port written once"):
+        for part in ("aclc: rules: line 2: bad ports", "192.168.2.31/32", "one port written once"):
             self.assertIn(part, text)
 
 

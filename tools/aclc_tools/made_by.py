@@ -1,9 +1,9 @@
 # SPDX-License-Identifier: BSD-3-Clause
 """Which program answers: its version, its checksum, and the note of what proved it."""
-import gzip
 import hashlib
 import re
 import time
+import zlib
 from pathlib import Path
 
 from aclc_tools.program import BUILT, TOP, program
@@ -35,10 +35,10 @@ def version_near(path):
     for name in PAGES_AT:
         page = path.parent / name
         if page.is_file():
-            opened = gzip.open if page.suffix == ".gz" else open
-            with opened(page, "rt", encoding="utf-8", errors="replace") as file:
-                found = re.match(r'\.TH ACLC 1 "[^"]*" "aclc ([^"]*)"', file.readline())
-            return found.group(1) if found else None
+            content = page.read_bytes()
+            content = zlib.decompress(content, 31) if page.suffix == ".gz" else content
+            found = re.match(rb'\.TH ACLC 1 "[^"]*" "aclc ([^"]*)"', content)
+            return found.group(1).decode(errors="replace") if found else None
     return None
 
 

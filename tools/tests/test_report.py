@@ -146,7 +146,7 @@ class Told(Room):
     def test_a_page_of_100000_packets_by_1000_rules_is_small(self):
         """The time isn't tested: it is 10 seconds at most where nothing else runs."""
         rules = self.write("many.rules", tool("../examples/lists", "access", "1000", "1")[1])
-        sent = self.write("many.pcap", made.capture(100_000, hosts=200))
+        sent = self.write("many.pcap", made.capture(100_000, hosts=30))
         code, _, told, columns = self.report(rules, sent)
         self.assertEqual((code, len(columns["number"])), (0, 100_000))
         self.assertLess(len(self.text), 20 << 20)
