@@ -192,7 +192,7 @@ class Views:
         self.open(FILES.page("bad", 2, bad, EXAMPLES / "office.pcap"))
         text = self.browser.evaluate(VIEW)
         self.picture("list")
-        for part in ("aclc: rules: line 2: bad ports", "1234 0x11/0xFF", "one port written once"):
+        for part in ("aclc: rules: line 2: bad ports", "192.168.2.31/32", "one port written once"):
             self.assertIn(part, text)
         self.open(FILES.page("cut", 2, OFFICE, cut))
         self.assertEqual(self.rows()[0].split(" ")[0], "2")
