@@ -181,6 +181,26 @@ struct aclc_value {
  */
 uint32_t aclc_version(void);
 
+/* A text that stays while the program runs, as a string of C. len counts the zero at its end. */
+struct aclc_text {
+    const char *bytes;
+    size_t len;
+};
+
+/*
+ * aclc_error_text - tells in words what the number of an answer says, also of one that is none.
+ *
+ * text: is written. Its old bytes have to stay as well, as those of {"", 0} do.
+ *
+ * It refuses nothing and takes no memory.
+ */
+void aclc_error_text(aclc_code code, struct aclc_text *text);
+
+/*
+ * aclc_strerror - the same as a string of C. It is a function of this header, over aclc_error_text.
+ */
+static inline const char *aclc_strerror(aclc_code code);
+
 /*
  * aclc_create - makes a context without rules and without a table.
  *
@@ -278,6 +298,30 @@ aclc_code aclc_classify(struct aclc_context *context, const uint8_t *keys, size_
                         uint32_t categories, uint32_t walk, uint32_t *verdicts,
                         size_t verdicts_len, uint64_t *transitions);
 
+/* The bytes of a key, which may stand anywhere, and how many they are. */
+struct aclc_key {
+    const uint8_t *bytes;
+    size_t len;
+};
+
+/*
+ * aclc_classify_keys - writes the verdicts of keys that stand apart. They are those that
+ * aclc_classify writes for the same keys in a row, and so are the transitions.
+ *
+ * keys, key_count: where the bytes of each key are. Keys may overlap. ACLC_NULL is answered for a
+ * key at a null pointer, whatever its length is.
+ * categories, walk, verdicts, verdicts_len, transitions: as for aclc_classify.
+ *
+ * ACLC_EMPTY, ACLC_NOT_BUILT: as for aclc_classify.
+ * ACLC_TOO_MANY_KEYS: there are more than ACLC_MAX_KEYS.
+ * ACLC_BAD_LENGTH: a key hasn't as many bytes as those of the table.
+ * ACLC_BAD_CATEGORIES, ACLC_BAD_WALK, ACLC_BAD_LENGTH, ACLC_NO_LANES: as for aclc_classify.
+ * It takes no memory but 8,080 bytes of the stack, to which it copies some keys at a time.
+ */
+aclc_code aclc_classify_keys(struct aclc_context *context, const struct aclc_key *keys,
+                             size_t key_count, uint32_t categories, uint32_t walk,
+                             uint32_t *verdicts, size_t verdicts_len, uint64_t *transitions);
+
 /*
  * aclc_marks - marks the categories of keys that no rule of the table of the last build wins.
  *
@@ -365,6 +409,13 @@ aclc_code aclc_table_lanes(struct aclc_table *table, uint32_t keys);
 aclc_code aclc_table_classify(struct aclc_table *table, const uint8_t *keys, size_t keys_len,
                               uint32_t categories, uint32_t walk, uint32_t *verdicts,
                               size_t verdicts_len, uint64_t *transitions);
+
+/*
+ * aclc_table_classify_keys - as aclc_classify_keys, without ACLC_NOT_BUILT.
+ */
+aclc_code aclc_table_classify_keys(struct aclc_table *table, const struct aclc_key *keys,
+                                   size_t key_count, uint32_t categories, uint32_t walk,
+                                   uint32_t *verdicts, size_t verdicts_len, uint64_t *transitions);
 
 /*
  * aclc_table_marks - as aclc_marks, without ACLC_NOT_BUILT.

@@ -15,6 +15,12 @@
 /* The pointer, or where it is null, and so leads to no elements, one that isn't. */
 #define ACLC_SOME(type, pointer, other) ((pointer) != NULL ? (pointer) : (type *)(void *)(other))
 
+static inline const char *aclc_strerror(aclc_code code) {
+    struct aclc_text text = {"", 0};
+    aclc_error_text(code, &text);
+    return text.bytes;
+}
+
 static inline aclc_code aclc_checked_create(struct aclc_context *context,
                                             const struct aclc_field *fields, size_t field_count,
                                             uint32_t max_rules, uint32_t *place) {
@@ -58,6 +64,27 @@ static inline aclc_code aclc_checked_classify(struct aclc_context *context, cons
         return ACLC_NULL;
     return aclc_classify(context, ACLC_SOME(const uint8_t, keys, context), keys_len, categories,
                          walk, ACLC_SOME(uint32_t, verdicts, context), verdicts_len, transitions);
+}
+
+/* Whether one of so many keys is at no place. */
+static inline int aclc_is_key_absent(const struct aclc_key *keys, size_t key_count) {
+    for (size_t at = 0; keys != NULL && at < key_count; at++)
+        if (keys[at].bytes == NULL)
+            return 1;
+    return keys == NULL && key_count != 0;
+}
+
+static inline aclc_code aclc_checked_classify_keys(struct aclc_context *context,
+                                                   const struct aclc_key *keys, size_t key_count,
+                                                   uint32_t categories, uint32_t walk,
+                                                   uint32_t *verdicts, size_t verdicts_len,
+                                                   uint64_t *transitions) {
+    if (context == NULL || aclc_is_key_absent(keys, key_count) ||
+        ACLC_ABSENT(verdicts, verdicts_len) || transitions == NULL)
+        return ACLC_NULL;
+    return aclc_classify_keys(context, ACLC_SOME(const struct aclc_key, keys, context), key_count,
+                              categories, walk, ACLC_SOME(uint32_t, verdicts, context),
+                              verdicts_len, transitions);
 }
 
 static inline aclc_code aclc_checked_marks(struct aclc_context *context, const uint8_t *keys,
@@ -120,6 +147,17 @@ static inline aclc_code aclc_checked_table_classify(struct aclc_table *table, co
                                transitions);
 }
 
+static inline aclc_code aclc_checked_table_classify_keys(
+    struct aclc_table *table, const struct aclc_key *keys, size_t key_count, uint32_t categories,
+    uint32_t walk, uint32_t *verdicts, size_t verdicts_len, uint64_t *transitions) {
+    if (table == NULL || aclc_is_key_absent(keys, key_count) ||
+        ACLC_ABSENT(verdicts, verdicts_len) || transitions == NULL)
+        return ACLC_NULL;
+    return aclc_table_classify_keys(table, ACLC_SOME(const struct aclc_key, keys, table), key_count,
+                                    categories, walk, ACLC_SOME(uint32_t, verdicts, table),
+                                    verdicts_len, transitions);
+}
+
 static inline aclc_code aclc_checked_table_marks(struct aclc_table *table, const uint8_t *keys,
                                                  size_t keys_len, uint32_t categories,
                                                  uint8_t *marks, size_t marks_len) {
@@ -150,6 +188,11 @@ static inline aclc_code aclc_checked_load(struct aclc_table *ip4, struct aclc_ta
     return aclc_load(ip4, ip6, ACLC_SOME(const uint8_t, image, ip4), image_len, place);
 }
 
+static inline void aclc_checked_error_text(aclc_code code, struct aclc_text *text) {
+    if (text != NULL)
+        aclc_error_text(code, text);
+}
+
 static inline void aclc_checked_free(struct aclc_context *context) {
     if (context != NULL)
         aclc_free(context);
@@ -160,11 +203,13 @@ static inline void aclc_checked_table_free(struct aclc_table *table) {
         aclc_table_free(table);
 }
 
+#define aclc_error_text aclc_checked_error_text
 #define aclc_create aclc_checked_create
 #define aclc_add_rules aclc_checked_add_rules
 #define aclc_build aclc_checked_build
 #define aclc_lanes aclc_checked_lanes
 #define aclc_classify aclc_checked_classify
+#define aclc_classify_keys aclc_checked_classify_keys
 #define aclc_marks aclc_checked_marks
 #define aclc_sizes aclc_checked_sizes
 #define aclc_reset_rules aclc_checked_reset_rules
@@ -173,6 +218,7 @@ static inline void aclc_checked_table_free(struct aclc_table *table) {
 #define aclc_table_share aclc_checked_table_share
 #define aclc_table_lanes aclc_checked_table_lanes
 #define aclc_table_classify aclc_checked_table_classify
+#define aclc_table_classify_keys aclc_checked_table_classify_keys
 #define aclc_table_marks aclc_checked_table_marks
 #define aclc_table_sizes aclc_checked_table_sizes
 #define aclc_save aclc_checked_save

@@ -222,6 +222,53 @@ static void classify(struct aclc_context *context, struct aclc_table *table, str
         fail("aclc_classify counts where it refuses");
 }
 
+/* Keys that stand apart, by a context, or by a table where one is given. One may be too short. */
+static void classify_apart(struct aclc_context *context, struct aclc_table *table, struct expected *is) {
+    static const uint32_t COUNTS[] = {1, 4, 3, 0, 17};
+    struct aclc_key keys[KEYS];
+    uint8_t bytes[KEYS + KEY_LEN];
+    uint32_t verdicts[KEYS * CATEGORIES + 1], count = below(KEYS + 1), walk = below(8) ? below(2) : 2;
+    uint32_t categories = COUNTS[below(8) ? below(2) : 2 + below(3)], wrong = below(4 * KEYS);
+    size_t room = (size_t)count * (categories > 4 ? 4 : categories) + (below(10) == 0);
+    uint64_t transitions = 77;
+    for (size_t i = 0; i < sizeof bytes; i++)
+        bytes[i] = (uint8_t)(below(2) ? below(8) : below(4) << 6);
+    for (uint32_t i = 0; i < KEYS; i++)
+        keys[i] = (struct aclc_key){bytes + below(KEYS), i == wrong ? below(KEY_LEN) : KEY_LEN};
+    memset(verdicts, 0xa5, sizeof verdicts);
+    aclc_code wanted = ACLC_OK;
+    if (!is->held)
+        wanted = ACLC_EMPTY;
+    else if (!is->built)
+        wanted = ACLC_NOT_BUILT;
+    else if (wrong < count)
+        wanted = ACLC_BAD_LENGTH;
+    else if (categories != 1 && categories != 4)
+        wanted = ACLC_BAD_CATEGORIES;
+    else if (walk > 1)
+        wanted = ACLC_BAD_WALK;
+    else if (room != (size_t)count * categories)
+        wanted = ACLC_BAD_LENGTH;
+    else if (walk == ACLC_WALK_LANES && count > is->lanes)
+        wanted = ACLC_NO_LANES;
+    aclc_code code =
+        table != NULL
+            ? aclc_table_classify_keys(table, keys, count, categories, walk, verdicts, room, &transitions)
+            : aclc_classify_keys(context, keys, count, categories, walk, verdicts, room, &transitions);
+    expect("aclc_classify_keys", code, wanted);
+    for (size_t i = 0; i < room; i++) {
+        uint32_t verdict = 0xa5a5a5a5;
+        if (wanted == ACLC_OK) {
+            const struct aclc_rule *rule = plain(is, keys[i / categories].bytes, (uint32_t)(i % categories));
+            verdict = rule == NULL ? 0 : rule->userdata;
+        }
+        if (verdicts[i] != verdict)
+            fail("aclc_classify_keys writes another verdict");
+    }
+    if (wanted != ACLC_OK && transitions != 77)
+        fail("aclc_classify_keys counts where it refuses");
+}
+
 /* By a context, or by a table where one is given. */
 static void marks(struct aclc_context *context, struct aclc_table *table, const struct expected *is) {
     static const uint32_t COUNTS[] = {1, 4, 3, 0, 17};
@@ -261,6 +308,7 @@ static void null(struct aclc_context *context, struct aclc_table *table) {
     uint32_t number = 7;
     uint64_t wide = 7;
     size_t len = 7;
+    const struct aclc_key key = {&byte, 1}, nowhere = {NULL, 0};
     aclc_code codes[] = {
         aclc_create(NULL, LAYOUT, FIELDS, 1, &number), aclc_create(context, NULL, 1, 1, &number),
         aclc_create(context, LAYOUT, FIELDS, 1, NULL),
@@ -274,6 +322,15 @@ static void null(struct aclc_context *context, struct aclc_table *table) {
         aclc_classify(context, NULL, 1, 1, 0, &number, 1, &wide),
         aclc_classify(context, &byte, 1, 1, 0, NULL, 1, &wide),
         aclc_classify(context, &byte, 1, 1, 0, &number, 1, NULL),
+        aclc_classify_keys(NULL, &key, 1, 1, 0, &number, 1, &wide),
+        aclc_classify_keys(context, NULL, 1, 1, 0, &number, 1, &wide),
+        aclc_classify_keys(context, &nowhere, 1, 1, 0, &number, 1, &wide),
+        aclc_classify_keys(context, &key, 1, 1, 0, NULL, 1, &wide),
+        aclc_classify_keys(context, &key, 1, 1, 0, &number, 1, NULL),
+        aclc_table_classify_keys(NULL, &key, 1, 1, 0, &number, 1, &wide),
+        aclc_table_classify_keys(table, &nowhere, 1, 1, 0, &number, 1, &wide),
+        aclc_table_classify_keys(table, &key, 1, 1, 0, NULL, 1, &wide),
+        aclc_table_classify_keys(table, &key, 1, 1, 0, &number, 1, NULL),
         aclc_marks(NULL, &byte, 1, 1, &byte, 1), aclc_marks(context, NULL, 1, 1, &byte, 1),
         aclc_marks(context, &byte, 1, 1, NULL, 1),
         aclc_sizes(NULL, &len, &len, &wide), aclc_sizes(context, NULL, &len, &wide),
@@ -362,7 +419,8 @@ static void table_call(struct aclc_context *context, const struct expected *is,
     case 0: case 1: copy(context, is, table, &are[one]); break;
     case 2: share(table, &are[one], &tables[1 - one], &are[1 - one]); break;
     case 3: lanes(NULL, table, &are[one]); break;
-    case 4: case 5: classify(NULL, table, &are[one]); break;
+    case 4: classify(NULL, table, &are[one]); break;
+    case 5: classify_apart(NULL, table, &are[one]); break;
     case 6: table_sizes(table, &are[one]); break;
     case 7: marks(NULL, table, &are[one]); break;
     case 8: null(context, table); break;
@@ -372,10 +430,26 @@ static void table_call(struct aclc_context *context, const struct expected *is,
     }
 }
 
+/* Each number of an answer has a text of its own, and all others have one text. */
+static void texts(void) {
+    const char *none = aclc_strerror(1000);
+    for (aclc_code one = 0; one < 100; one++) {
+        int is_answer = one <= ACLC_NO_ROOM || (one >= ACLC_TOO_MANY_FIELDS && one <= ACLC_OFFSET_TOO_LARGE) ||
+                        (one >= ACLC_NO_CATEGORY && one <= ACLC_EMPTY_RANGE) ||
+                        (one >= ACLC_IMAGE_MAGIC && one <= ACLC_IMAGE_KEPT_GROUPS);
+        if ((strcmp(aclc_strerror(one), none) != 0) != is_answer || strlen(none) == 0)
+            fail("aclc_strerror has a text for what is no answer, or none for one that is");
+        for (aclc_code other = 0; is_answer && other < one; other++)
+            if (strcmp(aclc_strerror(one), aclc_strerror(other)) == 0)
+                fail("aclc_strerror has one text for two answers");
+    }
+}
+
 int main(int count, char **words) {
     if (count != 3)
         fail("it needs a seed and a number of orders");
     state = strtoull(words[1], NULL, 10);
+    texts();
     for (unsigned long orders = strtoul(words[2], NULL, 10); orders > 0; orders--) {
         struct aclc_context context = {0};
         struct aclc_table tables[2] = {{0}, {0}};
@@ -392,7 +466,8 @@ int main(int count, char **words) {
             case 2: case 3: add(&context, &is); break;
             case 4: build(&context, &is); break;
             case 5: lanes(&context, NULL, &is); break;
-            case 6: case 7: classify(&context, NULL, &is); break;
+            case 6: classify(&context, NULL, &is); break;
+            case 7: classify_apart(&context, NULL, &is); break;
             case 8: sizes(&context, &is); break;
             case 9: marks(&context, NULL, &is); break;
             default:

@@ -1,4 +1,5 @@
 mod Adding
+mod Apart
 mod AsBox
 mod AsTableBox
 mod Crossing

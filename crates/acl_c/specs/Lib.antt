@@ -4,7 +4,10 @@ pub mod Codes
 pub mod Given
 pub mod Handle
 pub mod Images
+pub mod Keys
 pub mod Marks
 pub mod Rules
 pub mod Shared
 pub mod TableHandle
+pub mod Texts
+pub mod TextsExamples

@@ -14,12 +14,14 @@ ghost use Rattle.acl_c.specs.Codes.{ok, no_memory, not_built, bad_budget, too_la
 ghost use Rattle.acl_c.specs.Shared.{without_lanes};
 ghost use Rattle.acl_c.specs.Calls.{is_budget, with_table, without_rules, without_all, words_in, is_among};
 ghost use Rattle.acl_c.specs.Calls.{context_code, code_of, told_of, AddsStored, AddsGiven};
+ghost use Rattle.acl_c.specs.Keys.{ClassifiesKeys};
 ghost use Rattle.acl_c.specs.Marks.{Marks};
 
 use crate::batch::{ask, walk_keys};
 use crate::codes::{
     BAD_BUDGET, BAD_LENGTH, FULL, NO_MEMORY, NOT_BUILT, OK, TOO_LARGE, TOO_MANY_KEYS, rule_code,
 };
+use crate::keys::{Key, classify_keys};
 use crate::marks::mark;
 use crate::rules::{Place, Tag, Value, are_whole, rules_from};
 use crate::shared::Shared;
@@ -175,6 +177,29 @@ impl Context {
         let lanes = &mut self.lanes;
         *transitions = walk_keys::<Brand>(Blank::new(1), &self.acl, lanes, keys, asked, verdicts);
         OK
+    }
+
+    /// Writes the verdicts of keys that stand apart, and tells the transitions.
+    pub(crate) fn classify_keys(
+        &mut self,
+        keys: &[Key],
+        categories: u32,
+        walk: u32,
+        verdicts: &mut [u32],
+        transitions: &mut u64,
+    ) -> u32
+        ensures is { ClassifiesKeys self.old.acl.table (length self.old.lanes) keys.now categories
+            walk verdicts.old verdicts.new transitions.old transitions.new result }
+        ensures acl { self.new.acl ≡ self.old.acl }
+        ensures len { length self.new.lanes ≡ length self.old.lanes }
+    {
+        let lanes = &mut self.lanes;
+        match self.acl.table() {
+            Some(table) => {
+                classify_keys(table, lanes, keys, categories, walk, verdicts, transitions)
+            }
+            None => NOT_BUILT,
+        }
     }
 
     /// Marks the categories of keys that no rule of the table wins.

@@ -9,12 +9,14 @@ ghost use Rattle.acl_c.specs.Given.{def_of, fields_fault};
 ghost use Rattle.acl_c.specs.Calls.{new_context, without_rules, without_all, words_in, Builds};
 ghost use Rattle.acl_c.specs.Calls.{IfHeld, place_of, AddsGiven, Classifies, Reserves};
 ghost use Rattle.acl_c.specs.Marks.{Marks};
+ghost use Rattle.acl_c.specs.Texts.{error_text};
 
 use crate::codes::{EMPTY, OK, TAKEN};
 use crate::create::create;
 use crate::given::Field;
 use crate::handle::Handle;
 use crate::rules::{Place, Tag, Value};
+use crate::texts::{Text, error_text};
 use std::alloc::Global;
 
 /// The version of the library: 65,536 times the major number, and the minor number.
@@ -23,6 +25,14 @@ pub extern "C" fn aclc_version() -> u32
     ensures { result ≡ 65536 }
 {
     65_536
+}
+
+/// Tells the text of an answer, and for a number that is none a text that says so.
+#[unsafe(no_mangle)]
+pub extern "C" fn aclc_error_text(code: u32, text: &mut Text)
+    ensures { text.new.bytes.now ≡ error_text code }
+{
+    text.bytes = error_text(code);
 }
 
 /// Makes a context without rules and without a table.

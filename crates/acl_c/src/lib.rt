@@ -16,11 +16,13 @@
 //! - `given`, `rules`, `batch`: definitions, rules and keys as C gives them
 //! - `context`, `create`: what a handle of a context leads to, and the calls on it
 //! - `copy`, `shared`: what a handle of a table leads to, and the calls on it
+//! - `keys`: keys that stand apart, each behind a pointer
 //! - `marks`: which categories of keys no rule wins
 //! - `images`: tables that are saved to bytes, and loaded from them
+//! - `texts`: what each answer says
 //! - `box_parts`, `slot`, `handle`: a box behind a pointer that C holds
 //! - `table_slot`, `table_handle`: the same for a table
-//! - `exports`, `table_exports`, `image_exports`: the calls of `aclc.h`
+//! - `exports`, `table_exports`, `key_exports`, `image_exports`: the calls of `aclc.h`
 #![tactic(auto)]
 
 mod batch;
@@ -34,6 +36,8 @@ mod given;
 mod handle;
 mod image_exports;
 mod images;
+mod key_exports;
+mod keys;
 mod marks;
 mod rules;
 mod shared;
@@ -41,3 +45,4 @@ mod slot;
 mod table_exports;
 mod table_handle;
 mod table_slot;
+mod texts;

@@ -1,12 +1,14 @@
 //! What a handle of a table leads to, and the calls on it.
 
-ghost use Rattle.std.specs.Prelude.{◌≡◌, IfOk};
+ghost use Rattle.std.specs.Prelude.{◌≡◌, IfOk, Some, length};
 ghost use Rattle.std.specs.Arc.{arc_value};
 ghost use Rattle.acl_c.specs.Shared.{without_lanes, MakesRoom, ClassifiesShared};
+ghost use Rattle.acl_c.specs.Keys.{ClassifiesKeys};
 
 use crate::batch::{ask, walk_table};
 use crate::codes::{NO_MEMORY, OK, TOO_MANY_KEYS};
 use crate::copy::copy_of;
+use crate::keys::{Key, classify_keys};
 use acl_context::Scratch;
 use flat_table::Table;
 use std::alloc::{AllocError, Global};
@@ -114,5 +116,30 @@ impl Shared {
             verdicts,
         );
         OK
+    }
+    /// Writes the verdicts of keys that stand apart, and tells the transitions.
+    pub(crate) fn classify_keys(
+        &mut self,
+        keys: &[Key],
+        categories: u32,
+        walk: u32,
+        verdicts: &mut [u32],
+        transitions: &mut u64,
+    ) -> u32
+        ensures is { ClassifiesKeys (Some self.old.table) (length self.old.lanes) keys.now
+            categories walk verdicts.old verdicts.new transitions.old transitions.new result }
+        ensures table { self.new.table ≡ self.old.table }
+        ensures len { length self.new.lanes ≡ length self.old.lanes }
+    {
+        let lanes = &mut self.lanes;
+        classify_keys(
+            &self.table,
+            lanes,
+            keys,
+            categories,
+            walk,
+            verdicts,
+            transitions,
+        )
     }
 }
