@@ -22,17 +22,17 @@
  *     Where several answers fit, the one that the comment lists first is given; ACLC_NO_MEMORY
  *     comes at any place of the order, as memory runs out.
  *
- * NULL
+ * NULL, AND ONE HANDLE TWICE
  *     A pointer that is null is answered by ACLC_NULL, before anything else is looked at. One that
  *     has a length may be null where the length is 0. aclc_free and aclc_table_free ignore null.
- *     The functions at the end of this header see to that: the library's own take no null, and a
- *     program that calls those without this header has to keep it.
+ *     A handle that is given twice in a call is refused. The functions at the end of this header
+ *     see to both: the library's own take neither, and a program that calls those without this
+ *     header has to keep it.
  *
  * WHAT ONLY THE CALLER CAN KEEP
  *     - Each pointer is aligned as its type asks for. A pointer with a length leads to so many
  *       elements. A length of bytes is below 2 to the 63rd.
- *     - What the pointers of one call lead to doesn't overlap, unless the call only reads it. So
- *       one handle isn't given twice in a call.
+ *     - What the pointers of one call lead to doesn't overlap, unless the call only reads it.
  *     - A handle is zeros, or as the last call on it left it.
  *     - malloc, realloc and free come from one allocator, and align a block to each power of two up
  *       to 16 that divides its size.
@@ -393,7 +393,7 @@ aclc_code aclc_table_copy(struct aclc_context *context, struct aclc_table *table
  * by lanes.
  *
  * ACLC_EMPTY: the handle of the table is empty.
- * ACLC_TAKEN: the other handle isn't.
+ * ACLC_TAKEN: the other handle isn't, as where it is the same one.
  * ACLC_NO_MEMORY. It takes memory for the handle's own part.
  */
 aclc_code aclc_table_share(struct aclc_table *table, struct aclc_table *other);
@@ -454,8 +454,9 @@ void aclc_table_free(struct aclc_table *table);
  * with no room asks for it. Most of them are the 8 bytes of each word and the 128 of each row.
  *
  * ACLC_EMPTY: one of the handles is empty.
- * ACLC_NO_IMAGE: the keys of ip4 haven't 13 bytes, or those of ip6 haven't 37. It would come of a
- * table with a row that isn't of its rules, too, and no build and no load makes one.
+ * ACLC_NO_IMAGE: the keys of ip4 haven't 13 bytes, or those of ip6 haven't 37, as where both are
+ * one handle. It would come of a table with a row that isn't of its rules, too, and no build and no
+ * load makes one.
  * ACLC_NO_ROOM: the image has more bytes. Nothing is written of it.
  * ACLC_NO_MEMORY. It takes memory for the image, and gives that back.
  */
@@ -472,7 +473,7 @@ aclc_code aclc_save(struct aclc_table *ip4, struct aclc_table *ip6, uint8_t *ima
  * place: is written where a fault of the image is answered, and else stays: the place of the field
  * that fails first, in bytes from 0.
  *
- * ACLC_TAKEN: one of the handles isn't empty.
+ * ACLC_TAKEN: one of the handles isn't empty, or both are one handle.
  * ACLC_IMAGE_MAGIC to ACLC_IMAGE_KEPT_GROUPS: of the first field that fails its check.
  * ACLC_NO_MEMORY. It takes memory for the tables.
  */

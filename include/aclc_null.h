@@ -2,8 +2,8 @@
 /*
  * aclc_null.h: the calls of aclc.h for pointers that may be null. It is a part of that header.
  *
- * The library's functions take pointers that aren't null. Here each has one of its name before it,
- * which answers ACLC_NULL for a null pointer, and hands all else on. A pointer with a length may be
+ * The library's functions take pointers that aren't null, and no handle twice. Here each has one of
+ * its name before it, which refuses those, and hands all else on. A pointer with a length may be
  * null where the length is 0: the library is then given the handle's place, where it reads nothing.
  */
 #ifndef ACLC_NULL_H
@@ -126,6 +126,8 @@ static inline aclc_code aclc_checked_table_share(struct aclc_table *table,
                                                  struct aclc_table *other) {
     if (table == NULL || other == NULL)
         return ACLC_NULL;
+    if (table == other)
+        return table->held != 0 ? ACLC_TAKEN : ACLC_EMPTY;
     return aclc_table_share(table, other);
 }
 
@@ -178,6 +180,8 @@ static inline aclc_code aclc_checked_save(struct aclc_table *ip4, struct aclc_ta
                                           uint8_t *image, size_t room, size_t *image_len) {
     if (ip4 == NULL || ip6 == NULL || ACLC_ABSENT(image, room) || image_len == NULL)
         return ACLC_NULL;
+    if (ip4 == ip6)
+        return ip4->held != 0 ? ACLC_NO_IMAGE : ACLC_EMPTY;
     return aclc_save(ip4, ip6, ACLC_SOME(uint8_t, image, ip4), room, image_len);
 }
 
@@ -185,6 +189,8 @@ static inline aclc_code aclc_checked_load(struct aclc_table *ip4, struct aclc_ta
                                           const uint8_t *image, size_t image_len, uint64_t *place) {
     if (ip4 == NULL || ip6 == NULL || ACLC_ABSENT(image, image_len) || place == NULL)
         return ACLC_NULL;
+    if (ip4 == ip6)
+        return ACLC_TAKEN;
     return aclc_load(ip4, ip6, ACLC_SOME(const uint8_t, image, ip4), image_len, place);
 }
 

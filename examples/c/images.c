@@ -189,8 +189,8 @@ static void load(struct aclc_table *ip4, struct expected *is4, struct aclc_table
     free(bytes);
 }
 
-/* Each pointer that is null is told, and nothing changes. */
-static void null(struct aclc_table *table, struct aclc_table *other) {
+/* Each pointer that is null is told, and one handle that is given twice, and nothing changes. */
+static void null(struct aclc_table *table, struct aclc_table *other, int held) {
     uint8_t byte = 7;
     size_t len = 7;
     uint64_t place = 7;
@@ -202,6 +202,9 @@ static void null(struct aclc_table *table, struct aclc_table *other) {
     expect("aclc_load of null", aclc_load(table, NULL, &byte, 1, &place), ACLC_NULL);
     expect("aclc_load of null", aclc_load(table, other, NULL, 1, &place), ACLC_NULL);
     expect("aclc_load of null", aclc_load(table, other, &byte, 1, NULL), ACLC_NULL);
+    expect("aclc_save of one", aclc_save(table, table, &byte, 1, &len), held ? ACLC_NO_IMAGE : ACLC_EMPTY);
+    expect("aclc_load of one", aclc_load(table, table, &byte, 1, &place), ACLC_TAKEN);
+    expect("aclc_table_share of one", aclc_table_share(table, table), held ? ACLC_TAKEN : ACLC_EMPTY);
     if (byte != 7 || len != 7 || place != 7)
         fail("a call of null writes");
 }
@@ -232,7 +235,7 @@ static void call(struct aclc_table tables[TABLES], struct expected are[TABLES], 
         }
         load(&tables[one], &are[one], &tables[other], &are[other], image);
         break;
-    case 8: null(&tables[one], &tables[other]); break;
+    case 8: null(&tables[one], &tables[other], are[one].held); break;
     default:
         one = below(2) ? one : other;
         give_back(&tables[one], &are[one]);
