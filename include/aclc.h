@@ -40,9 +40,11 @@
  *
  * THREADS
  *     One call at a time on each handle. A handle of a context stays on the thread that filled it.
- *     A handle of a table may go to another thread, where a lock, a start or join of a thread, or a
- *     sequentially consistent atomic orders the calls. Calls on different handles may run at the
- *     same time, also where the handles share a table (aclc_table_share).
+ *     A handle of a table may go to another thread, where the calls are ordered: by a lock, by the
+ *     start or join of a thread, or by an atomic store that releases and a load that acquires what
+ *     it stored. Sequentially consistent ones do both. Calls on different handles may run at the
+ *     same time, also where the handles share a table (aclc_table_share): its handles are counted
+ *     by atomics of the library's own, and nothing else of a table is ever written.
  *
  * MEMORY
  *     It is taken by malloc and realloc, and given back by free. Each comment says whether its call
