@@ -3,8 +3,9 @@
  * The calls of rte_acl.h over those of aclc.h.
  *
  * Rules are kept as they are added, and are read when a build says what their fields are. A build
- * makes a table and a set of handles of it. A call of classify takes a handle that no other call
- * has, gathers the bytes of the fields of some buffers into keys, and has aclc.h classify them.
+ * makes a table and a set of handles of it. A call of classify marks a place that no other call
+ * has, takes its handle of the table that there is, gathers the bytes of the fields of some buffers
+ * into keys, and has aclc.h classify them. So a build may change the table while calls go on.
  *
  * This file isn't proved. What is decided of rules and keys lies below aclc.h, where all is proved:
  * which layouts and values are lawful, which rule wins, and how large a table is.
@@ -31,13 +32,19 @@ _Static_assert((int)RTE_ACL_FIELD_TYPE_MASK == (int)ACLC_FIELD_MASK, "kinds are 
 _Static_assert((int)RTE_ACL_FIELD_TYPE_RANGE == (int)ACLC_FIELD_RANGE, "kinds are types");
 _Static_assert((int)RTE_ACL_FIELD_TYPE_BITMASK == (int)ACLC_FIELD_BITMASK, "kinds are types");
 
-/* A handle of a table, and whether a call has it. Threads don't share the line that it lies in. */
-struct handle {
-    _Alignas(CACHE_LINE) atomic_bool taken;
-    struct aclc_table table;
+/*
+ * A place for a call that is under way: how often one began or ended there, so that the number is
+ * odd while one is. Threads don't share the line that it lies in, nor that of the call's handle.
+ */
+struct mark {
+    _Alignas(CACHE_LINE) atomic_ulong changes;
 };
 
-/* What a build makes: where the bytes of a key lie in a buffer, and the table. */
+struct handle {
+    _Alignas(CACHE_LINE) struct aclc_table table;
+};
+
+/* What a build makes: where the bytes of a key lie in a buffer, and a handle for each mark. */
 struct built {
     uint32_t num_categories;
     uint64_t words;
@@ -55,9 +62,12 @@ struct rte_acl_ctx {
     uint32_t rule_size;
     uint32_t max_rules;
     uint32_t num_rules;
-    uint8_t *rules;      /* num_rules times rule_size bytes */
-    struct built *built; /* NULL where there is no table */
+    uint8_t *rules;                /* num_rules times rule_size bytes */
+    struct mark *marks;            /* HANDLES of them */
+    _Atomic(struct built *) built; /* NULL where there is no table */
 };
+
+#include "rte_acl_build.h"
 
 /* All contexts, in the order in which they were made, and the lock of the links between them. */
 static struct rte_acl_ctx *contexts;
@@ -73,19 +83,34 @@ static struct rte_acl_ctx **link_of_name(const char *name)
     return link;
 }
 
+/* Frees a context and what it leads to. No call is under way on it. */
+static void free_context(struct rte_acl_ctx *ctx)
+{
+    free_built(ctx->built);
+    free(ctx->marks);
+    free(ctx->rules);
+    free(ctx);
+}
+
 /* A context without rules, or NULL where there is no memory. */
 static struct rte_acl_ctx *new_context(const struct rte_acl_param *param)
 {
     size_t size = (size_t)param->max_rule_num * param->rule_size;
-    struct rte_acl_ctx *ctx = size <= PTRDIFF_MAX ? calloc(1, sizeof *ctx) : NULL;
+    struct rte_acl_ctx *ctx;
 
+    if (size > PTRDIFF_MAX)
+        return NULL;
+    ctx = calloc(1, sizeof *ctx);
     if (ctx == NULL)
         return NULL;
     ctx->rules = malloc(size > 0 ? size : 1);
-    if (ctx->rules == NULL) {
-        free(ctx);
+    ctx->marks = aligned_alloc(CACHE_LINE, HANDLES * sizeof *ctx->marks);
+    if (ctx->rules == NULL || ctx->marks == NULL) {
+        free_context(ctx);
         return NULL;
     }
+    for (int at = 0; at < HANDLES; at++)
+        atomic_init(&ctx->marks[at].changes, 0);
     snprintf(ctx->name, sizeof ctx->name, "%s", param->name);
     ctx->socket_id = param->socket_id;
     ctx->alg = RTE_ACL_CLASSIFY_SCALAR;
@@ -125,16 +150,6 @@ struct rte_acl_ctx *rte_acl_find_existing(const char *name)
     return ctx;
 }
 
-/* Frees what a build made. */
-static void free_built(struct built *built)
-{
-    if (built == NULL)
-        return;
-    for (int at = 0; at < HANDLES; at++)
-        aclc_table_free(&built->handles[at].table);
-    free(built);
-}
-
 void rte_acl_free(struct rte_acl_ctx *ctx)
 {
     struct rte_acl_ctx **link = &contexts;
@@ -147,20 +162,8 @@ void rte_acl_free(struct rte_acl_ctx *ctx)
     else
         *link = ctx->next;
     pthread_mutex_unlock(&lock);
-    if (ctx == NULL)
-        return;
-    free_built(ctx->built);
-    free(ctx->rules);
-    free(ctx);
-}
-
-/* What the rule at some place of a list is for. Rules needn't be aligned. */
-static struct rte_acl_rule_data data_of(const uint8_t *rules, uint32_t rule_size, uint32_t place)
-{
-    struct rte_acl_rule_data data;
-
-    memcpy(&data, rules + (size_t)place * rule_size, sizeof data);
-    return data;
+    if (ctx != NULL)
+        free_context(ctx);
 }
 
 int rte_acl_add_rules(struct rte_acl_ctx *ctx, const struct rte_acl_rule *rules, uint32_t num)
@@ -184,6 +187,27 @@ int rte_acl_add_rules(struct rte_acl_ctx *ctx, const struct rte_acl_rule *rules,
     return 0;
 }
 
+/*
+ * Puts a table, or none, in the place of the one before, and frees that one once no call has it.
+ *
+ * A call marks its place before it reads which table there is. So one that read the old table has
+ * marked its place before the exchange, and until it ends the number is odd and stays. All of these
+ * are sequentially consistent.
+ */
+static void swap_built(struct rte_acl_ctx *ctx, struct built *built)
+{
+    struct built *old = atomic_exchange(&ctx->built, built);
+
+    if (old == NULL)
+        return;
+    for (int at = 0; at < HANDLES; at++) {
+        unsigned long changes = atomic_load(&ctx->marks[at].changes);
+        while (changes % 2 != 0 && atomic_load(&ctx->marks[at].changes) == changes)
+            sched_yield();
+    }
+    free_built(old);
+}
+
 void rte_acl_reset_rules(struct rte_acl_ctx *ctx)
 {
     if (ctx != NULL)
@@ -195,163 +219,7 @@ void rte_acl_reset(struct rte_acl_ctx *ctx)
     if (ctx == NULL)
         return;
     ctx->num_rules = 0;
-    free_built(ctx->built);
-    ctx->built = NULL;
-}
-
-/* The number that a refusal of aclc.h is here. */
-static int number_of(aclc_code code)
-{
-    if (code == ACLC_NO_MEMORY || code == ACLC_BAD_LIMIT)
-        return -ENOMEM;
-    return code == ACLC_OK ? 0 : -EINVAL;
-}
-
-/* Whether the numbers of a configuration are in range, and its fields lie in a rule. */
-static bool is_in_range(const struct rte_acl_ctx *ctx, const struct rte_acl_config *cfg)
-{
-    if (cfg->num_categories == 0 || cfg->num_categories > RTE_ACL_MAX_CATEGORIES ||
-        cfg->num_fields == 0 || cfg->num_fields > RTE_ACL_MAX_FIELDS)
-        return false;
-    for (uint32_t at = 0; at < cfg->num_fields; at++)
-        if (ctx->rule_size < RTE_ACL_RULE_SZ(cfg->defs[at].field_index + 1u))
-            return false;
-    return true;
-}
-
-/*
- * Says the definitions as aclc.h wants them, and where the groups lie.
- *
- * A field begins a group where its input index isn't that of the field before. So groups are
- * numbered here, and offsets count from the begin of the group. aclc_create refuses what is no
- * layout then: for one, fields of a group that don't lie together.
- */
-static void read_fields(const struct rte_acl_config *cfg, struct aclc_field *fields,
-                        struct built *built)
-{
-    uint32_t begin = cfg->defs[0].offset;
-    uint8_t group = 0;
-
-    built->first = begin;
-    for (uint32_t at = 0; at < cfg->num_fields; at++) {
-        const struct rte_acl_field_def *def = &cfg->defs[at];
-        if (at > 0 && def->input_index != def[-1].input_index) {
-            group += def[-1].size == 2 * GROUP ? 2 : 1;
-            begin = def->offset;
-            built->offsets[built->groups++] = begin;
-            if (def->size == 2 * GROUP)
-                built->offsets[built->groups++] = begin + GROUP;
-        }
-        fields[at] = (struct aclc_field){def->type, def->size, (uint8_t)at, group,
-                                         def->offset - begin};
-    }
-}
-
-/* The number in a member of so many bytes. */
-static uint64_t number_in(const union rte_acl_field_types *member, uint8_t size)
-{
-    if (size <= 2)
-        return size == 1 ? member->u8 : member->u16;
-    return size == 4 ? member->u32 : member->u64;
-}
-
-/* What a rule says of a field. */
-static struct aclc_value value_of(const struct rte_acl_field_def *def, const uint8_t *rule)
-{
-    struct rte_acl_field field;
-
-    memcpy(&field, rule + RTE_ACL_RULE_SZ(def->field_index), sizeof field);
-    return (struct aclc_value){number_in(&field.value, def->size),
-                               def->type == RTE_ACL_FIELD_TYPE_MASK
-                                   ? field.mask_range.u32
-                                   : number_in(&field.mask_range, def->size)};
-}
-
-/* The rules that take part in the categories of a build. */
-struct taking {
-    uint32_t count;
-    struct aclc_rule *rules;
-    struct aclc_value *values; /* num_fields for each rule */
-};
-
-/* Reads the rules that take part, or answers why not. What it took is freed by the caller. */
-static int read_rules(const struct rte_acl_ctx *ctx, const struct rte_acl_config *cfg,
-                      struct taking *taking)
-{
-    const uint32_t categories = (1u << cfg->num_categories) - 1;
-    struct aclc_value *value;
-
-    taking->rules = malloc(((size_t)ctx->num_rules + 1) * sizeof *taking->rules);
-    taking->values =
-        malloc(((size_t)ctx->num_rules * cfg->num_fields + 1) * sizeof *taking->values);
-    if (taking->rules == NULL || taking->values == NULL)
-        return -ENOMEM;
-    value = taking->values;
-    for (uint32_t place = 0; place < ctx->num_rules; place++) {
-        struct rte_acl_rule_data data = data_of(ctx->rules, ctx->rule_size, place);
-        if ((data.category_mask & categories) == 0)
-            continue;
-        taking->rules[taking->count++] = (struct aclc_rule){data.category_mask & categories,
-                                                            data.priority, data.userdata};
-        for (uint32_t at = 0; at < cfg->num_fields; at++)
-            *value++ = value_of(&cfg->defs[at], ctx->rules + (size_t)place * ctx->rule_size);
-    }
-    return taking->count > 0 ? 0 : -EINVAL;
-}
-
-/* Fills an empty handle with a context of the fields and of the rules that take part. */
-static int fill_context(const struct rte_acl_ctx *ctx, const struct rte_acl_config *cfg,
-                        struct built *built, struct aclc_context *context)
-{
-    struct aclc_field fields[RTE_ACL_MAX_FIELDS];
-    struct taking taking = {0, NULL, NULL};
-    uint32_t place, rule, field;
-    int answer;
-
-    read_fields(cfg, fields, built);
-    answer = read_rules(ctx, cfg, &taking);
-    if (answer == 0)
-        answer = number_of(aclc_create(context, fields, cfg->num_fields, taking.count, &place));
-    if (answer == 0)
-        answer = number_of(aclc_add_rules(context, taking.rules, taking.count, taking.values,
-                                          (size_t)taking.count * cfg->num_fields, &rule, &field));
-    free(taking.rules);
-    free(taking.values);
-    return answer;
-}
-
-/*
- * Builds the table of a context under a limit of bytes, or of what aclc.h allows where it is 0.
- *
- * Rules are split into tries as the budget asks for. So the usual one comes first: without it,
- * rules that hardly go together would take the whole limit before they are split.
- */
-static int build_table(struct aclc_context *context, size_t max_size, uint64_t *words)
-{
-    uint64_t limit = max_size / WORD;
-    aclc_code code;
-
-    if (max_size == 0 || limit > ACLC_MAX_WORDS)
-        limit = ACLC_MAX_WORDS;
-    if (limit == 0)
-        return -ERANGE;
-    code = aclc_build(context, limit < USUAL_WORDS ? limit : USUAL_WORDS, words);
-    if (code == ACLC_TOO_LARGE && limit > USUAL_WORDS)
-        code = aclc_build(context, limit, words);
-    if (code != ACLC_TOO_LARGE)
-        return number_of(code);
-    return max_size != 0 && *words > max_size / WORD ? -ERANGE : -ENOMEM;
-}
-
-/* Makes all handles of the table of a context. */
-static int share_table(struct aclc_context *context, struct built *built)
-{
-    struct aclc_table *first = &built->handles[0].table;
-    aclc_code code = aclc_table_copy(context, first);
-
-    for (int at = 1; at < HANDLES && code == ACLC_OK; at++)
-        code = aclc_table_share(first, &built->handles[at].table);
-    return number_of(code);
+    swap_built(ctx, NULL);
 }
 
 int rte_acl_build(struct rte_acl_ctx *ctx, const struct rte_acl_config *cfg)
@@ -377,8 +245,7 @@ int rte_acl_build(struct rte_acl_ctx *ctx, const struct rte_acl_config *cfg)
         free_built(built);
         return answer;
     }
-    free_built(ctx->built);
-    ctx->built = built;
+    swap_built(ctx, built);
     return 0;
 }
 
@@ -393,19 +260,15 @@ static unsigned place_of_thread(void)
     return number - 1;
 }
 
-/*
- * Takes a handle. With more calls under way than there are handles it waits for one.
- *
- * The exchange and the store that gives the handle back are sequentially consistent: aclc.h asks
- * for that of a handle that goes from thread to thread.
- */
-static struct handle *take_handle(struct built *built)
+/* Marks the place of a call, and tells which. With more calls than places it waits for one. */
+static unsigned mark_place(const struct rte_acl_ctx *ctx)
 {
     for (unsigned place = place_of_thread();; sched_yield())
-        for (unsigned tried = 0; tried < HANDLES; tried++) {
-            struct handle *handle = &built->handles[(place + tried) % HANDLES];
-            if (!atomic_exchange(&handle->taken, true))
-                return handle;
+        for (unsigned tried = 0; tried < HANDLES; tried++, place = (place + 1) % HANDLES) {
+            atomic_ulong *changes = &ctx->marks[place].changes;
+            unsigned long seen = atomic_load(changes);
+            if (seen % 2 == 0 && atomic_compare_exchange_strong(changes, &seen, seen + 1))
+                return place;
         }
 }
 
@@ -417,14 +280,14 @@ static void gather(const struct built *built, const uint8_t *buffer, uint8_t *ke
         memcpy(key, buffer + built->offsets[group], GROUP);
 }
 
-/* Classifies buffers by a table, some at a time. */
-static int classify(struct built *built, const uint8_t **data, uint32_t *results, size_t num,
-                    uint32_t categories)
+/* Classifies buffers by a table, some at a time, through a handle that no other call has. */
+static aclc_code classify_by(const struct built *built, struct aclc_table *table,
+                             const uint8_t **data, uint32_t *results, size_t num,
+                             uint32_t categories)
 {
     uint8_t keys[KEYS_AT_A_TIME];
     const size_t key_len = 1 + (size_t)GROUP * built->groups;
     const size_t most = KEYS_AT_A_TIME / key_len;
-    struct handle *handle = take_handle(built);
     aclc_code code = ACLC_OK;
     uint64_t transitions;
 
@@ -432,12 +295,25 @@ static int classify(struct built *built, const uint8_t **data, uint32_t *results
         some = num - from < most ? num - from : most;
         for (size_t at = 0; at < some; at++)
             gather(built, data[from + at], keys + at * key_len);
-        code = aclc_table_classify(&handle->table, keys, some * key_len, categories,
-                                   ACLC_WALK_SCALAR, results + from * categories,
-                                   some * categories, &transitions);
+        code = aclc_table_classify(table, keys, some * key_len, categories, ACLC_WALK_SCALAR,
+                                   results + from * categories, some * categories, &transitions);
     }
-    atomic_store(&handle->taken, false);
-    return number_of(code);
+    return code;
+}
+
+/* Classifies buffers by the table that there is when the call has marked its place. */
+static int classify(const struct rte_acl_ctx *ctx, const uint8_t **data, uint32_t *results,
+                    size_t num, uint32_t categories)
+{
+    const unsigned place = mark_place(ctx);
+    struct built *built = atomic_load(&ctx->built);
+    int answer = -EINVAL;
+
+    if (built != NULL)
+        answer = number_of(classify_by(built, &built->handles[place].table, data, results, num,
+                                       categories));
+    atomic_fetch_add(&ctx->marks[place].changes, 1);
+    return answer;
 }
 
 /* Refuses the number of no algorithm, and an algorithm that isn't of x86. */
@@ -459,9 +335,9 @@ int rte_acl_classify_alg(const struct rte_acl_ctx *ctx, const uint8_t **data, ui
     answer = check_algorithm(alg);
     if (answer != 0 || num == 0 || categories == 0)
         return answer;
-    if (ctx == NULL || data == NULL || results == NULL || ctx->built == NULL)
+    if (ctx == NULL || data == NULL || results == NULL)
         return -EINVAL;
-    return classify(ctx->built, data, results, num, categories);
+    return classify(ctx, data, results, num, categories);
 }
 
 int rte_acl_classify(const struct rte_acl_ctx *ctx, const uint8_t **data, uint32_t *results,
@@ -481,14 +357,16 @@ int rte_acl_set_ctx_classify(struct rte_acl_ctx *ctx, enum rte_acl_classify_alg 
 
 void rte_acl_dump(const struct rte_acl_ctx *ctx)
 {
+    const struct built *built = ctx != NULL ? atomic_load(&ctx->built) : NULL;
+
     if (ctx == NULL)
         return;
     printf("acl context <%s>@%p\n", ctx->name, (const void *)ctx);
     printf("  socket_id=%d\n  alg=%d\n", ctx->socket_id, (int)ctx->alg);
     printf("  max_rules=%" PRIu32 "\n  rule_size=%" PRIu32 "\n", ctx->max_rules, ctx->rule_size);
     printf("  num_rules=%" PRIu32 "\n", ctx->num_rules);
-    printf("  num_categories=%" PRIu32 "\n", ctx->built != NULL ? ctx->built->num_categories : 0);
-    printf("  words=%" PRIu64 "\n", ctx->built != NULL ? ctx->built->words : 0);
+    printf("  num_categories=%" PRIu32 "\n", built != NULL ? built->num_categories : 0);
+    printf("  words=%" PRIu64 "\n", built != NULL ? built->words : 0);
 }
 
 void rte_acl_list_dump(void)
