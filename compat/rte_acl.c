@@ -92,13 +92,13 @@ static void free_context(struct rte_acl_ctx *ctx)
     free(ctx);
 }
 
-/* A context without rules, or NULL where there is no memory. */
+/* A context without rules, or NULL where there is no memory or no such socket. */
 static struct rte_acl_ctx *new_context(const struct rte_acl_param *param)
 {
     size_t size = (size_t)param->max_rule_num * param->rule_size;
     struct rte_acl_ctx *ctx;
 
-    if (size > PTRDIFF_MAX)
+    if (size > PTRDIFF_MAX || param->socket_id >= RTE_MAX_NUMA_NODES)
         return NULL;
     ctx = calloc(1, sizeof *ctx);
     if (ctx == NULL)
