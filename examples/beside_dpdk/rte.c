@@ -1,12 +1,14 @@
 /* SPDX-License-Identifier: BSD-3-Clause */
-// Walks keys by DPDK's librte_acl: rte RULES KEYS, and then a question on each line of standard input
+// Walks keys by DPDK's librte_acl: rte RULES KEYS [WORDS ..], and then a question on each line of standard input
 //
 // RULES has for each rule eleven numbers of 4 bytes, low byte first: protocol and mask, source and prefix length, destination
 // and prefix length, the ends of both ranges of ports, and the userdata. The first rule has the greatest priority. KEYS has 16
-// bytes for each key: protocol, source, destination and ports in network order, and three bytes that aren't read. It prints the
-// microseconds that the build took. A question has three numbers: the algorithm of rte_acl.h (1 scalar, 2 SSE, 0 the best one
-// that this processor has), how many keys are walked at a time, and how many rounds over all keys. The answer is the least time of a
-// round in nanoseconds a key. With no rounds it is the userdata of each key, a line for each.
+// bytes for each key: protocol, source, destination and ports in network order, and three bytes that aren't read. The other words
+// go to DPDK. It prints the library's account of the context, which tells the algorithm that it chose, and the microseconds that
+// the build took. A question has three numbers: the algorithm of rte_acl.h (1 scalar, 2 SSE, 3 AVX2, 6 and 7 AVX512, 0 the one that
+// was chosen), how many keys are walked at a time, and how many rounds over all keys. The answer is the nanoseconds of a
+// key, of the least times of 32 parts of the keys, or "none" where this processor doesn't have the algorithm. With no rounds it is the userdata of each key, a
+// line for each.
 #include <stdint.h>
 #include <stdio.h>
 #include <stdlib.h>
@@ -15,7 +17,7 @@
 #include <rte_acl.h>
 #include <rte_eal.h>
 
-enum { NUMBERS = 11, KEY = 16, MOST_RULES = 262144 };
+enum { NUMBERS = 11, KEY = 16, MOST_RULES = 262144, MOST_WORDS = 16, PARTS = 32 };
 
 // The fields of an IPv4 key. A group of four bytes is read at a time; the two ports are one.
 static const struct rte_acl_field_def fields[5] = {
@@ -57,31 +59,49 @@ static struct rte_acl_ctx *table(const uint32_t *numbers, size_t rules) {
     for (int field = 0; field < 5; field++) config.defs[field] = fields[field];
     double begun = seconds();
     if (rte_acl_build(ctx, &config)) exit(4);
-    printf("build %.0f\n", (seconds() - begun) * 1e6);
+    double built = seconds();
+    rte_acl_dump(ctx);
+    printf("build %.0f\n", (built - begun) * 1e6);
     return ctx;
 }
 
-// The least time of a round for a key.
+// Whether this processor has the algorithm, as the library says of a call with no keys.
+static int is_there(struct rte_acl_ctx *ctx, const uint8_t **places, uint32_t *answers, int algorithm) {
+    return !algorithm || rte_acl_classify_alg(ctx, places, answers, 0, 1, algorithm) == 0;
+}
+
+// Walks the keys from one place to another, so many at a time, and tells the seconds.
+static double walk(struct rte_acl_ctx *ctx, const uint8_t **places, size_t from, size_t to, uint32_t *answers, int algorithm,
+                   size_t at_a_time) {
+    double begun = seconds();
+    for (size_t at = from; at < to; at += at_a_time) {
+        uint32_t some = to - at < at_a_time ? to - at : at_a_time;
+        if (algorithm ? rte_acl_classify_alg(ctx, places + at, answers + at, some, 1, algorithm)
+                      : rte_acl_classify(ctx, places + at, answers + at, some, 1))
+            exit(5);
+    }
+    return seconds() - begun;
+}
+
+// The nanoseconds of a key: the least times of all parts of the keys, each over all rounds.
 static double least_of(struct rte_acl_ctx *ctx, const uint8_t **places, size_t keys, uint32_t *answers, int algorithm,
                        size_t at_a_time, int rounds) {
-    double least = 1e9;
-    do {
-        double begun = seconds();
-        for (size_t at = 0; at < keys; at += at_a_time) {
-            uint32_t some = keys - at < at_a_time ? keys - at : at_a_time;
-            if (algorithm ? rte_acl_classify_alg(ctx, places + at, answers + at, some, 1, algorithm)
-                          : rte_acl_classify(ctx, places + at, answers + at, some, 1))
-                exit(5);
+    double least[PARTS], sum = 0;
+    for (int round = 0; round == 0 || round < rounds; round++)
+        for (int part = 0; part < PARTS; part++) {
+            double time = walk(ctx, places, keys * part / PARTS, keys * (part + 1) / PARTS, answers, algorithm, at_a_time);
+            if (round == 0 || time < least[part]) least[part] = time;
         }
-        if (seconds() - begun < least) least = seconds() - begun;
-    } while (--rounds > 0);
-    return least / keys * 1e9;
+    for (int part = 0; part < PARTS; part++) sum += least[part];
+    return sum / keys * 1e9;
 }
 
 int main(int count, char **words) {
-    char *eal[] = {"rte", "--no-huge", "--no-pci", "--no-shconf", "--no-telemetry", "-l", "0", "-m", "3072", "--log-level=*:1",
-                   "--log-level=lib.acl:8"};
-    if (count != 3 || rte_eal_init(sizeof eal / sizeof *eal, eal) < 0) return 2;
+    char *eal[MOST_WORDS] = {"rte", "--no-huge", "--no-pci", "--no-shconf", "--no-telemetry", "-l", "0", "-m", "3072",
+                             "--log-level=*:1", "--log-level=lib.acl:8"};
+    int given = 11;
+    for (int at = 3; at < count && given < MOST_WORDS; at++) eal[given++] = words[at];
+    if (count < 3 || rte_eal_init(given, eal) < 0) return 2;
     size_t size, keys;
     uint32_t *numbers = content(words[1], &size);
     uint8_t *bytes = content(words[2], &keys);
@@ -93,6 +113,10 @@ int main(int count, char **words) {
     int algorithm, rounds;
     size_t at_a_time;
     for (fflush(stdout); scanf("%d %zu %d", &algorithm, &at_a_time, &rounds) == 3; fflush(stdout)) {
+        if (!is_there(ctx, places, answers, algorithm)) {
+            printf("none\n");
+            continue;
+        }
         double least = least_of(ctx, places, keys, answers, algorithm, at_a_time, rounds);
         if (rounds) printf("%.2f\n", least);
         for (size_t at = 0; !rounds && at < keys; at++) printf("%u\n", answers[at]);
