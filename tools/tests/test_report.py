@@ -174,7 +174,7 @@ class Refused(Room):
 
     def test_other_refusals_stand_in_the_page(self):
         for words, part in (([self.folder / "none.rules"], "No such file"), ([OFFICE, self.folder / "none.pcap"], "No such file"),
-                            ([GATEWAY], "INPUT"), ([PCAP, OFFICE], "this is a capture"),
+                            (["--chain", "none", GATEWAY], "no chain none"), ([PCAP, OFFICE], "this is a capture"),
                             ([OFFICE, PCAP, "--max-words", "20"], "table too large")):
             code, said, told, _ = self.report(*words)
             self.assertEqual(code, 2, words)
@@ -203,7 +203,7 @@ class Refused(Room):
     def test_a_program_that_answers_otherwise_ends_the_tool(self):
         """Fails where a key isn't confirmed, or an answer isn't compared."""
         for change, part in (("s/^1 ip4 .*/1 ip4 9/;s/^1 ip6 .*/1 ip6 9/", ""), ("s/^2 ip4/2 ip6/", "ip6"),
-                             ("s/^packets 3/packets 4/", "printed 3 lines")):
+                             ("s/^packets 3/packets 4/", "packets 4 ip4 3")):
             other = self.write("other", OTHER.format(built_program(), change))
             other.chmod(0o755)
             code, said, told, _ = self.report(OFFICE, PCAP, env={"ACLC": str(other)})
