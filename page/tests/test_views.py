@@ -68,7 +68,8 @@ class Views:
         cls.addClassCleanup(cls.browser.__exit__)
 
     def open(self, url):
-        """Opens a page; at the end of the test it has said nothing, and asked nobody."""
+        """Opens a page; before the next one, or at the end of the test, it has said nothing and asked nobody."""
+        self.doCleanups()
         self.browser.open(url)
         self.addCleanup(self.check, url)
 
@@ -267,7 +268,7 @@ class Views:
         self.open(self.hour())
         expected = self.rows()
         expected_lists = self.tab("lists")
-        self.browser.open(Path(LIVE).resolve().as_uri())
+        self.open(Path(LIVE).resolve().as_uri())
         for name, file in (("list", "hour.rules"), ("old", "old.rules"), ("captures", "hour.pcap")):
             self.browser.choose_files(f"#file-{name}", FILES.folder / file)
         self.picture("files")
@@ -279,8 +280,7 @@ class Views:
 
     @unittest.skipUnless(LIVE, "ACLC_PAGE names no page with the module inside")
     def test_a_list_that_is_refused_is_told_by_the_module_too(self):
-        url = Path(LIVE).resolve().as_uri()
-        self.browser.open(url)
+        self.open(Path(LIVE).resolve().as_uri())
         self.browser.choose_files("#file-list", FILES.write("bad.rules", OFFICE.read_text().replace("1234 : 1234", "1234")))
         self.browser.evaluate("document.getElementById('go').click()")
         self.browser.until("document.getElementById('tab-refusals') !== null", "the module")
