@@ -123,6 +123,7 @@ export class Table {
     const page = Math.max(1, Math.floor(this.seen().pixels / this.rowHeight) - 1);
     const steps = { ArrowDown: 1, ArrowUp: -1, PageDown: page, PageUp: -page, Home: -Infinity, End: Infinity };
     if (event.target !== this.element || event.altKey || event.metaKey || !this.count) return;
+    this.enter();
     if (event.key in steps) this.choose(this.active + steps[event.key]);
     else if ((event.key === 'Enter' || event.key === ' ') && this.active >= 0) this.open?.(this.active);
     else return;
