@@ -3,7 +3,6 @@ use Rattle.std.specs.Prelude.{◌≡◌, ℕ, ◌⊎◌, List, false, true, Opti
 use Rattle.std.specs.Prelude.{IfOk, IfErr, IfSome}
 use Rattle.acl_outside.specs.Desk.{File}
 use Rattle.acl_outside.specs.Sink.{SinkView}
-use Rattle.acl_outside.specs.Together.{HoldsTogether}
 use Rattle.command_ending.specs.declared.status.Status.{Status}
 use Rattle.command_ending.specs.declared.status.Status.TheVariants.{Done, Usage, WriteFault}
 use Rattle.command_ending.specs.declared.status.Status.TheVariants.{OutOfMemory}
@@ -79,8 +78,6 @@ pub record Runs (words : List (List ℕ)) (old new : Outside) (err_old err_new :
   -- the replies to a script
   pub sessions : SessionTells words status old new
   pub answers : Answers (command words) old new status
-  -- if what was heard of the opened file and what is left of it were the file, they still are
-  pub together : HoldsTogether old.desk → HoldsTogether new.desk
   -- where the outside has no fault, only memory keeps the command from its outcome
   pub complete : HasNoFaultMaking (makes_of (command words)) old new → (files : List File) →
       files_of old.desk ≡ Some files →

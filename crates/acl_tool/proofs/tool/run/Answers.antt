@@ -1,6 +1,6 @@
 use Rattle.std.proofs.Common.{ℕ, List, map}
 use Rattle.std.specs.Prelude.{string_bytes}
-use Rattle.command_ending.proofs.Offered.{Ends-complete, Keeps-together}
+use Rattle.command_ending.proofs.Offered.{Ends-complete}
 use Rattle.acl_tool.proofs.BenchTold.{bench_walks}
 use Rattle.acl_tool.proofs.ClassifyTold.{classify_prints, classify_walks}
 use Rattle.acl_tool.proofs.ClassifySized.{classify_sizes}
@@ -26,7 +26,6 @@ returns g c =
       compares = compare_tells words _ _ c.answer-status.result answers;
       sessions = session_tells words _ _ c.answer-status.result answers;
       answers = answers;
-      together = Keeps-together _ _ _ answers.ends.kept;
       complete = Ends-complete _ _ _ c.answer-status.result answers.ends;
       message = c.put_message.ensures;
     }
