@@ -1,0 +1,6 @@
+pub mod Given
+pub mod Words
+pub mod Grown
+pub mod Ran
+pub mod Rows
+pub mod Taking
