@@ -1,8 +1,6 @@
 -- The groups of key bytes that a trie keeps: it reads their bytes and passes over the others.
-use Rattle.std.specs.Prelude.{ℕ, ◌+◌, ◌-◌, ◌/◌, ◌%◌, ◌^◌, ◌==◌, nat_lt, List, length, filter, Bool}
+use Rattle.std.specs.Prelude.{ℕ, ◌+◌, ◌-◌, ◌/◌, ◌%◌, ◌^◌, ◌==◌, nat_lt, length, Bool}
 use Rattle.std.specs.Prelude.{◌&&◌}
-use Rattle.std.specs.List.{range_with_len}
-use Rattle.std.specs.Int.{bit_at}
 use Rattle.table_sizes.specs.Groups.{group_len, kept_places, max_key_len}
 
 -- a key is one byte and whole groups

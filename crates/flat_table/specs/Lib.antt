@@ -1,4 +1,5 @@
 pub mod Batch
+pub mod BatchExamples
 pub mod Groups
 pub mod HandmadeTables
 pub mod Laws

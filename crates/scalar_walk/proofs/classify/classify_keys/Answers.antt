@@ -1,4 +1,4 @@
-use Rattle.std.proofs.Common.{◌≡◌, ◌+◌, ◌*◌, ◌/◌, ◌≤◌, ℕ, length, arith, sym, ap, ◌∙◌}
+use Rattle.std.proofs.Common.{◌≡◌, ◌*◌, ◌/◌, ℕ, length, arith, sym, ap, ◌∙◌}
 use Rattle.flat_table.specs.Batch.{keys_in}
 use Rattle.list_lemmas.proofs.Parts.{part_len}
 use Rattle.scalar_walk.proofs.Batches.{all_written, classified_none, keys_fit, keys_more, room_fits}

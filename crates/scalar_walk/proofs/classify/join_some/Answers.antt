@@ -3,7 +3,7 @@ use Rattle.std.specs.Prelude.{replicate}
 use Rattle.std.proofs.lemmas.List.{get_or-replicate}
 use Rattle.flat_table.specs.Batch.{key_at, key_verdicts}
 use Rattle.scalar_walk.specs.Rows.{key_winners}
-use Rattle.scalar_walk.proofs.Batches.{room_of_part, verdicts_len, winners_len}
+use Rattle.scalar_walk.proofs.Batches.{verdicts_len, winners_len}
 use Rattle.scalar_walk.proofs.Below.{pieces_none, one_piece, all_pieces}
 use Rattle.scalar_walk.proofs.Reached.{rows_there, verdicts_are, winners_are}
 use Rattle.scalar_walk.proofs.classify.join_some.Goals as goal

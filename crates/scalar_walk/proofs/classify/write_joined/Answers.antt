@@ -2,7 +2,7 @@ use Rattle.std.proofs.Common.{◌%◌, length, arith}
 use Rattle.std.proofs.lemmas.List.FromFn.{fill_by_all}
 use Rattle.flat_table.specs.Walk.{userdatas}
 use Rattle.scalar_walk.specs.Rows.{joined_rows}
-use Rattle.scalar_walk.proofs.Marks.{marked_none, marked_more, all_marked}
+use Rattle.scalar_walk.proofs.Marks.{marked_none, all_marked}
 use Rattle.scalar_walk.proofs.classify.write_joined.Goals as goal
 
 pub loop-category-init : goal.loop-category-init

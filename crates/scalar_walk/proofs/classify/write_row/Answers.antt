@@ -1,4 +1,4 @@
-use Rattle.std.proofs.Common.{ℕ, ◌%◌, length, arith, ap, refl, ◌∙◌}
+use Rattle.std.proofs.Common.{ℕ, ◌%◌, length, arith, refl}
 use Rattle.std.specs.Prelude.{slice_index}
 use Rattle.std.proofs.lemmas.List.FromFn.{fill_by_all}
 use Rattle.flat_table.specs.Walk.{userdatas}

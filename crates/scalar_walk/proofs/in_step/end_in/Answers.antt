@@ -1,6 +1,6 @@
-use Rattle.std.proofs.Common.{◌≡◌, ℕ, ◌*◌, arith, ap, sym, ◌∙◌}
+use Rattle.std.proofs.Common.{ℕ, ◌*◌, arith, ap, sym, ◌∙◌}
 use Rattle.std.specs.Prelude.{slice_index}
-use Rattle.scalar_walk.specs.Lanes.{own_lanes, sum_below}
+use Rattle.scalar_walk.specs.Lanes.{sum_below}
 use Rattle.scalar_walk.proofs.Below.{sum_none}
 use Rattle.scalar_walk.proofs.LaneKeys.{own_none}
 use Rattle.scalar_walk.proofs.in_step.end_in.Goals as goal

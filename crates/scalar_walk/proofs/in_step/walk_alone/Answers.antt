@@ -1,5 +1,4 @@
-use Rattle.std.proofs.Common.{◌≡◌, ◌+◌, ℕ, List, arith, ap, sym, subst, ◌∙◌}
-use Rattle.std.specs.Prelude.{slice_index}
+use Rattle.std.proofs.Common.{ℕ, List, arith, ap}
 use Rattle.flat_table.specs.Batch.{key_at}
 use Rattle.flat_table.specs.Walk.{walk_transitions}
 use Rattle.scalar_walk.proofs.Below.{sum_more, sum_none}

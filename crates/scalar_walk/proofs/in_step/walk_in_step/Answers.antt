@@ -1,4 +1,4 @@
-use Rattle.std.proofs.Common.{◌≡◌, ℕ, ◌+◌, ◌*◌, ◌<◌, ◌≤◌, List, arith, ap, sym, ◌∙◌, length}
+use Rattle.std.proofs.Common.{◌≡◌, ℕ, ◌+◌, ◌*◌, ◌<◌, List, arith, ap, sym, ◌∙◌, length}
 use Rattle.std.specs.Prelude.{slice_index}
 use Rattle.flat_table.specs.Walk.{walk_transitions}
 use Rattle.flat_table.specs.Batch.{key_at}

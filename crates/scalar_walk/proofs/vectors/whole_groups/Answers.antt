@@ -1,4 +1,4 @@
-use Rattle.std.proofs.Common.{◌≡◌, ℕ, List, [], ◌∷◌, ◌+◌, ◌*◌, ◌/◌, ◌%◌, ◌^◌, arith, ◌∙◌}
+use Rattle.std.proofs.Common.{◌≡◌, ℕ, List, [], ◌∷◌, ◌+◌, ◌/◌, ◌%◌, ◌^◌, ◌∙◌}
 use Rattle.std.specs.Prelude.{slice_index}
 use Rattle.scalar_walk.proofs.OneLane.{each_of_four}
 use Rattle.scalar_walk.proofs.vectors.whole_groups.Goals as goal

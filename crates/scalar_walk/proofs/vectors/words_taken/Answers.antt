@@ -1,6 +1,4 @@
-use Rattle.std.proofs.Common.{ℕ, ◌*◌, arith, ap, ◌∙◌}
-use Rattle.std.specs.Prelude.{slice_index}
-use Rattle.scalar_walk.specs.Lanes.{sum_below}
+use Rattle.std.proofs.Common.{arith}
 use Rattle.scalar_walk.proofs.Ended.{taken_none, taken_more}
 use Rattle.scalar_walk.proofs.vectors.words_taken.Goals as goal
 
