@@ -1,4 +1,4 @@
-use Rattle.std.proofs.Common.{◌≡◌, ◌≤◌, ◌*◌, ◌/◌, ◌==◌, ℕ, [], List, ap, sym, ◌∙◌, arith, length, not}
+use Rattle.std.proofs.Common.{◌≤◌, ◌*◌, ◌/◌, ◌==◌, ℕ, [], List, ap, sym, ◌∙◌, arith, length, not}
 use Rattle.std.proofs.lemmas.List.{get_or-take}
 use Rattle.std.specs.Prelude.{slice_index, slice_index_or}
 use Rattle.flat_table.specs.Batch.{key_at, keys_in}
