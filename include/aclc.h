@@ -65,8 +65,8 @@ extern "C" {
 
 /* The version of this header: 65536 times the major number, and the minor number. */
 #define ACLC_VERSION_MAJOR 1
-#define ACLC_VERSION_MINOR 0
-#define ACLC_VERSION 0x00010000u
+#define ACLC_VERSION_MINOR 1
+#define ACLC_VERSION 0x00010001u
 
 #define ACLC_MAX_FIELDS 64u        /* fields of a layout */
 #define ACLC_MAX_RULES 262144u     /* rules of a context */
@@ -194,7 +194,7 @@ struct aclc_text {
  *
  * text: is written. Its old bytes have to stay as well, as those of {"", 0} do.
  *
- * It refuses nothing and takes no memory.
+ * It refuses nothing and takes no memory. Since 1.1.
  */
 void aclc_error_text(aclc_code code, struct aclc_text *text);
 
@@ -318,7 +318,8 @@ struct aclc_key {
  * ACLC_TOO_MANY_KEYS: there are more than ACLC_MAX_KEYS.
  * ACLC_BAD_LENGTH: a key hasn't as many bytes as those of the table.
  * ACLC_BAD_CATEGORIES, ACLC_BAD_WALK, ACLC_BAD_LENGTH, ACLC_NO_LANES: as for aclc_classify.
- * It takes no memory but 8,080 bytes of the stack, to which it copies some keys at a time.
+ * It takes no memory but 8,080 bytes of the stack, to which it copies some keys at a time. Since
+ * 1.1.
  */
 aclc_code aclc_classify_keys(struct aclc_context *context, const struct aclc_key *keys,
                              size_t key_count, uint32_t categories, uint32_t walk,
@@ -413,7 +414,7 @@ aclc_code aclc_table_classify(struct aclc_table *table, const uint8_t *keys, siz
                               size_t verdicts_len, uint64_t *transitions);
 
 /*
- * aclc_table_classify_keys - as aclc_classify_keys, without ACLC_NOT_BUILT.
+ * aclc_table_classify_keys - as aclc_classify_keys, without ACLC_NOT_BUILT. Since 1.1.
  */
 aclc_code aclc_table_classify_keys(struct aclc_table *table, const struct aclc_key *keys,
                                    size_t key_count, uint32_t categories, uint32_t walk,

@@ -22,9 +22,9 @@ use std::alloc::Global;
 /// The version of the library: 65,536 times the major number, and the minor number.
 #[unsafe(no_mangle)]
 pub extern "C" fn aclc_version() -> u32
-    ensures { result ≡ 65536 }
+    ensures { result ≡ 65537 }
 {
-    65_536
+    65_537
 }
 
 /// Tells the text of an answer, and for a number that is none a text that says so.
