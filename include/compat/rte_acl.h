@@ -10,8 +10,9 @@
  * Where DPDK's own headers are on the include path, rte_acl_osdep.h is theirs. A program without
  * DPDK takes the folder without_dpdk beside this file, which has the little that is needed.
  *
- * A context is used by one thread at a time, except that any number of threads may classify by it
- * at once, while no thread changes it. The list of contexts has a lock.
+ * One thread at a time changes a context. Any number may classify by it, also while its rules are
+ * changed and its table is built anew or reset, but not while it is freed. The list of contexts has
+ * a lock.
  */
 #ifndef _RTE_ACL_H_
 #define _RTE_ACL_H_
@@ -138,8 +139,9 @@ struct rte_acl_ctx;
 /*
  * rte_acl_create - makes a context, or finds the one of that name, whatever its other parameters.
  *
- * NULL with rte_errno EINVAL: param or its name is NULL; ENOMEM: there is no memory. It takes
- * memory for max_rule_num rules, which the system backs as rules are added.
+ * NULL with rte_errno EINVAL: param or its name is NULL; ENOMEM: there is no memory, or socket_id
+ * is RTE_MAX_NUMA_NODES or more. It takes memory for max_rule_num rules, which the system backs as
+ * rules are added.
  */
 struct rte_acl_ctx *rte_acl_create(const struct rte_acl_param *param);
 
