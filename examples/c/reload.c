@@ -25,7 +25,7 @@
 #include "aclc.h"
 
 enum { WORKERS = 2, KEYS = 256, KEY_LEN = 13, FIELDS = 5, KINDS = 3 };
-enum { MOST = 10000, MOST_LOADS = 30000 };
+enum { MOST = 10000, MOST_LOADS = 30000, BUDGET = 8388608 };
 
 static const struct aclc_field LAYOUT[FIELDS] = {
     {ACLC_FIELD_BITMASK, 1, 0, 0, 0}, {ACLC_FIELD_MASK, 4, 1, 1, 1},
@@ -154,7 +154,7 @@ static void make(struct worker *workers, uint32_t load, struct times *times) {
     uint64_t words;
     fill(&context, load);
     double begun = now();
-    aclc_code code = aclc_build(&context, ACLC_MAX_WORDS, &words);
+    aclc_code code = aclc_build(&context, BUDGET, &words);
     double built = now();
     if (code == ACLC_OK)
         code = aclc_table_copy(&context, first);
