@@ -7,10 +7,9 @@ ghost use Rattle.pcapng_reader.specs.Capture.{Blocks};
 ghost use Rattle.pcapng_reader.specs.Packets.{Finds, answer_in};
 ghost use Rattle.pcapng_reader.specs.Reader.{TakesNext};
 
-use crate::blocks::{BlockRead, FRONT_LEN, PacketPlace, read_block};
+use crate::blocks::{BlockRead, PacketPlace, read_block};
 use crate::kind::Kind;
-use crate::number::u32_in;
-use crate::reader::Reader;
+use crate::reader::{Reader, whole_front};
 use acl_outside::Desk;
 use pcap_reader::{CaptureFault, Link, Progress};
 use std::marker::Model;
@@ -79,16 +78,18 @@ impl BlockCapture {
         take_packet(desk, reader, buffer)
     }
 
-    /// Whether the next block is a packet that is whole in these bytes, in the section's order.
+    /// Whether a packet that is whole in these bytes comes next, or after whole blocks without one.
     pub fn has_next_in(&self, bytes: &[u8]) -> bool {
-        if bytes.len() < FRONT_LEN {
-            return false;
+        let mut order = self.reader.order;
+        let mut left = bytes;
+        while let Some(front) = whole_front(order, left) {
+            if let Kind::Packet = front.kind {
+                return true;
+            }
+            order = front.order;
+            left = &left[front.total as usize..];
         }
-        let order = self.reader.order;
-        match Kind::of(u32_in(order, bytes, 0)) {
-            Kind::Packet => u32_in(order, bytes, 4) as usize <= bytes.len(),
-            Kind::Section | Kind::Interface | Kind::Other => false,
-        }
+        false
     }
 
     /// How many records were given.

@@ -9,7 +9,7 @@ ghost use Rattle.pcap_reader.specs.ReaderStates.{has_ended};
 ghost use Rattle.pcapng_reader.specs.Capture.{begun_blocks, section_bytes};
 ghost use Rattle.pcapng_reader.specs.BlockReading.{HasRoom, IsPacketAt};
 
-use crate::blocks::{CAPTURED_AT, PacketPlace};
+use crate::blocks::{CAPTURED_AT, FRONT_LEN, PacketPlace};
 use crate::front::Front;
 use crate::interfaces::Interfaces;
 use crate::kind::Kind;
@@ -313,6 +313,27 @@ impl Reader {
             Said::Other => {}
         }
     }
+}
+
+/// What the front of the first block says, after a section of this order, where the block is whole
+/// in these bytes. `None`: it isn't, or its front is refused.
+pub fn whole_front(order: Order, bytes: &[u8]) -> Option<Front>
+    ensures some { IfSome result (λ front. front_len ≤ front.total) }
+    ensures whole { IfSome result (λ front. front.total ≤ length bytes.now) }
+{
+    if bytes.len() < FRONT_LEN {
+        return None;
+    }
+    let kind = Kind::of(u32_in(order, bytes, 0));
+    let order = match kind {
+        Kind::Section => magic_order(bytes)?,
+        Kind::Interface | Kind::Packet | Kind::Other => order,
+    };
+    let total = u32_in(order, bytes, 4);
+    if is_no_len(kind, total) || total as usize > bytes.len() {
+        return None;
+    }
+    Some(Front { kind, order, total })
 }
 
 /// The order in which a section's byte-order magic stands.

@@ -133,3 +133,44 @@ fn each_prefix_of_two_sections_has_its_records_and_its_ending(rt: HostRuntime) -
     }
     Ok(())
 }
+
+/// How many bytes of the capture are read with its first packet.
+const FIRST_PACKET_END: usize = 84;
+
+/// Bytes after these, each with its place among them, by which no packet can come next: a length
+/// of 0 and one that is no multiple of 4, a section of 24 bytes, and one of no known order.
+const WRONG_BYTES: [(usize, u8); 4] = [(4, 0), (4, 13), (19, 24), (20, 0)];
+
+/// The capture after its first packet.
+fn after_first<R: Abort + AllocGlobal>(rt: &R) -> Result<AnyCapture, Fail> {
+    let mut desk = desk_of(rt, CAPTURE.len(), 50, 0)?;
+    desk.open_file("capture")?;
+    let mut capture = AnyCapture::begin(rt.alloc(), &mut desk)?;
+    gives(rt, &mut desk, &mut capture, Ok(Some(RECORDS[0])));
+    Ok(capture)
+}
+
+#[test]
+fn a_packet_comes_next_once_it_and_the_blocks_before_it_are_whole(
+    rt: HostRuntime,
+) -> Result<(), Fail> {
+    let capture = after_first(&rt)?;
+    for end in FIRST_PACKET_END..=CAPTURE.len() {
+        let bytes = &CAPTURE[FIRST_PACKET_END..end];
+        assert!(rt; capture.has_next_in(bytes) == (end == CAPTURE.len()));
+    }
+    Ok(())
+}
+
+#[test]
+fn no_packet_comes_next_after_a_block_that_is_refused(rt: HostRuntime) -> Result<(), Fail> {
+    let capture = after_first(&rt)?;
+    for (place, wrong) in WRONG_BYTES {
+        let mut bytes = CAPTURE;
+        if let Some(byte) = bytes[FIRST_PACKET_END..].get_mut(place) {
+            *byte = wrong;
+        }
+        assert!(rt; !capture.has_next_in(&bytes[FIRST_PACKET_END..]));
+    }
+    Ok(())
+}
