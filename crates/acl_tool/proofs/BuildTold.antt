@@ -24,7 +24,7 @@ use Rattle.acl_tool.specs.CommandEffects.{Answers}
 use Rattle.acl_tool.specs.BuildMakes.{BuildMakes, MakesImage}
 use Rattle.acl_tool.proofs.Answering.{no_usage}
 use Rattle.acl_tool.proofs.BuildEnds.{image_by}
-use Rattle.acl_tool.proofs.ReadOn.{accepted_rules, both_on, is_told, read_on, told_test, unless_on, untold_rules}
+use Rattle.acl_tool.proofs.ReadOn.{accepted_rules, both_on, is_told, read_on, told_small, told_test, unless_on, untold_rules}
 use Rattle.acl_tool.proofs.ReadOn.{done_told}
 use Rattle.acl_tool.proofs.WholeRules.{whole_by}
 
@@ -73,7 +73,8 @@ build_heard rules image max_words told old new reached follows is =
     let (lists, accepted, rest) =
     unless_on is_told told (rules_of_bytes RulesRefused first.file.bytes) (after_rules image max_words)
     (first.file ∷ old) new reached first.rest is (λ status e. untold_rules (rule_file_of first.file.bytes) status e) in
-    let both = both_on told max_words lists (image_by image) (first.file ∷ old) new reached rest is in
+    let both = both_on is_told told_small told max_words lists (image_by image) (first.file ∷ old) new reached rest
+    is in
     record {
       rule_file = first.file;
       lists = lists;

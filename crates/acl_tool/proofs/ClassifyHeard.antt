@@ -22,7 +22,7 @@ use Rattle.acl_tool.specs.FamilySet.{set_of}
 use Rattle.acl_tool.specs.RuleTables.{refused_rules, rules_of_bytes, tables_within}
 use Rattle.acl_tool.specs.ClassifyPlan.{classify_plan, form_of}
 use Rattle.acl_tool.proofs.RuleFiles.{rule_file_of-long}
-use Rattle.acl_tool.proofs.ReadOn.{accepted_rules, both_on, is_told, read_on, told_test, unless_on, untold_rules}
+use Rattle.acl_tool.proofs.ReadOn.{accepted_rules, both_on, is_told, read_on, told_small, told_test, unless_on, untold_rules}
 use Rattle.acl_tool.proofs.ReadOn.{longer}
 
 -- a plan asks for a file
@@ -77,7 +77,7 @@ never_enough options capture bytes long lists tables is_long accepted within sam
     false≢true (sym stops ∙ ap asks same ∙ reads)
 
 -- a rule file whose rules were accepted and fit was read to its end
-whole_rules : (options : Options) (capture : List ℕ) (file : Heard) (lists : RuleLists) (tables : Tables) →
+pub whole_rules : (options : Options) (capture : List ℕ) (file : Heard) (lists : RuleLists) (tables : Tables) →
     rules_of_bytes RulesRefused file.bytes ≡ Ok lists → tables_within options.max_words lists ≡ Give tables →
     IsEnough (after_bytes options capture) file → file.ending ≡ Ended
 whole_rules options capture file lists tables accepted within (inl ended) = ended
@@ -95,7 +95,8 @@ classify_heard rules capture options told old new reached follows is =
     unless_on is_told told (rules_of_bytes RulesRefused first.file.bytes) (after_rules options capture)
     (first.file ∷ old) new reached first.rest is (λ status e. untold_rules (rule_file_of first.file.bytes) status e) in
     let both =
-    both_on told options.max_words lists (λ tables. reported (form_of (ByRules lists) tables options) capture)
+    both_on is_told told_small told options.max_words lists
+    (λ tables. reported (form_of (ByRules lists) tables options) capture)
     (first.file ∷ old) new reached rest is in
     let form : ReportForm = form_of (ByRules lists) both.tables options in
     let second = read_on is_told told_test told capture (lines_so_far form) (λ bytes. Give (report form bytes))

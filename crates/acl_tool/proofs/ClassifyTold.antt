@@ -88,7 +88,7 @@ answers_same lists tables options words Other key is = refl
 answers_same lists tables options words Short key is = refl
 
 -- and its lines are those of the records with these answers
-lines_same : (lists : RuleLists) (tables : Tables) (options : Options) (words : List (List ℕ)) (number : ℕ)
+pub lines_same : (lists : RuleLists) (tables : Tables) (options : Options) (words : List (List ℕ)) (number : ℕ)
     (records : List CaptureRecord) → SaidBy words options →
     lines_of_packets (form_of (ByRules lists) tables options) number (map packet_of records)
     ≡ flat_map (λ numbered. line_to lists words numbered.0 numbered.1) (enumerate_from number records)

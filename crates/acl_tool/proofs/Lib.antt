@@ -29,3 +29,4 @@ mod CompareEnds
 mod CompareTold
 mod SessionEnds
 mod SessionTold
+mod BeforeLeft

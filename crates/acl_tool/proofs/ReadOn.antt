@@ -87,18 +87,24 @@ pub untold_rules : (result : Result RuleLists LineFault) (status : Status) →
 untold_rules (Ok all) status is = absurd (cc)
 untold_rules (Err fault) status is = let same : RulesRefused fault ≡ status = cc in rw (← same) refl
 
--- the result of a test that refuses is no report
-untold_table : (fits : Bool) (table : TableView) (refusal status : Status) → is_told refusal ≡ false →
-    (if fits then Ok table else Err refusal) ≡ Err status → is_told status ≡ false
-untold_table true table refusal status no_report is = absurd (cc)
-untold_table false table refusal status no_report is = let same : refusal ≡ status = cc in rw (← same) no_report
+-- A test of statuses that no total above the budget passes.
+abbrev pub IsSmall : (Status → Bool) → Type 0
+IsSmall test = (family : Family) (total budget : ℕ) → test (TooLarge family total budget) ≡ false
 
--- a table whose total is above the budget comes without a report
-untold_total : (budget : ℕ) (family : Family) (lists : RuleLists) (status : Status) →
-    table_within budget family lists ≡ Err status → is_told status ≡ false
-untold_total budget family lists status is =
-    untold_table (nat_le (total_of (set_of family lists) budget) budget) (built_of (set_of family lists) budget)
-    (TooLarge family (total_of (set_of family lists) budget) budget) status refl is
+-- a check that refuses doesn't pass either, where its refusal doesn't
+refused_table : (test : Status → Bool) (fits : Bool) (table : TableView) (refusal status : Status) →
+    test refusal ≡ false → (if fits then Ok table else Err refusal) ≡ Err status → test status ≡ false
+refused_table test true table refusal status refused is = absurd (cc)
+refused_table test false table refusal status refused is =
+    let same : refusal ≡ status = cc in rw (← same) refused
+
+-- nor does a table whose total is above the budget
+refused_total : (test : Status → Bool) → IsSmall test → (budget : ℕ) (family : Family) (lists : RuleLists)
+    (status : Status) → table_within budget family lists ≡ Err status → test status ≡ false
+refused_total test small budget family lists status is =
+    refused_table test (nat_le (total_of (set_of family lists) budget) budget)
+    (built_of (set_of family lists) budget) (TooLarge family (total_of (set_of family lists) budget) budget) status
+    (small family (total_of (set_of family lists) budget) budget) is
 
 -- a table that was made is that of the rules, and within the budget
 table_made : (budget : ℕ) (family : Family) (lists : RuleLists) (table : TableView) →
@@ -113,6 +119,10 @@ table_made budget family lists table is = go (nat_le (total_of (set_of family li
     go true at e = (cc, leb-true (total_of (set_of family lists) budget) budget at)
     go false at e = absurd (cc)
 
+-- no total above the budget comes with a report
+pub told_small : IsSmall is_told
+told_small family total budget = refl
+
 -- Both tables were made, and the rest of the plan followed.
 pub record MakesBoth (told : Option (List File)) (budget : ℕ) (lists : RuleLists) (f : Tables → Plan Outcome)
     (old new : List Heard) (reached : Reached Outcome) : Type 0 where
@@ -124,12 +134,12 @@ pub record MakesBoth (told : Option (List File)) (budget : ℕ) (lists : RuleLis
   pub ip6_fits : total_of (set_of Ip6 lists) budget ≤ budget
   pub rest : Follows told (f tables) old new reached
 
--- the tables of both families were made
-pub both_on : (told : Option (List File)) (budget : ℕ) (lists : RuleLists) (f : Tables → Plan Outcome)
-    (old new : List Heard) (reached : Reached Outcome) →
-    Follows told (tables_within budget lists >>= f) old new reached → is_told (outcome_of reached).status ≡ true →
+-- the tables of both families were made, where the end passes such a test
+pub both_on : (test : Status → Bool) → IsSmall test → (told : Option (List File)) (budget : ℕ) (lists : RuleLists)
+    (f : Tables → Plan Outcome) (old new : List Heard) (reached : Reached Outcome) →
+    Follows told (tables_within budget lists >>= f) old new reached → test (outcome_of reached).status ≡ true →
     MakesBoth told budget lists f old new reached
-both_on told budget lists f old new reached follows is =
+both_on test small told budget lists f old new reached follows passed =
     go (table_within budget Ip4 lists) (table_within budget Ip6 lists) refl refl follows
   where
     go : (one two : Result TableView Status) → table_within budget Ip4 lists ≡ one →
@@ -150,9 +160,9 @@ both_on told budget lists f old new reached follows is =
           rest = rest;
         }
     go (Ok ip4) (Err status) at_ip4 at_ip6 rest =
-        absurd (false≢true (sym (untold_total budget Ip6 lists status at_ip6) ∙ (rw (rest.1) at is)))
+        absurd (false≢true (sym (refused_total test small budget Ip6 lists status at_ip6) ∙ (rw (rest.1) at passed)))
     go (Err status) two at_ip4 at_ip6 rest =
-        absurd (false≢true (sym (untold_total budget Ip4 lists status at_ip4) ∙ (rw (rest.1) at is)))
+        absurd (false≢true (sym (refused_total test small budget Ip4 lists status at_ip4) ∙ (rw (rest.1) at passed)))
 
 -- some list is longer than a number
 pub longer : (n : ℕ) → (long : List ℕ) × (n < length long)

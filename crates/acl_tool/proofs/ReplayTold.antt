@@ -53,7 +53,7 @@ record Replayed (image capture : List ℕ) (options : Options) (old new : List H
   is : reached ≡ Given (report (form_of (ByTables tables) tables options) file.bytes)
 
 -- an image that isn't refused has these tables
-loaded_tables : (result : Result PairView ImageFault) (tables : Tables) → refused_image result ≡ Ok tables →
+pub loaded_tables : (result : Result PairView ImageFault) (tables : Tables) → refused_image result ≡ Ok tables →
     result ≡ Ok (pair_of tables)
 loaded_tables (Ok pair) tables is =
     let same : (let made : Tables = record { ip4 = pair.ip4; ip6 = pair.ip6 } in made) ≡ tables = cc in
@@ -82,7 +82,7 @@ never_loaded options capture bytes long tables is_long accepted same = go (image
         false≢true (sym (ap (λ r. goes_on (refused_image r)) at) ∙ ap asks same ∙ ap goes_on accepted)
 
 -- an image that was read was read to its end
-whole_image : (options : Options) (capture : List ℕ) (file : Heard) (tables : Tables) →
+pub whole_image : (options : Options) (capture : List ℕ) (file : Heard) (tables : Tables) →
     tables_of_bytes file.bytes ≡ Ok tables →
     IsEnough (λ bytes. unless_refused (tables_of_bytes bytes) >>= report_by options capture) file →
     file.ending ≡ Ended

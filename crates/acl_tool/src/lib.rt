@@ -10,7 +10,7 @@
 //! | `classify` | the command that prints the report of a capture |
 //! | `build` | the command that saves the tables of a rule file as an image |
 //! | `replay` | the command that prints the report of a capture by the tables of an image |
-//! | `laws` | an image prints what the rules print of which it was made |
+//! | `laws` | an image prints what its rules print; what stands after a fault of told files |
 //! | `audit` | the command that tells which rules ever win |
 //! | `compare` | the command that tells whether two rule files decide alike |
 //! | `session` | the command that answers a script of calls |
