@@ -90,9 +90,8 @@ fn answer_request<D: Desk, O: Sink, L: Ledger>(
     out: &mut O,
     steps: &mut Steps<L>,
 ) -> Status
-    ensures { Answers (Ok (request_of request.entry))
-        (outside (D.view desk.old) (O.view out.old) steps.old)
-        (outside (D.view desk.new) (O.view out.new) steps.new) result }
+    ensures { Answers (Ok (request_of request.entry)) (outside (D.view desk.old) (O.view out.old)
+        steps.old) (outside (D.view desk.new) (O.view out.new) steps.new) result }
 {
     match request {
         Request::Classify {
