@@ -55,8 +55,8 @@ hello
 /// What `session` prints of the script: 49 bytes.
 pub(crate) const ANSWERED: &str = "ok\nok\nok\nrefused not built\nok\n7\n0 0 0 0\nbad line\n";
 
-/// A capture of 17 packets, to the ports 1227 to 1243.
-fn seventeen(alloc: Global) -> Result<Vec<u8>, AllocError> {
+/// A capture of 17 packets, to the ports 1227 to 1243: a header of 24 bytes and 54 for each.
+pub(crate) fn seventeen(alloc: Global) -> Result<Vec<u8>, AllocError> {
     let mut capture = Vec::from_slice(alloc, HEADER)?;
     for port in 203..220u8 {
         capture.extend_from_slice(RECORD)?;

@@ -14,6 +14,7 @@
 //! | `system` | a command over files of the system, its words, and closed streams |
 //! | `scripts` | scripts → the replies to their lines, worked out by hand |
 //! | `turns` | a run with one fault, and what is compared of it |
+//! | `waits` | a capture that comes in pieces, and the lines that are put meanwhile |
 #![tactic(auto)]
 
 #[cfg(test)]
@@ -32,3 +33,5 @@ mod scripts;
 mod system;
 #[cfg(test)]
 mod turns;
+#[cfg(test)]
+mod waits;

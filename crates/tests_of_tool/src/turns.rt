@@ -3,7 +3,7 @@
 ghost use Rattle.std.specs.Prelude.{◌≡◌, ◌<◌};
 
 use crate::files::all_files;
-use acl_outside::{MemDesk, MemSink};
+use acl_outside::{Desk, MemDesk, MemSink};
 use acl_tool::{Status, run};
 use flat_table::Steps;
 use std::alloc::{AllocError, Global};
@@ -27,11 +27,11 @@ pub(crate) type Fault = [u64; 4];
 pub(crate) type Want<'a> = (Status, &'a [u8], &'a [u8], &'a [u8], [u64; 5]);
 
 /// Runs the words with a counter that nobody sees.
-fn run_counted<L: Ledger>(
+fn run_counted<D: Desk, L: Ledger>(
     blank: Blank,
     alloc: Global,
     words: &[String],
-    desk: &mut MemDesk,
+    desk: &mut D,
     out: &mut MemSink,
     err: &mut MemSink,
 ) -> Status
@@ -44,10 +44,10 @@ fn run_counted<L: Ledger>(
 }
 
 /// Runs one command.
-fn run_words(
+pub(crate) fn run_words<D: Desk>(
     alloc: Global,
     words: &[&str],
-    desk: &mut MemDesk,
+    desk: &mut D,
     out: &mut MemSink,
     err: &mut MemSink,
 ) -> Result<Status, AllocError> {
@@ -55,7 +55,7 @@ fn run_words(
     for word in words {
         owned.push(String::from_str(alloc, word)?)?;
     }
-    Ok(run_counted::<Brand>(Blank::new(1), alloc, &owned, desk, out, err))
+    Ok(run_counted::<D, Brand>(Blank::new(1), alloc, &owned, desk, out, err))
 }
 
 /// A desk over all files, of which the image has these bytes.

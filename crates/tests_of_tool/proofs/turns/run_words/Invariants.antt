@@ -2,4 +2,4 @@
 use Rattle.tests_of_tool.proofs.turns.run_words.Given as goal
 
 abbrev pub ghosts-run_counted : goal.ghosts-run_counted
-ghosts-run_counted a = record { name = a.blank.name; parts = a.blank.parts }
+ghosts-run_counted g a = record { name = a.blank.name; parts = a.blank.parts }
