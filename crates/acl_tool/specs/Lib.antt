@@ -29,6 +29,7 @@ pub mod AuditTells
 pub mod CompareTells
 pub mod SessionTells
 pub mod CommandEffects
+pub mod RunsAnew
 pub mod BeforeLeft
 pub mod Laws
 pub mod ClassifyExamples

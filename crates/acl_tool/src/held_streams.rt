@@ -1,6 +1,6 @@
 //! The null device in the place of standard streams that are closed.
 
-ghost use Rattle.std.specs.Prelude.{◌≡◌, Some, None, int_le, pos, if◌then◌else◌};
+ghost use Rattle.std.specs.Prelude.{◌≡◌, Some, None, IfSome, IsTrue, int_le, pos, if◌then◌else◌};
 ghost use Rattle.std.specs.Fd.{file_raw_fd};
 
 use std::fs;
@@ -34,7 +34,9 @@ impl HeldStreams {
 
 /// The null device, where it got the number of a standard stream, which was closed then. It takes
 /// no memory. Source: POSIX.1-2017, `open`.
-pub fn held_stream(rt: &HostRuntime) -> Option<fs::File> {
+pub fn held_stream(rt: &HostRuntime) -> Option<fs::File>
+    ensures { IfSome result (λ file. IsTrue (int_le (file_raw_fd file) (pos 2))) }
+{
     let null = fs::open(rt, "/dev/null").ok()?;
     kept(null)
 }

@@ -1,11 +1,12 @@
 //! What the system lends a program → the exit code of the command that its words are.
 
-ghost use Rattle.std.specs.Prelude.{◌≡◌, ℕ, ◌<◌, Some, None, drop, map, pos, string_bytes, IfSome};
+ghost use Rattle.std.specs.Prelude.{◌≡◌, ◌⊎◌, ℕ, ◌<◌, List, Some, None, drop, map, pos, string_bytes, IfSome};
 ghost use Rattle.std.specs.Process.{exit_status};
 ghost use Rattle.command_ending.specs.declared.status.Status.{Status};
 ghost use Rattle.command_ending.specs.Message.{code_of};
 ghost use Rattle.command_ending.specs.StepEffects.{outside};
 ghost use Rattle.acl_tool.specs.CommandEffects.{Runs};
+ghost use Rattle.acl_tool.specs.RunsAnew.{RunsAnew};
 
 use crate::held_streams::HeldStreams;
 use crate::tool::run;
@@ -28,13 +29,21 @@ const NO_WORDS: u8 = 1;
 /// exit code of its status.
 ///
 /// Streams that are closed are held meanwhile. It takes the memory of the words and of the command.
-pub fn run_program(rt: &HostRuntime) -> ExitCode {
+pub fn run_program(rt: &HostRuntime) -> ExitCode
+    // What is said holds of some words: the system says nothing of those that it gives.
+    ensures { (exit_status result ≡ 1) ⊎ ((words : List (List ℕ)) × (status : Status)
+        × (exit_status result ≡ code_of status) × RunsAnew words status) }
+{
     run_words(rt, system_words(rt))
 }
 
 /// Runs the command that these words are, of which the first is the program's name, as
 /// [`run_program`] runs that of the system's words. The exit code is 1 where there are no words.
-pub fn run_words(rt: &HostRuntime, words: Option<Vec<String>>) -> ExitCode {
+pub fn run_words(rt: &HostRuntime, words: Option<Vec<String>>) -> ExitCode
+    ensures ran { IfSome words (λ all. (status : Status) × (exit_status result ≡ code_of status)
+        × RunsAnew (map string_bytes (drop 1 all.items)) status) }
+    ensures no_words { words ≡ None → exit_status result ≡ 1 }
+{
     let held = HeldStreams::new(rt);
     run_over_streams(&held, rt, rt.alloc(), words, rt.stdout(), rt.stderr())
 }
@@ -50,6 +59,9 @@ fn run_over_streams<R: Files, O: Write + AsRawFd + Drop, E: Write + AsRawFd + Dr
 ) -> ExitCode
     requires out { O.raw_fd out ≡ Some (pos 1) }
     requires err { E.raw_fd err ≡ Some (pos 2) }
+    ensures ran { IfSome words (λ all. (status : Status) × (exit_status result ≡ code_of status)
+        × RunsAnew (map string_bytes (drop 1 all.items)) status) }
+    ensures no_words { words ≡ None → exit_status result ≡ 1 }
 {
     run_over(rt, alloc, words, out, err)
 }
@@ -63,7 +75,13 @@ pub fn run_over<R: Files, O: Write + Drop, E: Write + Drop>(
     words: Option<Vec<String>>,
     out: O,
     err: E,
-) -> ExitCode {
+) -> ExitCode
+    // The code is that of a status with which all that `run` promises holds, over a desk and sinks
+    // that are new.
+    ensures ran { IfSome words (λ all. (status : Status) × (exit_status result ≡ code_of status)
+        × RunsAnew (map string_bytes (drop 1 all.items)) status) }
+    ensures no_words { words ≡ None → exit_status result ≡ 1 }
+{
     let mut desk = StdDesk::new(rt);
     let mut out = StdSink::new(out);
     let mut err = StdSink::new(err);
