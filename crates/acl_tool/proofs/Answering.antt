@@ -1,5 +1,5 @@
 -- How a request is answered, whatever it asks for, and how words end that are no command.
-use Rattle.std.proofs.Common.{◌≡◌, List, true, false, Some, None, Result, Ok, Err, IfSome, refl, sym, subst, ◌≢◌, ℕ, ap}
+use Rattle.std.proofs.Common.{◌≡◌, List, true, false, Some, None, Result, Ok, Err, IfSome, refl, sym, subst, ℕ, ap}
 use Rattle.std.proofs.Common.{◌∙◌}
 use Rattle.acl_outside.specs.Desk.{File, DeskView}
 use Rattle.command_words.specs.declared.usage_fault.UsageFault.{UsageFault}

@@ -1,5 +1,5 @@
 -- How `audit` ends, link by link.
-use Rattle.std.proofs.Common.{◌≡◌, ℕ, List, false, None, Ok, Err, Result}
+use Rattle.std.proofs.Common.{◌≡◌, ℕ, List, false, None, Ok, Err}
 use Rattle.acl_outside.specs.Desk.{File, DeskView}
 use Rattle.acl_outside.specs.Sink.{SinkView}
 use Rattle.classbench_reader.specs.RuleFile.{RuleLists}

@@ -14,13 +14,11 @@ use Rattle.command_words.specs.Options.{Options, for_audit, none_given}
 use Rattle.command_words.specs.Command.{asked_by, audit_request, command, single_of, single_with, options_from}
 use Rattle.command_ending.specs.declared.status.Status.{Status}
 use Rattle.command_ending.specs.declared.status.Status.TheVariants.{Done, RulesRefused, TooLarge}
-use Rattle.command_ending.specs.Plan.{Outcome, ◌>>=◌, nothing, printed, unless_refused}
-use Rattle.command_ending.specs.Follow.{Reached, Given, Stopped, Follows, IsEnough, outcome_of}
+use Rattle.command_ending.specs.Plan.{Outcome, ◌>>=◌, nothing, unless_refused}
+use Rattle.command_ending.specs.Follow.{Reached, Follows, IsEnough, outcome_of}
 use Rattle.command_ending.specs.Endings.{is_usage}
 use Rattle.command_ending.specs.StepEffects.{Ends, Outside, files_of, heard_of}
 use Rattle.acl_tool.specs.FamilySet.{set_of}
-use Rattle.acl_tool.specs.GivenOptions.{categories_shown}
-use Rattle.acl_tool.specs.GivenBudget.{budget_given}
 use Rattle.acl_tool.specs.RuleTables.{rules_of_bytes}
 use Rattle.acl_tool.specs.Texts.{only_text}
 use Rattle.acl_tool.specs.AuditMerged.{audit_of, merged_words}
@@ -32,7 +30,7 @@ use Rattle.acl_tool.proofs.AuditEnds.{audit_in}
 use Rattle.acl_tool.proofs.GivenOptions.{SaidBy, options_said}
 use Rattle.acl_tool.proofs.ReadOn.{done_told}
 use Rattle.acl_tool.proofs.AuditMerged.{IsAbove, said_above, said_text}
-use Rattle.acl_tool.proofs.ReadOn.{IsTest, ReadsOn, accepted_rules, is_told, read_on, told_test, unless_on, untold_rules}
+use Rattle.acl_tool.proofs.ReadOn.{IsTest, accepted_rules, is_told, read_on, told_test, unless_on, untold_rules}
 use Rattle.acl_tool.proofs.TooLarge.{budget_in, family_in, is_large, large_status, large_test, same_family, small_rules}
 use Rattle.acl_tool.proofs.TooLarge.{words_in}
 use Rattle.acl_tool.proofs.ClassifySized.{stops_large}

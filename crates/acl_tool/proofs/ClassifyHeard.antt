@@ -1,5 +1,5 @@
 -- A `classify` that ended with a report heard both files, and reached the report.
-use Rattle.std.proofs.Common.{◌≡◌, ℕ, ◌+◌, ◌<◌, ◌≤◌, List, ◌∷◌, ◌++◌, Bool, true, false, Option, Result, Ok, inl, inr}
+use Rattle.std.proofs.Common.{◌≡◌, ℕ, ◌<◌, ◌≤◌, List, ◌∷◌, ◌++◌, Bool, true, false, Option, Result, Ok, inl, inr}
 use Rattle.std.proofs.Common.{sym, ap, ◌∙◌, arith, length, length-append}
 use Rattle.std.proofs.lemmas.Bool.{false≢true}
 use Rattle.acl_outside.specs.Desk.{File}

@@ -1,11 +1,8 @@
 -- What `compare` told, by what was heard.
-use Rattle.std.proofs.Common.{◌≡◌, ℕ, ◌+◌, List, [], ◌∷◌, ◌++◌, Bool, true, false, Option}
+use Rattle.std.proofs.Common.{◌≡◌, ℕ, ◌+◌, List, [], ◌∷◌, ◌++◌, true, false}
 use Rattle.std.proofs.Common.{Result, Ok, Err, refl, sym, ap, subst, ◌∙◌, arith}
 use Rattle.std.specs.Prelude.{codes}
 use Rattle.std.proofs.lemmas.Bool.{false≢true}
-use Rattle.field_defs.specs.declared.field.Family.TheVariants.{Ip4, Ip6}
-use Rattle.acl_outside.specs.Desk.{File}
-use Rattle.acl_outside.specs.Heard.{Heard}
 use Rattle.classbench_reader.specs.declared.rules_fault.LineFault.{LineFault}
 use Rattle.classbench_reader.specs.RuleFile.{RuleLists, rule_file_of}
 use Rattle.command_words.specs.declared.usage_fault.UsageFault.{UsageFault}
@@ -15,9 +12,8 @@ use Rattle.command_ending.specs.declared.status.Status.{Status}
 use Rattle.command_ending.specs.declared.status.Status.TheVariants.{Done, RulesRefused, SecondRulesRefused, TooLarge}
 use Rattle.command_ending.specs.declared.status.Status.TheVariants.{TooManyTogether}
 use Rattle.command_ending.specs.Plan.{Outcome, ◌>>=◌, nothing, unless_refused}
-use Rattle.command_ending.specs.Follow.{Reached, Follows, outcome_of}
+use Rattle.command_ending.specs.Follow.{Reached, outcome_of}
 use Rattle.command_ending.specs.StepEffects.{Ends, Outside, files_of, heard_of}
-use Rattle.acl_tool.specs.FamilySet.{set_of}
 use Rattle.acl_tool.specs.RuleTables.{refused_rules, rules_of_bytes}
 use Rattle.acl_tool.specs.Texts.{is_refusal, only_text}
 use Rattle.acl_tool.specs.CompareLines.{compare_of}

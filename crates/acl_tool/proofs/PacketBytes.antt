@@ -1,10 +1,10 @@
 -- The packets of a capture of bytes are of bytes, and as long as their classes say.
-use Rattle.std.proofs.Common.{◌≡◌, ℕ, zero, suc, ◌+◌, ◌*◌, ◌==◌, ◌<◌, ◌≤◌, ◌||◌, List, [], ◌∷◌, ◌++◌, length, take}
-use Rattle.std.proofs.Common.{drop, map, Bool, true, false, Some, None, Result, Ok, Err, All, refl, sym, ap}
+use Rattle.std.proofs.Common.{◌≡◌, ℕ, zero, suc, ◌+◌, ◌*◌, ◌==◌, ◌<◌, ◌≤◌, List, [], ◌∷◌, ◌++◌, length, take}
+use Rattle.std.proofs.Common.{drop, map, Bool, true, false, Result, Ok, Err, All, refl, sym, ap}
 use Rattle.std.proofs.Common.{arith, length-append, subst}
 use Rattle.std.specs.Prelude.{⊤, nat_le, nat_lt, slice_index, if◌then◌else◌}
 use Rattle.std.specs.List.{AllByRecursion}
-use Rattle.std.proofs.lemmas.Bool.{leb-true, ltb-false}
+use Rattle.std.proofs.lemmas.Bool.{leb-true}
 use Rattle.std.proofs.lemmas.List.{length-take-le, length-drop}
 use Rattle.std.proofs.lemmas.List.Elements.{All-append, All-cons, All-drop, All-from_recursion, All-nil, All-take}
 use Rattle.byte_numbers.specs.Number.{number_at}
@@ -36,7 +36,7 @@ use Rattle.header_extract.specs.Ip4 as ip4
 use Rattle.header_extract.specs.Ip6.{Ends, Leads, Step, chain_of, followed, fragment, fragment_step, header_step}
 use Rattle.header_extract.specs.Ip6.{ip6_class, ip6_key, is_options, next_of as next_header, options_len, upper_within}
 use Rattle.header_extract.specs.Ip6 as ip6
-use Rattle.header_extract.specs.Link.{after_tags, class_by_type, class_by_version, frame_class, is_tag, raw_class}
+use Rattle.header_extract.specs.Link.{after_tags, class_by_type, frame_class, is_tag, raw_class}
 use Rattle.header_extract.specs.Link.{typed_class}
 use Rattle.capture_report.specs.Packet.{IsPacket}
 use Rattle.capture_report.specs.Shown.{packet_of}

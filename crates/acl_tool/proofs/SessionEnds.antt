@@ -1,13 +1,13 @@
 -- How `session` ends, link by link.
-use Rattle.std.proofs.Common.{◌≡◌, ℕ, ◌+◌, ◌<◌, List, ◌++◌, length, length-append, false, None, Ok, Err, Result, refl, sym}
-use Rattle.std.proofs.Common.{ap, subst, ◌∙◌, arith}
+use Rattle.std.proofs.Common.{◌≡◌, ℕ, ◌+◌, ◌<◌, List, ◌++◌, length, length-append, false, None, Ok, Err, refl, sym}
+use Rattle.std.proofs.Common.{subst, ◌∙◌, arith}
 use Rattle.std.proofs.lemmas.Bool.{lt-ltb}
 use Rattle.acl_outside.specs.Desk.{File, DeskView}
 use Rattle.acl_outside.specs.Sink.{SinkView}
 use Rattle.command_words.specs.Command.{Session}
 use Rattle.command_ending.specs.declared.status.Status.{Status}
 use Rattle.command_ending.specs.declared.status.Status.TheVariants.{Done, ScriptRefused}
-use Rattle.command_ending.specs.Plan.{Outcome, Plan, printed, unless_refused}
+use Rattle.command_ending.specs.Plan.{printed}
 use Rattle.command_ending.specs.Endings.{is_usage}
 use Rattle.command_ending.specs.StepEffects.{Ends, Outside, PutsLast, Takes, outside}
 use Rattle.command_ending.proofs.Offered.{BeginsWith-nothing, IsFaithful, faithful_unless, Ends-cut, Ends-put, Ends-then}

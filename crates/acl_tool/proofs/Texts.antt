@@ -1,11 +1,11 @@
 -- Commands that print one text end by it, or by its refusal.
-use Rattle.std.proofs.Common.{◌≡◌, ℕ, ◌+◌, List, true, false, None, Result, Ok, Err, inl, inr, refl, sym, ap, subst, arith}
+use Rattle.std.proofs.Common.{◌≡◌, ℕ, ◌+◌, List, true, false, None, Result, Ok, inl, inr, refl, sym, ap, subst, arith}
 use Rattle.std.proofs.lemmas.Bool.{false≢true}
 use Rattle.acl_outside.specs.Desk.{DeskView}
 use Rattle.acl_outside.specs.Sink.{SinkView}
 use Rattle.command_ending.specs.declared.status.Status.{Status}
-use Rattle.command_ending.specs.declared.status.Status.TheVariants.{Done, OutOfMemory, TooLarge, TooManyTogether}
-use Rattle.command_ending.specs.Plan.{Outcome, Plan, ◌>>=◌, Stop, printed, unless_refused}
+use Rattle.command_ending.specs.declared.status.Status.TheVariants.{Done, TooLarge, TooManyTogether}
+use Rattle.command_ending.specs.Plan.{Outcome, Plan, ◌>>=◌, printed, unless_refused}
 use Rattle.command_ending.specs.Endings.{is_decided, is_reported, is_usage}
 use Rattle.command_ending.specs.StepEffects.{Ends, Outside, PutsLast, outside}
 use Rattle.command_ending.proofs.Offered.{Ends-stopped, Ends-full, Ends-put}

@@ -1,6 +1,6 @@
 -- An accepted rule file was read to its end, whatever comes after it.
-use Rattle.std.proofs.Common.{◌≡◌, ◌<◌, List, ℕ, ◌++◌, Bool, true, false, Result, Ok, Err, inl, inr, sym, ap, ◌∙◌, arith}
-use Rattle.std.proofs.Common.{length, length-append, not, ◌⊎◌, refl}
+use Rattle.std.proofs.Common.{◌≡◌, List, ℕ, ◌++◌, Bool, true, false, Result, Ok, Err, inl, inr, sym, ap, ◌∙◌, arith}
+use Rattle.std.proofs.Common.{length-append, not, ◌⊎◌, refl}
 use Rattle.std.proofs.lemmas.Bool.{false≢true}
 use Rattle.acl_outside.specs.Heard.{Heard, Ended}
 use Rattle.classbench_reader.specs.declared.rules_fault.LineFault.{LineFault}

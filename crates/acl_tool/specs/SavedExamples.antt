@@ -1,15 +1,13 @@
 -- Examples of images that are made, replayed and refused, each checked by evaluation.
 use Rattle.std.specs.Prelude.{◌≡◌, ℕ, List, [], ◌∷◌, ◌++◌, length, take, replicate, codes, refl}
 use Rattle.std.specs.Fmt.{digits}
-use Rattle.rule_split.specs.Split as split
-use Rattle.table_fill.specs.Filled as filling
 use Rattle.table_image.specs.declared.load_fault.ImageKind.TheVariants.{Length, Magic, Trailing}
 use Rattle.table_image.specs.Spelling.{spelled, spelled_pair, spelled_table}
 use Rattle.table_image.specs.ImageReading as reading
 use Rattle.acl_outside.specs.Desk.{File}
 use Rattle.pcap_reader.specs.StartExamples.{ethernet_header}
 use Rattle.command_ending.specs.declared.status.Status.TheVariants.{Done, ImageRefused, ReadFault}
-use Rattle.command_ending.specs.Plan.{making, printed, silent}
+use Rattle.command_ending.specs.Plan.{printed, silent}
 use Rattle.acl_tool.specs.BuildPlan.{image_bytes}
 use Rattle.acl_tool.specs.ClassifyExamples.{no_tables, udp_record, wild_tables}
 use Rattle.acl_tool.specs.Outcome.{outcome}

@@ -1,11 +1,10 @@
-use Rattle.std.proofs.Common.{◌≡◌, List, ℕ, Ok, subst, sym, ap, ◌∙◌}
+use Rattle.std.proofs.Common.{◌≡◌, Ok, subst, sym, ap, ◌∙◌}
 use Rattle.field_defs.specs.declared.field.Family.TheVariants.{Ip4, Ip6}
 use Rattle.field_defs.specs.Layout.{ip4_fields, ip6_fields}
 use Rattle.rule_set.specs.Rule.{RuleSetView}
 use Rattle.audit_report.specs.Audit.{audit_text}
 use Rattle.capture_report.specs.Classifier.{lists_of}
-use Rattle.acl_tool.specs.FamilySet.{set_of}
-use Rattle.acl_tool.specs.AuditMerged.{audit_of, merged_within}
+use Rattle.acl_tool.specs.AuditMerged.{merged_within}
 use Rattle.acl_tool.specs.Texts.{Refuses}
 use Rattle.acl_tool.proofs.Making.{set-is}
 use Rattle.acl_tool.proofs.AuditMerged.{first_refuses, said_is, second_refuses}
