@@ -1,0 +1,3 @@
+pub mod Listed
+pub mod ListedExamples
+pub mod Laws
