@@ -18,7 +18,7 @@
 //! | `messages` | what each fault says |
 //! | `numbers` | numbers that bytes spell in either order |
 //! | `ranks` | ranks by priorities and places |
-//! | `rule_files` | rule files as people write them, and printed rules |
+//! | `rule_files` | rule files as people write them, printed rules and lists |
 //! | `stored` | rules that are stored |
 //! | `texts` | texts of addresses and numbers |
 //! | `verdicts` | verdicts of the plain filter |

@@ -1,9 +1,13 @@
-//! Rule files as people write them, and files with a fault. What is expected is done by hand.
+//! Rule files as people write them, files with a fault, and printed rules. What is expected is done
+//! by hand.
+
+ghost use Rattle.classbench_reader.specs.Print.{IsPrintable};
 
 use classbench_reader::{LineFault, LineKind, RulesFault, print_rule, read_rules};
 use field_defs::{Family, FieldValue, ip4_layout, ip6_layout};
+use printed_lists::{ListLine, put_list};
 use rule_set::{RuleSet, RuleTag, StoredRule, check_rule};
-use std::alloc::Global;
+use std::alloc::{AllocError, Global};
 use std::process::Abort;
 use std::test::Fail;
 
@@ -173,4 +177,44 @@ fn a_printed_ip6_rule_is_one_line(rt: HostRuntime) -> Result<(), Fail> {
         0x11/0xFF\tpri=5 cat=3 data=7\n";
     assert!(rt; line.as_slice() == want.as_slice());
     Ok(())
+}
+
+/// Writes a comment and an IPv4 rule.
+fn put_both(
+    alloc: Global,
+    text: &mut Vec<u8>,
+    comment: &[u8],
+    rule: &StoredRule,
+) -> Result<(), AllocError>
+    requires { IsPrintable Family.Ip4 rule.now }
+{
+    let lines = [ListLine::Comment(comment), ListLine::Rule(rule)];
+    put_list(alloc, text, Family::Ip4, &lines)
+}
+
+/// Asserts that the rule is one of IPv4, that it is this text after its comment, and that this is
+/// read as one rule.
+fn lists_ip4(
+    rt: &impl Abort,
+    alloc: Global,
+    comment: &[u8],
+    rule: &StoredRule,
+    want: &[u8],
+) -> Result<(), Fail> {
+    assert!(rt; check_rule(&ip4_layout(), &rule.tag(), rule.fields()) == Ok(()));
+    let mut text = Vec::new(alloc);
+    put_both(alloc, &mut text, comment, rule)?;
+    assert!(rt; text.as_slice() == want);
+    let file = read_rules(alloc, &text)?;
+    assert!(rt; file.ip4.len() == 1);
+    Ok(())
+}
+
+#[test]
+fn a_printed_list_is_read_as_its_rules(rt: HostRuntime) -> Result<(), Fail> {
+    let rule = StoredRule::new(rt.alloc(), tag(65535, 7, 2), &GUIDE)?;
+    let want = b"# udp to 1234\t??@::/0\n\
+        @192.168.1.0/24\t192.168.2.31/32\t0 : 65535\t1234 : 1234\t0x11/0xFF\t\
+        pri=7 cat=65535 data=2\n";
+    lists_ip4(&rt, rt.alloc(), b"udp to 1234\t\r\n@::/0", &rule, want)
 }
