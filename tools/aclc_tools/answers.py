@@ -94,12 +94,17 @@ def started(*words):
 
 
 def lines_of(*words):
-    """The lines that the program prints; a Refusal where it doesn't end with code 0."""
+    """The words of the lines that the program prints; a Refusal where it doesn't end with code 0."""
+    return (line.decode().split() for line in printed(*words))
+
+
+def printed(*words):
+    """The lines that the program prints, as bytes; a Refusal where it doesn't end with code 0."""
     process, said = started(*words)
     with process, said:
         try:
             for line in process.stdout:
-                yield line.decode().split()
+                yield line
         except GeneratorExit:
             process.kill()
             raise
@@ -144,14 +149,18 @@ def words_more(given):
 def classified(listed, copy, packets, categories, given):
     """What the program answers to each record by the copy of a list: its kind, and in each category the number of a
     rule or None; then `packets` and the program's last line."""
-    last, count = None, 0
+    last, count, known = None, 0, {}
     try:
-        for parts in lines_of("classify", copy, packets, f"categories={categories}", "marks=on", *words_more(given)):
-            if parts[0] == "packets":
-                last = " ".join(parts)
-            else:
-                count += 1
-                yield parts[1], [None if it == "-" else int(it) for it in parts[2:]]
+        for line in printed("classify", copy, packets, f"categories={categories}", "marks=on", *words_more(given)):
+            number, _, answer = line.partition(b" ")
+            if number == b"packets":
+                last = line.decode().strip()
+                continue
+            count += 1
+            if answer not in known:
+                kind, *words = answer.decode().split()
+                known[answer] = kind, tuple(None if it == "-" else int(it) for it in words)
+            yield known[answer]
     except Refusal as refusal:
         raise Refusal(refusal.code,
                       f"{listed.name}: {refusal.message}" if refusal.is_of_list() else refusal.message) from None

@@ -14,6 +14,8 @@ END_OF_OPTIONS, RESOLUTION, TIME_OFFSET = 0, 9, 14
 # An interface's link type, how many units of time a second has, and the seconds that are added to each time.
 Interface = namedtuple("Interface", "link units offset")
 MOST_RECORDS, MOST_BLOCKS = 1_000_000_000, 2_000_000_000
+# What reads one, two and five numbers in each byte order.
+ONE, TWO, FIVE = ({order: struct.Struct(order + "I" * count).unpack_from for order in "<>"} for count in (1, 2, 5))
 ENDS = "The file ends within this block: it is still being written, or was cut."
 DAMAGED = "the file is damaged here, or one block before it is."
 
@@ -40,7 +42,7 @@ def interface_of(order, body):
 
 def record_of(order, content, at, total, interfaces, number):
     """The record of an enhanced packet."""
-    place, high, low, captured, length = struct.unpack(order + "IIIII", content[at + 8:at + 28])
+    place, high, low, captured, length = FIVE[order](content, at + 8)
     if place >= len(interfaces):
         raise Fault(number, "no interface",
                     f"The packet is of interface {place}, and {len(interfaces)} stand before it in its section.")
@@ -73,20 +75,20 @@ def told(order, content, at, kind, total, interfaces, number):
 
 def records(content):
     """Each packet's record; a Fault at the first block that isn't whole."""
-    order, interfaces, at, count, read = ">", [], 0, 0, 0
-    while at < len(content):
-        number, left = count + 1, len(content) - at
+    order, interfaces, at, count, read, size = ">", [], 0, 0, 0, len(content)
+    while at < size:
+        number, left = count + 1, size - at
         if count == MOST_RECORDS or read == MOST_BLOCKS:
             raise Fault(number, "too many",
                         f"A capture has at most {MOST_RECORDS} packets and {MOST_BLOCKS} blocks: divide it.")
         if left < 12:
             raise Fault(number, "block cut", ENDS)
-        kind, = struct.unpack(order + "I", content[at:at + 4])
+        kind, total = TWO[order](content, at)
         if kind == SECTION_TYPE:
             order = section_order(content, at)
             if order is None:
                 raise Fault(number, "byte order", f"The section's byte-order magic is of neither order: {DAMAGED}")
-        total, = struct.unpack(order + "I", content[at + 4:at + 8])
+            kind, total = TWO[order](content, at)
         least = LEAST.get(kind, 12)
         if total % 4 or total < least:
             raise Fault(number, "block length", f"The block claims {total} bytes: {DAMAGED}")
@@ -95,7 +97,7 @@ def records(content):
         record, interfaces = told(order, content, at, kind, total, interfaces, number)
         if left < total:
             raise Fault(number, "block cut", ENDS)
-        if struct.unpack(order + "I", content[at + total - 4:at + total])[0] != total:
+        if ONE[order](content, at + total - 4)[0] != total:
             raise Fault(number, "block length", f"The block's two lengths differ: {DAMAGED}")
         at, read = at + total, read + 1
         if record is not None:

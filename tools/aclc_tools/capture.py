@@ -54,20 +54,21 @@ def records_with_times(content):
         yield from blocks.records(content)
         return
     order, link, unit = begin(content)
+    read_head, size = struct.Struct(order + "IIII").unpack_from, len(content)
     at, count = 24, 0
-    while at < len(content):
+    while at < size:
         count += 1
-        header = content[at:at + 16]
-        if len(header) < 16:
+        if size - at < 16:
             raise Fault(count, "cut", "The file ends within this record: it is still being written, or was cut.")
-        seconds, part, captured, length = struct.unpack(order + "IIII", header)
+        seconds, part, captured, length = read_head(content, at)
         if captured > MOST_CAPTURED:
             raise Fault(count, "too long",
                         f"The record claims {captured} bytes: the file is damaged here, or one before it is.")
-        at += 16 + captured
-        if at > len(content):
+        start = at + 16
+        at = start + captured
+        if at > size:
             raise Fault(count, "cut", "The file ends within this record: it is still being written, or was cut.")
-        yield Record(content[at - captured:at], length, link, seconds * 1_000_000_000 + part * unit)
+        yield Record(content[start:at], length, link, seconds * 1_000_000_000 + part * unit)
 
 
 def records(content):

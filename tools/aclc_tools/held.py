@@ -6,6 +6,7 @@ their keys up to a limit; above it the first ones of each outcome are.
 """
 import array
 import sys
+from collections import defaultdict
 
 from aclc_tools import answers, capture, confirmed, keys
 from aclc_tools.program import leave
@@ -13,7 +14,10 @@ from aclc_tools.program import leave
 KINDS = {"ip4": 4, "ip6": 6, "other": 0, "short": 1}
 FIRST = 100
 MOST_BUCKETS = 512
-# The columns of held packets: the type of each, and what it says.
+# The nanoseconds before or after 1970 that a column has room for, and the exit code of a faulty capture.
+MOST_TIME, CAPTURE = 1 << 63, 5
+IP4_SIZE = 13
+# The columns of held packets in their order, and the type of each.
 COLUMNS = {"number": "I", "capture": "H", "time": "q", "kind": "B", "key": "I", "outcome": "I"}
 
 
@@ -28,34 +32,36 @@ def little(column):
 class Outcome:
     """What decides some packets: the place of an entry, or -1, in each list and category; and how many they are."""
 
-    def __init__(self, place, kind, decides):
+    def __init__(self, place, kind, decides, time):
         self.place, self.kind, self.decides = place, kind, decides
-        self.count, self.held, self.first, self.last = 0, 0, None, None
+        self.count, self.held, self.first, self.last = 0, 0, time, time
 
     def add(self, time):
         """Counts a packet."""
         self.count += 1
-        self.first = time if self.first is None else min(self.first, time)
-        self.last = time if self.last is None else max(self.last, time)
+        if time < self.first:
+            self.first = time
+        if time > self.last:
+            self.last = time
 
 
 class Buckets:
     """How many packets of each outcome there are in each part of the time; all parts are equally long."""
 
     def __init__(self):
-        self.start, self.width, self.counts = None, 1, {}
+        self.start, self.width, self.counts = None, 1, defaultdict(int)
 
     def add(self, time, outcome):
         """Counts a packet; where there are too many parts, each two become one."""
         if self.start is None:
             self.start = time
         place = (time - self.start) // self.width
-        self.counts[place, outcome] = self.counts.get((place, outcome), 0) + 1
+        self.counts[place, outcome] += 1
         while not -MOST_BUCKETS // 2 <= place < MOST_BUCKETS // 2:
             self.width *= 2
-            wider = {}
+            wider = defaultdict(int)
             for (at, its_outcome), count in self.counts.items():
-                wider[at // 2, its_outcome] = wider.get((at // 2, its_outcome), 0) + count
+                wider[at // 2, its_outcome] += count
             self.counts, place = wider, place // 2
 
     def rows(self):
@@ -71,10 +77,12 @@ class Held:
         self.copies = [room.write(".rules", answers.numbered(listed.rules)) for listed in lists]
         places = [{entry: place for place, entry in enumerate(listed.entries)} for listed in lists]
         self.places = [[-1, *(own[listed.entry(rule)] for rule in listed.rules)] for own, listed in zip(places, lists)]
-        self.outcomes, self.captures, self.count, self.all_held = {}, [], 0, True
+        # The outcomes in their order, and by what the program answers.
+        self.outcomes, self.known = {}, {}
+        self.captures, self.count, self.all_held = [], 0, True
         self.columns = {name: array.array(code) for name, code in COLUMNS.items()}
         self.key_bytes, self.key_places = bytearray(), {}
-        self.buckets, self.confirmed, self.start = Buckets(), confirmed.Confirmed(room), None
+        self.buckets, self.confirmed = Buckets(), confirmed.Confirmed(room)
 
     def of_capture(self, name, told):
         """Takes the packets of a capture; `told` gets what is said of the capture, also where a refusal ends it."""
@@ -105,12 +113,16 @@ class Held:
             leave(f"{name}: this tool reads another number of packets than the program", 2)
 
     def record_of(self, name, number, reader):
-        """The record of a number."""
+        """The record of a number. One whose time has no date ends its capture."""
         try:
             record = next(reader, None)
         except capture.Fault as fault:
             return leave(f"{name}: record {number}: the program reads it, and this tool doesn't: {fault.kind}", 2)
-        return record or leave(f"{name}: record {number}: the program reads it, and this tool sees no more records", 2)
+        if record is None:
+            return leave(f"{name}: record {number}: the program reads it, and this tool sees no more records", 2)
+        if not -MOST_TIME < record.time < MOST_TIME:
+            raise answers.Refusal(CAPTURE, f"packet {number}: its time is before 1678 or after 2262, and a report tells none such")
+        return record
 
     def sentence_of(self, reader):
         """What to do about the record that the program refuses, and its fault as this tool sees it."""
@@ -122,59 +134,60 @@ class Held:
 
     def take(self, name, at, found, record):
         """Counts a packet, and holds it if there is room."""
-        kinds = {kind for kind, _ in found}
-        if len(kinds) > 1:
-            leave(f"{name}: packet {at[1]}: the program prints {' and '.join(sorted(kinds))} by two lists", 2)
-        kind = found[0][0]
-        outcome = self.outcome_of(kind, [numbers for _, numbers in found])
+        outcome = self.known.get(found)
+        if outcome is None:
+            outcome = self.known[found] = self.outcome_of(name, at[1], found, record.time)
         outcome.add(record.time)
-        self.start = record.time if self.start is None else min(self.start, record.time)
         self.count += 1
         self.buckets.add(record.time, outcome.place)
         if self.all_held and self.count > self.most:
             self.thin_out()
         if self.all_held or outcome.held < FIRST and len(self.columns["number"]) < self.most:
-            self.hold(name, at, kind, outcome, record)
+            self.hold(name, at, found[0][0], outcome, record)
 
-    def outcome_of(self, kind, found):
-        """The outcome of a packet by the numbers of the rules that decide it."""
-        if any(number and number > len(listed.rules) for listed, numbers in zip(self.lists, found) for number in numbers):
+    def outcome_of(self, name, number, found, time):
+        """The outcome of a packet by the kind and the numbers of the rules that each list decides it by."""
+        kinds = {kind for kind, _ in found}
+        if len(kinds) > 1:
+            leave(f"{name}: packet {number}: the program prints {' and '.join(sorted(kinds))} by two lists", 2)
+        if any(it and it > len(listed.rules) for listed, (_, numbers) in zip(self.lists, found) for it in numbers):
             leave(f"the program answers by a rule that the list hasn't: {found}", 2)
+        kind = found[0][0]
         if kind not in ("ip4", "ip6"):
             decides = (-1,) * (len(self.lists) * len(self.categories))
         else:
-            decides = tuple(places[numbers[category] or 0] for places, numbers in zip(self.places, found)
+            decides = tuple(places[numbers[category] or 0] for places, (_, numbers) in zip(self.places, found)
                             for category in self.categories)
         key = KINDS[kind], decides
         if key not in self.outcomes:
-            self.outcomes[key] = Outcome(len(self.outcomes), *key)
+            self.outcomes[key] = Outcome(len(self.outcomes), *key, time)
         return self.outcomes[key]
 
     def hold(self, name, at, kind, outcome, record):
         """Takes a packet with its key."""
         outcome.held += 1
-        values = {"number": at[1], "capture": at[0], "time": record.time, "kind": KINDS[kind],
-                  "key": self.key_of(name, at, kind, record), "outcome": outcome.place}
-        for name_of, column in self.columns.items():
-            column.append(values[name_of])
+        capture_at, number = at
+        values = number, capture_at, record.time, KINDS[kind], self.key_of(name, number, kind, record), outcome.place
+        for column, value in zip(self.columns.values(), values):
+            column.append(value)
 
-    def key_of(self, name, at, kind, record):
+    def key_of(self, name, number, kind, record):
         """The place of a packet's key among the bytes of all keys."""
         try:
-            key = keys.of_frame(record.link, record.frame)
-            read = f"ip{key.family}"
+            content = keys.content_of_frame(record.link, record.frame)
+            read = "ip4" if len(content) == IP4_SIZE else "ip6"
         except keys.NoKey as fault:
-            key, read = None, str(fault)
+            content, read = None, str(fault)
         if read != kind:
-            leave(f"{name}: packet {at[1]}: the program prints {kind} of it, and this tool reads it as {read}", 2)
-        if not key:
+            leave(f"{name}: packet {number}: the program prints {kind} of it, and this tool reads it as {read}", 2)
+        if content is None:
             return 0
-        content = key.content()
-        self.confirmed.add(lambda: f"{name}: packet {at[1]}", record.link, record.frame, content)
-        if content not in self.key_places:
-            self.key_places[content] = len(self.key_bytes)
+        self.confirmed.add((name, number), record.link, record.frame, content)
+        place = self.key_places.get(content)
+        if place is None:
+            place = self.key_places[content] = len(self.key_bytes)
             self.key_bytes += content
-        return self.key_places[content]
+        return place
 
     def thin_out(self):
         """Keeps the first packets of each outcome alone."""
@@ -191,8 +204,8 @@ class Held:
 
     def told(self):
         """What a report says of them, and the columns with their names and types."""
-        start = self.start or 0
         outcomes = list(self.outcomes.values())
+        start = min((it.first for it in outcomes), default=0)
         decides = array.array("i", (it for outcome in outcomes for it in outcome.decides))
         times = array.array("d", (float(time - start) for time in self.columns["time"]))
         columns = {**self.columns, "time": times, "decides": decides}

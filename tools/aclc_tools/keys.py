@@ -13,6 +13,10 @@ DIGITS = {2 * length for length in SIZES}
 WITH_PORTS = {6: "TCP", 17: "UDP", 132: "SCTP"}
 HOP_BY_HOP, ROUTING, FRAGMENT, DESTINATION = EXTENSIONS = 0, 43, 44, 60
 TAGS, IP4, IP6 = (0x8100, 0x88A8), 0x0800, 0x86DD
+VERSIONS = {IP4: 4, IP6: 6}
+NO_PORTS = bytes(4)
+# Each byte by itself.
+BYTES = [bytes([it]) for it in range(256)]
 # The length of a link's header, and where the type of what follows stands in it.
 TYPED_LINKS = {1: (14, 12), 113: (16, 14), 276: (20, 0)}
 PLAIN_LINKS = {228: 4, 229: 6}
@@ -100,55 +104,73 @@ def frame(key):
 
 
 def need(content, length):
-    """The bytes, where there are so many."""
+    """Refuses a frame that has fewer bytes."""
     if len(content) < length:
         raise NoKey("short")
-    return content
 
 
-def of_packet_4(packet):
-    """The key of an IPv4 packet."""
-    if need(packet, 20)[0] >> 4 != 4 or packet[0] & 15 < 5:
+def content_of_packet_4(frame, at):
+    """The bytes of the key of an IPv4 packet, which begins at a place of a frame."""
+    need(frame, at + 20)
+    words = frame[at] & 15
+    if frame[at] >> 4 != 4 or words < 5:
         raise NoKey("other")
-    length = 4 * (packet[0] & 15)
-    need(packet, length)
-    fragment, = struct.unpack(">H", packet[6:8])
-    return with_ports(packet[9], packet[12:16], packet[16:20], None if fragment & 0x1FFF else packet[length:])
+    end = at + 4 * words
+    need(frame, end)
+    is_later = frame[at + 6] & 0x1F or frame[at + 7]
+    return with_ports(frame, frame[at + 9], frame[at + 12:at + 20], None if is_later else end)
 
 
-def of_packet_6(packet):
-    """The key of an IPv6 packet, after the headers that are passed over."""
-    if need(packet, 40)[0] >> 4 != 6:
+def content_of_packet_6(frame, at):
+    """The bytes of the key of an IPv6 packet, after the headers that are passed over."""
+    need(frame, at + 40)
+    if frame[at] >> 4 != 6:
         raise NoKey("other")
-    protocol, at = packet[6], 40
+    protocol, addresses, at = frame[at + 6], frame[at + 8:at + 40], at + 40
     while protocol in EXTENSIONS:
-        need(packet, at + 8)
-        if protocol == FRAGMENT and struct.unpack(">H", packet[at + 2:at + 4])[0] >> 3:
-            return with_ports(packet[at], packet[8:24], packet[24:40], None)
-        length = 8 if protocol == FRAGMENT else 8 * (packet[at + 1] + 1)
-        need(packet, at + length)
-        protocol, at = packet[at], at + length
-    return with_ports(protocol, packet[8:24], packet[24:40], packet[at:])
+        need(frame, at + 8)
+        if protocol == FRAGMENT and (frame[at + 2] or frame[at + 3] >> 3):
+            return with_ports(frame, frame[at], addresses, None)
+        end = at + (8 if protocol == FRAGMENT else 8 * (frame[at + 1] + 1))
+        need(frame, end)
+        protocol, at = frame[at], end
+    return with_ports(frame, protocol, addresses, at)
 
 
-def with_ports(protocol, source, destination, rest):
-    """The key of a packet whose payload is the rest, or none in a later fragment."""
-    if rest is None or protocol not in WITH_PORTS:
-        return Key(protocol, source, destination, (0, 0))
-    return Key(protocol, source, destination, struct.unpack(">HH", need(rest, 4)[:4]))
+def with_ports(frame, protocol, addresses, at):
+    """The bytes of a key whose ports stand at a place of a frame, or nowhere in a later fragment."""
+    if at is None or protocol not in WITH_PORTS:
+        return BYTES[protocol] + addresses + NO_PORTS
+    need(frame, at + 4)
+    return BYTES[protocol] + addresses + frame[at:at + 4]
 
 
-def of_frame(link, content):
+def packet_in(link, frame):
+    """The version of the packet in a frame, or None, and the place where it begins."""
+    if link not in TYPED_LINKS:
+        if link not in PLAIN_LINKS:
+            need(frame, 1)
+        return PLAIN_LINKS.get(link) or frame[0] >> 4, 0
+    at, place = TYPED_LINKS[link]
+    need(frame, at)
+    kind = frame[place] << 8 | frame[place + 1]
+    for _ in range(2):
+        if kind in TAGS:
+            need(frame, at + 4)
+            kind, at = frame[at + 2] << 8 | frame[at + 3], at + 4
+    return VERSIONS.get(kind), at
+
+
+def content_of_frame(link, frame):
+    """The bytes of the key of the packet in a frame; NoKey where there is none."""
+    version, at = packet_in(link, frame)
+    if version == 4:
+        return content_of_packet_4(frame, at)
+    if version == 6:
+        return content_of_packet_6(frame, at)
+    raise NoKey("other")
+
+
+def of_frame(link, frame):
     """The key of the packet in a frame; NoKey where there is none."""
-    if link in TYPED_LINKS:
-        length, place = TYPED_LINKS[link]
-        kind, packet = struct.unpack(">H", need(content, length)[place:place + 2])[0], content[length:]
-        for _ in range(2):
-            if kind in TAGS:
-                kind, packet = struct.unpack(">H", need(packet, 4)[2:4])[0], packet[4:]
-        version = {IP4: 4, IP6: 6}.get(kind)
-    else:
-        packet, version = content, PLAIN_LINKS.get(link) or need(content, 1)[0] >> 4
-    if version not in (4, 6):
-        raise NoKey("other")
-    return of_packet_4(packet) if version == 4 else of_packet_6(packet)
+    return of_bytes(content_of_frame(link, frame))
