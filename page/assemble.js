@@ -3,14 +3,27 @@
 import { ROW } from './engine.js';
 import { acceptedList, compareData, listData, Refused } from './asked.js';
 import { timesOf } from './times.js';
+import { sizeText } from './text.js';
 
 const KINDS = { ip4: 4, ip6: 6, other: 0, short: 1 };
+// The exit codes of a capture that is faulty, and of memory that is too small.
+const FAULTY = 5;
+const NO_MEMORY = 9;
 const CATEGORIES = Array.from({ length: 16 }, (_, it) => it);
 
 async function checksumOf(bytes) {
   if (!globalThis.crypto?.subtle) return null;
   const sum = new Uint8Array(await crypto.subtle.digest('SHA-256', bytes));
   return Array.from(sum, (it) => it.toString(16).padStart(2, '0')).join('');
+}
+
+// A file that was chosen, with its bytes.
+async function read(file) {
+  try {
+    return { name: file.name, bytes: new Uint8Array(await file.arrayBuffer()) };
+  } catch (fault) {
+    throw new Error(`${file.name} can’t be read: ${fault.message}`);
+  }
 }
 
 async function fileData(role, { name, bytes }) {
@@ -106,7 +119,8 @@ function addCapture(engine, columns, place, file, told, asked) {
   const { bytes, name } = file;
   const runs = columns.lists.map((list) => [engine.classify(list.copy, bytes, asked), engine.classify(list.bytes, bytes, asked)]);
   const [first] = runs[0];
-  if (first.code && first.code !== 5) throw new Refused('list', columns.lists[0].name, first);
+  if (first.code === NO_MEMORY) throw new Error(`${name} is too large for the memory of this page, of which the module has ${sizeText(engine.memory())}: tools/report takes captures of any length.`);
+  if (first.code && first.code !== FAULTY) throw new Refused('list', columns.lists[0].name, first);
   if (first.code) told.refusals.push(new Refused('capture', name, first).told);
   const texts = runs.map(([copy]) => answersIn(copy.out));
   const rows = engine.records(bytes, texts[0].length + 1);
@@ -123,8 +137,9 @@ export async function assemble(engine, { list, old, captures, maxWords }, made, 
   const asked = { ...(maxWords ? { maxWords } : {}), marks: 1 };
   const lists = [];
   try {
-    for (const [role, file] of roles) {
-      progress(`Reading ${file.name}`);
+    for (const [role, chosen] of roles) {
+      progress(`Reading ${chosen.name}`);
+      const file = await read(chosen);
       told.files.push(await fileData(role, file));
       lists.push(acceptedList(engine, role, file, asked));
     }
@@ -137,8 +152,11 @@ export async function assemble(engine, { list, old, captures, maxWords }, made, 
       told.compare = compareData(engine, ...lists, asked);
     }
     const columns = new Columns(lists, count);
-    for (const [place, file] of captures.entries()) {
-      progress(`Asking about ${file.name}`);
+    for (const [place, chosen] of captures.entries()) {
+      const which = `${chosen.name}, capture ${place + 1} of ${captures.length}`;
+      progress(`Reading ${which}`);
+      const file = await read(chosen);
+      progress(`Asking about ${which}`);
       const data = await fileData('capture', file);
       told.files.push({ ...data, packets: addCapture(engine, columns, place, file, told, { ...asked, categories: count }) });
     }

@@ -30,7 +30,13 @@ export function unpacked(content) {
   for (const [name, code, at, size] of told.columns) {
     columns[name] = new ARRAYS[code](content.buffer, 8 + length + at, size / ARRAYS[code].BYTES_PER_ELEMENT);
   }
-  return new Report(told, told.packets && new Packets(told.packets, columns, told));
+  return reportOf(told, columns);
+}
+
+// A report of what is told and the columns; without a capture it has no packets.
+export function reportOf(told, columns) {
+  const hasPackets = told.packets && told.files.some((it) => it.role === 'capture');
+  return new Report(told, hasPackets ? new Packets(told.packets, columns, told) : null);
 }
 
 export class Report {

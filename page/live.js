@@ -1,7 +1,7 @@
 // SPDX-License-Identifier: BSD-3-Clause
 // Files that are chosen in the page: nothing of them leaves it. A worker asks the module, and can be stopped.
 import { make, sizeText } from './text.js';
-import { contentOf, Packets, Report } from './data.js';
+import { contentOf, reportOf } from './data.js';
 
 // What the module can hold beside its tables.
 const MOST_BYTES = 1_300_000_000;
@@ -42,21 +42,21 @@ class Live {
     if ($('go')) $('go').disabled = !!this.worker;
   }
 
-  async contents() {
-    const all = [this.chosen.list, this.chosen.old, ...this.chosen.captures].filter(Boolean);
-    const large = all.find((it) => it.size > MOST_BYTES);
+  // The files that are chosen, which the worker reads one after the other.
+  files() {
+    const { list, old, captures } = this.chosen;
+    if (!list) throw new Error('Choose a list of rules first');
+    const large = [list, old, ...captures].find((it) => it?.size > MOST_BYTES);
     if (large) throw new Error(`${large.name} has ${sizeText(large.size)}, and a page has room for some ${sizeText(MOST_BYTES)}: tools/report takes captures of any length`);
-    const read = async (file) => file && { name: file.name, bytes: new Uint8Array(await file.arrayBuffer()) };
-    return { list: await read(this.chosen.list), old: await read(this.chosen.old), captures: await Promise.all(this.chosen.captures.map(read)),
-      maxWords: Number($('words')?.value || 0) };
+    return { list, old, captures, maxWords: Number($('words')?.value || 0) };
   }
 
   // Begins the work; what was begun before is stopped.
   async begin() {
     this.stop('');
     try {
-      if (!this.chosen.list) throw new Error('Choose a list of rules first');
-      const [{ module, worker, note }, files] = [await parts(), await this.contents()];
+      const files = this.files();
+      const { module, worker, note } = await parts();
       const made = { when: new Date().toISOString().slice(0, 19).replace('T', ' '), program: 'the module in this page', checksum: await checksum(module),
         version: note.version, proof: note.proof, unproved: 'no note of a proof stands beside the module' };
       this.worker = worker ? new Worker(URL.createObjectURL(worker)) : new Worker('worker.js', { type: 'module' });
@@ -74,7 +74,7 @@ class Live {
     else if (fault) this.stop(fault);
     else {
       this.stop(`Done; the module had ${sizeText(memory)}`);
-      this.page.take(new Report(told, told.packets && new Packets(told.packets, columns, told)));
+      this.page.take(reportOf(told, columns));
     }
   }
 

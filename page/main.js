@@ -32,7 +32,7 @@ class Page {
     this.known = new Map();
     const { packets } = report;
     if (packets) {
-      packets.hasTimes = packets.end > 0 || packets.start > 0n;
+      packets.hasTimes = packets.end > 0 || packets.start !== 0n;
       this.isChanged = packets.outcomes.map((_, outcome) => changedIn(report, outcome) >= 0);
     }
     this.keyed = packets ? packets.outcomes.reduce((sum, it) => sum + (it.kind >= 4 ? it.total : 0), 0) : 0;
@@ -80,10 +80,16 @@ class Page {
       const kinds = kindsOf(packets);
       parts.push(`${many(packets.total, 'packet')}: ${count(kinds[4])} IPv4, ${count(kinds[6])} IPv6, ${count(kinds[0])} other, ${count(kinds[1])} short`);
     }
-    if (report.old && packets?.total) parts.push(`${count(pairsOf(report).reduce((sum, it) => sum + it.total, 0))} get another answer than by ${report.old.name}`);
+    if (report.old && packets?.total) parts.push(this.changedText());
     if (report.refusals.length) parts.push(`${many(report.refusals.length, 'file')} refused`);
     parts.push(`${report.made.version ? `aclc ${report.made.version}` : 'aclc'}, ${report.made.proof ? 'proved' : 'no proof known'}, ${report.made.when} UTC`);
     return parts.join(' · ');
+  }
+
+  changedText() {
+    const { report } = this;
+    const total = pairsOf(report).reduce((sum, it) => sum + it.total, 0);
+    return `${count(total)} get${total === 1 ? 's' : ''} another answer than by ${report.old.name}`;
   }
 
   categoryChoice() {

@@ -5,6 +5,9 @@ import { Table } from './table.js';
 
 // Which rows are shown.
 const CHOICES = { all: 'all', used: 'decide packets', idle: 'decide none of these', dead: 'can never decide' };
+const OF_PACKETS = ['used', 'idle'];
+const COUNTED = [{ title: 'Packets', width: '6.5rem', end: true, kind: 'number' }, { title: 'Share', width: '4.5rem', end: true, kind: 'number' },
+  { title: '', width: 'minmax(4rem, 8rem)' }];
 
 function isShown(entry, hits, choice) {
   if (choice === 'dead') return !!entry.dead;
@@ -54,7 +57,8 @@ function cellsOf(page, row, total) {
   const text = make('div', { class: 'two' }, make('span', { class: 'code', title: entry.text }, verdict, make('span', { class: 'words' }, entry.text)),
     below(list, entry, page.category));
   const hits = row.hits?.total ?? 0;
-  return [entry.number === null ? 'end' : String(entry.number), text, packets ? count(hits) : '', share(hits, total), bar(hits, total), ...whenOf(packets, row.hits)];
+  const counted = packets ? [count(hits), share(hits, total), bar(hits, total)] : [];
+  return [entry.number === null ? 'end' : String(entry.number), text, ...counted, ...whenOf(packets, row.hits)];
 }
 
 function kindOf(page, row) {
@@ -85,13 +89,12 @@ function sentence(page) {
 export function rulesView(page) {
   let rows = [];
   const total = page.keyed;
-  const { what } = page.report.list;
+  const { list: { what }, packets } = page.report;
   const table = new Table({
     label: 'Rules', height: 48,
     columns: [{ title: `${what[0].toUpperCase()}${what.slice(1)}`, width: '4.5rem', end: true, kind: 'number' },
-      { title: 'Rule', width: 'minmax(18rem, 1fr)' }, { title: 'Packets', width: '6.5rem', end: true, kind: 'number' },
-      { title: 'Share', width: '4.5rem', end: true, kind: 'number' }, { title: '', width: 'minmax(4rem, 8rem)' },
-      ...(page.report.packets?.hasTimes ? [{ title: 'First and last (UTC)', width: '13.5rem', kind: 'number' }] : [])],
+      { title: 'Rule', width: 'minmax(18rem, 1fr)' }, ...(packets ? COUNTED : []),
+      ...(packets?.hasTimes ? [{ title: 'First and last (UTC)', width: '13.5rem', kind: 'number' }] : [])],
     cells: (at) => cellsOf(page, rows[at], total),
     kind: (at) => kindOf(page, rows[at]),
     open: (at) => page.openRule(rows[at].place),
@@ -101,7 +104,7 @@ export function rulesView(page) {
     table.show(rows.length);
   };
   const choice = make('select', { id: 'rows', onchange: (event) => choose(event.target.value) },
-    Object.entries(CHOICES).map(([value, text]) => make('option', { value }, text)));
+    Object.entries(CHOICES).filter(([value]) => packets || !OF_PACKETS.includes(value)).map(([value, text]) => make('option', { value }, text)));
   choose('all');
   return [make('p', { class: 'lead' }, sentence(page)),
     make('div', { class: 'tools' }, make('label', { for: 'rows' }, 'Lines that'), choice), table.element];

@@ -82,11 +82,18 @@ export function keyText(key) {
 
 // A number of nanoseconds since 1970 as a time of Greenwich, to so many digits of a second.
 export function timeText(nanoseconds, digits = 3) {
-  const seconds = nanoseconds / 1000000000n;
-  const part = (nanoseconds % 1000000000n).toString().padStart(9, '0').slice(0, digits);
+  const rest = ((nanoseconds % 1000000000n) + 1000000000n) % 1000000000n;
+  const seconds = (nanoseconds - rest) / 1000000000n;
+  const part = rest.toString().padStart(9, '0').slice(0, digits);
   const date = new Date(Number(seconds) * 1000);
   if (Number.isNaN(date.getTime())) return `${seconds}.${part} s`;
   return `${date.toISOString().slice(0, 19).replace('T', ' ')}${digits ? '.' : ''}${part}`;
+}
+
+// The end of a range of times, without the date if that is the day of its start.
+export function endTimeText(start, end) {
+  const [from, to] = [timeText(start), timeText(end)];
+  return from.slice(0, 10) === to.slice(0, 10) ? to.slice(11) : to;
 }
 
 // A length of time in nanoseconds, in the unit that suits it.

@@ -1,6 +1,6 @@
 // SPDX-License-Identifier: BSD-3-Clause
 // Answers over the time of the capture as stacked bars, by line or by answer; a range of it filters the packets.
-import { count, lengthText, make, many, timeText } from './text.js';
+import { count, endTimeText, lengthText, make, many, timeText } from './text.js';
 
 const MOST_SERIES = 8;
 const PARTS = 160;
@@ -71,8 +71,9 @@ function axes(packets, most) {
     return make('g', {}, make('line', { class: 'grid', x1: SIZE.left, x2: SIZE.width - SIZE.right, y1: y, y2: y }),
       make('text', { x: SIZE.left - 6, y: y + 4, 'text-anchor': 'end' }, count(Math.round(part * most))));
   });
+  const timeAt = (part) => packets.start + BigInt(Math.round(part * packets.end));
   const times = [0, 0.5, 1].map((part) => make('text', { x: SIZE.left + part * inner.width, y: SIZE.height - 8,
-    'text-anchor': ['start', 'middle', 'end'][part * 2] }, timeText(packets.start + BigInt(Math.round(part * packets.end))).slice(part ? 11 : 0)));
+    'text-anchor': ['start', 'middle', 'end'][part * 2] }, part ? endTimeText(timeAt(0), timeAt(part)) : timeText(timeAt(0))));
   return [...lines, ...times];
 }
 
@@ -127,8 +128,8 @@ function picker(page, found, told) {
     state.mark(state.first, state.last);
     let total = 0;
     for (const row of found.rows.slice(state.first, state.last)) total += row.reduce((sum, it) => sum + it, 0);
-    const at = (part) => timeText(packets.start + BigInt(Math.round(part * found.width)));
-    told.textContent = `${at(state.first)} to ${at(state.last).slice(11)}: ${many(total, 'packet')}`;
+    const [start, end] = [state.first, state.last].map((part) => packets.start + BigInt(Math.round(part * found.width)));
+    told.textContent = `${timeText(start)} to ${endTimeText(start, end)}: ${many(total, 'packet')}`;
   };
   const from = slider('from', 'From', state.first, (value) => choose(value, Math.max(state.last, value + 1)));
   const to = slider('to', 'To', state.last, (value) => choose(Math.min(state.first, Math.max(0, value - 1)), value));

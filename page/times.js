@@ -22,12 +22,13 @@ function interfaceOf(view, from, to, little) {
   let [perSecond, offset] = [1000000n, 0n];
   for (let at = from; at + 4 <= to;) {
     const [code, length] = [view.getUint16(at, little), view.getUint16(at + 2, little)];
+    const isWhole = at + 4 + length <= to;
     if (!code) break;
-    if (code === UNIT_OPTION && length) {
+    if (code === UNIT_OPTION && length === 1 && isWhole) {
       const exponent = view.getUint8(at + 4);
       perSecond = (exponent & 128 ? 2n : 10n) ** BigInt(exponent & 127);
     }
-    if (code === OFFSET_OPTION && length >= 8) offset = view.getBigInt64(at + 4, little);
+    if (code === OFFSET_OPTION && length === 8 && isWhole) offset = view.getBigInt64(at + 4, little);
     at += 4 + ((length + 3) & ~3);
   }
   return { perSecond, offset };
