@@ -5,101 +5,17 @@ Each test opens a page that tools/report made, as a user opens it: from a disk. 
 no request was made.
 """
 import http.server
-import os
-import tempfile
 import threading
 import unittest
-from pathlib import Path
 
 import browsers
 import made
 from aclc_tools.program import TOP
-from tool import DATA, EXAMPLES, tool
-
-PICTURES = TOP / "page" / "tests" / "out"
-OFFICE, EDITED = EXAMPLES / "office.rules", EXAMPLES / "edited.rules"
-TEXTS = "[...document.querySelectorAll('.table .row:not(.head)')].map(it => it.innerText.replace(/\\s+/g, ' ').trim())"
-VIEW = "document.getElementById('view').innerText"
-SIDE = "document.getElementById('side').innerText"
-LIVE = os.environ.get("ACLC_PAGE")
+from shown import DATA, EDITED, EXAMPLES, FILES, OFFICE, SIDE, VIEW, Shown
 
 
-class Files:
-    """The files of the tests, and the pages that are made of them."""
-
-    def __init__(self):
-        self.room = tempfile.TemporaryDirectory()
-        self.folder, self.pages = Path(self.room.name), {}
-
-    def write(self, name, content):
-        """A file of these bytes, or of this text."""
-        path = self.folder / name
-        path.write_bytes(content.encode() if isinstance(content, str) else content)
-        return path
-
-    def page(self, name, code, *words):
-        """The address of a page of a report, which is made once."""
-        if name not in self.pages:
-            page = self.folder / f"{name}.html"
-            done = tool("report", *words, "-o", page)
-            if done[0] != code:
-                raise AssertionError(f"report ends with {done[0]}: {done[2]}")
-            self.pages[name] = page.as_uri()
-        return self.pages[name]
-
-
-FILES = Files()
-
-
-def tearDownModule():
-    FILES.room.cleanup()
-
-
-class Views:
-    """The tests of each browser."""
-
-    browser_class = None
-
-    @classmethod
-    def setUpClass(cls):
-        PICTURES.mkdir(exist_ok=True)
-        cls.browser = cls.browser_class()
-        cls.browser.start()
-        cls.addClassCleanup(cls.browser.__exit__)
-
-    def open(self, url):
-        """Opens a page; before the next one, or at the end of the test, it has said nothing and asked nobody."""
-        self.doCleanups()
-        self.browser.open(url)
-        self.addCleanup(self.check, url)
-
-    def check(self, url):
-        """The console has no message, and there was no request."""
-        self.assertEqual(self.browser.messages, [])
-        self.assertEqual(self.browser.others(url), [])
-
-    def tab(self, name):
-        """Goes to a view, and gives its text."""
-        self.browser.evaluate(f"document.getElementById('tab-{name}').click()")
-        self.picture(name)
-        return self.browser.evaluate(VIEW)
-
-    def picture(self, name):
-        """Keeps a picture of what is seen."""
-        self.browser.picture(PICTURES / f"{self.browser.name}-{self.id().rpartition('.')[2]}-{name}.png")
-
-    def rows(self):
-        """The texts of the rows that are drawn."""
-        return self.browser.evaluate(TEXTS)
-
-    def click(self, row):
-        """Clicks a row of the table, which are counted from 1."""
-        self.browser.evaluate(f"document.querySelector('.row[aria-rowindex=\"{row + 1}\"]').click()")
-
-    def type(self, identifier, text):
-        """Types into a field."""
-        self.browser.evaluate(f"(() => {{ const it = document.getElementById('{identifier}'); it.value = {text!r}; "
-                              "it.dispatchEvent(new Event(it.tagName === 'SELECT' ? 'change' : 'input')); })()")
+class Looks(Shown):
+    """What each view shows: in each browser, and in dark colours."""
 
     def test_the_views_of_the_examples(self):
         self.open(FILES.page("office", 1, OFFICE, "--old", EDITED, EXAMPLES / "office.pcap"))
@@ -114,16 +30,6 @@ class Views:
         self.assertIn("nothing to draw", self.tab("time"))
         self.assertIn("Not known" if "proved" not in self.browser.evaluate(VIEW) else "proved", self.tab("about"))
 
-    def test_a_capture_of_pcapng_and_both_families(self):
-        self.open(FILES.page("mixed", 0, EXAMPLES / "mixed.rules", EXAMPLES / "mixed.pcapng"))
-        self.tab("packets")
-        rows = self.rows()
-        self.assertEqual(len(rows), 8)
-        self.assertTrue(any("[2001:db8::3]:53" in it or "2001:db8" in it for it in rows), rows)
-        self.assertTrue(rows[6].startswith("7 ") and "other" in rows[6] and "short" in rows[7], rows)
-        self.click(8)
-        self.assertIn("cut before the end of its key", self.browser.evaluate(SIDE))
-
     def test_who_knows_only_iptables_finds_the_line_that_dropped_a_packet(self):
         self.open(FILES.page("gateway", 0, "--chain", "FORWARD", DATA / "gateway.iptables-save", EXAMPLES / "office.pcap"))
         self.tab("packets")
@@ -134,15 +40,6 @@ class Views:
         self.assertLess(side.index("line 13 decides"), side.index("line 4 loses: "))
         self.assertIn("packets come to it after line 13", side)
         self.assertNotIn("A fault of this page", side)
-
-    def test_the_page_agrees_with_the_program_on_each_packet(self):
-        self.open(self.hour())
-        self.tab("packets")
-        for row in range(1, 13):
-            self.click(row)
-            side = self.browser.evaluate(SIDE)
-            self.assertNotIn("A fault of this page", side)
-            self.assertTrue("both agree here" in side or "No line matches" in side, side)
 
     def hour(self):
         """An hour's traffic by two lists."""
@@ -160,16 +57,6 @@ class Views:
         told = self.browser.evaluate("document.querySelector('.tools [role=status]').textContent")
         self.assertEqual(told.split(" of ")[0], picked.split(" ")[0])
 
-    def test_filters_keep_the_packets_that_they_name(self):
-        self.open(self.hour())
-        self.tab("packets")
-        self.type("by-port", "22")
-        self.type("by-address", "10.1.0.0/16")
-        rows = self.rows()
-        self.assertTrue(rows and all(":22 " in it and " 10.1.0." in it for it in rows), rows)
-        self.type("by-address", "10.1.0.0/33")
-        self.assertIn("write an address", self.browser.evaluate(VIEW))
-
     def test_dead_lines_are_struck_out_and_name_what_covers_them(self):
         self.open(FILES.page("dead", 0, EXAMPLES / "shadowed.rules"))
         dead = self.browser.evaluate("[...document.querySelectorAll('.row.dead')].map(it => it.innerText)")
@@ -177,15 +64,6 @@ class Views:
         self.assertIn("can never decide: line 2 matches all that it matches", dead[0])
         self.assertEqual(self.browser.evaluate("getComputedStyle(document.querySelector('.row.dead .words')).textDecorationLine"),
                          "line-through")
-
-    def test_100000_packets_are_scrolled_and_few_rows_drawn(self):
-        self.open(FILES.page("many", 0, FILES.write("hour.rules", made.RULES), FILES.write("many.pcap", made.capture(100_000, hosts=4))))
-        self.tab("packets")
-        self.browser.evaluate("document.querySelector('.table').focus()")
-        self.browser.press("End")
-        self.assertTrue(self.rows()[-1].startswith("100000 "), self.rows()[-1])
-        self.assertLess(len(self.rows()), 100)
-        self.picture("end")
 
     def test_refusals_have_their_line_and_the_advice(self):
         bad = FILES.write("bad.rules", OFFICE.read_text().replace("1234 : 1234", "1234"))
@@ -200,6 +78,48 @@ class Views:
         text = self.tab("refusals")
         for part in ("aclc: capture: record 3: cut", "still being written"):
             self.assertIn(part, text)
+
+
+class Views(Looks):
+    """The other tests of each browser."""
+
+    def test_a_capture_of_pcapng_and_both_families(self):
+        self.open(FILES.page("mixed", 0, EXAMPLES / "mixed.rules", EXAMPLES / "mixed.pcapng"))
+        self.tab("packets")
+        rows = self.rows()
+        self.assertEqual(len(rows), 8)
+        self.assertTrue(any("[2001:db8::3]:53" in it or "2001:db8" in it for it in rows), rows)
+        self.assertTrue(rows[6].startswith("7 ") and "other" in rows[6] and "short" in rows[7], rows)
+        self.click(8)
+        self.assertIn("cut before the end of its key", self.browser.evaluate(SIDE))
+
+    def test_the_page_agrees_with_the_program_on_each_packet(self):
+        self.open(self.hour())
+        self.tab("packets")
+        for row in range(1, 13):
+            self.click(row)
+            side = self.browser.evaluate(SIDE)
+            self.assertNotIn("A fault of this page", side)
+            self.assertTrue("both agree here" in side or "No line matches" in side, side)
+
+    def test_filters_keep_the_packets_that_they_name(self):
+        self.open(self.hour())
+        self.tab("packets")
+        self.type("by-port", "22")
+        self.type("by-address", "10.1.0.0/16")
+        rows = self.rows()
+        self.assertTrue(rows and all(":22 " in it and " 10.1.0." in it for it in rows), rows)
+        self.type("by-address", "10.1.0.0/33")
+        self.assertIn("write an address", self.browser.evaluate(VIEW))
+
+    def test_100000_packets_are_scrolled_and_few_rows_drawn(self):
+        self.open(FILES.page("many", 0, FILES.write("hour.rules", made.RULES), FILES.write("many.pcap", made.capture(100_000, hosts=4))))
+        self.tab("packets")
+        self.browser.evaluate("document.querySelector('.table').focus()")
+        self.browser.press("End")
+        self.assertTrue(self.rows()[-1].startswith("100000 "), self.rows()[-1])
+        self.assertLess(len(self.rows()), 100)
+        self.picture("end")
 
     def test_texts_and_names_are_never_markup(self):
         list_ = (DATA / "gateway.iptables-save").read_text().replace("a network that sends", made.HOSTILE)
@@ -263,31 +183,6 @@ class Views:
         own = [it for it in self.browser.requests if not it.startswith(f"http://127.0.0.1:{server.server_port}/")]
         self.assertEqual([it for it in own if not it.startswith(("data:", "about:"))], [])
 
-    @unittest.skipUnless(LIVE, "ACLC_PAGE names no page with the module inside")
-    def test_files_that_are_chosen_give_what_the_report_gives(self):
-        self.open(self.hour())
-        expected = self.rows()
-        expected_lists = self.tab("lists")
-        self.open(Path(LIVE).resolve().as_uri())
-        for name, file in (("list", "hour.rules"), ("old", "old.rules"), ("captures", "hour.pcap")):
-            self.browser.choose_files(f"#file-{name}", FILES.folder / file)
-        self.picture("files")
-        self.browser.evaluate("document.getElementById('go').click()")
-        self.browser.until("document.getElementById('tab-rules') !== null", "the module")
-        self.assertEqual(self.rows(), expected)
-        self.assertEqual(self.tab("lists").replace("old.rules", ""), expected_lists.replace(str(FILES.folder / "old.rules"), "").replace(
-            str(FILES.folder) + "/", ""))
-
-    @unittest.skipUnless(LIVE, "ACLC_PAGE names no page with the module inside")
-    def test_a_list_that_is_refused_is_told_by_the_module_too(self):
-        self.open(Path(LIVE).resolve().as_uri())
-        self.browser.choose_files("#file-list", FILES.write("bad.rules", OFFICE.read_text().replace("1234 : 1234", "1234")))
-        self.browser.evaluate("document.getElementById('go').click()")
-        self.browser.until("document.getElementById('tab-refusals') !== null", "the module")
-        text = self.browser.evaluate(VIEW)
-        for part in ("aclc: rules: line 2: bad ports", "192.168.2.31/32", "one port written once"):
-            self.assertIn(part, text)
-
 
 class Quiet(http.server.SimpleHTTPRequestHandler):
     """Serves the page's folder, and says nothing."""
@@ -310,7 +205,7 @@ class InFirefox(Views, unittest.TestCase):
 
 
 @unittest.skipUnless(browsers.Chromium.path, "chromium isn't installed")
-class InTheDark(Views, unittest.TestCase):
+class InTheDark(Looks, unittest.TestCase):
     """Likewise where a user has chosen dark colours, on a small screen."""
 
     @staticmethod

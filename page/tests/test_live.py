@@ -1,0 +1,149 @@
+# SPDX-License-Identifier: BSD-3-Clause
+"""Files that are chosen in the page: the module with the proved code shows of them what tools/report shows.
+
+ACLC_PAGE names the page, which packaging/page made.
+"""
+import os
+import unittest
+from pathlib import Path
+
+import browsers
+import made
+from shown import EDITED, EXAMPLES, FILES, OFFICE, VIEW, Shown
+
+LIVE = os.environ.get("ACLC_PAGE")
+# No file of this size is read, and it takes no room on a disk.
+TOO_LARGE = 1_400_000_000
+TOLD = "document.getElementById('told').textContent"
+
+
+class Live(Shown):
+    """The tests of each browser."""
+
+    def choose(self, **files):
+        """Opens the page, and chooses files by their roles."""
+        self.open(Path(LIVE).resolve().as_uri())
+        for role, file in files.items():
+            self.browser.choose_files(f"#file-{role}", *(file if isinstance(file, list) else [file]))
+
+    def begin(self):
+        """Has the module answer."""
+        self.browser.evaluate("document.getElementById('go').click()")
+
+    def end(self, view="rules"):
+        """Has the module answer, and waits for a view."""
+        self.begin()
+        self.browser.until(f"document.getElementById('tab-{view}') !== null", "the module")
+
+    def until_told(self, part):
+        """Waits until the page tells something, and gives all that it tells."""
+        self.browser.until(f"{TOLD}.includes({part!r})", "what is told")
+        return self.browser.evaluate(TOLD)
+
+    def seen(self, views):
+        """What the views show, without the folders of files."""
+        found = [(self.tab(name), self.rows()) for name in views]
+        for folder in (FILES.folder, EXAMPLES):
+            found = [(text.replace(f"{folder}/", ""), rows) for text, rows in found]
+        return found
+
+    def is_as_in_a_report(self, views, name, code, list_, old, *captures):
+        """Compares what views show by the module with what they show in a report of the same files."""
+        self.open(FILES.page(name, code, list_, *(["--old", old] if old else []), *captures))
+        expected = self.seen(views)
+        self.choose(list=list_, **({"old": old} if old else {}), captures=[*captures])
+        self.end()
+        self.assertEqual(self.seen(views), expected)
+
+    def test_two_lists_and_times_are_as_in_a_report(self):
+        files = [FILES.write("hour.rules", made.RULES), FILES.write("old.rules", made.OLD_RULES),
+                 FILES.write("hour.pcap", made.capture(2000))]
+        self.is_as_in_a_report(["rules", "packets", "time", "lists"], "hour", 1, *files)
+
+    def test_both_formats_of_captures_are_as_in_a_report(self):
+        self.is_as_in_a_report(["rules", "packets"], "both", 0, EXAMPLES / "mixed.rules", None,
+                               EXAMPLES / "mixed.pcapng", EXAMPLES / "mixed.pcap")
+
+    def test_a_list_alone_has_its_rules(self):
+        self.is_as_in_a_report(["rules"], "dead", 0, EXAMPLES / "shadowed.rules", None)
+        self.assertEqual(len(self.browser.evaluate("[...document.querySelectorAll('.row.dead')].map(it => it.innerText)")), 1)
+        self.assertEqual(self.browser.evaluate("document.querySelectorAll('.row.idle, #tab-packets, #tab-time').length"), 0)
+        self.picture("rules")
+
+    def test_two_lists_without_a_capture_are_compared(self):
+        self.is_as_in_a_report(["rules", "lists"], "two", 1, OFFICE, EDITED)
+
+    def test_the_module_says_what_proved_it(self):
+        self.choose(list=OFFICE)
+        self.picture("files")
+        self.end()
+        text = self.tab("about")
+        self.assertIn("logic=proved", text)
+        self.assertIn("Keys of packets come from the readers of the program.", text)
+
+    def test_a_list_that_is_refused_is_told(self):
+        self.choose(list=FILES.write("bad.rules", OFFICE.read_text().replace("1234 : 1234", "1234")))
+        self.end("refusals")
+        text = self.browser.evaluate(VIEW)
+        for part in ("aclc: rules: line 2: bad ports", "192.168.2.31/32", "one port written once"):
+            self.assertIn(part, text)
+
+    def test_what_stands_before_the_fault_of_a_capture_is_shown(self):
+        self.choose(list=OFFICE, captures=[FILES.write("cut.pcap", (EXAMPLES / "office.pcap").read_bytes()[:-1]),
+                                           EXAMPLES / "office.pcap"])
+        self.end()
+        self.tab("packets")
+        self.assertEqual([it.split(" ")[0] for it in self.rows()], ["1#1", "1#2", "2#1", "2#2", "2#3"])
+        self.assertIn("aclc: capture: record 3: cut", self.tab("refusals"))
+
+    def test_texts_and_names_that_are_chosen_are_never_markup(self):
+        rules = FILES.write("a<b>.rules", f"# {made.HOSTILE}{made.ENDING}\n{OFFICE.read_text()}")
+        self.choose(list=rules, captures=FILES.write(made.HOSTILE.replace("/", ""), (EXAMPLES / "office.pcap").read_bytes()))
+        self.end()
+        for name in ("files", "rules", "packets", "about"):
+            self.tab(name)
+            self.assertEqual(self.browser.evaluate("document.querySelectorAll('img, iframe').length"), 0)
+        self.assertIn("onerror", self.browser.evaluate("document.getElementById('head').innerText"))
+        self.assertNotEqual(self.browser.evaluate("document.title"), "pwned")
+
+    def test_a_capture_that_is_too_large_gets_a_sentence(self):
+        large = FILES.write("large.pcap", b"")
+        os.truncate(large, TOO_LARGE)
+        self.choose(list=OFFICE, captures=large)
+        self.begin()
+        self.assertIn("large.pcap has 1335.1 MiB, and a page has room for some", self.until_told("tools/report"))
+
+    def test_without_a_list_one_is_asked_for(self):
+        self.choose()
+        self.begin()
+        self.until_told("Choose a list of rules first.")
+
+    def test_the_work_is_told_and_can_be_stopped(self):
+        many = FILES.write("many.pcap", made.capture(50_000, hosts=4))
+        self.choose(list=FILES.write("hour.rules", made.RULES), captures=[many, many, many])
+        self.browser.evaluate("(() => { window.heard = []; new MutationObserver(() => window.heard.push(document.getElementById('told').textContent))"
+                              ".observe(document.getElementById('told'), { childList: true }); })()")
+        self.begin()
+        self.browser.until("window.heard.some(it => it.includes('Asking about'))", "the capture")
+        self.browser.evaluate("document.getElementById('stop').click()")
+        heard = self.browser.evaluate("window.heard")
+        for part in ("Reading hour.rules", "Looking at each rule", "Reading many.pcap, capture 1 of 3", "(the module has "):
+            self.assertTrue(any(part in it for it in heard), (part, heard))
+        self.assertEqual((heard[-1], self.browser.evaluate("document.getElementById('tab-rules') === null")), ("Stopped", True))
+        self.end()
+        self.tab("packets")
+        self.assertIn("150,000 packets", self.browser.evaluate(VIEW))
+
+
+@unittest.skipUnless(LIVE and browsers.Chromium.path, "ACLC_PAGE names no page with the module inside, or chromium isn't installed")
+class InChromium(Live, unittest.TestCase):
+    browser_class = browsers.Chromium
+
+
+@unittest.skipUnless(LIVE and browsers.Firefox.path, "ACLC_PAGE names no page with the module inside, or firefox-esr isn't installed")
+class InFirefox(Live, unittest.TestCase):
+    browser_class = browsers.Firefox
+
+
+if __name__ == "__main__":
+    unittest.main()
