@@ -6,8 +6,11 @@ pub mod Fitting
 pub mod Flattened
 pub mod Halves
 pub mod LawfulRows
+pub mod LoopedWays
 pub mod MadeRules
+pub mod Marks
 pub mod Meets
+pub mod Returns
 pub mod RowSteps
 pub mod SameSteps
 pub mod Turnings

@@ -4,6 +4,7 @@ pub mod Flat
 pub mod FlatLaws
 pub mod Jumps
 pub mod Laws
+pub mod Loops
 pub mod Made
 pub mod Ranked
 pub mod Spans

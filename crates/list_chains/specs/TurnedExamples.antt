@@ -19,6 +19,7 @@ use Rattle.list_chains.specs.declared.span.Span.{Span}
 use Rattle.list_chains.specs.Spans.{box_meet, in_box, whole_box}
 use Rattle.list_chains.specs.Chains.{ListRule, decides}
 use Rattle.list_chains.specs.Flat.{flattened}
+use Rattle.list_chains.specs.Loops.{IsOnLoop}
 use Rattle.list_chains.specs.Tasks.{Chains}
 use Rattle.list_chains.specs.Made.{made, first_tasks}
 use Rattle.list_chains.specs.Ranked.{rule_of}
@@ -123,9 +124,15 @@ cut : length (flattened box_meet 2 cut_short 0 9 []) ≡ 3
 cut = refl
 
 -- jumps in a circle, to itself, and to a chain that isn't there
-circle : turned [] ((plain 1 Decide ∷ plain 2 (Jump 1) ∷ []) ∷ (plain 3 (Go 0) ∷ []) ∷ []) 0 9
-    ≡ Err (Loop (record { chain = 0; rule = 1 }))
+abbrev circling : Chains
+circling = (plain 1 Decide ∷ plain 2 (Jump 1) ∷ []) ∷ (plain 3 (Go 0) ∷ []) ∷ []
+
+circle : turned [] circling 0 9 ≡ Err (Loop (record { chain = 0; rule = 1 }))
 circle = refl
+
+-- the second rule leads to the other chain, and the rule there back
+round : IsOnLoop circling (record { chain = 0; rule = 1 })
+round = record { others = record { chain = 1; rule = 0 } ∷ []; round = (refl, (refl, refl)) }
 
 itself : turned [] ((plain 1 (Jump 0) ∷ []) ∷ []) 0 9 ≡ Err (Loop (record { chain = 0; rule = 0 }))
 itself = refl

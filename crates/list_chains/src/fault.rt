@@ -25,7 +25,7 @@ pub enum LimitFault {
 pub enum ChainsFault {
     /// The rule leads to a chain that isn't there.
     NoChain(RulePlace),
-    /// By this rule more chains follow one another than there are, as where jumps lead back.
+    /// The rule lies on a loop: it and some others lead from its chain back to it.
     Loop(RulePlace),
     /// The rules would be too many.
     Limit(LimitFault),

@@ -7,6 +7,8 @@ ghost use Rattle.table_sizes.specs.Sizes.{max_rules};
 ghost use Rattle.field_defs.specs.Lawful.{IsLayout};
 ghost use Rattle.rule_set.specs.Lawful.{IsLawfulValue};
 ghost use Rattle.list_chains.specs.declared.fault.ChainsFault.{ChainsFault};
+ghost use Rattle.list_chains.specs.declared.fault.RulePlace.{RulePlace};
+ghost use Rattle.list_chains.specs.Loops.{IsOnLoop};
 ghost use Rattle.list_chains.specs.Made.{is_decided, first_tasks};
 ghost use Rattle.list_chains.specs.Ranked.{answered, every_category, ranked};
 ghost use Rattle.list_chains.specs.Spans.{IsFieldSpan, whole_box};
@@ -55,7 +57,8 @@ pub(crate) enum Turn {
 /// The first rule has the priority 262,144, and each other one less than the rule before it.
 ///
 /// `NoChain` and `Loop` come exactly where a jump leads to a chain that isn't there, or jumps lead
-/// through more chains than there are: the rule is on the way from `start` along first such rules.
+/// through more chains than there are: the rule is on the way from `start` along first such rules,
+/// and that of `Loop` lies on a loop.
 /// `Limit` comes exactly where there are too many steps or rules. `OutOfMemory` may come in the
 /// place of an answer. It takes memory in proportion to the rules and to what is left to do.
 pub fn rules_of_chains(
@@ -71,6 +74,7 @@ pub fn rules_of_chains(
         → (fault ≡ ChainsFault.OutOfMemory) ⊎ (turned layout chains.now start policy ≡ Err fault) }
     ensures refused { (fault : ChainsFault) → turned layout chains.now start policy ≡ Err fault
         → (result ≡ Err fault) ⊎ (result ≡ Err ChainsFault.OutOfMemory) }
+    ensures on_loop { (at : RulePlace) → result ≡ Err (ChainsFault.Loop at) → IsOnLoop chains.now at }
 {
     let marks = ending(alloc, chains)?;
     if !is_marked(&marks, start) {

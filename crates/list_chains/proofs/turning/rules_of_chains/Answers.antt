@@ -3,9 +3,12 @@ use Rattle.std.proofs.Common.{◌≡◌, length, true, false, sym, ap, ◌∙◌
 use Rattle.list_chains.specs.declared.turning.TheConstants.{MAX_STEPS}
 use Rattle.list_chains.specs.Spans.{whole_box}
 use Rattle.list_chains.specs.Chains.{at_or}
+use Rattle.list_chains.specs.declared.fault.ChainsFault.TheVariants.{Loop}
+use Rattle.list_chains.specs.Jumps as jumps
 use Rattle.list_chains.specs.Jumps.{ending}
 use Rattle.list_chains.specs.Made.{first_tasks}
 use Rattle.list_chains.specs.Turned.{or_limit}
+use Rattle.list_chains.proofs.LoopedWays.{way_on_loop}
 use Rattle.list_chains.proofs.MadeRules.{rules_answer_as_the_chains}
 use Rattle.list_chains.proofs.Turnings.{start_made, every_bit}
 use Rattle.list_chains.proofs.turning.rules_of_chains.Goals as goal
@@ -29,3 +32,16 @@ returns-in-Ok-clause-rules c =
           rules_answer_as_the_chains layout chains (length chains) c.args.start c.args.policy MAX_STEPS c.in-Ok.set.rules
           key category bytes (every_bit category small) made_so;
     }
+
+pub returns-then-not-is_marked-clause-on_loop : goal.returns-then-not-is_marked-clause-on_loop
+returns-then-not-is_marked-clause-on_loop c at is =
+    let chains = c.args.chains.now in
+    let start = c.args.start in
+    let unmarked : at_or (ending chains) start false ≡ false =
+    ap (λ marks. at_or marks start false) (sym (c.deref.ensures.value ∙ c.in_ok-marks.ensures))
+    ∙ sym c.is_marked.ensures ∙ c.if-not-is_marked.true in
+    let fault : c.way.result ≡ Loop at = cc in
+    way_on_loop chains start at c.requires unmarked
+    (ap (λ marks. jumps.way (length chains) chains marks start)
+    (sym (c.deref-then-not-is_marked.ensures.value ∙ c.in_ok-marks.ensures))
+    ∙ sym c.way.ensures ∙ fault)
