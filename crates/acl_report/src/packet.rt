@@ -109,8 +109,9 @@ fn append_answers(
         ≡ take start into.old ++ spaced (map answer_word (answers verdicts.now dashes.now)) }
 {
     let mut at = start;
-    for (&verdict, &dash) in verdicts.iter().zip(dashes) {
-        at = append_answer(into, at, verdict, dash);
+    // By its place a dash of a constant is known where this is compiled.
+    for place in 0..verdicts.len() {
+        at = append_answer(into, at, verdicts[place], dashes[place]);
     }
     at
 }
