@@ -143,16 +143,6 @@ same_count form Ip6 key =
 same_count form Other key = refl
 same_count form Short key = refl
 
--- where marks aren't asked for, none is shown of any packet
-pub unmarked : (form : ReportForm) (class : Class) (key : List ℕ) → form.marks ≡ false →
-    replicate (length (verdicts_on class form key)) false ≡ dashes_on class form key
-unmarked form Ip4 key is =
-    rw is (ap (λ n. replicate n false) (verdicts_count form.tables.ip4 key form.categories))
-unmarked form Ip6 key is =
-    rw is (ap (λ n. replicate n false) (verdicts_count form.tables.ip6 key form.categories))
-unmarked form Other key is = refl
-unmarked form Short key is = refl
-
 -- in front of the dashes that are left stand those of a key
 front_dashes : (form : ReportForm) (table : TableView) (key : List ℕ) (others left : List Bool) (count : ℕ) →
     left ≡ dashes_of form table key ++ others → count ≡ form.categories →
@@ -223,3 +213,22 @@ marked_none {p = p} marked shown (inl is) is_left4 is_left6 =
 marked_none {p = p} marked shown (inr is) is_left4 is_left6 =
     let short : p.class ≡ Short = sym shown ∙ is in
     rw (is_left4, is_left6) record { on_ip4 = rw short at marked.on_ip4; on_ip6 = rw short at marked.on_ip6 }
+
+-- What is taken for the dashes of an IPv4 packet is what it shows: they stand in front, or marks
+-- aren't asked for and none is shown.
+pub shown_ip4 : {form : ReportForm} {p : FrameClass} {rest : List FrameClass} {ip4 ip6 dashes : List Bool} {count : ℕ} →
+    (marks : Bool) → form.marks ≡ marks → (form.marks ≡ true → AreMarked form (p ∷ rest) ip4 ip6) → p.class ≡ Ip4 →
+    count ≡ form.categories → (marks ≡ true → dashes ≡ take count ip4) →
+    (marks ≡ false → dashes ≡ replicate count false) → dashes ≡ dashes_on p.class form p.key
+shown_ip4 true asked marked is is_count front none = front refl ∙ (front_ip4 (marked asked) is is_count).1
+shown_ip4 false off marked is is_count front none =
+    none refl ∙ rw (is, off) (ap (λ n. replicate n false) is_count)
+
+-- and of an IPv6 packet
+pub shown_ip6 : {form : ReportForm} {p : FrameClass} {rest : List FrameClass} {ip4 ip6 dashes : List Bool} {count : ℕ} →
+    (marks : Bool) → form.marks ≡ marks → (form.marks ≡ true → AreMarked form (p ∷ rest) ip4 ip6) → p.class ≡ Ip6 →
+    count ≡ form.categories → (marks ≡ true → dashes ≡ take count ip6) →
+    (marks ≡ false → dashes ≡ replicate count false) → dashes ≡ dashes_on p.class form p.key
+shown_ip6 true asked marked is is_count front none = front refl ∙ (front_ip6 (marked asked) is is_count).1
+shown_ip6 false off marked is is_count front none =
+    none refl ∙ rw (is, off) (ap (λ n. replicate n false) is_count)

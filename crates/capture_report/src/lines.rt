@@ -1,6 +1,7 @@
 //! The lines of packets, one after the other, and those after them.
 
-ghost use Rattle.std.specs.Prelude.{◌≡◌, ◌+◌, ◌*◌, ◌≤◌, ◌++◌, [], drop, length, take, true};
+ghost use Rattle.std.specs.Prelude.{◌≡◌, ◌+◌, ◌*◌, ◌≤◌, ◌++◌, [], drop, length, replicate, take};
+ghost use Rattle.std.specs.Prelude.{false, true};
 ghost use Rattle.acl_report.specs.declared.line.TheConstants.{LINE_ROOM};
 ghost use Rattle.acl_report.specs.declared.packet.TheConstants.{MAX_VERDICTS};
 ghost use Rattle.acl_report.specs.Packet.{packet_text};
@@ -32,6 +33,40 @@ use header_extract::Class;
 pub fn write_lines(
     form: &FormByTables<'_>,
     packets: &[Packet],
+    ip4: &[u32],
+    ip6: &[u32],
+    ip4_dashes: &[bool],
+    ip6_dashes: &[bool],
+    counts: &mut Counts,
+    lines: &mut [u8],
+) -> usize
+    requires next { AreNext counts.old packets.now }
+    requires answered { AreAnswered form.now packets.now ip4.now ip6.now }
+    requires marked { form.now.marks ≡ true
+        → AreMarked form.now packets.now ip4_dashes.now ip6_dashes.now }
+    requires room { length packets.now * LINE_ROOM ≤ length lines.old }
+    ensures within { result ≤ length lines.old }
+    ensures lines { take result lines.new
+        ≡ lines_of_packets form.now (counts.old.packets + 1) packets.now }
+    ensures counts { counts.new ≡ counted_all packets.now counts.old }
+    ensures len { length lines.new ≡ length lines.old }
+{
+    // What depends on the marks is settled once, and not line by line.
+    if form.has_marks() {
+        write_each::<true>(
+            form, packets, ip4, ip6, ip4_dashes, ip6_dashes, counts, lines,
+        )
+    } else {
+        write_each::<false>(
+            form, packets, ip4, ip6, ip4_dashes, ip6_dashes, counts, lines,
+        )
+    }
+}
+
+/// The same, where it is known whether marks are asked for.
+fn write_each<const MARKS: bool>(
+    form: &FormByTables<'_>,
+    packets: &[Packet],
     mut ip4: &[u32],
     mut ip6: &[u32],
     mut ip4_dashes: &[bool],
@@ -39,6 +74,7 @@ pub fn write_lines(
     counts: &mut Counts,
     lines: &mut [u8],
 ) -> usize
+    requires marks { form.now.marks ≡ MARKS }
     requires next { AreNext counts.old packets.now }
     requires answered { AreAnswered form.now packets.now ip4.now ip6.now }
     requires marked { form.now.marks ≡ true
@@ -60,12 +96,12 @@ pub fn write_lines(
         at = match class {
             Class::Ip4 => {
                 let verdicts = take_front(&mut ip4, count);
-                let dashes = take_dashes(form, &mut ip4_dashes, count);
+                let dashes = take_dashes::<MARKS>(&mut ip4_dashes, count);
                 write_line(form, packet, class, verdicts, dashes, &number, lines, at)
             }
             Class::Ip6 => {
                 let verdicts = take_front(&mut ip6, count);
-                let dashes = take_dashes(form, &mut ip6_dashes, count);
+                let dashes = take_dashes::<MARKS>(&mut ip6_dashes, count);
                 write_line(form, packet, class, verdicts, dashes, &number, lines, at)
             }
             Class::Other | Class::Short => {
@@ -89,59 +125,30 @@ fn take_front<'a, T>(left: &mut &'a [T], count: usize) -> &'a [T]
     front
 }
 
-/// Takes the dashes of a packet off the front of those that are left, where marks are asked for.
-#[inline(always)]
-fn take_dashes<'a>(form: &FormByTables<'_>, left: &mut &'a [bool], count: usize) -> &'a [bool]
-    requires { form.now.marks ≡ true → count ≤ length left.old.now }
-    ensures front { form.now.marks ≡ true → result.now ≡ take count left.old.now }
-    ensures rest { form.now.marks ≡ true → left.new.now ≡ drop count left.old.now }
-{
-    if form.has_marks() {
-        take_front(left, count)
-    } else {
-        &[]
-    }
-}
-
 /// No dash is shown.
 const NO_DASHES: [bool; MAX_VERDICTS] = [false; MAX_VERDICTS];
+
+/// The dashes of a packet, which are taken off the front of those that are left, or none where
+/// marks aren't asked for.
+#[inline(always)]
+fn take_dashes<'a, const MARKS: bool>(left: &mut &'a [bool], count: usize) -> &'a [bool]
+    requires few { count ≤ MAX_VERDICTS }
+    requires front { MARKS ≡ true → count ≤ length left.old.now }
+    ensures front { MARKS ≡ true → result.now ≡ take count left.old.now }
+    ensures rest { MARKS ≡ true → left.new.now ≡ drop count left.old.now }
+    ensures none { MARKS ≡ false → result.now ≡ replicate count false }
+{
+    if MARKS {
+        take_front(left, count)
+    } else {
+        &NO_DASHES[..count]
+    }
+}
 
 /// Writes the line of a packet of the class and this number at the place `at`, and gives the place
 /// after the line.
 #[inline(always)]
 fn write_line(
-    form: &FormByTables<'_>,
-    packet: &Packet,
-    class: Class,
-    verdicts: &[u32],
-    dashes: &[bool],
-    number: &LineNumber,
-    lines: &mut [u8],
-    at: usize,
-) -> usize
-    requires by_tables { form.now.classifier ≡ ByTables form.now.tables }
-    requires class { class ≡ packet.now.class }
-    requires verdicts { verdicts.now ≡ verdicts_on packet.now.class form.now packet.now.key }
-    requires dashes { form.now.marks ≡ true
-        → dashes.now ≡ dashes_on packet.now.class form.now packet.now.key }
-    requires few { length verdicts.now ≤ MAX_VERDICTS }
-    requires room { at + LINE_ROOM ≤ length lines.old }
-    ensures end { result ≤ at + LINE_ROOM }
-    ensures lines { take result lines.new
-        ≡ take at lines.old ++ line_of_packet form.now number.now packet.now }
-    ensures len { length lines.new ≡ length lines.old }
-{
-    if form.has_marks() {
-        return write_marked(form, packet, class, verdicts, dashes, number, lines, at);
-    }
-    // No verdict is asked for a dash then.
-    let dashes = &NO_DASHES[..verdicts.len()];
-    at + write_front(number, class, verdicts, dashes, &mut lines[at..])
-}
-
-/// The same with the dashes.
-#[inline(never)]
-fn write_marked(
     form: &FormByTables<'_>,
     packet: &Packet,
     class: Class,

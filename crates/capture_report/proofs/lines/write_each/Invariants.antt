@@ -1,10 +1,10 @@
 -- the lines of some packets were written, and those of the rest are to come
 use Rattle.std.proofs.Common.{length, drop}
 use Rattle.capture_report.proofs.Writing.{Written}
-use Rattle.capture_report.proofs.lines.write_lines.Given as goal
+use Rattle.capture_report.proofs.lines.write_each.Given as goal
 
 abbrev pub invariant-loop-packet : goal.invariant-loop-packet
-invariant-loop-packet l =
+invariant-loop-packet g l =
     Written l.form l.fn.counts l.counts l.packets (drop l.packet-index l.packets) l.ip4 l.ip6
     l.ip4_dashes l.ip6_dashes l.number l.at
     (length l.fn.lines) l.lines

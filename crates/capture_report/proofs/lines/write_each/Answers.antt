@@ -1,5 +1,5 @@
 -- Each class has its own verdicts, and then its line is written.
-use Rattle.std.proofs.Common.{◌≡◌, ◌+◌, List, ◌∷◌, length, drop, sym, ap, subst, ◌∙◌, arith}
+use Rattle.std.proofs.Common.{◌≡◌, ◌+◌, List, ◌∷◌, true, length, drop, sym, ap, subst, ◌∙◌, arith}
 use Rattle.std.proofs.lemmas.List.{drop_more}
 use Rattle.header_extract.specs.Class.{FrameClass}
 use Rattle.list_lemmas.proofs.Loops.{left_is}
@@ -7,11 +7,12 @@ use Rattle.acl_report.specs.Counting.{counted}
 use Rattle.capture_report.specs.Batch.{AreMarked}
 use Rattle.capture_report.proofs.Writing.{Written, Written-next, answered_ip4, answered_ip6, answered_none}
 use Rattle.capture_report.proofs.Writing.{marked_ip4, marked_ip6, marked_none, front_ip4, front_ip6}
-use Rattle.capture_report.proofs.lines.write_lines.Goals as goal
-use Rattle.capture_report.proofs.lines.write_lines.Goals.{in-Ip4, in-Ip6, in-Other}
+use Rattle.capture_report.proofs.Writing.{shown_ip4, shown_ip6}
+use Rattle.capture_report.proofs.lines.write_each.Goals as goal
+use Rattle.capture_report.proofs.lines.write_each.Goals.{in-Ip4, in-Ip6, in-Other}
 
 pub loop-packet-preserved : goal.loop-packet-preserved
-loop-packet-preserved c =
+loop-packet-preserved g c =
     let form = c.args.form.now in
     let was = c.args.counts.now in
     let l = c.loop-packet in
@@ -37,7 +38,7 @@ loop-packet-preserved c =
           (ap (λ ip4. ip4.now) w.ip4-is ∙ w.take_front-verdicts.ensures.rest) (ap (λ ip6. ip6.now) w.ip6-is))
           (λ asked.
           marked_ip4 (so_far.marked asked) (sym is_class ∙ w.in-Ip4.is) is_count
-          (ap (λ ip4. ip4.now) w.ip4_dashes-is ∙ w.take_dashes-dashes.ensures.rest asked)
+          (ap (λ ip4. ip4.now) w.ip4_dashes-is ∙ w.take_dashes-dashes.ensures.rest (sym c.requires.marks ∙ asked))
           (ap (λ ip6. ip6.now) w.ip6_dashes-is))
       | in-Ip6 w ↦
           let line = w.write_line-at-in-Ip6.ensures in
@@ -46,7 +47,7 @@ loop-packet-preserved c =
           (ap (λ ip6. ip6.now) w.ip6-is ∙ w.take_front-verdicts-in-Ip6.ensures.rest))
           (λ asked.
           marked_ip6 (so_far.marked asked) (sym is_class ∙ w.in-Ip6.is) is_count (ap (λ ip4. ip4.now) w.ip4_dashes-is)
-          (ap (λ ip6. ip6.now) w.ip6_dashes-is ∙ w.take_dashes-dashes-in-Ip6.ensures.rest asked))
+          (ap (λ ip6. ip6.now) w.ip6_dashes-is ∙ w.take_dashes-dashes-in-Ip6.ensures.rest (sym c.requires.marks ∙ asked)))
       | in-Other w ↦
           let line = w.write_line-at-in-Other.ensures in
           Written-next so_far is_now c.advance.ensures w.at-is w.lines-is line.end line.lines line.len
@@ -57,42 +58,54 @@ loop-packet-preserved c =
           (ap (λ ip6. ip6.now) w.ip6_dashes-is))
     ]
 
-pub take_dashes-dashes-requires : goal.take_dashes-dashes-requires
-take_dashes-dashes-requires c asked =
+pub take_dashes-dashes-requires-clause-front : goal.take_dashes-dashes-requires-clause-front
+take_dashes-dashes-requires-clause-front g c asked =
     let left = left_is c.args.packets.now c.loop-packet.packet-index c.packet-item.result
     (omega (arith, c.loop-packet-test.true)) c.packet-item.is in
     let marked = subst (λ (left : List FrameClass). AreMarked c.args.form.now left c.loop-packet.ip4_dashes.now
-    c.loop-packet.ip6_dashes.now) left (c.loop-packet.invariant.marked asked) in
+    c.loop-packet.ip6_dashes.now) left (c.loop-packet.invariant.marked (c.requires.marks ∙ asked)) in
     let front = front_ip4 marked (sym c.class-class.ensures ∙ c.in-Ip4.is)
     (c.count-count.ensures.value ∙ c.categories.ensures.count) in
     front.0
 
-pub take_dashes-dashes-requires-in-Ip6 : goal.take_dashes-dashes-requires-in-Ip6
-take_dashes-dashes-requires-in-Ip6 c asked =
+pub take_dashes-dashes-requires-in-Ip6-clause-front : goal.take_dashes-dashes-requires-in-Ip6-clause-front
+take_dashes-dashes-requires-in-Ip6-clause-front g c asked =
     let left = left_is c.args.packets.now c.loop-packet.packet-index c.packet-item.result
     (omega (arith, c.loop-packet-test.true)) c.packet-item.is in
     let marked = subst (λ (left : List FrameClass). AreMarked c.args.form.now left c.loop-packet.ip4_dashes.now
-    c.loop-packet.ip6_dashes.now) left (c.loop-packet.invariant.marked asked) in
+    c.loop-packet.ip6_dashes.now) left (c.loop-packet.invariant.marked (c.requires.marks ∙ asked)) in
     let front = front_ip6 marked (sym c.class-class.ensures ∙ c.in-Ip6.is)
     (c.count-count.ensures.value ∙ c.categories.ensures.count) in
     front.0
 
 pub write_line-at-requires-clause-dashes : goal.write_line-at-requires-clause-dashes
-write_line-at-requires-clause-dashes c asked =
-    let left = left_is c.args.packets.now c.loop-packet.packet-index c.packet-item.result
-    (omega (arith, c.loop-packet-test.true)) c.packet-item.is in
-    let marked = subst (λ (left : List FrameClass). AreMarked c.args.form.now left c.loop-packet.ip4_dashes.now
-    c.loop-packet.ip6_dashes.now) left (c.loop-packet.invariant.marked asked) in
-    let front = front_ip4 marked (sym c.class-class.ensures ∙ c.in-Ip4.is)
-    (c.count-count.ensures.value ∙ c.categories.ensures.count) in
-    c.take_dashes-dashes.ensures.front asked ∙ front.1
+write_line-at-requires-clause-dashes g c =
+    let form = c.args.form.now in
+    let l = c.loop-packet in
+    let packets = c.args.packets.now in
+    let p = c.packet-item.result in
+    let rest = drop (l.packet-index + 1) packets in
+    let left = left_is packets l.packet-index p (omega (arith, c.loop-packet-test.true)) c.packet-item.is in
+    let marked : form.marks ≡ true → AreMarked form (p ∷ rest) l.ip4_dashes.now l.ip6_dashes.now =
+    λ asked.
+    subst (λ (left : List FrameClass). AreMarked form left l.ip4_dashes.now l.ip6_dashes.now) left
+    (l.invariant.marked asked) in
+    shown_ip4 _ c.requires.marks marked (sym c.class-class.ensures ∙ c.in-Ip4.is)
+    (c.count-count.ensures.value ∙ c.categories.ensures.count) c.take_dashes-dashes.ensures.front
+    c.take_dashes-dashes.ensures.none
 
 pub write_line-at-requires-in-Ip6-clause-dashes : goal.write_line-at-requires-in-Ip6-clause-dashes
-write_line-at-requires-in-Ip6-clause-dashes c asked =
-    let left = left_is c.args.packets.now c.loop-packet.packet-index c.packet-item.result
-    (omega (arith, c.loop-packet-test.true)) c.packet-item.is in
-    let marked = subst (λ (left : List FrameClass). AreMarked c.args.form.now left c.loop-packet.ip4_dashes.now
-    c.loop-packet.ip6_dashes.now) left (c.loop-packet.invariant.marked asked) in
-    let front = front_ip6 marked (sym c.class-class.ensures ∙ c.in-Ip6.is)
-    (c.count-count.ensures.value ∙ c.categories.ensures.count) in
-    c.take_dashes-dashes-in-Ip6.ensures.front asked ∙ front.1
+write_line-at-requires-in-Ip6-clause-dashes g c =
+    let form = c.args.form.now in
+    let l = c.loop-packet in
+    let packets = c.args.packets.now in
+    let p = c.packet-item.result in
+    let rest = drop (l.packet-index + 1) packets in
+    let left = left_is packets l.packet-index p (omega (arith, c.loop-packet-test.true)) c.packet-item.is in
+    let marked : form.marks ≡ true → AreMarked form (p ∷ rest) l.ip4_dashes.now l.ip6_dashes.now =
+    λ asked.
+    subst (λ (left : List FrameClass). AreMarked form left l.ip4_dashes.now l.ip6_dashes.now) left
+    (l.invariant.marked asked) in
+    shown_ip6 _ c.requires.marks marked (sym c.class-class.ensures ∙ c.in-Ip6.is)
+    (c.count-count.ensures.value ∙ c.categories.ensures.count) c.take_dashes-dashes-in-Ip6.ensures.front
+    c.take_dashes-dashes-in-Ip6.ensures.none
