@@ -10,8 +10,8 @@ const $ = (id) => document.getElementById(id);
 // The module's bytes, the text of the worker where it stands in the page, and the note of what was proved.
 async function parts() {
   const note = (text) => {
-    const [version, proof] = text.split('\n');
-    return { version: version.replace(/^aclc /, '') || null, proof: proof || null };
+    const [version, proof, sum] = text.split('\n');
+    return { version: version.replace(/^aclc /, '') || null, proof: proof || null, sum: sum || null };
   };
   if ($('module')) {
     const [module, worker, told] = await Promise.all(['module', 'worker', 'note'].map((name) => contentOf($(name))));
@@ -25,6 +25,15 @@ async function parts() {
 async function checksum(bytes) {
   if (!globalThis.crypto?.subtle) return null;
   return Array.from(new Uint8Array(await crypto.subtle.digest('SHA-256', bytes)), (it) => it.toString(16).padStart(2, '0')).join('');
+}
+
+// Which program answers: what its note says, if that is of this module.
+async function madeBy(module, note) {
+  const sum = await checksum(module);
+  const isOwn = note.sum !== null && (sum === null || sum === note.sum);
+  const unproved = isOwn ? 'its note names no proof' : 'the note beside the module is of another one';
+  return { when: new Date().toISOString().slice(0, 19).replace('T', ' '), program: 'the module in this page', checksum: sum,
+    version: note.version, proof: isOwn ? note.proof : null, unproved };
 }
 
 class Live {
@@ -57,8 +66,7 @@ class Live {
     try {
       const files = this.files();
       const { module, worker, note } = await parts();
-      const made = { when: new Date().toISOString().slice(0, 19).replace('T', ' '), program: 'the module in this page', checksum: await checksum(module),
-        version: note.version, proof: note.proof, unproved: 'no note of a proof stands beside the module' };
+      const made = await madeBy(module, note);
       this.worker = worker ? new Worker(URL.createObjectURL(worker)) : new Worker('worker.js', { type: 'module' });
       this.worker.addEventListener('message', ({ data }) => this.take(data));
       this.worker.addEventListener('error', (event) => this.stop(`The worker ended: ${event.message ?? 'its script can’t be read'}`));

@@ -14,7 +14,7 @@ import unittest
 import zlib
 from pathlib import Path
 
-from aclc_tools import capture, confirmed, held, keys, made_by, page_file, program, refusals
+from aclc_tools import blocks, capture, confirmed, held, keys, made_by, page_file, program, refusals
 from aclc_tools.program import TOP, built_program
 from tool import BUILT, DATA, EXAMPLES, script, tool
 
@@ -250,6 +250,40 @@ class Hostile(Room):
         for element in ("script", "style"):
             text = re.search(rf"<{element}>(.*?)</{element}>", self.text, re.S)[1]
             self.assertIn(f"{element}-src {page_file.sum_of(text)}", policy)
+
+    def test_odd_bytes_of_lists_are_shown_or_refused(self):
+        """What isn't a rule decides nothing; a comment may hold anything but what isn't text."""
+        office, gateway, chain = OFFICE.read_bytes(), GATEWAY.read_bytes(), ("--chain", "FORWARD")
+        told = b"a network that sends"
+        for content, words, code, part in (
+                (b"# a\0b\n" + office, (), 2, "no text"), (office.replace(b"pri=20", b"pri=20\0"), (), 2, "line 2: bad attribute"),
+                (office.replace(b"data=101", b"data=101 \xff"), (), 2, "line 2: tail left"), (b"# \xff\xfe caf\xe9\n" + office, (), 0, ""),
+                (b"#" + b"x" * 300_000 + b"\n" + office, (), 0, ""), (office.replace(b"pri=20", b" " * 200_000 + b"pri=20"), (), 0, ""),
+                (gateway.replace(told, b"\xff"), chain, 2, "isn't UTF-8"), (gateway.replace(told, b"a \0 b"), chain, 0, ""),
+                (gateway.replace(told, b"y" * 100_000), chain, 0, ""), (gateway.replace(told, "\u202e \u2028".encode()), chain, 0, "")):
+            code_of, said, page, columns = self.report(*words, self.write("odd", content), PCAP)
+            self.assertEqual((code_of, part in said), (code, True), (content[:80], said))
+            counted = page["packets"] and page["packets"]["count"]
+            self.assertEqual((len(page["refusals"]), counted), (1, None) if code else (0, 3), content[:80])
+            texts = "".join(it["text"] for listed in page["lists"] for it in listed["entries"])
+            self.assertFalse(any(ord(it) < 32 or it in "\x7f\u202e\u2028" for it in texts), content[:80])
+
+    def test_odd_names_of_captures_are_told_as_they_are(self):
+        for name in (b"new\nline.pcap", b"bad\xff.pcap", b"<!--.pcap", b"' onload='x.pcap"):
+            path = Path(os.fsdecode(bytes(self.folder) + b"/" + name))
+            path.write_bytes(PCAP.read_bytes())
+            code, said, told, columns = self.report(OFFICE, path)
+            self.assertEqual((code, said, told["files"][1]["name"], len(columns["number"])), (0, "", str(path), 3))
+
+    def test_times_that_no_clock_has_are_told(self):
+        """A pcapng interface adds seconds to its times: before 1970 they are told, and where they have no date the packet is refused."""
+        head, rest = blocks.write([bytes(60)])[:28], blocks.write([bytes(60)])[48:]
+        for offset, code, part in ((-1000, 0, ""), (1 << 60, 2, "packet 1: its time is before 1678 or after 2262")):
+            interface = blocks.block(blocks.INTERFACE, struct.pack("<HHIHHqI", 1, 0, 0, blocks.TIME_OFFSET, 8, offset, 0))
+            sent = self.write("times.pcapng", head + interface + rest)
+            code_of, said, told, columns = self.report(OFFICE, sent, PCAP)
+            self.assertEqual((code_of, part in said, len(told["refusals"])), (code, True, code // 2), said)
+            self.assertEqual((told["packets"]["count"], told["packets"]["start"]), (3, "0") if code else (4, str(offset * 10**9)))
 
     def test_damaged_files_are_answered_or_refused(self):
         draw = random.Random(3)
