@@ -121,8 +121,8 @@ class Live(Shown):
     def test_the_work_is_told_and_can_be_stopped(self):
         many = FILES.write("many.pcap", made.capture(50_000, hosts=4))
         self.choose(list=FILES.write("hour.rules", made.RULES), captures=[many, many, many])
-        self.browser.evaluate("(() => { window.heard = []; new MutationObserver(() => window.heard.push(document.getElementById('told').textContent))"
-                              ".observe(document.getElementById('told'), { childList: true }); })()")
+        self.browser.evaluate("(() => { const told = document.getElementById('told'); window.heard = []; "
+                              "new MutationObserver(() => window.heard.push(told.textContent)).observe(told, { childList: true }); })()")
         self.begin()
         self.browser.until("window.heard.some(it => it.includes('Asking about'))", "the capture")
         self.browser.evaluate("document.getElementById('stop').click()")
