@@ -22,14 +22,20 @@ function filesOf(report) {
       make('td', { class: 'code' }, it.checksum ?? ''))))));
 }
 
+// Where the keys of packets come from.
+function keysText({ made, packets }) {
+  if (made.isModule) return 'Keys of packets come from the readers of the program.';
+  return `Keys of packets: read by the tool that made this page. The program confirmed ${many(packets?.confirmed ?? 0, 'packet')}: it got a list of exact keys, and answered each packet by the rule of its own key.`;
+}
+
+const OF_MODULE = 'The module: proved is its code as the compiler was given it. Its change to WebAssembly, its heap, the engine of the browser and the script of this page aren’t. It was compared with the program by 1,000 commands.';
+
 export function aboutView(page) {
   const { report } = page;
-  const confirmed = report.packets?.confirmed;
   return [make('h2', {}, 'What answered'), programOf(report), make('h2', {}, 'The files'), filesOf(report), make('h2', {}, 'What is whose'),
     make('ul', { class: 'prose' },
       make('li', {}, 'Which line decides a packet, which lines can never decide, the least keys, and whether two lists decide alike: the program’s answers. If the note above names a proof, they are proved.'),
-      make('li', {}, confirmed === undefined ? 'Keys of packets come from the readers of the program.'
-        : `Keys of packets: read by the tool that made this page. The program confirmed ${many(confirmed, 'packet')}: it got a list of exact keys, and answered each packet by the rule of its own key.`),
+      report.made.isModule ? make('li', {}, OF_MODULE) : '', make('li', {}, keysText(report)),
       make('li', {}, 'Times of packets, counts, and which earlier lines cover one: worked out by the tool or the page, and not proved.'),
       make('li', {}, 'The list of matching lines under “why”: the page’s own reading. Its first line is compared with the program’s answer, and a difference is shown as a fault of this page.')),
     report.list && report.list.notLooked.length ? make('p', { class: 'told' }, `Not looked at: ${report.list.notLooked.join('; ')}`) : null];

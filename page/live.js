@@ -32,7 +32,7 @@ async function madeBy(module, note) {
   const sum = await checksum(module);
   const isOwn = note.sum !== null && (sum === null || sum === note.sum);
   const unproved = isOwn ? 'its note names no proof' : 'the note beside the module is of another one';
-  return { when: new Date().toISOString().slice(0, 19).replace('T', ' '), program: 'the module in this page', checksum: sum,
+  return { when: new Date().toISOString().slice(0, 19).replace('T', ' '), program: 'the module in this page', isModule: true, checksum: sum,
     version: note.version, proof: isOwn ? note.proof : null, unproved };
 }
 

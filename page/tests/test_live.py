@@ -80,6 +80,7 @@ class Live(Shown):
         text = self.tab("about")
         self.assertIn("logic=proved", text)
         self.assertIn("Keys of packets come from the readers of the program.", text)
+        self.assertIn("Its change to WebAssembly, its heap, the engine of the browser and the script of this page aren’t.", text)
 
     def test_a_list_that_is_refused_is_told(self):
         self.choose(list=FILES.write("bad.rules", OFFICE.read_text().replace("1234 : 1234", "1234")))

@@ -10,6 +10,7 @@ import unittest
 
 import browsers
 import made
+from aclc_tools import made_by
 from aclc_tools.program import TOP
 from shown import DATA, EDITED, EXAMPLES, FILES, OFFICE, SIDE, VIEW, Shown
 
@@ -28,7 +29,7 @@ class Looks(Shown):
         self.assertIn("The least one is udp 192.168.1.0:0 → 192.168.2.31:1234.", self.tab("lists"))
         self.assertIn("1 of 3 packets gets another answer", self.browser.evaluate(VIEW))
         self.assertIn("nothing to draw", self.tab("time"))
-        self.assertIn("Not known" if "proved" not in self.browser.evaluate(VIEW) else "proved", self.tab("about"))
+        self.assertIn(made_by.told()["proof"] or "Not known: ", self.tab("about"))
 
     def test_who_knows_only_iptables_finds_the_line_that_dropped_a_packet(self):
         self.open(FILES.page("gateway", 0, "--chain", "FORWARD", DATA / "gateway.iptables-save", EXAMPLES / "office.pcap"))
