@@ -66,10 +66,9 @@ pub(crate) fn seventeen(alloc: Global) -> Result<Vec<u8>, AllocError> {
 }
 
 fn file(alloc: Global, name: &str, bytes: &[u8]) -> Result<MemFile, AllocError> {
-    Ok(MemFile {
-        name: String::from_str(alloc, name)?,
-        bytes: Vec::from_slice(alloc, bytes)?,
-    })
+    let name = String::from_str(alloc, name)?;
+    let bytes = Vec::from_slice(alloc, bytes)?;
+    Ok(MemFile { name, bytes })
 }
 
 /// The rule files `r` and `s`, the capture `c`, the script `t`, and the image `i` with these bytes.

@@ -5,7 +5,7 @@ use crate::files::{SEVENTEEN, all_files, seventeen};
 use crate::turns::{first, run_words};
 use acl_outside::{Desk, Failed, MemDesk, MemSink};
 use acl_tool::Status;
-use std::alloc::AllocError;
+use std::alloc::{AllocError, Global};
 use std::marker::Model;
 use std::process::Abort;
 use std::test::Fail;
@@ -94,13 +94,42 @@ fn pipe_desk<'a, R: Abort + AllocGlobal>(
     })
 }
 
+/// Reports what comes through the pipe to this output.
+fn report(alloc: Global, desk: &mut PipeDesk<'_>, out: &mut MemSink) -> Result<Status, AllocError> {
+    let mut err = MemSink::new(alloc, 100, 100, Vec::new(alloc))?;
+    run_words(alloc, &["classify", "r", "c"], desk, out, &mut err)
+}
+
+/// An output whose put of this number fails.
+fn output(alloc: Global, failing: u64) -> Result<MemSink, AllocError> {
+    MemSink::new(alloc, 1000, 1000, vec![in alloc; failing]?)
+}
+
+/// Compares how many pieces were waited for, with the end of the file, and how many bytes of lines
+/// were put, as the put of this number fails, or none where it is 0.
+fn puts_before_waits<R: Abort + AllocGlobal>(
+    rt: &R,
+    capture: &[u8],
+    (failing, waits, len): (u64, usize, usize),
+) -> Result<(), AllocError> {
+    let mut desk = pipe_desk(rt, capture)?;
+    let mut out = output(rt.alloc(), failing)?;
+    let status = report(rt.alloc(), &mut desk, &mut out)?;
+    let ended = if failing == 0 {
+        Status::Done
+    } else {
+        Status::WriteFault
+    };
+    assert!(rt; status == ended);
+    assert!(rt; desk.waits == waits);
+    assert!(rt; out.bytes() == first(SEVENTEEN.as_bytes(), len));
+    Ok(())
+}
+
 #[test]
 fn the_lines_of_what_came_are_put_before_more_is_waited_for(rt: HostRuntime) -> Result<(), Fail> {
-    let alloc = rt.alloc();
-    let capture = seventeen(alloc)?;
-    // The put that fails, or 0 for none. How many pieces were waited for by then, with the end of
-    // the file, and how many bytes of lines were put.
-    for (failing, waits, len) in [
+    let capture = seventeen(rt.alloc())?;
+    for case in [
         (1, 1, 0),
         (2, 2, 8),
         (3, 3, 16),
@@ -108,24 +137,7 @@ fn the_lines_of_what_came_are_put_before_more_is_waited_for(rt: HostRuntime) -> 
         (5, 5, 144),
         (0, 5, 184),
     ] {
-        let mut desk = pipe_desk(&rt, &capture)?;
-        let mut out = MemSink::new(alloc, 1000, 1000, vec![in alloc; failing]?)?;
-        let mut err = MemSink::new(alloc, 100, 100, Vec::new(alloc))?;
-        let status = run_words(
-            alloc,
-            &["classify", "r", "c"],
-            &mut desk,
-            &mut out,
-            &mut err,
-        )?;
-        let ended = if failing == 0 {
-            Status::Done
-        } else {
-            Status::WriteFault
-        };
-        assert!(rt; status == ended);
-        assert!(rt; desk.waits == waits);
-        assert!(rt; out.bytes() == first(SEVENTEEN.as_bytes(), len));
+        puts_before_waits(&rt, &capture, case)?;
     }
     Ok(())
 }
