@@ -8,6 +8,7 @@ pub mod LaneKeys
 pub mod Marks
 pub mod OneLane
 pub mod Reached
+pub mod Sides
 pub mod Stepping
 pub mod Walks
 pub mod Ways

@@ -34,7 +34,7 @@ root_walks {way = way} w key word fits bytes is = record {
 }
 
 -- what leads into a level leads to a node
-leads_to_node : (level : Level) (word : ℕ) → leads_into level word ≡ true → is_node word ≡ true
+pub leads_to_node : (level : Level) (word : ℕ) → leads_into level word ≡ true → is_node word ≡ true
 leads_to_node level word leads = grind (arith, nat_tests)
 
 module _ {way : Way} {key : List ℕ} {n word : ℕ} (w : Walks way key n word) where

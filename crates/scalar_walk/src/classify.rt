@@ -48,15 +48,7 @@ fn next_keys(done: usize, all: usize) -> usize
     ensures few { result ≤ IN_STEP }
     ensures within { done + result ≤ all }
 {
-    let left = all - done;
-    // Two keys take less time one after the other than by four lanes.
-    if left == 2 {
-        1
-    } else if left < IN_STEP {
-        left
-    } else {
-        IN_STEP
-    }
+    (all - done).min(IN_STEP)
 }
 
 /// Marks the category exactly if its word isn't 0, where there is room for the mark.

@@ -9,6 +9,7 @@ ghost use Rattle.scalar_walk.specs.Lanes.{IsGroupLen, HasLanes, lane_key, own_la
 ghost use Rattle.scalar_walk.specs.Lanes.{counted, sum_below, word_in};
 ghost use Rattle.scalar_walk.specs.Rows.{CanGoOn, EndsAt, GoesOn, walks_below};
 
+use crate::side_by_side::walk_side_by_side;
 use crate::vectors::{Four, begin, groups_at, step, words_taken, write_ends};
 use crate::walk::walk_one;
 use flat_table::laws::walks_stay;
@@ -51,7 +52,7 @@ fn group_len(places: &[u16], n: usize) -> usize
 /// Where the bytes of the key begin that a lane walks: its own, or the last of so many keys where
 /// there are no more. All lanes may be known to have their own.
 #[inline]
-fn begin_of<const ALL: bool>(keys: &[u8], lane: usize, count: usize, len: usize) -> usize
+pub(crate) fn begin_of<const ALL: bool>(keys: &[u8], lane: usize, count: usize, len: usize) -> usize
     requires some { 0 < count }
     requires all { ALL ≡ true → lane < count }
     requires keys { length keys.now ≡ count * len }
@@ -247,8 +248,8 @@ fn walk_alone<L: Ledger>(
     u64::from(walked.taken)
 }
 
-/// The walks of so many keys, 1 to 16, which stand one after the other, through the trie, by as
-/// many fours of lanes as they need: writes the rows at which they ended, and says how many
+/// The walks of so many keys, 1 to 16, which stand one after the other, through the trie, from four
+/// keys on by as many fours of lanes as they need: writes the rows at which they ended, and says how many
 /// transitions they took together.
 pub(crate) fn walk_some<L: Ledger>(
     table: &Table,
@@ -276,8 +277,12 @@ pub(crate) fn walk_some<L: Ledger>(
         walk_in_step::<3, false, L>(table, trie, keys, count, rows, steps)
     } else if count > 4 {
         walk_in_step::<2, false, L>(table, trie, keys, count, rows, steps)
-    } else if count > 1 {
+    } else if count > 3 {
         walk_in_step::<1, false, L>(table, trie, keys, count, rows, steps)
+    } else if count == 3 {
+        walk_side_by_side::<true, L>(table, trie, keys, count, rows, steps)
+    } else if count == 2 {
+        walk_side_by_side::<false, L>(table, trie, keys, count, rows, steps)
     } else {
         walk_alone(table, trie, keys, rows, steps)
     }

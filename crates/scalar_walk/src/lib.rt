@@ -9,7 +9,8 @@
 //! ```
 //!
 //! - `walk`: one key through one trie.
-//! - `in_step`: sixteen keys through one trie, in step.
+//! - `side_by_side`: two or three keys through one trie.
+//! - `in_step`: up to sixteen keys through one trie, in step.
 //! - `vectors`: one step of four of them, by vectors of four lanes.
 //! - `kinds`: the kinds of words, as `walk` tests them.
 //! - `words`: how walks take words of a table.
@@ -25,6 +26,7 @@
 mod classify;
 mod in_step;
 mod kinds;
+mod side_by_side;
 mod vectors;
 mod walk;
 mod words;

@@ -21,7 +21,7 @@ pub struct Walked {
 }
 
 /// The place of the word that a walk takes by the byte from a word that leads to a node.
-fn place_after(word: u64, byte: u8) -> usize
+pub(crate) fn place_after(word: u64, byte: u8) -> usize
     requires { is_node word ≡ true }
     ensures { result ≡ next_place word byte }
 {
