@@ -87,7 +87,7 @@ enum {
     ACLC_TAKEN = 3,          /* a handle that the call fills isn't empty */
     ACLC_BAD_LENGTH = 4,     /* the lengths of two arguments don't fit together */
     ACLC_BAD_LIMIT = 5,      /* a context may not be made for more than ACLC_MAX_RULES rules */
-    ACLC_BAD_BUDGET = 6,     /* the budget is 0, or above ACLC_MAX_WORDS */
+    ACLC_BAD_BUDGET = 6,     /* the budget is above ACLC_MAX_WORDS */
     ACLC_BAD_CATEGORIES = 7, /* the number of categories isn't 1, 4, 8, 12 or 16 */
     ACLC_BAD_WALK = 8,       /* the number is none of a walk */
     ACLC_TOO_MANY_KEYS = 9,  /* more than ACLC_MAX_KEYS */
@@ -249,12 +249,13 @@ aclc_code aclc_add_rules(struct aclc_context *context, const struct aclc_rule *r
 /*
  * aclc_build - makes the table of the rules that the context holds, in place of the one before.
  *
- * budget: how many words of 8 bytes the table may have, from 1 to ACLC_MAX_WORDS.
+ * budget: how many words of 8 bytes the table may have, from 1 to ACLC_MAX_WORDS; or 0: then it
+ * is 8,388,608 (64 MiB) if the table fits in that, and else ACLC_MAX_WORDS, after a second build.
  * words: on ACLC_OK the words of the new table, on ACLC_TOO_LARGE those at which the split ended,
  * which are more than the budget: with just so many a build may be refused again; else it stays.
  *
  * ACLC_EMPTY: the handle is empty.
- * ACLC_BAD_BUDGET: the budget is 0 or above ACLC_MAX_WORDS.
+ * ACLC_BAD_BUDGET: the budget is above ACLC_MAX_WORDS.
  * ACLC_TOO_LARGE: the table needs more words than the budget. The table of the build before stays.
  * ACLC_NO_MEMORY: likewise. It takes memory for the table and for what it is made of, and gives
  * that back.

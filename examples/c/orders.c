@@ -121,13 +121,13 @@ static void add(struct aclc_context *context, struct expected *is) {
 }
 
 static void build(struct aclc_context *context, struct expected *is) {
-    uint64_t budget = below(6) ? 100000 : below(2) ? 0 : 1, words = 77;
+    uint64_t budget = below(6) ? 100000 : below(2) ? below(2) ? 0 : ACLC_MAX_WORDS + 1 : 1, words = 77;
     aclc_code code = aclc_build(context, budget, &words);
     if (!is->held) {
         expect("aclc_build", code, ACLC_EMPTY);
         return;
     }
-    if (budget == 0) {
+    if (budget > ACLC_MAX_WORDS) {
         expect("aclc_build", code, ACLC_BAD_BUDGET);
         return;
     }

@@ -1,6 +1,6 @@
 -- What the calls do to what a handle leads to.
 use Rattle.std.specs.Prelude.{◌≡◌, ℕ, ◌<◌, ◌≤◌, ◌==◌, ◌&&◌, nat_le, List, [], ◌∷◌, ◌++◌, length}
-use Rattle.std.specs.Prelude.{Bool, true, false}
+use Rattle.std.specs.Prelude.{Bool, true, false, if◌then◌else◌}
 use Rattle.std.specs.Prelude.{Option, Some, None, IsSome, IfSome, Result, Ok, Err, ◌⊎◌}
 use Rattle.std.specs.List.{list_any}
 use Rattle.field_defs.specs.declared.field.FieldDef.{FieldDef}
@@ -28,6 +28,22 @@ use Rattle.acl_c.specs.declared.context.Context.{Context}
 -- how many words a table may have
 abbrev pub is_budget : ℕ → Bool
 is_budget budget = nat_le 1 budget && nat_le budget max_words
+
+-- the budget that is tried first where none is given
+abbrev pub first_budget : ℕ
+first_budget = 8388608
+
+-- The budget of a build, by the words of a table under each: the one that is given. By 0 it is the
+-- first one where the table fits in it, and else the greatest.
+abbrev pub budget_by : (ℕ → ℕ) → ℕ → ℕ
+budget_by total given =
+    if given == 0
+    then (if nat_le (total first_budget) first_budget then first_budget else max_words)
+    else given
+
+-- that of a build of a set
+abbrev pub budget_of : RuleSetView → ℕ → ℕ
+budget_of set given = budget_by (total_of set) given
 
 -- the code is one of these
 abbrev pub is_among : List ℕ → ℕ → Bool

@@ -34,7 +34,7 @@ bad_length = 4
 abbrev pub bad_limit : ℕ
 bad_limit = 5
 
--- the budget is 0, or more than a table may have
+-- the budget is more than a table may have
 abbrev pub bad_budget : ℕ
 bad_budget = 6
 

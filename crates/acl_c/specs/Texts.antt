@@ -17,7 +17,7 @@ calls =
     ∷ (3, codes "a handle that the call fills isn't empty")
     ∷ (4, codes "the lengths of two arguments don't fit together")
     ∷ (5, codes "a context may not be made for so many rules")
-    ∷ (6, codes "the budget is 0, or more words than a table may have")
+    ∷ (6, codes "the budget is more words than a table may have")
     ∷ (7, codes "the number of categories isn't 1, 4, 8, 12 or 16")
     ∷ (8, codes "the number is none of a walk")
     ∷ (9, codes "there are more keys than a call may have")

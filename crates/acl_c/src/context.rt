@@ -14,6 +14,7 @@ ghost use Rattle.acl_c.specs.Codes.{ok, no_memory, not_built, bad_budget, too_la
 ghost use Rattle.acl_c.specs.Shared.{without_lanes};
 ghost use Rattle.acl_c.specs.Calls.{is_budget, with_table, without_rules, without_all, words_in, is_among};
 ghost use Rattle.acl_c.specs.Calls.{context_code, code_of, told_of, AddsStored, AddsGiven};
+ghost use Rattle.acl_c.specs.Calls.{Builds, budget_of};
 ghost use Rattle.acl_c.specs.Keys.{ClassifiesKeys};
 ghost use Rattle.acl_c.specs.Marks.{Marks};
 
@@ -31,6 +32,9 @@ use std::alloc::{AllocError, Global};
 use std::marker::Brand;
 use std::sync::ledger::Blank;
 use table_sizes::{MAX_KEYS, MAX_WORDS};
+
+/// The budget that is tried first where none is given: 64 MiB serve most lists.
+const FIRST_BUDGET: u64 = 8_388_608;
 
 /// A context, and the rows of its walks by lanes.
 #[derive(Drop)]
@@ -75,8 +79,27 @@ impl Context {
         }
     }
 
-    /// Makes the table of the rules, and tells its words, or those that it would need.
+    /// Makes the table of the rules under a budget, and tells its words, or those that it would
+    /// need. By 0 the budget is the first one, and if the table doesn't fit in it, the greatest.
     pub(crate) fn build(&mut self, budget: u64, words: &mut u64) -> u32
+        ensures { Builds (budget_of self.old.acl.set budget) self.old (Some self.new)
+            words.old words.new result }
+    {
+        if budget > 0 {
+            return self.build_within(budget, words);
+        }
+        let mut told = *words;
+        let code = self.build_within(FIRST_BUDGET, &mut told);
+        if code == TOO_LARGE {
+            return self.build_within(MAX_WORDS as u64, words);
+        }
+        *words = told;
+        code
+    }
+
+    /// Makes the table of the rules under this budget, and tells its words, or those that it would
+    /// need.
+    fn build_within(&mut self, budget: u64, words: &mut u64) -> u32
         ensures built { result ≡ ok →
             self.new ≡ with_table self.old (built_of self.old.acl.set budget) }
         ensures serves { result ≡ ok →

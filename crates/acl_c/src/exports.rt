@@ -8,6 +8,7 @@ ghost use Rattle.acl_c.specs.Codes.{ok, no_memory, empty_handle, taken_handle, b
 ghost use Rattle.acl_c.specs.Given.{def_of, fields_fault};
 ghost use Rattle.acl_c.specs.Calls.{new_context, without_rules, without_all, words_in, Builds};
 ghost use Rattle.acl_c.specs.Calls.{IfHeld, place_of, AddsGiven, Classifies, Reserves};
+ghost use Rattle.acl_c.specs.Calls.{budget_of};
 ghost use Rattle.acl_c.specs.Marks.{Marks};
 ghost use Rattle.acl_c.specs.Texts.{error_text};
 
@@ -80,7 +81,8 @@ pub extern "C" fn aclc_build(
     ensures empty { context.old.slot.inside ≡ None → (result ≡ empty_handle)
         × (context.new.slot.inside ≡ None) × (words.new ≡ words.old) }
     ensures held { (old : Context) → context.old.slot.inside ≡ Some old →
-        Builds budget old context.new.slot.inside words.old words.new result }
+        Builds (budget_of old.acl.set budget) old context.new.slot.inside words.old words.new
+        result }
 {
     if !context.is_held() {
         return EMPTY;

@@ -20,7 +20,7 @@ fn call_text(code: u32) -> &'static [u8]
         3 => b"a handle that the call fills isn't empty\0",
         4 => b"the lengths of two arguments don't fit together\0",
         5 => b"a context may not be made for so many rules\0",
-        6 => b"the budget is 0, or more words than a table may have\0",
+        6 => b"the budget is more words than a table may have\0",
         7 => b"the number of categories isn't 1, 4, 8, 12 or 16\0",
         8 => b"the number is none of a walk\0",
         9 => b"there are more keys than a call may have\0",
