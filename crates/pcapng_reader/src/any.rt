@@ -88,9 +88,9 @@ impl AnyCapture {
         }
     }
 
-    /// Whether the next record is whole in these bytes, which come next in the file. Of a pcapng file
-    /// each block before it has to be whole too. It reads nothing, and no clause says anything of the
-    /// answer.
+    /// Whether the next record is whole in these bytes, which come next in the file. Of a pcapng
+    /// file each block before it has to be whole too. It reads nothing, and no clause says anything
+    /// of the answer.
     pub fn has_next_in(&self, bytes: &[u8]) -> bool {
         match &self.format {
             Format::Savefile(capture) => capture.has_next_in(bytes),
