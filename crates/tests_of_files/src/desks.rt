@@ -224,8 +224,8 @@ fn a_path_of_the_system_is_taken_as_it_is(rt: HostRuntime) -> Result<(), Fail> {
     Ok(())
 }
 
-/// A file that is interrupted three times, then moves two bytes, none and two again, and then fails.
-/// A call that moved none and was made again would move two.
+/// A file that is interrupted three times, then moves two bytes, none and two again, and then
+/// fails. A call that moved none and was made again would move two.
 #[derive(Drop)]
 struct Stubborn<'a> {
     taken: &'a mut [u8; 2],
