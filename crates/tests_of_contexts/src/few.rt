@@ -63,8 +63,8 @@ fn one_trie(alloc: Global) -> Result<Table, Fail> {
     })?)
 }
 
-/// The verdicts and the marks of the keys in so many categories by the scalar walk, or by lanes, and
-/// how many words their walks took; or 0 where the keys don't fit.
+/// The verdicts and the marks of the keys in so many categories by the scalar walk, or by lanes,
+/// and how many words their walks took; or 0 where the keys don't fit.
 fn marked<L: Ledger>(
     blank: Blank,
     table: &Table,
