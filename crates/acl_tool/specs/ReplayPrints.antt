@@ -17,11 +17,11 @@ use Rattle.capture_report.specs.Shown.{fault_of_capture, status_of_fault}
 use Rattle.acl_tool.specs.BuildPlan.{pair_of}
 use Rattle.acl_tool.specs.ClassifyPlan.{form_of}
 
--- The words of a `replay` name two files, and options may follow. The image was read to its end, and
--- is that of a table for each family. Then the capture was read: to its end, or it is refused with
--- the fault, whatever more of it may come. The output took a line for each whole record, by what the
--- tables answer for its packet, and after a whole capture the last lines. No walk takes more than
--- one transition for each trie and byte of its key.
+-- The words of a `replay` name two files, and options may follow. The image was read to its end,
+-- and is that of a table for each family. Then the capture was read: to its end, or it is refused
+-- with the fault, whatever more of it may come. The output took a line for each whole record, by
+-- what the tables answer for its packet, and after a whole capture the last lines. No walk takes
+-- more than one transition for each trie and byte of its key.
 pub record PrintsByImage (words : List (List ℕ)) (fault : Option CaptureFault) (old new : Outside)
     : Type 0 where
   pub image : Heard
