@@ -12,3 +12,4 @@ mod SplitLines
 mod NetworkBounds
 mod LineBounds
 mod AcceptedFiles
+pub mod Offered

@@ -157,12 +157,12 @@ plain_short from to n lawful_from lawful_to bounds =
     omega (arith, all)
 
 -- what holds of the text of a lawful line
-record IsTextOfLine (line : RuleLine) : Type 0 where
-  bytes : list_all ends_no_line (line_text line) ≡ true
-  short : length (line_text line) ≤ 296
+pub record IsTextOfLine (line : RuleLine) : Type 0 where
+  pub bytes : list_all ends_no_line (line_text line) ≡ true
+  pub short : length (line_text line) ≤ 296
 
 -- no byte of a lawful line's text ends a line, and it has at most 296 bytes
-text_of_line : (line : RuleLine) → IsLawfulLine line → FitsTag line.tag → IsTextOfLine line
+pub text_of_line : (line : RuleLine) → IsLawfulLine line → FitsTag line.tag → IsTextOfLine line
 text_of_line line lawful fits =
     let it = plain line lawful fits in
     subst IsTextOfLine (sym it.is) (record {
