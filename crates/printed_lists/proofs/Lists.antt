@@ -18,7 +18,6 @@ use Rattle.classbench_reader.specs.Limits.{max_rule_file}
 use Rattle.classbench_reader.specs.Line.{is_comment, is_skipped}
 use Rattle.classbench_reader.specs.RuleFile.{by_family, line_then, numbered_from}
 use Rattle.classbench_reader.specs.RuleFile.{rule_lines_from, rules_of_family}
-use Rattle.classbench_reader.specs.Joined.{JoinedPartsAreRead}
 use Rattle.classbench_reader.specs.Print.{line_text, line_of_rule}
 use Rattle.printed_lists.specs.Laws.{PrintedListsAreFiles}
 use Rattle.printed_lists.specs.Listed.{LineView, Comment, Rule, FitsLineTag, IsPrintableLine, comment_byte}
@@ -136,21 +135,18 @@ by_family_said family.Ip6 lines all =
     λ i. Ok (record { ip4 = none_of_ip4 lines all i; ip6 = of_family family.Ip6 lines all i })
 
 -- each line reads back
-lines_read_back : JoinedPartsAreRead → (its : Family) (lines : List LineView)
+lines_read_back : (its : Family) (lines : List LineView)
     → AllByRecursion (IsPrintableLine its) lines → AllByRecursion FitsLineTag lines
     → AllByRecursion (ReadsBackLine its) lines
-lines_read_back joined its [] printable fits = tt
-lines_read_back joined its (Comment text ∷ lines) printable fits =
-    (tt, lines_read_back joined its lines printable.1 fits.1)
-lines_read_back joined its (Rule rule ∷ lines) printable fits = (
-  rule_read_back joined its rule printable.0 fits.0,
-  lines_read_back joined its lines printable.1 fits.1,
-)
+lines_read_back its [] printable fits = tt
+lines_read_back its (Comment text ∷ lines) printable fits = (tt, lines_read_back its lines printable.1 fits.1)
+lines_read_back its (Rule rule ∷ lines) printable fits =
+    (rule_read_back its rule printable.0 fits.0, lines_read_back its lines printable.1 fits.1)
 
--- the text of a list is a rule file of its rules, since joined parts are read
-pub printed_lists_are_files : JoinedPartsAreRead → PrintedListsAreFiles
-printed_lists_are_files joined its lines printable fits few short =
-    let back = lines_read_back joined its lines (recursion_from_All (IsPrintableLine its) lines printable)
+-- the text of a list is a rule file of its rules
+pub printed_lists_are_files : PrintedListsAreFiles
+printed_lists_are_files its lines printable fits few short =
+    let back = lines_read_back its lines (recursion_from_All (IsPrintableLine its) lines printable)
     (recursion_from_All FitsLineTag lines fits) in
     let said_all = says_all its lines 1 1 back (omega (arith, few)) in
     rw (le-ltb max_rule_file (length (list_text its lines)) short, said_all) (by_family_said its lines back)

@@ -3,12 +3,8 @@
 
 ghost use Rattle.printed_lists.specs.Laws.{PrintedListsAreFiles};
 
-use classbench_reader::laws::joined_parts_are_read;
-
 /// The text of a list is a rule file of the list's rules and no others, in their order, whatever
 /// comments stand between them, if it is within the limits of rule files.
 pub fn printed_lists_are_files()
     ensures { PrintedListsAreFiles }
-{
-    joined_parts_are_read();
-}
+{}
