@@ -1,5 +1,5 @@
 -- The class and the key of an IPv4 packet (RFC 791, 3.1).
-use Rattle.std.specs.Prelude.{ℕ, ◌*◌, ◌/◌, ◌%◌, ◌==◌, List, ◌∷◌, ◌++◌, take, drop, slice_index, Bool, ◌&&◌, nat_le, Result, Ok, Err, if◌then◌else◌}
+use Rattle.std.specs.Prelude.{◌≡◌, ℕ, ◌≤◌, ◌*◌, ◌/◌, ◌%◌, ◌==◌, List, ◌∷◌, ◌++◌, take, drop, slice_index, Bool, ◌&&◌, nat_le, Result, Ok, Err, if◌then◌else◌}
 use Rattle.byte_numbers.specs.Number.{number_at}
 use Rattle.header_extract.specs.declared.class.Class.{Class}
 use Rattle.header_extract.specs.declared.class.Class.TheVariants.{Ip4, Other}
@@ -16,6 +16,12 @@ abbrev pub header_words : List ℕ → Result ℕ Class
 header_words header =
     if version_of header == 4 && nat_le 5 (slice_index header 0 % 16)
     then Ok (slice_index header 0 % 16) else Err Other
+
+-- The header has so many bytes: four for each of its words, of which there are at least five.
+pub record IsHeaderLen (header : List ℕ) (len : ℕ) : Type 0 where
+  pub version : version_of header ≡ 4
+  pub is_len : len ≡ slice_index header 0 % 16 * 4
+  pub least : 20 ≤ len
 
 -- the packet is whole, or the first of its fragments: the low 13 bits of bytes 6 and 7 are 0
 abbrev pub is_first_part : List ℕ → Bool

@@ -30,13 +30,17 @@ class_by_type typed =
     if typed.0 == 0x0800 then ip4_class typed.1
     else (if typed.0 == 0x86DD then ip6_class typed.1 else Err Other)
 
--- a header of so many bytes, with the type at this place, then at most two tags, and then the
--- packet
+-- a type, then at most two tags, and then the packet
+abbrev pub class_after_type : ℕ → List ℕ → Result FrameClass Class
+class_after_type ethertype payload = do
+  typed ← after_tags 2 ethertype payload
+  class_by_type typed
+
+-- a header of so many bytes, with the type at this place, and what stands after it
 abbrev pub typed_class : ℕ → ℕ → List ℕ → Result FrameClass Class
 typed_class header_len type_at frame = do
   header ← at_least header_len frame
-  typed ← after_tags 2 (number_at header type_at 2) (drop header_len frame)
-  class_by_type typed
+  class_after_type (number_at header type_at 2) (drop header_len frame)
 
 -- a packet of version 4 or 6
 abbrev pub class_by_version : ℕ → List ℕ → Result FrameClass Class

@@ -5,9 +5,10 @@
 //!
 //! Source: RFC 791, 3.1.
 
-ghost use Rattle.std.specs.Prelude.{◌≡◌, ◌≤◌, length};
+ghost use Rattle.std.specs.Prelude.{◌≡◌, ◌≤◌, length, IfSome, IsNone, Err};
+ghost use Rattle.header_extract.specs.declared.class.Class.TheVariants.{Other};
 ghost use Rattle.header_extract.specs.Extracted.{Extracts, or_short};
-ghost use Rattle.header_extract.specs.Ip4.{ip4_class, ip4_ports};
+ghost use Rattle.header_extract.specs.Ip4.{IsHeaderLen, header_words, ip4_class, ip4_ports};
 
 use crate::class::Class;
 use crate::key::KeyBuf;
@@ -20,6 +21,8 @@ const HEADER: usize = 20;
 const VERSION: u8 = 4;
 /// The low four bits of the first byte, which are the length of the header in words.
 const WORDS: u8 = 0x0F;
+/// The first byte of a header of this version with the least words, which has no options.
+const PLAIN: u8 = 0x45;
 /// How many bytes a word of the header has.
 const WORD: usize = 4;
 /// Where the flags and the fragment offset stand.
@@ -39,10 +42,9 @@ pub fn extract_ip4(packet: &[u8], key: &mut KeyBuf) -> Class
     if packet.len() < HEADER {
         return Class::Short;
     }
-    let header_len = usize::from(packet[0] & WORDS) * WORD;
-    if packet[0] >> 4 != VERSION || header_len < HEADER {
+    let Some(header_len) = header_len(packet) else {
         return Class::Other;
-    }
+    };
     if packet.len() < header_len {
         return Class::Short;
     }
@@ -53,6 +55,24 @@ pub fn extract_ip4(packet: &[u8], key: &mut KeyBuf) -> Class
         }
         None => Class::Short,
     }
+}
+
+/// How many bytes the header has, or `None` where it is of another version or has too few words.
+#[inline]
+fn header_len(packet: &[u8]) -> Option<usize>
+    requires { 20 ≤ length packet.now }
+    ensures some { IfSome result (λ len. IsHeaderLen packet.now len) }
+    ensures none { IsNone result → header_words packet.now ≡ Err Other }
+{
+    // Most headers have no options.
+    if packet[0] == PLAIN {
+        return Some(HEADER);
+    }
+    let len = usize::from(packet[0] & WORDS) * WORD;
+    if packet[0] >> 4 != VERSION || len < HEADER {
+        return None;
+    }
+    Some(len)
 }
 
 /// The ports of a packet, which are 0 in all fragments but the first, or `None` where they are cut.

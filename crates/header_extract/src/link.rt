@@ -14,7 +14,7 @@
 
 ghost use Rattle.std.specs.Prelude.{◌≡◌, ◌+◌, ◌≤◌, Ok, Err, length, IfSome, IsNone};
 ghost use Rattle.header_extract.specs.Extracted.{Extracts};
-ghost use Rattle.header_extract.specs.Link.{frame_class, class_by_type, raw_class, typed_class, is_tag, after_tags};
+ghost use Rattle.header_extract.specs.Link.{frame_class, class_after_type, raw_class, typed_class, is_tag, after_tags};
 ghost use Rattle.header_extract.specs.declared.class.Class.TheVariants as classes;
 
 use crate::class::Class;
@@ -98,7 +98,21 @@ fn extract_typed(header_len: usize, type_at: usize, frame: &[u8], key: &mut KeyB
     if frame.len() < header_len {
         return Class::Short;
     }
-    match after_two_tags(network_u16_at(frame, type_at), &frame[header_len..]) {
+    let (ethertype, payload) = (network_u16_at(frame, type_at), &frame[header_len..]);
+    match ethertype {
+        IP4 => extract_ip4(payload, key),
+        IP6 => extract_ip6(payload, key),
+        CUSTOMER_TAG | SERVICE_TAG => extract_tagged(ethertype, payload, key),
+        _ => Class::Other,
+    }
+}
+
+/// The class of what stands after a type, which is that of a tag, by the type after up to two tags.
+#[inline(never)]
+fn extract_tagged(ethertype: u16, payload: &[u8], key: &mut KeyBuf) -> Class
+    ensures { Extracts (class_after_type ethertype payload.now) key.old.bytes key.new.bytes result }
+{
+    match after_two_tags(ethertype, payload) {
         Some((IP4, packet)) => extract_ip4(packet, key),
         Some((IP6, packet)) => extract_ip6(packet, key),
         Some(_) => Class::Other,
@@ -113,7 +127,6 @@ fn after_two_tags(ethertype: u16, payload: &[u8]) -> Option<(u16, &[u8])>
         (λ after. after_tags 2 ethertype payload.now ≡ Ok (after.0, after.1.now)) }
     ensures none { IsNone result → after_tags 2 ethertype payload.now ≡ Err classes.Short }
 {
-    // Most frames have no tag.
     if !is_tag(ethertype) {
         return Some((ethertype, payload));
     }

@@ -1,27 +1,27 @@
-use Rattle.std.proofs.Common.{◌≡◌, ◌+◌, ◌*◌, length, take, drop, slice_index, Ok, Err, refl, sym, ap, ◌∙◌, arith}
+use Rattle.std.proofs.Common.{◌≡◌, ◌+◌, length, take, drop, Ok, Err, refl, sym, ap, ◌∙◌, arith}
 use Rattle.std.proofs.lemmas.List.{take_rest, length-take, length-drop}
-use Rattle.std.proofs.lemmas.Nat.{and_mask}
 use Rattle.header_extract.specs.declared.class.Class.TheVariants.{Ip4, Short}
 use Rattle.header_extract.specs.Extracted.{or_short}
-use Rattle.header_extract.specs.Ip4.{protocol_of, ip4_ports}
+use Rattle.header_extract.specs.Ip4.{IsHeaderLen, protocol_of, ip4_ports}
 use Rattle.header_extract.proofs.Ip4Packets.{HasHeader, ip4_class-key, ip4_class-cut}
 use Rattle.header_extract.proofs.Keys.{KeyParts, Extracts-written}
 use Rattle.header_extract.proofs.ip4.extract_ip4.Goals as goal
 use Rattle.list_lemmas.proofs.Parts.{take-both}
 
-pub returns-in-Some : goal.returns-in-Some
-returns-in-Some c =
+pub returns-in-Some-packet_ports : goal.returns-in-Some-packet_ports
+returns-in-Some-packet_ports c =
     let packet = c.args.packet.now in
-    let header_len = c.from-header_len.result * 4 in
+    let header_len = c.in-Some.header_len in
+    let is : IsHeaderLen packet header_len = rw c.in-Some.is at c.header_len.ensures.some in
     let header : HasHeader packet header_len = record {
       front = c.if-packet-lt-HEADER.false;
-      version = c.if-packet-ne-VERSION.false;
-      is_len = ap (λ n. n * 4) (c.from-header_len.ensures ∙ and_mask (slice_index packet 0) 4);
-      least = c.if-header_len-lt-HEADER.false;
+      version = is.version;
+      is_len = is.is_len;
+      least = is.least;
       whole = c.if-packet-header_len.false;
     } in
-    let found : ip4_ports packet (drop header_len packet) ≡ Ok c.in-Some.ports =
-    ap (ip4_ports packet) (sym (take_rest packet header_len)) ∙ c.packet_ports.ensures ∙ ap or_short c.in-Some.is in
+    let found : ip4_ports packet (drop header_len packet) ≡ Ok c.in-Some-packet_ports.ports =
+    ap (ip4_ports packet) (sym (take_rest packet header_len)) ∙ c.packet_ports.ensures ∙ ap or_short c.in-Some-packet_ports.is in
     let len : 5 + length (take 8 (drop 12 packet)) ≡ 13 =
     omega (arith, length-take 8 (drop 12 packet), length-drop 12 packet, header.front) in
     let parts : KeyParts = record {
@@ -29,11 +29,11 @@ returns-in-Some c =
       source = take 4 (drop 12 packet);
       destination = take 4 (drop 16 packet);
       addresses = take 8 (drop 12 packet);
-      ports = c.in-Some.ports;
+      ports = c.in-Some-packet_ports.ports;
     } in
     Extracts-written _ Ip4 parts c.args.key.now.bytes _
     record {
-      is_frame = ip4_class-key packet c.in-Some.ports header_len header found;
+      is_frame = ip4_class-key packet c.in-Some-packet_ports.ports header_len header found;
       both = take-both 4 12 packet;
       four = omega arith;
       whole = len;
@@ -43,12 +43,13 @@ returns-in-Some c =
 pub returns-in-None : goal.returns-in-None
 returns-in-None c =
     let packet = c.args.packet.now in
-    let header_len = c.from-header_len.result * 4 in
+    let header_len = c.in-Some.header_len in
+    let is : IsHeaderLen packet header_len = rw c.in-Some.is at c.header_len.ensures.some in
     let header : HasHeader packet header_len = record {
       front = c.if-packet-lt-HEADER.false;
-      version = c.if-packet-ne-VERSION.false;
-      is_len = ap (λ n. n * 4) (c.from-header_len.ensures ∙ and_mask (slice_index packet 0) 4);
-      least = c.if-header_len-lt-HEADER.false;
+      version = is.version;
+      is_len = is.is_len;
+      least = is.least;
       whole = c.if-packet-header_len.false;
     } in
     let cut : ip4_ports packet (drop header_len packet) ≡ Err Short =
